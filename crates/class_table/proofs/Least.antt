@@ -1,0 +1,77 @@
+-- The first class that serves a size is the least one.
+use Rattle.std.proofs.Common.{◌≡◌, ℕ, ◌<◌, ◌≤◌, Bool, true, false, List, [], ◌∷◌, length, slice_index, get_or, ltb, Option, Some, None, arith, refl, sym, ◌∙◌, inl, inr, subst}
+use Rattle.std.specs.Prelude.{IfSome, slice_get, option_and_then, All, ◌↔◌}
+use Rattle.std.specs.List.{position_or_len}
+use Rattle.std.proofs.lemmas.Bool.{cases_order, cases_lt, both_ways, lt-ltb, le-ltb, leb-true, le-leb}
+use Rattle.std.proofs.lemmas.List.Elements.{All-nil, All-cons}
+use Rattle.std.proofs.lemmas.List.Folds.{find_at}
+use Rattle.std.proofs.lemmas.Option.{get_or_from_slice_get, slice_get_past}
+use Rattle.std.proofs.lemmas.List.{get_or_default}
+use Rattle.std.proofs.lemmas.List.Quantifiers.{position-Some}
+use Rattle.std.proofs.lemmas.List.Kept.{AllPairs-from_increasing}
+use Rattle.class_table.specs.Sizes.{need_of, serves}
+use Rattle.class_table.specs.Tables.{IsLegalTable, IsLeastServing, class_for, class_number_for}
+
+pub least_at : (step : ℕ) (classes : List ℕ) (n number : ℕ) → IsLegalTable step classes → class_number_for classes n ≡ Some number
+    → (number < length classes) × IsLeastServing classes n (slice_index classes number)
+least_at step classes n number legal found =
+    let first = position-Some (serves n) classes number 0 found in
+    let within : number < length classes = first.0 in (
+      within,
+      record {
+        listed = (number, within, get_or_default classes number (slice_index classes number) 0 within);
+        serving = first.1;
+        least = λ k d inside serving.
+            let at_zero : get_or classes k d ≡ get_or classes k 0 = get_or_default classes k d 0 inside in
+            let serving_there : serves n (get_or classes k 0) ≡ true = subst (λ (class : ℕ). serves n class ≡ true) at_zero serving in
+            elim (cases_order k number) [
+              | inl same ↦ rw (at_zero, same) (omega arith)
+              | inr (inl before) ↦ absurd (both_ways _ (first.2 k before) serving_there)
+              | inr (inr behind) ↦ let larger = AllPairs-from_increasing classes legal.ascending number k 0 behind inside in omega (arith, larger, at_zero)
+            ];
+      },
+    )
+
+pub least_of : (step : ℕ) (classes : List ℕ) (n : ℕ) (number : Option ℕ) → IsLegalTable step classes → number ≡ class_number_for classes n
+    → IfSome number (λ k. (k < length classes) × IsLeastServing classes n (slice_index classes k))
+least_of step classes n None legal found = tt
+least_of step classes n (Some number) legal found = least_at step classes n number legal (sym found)
+
+-- the place that `find` and `position` stop at
+first_place : (n : ℕ) (classes : List ℕ) → class_for classes n ≡ slice_get classes (position_or_len (serves n) classes)
+first_place n classes = find_at (serves n) classes
+
+pub class_at_number : (n : ℕ) (classes : List ℕ) → class_for classes n ≡ option_and_then (slice_get classes) (class_number_for classes n)
+class_at_number n classes =
+    let place = position_or_len (serves n) classes in
+    elim (cases_lt place (length classes)) [
+      | inl within ↦ let test : ltb place (length classes) ≡ true = lt-ltb place (length classes) within in rw test (first_place n classes)
+      | inr past ↦
+          let test : ltb place (length classes) ≡ false = le-ltb place (length classes) past in
+          rw test (first_place n classes ∙ slice_get_past classes place past)
+    ]
+
+numbered : (classes : List ℕ) (class : ℕ) (number : Option ℕ) → option_and_then (slice_get classes) number ≡ Some class → (k : ℕ) × (number ≡ Some k) × (slice_get classes k ≡ Some class)
+numbered classes class None e = absurd cc
+numbered classes class (Some k) e = (k, refl, e)
+
+pub least_class : (step n class : ℕ) (classes : List ℕ) → IsLegalTable step classes → class_for classes n ≡ Some class → IsLeastServing classes n class
+least_class step n class classes legal found =
+    let at = numbered classes class (class_number_for classes n) (sym (class_at_number n classes) ∙ found) in
+    let least = least_at step classes n at.0 legal at.1 in
+    subst (IsLeastServing classes n) (get_or_from_slice_get classes at.0 class 0 at.2) least.1
+
+pub none_serving : (n : ℕ) (classes : List ℕ) → class_for classes n ≡ None → All (λ class. serves n class ≡ false) classes
+none_serving n [] none = All-nil (λ class. serves n class ≡ false)
+none_serving n (class ∷ classes) none = go (serves n class) refl (none_serving n classes)
+  where
+    go : (test : Bool) → serves n class ≡ test → (class_for classes n ≡ None → All (λ c. serves n c ≡ false) classes) → All (λ c. serves n c ≡ false) (class ∷ classes)
+    go true e others = let f = rw e at none in absurd cc
+    go false e others = All-cons (λ c. serves n c ≡ false) class classes e (others (rw e at none))
+
+-- a class serves a request exactly where it has the granules that the request needs
+pub serving-need : (n class : ℕ) → 2 ≤ class → (serves n class ≡ true) ↔ (need_of n ≤ class)
+serving-need n class two = (
+  λ serving. let fits = leb-true n _ serving in omega (arith, fits),
+  λ needs. le-leb n _ (omega arith),
+)

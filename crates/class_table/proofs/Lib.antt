@@ -1,0 +1,5 @@
+pub mod Least
+pub mod Legal
+pub mod Spelled
+pub mod Walk
+pub mod Words

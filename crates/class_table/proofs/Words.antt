@@ -1,0 +1,155 @@
+-- Reading the numbers of a line, word by word.
+use Rattle.std.proofs.Common.{◌≡◌, ℕ, ◌<◌, ◌≤◌, Bool, true, false, List, [], ◌∷◌, ◌++◌, length, map, min, take, Option, Some, None, Ok, Err, refl, sym, ap, ◌∙◌, arith, append_assoc, append-nil, codes, ltb, leb, length-append}
+use Rattle.std.specs.Option.{option_map}
+use Rattle.std.specs.Str.{bytes_eq}
+use Rattle.std.proofs.lemmas.Bool.{lt-ltb, le-ltb, ltb-false}
+use Rattle.std.proofs.lemmas.Bool.Decides.{nat_tests}
+use Rattle.std.proofs.lemmas.List.{take_all, take-append-le, length-take, length-map, map-append}
+use Rattle.line_text.specs.Numbers.{number_of}
+use Rattle.class_table.specs.ClassLine.{numbers_of, table_of_numbers, table_of_words}
+use Rattle.class_table.specs.Faults.{fault_from, is_out_of_range, table_of_classes, unless}
+use Rattle.class_table.specs.declared.fault.TableError.{TableError}
+use Rattle.class_table.specs.declared.fault.TableError.TheVariants.{BadLine, TooMany}
+
+-- ---- a larger number in place of a number that is no class
+
+abbrev pub clip : ℕ → ℕ
+clip n = min n 65535
+
+clipped_range : (n : ℕ) → is_out_of_range (clip n) ≡ is_out_of_range n
+clipped_range n = grind (arith, nat_tests)
+
+clip_small : (n : ℕ) → is_out_of_range n ≡ false → clip n ≡ n
+clip_small n e = grind (arith, nat_tests)
+
+same_faults : (below : ℕ) (ns : List ℕ) → fault_from below (map clip ns) ≡ fault_from below ns
+unfolding fault_from
+same_faults below [] = refl
+same_faults below (n ∷ ns) = go (is_out_of_range n) refl (same_faults n ns)
+  where
+    go : (out : Bool) → is_out_of_range n ≡ out → fault_from n (map clip ns) ≡ fault_from n ns → fault_from below (map clip (n ∷ ns)) ≡ fault_from below (n ∷ ns)
+    go true e others = rw (clipped_range n, e) refl
+    go false e others = rw (clip_small n e, e, others) refl
+
+same_classes : (below : ℕ) (ns : List ℕ) → fault_from below ns ≡ None → map clip ns ≡ ns
+unfolding fault_from
+same_classes below [] none = refl
+same_classes below (n ∷ ns) none = go (is_out_of_range n) refl (leb n below) refl (same_classes n ns)
+  where
+    go : (out : Bool) → is_out_of_range n ≡ out → (low : Bool) → leb n below ≡ low → (fault_from n ns ≡ None → map clip ns ≡ ns) → map clip (n ∷ ns) ≡ n ∷ ns
+    go true e low f others = let g = rw e at none in absurd cc
+    go false e true f others = let g = rw (e, f) at none in absurd cc
+    go false e false f others = rw (clip_small n e, others (rw (e, f) at none)) refl
+
+same_table : (ns : List ℕ) → length ns ≤ 32 → table_of_classes (map clip ns) ≡ table_of_classes ns
+same_table ns few =
+    let few_clipped : ltb 32 (length (map clip ns)) ≡ false = rw length-map (le-ltb 32 (length ns) few) in
+    let few_test : ltb 32 (length ns) ≡ false = le-ltb 32 (length ns) few in
+    rw (few_clipped, few_test, same_faults 0 ns) (go (fault_from 0 ns) refl)
+  where
+    go : (fault : Option TableError) → fault_from 0 ns ≡ fault → unless fault (map clip ns) ≡ unless fault ns
+    go None e = ap Ok (same_classes 0 ns e)
+    go (Some fault) e = refl
+
+-- ---- numbers of words
+
+abbrev pub behind : List ℕ → Option (List ℕ) → Option (List ℕ)
+behind front None = None
+behind front (Some ns) = Some (front ++ ns)
+
+none_first : (w : List ℕ) (ws : List (List ℕ)) → number_of w ≡ None → numbers_of (w ∷ ws) ≡ None
+unfolding numbers_of
+none_first w ws e = rw e refl
+
+one_more : (front : List ℕ) (w : List ℕ) (ws : List (List ℕ)) (n : ℕ) → number_of w ≡ Some n
+    → behind front (numbers_of (w ∷ ws)) ≡ behind (front ++ n ∷ []) (numbers_of ws)
+unfolding numbers_of
+one_more front w ws n e = rw e (go (numbers_of ws))
+  where
+    go : (o : Option (List ℕ)) → behind front (option_map (λ ns. n ∷ ns) o) ≡ behind (front ++ n ∷ []) o
+    go None = refl
+    go (Some ns) = ap Some (sym (append_assoc front (n ∷ []) ns))
+
+-- ---- the loop: what was read, what is kept of it, and whether that is not all
+
+pub record SoFar (all rest : List (List ℕ)) (kept : List ℕ) (too_many : Bool) : Type 0 where
+  pub front : List ℕ
+  pub spelled : numbers_of all ≡ behind front (numbers_of rest)
+  pub clipped : kept ≡ map clip (take 32 front)
+  pub many : too_many ≡ ltb 32 (length front)
+
+pub start : (all : List (List ℕ)) → SoFar all all [] false
+start all = record { front = []; spelled = go (numbers_of all); clipped = refl; many = refl }
+  where
+    go : (o : Option (List ℕ)) → o ≡ behind [] o
+    go None = refl
+    go (Some ns) = refl
+
+pub faulty : (all rest new : List (List ℕ)) (w : List ℕ) (kept : List ℕ) (too_many : Bool) → SoFar all rest kept too_many → rest ≡ w ∷ new
+    → number_of w ≡ None → table_of_numbers (numbers_of all) ≡ Err BadLine
+faulty all rest new w kept too_many so_far parts none =
+    let no_numbers : numbers_of all ≡ None = so_far.spelled ∙ ap (λ ws. behind so_far.front (numbers_of ws)) parts ∙ ap (behind so_far.front) (none_first w new none) in
+    rw no_numbers refl
+
+length_kept : (all rest : List (List ℕ)) (kept : List ℕ) (too_many : Bool) → (so_far : SoFar all rest kept too_many) → length kept ≡ min 32 (length so_far.front)
+length_kept all rest kept too_many so_far = ap length so_far.clipped ∙ length-map (take 32 so_far.front) clip ∙ length-take 32 so_far.front
+
+-- a number for which there is room
+pub room : (all rest new : List (List ℕ)) (w : List ℕ) (kept : List ℕ) (too_many : Bool) (n : ℕ) → SoFar all rest kept too_many → rest ≡ w ∷ new
+    → number_of w ≡ Some n → length kept < 32 → SoFar all new (kept ++ clip n ∷ []) false
+room all rest new w kept too_many n so_far parts some fits =
+    let len : length so_far.front < 32 = omega (arith, length_kept all rest kept too_many so_far) in
+    let longer : length (so_far.front ++ n ∷ []) ≤ 32 = omega (arith, length-append so_far.front (n ∷ [])) in
+    record {
+      front = so_far.front ++ n ∷ [];
+      spelled = so_far.spelled ∙ ap (λ ws. behind so_far.front (numbers_of ws)) parts ∙ one_more so_far.front w new n some;
+      clipped = ap (λ k. k ++ clip n ∷ []) (so_far.clipped ∙ ap (map clip) (take_all 32 so_far.front (omega arith)))
+          ∙ sym (map-append clip so_far.front (n ∷ [])) ∙ ap (map clip) (sym (take_all 32 (so_far.front ++ n ∷ []) longer));
+      many = sym (le-ltb 32 (length (so_far.front ++ n ∷ [])) longer);
+    }
+
+-- and one for which there is none
+pub no_room : (all rest new : List (List ℕ)) (w : List ℕ) (kept : List ℕ) (too_many : Bool) (n : ℕ) → SoFar all rest kept too_many → rest ≡ w ∷ new
+    → number_of w ≡ Some n → 32 ≤ length kept → SoFar all new kept true
+no_room all rest new w kept too_many n so_far parts some full =
+    let len : 32 ≤ length so_far.front = omega (arith, length_kept all rest kept too_many so_far) in
+    record {
+      front = so_far.front ++ n ∷ [];
+      spelled = so_far.spelled ∙ ap (λ ws. behind so_far.front (numbers_of ws)) parts ∙ one_more so_far.front w new n some;
+      clipped = so_far.clipped ∙ ap (map clip) (sym (take-append-le 32 so_far.front (n ∷ []) len));
+      many = sym (lt-ltb 32 (length (so_far.front ++ n ∷ [])) (omega (arith, length-append so_far.front (n ∷ []))));
+    }
+
+all_read : (all : List (List ℕ)) (kept : List ℕ) (too_many : Bool) → (so_far : SoFar all [] kept too_many) → numbers_of all ≡ Some so_far.front
+unfolding numbers_of
+all_read all kept too_many so_far = so_far.spelled ∙ ap Some (append-nil so_far.front)
+
+pub too_many_read : (all rest : List (List ℕ)) (kept : List ℕ) → rest ≡ [] → SoFar all rest kept true → table_of_numbers (numbers_of all) ≡ Err TooMany
+too_many_read all rest kept none so_far =
+    let so_far_now : SoFar all [] kept true = rw none at so_far in
+    rw (all_read all kept true so_far_now, sym so_far_now.many) refl
+
+pub few_read : (all rest : List (List ℕ)) (kept : List ℕ) → rest ≡ [] → SoFar all rest kept false → table_of_numbers (numbers_of all) ≡ table_of_classes kept
+few_read all rest kept none so_far =
+    let now : SoFar all [] kept false = rw none at so_far in
+    let few : length now.front ≤ 32 = ltb-false 32 (length now.front) (sym now.many) in
+    let is : kept ≡ map clip now.front = now.clipped ∙ ap (map clip) (take_all 32 now.front few) in
+    rw (all_read all kept false now, is) (sym (same_table now.front few))
+
+-- ---- what a word is
+
+pub no_number : (o : Option ℕ) → None ≡ option_map clip o → o ≡ None
+no_number None e = refl
+no_number (Some n) e = absurd cc
+
+pub number_is : (o : Option ℕ) (m : ℕ) → Some m ≡ option_map clip o → (n : ℕ) × (o ≡ Some n) × (m ≡ clip n)
+number_is None m e = absurd cc
+number_is (Some n) m e = (n, refl, cc)
+
+-- ---- the first word
+
+pub other_name : (w : List ℕ) (ws : List (List ℕ)) → bytes_eq w (codes "classes") ≡ false → table_of_words (w ∷ ws) ≡ Err BadLine
+other_name w ws e = rw e refl
+
+pub named : (w : List ℕ) (ws : List (List ℕ)) → bytes_eq w (codes "classes") ≡ true → table_of_words (w ∷ ws) ≡ table_of_numbers (numbers_of ws)
+named w ws e = rw e refl

@@ -1,0 +1,5 @@
+pub mod ClassLine
+pub mod Faults
+pub mod Laws
+pub mod Sizes
+pub mod Tables

@@ -1,0 +1,29 @@
+-- Class tables, and the class of a size.
+use Rattle.std.specs.Prelude.{◌≡◌, ℕ, ◌%◌, ◌≤◌, List, length, find, position, Option, IsTrue, All, Contains}
+use Rattle.std.specs.List.Sorted.{IsStrictlyIncreasing}
+use Rattle.class_table.specs.Sizes.{serves}
+
+-- Each class is a multiple of the step.
+abbrev pub FitsStep : ℕ → List ℕ → Type 0
+FitsStep step classes = All (λ class. class % step ≡ 0) classes
+
+-- A legal table, for blocks that come in multiples of a step: at most 32 classes from 2 to 1024 granules, strictly ascending.
+pub record IsLegalTable (step : ℕ) (classes : List ℕ) : Type 0 where
+  pub few : length classes ≤ 32
+  pub in_range : All (λ class. (2 ≤ class) × (class ≤ 1024)) classes
+  pub ascending : IsStrictlyIncreasing classes
+  pub fitting : FitsStep step classes
+
+-- The class of a size: the first that serves it, which in a table is the least. None where no class serves it.
+abbrev pub class_for : List ℕ → ℕ → Option ℕ
+class_for classes n = find (serves n) classes
+
+-- The same class by its number, counted from 0.
+abbrev pub class_number_for : List ℕ → ℕ → Option ℕ
+class_number_for classes n = position (serves n) classes
+
+-- The least of the classes that serve n.
+pub record IsLeastServing (classes : List ℕ) (n class : ℕ) : Type 0 where
+  pub listed : Contains classes class
+  pub serving : IsTrue (serves n class)
+  pub least : All (λ other. IsTrue (serves n other) → class ≤ other) classes

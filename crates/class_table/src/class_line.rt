@@ -1,0 +1,80 @@
+ghost use Rattle.std.specs.Prelude.{◌≡◌, ◌<◌, ◌≤◌, [], ◌∷◌, ◌++◌, true, false, length, IfOk};
+ghost use Rattle.class_table.specs.ClassLine.{numbers_of, table_of, table_of_line, table_of_numbers};
+ghost use Rattle.class_table.specs.Faults.{Gives};
+ghost use Rattle.class_table.specs.Tables.{IsLegalTable};
+
+use crate::fault::TableError;
+use crate::table::{ClassTable, MOST_CLASSES};
+use arrayvec::ArrayVec;
+use line_text::{Words, capped_number_in, lines_in, words_in};
+
+// the first word of a class line
+const NAME: &[u8] = b"classes";
+
+// a number that is no class, and stands for all above it
+const NO_CLASS: u32 = 65_535;
+
+impl ClassTable {
+    /// The table that a class line spells: `classes`, then each class in granules, with or without the newline at the end.
+    /// Refused by the first of: the first word is another, a further word is no number, or the text is not just one line (`BadLine`),
+    /// then as `from_classes` refuses the numbers.
+    pub fn read_line(text: &[u8]) -> Result<ClassTable, TableError>
+        ensures exact { Gives result (table_of text.now) }
+        ensures legal { IfOk result (λ table. IsLegalTable 1 table) }
+    {
+        let mut lines = lines_in(text);
+        let Some(line) = lines.next() else {
+            return Err(TableError::BadLine);
+        };
+        if let Some(_other) = lines.next() {
+            return Err(TableError::BadLine);
+        }
+        table_in(line)
+    }
+}
+
+// the table that a line spells
+fn table_in(line: &[u8]) -> Result<ClassTable, TableError>
+    ensures exact { Gives result (table_of_line line.now) }
+    ensures legal { IfOk result (λ table. IsLegalTable 1 table) }
+{
+    let mut words = words_in(line);
+    let Some(name) = words.next() else {
+        return Err(TableError::BadLine);
+    };
+    if name != NAME {
+        return Err(TableError::BadLine);
+    }
+    table_of_words(words)
+}
+
+// the table of the numbers that words spell
+fn table_of_words(words: Words<'_>) -> Result<ClassTable, TableError>
+    ensures exact { Gives result (table_of_numbers (numbers_of words.entry)) }
+    ensures legal { IfOk result (λ table. IsLegalTable 1 table) }
+{
+    let mut numbers = ArrayVec::<u16, MOST_CLASSES>::new();
+    let mut too_many = false;
+    for word in words {
+        let Some(number) = capped_number_in(word, NO_CLASS) else {
+            return Err(TableError::BadLine);
+        };
+        too_many = is_left_out(&mut numbers, number as u16);
+    }
+    if too_many {
+        return Err(TableError::TooMany);
+    }
+    ClassTable::from_classes(&numbers)
+}
+
+// keeps the number, or says that there is no room for it
+fn is_left_out(numbers: &mut ArrayVec<u16, MOST_CLASSES>, number: u16) -> bool
+    ensures room { length numbers.old.items < MOST_CLASSES → (result ≡ false) × (numbers.new.items ≡ numbers.old.items ++ number ∷ []) }
+    ensures full { MOST_CLASSES ≤ length numbers.old.items → (result ≡ true) × (numbers.new.items ≡ numbers.old.items) }
+{
+    if numbers.is_full() {
+        return true;
+    }
+    numbers.push(number);
+    false
+}

@@ -1,0 +1,42 @@
+//! What is true of every size, table and class line; each law is the contract of a function that does nothing.
+//! A crate above uses a law by calling its function: the call costs nothing, and its `ensures` are facts from there on.
+ghost use Rattle.class_table.specs.Laws.{
+  FaultlessIsLegal,
+  FirstIsLeast,
+  LegalIsFaultless,
+  LineAloneIsRead,
+  NoClassServes,
+  NumberTellsClass,
+  ServingIsNeed,
+  SpelledTableIsRead,
+  TableIsSpelled,
+};
+
+use line_text::laws::law_text;
+
+/// A class serves a request exactly where it has the granules that the request needs.
+pub fn law_need()
+    ensures { ServingIsNeed }
+{}
+
+/// The class of a size is the least that serves it.
+pub fn law_class_for()
+    ensures least { FirstIsLeast }
+    ensures none { NoClassServes }
+    ensures number { NumberTellsClass }
+{}
+
+/// Classes have no fault exactly where they are a legal table.
+pub fn law_faults()
+    ensures legal { FaultlessIsLegal }
+    ensures faultless { LegalIsFaultless }
+{}
+
+/// What is read as a table is its line, and its line is read as that table.
+pub fn law_class_line()
+    ensures read { TableIsSpelled }
+    ensures written { SpelledTableIsRead }
+    ensures line { LineAloneIsRead }
+{
+    law_text();
+}

@@ -1,0 +1,38 @@
+ghost use Rattle.std.specs.Prelude.{◌≡◌, ◌≤◌, IsTrue};
+ghost use Rattle.class_table.specs.Sizes.{need_of, loss_of, serves};
+
+/// The bytes of a granule.
+pub const GRANULE_BYTES: u32 = 16;
+
+/// The smallest class, in granules: a header and one granule of payload.
+pub const SMALLEST_CLASS: u16 = 2;
+
+/// The largest class, in granules.
+pub const LARGEST_CLASS: u16 = 1024;
+
+/// The largest request that is counted, in bytes: what the largest class serves. A larger one is called large.
+pub const LARGEST_COUNTED: u32 = 16_368;
+
+/// The granules that a request of `n` bytes (0 to 16,368) needs, its header's among them: 2 to 1024.
+pub fn need(n: u32) -> u32
+    requires { n ≤ LARGEST_COUNTED }
+    ensures need { result ≡ need_of n }
+    ensures in_range { (2 ≤ result) × (result ≤ 1024) }
+{
+    1 + n.div_ceil(GRANULE_BYTES).max(1)
+}
+
+/// Whether a block of a class (in granules) holds `n` bytes beside its header.
+pub fn serves(n: u32, class: u16) -> bool
+    ensures { result ≡ serves n class }
+{
+    n <= (GRANULE_BYTES * u32::from(class)).saturating_sub(GRANULE_BYTES)
+}
+
+/// The bytes that a request of `n` bytes leaves unused in a block of a class (in granules) that serves it, as `serves` tells.
+pub fn loss(n: u32, class: u16) -> u32
+    requires { IsTrue (serves n class) }
+    ensures { result ≡ loss_of n class }
+{
+    (GRANULE_BYTES * u32::from(class)).saturating_sub(GRANULE_BYTES) - n
+}

@@ -1,0 +1,110 @@
+ghost use Rattle.std.specs.Prelude.{◌≡◌, ◌↔◌, ◌<◌, ◌≤◌, List, ℕ, [], length, slice_index, slice_get, Some, IsTrue, IfSome, IfOk};
+ghost use Rattle.class_table.specs.Faults.{Gives, fault_from, is_out_of_range, table_of_classes};
+ghost use Rattle.class_table.specs.Tables.{IsLegalTable, IsLeastServing, class_number_for};
+
+use crate::fault::TableError;
+use crate::sizes::{LARGEST_CLASS, SMALLEST_CLASS, serves};
+use arrayvec::ArrayVec;
+use std::marker::Model;
+
+/// The most classes that a table has.
+pub const MOST_CLASSES: usize = 32;
+
+/// A class table: block sizes in granules from 2 to 1024, strictly ascending, at most 32 of them. It is always legal, and may be empty.
+#[derive(Debug, Drop)]
+pub struct ClassTable {
+    classes: ArrayVec<u16, MOST_CLASSES>,
+}
+
+impl Model for ClassTable {
+    ghost Value = { List ℕ };
+
+    ghost view = { λ table. table.classes.items };
+
+    ghost invariant = { λ table. IsLegalTable 1 table.classes.items };
+}
+
+impl ClassTable {
+    /// The table of these classes, in granules.
+    /// Refused by the first of: more than 32 of them (`TooMany`), then at the first faulty one
+    /// not from 2 to 1024 (`OutOfRange`), not above the one before it (`NotAscending`). Never `BadLine`.
+    pub fn from_classes(classes: &[u16]) -> Result<ClassTable, TableError>
+        ensures exact { Gives result (table_of_classes classes.now) }
+        ensures legal { IfOk result (λ table. IsLegalTable 1 table) }
+    {
+        if classes.len() > MOST_CLASSES {
+            return Err(TableError::TooMany);
+        }
+        if let Some(fault) = first_fault(classes) {
+            return Err(fault);
+        }
+        let mut table = ArrayVec::new();
+        for class in classes {
+            table.push(*class);
+        }
+        Ok(ClassTable { classes: table })
+    }
+
+    /// How many classes the table has, 0 to 32.
+    pub fn len(&self) -> usize
+        ensures len { result ≡ length self.now }
+        ensures legal { IsLegalTable 1 self.now }
+    {
+        self.classes.len()
+    }
+
+    /// Whether the table has no class.
+    pub fn is_empty(&self) -> bool
+        ensures { IsTrue result ↔ (self.now ≡ []) }
+    {
+        self.classes.is_empty()
+    }
+
+    /// The class of this number, counted from 0, in granules.
+    pub fn class(&self, number: usize) -> u16
+        requires { number < length self.now }
+        ensures class { slice_get self.now number ≡ Some result }
+        ensures in_range { (2 ≤ result) × (result ≤ 1024) }
+    {
+        self.classes[number]
+    }
+
+    /// The number of the least class that serves a request of `n` bytes, counted from 0, or none where no class does.
+    pub fn find(&self, n: u32) -> Option<usize>
+        ensures number { result ≡ class_number_for self.now n }
+        ensures least { IfSome result (λ number. (number < length self.now) × IsLeastServing self.now n (slice_index self.now number)) }
+    {
+        number_for(&self.classes, n)
+    }
+}
+
+// the number of the first class that serves n
+fn number_for(classes: &[u16], n: u32) -> Option<usize>
+    ensures { result ≡ class_number_for classes.now n }
+{
+    classes.iter().position(|class| serves(n, *class))
+}
+
+// whether the number is no class
+fn is_out_of_range(class: u16) -> bool
+    ensures { result ≡ is_out_of_range class }
+{
+    class < SMALLEST_CLASS || class > LARGEST_CLASS
+}
+
+// what is wrong with the first faulty class, if one is faulty
+fn first_fault(classes: &[u16]) -> Option<TableError>
+    ensures { result ≡ fault_from 0 classes.now }
+{
+    let mut below = 0;
+    for class in classes {
+        if is_out_of_range(*class) {
+            return Some(TableError::OutOfRange);
+        }
+        if *class <= below {
+            return Some(TableError::NotAscending);
+        }
+        below = *class;
+    }
+    None
+}

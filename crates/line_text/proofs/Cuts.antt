@@ -1,0 +1,149 @@
+-- A text and its lines, a line and its words.
+use Rattle.std.proofs.Common.{◌≡◌, ℕ, ◌+◌, ◌<◌, ◌∙◌, List, [], ◌∷◌, ◌++◌, length, get_or, take, drop, refl, ap, arith, add-one, append_assoc, All, ◌⊎◌, inl, inr, Some, None, true, false, cond, eqb, eqb-true, Bool}
+use Rattle.std.proofs.Math.Seq.{split_at}
+use Rattle.std.proofs.lemmas.Bool.{false_from_ne_true}
+use Rattle.std.proofs.lemmas.List.{get_or-take, length-take-le}
+use Rattle.std.proofs.lemmas.List.Elements.{All-head, All-tail, All-cons, All-append, All-nil, All-from_get_or}
+use Rattle.std.proofs.lemmas.List.Concat.{flat_map-cons}
+use Rattle.std.proofs.lemmas.List.Splits.{slice_split_none, slice_split_at, join_with_byte-slice_split}
+use Rattle.std.specs.List.{onto_first}
+use Rattle.memchr.specs.Find.{IsFirstByte, is_byte}
+use Rattle.line_text.specs.Lines.{lines, words, is_newline, is_space, text_of, line_of, ended, IsLine, IsWord}
+
+-- ---- where a search found a byte, or found none
+
+-- the byte does not stand in the list
+abbrev pub Lacks : ℕ → List ℕ → Type 0
+Lacks byte bytes = All (λ b. eqb b byte ≡ false) bytes
+
+pub lacks_before : (byte : ℕ) (bytes : List ℕ) (i : ℕ) → IsFirstByte (is_byte byte) bytes (Some i) → Lacks byte (take i bytes)
+lacks_before byte bytes i found = All-from_get_or (λ b. eqb b byte ≡ false) (take i bytes) 0 other
+  where
+    other : (k : ℕ) → k < length (take i bytes) → eqb (get_or (take i bytes) k 0) byte ≡ false
+    other k lt =
+        let before : k < i = omega (arith, length-take-le i bytes (omega (arith, found.0.high))) in
+        rw (get_or-take i bytes k 0 before) (false_from_ne_true _ (found.0.before k (omega arith) before))
+
+pub lacks_all : (byte : ℕ) (bytes : List ℕ) → IsFirstByte (is_byte byte) bytes None → Lacks byte bytes
+lacks_all byte bytes none =
+    All-from_get_or (λ b. eqb b byte ≡ false) bytes 0 (λ k lt. false_from_ne_true _ (none k (omega arith) lt))
+
+pub cut_at : (byte : ℕ) (bytes : List ℕ) (i : ℕ) → IsFirstByte (is_byte byte) bytes (Some i) → bytes ≡ take i bytes ++ byte ∷ drop (i + 1) bytes
+cut_at byte bytes i found =
+    let found_is : get_or bytes i 0 ≡ byte = eqb-true _ _ found.1 in
+    split_at bytes i 0 found.0.high ∙ rw (found_is, add-one) refl
+
+-- ---- a text and its lines
+
+pub lines-ended : (line text : List ℕ) → IsLine line → lines (line ++ 10 ∷ text) ≡ line ∷ lines text
+unfolding lines
+lines-ended [] text all = refl
+lines-ended (b ∷ line) text all =
+    rw (All-head (λ x. is_newline x ≡ false) b line all, lines-ended line text (All-tail (λ x. is_newline x ≡ false) b line all)) refl
+
+pub line_alone : (line : List ℕ) → 0 < length line → IsLine line → lines line ≡ line ∷ []
+unfolding lines
+line_alone [] some all = absurd (omega arith)
+line_alone (b ∷ []) some all = rw (All-head (λ x. is_newline x ≡ false) b [] all) refl
+line_alone (b ∷ c ∷ line) some all =
+    rw (All-head (λ x. is_newline x ≡ false) b (c ∷ line) all) (ap (onto_first b) (line_alone (c ∷ line) (omega arith) (All-tail (λ x. is_newline x ≡ false) b (c ∷ line) all)))
+
+pub lines_at : (text : List ℕ) (i : ℕ) → IsFirstByte (is_byte 10) text (Some i) → lines text ≡ take i text ∷ lines (drop (i + 1) text)
+lines_at text i found = ap lines (cut_at 10 text i found) ∙ lines-ended (take i text) (drop (i + 1) text) (lacks_before 10 text i found)
+
+pub lines-nil : (text : List ℕ) → length text ≡ 0 → lines text ≡ []
+unfolding lines
+lines-nil [] e = refl
+lines-nil (b ∷ text) e = absurd (omega (arith, e))
+
+-- a text before which lines are written
+pub lines-text_of : (ls : List (List ℕ)) (text : List ℕ) → All IsLine ls → lines (text_of ls ++ text) ≡ ls ++ lines text
+lines-text_of [] text all = refl
+lines-text_of (line ∷ ls) text all =
+    rw (flat_map-cons, append_assoc, append_assoc)
+    (lines-ended line (text_of ls ++ text) (All-head IsLine line ls all) ∙ ap (λ (t : List (List ℕ)). line ∷ t) (lines-text_of ls text (All-tail IsLine line ls all)))
+
+-- a byte in front of the first part, where the byte is not the one at which the parts were cut
+All-onto_first : (cut b : ℕ) (parts : List (List ℕ)) → eqb b cut ≡ false → All (Lacks cut) parts → All (Lacks cut) (onto_first b parts)
+All-onto_first cut b [] other all = All-cons (Lacks cut) (b ∷ []) [] (All-cons (λ x. eqb x cut ≡ false) b [] other (All-nil _)) (All-nil _)
+All-onto_first cut b (part ∷ parts) other all =
+    All-cons (Lacks cut) (b ∷ part) parts (All-cons (λ x. eqb x cut ≡ false) b part other (All-head (Lacks cut) part parts all)) (All-tail (Lacks cut) part parts all)
+
+pub All-lines : (text : List ℕ) → All IsLine (lines text)
+unfolding lines
+All-lines [] = All-nil _
+All-lines (b ∷ text) = go (is_newline b) refl (All-lines text)
+  where
+    go : (v : Bool) → is_newline b ≡ v → All IsLine (lines text) → All IsLine (cond v ([] ∷ lines text) (onto_first b (lines text)))
+    go true e all = All-cons IsLine [] (lines text) (All-nil _) all
+    go false e all = All-onto_first 10 b (lines text) e all
+
+-- a text is its lines, the last with its newline or without
+abbrev IsTextOf : List (List ℕ) → List ℕ → Type 0
+IsTextOf ls text = (text_of ls ≡ text) ⊎ (text_of ls ≡ ended text)
+
+IsTextOf-onto_first : (b : ℕ) (ls : List (List ℕ)) (text : List ℕ) → IsTextOf ls text → IsTextOf (onto_first b ls) (b ∷ text)
+IsTextOf-onto_first b [] [] (inl e) = inr refl
+IsTextOf-onto_first b [] (x ∷ text) (inl e) = absurd cc
+IsTextOf-onto_first b [] [] (inr e) = absurd cc
+IsTextOf-onto_first b [] (x ∷ text) (inr e) = absurd cc
+IsTextOf-onto_first b (l ∷ ls) text (inl e) = inl (rw flat_map-cons (ap (λ (t : List ℕ). b ∷ t) (rw flat_map-cons at e)))
+IsTextOf-onto_first b (l ∷ ls) text (inr e) = inr (rw flat_map-cons (ap (λ (t : List ℕ). b ∷ t) (rw flat_map-cons at e)))
+
+IsTextOf-newline : (ls : List (List ℕ)) (text : List ℕ) → IsTextOf ls text → IsTextOf ([] ∷ ls) (10 ∷ text)
+IsTextOf-newline ls text (inl e) = inl (rw flat_map-cons (ap (λ (t : List ℕ). 10 ∷ t) e))
+IsTextOf-newline ls text (inr e) = inr (rw flat_map-cons (ap (λ (t : List ℕ). 10 ∷ t) e))
+
+pub IsTextOf-lines : (text : List ℕ) → IsTextOf (lines text) text
+unfolding lines
+IsTextOf-lines [] = inl refl
+IsTextOf-lines (b ∷ text) = go (is_newline b) refl (IsTextOf-lines text)
+  where
+    go : (v : Bool) → is_newline b ≡ v → IsTextOf (lines text) text → IsTextOf (cond v ([] ∷ lines text) (onto_first b (lines text))) (b ∷ text)
+    go true e h = rw (eqb-true b 10 e) (IsTextOf-newline (lines text) text h)
+    go false e h = IsTextOf-onto_first b (lines text) text h
+
+-- ---- a line and its words
+
+pub words_at : (line : List ℕ) (i : ℕ) → IsFirstByte (is_byte 32) line (Some i) → words line ≡ take i line ∷ words (drop (i + 1) line)
+unfolding words
+words_at line i found =
+    ap words (cut_at 32 line i found) ∙ slice_split_at is_space (take i line) 32 (drop (i + 1) line) (lacks_before 32 line i found) refl
+
+pub words_last : (line : List ℕ) → IsFirstByte (is_byte 32) line None → words line ≡ line ∷ []
+unfolding words
+words_last line none = slice_split_none is_space line (lacks_all 32 line none)
+
+pub line_of-words : (line : List ℕ) → line_of (words line) ≡ line
+unfolding words
+line_of-words line = join_with_byte-slice_split 32 line
+
+pub words-line_of : (w : List ℕ) (ws : List (List ℕ)) → All IsWord (w ∷ ws) → words (line_of (w ∷ ws)) ≡ w ∷ ws
+unfolding words
+words-line_of w [] all = slice_split_none is_space w (All-head IsWord w [] all)
+words-line_of w (v ∷ ws) all =
+    slice_split_at is_space w 32 (line_of (v ∷ ws)) (All-head IsWord w (v ∷ ws) all) refl
+    ∙ ap (λ (t : List (List ℕ)). w ∷ t) (words-line_of v ws (All-tail IsWord w (v ∷ ws) all))
+
+pub All-words : (line : List ℕ) → All IsWord (words line)
+unfolding words
+All-words [] = All-cons IsWord [] [] (All-nil _) (All-nil _)
+All-words (b ∷ line) = go (is_space b) refl (All-words line)
+  where
+    go : (v : Bool) → is_space b ≡ v → All IsWord (words line) → All IsWord (cond v ([] ∷ words line) (onto_first b (words line)))
+    go true e all = All-cons IsWord [] (words line) (All-nil _) all
+    go false e all = All-onto_first 32 b (words line) e all
+
+-- words that hold no newline make a line
+pub IsLine-line_of : (ws : List (List ℕ)) → All IsLine ws → IsLine (line_of ws)
+IsLine-line_of [] all = All-nil _
+IsLine-line_of (w ∷ []) all = All-head IsLine w [] all
+IsLine-line_of (w ∷ v ∷ ws) all =
+    All-append (λ b. is_newline b ≡ false) w (32 ∷ line_of (v ∷ ws)) (All-head IsLine w (v ∷ ws) all)
+    (All-cons (λ b. is_newline b ≡ false) 32 (line_of (v ∷ ws)) refl (IsLine-line_of (v ∷ ws) (All-tail IsLine w (v ∷ ws) all)))
+
+-- ---- where `next` goes on
+
+-- an item fewer
+pub shorter : {A : Type 0} (x : A) (old new : List A) → old ≡ x ∷ new → length new < length old
+shorter x old new e = omega (arith, ap length e)

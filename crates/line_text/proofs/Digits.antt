@@ -1,0 +1,115 @@
+-- Reading a number digit by digit, and the laws of its spelling.
+use Rattle.std.proofs.Common.{rules, ◌≡◌, ℕ, zero, suc, ◌+◌, ◌*◌, ◌-◌, ◌^◌, ◌<◌, ◌≤◌, true, false, not, eqb, ◌&&◌, ◌||◌, List, [], ◌∷◌, length, get_or, take, refl, sym, ap, ◌∙◌, arith, Option, Some, inl, inr, ne_eqb}
+use Rattle.std.specs.Fmt.{decimal}
+use Rattle.std.specs.Char.{is_ascii_digit, digit_value}
+use Rattle.std.specs.List.{list_all}
+use Rattle.std.specs.Str.Parse.{digits_value}
+use Rattle.std.proofs.lemmas.Bool.{cases_Bool, cases_lt, and_parts, and_from}
+use Rattle.std.proofs.lemmas.Int.Digits.{digits_value_more}
+use Rattle.std.proofs.lemmas.List.Elements.{All-from_get_or}
+use Rattle.std.proofs.lemmas.Bool.Decides.{nat_tests}
+use Rattle.std.proofs.lemmas.List.{length-take-le}
+use Rattle.std.proofs.lemmas.List.Folds.{list_all_more}
+use Rattle.std.proofs.lemmas.Str.Parse.{IsNumeralModel, numerals_by_value, digits_value_short}
+use Rattle.std.proofs.lemmas.Fmt.{decimal-digits_value, digits_decimal, digits_value-decimal, decimal_nonempty, first_decimal, decimal_digit}
+use Rattle.line_text.specs.Lines.{IsLine, IsWord, is_newline, is_space}
+use Rattle.line_text.specs.Numbers.{number_of, is_numeral}
+
+-- ---- reading
+
+digit_is : (c : ℕ) → is_ascii_digit c ≡ true → (digit_value c ≡ c - 48) × (48 ≤ c) × (c ≤ 57)
+digit_is c e = let h : (48 ≤ c) × (c ≤ 57) = grind (arith, nat_tests) in (grind (arith, nat_tests), h.0, h.1)
+
+pub digit_at : (word : List ℕ) (i : ℕ) → list_all is_ascii_digit word ≡ true → i < length word → is_ascii_digit (get_or word i 0) ≡ true
+digit_at [] i all lt = absurd (omega arith)
+digit_at (c ∷ word) zero all lt = (and_parts (is_ascii_digit c) (list_all is_ascii_digit word) all).0
+digit_at (c ∷ word) (suc i) all lt = digit_at word i (and_parts (is_ascii_digit c) (list_all is_ascii_digit word) all).1 (omega arith)
+
+-- the number with one digit more at its end
+pub one_more : (digits : List ℕ) (i : ℕ) → i < length digits → is_ascii_digit (get_or digits i 0) ≡ true
+    → digits_value 10 (take (i + 1) digits) ≡ digits_value 10 (take i digits) * 10 + (get_or digits i 0 - 48)
+one_more digits i lt digit =
+    digits_value_more 10 digits i lt ∙ ap (λ d. digits_value 10 (take i digits) * 10 + d) (digit_is (get_or digits i 0) digit).0
+
+pub digits_more : (digits : List ℕ) (i : ℕ) → i < length digits → is_ascii_digit (get_or digits i 0) ≡ true
+    → list_all is_ascii_digit (take i digits) ≡ true → list_all is_ascii_digit (take (i + 1) digits) ≡ true
+digits_more digits i lt digit so_far = list_all_more is_ascii_digit digits i 0 lt ∙ and_from _ _ so_far digit
+
+-- what std's lemmas want to know of our numerals
+pub own : IsNumeralModel (λ ds. list_all is_ascii_digit ds ≡ true) (digits_value 10)
+own = numerals_by_value _ (search rules)
+
+-- it stays in 64 bits where there are at most 19 digits
+pub room_for_one : (word : List ℕ) (i : ℕ) → i < length word → length word ≤ 19 → is_ascii_digit (get_or word i 0) ≡ true
+    → list_all is_ascii_digit (take i word) ≡ true → digits_value 10 (take i word) * 10 + (get_or word i 0 - 48) < 2 ^ 64
+room_for_one word i lt few digit so_far =
+    let digits = digits_more word i lt digit so_far in
+    let short : length (take (i + 1) word) ≤ 19 = omega (arith, length-take-le (i + 1) word (omega arith)) in
+    let below : digits_value 10 (take (i + 1) word) < 10 ^ 19 = digits_value_short own (take (i + 1) word) 19 digits short in
+    omega (arith, one_more word i lt digit)
+
+-- ---- the laws
+
+-- the three parts of the test
+record IsSpelled (word : List ℕ) : Type 0 where
+  pub digits : list_all is_ascii_digit word ≡ true
+  pub some : not (eqb (length word) 0) ≡ true
+  pub first : (eqb (length word) 1 || not (eqb (get_or word 0 0) 48)) ≡ true
+
+spelled_parts : (word : List ℕ) → is_numeral word ≡ true → IsSpelled word
+spelled_parts word e =
+    let a = and_parts (list_all is_ascii_digit word && not (eqb (length word) 0)) (eqb (length word) 1 || not (eqb (get_or word 0 0) 48)) e in
+    let b = and_parts (list_all is_ascii_digit word) (not (eqb (length word) 0)) a.0 in
+    record { digits = b.0; some = b.1; first = a.1 }
+
+short_zero : (n k : ℕ) → (eqb k 1 || not (eqb n 48)) ≡ true → n ≡ 48 → k ≡ 1
+short_zero n k e h = grind (arith, nat_tests)
+
+abbrev some_of : ℕ → Option ℕ
+some_of n = Some n
+
+same_value : (m n : ℕ) → some_of m ≡ some_of n → m ≡ n
+same_value m n e = cc
+
+-- what is read as a number of at most 64 bits is its spelling
+pub decimal-number_of : (word : List ℕ) (n : ℕ) → n < 2 ^ 64 → number_of word ≡ Some n → word ≡ decimal n
+unfolding number_of
+decimal-number_of word n small e =
+    elim (cases_Bool (is_numeral word)) [
+      | inl spelled ↦
+          let s = spelled_parts word spelled in
+          let is_n : digits_value 10 word ≡ n = same_value _ _ (rw spelled at e) in
+          let back = decimal-digits_value own word s.digits (grind (arith, nat_tests, s.some)) (short_zero (get_or word 0 0) (length word) s.first) (rw is_n small) in
+          sym back ∙ ap decimal is_n
+      | inr other ↦ let f = rw other at e in absurd cc
+    ]
+
+-- and what is spelled so is read
+pub number_of-decimal : (n : ℕ) → n < 2 ^ 64 → number_of (decimal n) ≡ Some n
+unfolding number_of
+number_of-decimal n small =
+    let long : 0 < length (decimal n) = decimal_nonempty n small in
+    let some : not (eqb (length (decimal n)) 0) ≡ true = rw (ne_eqb (length (decimal n)) 0 (omega arith)) refl in
+    let first : (eqb (length (decimal n)) 1 || not (eqb (get_or (decimal n) 0 0) 48)) ≡ true = elim (cases_lt 0 n) [
+      | inl more ↦ let big : 48 < get_or (decimal n) 0 0 = first_decimal n more small in grind (arith, nat_tests)
+      | inr none ↦ let is_zero : n ≡ 0 = omega arith in rw (is_zero, decimal_digit 0 (omega arith)) refl
+    ] in
+    let spelled : is_numeral (decimal n) ≡ true = and_from _ _ (and_from _ _ (digits_decimal own n small) some) first in
+    rw spelled (ap Some (digits_value-decimal own n small))
+
+-- ---- a number is a word of a line
+
+pub other_byte : (c d : ℕ) → is_ascii_digit c ≡ true → d < 48 → eqb c d ≡ false
+other_byte c d e lt = let h = digit_is c e in ne_eqb c d (omega (arith, h))
+
+pub IsLine-decimal : (n : ℕ) → n < 2 ^ 64 → IsLine (decimal n)
+IsLine-decimal n small = each (decimal n) (digits_decimal own n small)
+  where
+    each : (ds : List ℕ) → list_all is_ascii_digit ds ≡ true → IsLine ds
+    each ds all = All-from_get_or (λ b. is_newline b ≡ false) ds 0 (λ i lt. other_byte (get_or ds i 0) 10 (digit_at ds i all lt) (omega arith))
+
+pub IsWord-decimal : (n : ℕ) → n < 2 ^ 64 → IsWord (decimal n)
+IsWord-decimal n small = each (decimal n) (digits_decimal own n small)
+  where
+    each : (ds : List ℕ) → list_all is_ascii_digit ds ≡ true → IsWord ds
+    each ds all = All-from_get_or (λ b. is_space b ≡ false) ds 0 (λ i lt. other_byte (get_or ds i 0) 32 (digit_at ds i all lt) (omega arith))

@@ -1,0 +1,45 @@
+-- Lines that are not empty are the lines of their text, with its last newline or without.
+use Rattle.std.proofs.Common.{◌≡◌, ℕ, List, [], ◌∷◌, ◌++◌, length, Some, refl, sym, ap, ◌∙◌, arith, ◌⊎◌, inl, inr, append_assoc, append-nil, length-append}
+use Rattle.std.specs.Prelude.{All}
+use Rattle.std.proofs.lemmas.Grind.{flat_map-append}
+use Rattle.std.proofs.lemmas.List.{append_cancel_right}
+use Rattle.std.proofs.lemmas.List.Concat.{flat_map-cons}
+use Rattle.std.proofs.lemmas.List.Elements.{All-pop, All-weaker}
+use Rattle.line_text.specs.Laws.{CutLinesAreRead, WrittenLinesAreRead}
+use Rattle.line_text.specs.Lines.{lines, text_of, ended, IsFullLine, IsLine}
+
+-- lines, with the last one apart
+record LastApart (ls : List (List ℕ)) : Type 0 where
+  front : List (List ℕ)
+  last : List ℕ
+  is : ls ≡ front ++ last ∷ []
+
+last_apart : (line : List ℕ) (ls : List (List ℕ)) → LastApart (line ∷ ls)
+last_apart line [] = record { front = []; last = line; is = refl }
+last_apart line (next ∷ ls) =
+    let rest = last_apart next ls in
+    record { front = line ∷ rest.front; last = rest.last; is = ap (λ ls. line ∷ ls) rest.is }
+
+-- full lines are lines
+all_lines : (ls : List (List ℕ)) → All IsFullLine ls → All IsLine ls
+all_lines ls full = All-weaker IsFullLine IsLine (λ line is. is.0) ls full
+
+-- a text is what stands in front of its last newline, and that newline
+text_of-last : (front : List (List ℕ)) (last : List ℕ) → text_of (front ++ last ∷ []) ≡ ended (text_of front ++ last)
+text_of-last front last =
+    flat_map-append ended front (last ∷ [])
+    ∙ ap (λ text. text_of front ++ text) (flat_map-cons ended last [] ∙ append-nil (ended last))
+    ∙ sym (append_assoc (text_of front) last (10 ∷ []))
+
+lines-cut : CutLinesAreRead → (ls : List (List ℕ)) (text : List ℕ) → All IsFullLine ls → ended text ≡ text_of ls → lines text ≡ ls
+lines-cut cut [] text full e = absurd (omega (arith, length-append text (10 ∷ []), ap length e))
+lines-cut cut (line ∷ ls) text full e =
+    let apart = last_apart line ls in
+    let both = All-pop IsFullLine (line ∷ ls) apart.front (Some apart.last) apart.is full in
+    let whole : ended text ≡ ended (text_of apart.front ++ apart.last) = e ∙ ap text_of apart.is ∙ text_of-last apart.front apart.last in
+    let same : text ≡ text_of apart.front ++ apart.last = append_cancel_right text (text_of apart.front ++ apart.last) (10 ∷ []) whole in
+    ap lines same ∙ cut apart.front apart.last (all_lines apart.front both.0) both.1.0 both.1.1 ∙ sym apart.is
+
+pub full_lines-read : CutLinesAreRead → WrittenLinesAreRead → (ls : List (List ℕ)) (text : List ℕ) → All IsFullLine ls → (text ≡ text_of ls) ⊎ (ended text ≡ text_of ls) → lines text ≡ ls
+full_lines-read cut written ls text full (inl whole) = ap lines whole ∙ written ls (all_lines ls full)
+full_lines-read cut written ls text full (inr short) = lines-cut cut ls text full short

@@ -1,0 +1,20 @@
+-- How a number is spelled, and how a word is read as one.
+use Rattle.std.specs.Prelude.{ℕ, ◌^◌, Bool, ◌&&◌, ◌||◌, not, List, length, slice_index, Option, Some, None, ◌==◌, nat_lt, if◌then◌else◌}
+use Rattle.std.specs.Char.{is_ascii_digit}
+use Rattle.std.specs.List.{list_all}
+use Rattle.std.specs.Str.Parse.{digits_value}
+use Rattle.line_text.specs.declared.number.Number.{Number}
+use Rattle.line_text.specs.declared.number.Number.TheVariants.{NoNumber, TooLarge, Value}
+
+-- Digits, and no needless 0 in front: 48 is `0`.
+abbrev pub is_numeral : List ℕ → Bool
+is_numeral word = list_all is_ascii_digit word && not (length word == 0) && (length word == 1 || not (slice_index word 0 == 48))
+
+-- The number that a word spells, however long; none where it spells none.
+unfoldable pub number_of : List ℕ → Option ℕ
+number_of word = if is_numeral word then Some (digits_value 10 word) else None
+
+-- What a word spells, as far as 64 bits hold it.
+abbrev pub classified : Option ℕ → Number
+classified None = NoNumber
+classified (Some n) = if nat_lt n (2 ^ 64) then Value n else TooLarge

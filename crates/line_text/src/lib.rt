@@ -1,0 +1,18 @@
+//! Lines of a text, words of a line, and the numbers that words spell: what all text formats of the tool share.
+#![tactic(auto)]
+
+mod hexadecimal;
+pub mod laws;
+mod lines;
+mod number;
+mod search;
+mod signed;
+#[cfg(test)]
+mod tests;
+mod words;
+
+pub use hexadecimal::{hex_byte_in, hex_digits};
+pub use lines::{Lines, lines_in};
+pub use number::{Number, capped_number_in, number_in};
+pub use signed::{SignedNumber, signed_in};
+pub use words::{Words, words_in};

@@ -1,0 +1,93 @@
+//! Numbers.
+ghost use Rattle.std.specs.Prelude.{◌≡◌, ◌<◌, ◌≤◌, ◌^◌, IsTrue, IfSome, length, min};
+ghost use Rattle.std.specs.Char.{is_ascii_digit};
+ghost use Rattle.std.specs.List.{list_all};
+ghost use Rattle.std.specs.Option.{SomeIff, option_map};
+ghost use Rattle.std.specs.Str.Parse.{digits_value};
+ghost use Rattle.line_text.specs.Numbers.{number_of, classified};
+
+/// What a word says as a number.
+#[derive(Debug, Clone, Copy, PartialEq, Eq)]
+pub enum Number {
+    /// It is no number, or not in its one spelling.
+    NoNumber,
+    /// It is a number above 2^64 - 1.
+    TooLarge,
+    /// It is this number.
+    Value(u64),
+}
+
+// Every number of so many digits is below 2^64.
+const SHORT: usize = 19;
+
+/// The number that a word of any length spells. Each number has one spelling: its decimal digits, with no 0 in front
+/// but in `0` itself.
+#[tactic(auto, unfolding(crate::specs::Numbers::number_of))]
+pub fn number_in(word: &[u8]) -> Number
+    ensures { result ≡ classified (number_of word.now) }
+{
+    if word.is_empty() || (word[0] == b'0' && 1 < word.len()) {
+        return Number::NoNumber;
+    }
+    if word.len() <= SHORT {
+        return match short_value_in(word) {
+            Some(value) => Number::Value(value),
+            None => Number::NoNumber,
+        };
+    }
+    if !all_digits(word) {
+        return Number::NoNumber;
+    }
+    match value_of(word) {
+        Some(value) => Number::Value(value),
+        None => Number::TooLarge,
+    }
+}
+
+/// The number that a word of any length spells, or `most` where it is larger; none where the word spells none.
+/// It serves a reader for which every number from `most` on is out of range.
+pub fn capped_number_in(word: &[u8], most: u32) -> Option<u32>
+    ensures number { result ≡ option_map (λ n. min n most) (number_of word.now) }
+    ensures capped { IfSome result (λ n. n ≤ most) }
+{
+    match number_in(word) {
+        Number::NoNumber => None,
+        Number::TooLarge => Some(most),
+        Number::Value(n) => Some(n.min(u64::from(most)) as u32),
+    }
+}
+
+fn all_digits(word: &[u8]) -> bool
+    ensures { result ≡ list_all is_ascii_digit word.now }
+{
+    word.iter().all(|b| b.is_ascii_digit())
+}
+
+// The value of a short word, where all its bytes are digits.
+fn short_value_in(word: &[u8]) -> Option<u64>
+    requires { length word.now ≤ SHORT }
+    ensures { SomeIff result (IsTrue (list_all is_ascii_digit word.now)) (digits_value 10 word.now) }
+{
+    let mut value: u64 = 0;
+    for byte in word {
+        if !byte.is_ascii_digit() {
+            return None;
+        }
+        value = value * 10 + u64::from(*byte - b'0');
+    }
+    Some(value)
+}
+
+// The value of digits, where 64 bits hold it.
+fn value_of(digits: &[u8]) -> Option<u64>
+    requires { IsTrue (list_all is_ascii_digit digits.now) }
+    ensures { SomeIff result (digits_value 10 digits.now < 2 ^ 64) (digits_value 10 digits.now) }
+{
+    let mut value: u64 = 0;
+    for digit in digits {
+        value = value
+            .checked_mul(10)?
+            .checked_add(u64::from(*digit - b'0'))?;
+    }
+    Some(value)
+}

@@ -1,0 +1,23 @@
+//! The search for the byte that ends a line or a word.
+ghost use Rattle.memchr.specs.Find.{IsFirstByte, is_byte};
+
+use memchr::memchr;
+
+// Up to here one byte after the other is the faster search, and most lines and words are no longer.
+const NEAR: usize = 32;
+
+// Inlined, as the two `next` that call it: a call for each word would take longer than most words do.
+#[inline(always)]
+pub(crate) fn first_place(byte: u8, bytes: &[u8]) -> Option<usize>
+    ensures { IsFirstByte (is_byte byte) bytes.now result }
+{
+    for (place, other) in bytes.iter().enumerate() {
+        if *other == byte {
+            return Some(place);
+        }
+        if place == NEAR {
+            return memchr(byte, bytes);
+        }
+    }
+    None
+}

@@ -1,0 +1,6 @@
+pub mod Exit
+pub mod Moving
+pub mod Outcome
+pub mod Parts
+pub mod Score
+pub mod Streams

@@ -1,0 +1,33 @@
+-- The parts of an input, each with its faults told by the input's lines, which are counted from 1.
+use Rattle.std.specs.Prelude.{◌≡◌, ℕ, ◌+◌, List, Result, Ok, Err}
+use Rattle.class_table.specs.declared.fault.TableError.{TableError}
+use Rattle.profile_count.specs.declared.fault.ProfileFault.{ProfileFault}
+use Rattle.tuner_theory.specs.Waste.{Profile as Counted}
+use Rattle.mte_tool.specs.declared.fault.InputFault.{InputFault}
+use Rattle.mte_tool.specs.declared.fault.InputFault.TheVariants.{Table, Profile}
+use Rattle.mte_tool.specs.declared.fault.ToolFault.{ToolFault}
+use Rattle.mte_tool.specs.declared.fault.ToolFault.TheVariants.{OutOfMemory, Input, ReadFault, WriteFault}
+
+-- One part after the other: the first fault is the fault of the whole.
+infixl 10 ◌>>=◌
+abbrev pub ◌>>=◌ : {A B : Type 0} → Result A InputFault → (A → Result B InputFault) → Result B InputFault
+(Ok part) >>= rest = rest part
+(Err fault) >>= rest = Err fault
+
+-- A class line, which is the first line of its input.
+abbrev pub table_part : Result (List ℕ) TableError → Result (List ℕ) InputFault
+table_part (Ok table) = Ok table
+table_part (Err fault) = Err (Table fault)
+
+-- A profile behind so many lines of its input.
+abbrev pub profile_part : ℕ → Result Counted (ℕ × ProfileFault) → Result Counted InputFault
+profile_part lines (Ok profile) = Ok profile
+profile_part lines (Err fault) = Err (Profile (lines + fault.0) fault.1)
+
+-- What the code read is this part, unless memory ran out.
+abbrev pub GivesPart : {A : Type 0} → Result A ToolFault → Result A InputFault → Type 0
+GivesPart (Ok x) part = part ≡ Ok x
+GivesPart (Err OutOfMemory) part = Unit {0}
+GivesPart (Err (Input fault)) part = part ≡ Err fault
+GivesPart (Err ReadFault) part = ⊥
+GivesPart (Err WriteFault) part = ⊥

@@ -1,0 +1,76 @@
+//! The program: its words, its standard input and output, and its exit status.
+ghost use Rattle.std.specs.Prelude.{◌≡◌};
+ghost use Rattle.mte_tool.specs.Exit.{status_of_fault};
+
+use crate::engine::Status;
+use crate::fault::ToolFault;
+use crate::score::score;
+use crate::standard::{StreamSink, StreamSource};
+use crate::words::command;
+use clap::Error;
+use clap::error::ErrorKind;
+use std::io::writer;
+use std::rt::Env;
+
+// the exit statuses
+const DONE: u8 = 0;
+
+const NO: u8 = 1;
+
+const REFUSED: u8 = 2;
+
+const FAILED: u8 = 3;
+
+/// Runs the program on the words of its command line, and gives its exit status: 0 where it is done, 1 for a verdict of no,
+/// 2 for refused words or input, 3 for want of memory and for a failed read or write.
+pub fn run<R: Env + AllocGlobal + Input + Print + Eprint>(rt: &R) -> u8 {
+    let Some(words) = words(rt) else {
+        return fail(rt, ToolFault::OutOfMemory);
+    };
+    let Ok(command) = command(rt.alloc()) else {
+        return fail(rt, ToolFault::OutOfMemory);
+    };
+    match command.try_get_matches_from(words.as_slice()) {
+        Ok(_) => run_score(rt),
+        Err(error) => refuse(rt, &error),
+    }
+}
+
+// the words of the command line, unless memory runs out
+fn words<R: Env + AllocGlobal>(rt: &R) -> Option<Vec<String>> {
+    std::env::args(rt).ok()?.collect(rt.alloc()).ok()
+}
+
+// `score` from standard input to standard output
+fn run_score<R: AllocGlobal + Input + Print + Eprint>(rt: &R) -> u8 {
+    let mut source = StreamSource::new(rt.reader());
+    let mut sink = StreamSink::new(writer(rt));
+    match score(rt.alloc(), &mut source, &mut sink) {
+        Ok(Status::Done) => DONE,
+        Ok(Status::No) => NO,
+        Err(fault) => fail(rt, fault),
+    }
+}
+
+// says on standard error why there is no answer, and gives the exit status for it
+fn fail<R: Eprint>(rt: &R, fault: ToolFault) -> u8
+    ensures { result ≡ status_of_fault fault }
+{
+    let _ = eprintln!(rt; "error {fault}");
+    match fault {
+        ToolFault::Input(_) => REFUSED,
+        _ => FAILED,
+    }
+}
+
+// prints what clap says of the words: help and version are no refusal
+fn refuse<R: Print + Eprint>(rt: &R, error: &Error) -> u8 {
+    if error.kind() == ErrorKind::OutOfMemory {
+        return fail(rt, ToolFault::OutOfMemory);
+    }
+    match error.print(rt) {
+        Ok(()) if error.use_stderr() => REFUSED,
+        Ok(()) => DONE,
+        Err(_) => fail(rt, ToolFault::WriteFault),
+    }
+}

@@ -1,0 +1,5 @@
+//! What no contract says: worked values, the texts of faults, and calls that fail in the middle of an input or an output.
+mod counts;
+mod score_texts;
+mod streams_failing;
+mod support;

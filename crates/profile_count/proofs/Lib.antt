@@ -1,0 +1,10 @@
+pub mod EntryLines
+pub mod FirstServing
+pub mod LineByLine
+pub mod OpenReading
+pub mod ReadIsSpelled
+pub mod SizeLines
+pub mod SpelledIsRead
+pub mod Unserved
+pub mod Waste
+pub mod Zeros

@@ -1,0 +1,37 @@
+-- A reading of which no `large` line was read: nothing is counted from the next size on.
+use Rattle.std.proofs.Common.{◌≡◌, ◌≢◌, ℕ, ◌≤◌, List, get_or, set, refl, ◌∙◌, arith}
+use Rattle.std.proofs.lemmas.List.{get_or-set_other, length-set}
+use Rattle.std.proofs.lemmas.List.Elements.{All-set}
+use Rattle.tuner_theory.specs.Waste.{AreCounts, most_counted}
+use Rattle.profile_count.specs.Counts.{nothing_counted, zeros}
+use Rattle.profile_count.specs.ProfileText.{Reading, IsNext, with_entry}
+use Rattle.profile_count.specs.declared.entry.Entry.TheVariants.{Size}
+use Rattle.profile_count.proofs.Zeros.{counts-zeros, get_or-zeros}
+
+pub record IsOpen (reading : Reading) : Type 0 where
+  pub counts : AreCounts reading.profile.counts
+  pub large : reading.profile.large ≡ 0
+  pub none : (k : ℕ) → reading.next ≤ k → get_or reading.profile.counts k 0 ≡ 0
+
+-- before the first line
+abbrev pub nothing_read : Reading
+nothing_read = record { profile = nothing_counted; next = 0 }
+
+pub is_open-nothing_read : IsOpen nothing_read
+is_open-nothing_read = record { counts = counts-zeros (zeros 16369) refl; large = refl; none = λ k from. get_or-zeros 16369 k }
+
+-- where one count is set, the others stay
+pub other_count : (counts : List ℕ) (size count k : ℕ) → k ≢ size → get_or (set counts size count) k 0 ≡ get_or counts k 0
+other_count counts size count k other = get_or-set_other counts size k count 0 other
+
+-- a reading stays open behind the line of a size
+pub is_open-size_read : (reading : Reading) (size count : ℕ) → IsOpen reading → IsNext reading.next 0 (Size size count) → IsOpen (with_entry reading (Size size count))
+is_open-size_read reading size count is_open next =
+    record {
+      counts = record {
+        sizes = length-set reading.profile.counts size count ∙ is_open.counts.sizes;
+        in_range = All-set (λ count. count ≤ most_counted) reading.profile.counts size count next.4 is_open.counts.in_range;
+      };
+      large = is_open.large;
+      none = λ k from. other_count reading.profile.counts size count k (λ same. omega arith) ∙ is_open.none k (omega (arith, next.1));
+    }

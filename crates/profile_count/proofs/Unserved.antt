@@ -1,0 +1,135 @@
+-- The least counted size that has no class.
+use Rattle.std.proofs.Common.{◌≡◌, ℕ, zero, suc, ◌+◌, ◌<◌, ◌≤◌, Bool, true, false, ◌&&◌, List, [], ◌∷◌, length, get_or, drop, ltb, cond, is_none, Option, Some, None, refl, sym, ap, ◌∙◌, arith, add-one}
+use Rattle.std.specs.Prelude.{IsSome, IfSome, IfNone}
+use Rattle.std.proofs.Math.Seq.{drop-cons}
+use Rattle.std.proofs.lemmas.Bool.{lt-ltb, le-ltb, ltb-true, and_parts}
+use Rattle.std.proofs.lemmas.List.{drop_all}
+use Rattle.class_table.specs.Tables.{class_for}
+use Rattle.tuner_theory.specs.Waste.{IsCounted, Serves}
+use Rattle.profile_count.specs.Counts.{unserved_from, unserved_of}
+
+-- ---- one size after the other
+
+abbrev pub unserved_behind : List ℕ → List ℕ → ℕ → Option ℕ
+unserved_behind counts classes n = unserved_from classes n (drop n counts)
+
+pub unserved_here : (counts classes : List ℕ) (n : ℕ) → n < length counts → 0 < get_or counts n 0 → class_for classes n ≡ None → unserved_behind counts classes n ≡ Some n
+unfolding unserved_from
+unserved_here counts classes n within some none =
+    let test : ltb 0 (get_or counts n 0) ≡ true = lt-ltb 0 _ some in
+    rw (drop-cons counts n 0 within, test, none) refl
+
+pub not_counted_here : (counts classes : List ℕ) (n : ℕ) → n < length counts → get_or counts n 0 ≤ 0 → unserved_behind counts classes n ≡ unserved_behind counts classes (n + 1)
+unfolding unserved_from
+not_counted_here counts classes n within none =
+    let test : ltb 0 (get_or counts n 0) ≡ false = le-ltb 0 _ none in
+    rw (drop-cons counts n 0 within, test, add-one) refl
+
+pub served_here : (counts classes : List ℕ) (n class : ℕ) → n < length counts → class_for classes n ≡ Some class → unserved_behind counts classes n ≡ unserved_behind counts classes (n + 1)
+unfolding unserved_from
+served_here counts classes n class within served =
+    rw (drop-cons counts n 0 within, served, add-one) (go (ltb 0 (get_or counts n 0)))
+  where
+    go : (b : Bool) → cond (b && false) (Some n) (unserved_from classes (suc n) (drop (suc n) counts)) ≡ unserved_from classes (suc n) (drop (suc n) counts)
+    go true = refl
+    go false = refl
+
+pub none_behind : (counts classes : List ℕ) (n : ℕ) → length counts ≤ n → unserved_behind counts classes n ≡ None
+unfolding unserved_from
+none_behind counts classes n past = rw (drop_all n counts past) refl
+
+-- ---- what the definition says
+
+-- the first of the sizes from n on; `at` counts from there
+pub record IsFirstUnserved (classes counts : List ℕ) (n size : ℕ) : Type 0 where
+  pub at : ℕ
+  pub is : size ≡ n + at
+  pub within : at < length counts
+  pub some : 0 < get_or counts at 0
+  pub none : class_for classes size ≡ None
+  pub first : (k : ℕ) → k < at → 0 < get_or counts k 0 → class_for classes (n + k) ≡ None → ⊥
+
+is_none-None : (o : Option ℕ) → is_none o ≡ true → o ≡ None
+is_none-None None e = refl
+is_none-None (Some x) e = absurd cc
+
+passed_by : (count : ℕ) (o : Option ℕ) → (ltb 0 count && is_none o) ≡ false → 0 < count → o ≡ None → ⊥
+passed_by count o e some none =
+    let test : ltb 0 count ≡ true = lt-ltb 0 count some in
+    let f = rw (test, none) at e in
+    cc
+
+one_later : (classes counts : List ℕ) (count n at : ℕ) → (ltb 0 count && is_none (class_for classes n)) ≡ false
+    → ((k : ℕ) → k < at → 0 < get_or counts k 0 → class_for classes (suc n + k) ≡ None → ⊥)
+    → (k : ℕ) → k < suc at → 0 < get_or (count ∷ counts) k 0 → class_for classes (n + k) ≡ None → ⊥
+one_later classes counts count n at e first zero lt some none =
+    let same : n + 0 ≡ n = omega arith in
+    passed_by count (class_for classes n) e some (rw same at none)
+one_later classes counts count n at e first (suc k) lt some none =
+    let same : n + suc k ≡ suc n + k = omega arith in
+    first k (omega arith) some (rw same at none)
+
+first_from : (classes counts : List ℕ) (n size : ℕ) → unserved_from classes n counts ≡ Some size → IsFirstUnserved classes counts n size
+unfolding unserved_from
+first_from classes [] n size found = absurd cc
+first_from classes (count ∷ counts) n size found = go (ltb 0 count && is_none (class_for classes n)) refl (first_from classes counts (suc n) size)
+  where
+    go : (b : Bool) → (ltb 0 count && is_none (class_for classes n)) ≡ b → (unserved_from classes (suc n) counts ≡ Some size → IsFirstUnserved classes counts (suc n) size)
+        → IsFirstUnserved classes (count ∷ counts) n size
+    go true e later =
+        let same : n ≡ size = (let f = rw e at found in cc) in
+        let parts = and_parts _ _ e in
+        record {
+          at = 0;
+          is = omega (arith, same);
+          within = omega arith;
+          some = ltb-true 0 count parts.0;
+          none = ap (class_for classes) (sym same) ∙ is_none-None _ parts.1;
+          first = λ k lt. absurd (omega arith);
+        }
+    go false e later =
+        let rest = later (rw e at found) in
+        record {
+          at = suc rest.at;
+          is = omega (arith, rest.is);
+          within = omega (arith, rest.within);
+          some = rest.some;
+          none = rest.none;
+          first = one_later classes counts count n rest.at e rest.first;
+        }
+
+is_some-not_None : (o : Option ℕ) → (o ≡ None → ⊥) → IsSome o
+is_some-not_None None other = absurd (other refl)
+is_some-not_None (Some x) other = refl
+
+all_served : (classes counts : List ℕ) (n : ℕ) → unserved_from classes n counts ≡ None → (k : ℕ) → k < length counts → 0 < get_or counts k 0 → class_for classes (n + k) ≡ None → ⊥
+unfolding unserved_from
+all_served classes [] n none = λ k lt. absurd (omega arith)
+all_served classes (count ∷ counts) n none = go (ltb 0 count && is_none (class_for classes n)) refl (all_served classes counts (suc n))
+  where
+    go : (b : Bool) → (ltb 0 count && is_none (class_for classes n)) ≡ b
+        → (unserved_from classes (suc n) counts ≡ None → (k : ℕ) → k < length counts → 0 < get_or counts k 0 → class_for classes (suc n + k) ≡ None → ⊥)
+        → (k : ℕ) → k < length (count ∷ counts) → 0 < get_or (count ∷ counts) k 0 → class_for classes (n + k) ≡ None → ⊥
+    go true e later k lt some = let f = rw e at none in absurd cc
+    go false e later k lt some = one_later classes counts count n (length counts) e (later (rw e at none)) k lt some
+
+-- ---- the three clauses
+
+pub found : (counts classes : List ℕ) (size : Option ℕ) → size ≡ unserved_of counts classes → IfSome size (λ n. IsCounted counts n × (class_for classes n ≡ None))
+found counts classes None e = tt
+found counts classes (Some size) e =
+    let at = first_from classes counts 0 size (sym e) in
+    let place : at.at ≡ size = omega (arith, at.is) in
+    (rw (← place) (at.within, at.some), at.none)
+
+pub least : (counts classes : List ℕ) (size : Option ℕ) → size ≡ unserved_of counts classes → IfSome size (λ n. (m : ℕ) → m < n → IsCounted counts m → class_for classes m ≡ None → ⊥)
+least counts classes None e = tt
+least counts classes (Some size) e = λ m lt counted none.
+    let at = first_from classes counts 0 size (sym e) in
+    let same : m ≡ 0 + m = omega arith in
+    at.first m (omega (arith, at.is)) counted.1 (rw same at none)
+
+pub serving : (counts classes : List ℕ) (size : Option ℕ) → size ≡ unserved_of counts classes → IfNone size (Serves counts classes)
+serving counts classes None e = λ n counted.
+    is_some-not_None (class_for classes n) (λ none. let same : n ≡ 0 + n = omega arith in all_served classes counts 0 (sym e) n counted.0 counted.1 (rw same at none))
+serving counts classes (Some size) e = tt

@@ -1,0 +1,24 @@
+-- A profile that counts nothing.
+use Rattle.std.proofs.Common.{◌≡◌, ℕ, ◌≤◌, List, length, get_or, ap, ◌∙◌, arith, inl, inr}
+use Rattle.std.proofs.lemmas.Bool.{cases_lt}
+use Rattle.std.proofs.lemmas.List.{length-replicate, get_or-replicate, get_or_past}
+use Rattle.std.proofs.lemmas.List.Elements.{All-from_get_or}
+use Rattle.profile_count.specs.Counts.{zeros}
+use Rattle.tuner_theory.specs.Waste.{AreCounts, most_counted}
+
+length-zeros : (n : ℕ) → length (zeros n) ≡ n
+unfolding zeros
+length-zeros n = length-replicate n 0
+
+-- Each is 0, and so is what is read behind the last.
+pub get_or-zeros : (n k : ℕ) → get_or (zeros n) k 0 ≡ 0
+unfolding zeros
+get_or-zeros n k = elim (cases_lt k n) [
+  | inl within ↦ get_or-replicate n k 0 0 within
+  | inr past ↦ get_or_past (zeros n) k 0 (omega (arith, length-zeros n))
+]
+
+pub counts-zeros : (items : List ℕ) → items ≡ zeros 16369 → AreCounts items
+counts-zeros items are =
+    let sizes : length items ≡ 16369 = ap length are ∙ length-zeros 16369 in
+    record { sizes = sizes; in_range = All-from_get_or (λ count. count ≤ most_counted) items 0 (λ k within. rw (are, get_or-zeros) (omega arith)) }

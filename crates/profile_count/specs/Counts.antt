@@ -1,0 +1,28 @@
+-- Counts of sizes, and the least counted size that a table does not serve.
+use Rattle.std.specs.Prelude.{ℕ, suc, ◌&&◌, List, [], ◌∷◌, Option, Some, None, nat_lt, is_none, if◌then◌else◌, replicate, slice_set}
+use Rattle.class_table.specs.Tables.{class_for}
+use Rattle.tuner_theory.specs.Waste.{Profile}
+
+-- So many zeros. It is opaque, since there are many.
+unfoldable pub zeros : ℕ → List ℕ
+zeros n = replicate n 0
+
+abbrev pub nothing_counted : Profile
+nothing_counted = record { counts = zeros 16369; large = 0 }
+
+-- A profile with another count of one size, or of the large requests.
+abbrev pub with_count : Profile → ℕ → ℕ → Profile
+with_count p size count = record { counts = slice_set p.counts size count; large = p.large }
+
+abbrev pub with_large : Profile → ℕ → Profile
+with_large p count = record { counts = p.counts; large = count }
+
+-- The first size from n on that is counted and has no class; the counts are those of the sizes from n on.
+unfoldable pub unserved_from : List ℕ → ℕ → List ℕ → Option ℕ
+unserved_from classes n [] = None
+unserved_from classes n (count ∷ counts) =
+    if nat_lt 0 count && is_none (class_for classes n) then Some n else unserved_from classes (suc n) counts
+
+-- The least counted size that has no class.
+abbrev pub unserved_of : List ℕ → List ℕ → Option ℕ
+unserved_of counts classes = unserved_from classes 0 counts

@@ -1,0 +1,107 @@
+-- A profile's text: a line `SIZE COUNT` for each counted size, ascending, and then a line `large COUNT` where large requests were counted.
+use Rattle.std.specs.Prelude.{◌≡◌, ◌≤◌, ℕ, suc, ◌⊎◌, ◌&&◌, Bool, List, [], ◌∷◌, ◌++◌, codes, Option, Some, None, Result, Ok, Err, nat_lt, nat_le, ◌==◌, if◌then◌else◌}
+use Rattle.std.specs.Fmt.{decimal}
+use Rattle.std.specs.Str.{bytes_eq}
+use Rattle.class_table.specs.Sizes.{largest_counted}
+use Rattle.line_text.specs.Lines.{lines, words, line_of, text_of, ended}
+use Rattle.line_text.specs.Numbers.{number_of}
+use Rattle.tuner_theory.specs.Waste.{Profile, IsProfile, most_counted}
+use Rattle.profile_count.specs.Counts.{nothing_counted, with_count, with_large}
+use Rattle.profile_count.specs.declared.entry.Entry.{Entry}
+use Rattle.profile_count.specs.declared.entry.Entry.TheVariants.{Size, Large}
+use Rattle.profile_count.specs.declared.fault.ProfileError.{ProfileError}
+use Rattle.profile_count.specs.declared.fault.ProfileError.TheVariants.{OutOfMemory, Line}
+use Rattle.profile_count.specs.declared.fault.ProfileFault.{ProfileFault}
+use Rattle.profile_count.specs.declared.fault.ProfileFault.TheVariants.{BadLine, NotAscending, CountOutOfRange}
+
+-- ---- the spelling
+
+abbrev pub size_line : ℕ → ℕ → List ℕ
+size_line size count = line_of (decimal size ∷ decimal count ∷ [])
+
+-- The lines of the sizes from one on, with their counts.
+unfoldable pub size_lines : ℕ → List ℕ → List (List ℕ)
+size_lines size [] = []
+size_lines size (count ∷ counts) = if count == 0 then size_lines (suc size) counts else size_line size count ∷ size_lines (suc size) counts
+
+abbrev pub large_lines : ℕ → List (List ℕ)
+large_lines count = if count == 0 then [] else line_of (codes "large" ∷ decimal count ∷ []) ∷ []
+
+abbrev pub profile_text : Profile → List ℕ
+profile_text p = text_of (size_lines 0 p.counts ++ large_lines p.large)
+
+-- The text spells this profile, its last line with its newline or without.
+pub record SpellsProfile (text : List ℕ) (p : Profile) : Type 0 where
+  pub profile : IsProfile p
+  pub spelled : (text ≡ profile_text p) ⊎ (ended text ≡ profile_text p)
+
+-- ---- reading a line
+
+-- What was counted so far, and the least size that may come next.
+pub record Reading : Type 0 where
+  pub profile : Profile
+  pub next : ℕ
+
+abbrev pub is_count : ℕ → Bool
+is_count count = nat_le 1 count && nat_le count most_counted
+
+-- An entry with this count, where there is one and it is in range.
+abbrev pub counted : (ℕ → Entry) → ℕ → Result Entry ProfileFault
+counted entry count = if is_count count then Ok (entry count) else Err CountOutOfRange
+
+abbrev pub size_entry : ℕ → ℕ → ℕ → Result Entry ProfileFault
+size_entry next size count =
+    if nat_lt largest_counted size then Err BadLine
+    else if nat_lt size next then Err NotAscending
+    else counted (Size size) count
+
+abbrev pub numbers_entry : ℕ → Option ℕ → Option ℕ → Result Entry ProfileFault
+numbers_entry next (Some size) (Some count) = size_entry next size count
+numbers_entry next (Some size) None = Err BadLine
+numbers_entry next None count = Err BadLine
+
+abbrev pub large_entry : Option ℕ → Result Entry ProfileFault
+large_entry None = Err BadLine
+large_entry (Some count) = counted Large count
+
+-- What a line of these words counts: `next` is the least size that may come, `large` the count of the `large` line, 0 where none came.
+-- No line follows that one.
+abbrev pub entry_of : ℕ → ℕ → List (List ℕ) → Result Entry ProfileFault
+entry_of next large (first ∷ count ∷ []) =
+    if nat_lt 0 large then Err BadLine
+    else if bytes_eq first (codes "large") then large_entry (number_of count)
+    else numbers_entry next (number_of first) (number_of count)
+entry_of next large other = Err BadLine
+
+-- What holds of an entry that may come: it is in range, its size not below `next`, and no `large` line came before it.
+abbrev pub IsNext : ℕ → ℕ → Entry → Type 0
+IsNext next large (Size size count) = (large ≡ 0) × (next ≤ size) × (size ≤ largest_counted) × (1 ≤ count) × (count ≤ most_counted)
+IsNext next large (Large count) = (large ≡ 0) × (1 ≤ count) × (count ≤ most_counted)
+
+abbrev pub with_entry : Reading → Entry → Reading
+with_entry reading (Size size count) = record { profile = with_count reading.profile size count; next = suc size }
+with_entry reading (Large count) = record { profile = with_large reading.profile count; next = reading.next }
+
+-- ---- reading line by line
+
+abbrev pub go_on : ℕ → Result Entry ProfileFault → (Entry → Result Profile (ℕ × ProfileFault)) → Result Profile (ℕ × ProfileFault)
+go_on number (Ok entry) more = more entry
+go_on number (Err fault) more = Err (number, fault)
+
+-- What lines spell of which the first has this number, behind what was read so far: a profile, or the first faulty line's number and fault.
+unfoldable pub profile_from : ℕ → Reading → List (List ℕ) → Result Profile (ℕ × ProfileFault)
+profile_from number reading [] = Ok reading.profile
+profile_from number reading (line ∷ ls) = go_on number (entry_of reading.next reading.profile.large (words line)) (λ entry. profile_from (suc number) (with_entry reading entry) ls)
+
+abbrev pub profile_of_lines : List (List ℕ) → Result Profile (ℕ × ProfileFault)
+profile_of_lines ls = profile_from 1 (record { profile = nothing_counted; next = 0 }) ls
+
+-- The profile that a text spells, or its first faulty line's number and fault.
+abbrev pub profile_of : List ℕ → Result Profile (ℕ × ProfileFault)
+profile_of text = profile_of_lines (lines text)
+
+-- What a reader returned is what the definition says, unless memory ran out.
+abbrev pub GivesProfile : Result Profile ProfileError → Result Profile (ℕ × ProfileFault) → Type 0
+GivesProfile (Ok profile) read = read ≡ Ok profile
+GivesProfile (Err OutOfMemory) read = Unit {0}
+GivesProfile (Err (Line number fault)) read = read ≡ Err (number, fault)

@@ -1,0 +1,96 @@
+ghost use Rattle.std.specs.Prelude.{◌≡◌, ◌≢◌, ℕ, List, [], ◌∷◌, IfOk, IfSome, IfNone};
+ghost use Rattle.line_text.specs.Lines.{words};
+ghost use Rattle.line_text.specs.Numbers.{number_of};
+ghost use Rattle.profile_count.specs.ProfileText.{IsNext, entry_of, is_count, large_entry, numbers_entry};
+
+use crate::fault::ProfileFault;
+use crate::profile::MOST_COUNTED;
+use class_table::LARGEST_COUNTED;
+use line_text::{capped_number_in, words_in};
+
+// the first word of the line of large requests
+const LARGE: &[u8] = b"large";
+
+/// What a line of a profile counts.
+#[derive(Debug, Clone, Copy, PartialEq, Eq)]
+pub enum Entry {
+    /// Requests of a size, in bytes, and how many of them.
+    Size(u32, u32),
+    /// So many requests of sizes above 16,368 bytes.
+    Large(u32),
+}
+
+// What a line counts; `next` is the least size that may come, `large` the count of the `large` line, 0 where none came.
+pub(crate) fn entry_in(next: u32, large: u32, line: &[u8]) -> Result<Entry, ProfileFault>
+    ensures entry { result ≡ entry_of next large (words line.now) }
+    ensures next { IfOk result (λ entry. IsNext next large entry) }
+{
+    let Some((first, count)) = two_words(line) else {
+        return Err(ProfileFault::BadLine);
+    };
+    if large > 0 {
+        return Err(ProfileFault::BadLine);
+    }
+    if first == LARGE {
+        return large_entry(count);
+    }
+    numbers_entry(next, first, count)
+}
+
+// the words of a line, where there are two
+fn two_words(line: &[u8]) -> Option<(&[u8], &[u8])>
+    ensures two { IfSome result (λ pair. words line.now ≡ pair.0.now ∷ pair.1.now ∷ []) }
+    ensures other { IfNone result ((a b : List ℕ) → words line.now ≢ a ∷ b ∷ []) }
+{
+    let mut words = words_in(line);
+    let first = words.next()?;
+    let second = words.next()?;
+    if let Some(_third) = words.next() {
+        return None;
+    }
+    Some((first, second))
+}
+
+// the entry of a `large` line with this second word
+fn large_entry(count: &[u8]) -> Result<Entry, ProfileFault>
+    ensures entry { result ≡ large_entry (number_of count.now) }
+    ensures next { (next : ℕ) → IfOk result (λ entry. IsNext next 0 entry) }
+{
+    let Some(count) = capped_number_in(count, u32::MAX) else {
+        return Err(ProfileFault::BadLine);
+    };
+    if !is_count(count) {
+        return Err(ProfileFault::CountOutOfRange);
+    }
+    Ok(Entry::Large(count))
+}
+
+// the entry of a line with these two words
+fn numbers_entry(next: u32, size: &[u8], count: &[u8]) -> Result<Entry, ProfileFault>
+    ensures entry { result ≡ numbers_entry next (number_of size.now) (number_of count.now) }
+    ensures next { IfOk result (λ entry. IsNext next 0 entry) }
+{
+    let Some(size) = capped_number_in(size, u32::MAX) else {
+        return Err(ProfileFault::BadLine);
+    };
+    let Some(count) = capped_number_in(count, u32::MAX) else {
+        return Err(ProfileFault::BadLine);
+    };
+    if size > LARGEST_COUNTED {
+        return Err(ProfileFault::BadLine);
+    }
+    if size < next {
+        return Err(ProfileFault::NotAscending);
+    }
+    if !is_count(count) {
+        return Err(ProfileFault::CountOutOfRange);
+    }
+    Ok(Entry::Size(size, count))
+}
+
+// whether a count is one that a line may have
+fn is_count(count: u32) -> bool
+    ensures { result ≡ is_count count }
+{
+    (1..=MOST_COUNTED).contains(&count)
+}

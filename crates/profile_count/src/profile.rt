@@ -1,0 +1,102 @@
+ghost use Rattle.std.specs.Prelude.{◌≡◌, ◌<◌, ◌≤◌, ◌^◌, ℕ, slice_index, None, IfOk, IfSome, IfNone};
+ghost use Rattle.class_table.specs.Tables.{class_for};
+ghost use Rattle.tuner_theory.specs.Waste.{IsCounted, IsProfile, Serves, waste_of};
+ghost use Rattle.profile_count.specs.Counts.{nothing_counted, unserved_of, with_count, with_large, zeros};
+
+use crate::serving::{first_unserved, table_losses};
+use class_table::{ClassTable, LARGEST_COUNTED};
+use std::alloc::{AllocError, Global};
+use std::marker::Model;
+
+/// The most that one count tells.
+pub const MOST_COUNTED: u32 = 1_000_000_000;
+
+// a counter for each size up to the largest that is counted
+const SIZES: usize = LARGEST_COUNTED as usize + 1;
+
+/// How often each size from 0 to 16,368 bytes was requested, and how often a larger one, each at most 1,000,000,000 times.
+#[derive(Debug, Drop)]
+pub struct Profile {
+    counts: Vec<u32>,
+    large: u32,
+}
+
+impl Model for Profile {
+    ghost use Rattle.tuner_theory.specs.Waste.{IsProfile, Profile as Counted};
+
+    ghost Value = { Counted };
+
+    ghost view = { λ p. record { counts = p.counts.items; large = p.large } };
+
+    ghost invariant = { λ p. IsProfile (record { counts = p.counts.items; large = p.large }) };
+}
+
+impl Profile {
+    /// A profile that counts nothing. An error only where memory was refused.
+    pub fn new(alloc: Global) -> Result<Profile, AllocError>
+        ensures { IfOk result (λ profile. profile ≡ nothing_counted) }
+    {
+        let counts = zeros(alloc, SIZES)?;
+        Ok(Profile { counts, large: 0 })
+    }
+
+    /// How often a size of `n` bytes (0 to 16,368) was requested.
+    pub fn count(&self, n: u32) -> u32
+        requires { n ≤ LARGEST_COUNTED }
+        ensures count { result ≡ slice_index self.now.counts n }
+        ensures profile { IsProfile self.now }
+    {
+        self.counts[n as usize]
+    }
+
+    /// How often a size above 16,368 bytes was requested.
+    pub fn large(&self) -> u32
+        ensures { result ≡ self.now.large }
+    {
+        self.large
+    }
+
+    // Sets the count of a size.
+    pub(crate) fn set_count(&mut self, n: u32, count: u32)
+        requires size { n ≤ LARGEST_COUNTED }
+        requires count { count ≤ MOST_COUNTED }
+        ensures { self.new ≡ with_count self.old n count }
+    {
+        self.counts[n as usize] = count;
+    }
+
+    // Sets the count of the large requests.
+    pub(crate) fn set_large(&mut self, count: u32)
+        requires { count ≤ MOST_COUNTED }
+        ensures { self.new ≡ with_large self.old count }
+    {
+        self.large = count;
+    }
+
+    /// The least counted size that has no class in the table, in bytes, or none where the table serves the profile.
+    pub fn unserved(&self, table: &ClassTable) -> Option<u16>
+        ensures size { result ≡ unserved_of self.now.counts table.now }
+        ensures found { IfSome result (λ n. IsCounted self.now.counts n × (class_for table.now n ≡ None)) }
+        ensures least { IfSome result (λ n. (m : ℕ) → m < n → IsCounted self.now.counts m → class_for table.now m ≡ None → ⊥) }
+        ensures none { IfNone result (Serves self.now.counts table.now) }
+    {
+        first_unserved(&self.counts, table)
+    }
+
+    /// The bytes that a table which serves the profile (`unserved` tells) loses by rounding its counted requests up.
+    pub fn waste(&self, table: &ClassTable) -> u64
+        requires { Serves self.now.counts table.now }
+        ensures waste { result ≡ waste_of self.now.counts table.now }
+        ensures small { result < 2 ^ 58 }
+    {
+        table_losses(&self.counts, table)
+    }
+}
+
+// so many zeros
+#[tactic(auto, unfolding(crate::specs::Counts::zeros))]
+fn zeros(alloc: Global, n: usize) -> Result<Vec<u32>, AllocError>
+    ensures { IfOk result (λ counts. counts.items ≡ zeros n) }
+{
+    vec![in alloc; 0u32; n]
+}

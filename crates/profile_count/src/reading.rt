@@ -1,0 +1,31 @@
+ghost use Rattle.profile_count.specs.ProfileText.{GivesProfile, profile_of};
+
+use crate::entry::{Entry, entry_in};
+use crate::fault::ProfileError;
+use crate::profile::Profile;
+use line_text::lines_in;
+use std::alloc::Global;
+
+impl Profile {
+    /// The profile that a text spells: a line `SIZE COUNT` for each counted size, ascending, then perhaps a line `large COUNT`.
+    /// The last line may lack its newline. An error is the first faulty line with its fault, or that memory was refused.
+    pub fn read(alloc: Global, text: &[u8]) -> Result<Profile, ProfileError>
+        ensures { GivesProfile result (profile_of text.now) }
+    {
+        let mut profile = Profile::new(alloc)?;
+        let mut next = 0;
+        let mut number = 0;
+        for line in lines_in(text) {
+            number += 1;
+            match entry_in(next, profile.large(), line) {
+                Err(fault) => return Err(ProfileError::Line(number, fault)),
+                Ok(Entry::Size(size, count)) => {
+                    profile.set_count(size, count);
+                    next = size + 1;
+                }
+                Ok(Entry::Large(count)) => profile.set_large(count),
+            }
+        }
+        Ok(profile)
+    }
+}
