@@ -1,6 +1,6 @@
 -- The first class that serves a size is the least one.
-use Rattle.std.proofs.Common.{◌≡◌, ℕ, ◌<◌, ◌≤◌, Bool, true, false, List, [], ◌∷◌, length, slice_index, get_or, ltb, Option, Some, None, arith, refl, sym, ◌∙◌, inl, inr, subst}
-use Rattle.std.specs.Prelude.{IfSome, slice_get, option_and_then, All, ◌↔◌}
+use Rattle.std.proofs.Common.{◌≡◌, ℕ, ◌<◌, ◌≤◌, Bool, true, false, List, [], ◌∷◌, length, slice_index, get_or, ltb, Option, Some, None, arith, refl, sym, ap, ◌∙◌, inl, inr, subst}
+use Rattle.std.specs.Prelude.{IfSome, IfNone, slice_get, option_and_then, All, ◌↔◌}
 use Rattle.std.specs.List.{position_or_len}
 use Rattle.std.proofs.lemmas.Bool.{cases_order, cases_lt, both_ways, lt-ltb, le-ltb, leb-true, le-leb}
 use Rattle.std.proofs.lemmas.List.Elements.{All-nil, All-cons}
@@ -75,3 +75,7 @@ serving-need n class two = (
   λ serving. let fits = leb-true n _ serving in omega (arith, fits),
   λ needs. le-leb n _ (omega arith),
 )
+
+pub none_of : (classes : List ℕ) (n : ℕ) (number : Option ℕ) → number ≡ class_number_for classes n → IfNone number (All (λ class. serves n class ≡ false) classes)
+none_of classes n None none = none_serving n classes (class_at_number n classes ∙ ap (option_and_then (slice_get classes)) (sym none))
+none_of classes n (Some number) found = tt

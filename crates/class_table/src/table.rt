@@ -1,4 +1,5 @@
-ghost use Rattle.std.specs.Prelude.{◌≡◌, ◌↔◌, ◌<◌, ◌≤◌, List, ℕ, [], length, slice_index, slice_get, Some, IsTrue, IfSome, IfOk};
+ghost use Rattle.std.specs.Prelude.{◌≡◌, ◌↔◌, ◌<◌, ◌≤◌, List, ℕ, [], length, slice_index, slice_get, Some, IsFalse, IsTrue, IfSome, IfNone, IfOk, All};
+ghost use Rattle.class_table.specs.Sizes.{serves};
 ghost use Rattle.class_table.specs.Faults.{Gives, fault_from, is_out_of_range, table_of_classes};
 ghost use Rattle.class_table.specs.Tables.{IsLegalTable, IsLeastServing, class_number_for};
 
@@ -73,6 +74,7 @@ impl ClassTable {
     pub fn find(&self, n: u32) -> Option<usize>
         ensures number { result ≡ class_number_for self.now n }
         ensures least { IfSome result (λ number. (number < length self.now) × IsLeastServing self.now n (slice_index self.now number)) }
+        ensures none { IfNone result (All (λ class. IsFalse (serves n class)) self.now) }
     {
         number_for(&self.classes, n)
     }

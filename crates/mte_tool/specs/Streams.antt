@@ -1,10 +1,5 @@
--- What one call of a source or a sink moves, and whether it counts as failed.
-use Rattle.std.specs.Prelude.{ℕ, zero, suc, List, [], take, Result, Ok, Err}
-
--- The bytes that a call moved: n from the front at `Ok(n)`, none at `Err`.
-abbrev pub moved : {E : Type 0} → Result ℕ E → List ℕ → List ℕ
-moved (Ok n) bytes = take n bytes
-moved (Err e) bytes = []
+-- Which calls of a source or a sink count as failed.
+use Rattle.std.specs.Prelude.{ℕ, zero, suc, Result, Ok, Err}
 
 -- How many calls a read adds to those that failed,
 abbrev pub failed_reads : {E : Type 0} → Result ℕ E → ℕ

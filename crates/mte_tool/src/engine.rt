@@ -1,7 +1,8 @@
 //! An engine reads a whole input, makes its text, and then writes that.
-ghost use Rattle.std.specs.Prelude.{◌≡◌, ◌↔◌, ◌^◌, ◌<◌, Err, List, ℕ, Result};
+ghost use Rattle.std.specs.Prelude.{◌≡◌, ◌↔◌, ◌^◌, ◌<◌, Err, IfOk, List, ℕ, Result};
 ghost use Rattle.mte_tool.specs.declared.fault.InputFault.{InputFault as Refusal};
 ghost use Rattle.mte_tool.specs.declared.fault.ToolFault.TheVariants.{ReadFault, WriteFault};
+ghost use Rattle.std.specs.Io.KnownBytes.{IsAtEnd};
 ghost use Rattle.mte_tool.specs.Outcome.{Answer, TellsFor, IsQuiet, GivesAnswer};
 
 use crate::fault::ToolFault;
@@ -32,12 +33,15 @@ pub trait TextEngine {
     // What is written for a text, with its status, or the text's first fault.
     ghost answer_of: { Self → List ℕ → Result Answer Refusal };
 
-    /// What is written for a text. All that the engine has to allocate is allocated here.
+    /// What is written for a text. All that the engine has to allocate is allocated here. Errors are the text's first fault
+    /// (`Input`) and `OutOfMemory`.
     fn answer(&self, alloc: Global, text: &[u8]) -> Result<Answered, ToolFault>
         ensures { GivesAnswer result (answer_of self.now text.now) };
 }
 
-/// Reads the whole input, and writes the engine's answer to it and nothing else.
+/// Reads the whole input, and writes the engine's answer to it and nothing else. All growths are made before the first write.
+/// Faults: `Input` for an input that is too long or refused, `ReadFault`, `OutOfMemory`: no call of the sink was made then;
+/// `WriteFault`: the sink took a front of the text.
 pub fn run_engine<E: TextEngine, R: ByteSource, W: ByteSink>(
     alloc: Global,
     engine: &E,
@@ -49,7 +53,8 @@ pub fn run_engine<E: TextEngine, R: ByteSource, W: ByteSink>(
     ensures read_fault { (result ≡ Err ReadFault) ↔ (R.failed source.old < R.failed source.new) }
     ensures write_fault { (result ≡ Err WriteFault) ↔ (W.failed sink.old < W.failed sink.new) }
     ensures answer { TellsFor (E.answer_of engine.now) (R.remaining source.old) (W.taken sink.old) (W.taken sink.new) result }
-    ensures quiet { IsQuiet (W.taken sink.old) (W.taken sink.new) result }
+    ensures quiet { IsQuiet sink.old sink.new result }
+    ensures consumed { IfOk result (λ _. IsAtEnd (R.remaining source.new)) }
 {
     let input = read_all(alloc, source)?;
     let answered = engine.answer(alloc, &input)?;

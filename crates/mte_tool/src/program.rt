@@ -1,6 +1,6 @@
 //! The program: its words, its standard input and output, and its exit status.
 ghost use Rattle.std.specs.Prelude.{◌≡◌};
-ghost use Rattle.mte_tool.specs.Exit.{status_of_fault};
+ghost use Rattle.mte_tool.specs.Exit.{status_of};
 
 use crate::engine::Status;
 use crate::fault::ToolFault;
@@ -25,10 +25,10 @@ const FAILED: u8 = 3;
 /// 2 for refused words or input, 3 for want of memory and for a failed read or write.
 pub fn run<R: Env + AllocGlobal + Input + Print + Eprint>(rt: &R) -> u8 {
     let Some(words) = words(rt) else {
-        return fail(rt, ToolFault::OutOfMemory);
+        return finish(rt, Err(ToolFault::OutOfMemory));
     };
     let Ok(command) = command(rt.alloc()) else {
-        return fail(rt, ToolFault::OutOfMemory);
+        return finish(rt, Err(ToolFault::OutOfMemory));
     };
     match command.try_get_matches_from(words.as_slice()) {
         Ok(_) => run_score(rt),
@@ -45,32 +45,32 @@ fn words<R: Env + AllocGlobal>(rt: &R) -> Option<Vec<String>> {
 fn run_score<R: AllocGlobal + Input + Print + Eprint>(rt: &R) -> u8 {
     let mut source = StreamSource::new(rt.reader());
     let mut sink = StreamSink::new(writer(rt));
-    match score(rt.alloc(), &mut source, &mut sink) {
-        Ok(Status::Done) => DONE,
-        Ok(Status::No) => NO,
-        Err(fault) => fail(rt, fault),
-    }
+    finish(rt, score(rt.alloc(), &mut source, &mut sink))
 }
 
-// says on standard error why there is no answer, and gives the exit status for it
-fn fail<R: Eprint>(rt: &R, fault: ToolFault) -> u8
-    ensures { result ≡ status_of_fault fault }
+// says on standard error why there is no answer, where there is none, and gives the exit status
+fn finish<R: Eprint>(rt: &R, end: Result<Status, ToolFault>) -> u8
+    ensures { result ≡ status_of end }
 {
-    let _ = eprintln!(rt; "error {fault}");
-    match fault {
-        ToolFault::Input(_) => REFUSED,
-        _ => FAILED,
+    if let Err(fault) = end {
+        let _ = eprintln!(rt; "error {fault}");
+    }
+    match end {
+        Ok(Status::Done) => DONE,
+        Ok(Status::No) => NO,
+        Err(ToolFault::Input(_)) => REFUSED,
+        Err(_) => FAILED,
     }
 }
 
 // prints what clap says of the words: help and version are no refusal
 fn refuse<R: Print + Eprint>(rt: &R, error: &Error) -> u8 {
     if error.kind() == ErrorKind::OutOfMemory {
-        return fail(rt, ToolFault::OutOfMemory);
+        return finish(rt, Err(ToolFault::OutOfMemory));
     }
     match error.print(rt) {
         Ok(()) if error.use_stderr() => REFUSED,
         Ok(()) => DONE,
-        Err(_) => fail(rt, ToolFault::WriteFault),
+        Err(_) => finish(rt, Err(ToolFault::WriteFault)),
     }
 }

@@ -2,6 +2,7 @@
 ghost use Rattle.std.specs.Prelude.{◌≡◌, ◌↔◌, ◌^◌, ◌<◌, ◌++◌, ◌∷◌, [], Err, IfOk};
 ghost use Rattle.std.specs.Fmt.{decimal};
 ghost use Rattle.mte_tool.specs.declared.fault.ToolFault.TheVariants.{ReadFault, WriteFault};
+ghost use Rattle.std.specs.Io.KnownBytes.{IsAtEnd};
 ghost use Rattle.mte_tool.specs.Outcome.{TellsFor, IsQuiet, GivesAnswer};
 ghost use Rattle.mte_tool.specs.Score.{score_of, scored};
 
@@ -16,9 +17,11 @@ use line_text::lines_in;
 use profile_count::Profile;
 use std::alloc::{AllocError, Global};
 
-/// Reads a class line and then a profile, and writes `waste W`, the bytes that the table loses by rounding the counted requests up,
+/// Reads a class line and then a profile, and writes `waste W`, the bytes that the table loses by rounding the requests up,
 /// or `not serving N` with the status of a no, where N is the least counted size that has no class.
-/// Unless memory runs out or a read fails, the answer is a function of the bytes read; a fault of the class line comes before one of the profile.
+/// Faults: an input that is too long, then the class line's, then the profile's (`Input`); a read that fails (`ReadFault`);
+/// memory that is refused (`OutOfMemory`): after these no call of the sink was made. A write that fails or takes nothing (`WriteFault`):
+/// then the sink took a front of the text.
 pub fn score<R: ByteSource, W: ByteSink>(
     alloc: Global,
     source: &mut R,
@@ -26,13 +29,11 @@ pub fn score<R: ByteSource, W: ByteSink>(
 ) -> Result<Status, ToolFault>
     requires source { R.failed source.old < 2 ^ 63 }
     requires sink { W.failed sink.old < 2 ^ 63 }
-    // The fault of a read comes exactly where a read failed in this call, and that of a write where a write did.
     ensures read_fault { (result ≡ Err ReadFault) ↔ (R.failed source.old < R.failed source.new) }
     ensures write_fault { (result ≡ Err WriteFault) ↔ (W.failed sink.old < W.failed sink.new) }
-    // What is written is the score of the bytes read, and nothing else.
     ensures answer { TellsFor score_of (R.remaining source.old) (W.taken sink.old) (W.taken sink.new) result }
-    // After any fault but that of a write nothing was written, whatever the source is.
-    ensures quiet { IsQuiet (W.taken sink.old) (W.taken sink.new) result }
+    ensures quiet { IsQuiet sink.old sink.new result }
+    ensures consumed { IfOk result (λ _. IsAtEnd (R.remaining source.new)) }
 {
     run_engine(alloc, &ScoreEngine, source, sink)
 }

@@ -1,5 +1,6 @@
-//! A source and a sink over any reader and writer of std, of whose bytes nothing is known.
-ghost use Rattle.std.specs.Prelude.{◌≡◌, None};
+//! A source and a sink over any reader and writer of std. They tell the bytes that the reader or the writer tells:
+//! of a slice or a vector all, of a file or a standard stream nothing.
+ghost use Rattle.std.specs.Prelude.{◌≡◌};
 
 use crate::streams::{ByteSink, ByteSource, Failure};
 use std::io::{Read, Write};
@@ -21,7 +22,7 @@ impl<R> StreamSource<R> {
 }
 
 impl<R: Read> ByteSource for StreamSource<R> {
-    ghost remaining = { λ _. None };
+    ghost remaining = { λ s. R.remaining s.reader };
 
     ghost failed = { λ s. s.failed };
 
@@ -57,7 +58,7 @@ impl<W> StreamSink<W> {
 }
 
 impl<W: Write> ByteSink for StreamSink<W> {
-    ghost taken = { λ _. None };
+    ghost taken = { λ s. W.contents s.writer };
 
     ghost failed = { λ s. s.failed };
 

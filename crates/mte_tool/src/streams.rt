@@ -1,7 +1,7 @@
 //! Where bytes come from and where they go, with a count of the calls that failed.
 ghost use Rattle.std.specs.Prelude.{◌≡◌, ℕ, ◌+◌, ◌^◌, ◌<◌, ◌≤◌, List, length, Option, IfOk};
-ghost use Rattle.std.specs.Io.KnownBytes.{prepend_known, append_known, IsAtEnd};
-ghost use Rattle.mte_tool.specs.Streams.{moved, failed_reads, failed_writes};
+ghost use Rattle.std.specs.Io.KnownBytes.{ReadConsumes, WriteAppends};
+ghost use Rattle.mte_tool.specs.Streams.{failed_reads, failed_writes};
 
 /// A read or a write that failed.
 #[derive(Debug, Clone, Copy, PartialEq, Eq)]
@@ -23,8 +23,7 @@ pub trait ByteSource {
     fn read(&mut self, buf: &mut [u8]) -> Result<usize, Failure>
         requires { failed self.old < 2 ^ 63 }
         ensures bound { IfOk result (λ n. n ≤ length buf.new) }
-        ensures bytes { remaining self.old ≡ prepend_known (moved result buf.new) (remaining self.new) }
-        ensures end { IfOk result (λ n. n ≡ 0 → 0 < length buf.new → IsAtEnd (remaining self.new)) }
+        ensures bytes { ReadConsumes (remaining self.old) (remaining self.new) result buf.new }
         ensures counted { failed self.new ≡ failed self.old + failed_reads result };
 }
 
@@ -44,6 +43,6 @@ pub trait ByteSink {
     fn write(&mut self, bytes: &[u8]) -> Result<usize, Failure>
         requires { failed self.old < 2 ^ 63 }
         ensures bound { IfOk result (λ n. n ≤ length bytes.now) }
-        ensures bytes { taken self.new ≡ append_known (taken self.old) (moved result bytes.now) }
+        ensures bytes { WriteAppends (taken self.old) (taken self.new) result bytes.now }
         ensures counted { failed self.new ≡ failed self.old + failed_writes result (length bytes.now) };
 }

@@ -122,12 +122,12 @@ found counts classes (Some size) e =
     let place : at.at ≡ size = omega (arith, at.is) in
     (rw (← place) (at.within, at.some), at.none)
 
-pub least : (counts classes : List ℕ) (size : Option ℕ) → size ≡ unserved_of counts classes → IfSome size (λ n. (m : ℕ) → m < n → IsCounted counts m → class_for classes m ≡ None → ⊥)
+pub least : (counts classes : List ℕ) (size : Option ℕ) → size ≡ unserved_of counts classes → IfSome size (λ n. (m : ℕ) → m < n → IsCounted counts m → IsSome (class_for classes m))
 least counts classes None e = tt
-least counts classes (Some size) e = λ m lt counted none.
+least counts classes (Some size) e = λ m lt counted.
     let at = first_from classes counts 0 size (sym e) in
     let same : m ≡ 0 + m = omega arith in
-    at.first m (omega (arith, at.is)) counted.1 (rw same at none)
+    is_some-not_None (class_for classes m) (λ none. at.first m (omega (arith, at.is)) counted.1 (rw same at none))
 
 pub serving : (counts classes : List ℕ) (size : Option ℕ) → size ≡ unserved_of counts classes → IfNone size (Serves counts classes)
 serving counts classes None e = λ n counted.

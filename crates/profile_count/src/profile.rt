@@ -1,4 +1,4 @@
-ghost use Rattle.std.specs.Prelude.{◌≡◌, ◌<◌, ◌≤◌, ◌^◌, ℕ, slice_index, None, IfOk, IfSome, IfNone};
+ghost use Rattle.std.specs.Prelude.{◌≡◌, ◌<◌, ◌≤◌, ◌^◌, ℕ, slice_index, None, IsSome, IfOk, IfSome, IfNone};
 ghost use Rattle.class_table.specs.Tables.{class_for};
 ghost use Rattle.tuner_theory.specs.Waste.{IsCounted, IsProfile, Serves, waste_of};
 ghost use Rattle.profile_count.specs.Counts.{nothing_counted, unserved_of, with_count, with_large, zeros};
@@ -8,7 +8,7 @@ use class_table::{ClassTable, LARGEST_COUNTED};
 use std::alloc::{AllocError, Global};
 use std::marker::Model;
 
-/// The most that one count tells.
+/// The most requests that one count tells.
 pub const MOST_COUNTED: u32 = 1_000_000_000;
 
 // a counter for each size up to the largest that is counted
@@ -40,7 +40,7 @@ impl Profile {
         Ok(Profile { counts, large: 0 })
     }
 
-    /// How often a size of `n` bytes (0 to 16,368) was requested.
+    /// How often a size of `n` bytes (0 to 16,368) was requested, 0 to 1,000,000,000 times.
     pub fn count(&self, n: u32) -> u32
         requires { n ≤ LARGEST_COUNTED }
         ensures count { result ≡ slice_index self.now.counts n }
@@ -49,9 +49,10 @@ impl Profile {
         self.counts[n as usize]
     }
 
-    /// How often a size above 16,368 bytes was requested.
+    /// How often a size above 16,368 bytes was requested, 0 to 1,000,000,000 times.
     pub fn large(&self) -> u32
-        ensures { result ≡ self.now.large }
+        ensures large { result ≡ self.now.large }
+        ensures profile { IsProfile self.now }
     {
         self.large
     }
@@ -77,7 +78,7 @@ impl Profile {
     pub fn unserved(&self, table: &ClassTable) -> Option<u16>
         ensures size { result ≡ unserved_of self.now.counts table.now }
         ensures found { IfSome result (λ n. IsCounted self.now.counts n × (class_for table.now n ≡ None)) }
-        ensures least { IfSome result (λ n. (m : ℕ) → m < n → IsCounted self.now.counts m → class_for table.now m ≡ None → ⊥) }
+        ensures least { IfSome result (λ n. (m : ℕ) → m < n → IsCounted self.now.counts m → IsSome (class_for table.now m)) }
         ensures none { IfNone result (Serves self.now.counts table.now) }
     {
         first_unserved(&self.counts, table)

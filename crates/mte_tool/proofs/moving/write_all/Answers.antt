@@ -1,6 +1,6 @@
 use Rattle.std.proofs.Common.{◌≤◌, ◌<◌, ◌++◌, length, take, ◌∙◌, arith}
 use Rattle.std.proofs.lemmas.List.{length-drop}
-use Rattle.mte_tool.proofs.Moves.{from_place, written_more, taken_more, no_failure}
+use Rattle.mte_tool.proofs.Moves.{from_place, written_more, appends_more, no_failure}
 use Rattle.mte_tool.proofs.moving.write_all.Goals as goal
 
 pub loop-turn-preserved : goal.loop-turn-preserved
@@ -14,7 +14,7 @@ loop-turn-preserved g c =
       written ++ take n rest,
       record {
         parts = rw from_place (written_more c.args.text.now written rest n inv.parts);
-        taken = taken_more (g.W.ByteSink.taken c.args.sink.now) (g.W.ByteSink.taken c.loop-turn.sink) (g.W.ByteSink.taken c.write.new.self) written (take n rest) inv.taken c.in-Ok.ensures.bytes;
+        taken = appends_more (g.W.ByteSink.taken c.args.sink.now) (g.W.ByteSink.taken c.loop-turn.sink) (g.W.ByteSink.taken c.write.new.self) written (take n rest) inv.taken c.in-Ok.ensures.bytes;
         failed = c.in-Ok.ensures.counted ∙ rw (no_failure _ n (length rest) some bound, inv.failed) (omega arith);
         turns = rw from_place (omega (arith, inv.turns, length-drop n rest));
       },

@@ -5,13 +5,13 @@ use Rattle.profile_count.proofs.profile.Profile.read.Goals as goal
 
 pub returns-in-Err : goal.returns-in-Err
 returns-in-Err c =
-    let entry = rw c.large.ensures at c.in-Err.ensures.entry in
+    let entry = rw c.large.ensures.large at c.in-Err.ensures.entry in
     c.loop-line.invariant.rest ∙ line_faulty (c.loop-line.number + 1) (record { profile = c.loop-line.profile; next = c.loop-line.next }) _ _ _ _ c.in-Some.ensures.steps entry
 
 pub loop-line-preserved-in-Ok-Size : goal.loop-line-preserved-in-Ok-Size
 loop-line-preserved-in-Ok-Size c =
-    let entry = rw (c.in-Ok-Size.field-0-is, c.large.ensures) at c.in-Ok-Size.ensures.entry in
-    let next = rw (c.in-Ok-Size.field-0-is, c.large.ensures) at c.in-Ok-Size.ensures.next in
+    let entry = rw (c.in-Ok-Size.field-0-is, c.large.ensures.large) at c.in-Ok-Size.ensures.entry in
+    let next = rw (c.in-Ok-Size.field-0-is, c.large.ensures.large) at c.in-Ok-Size.ensures.next in
     let read = c.loop-line.invariant.rest ∙ line_read (c.loop-line.number + 1) (record { profile = c.loop-line.profile; next = c.loop-line.next }) _ _ _ (Size c.in-Ok-Size.size c.in-Ok-Size.count) c.in-Some.ensures.steps entry in
     let before = c.loop-line.invariant.lines_of_sizes next.0 in
     record {
@@ -23,8 +23,8 @@ loop-line-preserved-in-Ok-Size c =
 
 pub loop-line-preserved : goal.loop-line-preserved
 loop-line-preserved c =
-    let entry = rw (c.in-Ok-Large.field-0-is, c.large.ensures) at c.in-Ok-Large.ensures.entry in
-    let next = rw (c.in-Ok-Large.field-0-is, c.large.ensures) at c.in-Ok-Large.ensures.next in
+    let entry = rw (c.in-Ok-Large.field-0-is, c.large.ensures.large) at c.in-Ok-Large.ensures.entry in
+    let next = rw (c.in-Ok-Large.field-0-is, c.large.ensures.large) at c.in-Ok-Large.ensures.next in
     let read = c.loop-line.invariant.rest ∙ line_read (c.loop-line.number + 1) (record { profile = c.loop-line.profile; next = c.loop-line.next }) _ _ _ (Large c.in-Ok-Large.count) c.in-Some.ensures.steps entry in
     let before = c.loop-line.invariant.lines_of_sizes next.0 in
     record {

@@ -1,0 +1,3 @@
+pub mod Granules
+pub mod Kept
+pub mod Writes

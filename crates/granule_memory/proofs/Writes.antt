@@ -1,0 +1,212 @@
+-- A run of bytes that is written into the list is written into the granules, and a byte that is set past them is a tag.
+use Rattle.std.specs.Prelude.{if◌then◌else◌, slice_range, slice_index, slice_set, ◌⊎◌, All, replicate}
+use Rattle.std.proofs.Common.{◌≡◌, ◌≢◌, ℕ, ◌+◌, ◌-◌, ◌*◌, ◌<◌, ◌≤◌, ◌++◌, List, length, take, drop, sym, ap, subst, ◌∙◌, lit<, arith, inr, ⊎_elim}
+use Rattle.std.proofs.lemmas.Bool.{cases_lt, cases_eq, cond-true, cond-false, and_from, and_left, and_right, le-leb, lt-ltb, lt-leb, le-ltb}
+use Rattle.std.proofs.lemmas.Bool.Decides.{nat_tests}
+use Rattle.std.proofs.lemmas.Grind.{same_number_lists}
+use Rattle.std.proofs.lemmas.List.{length-append, length-take-le, length-drop, length-set, length-replicate, get_or-take, get_or-drop, get_or_append_left, get_or-append_right, get_or-set_same, get_or-set_other, get_or-replicate}
+use Rattle.std.proofs.lemmas.List.Elements.{All-take, All-drop, All-append, All-set, All-replicate}
+use Rattle.std.proofs.lemmas.List.FromFn.{get_or-map-range_with_len, length-map-range_with_len, fill_by_all}
+use Rattle.machine_theory.specs.Memory.{Granule, no_granule, granule_at, tag_at, bytes_at, each_granule, is_among, tagged, byte_after, bytes_after, written, new_granule}
+use Rattle.raw_region.specs.Bytes.{with_bytes}
+use Rattle.granule_memory.specs.Layout.{granule_in, granules_of, IsLaidOut}
+use Rattle.granule_memory.specs.Changes.{ChangesOnlyBytes, ChangesOnlyTag}
+use Rattle.granule_memory.proofs.Granules.{granules_counted, granule_is, tag_is, bytes_are, slice_range_byte, slice_range_long}
+use Rattle.granule_memory.proofs.Kept.{changes_bytes, changes_tag}
+
+abbrev Below : ℕ → Type 0
+Below byte = byte < 256
+
+-- a byte of a list in which a run is written
+byte-with_bytes : (xs new : List ℕ) (i k : ℕ) → i + length new ≤ length xs → slice_index (with_bytes xs i new) k ≡ byte_after i new k (slice_index xs k)
+byte-with_bytes xs new i k fits = ⊎_elim before (λ from. ⊎_elim (inside from) after (cases_lt k (i + length new))) (cases_lt k i)
+  where
+    front : length (take i xs) ≡ i
+    front = length-take-le i xs (omega arith)
+
+    both : length (take i xs ++ new) ≡ i + length new
+    both = length-append (take i xs) new ∙ ap (λ (n : ℕ). n + length new) front
+
+    before : k < i → slice_index (with_bytes xs i new) k ≡ byte_after i new k (slice_index xs k)
+    before low =
+        get_or_append_left (take i xs ++ new) (drop (i + length new) xs) 0 k (omega (arith, both)) ∙
+        get_or_append_left (take i xs) new 0 k (omega (arith, front)) ∙ get_or-take i xs k 0 low ∙
+        sym (cond-false (is_among i (length new) k) (slice_index new (k - i)) (slice_index xs k) (and_left _ _ (lt-leb _ _ low)))
+
+    inside : i ≤ k → k < i + length new → slice_index (with_bytes xs i new) k ≡ byte_after i new k (slice_index xs k)
+    inside from to =
+        get_or_append_left (take i xs ++ new) (drop (i + length new) xs) 0 k (omega (arith, both)) ∙
+        get_or-append_right (take i xs) new i k 0 front from ∙
+        sym (cond-true (is_among i (length new) k) (slice_index new (k - i)) (slice_index xs k) (and_from _ _ (le-leb _ _ from) (lt-ltb _ _ to)))
+
+    after : i + length new ≤ k → slice_index (with_bytes xs i new) k ≡ byte_after i new k (slice_index xs k)
+    after past =
+        let back : i + length new + (k - (i + length new)) ≡ k = omega arith in
+        get_or-append_right (take i xs ++ new) (drop (i + length new) xs) (i + length new) k 0 both past ∙
+        get_or-drop (i + length new) xs (k - (i + length new)) 0 ∙ ap (λ (n : ℕ). slice_index xs n) back ∙
+        sym (cond-false (is_among i (length new) k) (slice_index new (k - i)) (slice_index xs k) (and_right _ _ (le-ltb _ _ past)))
+
+granule_from : (tag tag' : ℕ) (bytes bytes' : List ℕ) → tag ≡ tag' → bytes ≡ bytes' → ◌≡◌ {A = Granule} (record { tag = tag; bytes = bytes }) (record { tag = tag'; bytes = bytes' })
+granule_from tag tag' bytes bytes' same_tag same_bytes =
+    ap (λ (t : ℕ). record { tag = t; bytes = bytes }) same_tag ∙ ap (λ (b : List ℕ). record { tag = tag'; bytes = b }) same_bytes
+
+-- a list of granules that agrees with the change at each granule is the changed one
+changed_is : (change : ℕ → Granule → Granule) (xs ys : List ℕ) (count : ℕ) → ((g : ℕ) → g < count → granule_in ys count g ≡ change g (granule_in xs count g))
+    → granules_of ys count ≡ each_granule change (granules_of xs count)
+unfolding each_granule
+changed_is change xs ys count agrees =
+    let memory = granules_of xs count in let counted = granules_counted xs count in
+    fill_by_all (λ g. change g (granule_at memory g)) (granules_of ys count) (length memory) no_granule (granules_counted ys count ∙ sym counted)
+    (λ g h. let inside : g < count = subst (λ (n : ℕ). g < n) counted h in
+    granule_is ys count g no_granule inside ∙ agrees g inside ∙ ap (change g) (sym (granule_is xs count g no_granule inside)))
+
+-- the list xs, whose granules are the memory, becomes ys
+module _ (xs ys : List ℕ) (count : ℕ) (memory : List Granule) (laid : IsLaidOut xs count) (view : granules_of xs count ≡ memory) where
+  counted : length memory ≡ count
+  counted = ap length (sym view) ∙ granules_counted xs count
+
+  -- by a run that is written
+  module _ (i : ℕ) (run : List ℕ) (at : ys ≡ with_bytes xs i run) (fits : i + length run ≤ 16 * length memory) where
+    inside : i + length run ≤ 16 * count
+    inside = omega (arith, counted)
+
+    within : i + length run ≤ length xs
+    within = let long = laid.long in omega (arith, inside)
+
+    same_length : length ys ≡ length xs
+    same_length =
+        let front = length-take-le i xs (omega (arith, within)) in
+        ap length at ∙ omega (arith, within, front, length-append (take i xs ++ run) (drop (i + length run) xs), length-append (take i xs) run, length-drop (i + length run) xs)
+
+    each : (k : ℕ) → slice_index ys k ≡ byte_after i run k (slice_index xs k)
+    each k = ap (λ (zs : List ℕ). slice_index zs k) at ∙ byte-with_bytes xs run i k within
+
+    outside : (k : ℕ) → (k < i) ⊎ (i + length run ≤ k) → slice_index ys k ≡ slice_index xs k
+    outside k out = each k ∙ cond-false (is_among i (length run) k) (slice_index run (k - i)) (slice_index xs k)
+        (⊎_elim (λ low. and_left _ _ (lt-leb _ _ low)) (λ past. and_right _ _ (le-ltb _ _ past)) out)
+
+    granule_written : (g : ℕ) → g < count → granule_in ys count g ≡ record (granule_in xs count g) { bytes = bytes_after i run g (granule_in xs count g).bytes }
+    granule_written g below =
+        let long = laid.long in let same_long = same_length in let ends = inside in
+        let old = slice_range xs (16 * g) (16 * g + 16) in let new = slice_range ys (16 * g) (16 * g + 16) in
+        let sixteen : length new ≡ 16 = slice_range_long ys (16 * g) 16 (omega arith) in
+        let sixteen_old : length old ≡ 16 = slice_range_long xs (16 * g) 16 (omega arith) in
+        let change : ℕ → ℕ = λ j. byte_after i run (16 * g + j) (slice_index old j) in
+        granule_from _ _ _ _ (outside (16 * count + g) (inr (omega arith)))
+        (same_number_lists new (bytes_after i run g old) (sixteen ∙ sym (length-map-range_with_len change 0 (length old) ∙ sixteen_old))
+        (λ j h. let inner : j < 16 = subst (λ (n : ℕ). j < n) sixteen h in
+        slice_range_byte ys (16 * g) 16 j inner ∙ each (16 * g + j) ∙ ap (byte_after i run (16 * g + j)) (sym (slice_range_byte xs (16 * g) 16 j inner)) ∙
+        sym (get_or-map-range_with_len change 0 (length old) j j 0 (subst (λ (n : ℕ). j < n) (sym sixteen_old) inner) (omega arith))))
+
+    pub written_is : granules_of ys count ≡ written i run memory
+    unfolding written
+    written_is =
+        changed_is (λ g granule. record granule { bytes = bytes_after i run g granule.bytes }) xs ys count granule_written ∙
+        ap (each_granule (λ g granule. record granule { bytes = bytes_after i run g granule.bytes })) view
+
+    pub written_reads : bytes_at (granules_of ys count) i (length run) ≡ run
+    written_reads =
+        let long = slice_range_long ys i (length run) (omega (arith, within, same_length)) in
+        bytes_are ys count i (length run) (same_length ∙ laid.long) inside ∙
+        same_number_lists (slice_range ys i (i + length run)) run long
+        (λ j h. let inner : j < length run = subst (λ (n : ℕ). j < n) long h in let back : i + j - i ≡ j = omega arith in
+        slice_range_byte ys i (length run) j inner ∙ each (i + j) ∙
+        cond-true (is_among i (length run) (i + j)) (slice_index run (i + j - i)) (slice_index xs (i + j)) (and_from _ _ (le-leb i (i + j) (omega arith)) (lt-ltb (i + j) (i + length run) (omega arith))) ∙
+        ap (λ (k : ℕ). slice_index run k) back)
+
+    pub written_keeps : ChangesOnlyBytes memory (granules_of ys count) i (i + length run)
+    written_keeps =
+        subst (λ (old : List Granule). ChangesOnlyBytes old (granules_of ys count) i (i + length run)) view
+        (changes_bytes xs ys count laid.long same_length i (i + length run) inside outside)
+
+    pub written_fits : All Below run → IsLaidOut ys count
+    written_fits below = record {
+      long = same_length ∙ laid.long;
+      least = laid.least;
+      most = laid.most;
+      below = subst (All Below) (sym at) (All-append Below (take i xs ++ run) (drop (i + length run) xs) (All-append Below (take i xs) run (All-take Below i xs laid.below) below) (All-drop Below (i + length run) xs laid.below));
+      tags = λ g among. subst (λ (n : ℕ). n < 16) (sym (outside (16 * count + g) (inr (omega (arith, inside))))) (laid.tags g among);
+    }
+
+  -- by the byte that is granule g's tag
+  module _ (g t : ℕ) (at : ys ≡ slice_set xs (16 * length memory + g) t) (among : g < length memory) where
+    below : g < count
+    below = omega (arith, counted)
+
+    lies : ys ≡ slice_set xs (16 * count + g) t
+    lies = at ∙ ap (λ (n : ℕ). slice_set xs (16 * n + g) t) counted
+
+    as_long : length ys ≡ length xs
+    as_long = ap length at ∙ length-set xs (16 * length memory + g) t
+
+    there : slice_index ys (16 * count + g) ≡ t
+    there = let long = laid.long in let h = below in ap (λ (zs : List ℕ). slice_index zs (16 * count + g)) lies ∙ get_or-set_same xs (16 * count + g) t 0 (omega arith)
+
+    elsewhere : (k : ℕ) → k ≢ 16 * count + g → slice_index ys k ≡ slice_index xs k
+    elsewhere k other = ap (λ (zs : List ℕ). slice_index zs k) lies ∙ get_or-set_other xs (16 * count + g) k t 0 other
+
+    same_range : (h : ℕ) → h < count → slice_range ys (16 * h) (16 * h + 16) ≡ slice_range xs (16 * h) (16 * h + 16)
+    same_range h inner =
+        let long = laid.long in let same_long = as_long in
+        let sixteen = slice_range_long ys (16 * h) 16 (omega arith) in
+        same_number_lists _ _ (sixteen ∙ sym (slice_range_long xs (16 * h) 16 (omega arith)))
+        (λ j l. let low : j < 16 = subst (λ (n : ℕ). j < n) sixteen l in
+        slice_range_byte ys (16 * h) 16 j low ∙ elsewhere (16 * h + j) (λ e. omega arith) ∙ sym (slice_range_byte xs (16 * h) 16 j low))
+
+    granule_tagged : (h : ℕ) → h < count → granule_in ys count h ≡ (if is_among g 1 h then record (granule_in xs count h) { tag = t } else granule_in xs count h)
+    granule_tagged h inner = ⊎_elim
+        (λ same. granule_from _ _ _ _ (ap (λ (n : ℕ). slice_index ys (16 * count + n)) same ∙ there) (same_range h inner) ∙
+        sym (cond-true (is_among g 1 h) (record (granule_in xs count h) { tag = t }) (granule_in xs count h) (and_from _ _ (le-leb g h (omega arith)) (lt-ltb h (g + 1) (omega arith)))))
+        (λ other. granule_from _ _ _ _ (elsewhere (16 * count + h) (λ e. other (omega arith))) (same_range h inner) ∙
+        sym (cond-false (is_among g 1 h) (record (granule_in xs count h) { tag = t }) (granule_in xs count h) (grind (arith, nat_tests))))
+        (cases_eq h g)
+
+    pub tagged_is : granules_of ys count ≡ tagged g 1 t memory
+    unfolding tagged
+    tagged_is =
+        changed_is (λ h granule. if is_among g 1 h then record granule { tag = t } else granule) xs ys count granule_tagged ∙
+        ap (each_granule (λ h granule. if is_among g 1 h then record granule { tag = t } else granule)) view
+
+    pub tagged_reads : tag_at (granules_of ys count) g ≡ t
+    tagged_reads = tag_is ys count g below ∙ there
+
+    pub tagged_keeps : ChangesOnlyTag memory (granules_of ys count) g
+    tagged_keeps = subst (λ (old : List Granule). ChangesOnlyTag old (granules_of ys count) g) view (changes_tag xs ys count laid.long as_long g elsewhere)
+
+    pub tagged_fits : t < 16 → IsLaidOut ys count
+    tagged_fits small = record {
+      long = as_long ∙ laid.long;
+      least = laid.least;
+      most = laid.most;
+      below = subst (All Below) (sym lies) (All-set Below xs (16 * count + g) t (omega arith) laid.below);
+      tags = λ h inner. ⊎_elim
+          (λ same. subst (λ (n : ℕ). n < 16) (sym (ap (λ (n : ℕ). slice_index ys (16 * count + n)) same ∙ there)) small)
+          (λ other. subst (λ (n : ℕ). n < 16) (sym (elsewhere (16 * count + h) (λ e. other (omega arith)))) (laid.tags h inner))
+          (cases_eq h g);
+    }
+
+-- ---- a list of zeros
+
+repeated_range : (n from len v : ℕ) → from + len ≤ n → slice_range (replicate n v) from (from + len) ≡ replicate len v
+repeated_range n from len v fits =
+    let xs = replicate n v in
+    let long : length (slice_range xs from (from + len)) ≡ len = slice_range_long xs from len (omega (arith, length-replicate n v)) in
+    same_number_lists (slice_range xs from (from + len)) (replicate len v) (long ∙ sym (length-replicate len v))
+    (λ j h. let inner : j < len = subst (λ (k : ℕ). j < k) long h in
+    slice_range_byte xs from len j inner ∙ get_or-replicate n (from + j) v 0 (omega arith) ∙ sym (get_or-replicate len j v 0 inner))
+
+pub new_is : (count : ℕ) → granules_of (replicate (17 * count) 0) count ≡ replicate count new_granule
+unfolding granules_of
+new_is count =
+    sym (fill_by_all (granule_in (replicate (17 * count) 0) count) (replicate count new_granule) count no_granule (length-replicate count new_granule)
+    (λ g h. get_or-replicate count g new_granule no_granule h ∙
+    sym (granule_from _ _ _ _ (get_or-replicate (17 * count) (16 * count + g) 0 0 (omega arith)) (repeated_range (17 * count) (16 * g) 16 0 (omega arith)))))
+
+pub new_fits : (count : ℕ) → 64 ≤ count → count ≤ 262144 → IsLaidOut (replicate (17 * count) 0) count
+new_fits count least most = record {
+  long = length-replicate (17 * count) 0;
+  least = least;
+  most = most;
+  below = All-replicate Below (17 * count) 0 (lit< tt);
+  tags = λ g inside. subst (λ (n : ℕ). n < 16) (sym (get_or-replicate (17 * count) (16 * count + g) 0 0 (omega arith))) (lit< tt);
+}

@@ -1,0 +1,19 @@
+-- What a change of tags or bytes leaves as it was.
+use Rattle.std.specs.Prelude.{◌≡◌, ◌≢◌, ℕ, ◌+◌, ◌*◌, ◌<◌, ◌≤◌, ◌⊎◌, List, length}
+use Rattle.machine_theory.specs.Memory.{Granule, granule_at, tag_at, byte_at, word_at}
+
+-- all tags, and the bytes before `from` and from `to` on, are as they were
+pub record ChangesOnlyBytes (old new : List Granule) (from to : ℕ) : Type 0 where
+  pub len : length new ≡ length old
+  pub tag : (g : ℕ) → tag_at new g ≡ tag_at old g
+  pub byte : (k : ℕ) → (k < from) ⊎ (to ≤ k) → byte_at new k ≡ byte_at old k
+  pub word : (k : ℕ) → (k + 8 ≤ from) ⊎ (to ≤ k) → word_at new k ≡ word_at old k
+  pub granule : (g : ℕ) → (16 * g + 16 ≤ from) ⊎ (to ≤ 16 * g) → granule_at new g ≡ granule_at old g
+
+-- all bytes, and all granules but g, are as they were
+pub record ChangesOnlyTag (old new : List Granule) (g : ℕ) : Type 0 where
+  pub len : length new ≡ length old
+  pub byte : (k : ℕ) → byte_at new k ≡ byte_at old k
+  pub word : (k : ℕ) → word_at new k ≡ word_at old k
+  pub bytes : (h : ℕ) → (granule_at new h).bytes ≡ (granule_at old h).bytes
+  pub granule : (h : ℕ) → h ≢ g → granule_at new h ≡ granule_at old h

@@ -1,0 +1,209 @@
+ghost use Rattle.granule_memory.specs.Changes.{ChangesOnlyBytes, ChangesOnlyTag};
+ghost use Rattle.machine_theory.specs.Memory.{byte_at, bytes_at, new_granule, tag_at, tagged, word_at, written, Granule, IsMemory};
+ghost use Rattle.std.specs.Int.{to_le_bytes, w64};
+ghost use Rattle.std.specs.Prelude.{◌≡◌, ◌+◌, ◌*◌, ◌<◌, ◌≤◌, [], ◌∷◌, IfOk, List, length, replicate};
+
+use raw_region::RawRegion;
+use std::alloc::{AllocError, Global};
+use std::marker::Model;
+
+// The bytes of a granule.
+const GRANULE: usize = 16;
+
+/// 64 to 262,144 granules of sixteen bytes, each with an Allocation Tag from 0 to 15, seen as their list.
+/// One region holds 17 bytes for each: the bytes of all granules, so that words are aligned, and then the tags.
+#[derive(Drop)]
+pub struct Memory {
+    region: RawRegion,
+    granules: u32,
+}
+
+impl Model for Memory {
+    ghost use Rattle.granule_memory.specs.Layout.{granules_of, IsLaidOut};
+    ghost use Rattle.machine_theory.specs.Memory.{Granule};
+    ghost use Rattle.std.specs.Prelude.{List};
+
+    ghost Value = { List Granule };
+
+    ghost view = { λ m. granules_of m.region m.granules };
+
+    ghost invariant = { λ m. IsLaidOut m.region m.granules };
+}
+
+impl Memory {
+    /// A memory of so many granules, 64 to 262,144, with all tags and bytes 0.
+    /// The only error is that the allocator has no block of 17 bytes for each.
+    #[tactic(auto, using(crate::proofs::Granules::granules_counted, crate::proofs::Granules::granules_fit, crate::proofs::Writes::new_is, crate::proofs::Writes::new_fits))]
+    pub fn new(alloc: Global, granules: u32) -> Result<Memory, AllocError>
+        requires { (64 ≤ granules) × (granules ≤ 262144) }
+        ensures granules { IfOk result (λ memory. memory ≡ replicate granules new_granule) }
+        ensures len { IfOk result (λ memory. length memory ≡ granules) }
+        ensures memory { IfOk result (λ memory. IsMemory memory) }
+    {
+        let region = RawRegion::new(alloc, (GRANULE + 1) * granules as usize)?;
+        Ok(Memory { region, granules })
+    }
+
+    /// The number of granules, 64 to 262,144.
+    #[tactic(auto, using(crate::proofs::Granules::granules_counted, crate::proofs::Granules::granules_fit))]
+    pub fn granules(&self) -> u32
+        ensures granules { result ≡ length self.now }
+
+        // What any memory is known to be.
+        ensures memory { IsMemory self.now }
+    {
+        self.granules
+    }
+
+    /// The Allocation Tag, 0 to 15, of granule g, which is below `granules()`.
+    #[tactic(auto, using(crate::proofs::Granules::granules_counted, crate::proofs::Granules::tag_is))]
+    pub fn tag(&self, g: u32) -> u8
+        requires { g < length self.now }
+        ensures tag { result ≡ tag_at self.now g }
+        ensures below { result < 16 }
+    {
+        self.region.byte(self.place_of_tag(g))
+    }
+
+    /// Gives granule g, which is below `granules()`, the Allocation Tag t, which is below 16. No byte changes.
+    #[tactic(auto, using(crate::proofs::Granules::granules_counted, crate::proofs::Granules::granules_fit, crate::proofs::Writes::tagged_is, crate::proofs::Writes::tagged_fits, crate::proofs::Writes::tagged_reads))]
+    pub fn set_tag(&mut self, g: u32, t: u8)
+        requires granule { g < length self.old }
+        requires tag { t < 16 }
+        ensures tagged { self.new ≡ tagged g 1 t self.old }
+        ensures tag { tag_at self.new g ≡ t }
+        ensures others { ChangesOnlyTag self.old self.new g }
+        ensures memory { IsMemory self.new }
+    {
+        let place = self.place_of_tag(g);
+        self.region.set_byte(place, t);
+    }
+
+    /// Byte i, 0 to 15, of granule g, which is below `granules()`.
+    #[tactic(auto, using(crate::proofs::Granules::granules_counted, crate::proofs::Granules::byte_is))]
+    pub fn byte(&self, g: u32, i: usize) -> u8
+        requires granule { g < length self.now }
+        requires place { i < 16 }
+        ensures { result ≡ byte_at self.now (16 * g + i) }
+    {
+        self.region.byte(place_of(g) + i)
+    }
+
+    /// Writes b to byte i, 0 to 15, of granule g, which is below `granules()`. No tag changes.
+    #[tactic(auto, using(crate::proofs::Granules::byte_read))]
+    pub fn set_byte(&mut self, g: u32, i: usize, b: u8)
+        requires granule { g < length self.old }
+        requires place { i < 16 }
+        ensures written { self.new ≡ written (16 * g + i) (b ∷ []) self.old }
+        ensures byte { byte_at self.new (16 * g + i) ≡ b }
+        ensures others { ChangesOnlyBytes self.old self.new (16 * g + i) (16 * g + i + 1) }
+        ensures memory { IsMemory self.new }
+    {
+        self.write_bytes(place_of(g) + i, &[b]);
+    }
+
+    /// Word i, 0 or 1, of granule g, which is below `granules()`: its bytes 8 i to 8 i + 7, the lowest first.
+    #[tactic(auto, using(crate::proofs::Granules::granules_counted, crate::proofs::Granules::word_is))]
+    pub fn word(&self, g: u32, i: usize) -> u64
+        requires granule { g < length self.now }
+        requires place { i < 2 }
+        ensures { result ≡ word_at self.now (16 * g + 8 * i) }
+    {
+        self.region.word(place_of(g) + 8 * i)
+    }
+
+    /// Writes w to word i, 0 or 1, of granule g, which is below `granules()`: its bytes 8 i to 8 i + 7, the lowest first.
+    /// No tag changes.
+    #[tactic(auto, using(crate::proofs::Granules::word_read))]
+    pub fn set_word(&mut self, g: u32, i: usize, w: u64)
+        requires granule { g < length self.old }
+        requires place { i < 2 }
+        ensures written { self.new ≡ written (16 * g + 8 * i) (to_le_bytes w64 w) self.old }
+        ensures word { word_at self.new (16 * g + 8 * i) ≡ w }
+        ensures others { ChangesOnlyBytes self.old self.new (16 * g + 8 * i) (16 * g + 8 * i + 8) }
+        ensures memory { IsMemory self.new }
+    {
+        self.write_bytes(place_of(g) + 8 * i, &w.to_le_bytes());
+    }
+
+    /// Writes 0 to the sixteen bytes of granule g, which is below `granules()`. No tag changes.
+    pub fn zero_granule(&mut self, g: u32)
+        requires { g < length self.old }
+        ensures written { self.new ≡ written (16 * g) (replicate 16 0) self.old }
+        ensures others { ChangesOnlyBytes self.old self.new (16 * g) (16 * g + 16) }
+        ensures memory { IsMemory self.new }
+    {
+        self.write_bytes(place_of(g), &[0; GRANULE]);
+    }
+
+    /// Copies the bytes from byte i of the memory on into `to`, as many as it has; granule g begins at byte 16 g.
+    /// It is for loads: a run over any number of granules is one copy. No tag is looked at: the caller has checked them.
+    #[tactic(auto, using(crate::proofs::Granules::granules_counted, crate::proofs::Granules::bytes_are))]
+    pub fn read_bytes(&self, i: usize, to: &mut [u8])
+        requires { i + length to.old ≤ 16 * length self.now }
+        ensures { to.new ≡ bytes_at self.now i (length to.old) }
+    {
+        self.region.read_bytes(i, to);
+    }
+
+    /// Copies `bytes` to byte i of the memory on; granule g begins at byte 16 g. No tag changes.
+    /// It is for stores: a run over any number of granules is one copy. No tag is looked at: the caller has checked them.
+    #[tactic(auto, using(crate::proofs::Granules::granules_counted, crate::proofs::Writes::written_is, crate::proofs::Writes::written_reads))]
+    pub fn write_bytes(&mut self, i: usize, bytes: &[u8])
+        requires { i + length bytes.now ≤ 16 * length self.old }
+        ensures written { self.new ≡ written i bytes.now self.old }
+        ensures bytes { bytes_at self.new i (length bytes.now) ≡ bytes.now }
+        ensures others { ChangesOnlyBytes self.old self.new i (i + length bytes.now) }
+        ensures memory { IsMemory self.new }
+    {
+        self.region.write_bytes(i, bytes);
+    }
+
+    // Where the tag of granule g lies.
+    #[tactic(auto, using(crate::proofs::Granules::granules_counted))]
+    fn place_of_tag(&self, g: u32) -> usize
+        requires { g < length self.now }
+        ensures { result ≡ 16 * length self.now + g }
+    {
+        place_of(self.granules) + g as usize
+    }
+}
+
+// Where the bytes of granule g begin.
+fn place_of(g: u32) -> usize
+    ensures { result ≡ 16 * g }
+{
+    g as usize * GRANULE
+}
+
+#[cfg(test)]
+mod tests {
+    use super::*;
+    use std::test::Fail;
+
+    #[test]
+    fn each_call_with_ample_memory(rt: HostRuntime) -> Result<(), Fail> {
+        let mut memory = Memory::new(rt.alloc(), 64)?;
+        assert_eq!(rt;
+            (memory.granules(), memory.tag(63), memory.byte(63, 15)),
+            (64, 0, 0)
+        );
+        memory.set_tag(63, 15);
+        memory.set_word(63, 1, 65_601);
+        let mut run = [0xff; 8];
+        memory.read_bytes(63 * 16 + 8, &mut run);
+        assert_eq!(rt; run, [0x41, 0, 1, 0, 0, 0, 0, 0]);
+        memory.set_byte(63, 15, 1);
+        assert_eq!(rt; memory.word(63, 1), 0x0100_0000_0001_0041);
+        memory.write_bytes(63 * 16 - 2, &[1, 2, 3, 4]);
+        assert_eq!(rt; (memory.byte(62, 14), memory.byte(62, 15)), (1, 2));
+        assert_eq!(rt; memory.word(63, 0), 0x0403);
+        memory.zero_granule(63);
+        assert_eq!(rt;
+            (memory.word(63, 0), memory.word(63, 1), memory.tag(63)),
+            (0, 0, 15)
+        );
+        assert_eq!(rt; memory.byte(62, 15), 2);
+        Ok(())
+    }
+}

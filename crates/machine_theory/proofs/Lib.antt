@@ -1,0 +1,10 @@
+pub mod TagLaws
+pub mod StepLaws
+pub mod SeedLaws
+pub mod MemoryLaws
+pub mod ChangeLaws
+pub mod ByteLaws
+pub mod KeptLaws
+pub mod AccessLaws
+pub mod InstructionLaws
+mod WorkedExamples

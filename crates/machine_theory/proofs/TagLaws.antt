@@ -1,0 +1,170 @@
+-- A chosen tag is an allowed one.
+use Rattle.std.proofs.Common.{◌≡◌, ◌≢◌, ℕ, zero, suc, ◌+◌, ◌-◌, ◌%◌, ◌^◌, ◌<◌, Bool, true, false, not, cond, List, [], ◌∷◌, length, get_or, refl, sym, ap, ◌∙◌, subst, inl, inr, arith, ◌⊎◌}
+use Rattle.std.specs.List.{filter, range_with_len, All}
+use Rattle.std.specs.Int.{bit_at}
+use Rattle.std.specs.Prelude.{◌==◌, ◌||◌, bit_or}
+use Rattle.std.proofs.lemmas.List.Elements.{All-filter, filter_passes, All-map}
+use Rattle.std.proofs.lemmas.List.FromFn.{get_or-map-range_with_len, length-map-range_with_len}
+use Rattle.std.proofs.lemmas.Bool.{cond_both, cond-true, cond-false, eqb-true, eqb-false, not-true, agree_below_at, or_parts, cases_eq}
+use Rattle.std.proofs.lemmas.Nat.{mod_below}
+use Rattle.std.proofs.lemmas.Nat.Bits.{bit_at_or, bit_at-pow_same, bit_at-pow_other, bit_at-lt}
+use Rattle.machine_theory.specs.Tags.{is_excluded, tags_after, allowed_after, choose_tag}
+use Rattle.machine_theory.specs.Seed.{next_offset}
+use Rattle.machine_theory.specs.Instructions.{drawn_tag}
+
+-- a filter that passes an element keeps at least one
+filter_keeps : {X : Type 0} (p : X → Bool) (xs : List X) (i : ℕ) (d : X) → i < length xs → p (get_or xs i d) ≡ true → 0 < length (filter p xs)
+filter_keeps p [] i d h e = absurd (omega arith)
+filter_keeps p (x ∷ xs) zero d h e = subst (λ b. 0 < length (cond b (x ∷ filter p xs) (filter p xs))) (sym e) (omega arith)
+filter_keeps p (x ∷ xs) (suc i) d h e =
+    let more : 0 < length (filter p xs) = filter_keeps p xs i d (omega arith) e in
+    cond_both (p x) (x ∷ filter p xs) (filter p xs) (λ ys. 0 < length ys) (λ _. omega arith) (λ _. more)
+
+pub record IsAllowed (exclude tag : ℕ) : Type 0 where
+  pub below : tag < 16
+  pub free : is_excluded exclude tag ≡ false
+
+allowed_each : (tag exclude : ℕ) → All (IsAllowed exclude) (allowed_after tag exclude)
+unfolding allowed_after
+allowed_each tag exclude k d h =
+    let test : ℕ → Bool = λ t. not (is_excluded exclude t) in
+    let low : All (λ t. t < 16) (filter test (tags_after tag)) =
+    All-filter test (λ t. t < 16) (tags_after tag) (All-map (λ t. t < 16) (λ k. (tag + k) % 16) (range_with_len 1 16) (λ i e l. mod_below _ 16 (omega arith))) in
+    record {
+      below = low k d h;
+      free = not-true _ (filter_passes test (tags_after tag) k d h);
+    }
+
+pub allowed_some : (tag exclude t : ℕ) → tag < 16 → t < 16 → is_excluded exclude t ≡ false → 0 < length (allowed_after tag exclude)
+unfolding allowed_after
+allowed_some tag exclude t in_range t_in_range free =
+    let i : ℕ = (t + 15 - tag) % 16 in
+    let i_below : (t + 15 - tag) % 16 < 16 = mod_below (t + 15 - tag) 16 (omega arith) in
+    let at : get_or (tags_after tag) ((t + 15 - tag) % 16) 0 ≡ (tag + (1 + (t + 15 - tag) % 16)) % 16 =
+    get_or-map-range_with_len (λ k. (tag + k) % 16) 1 16 ((t + 15 - tag) % 16) (1 + (t + 15 - tag) % 16) 0 i_below refl in
+    let there : (tag + (1 + (t + 15 - tag) % 16)) % 16 ≡ t = omega arith in
+    filter_keeps (λ t. not (is_excluded exclude t)) (tags_after tag) ((t + 15 - tag) % 16) 0
+    (rw length-map-range_with_len i_below)
+    (subst (λ x. not (is_excluded exclude x) ≡ true) (sym (at ∙ there)) (not_of free))
+  where
+    not_of : {b : Bool} → b ≡ false → not b ≡ true
+    not_of e = ap not e
+
+pub choose_tag_allowed : (tag offset exclude t : ℕ) → tag < 16 → t < 16 → is_excluded exclude t ≡ false → IsAllowed exclude (choose_tag tag offset exclude)
+unfolding choose_tag
+choose_tag_allowed tag offset exclude t in_range t_in_range free =
+    let some : 0 < length (allowed_after tag exclude) = allowed_some tag exclude t in_range t_in_range free in
+    let each : All (IsAllowed exclude) (allowed_after tag exclude) = allowed_each tag exclude in
+    cond_both (length (allowed_after tag exclude) == 0) _ _ (IsAllowed exclude)
+    (λ e. absurd (omega (arith, eqb-true _ _ e)))
+    (λ _. cond_both (offset == 0) _ _ (IsAllowed exclude)
+    (λ _. at_tag tag exclude in_range (each 0 0 some))
+    (λ _. each ((offset - 1) % length (allowed_after tag exclude)) 0 (mod_below _ _ some)))
+  where
+    at_tag : (tag exclude : ℕ) → tag < 16 → IsAllowed exclude (get_or (allowed_after tag exclude) 0 0) → IsAllowed exclude (cond (is_excluded exclude tag) (get_or (allowed_after tag exclude) 0 0) tag)
+    at_tag tag exclude in_range first = cond_both (is_excluded exclude tag) _ _ (IsAllowed exclude) (λ _. first) (λ e. record { below = in_range; free = e })
+
+-- a filter that passes no element keeps none
+filter_none : {X : Type 0} (p : X → Bool) (xs : List X) → All (λ x. p x ≡ false) xs → filter p xs ≡ []
+filter_none p [] none = refl
+filter_none p (x ∷ xs) none = cond-false (p x) (x ∷ filter p xs) (filter p xs) (none 0 x (omega arith)) ∙ filter_none p xs (λ k d h. none (suc k) d (omega arith))
+
+pub choose_tag_none : (tag offset exclude : ℕ) → ((other : ℕ) → other < 16 → is_excluded exclude other ≡ true) → choose_tag tag offset exclude ≡ 0
+unfolding choose_tag allowed_after
+choose_tag_none tag offset exclude each =
+    let none : filter (λ t. not (is_excluded exclude t)) (tags_after tag) ≡ [] =
+    filter_none (λ t. not (is_excluded exclude t)) (tags_after tag) (All-map (λ t. not (is_excluded exclude t) ≡ false) (λ k. (tag + k) % 16) (range_with_len 1 16) (λ i d h. ap not (each _ (mod_below _ 16 (omega arith))))) in
+    cond-true (length (filter (λ t. not (is_excluded exclude t)) (tags_after tag)) == 0) _ _ (ap (λ ts. length ts == 0) none)
+
+-- ---- masks
+
+bit_zero : (x t : ℕ) → is_excluded x t ≡ false → bit_at x t ≡ 0
+bit_zero x t e =
+    let small : bit_at x t < 2 = bit_at-lt x t in
+    let other : bit_at x t ≡ 1 → ⊥ = eqb-false _ _ e in
+    omega arith
+
+excluded_if : (x t : ℕ) → bit_at x t ≡ 0 → is_excluded x t ≡ false
+excluded_if x t e = ap (λ b. b == 1) e
+
+-- a tag is excluded by neither mask or by both in one
+pub is_excluded-or : (x y t : ℕ) → is_excluded x t ≡ false → is_excluded y t ≡ false → is_excluded (bit_or x y) t ≡ false
+is_excluded-or x y t a b = excluded_if (bit_or x y) t (bit_at_or x y t ∙ omega (arith, bit_zero x t a, bit_zero y t b))
+
+pub is_excluded-or_left : (x y t : ℕ) → is_excluded (bit_or x y) t ≡ false → is_excluded x t ≡ false
+is_excluded-or_left x y t e = excluded_if x t (omega (arith, bit_at_or x y t, bit_zero (bit_or x y) t e))
+
+pub is_excluded-or_right : (x y t : ℕ) → is_excluded (bit_or x y) t ≡ false → is_excluded y t ≡ false
+is_excluded-or_right x y t e = excluded_if y t (omega (arith, bit_at_or x y t, bit_zero (bit_or x y) t e))
+
+pub is_excluded-one : (a t : ℕ) → t ≢ a → is_excluded (2 ^ a) t ≡ false
+is_excluded-one a t ne = excluded_if (2 ^ a) t (bit_at-pow_other a t ne)
+
+pub not_the_one : (a t : ℕ) → is_excluded (2 ^ a) t ≡ false → t ≢ a
+not_the_one a t e same = eqb-false _ _ e (subst (λ k. bit_at (2 ^ a) k ≡ 1) (sym same) (bit_at-pow_same a))
+
+pub odd_from : (t : ℕ) → t < 16 → is_excluded 0x5555 t ≡ false → t % 2 ≡ 1
+odd_from t h e =
+    let table : is_excluded 0x5555 t ≡ (t % 2 == 0) = agree_below_at (λ t. is_excluded 0x5555 t) (λ t. t % 2 == 0) 16 t refl h in
+    let other : t % 2 ≡ 0 → ⊥ = eqb-false _ _ (sym table ∙ e) in
+    omega arith
+
+pub even_from : (t : ℕ) → t < 16 → is_excluded 0xAAAB t ≡ false → (t % 2 ≡ 0) × (0 < t)
+even_from t h e =
+    let table : is_excluded 0xAAAB t ≡ ((t % 2 == 1) || (t == 0)) = agree_below_at (λ t. is_excluded 0xAAAB t) (λ t. (t % 2 == 1) || (t == 0)) 16 t refl h in
+    let parts = or_parts _ _ (sym table ∙ e) in
+    let odd : t % 2 ≡ 1 → ⊥ = eqb-false _ _ parts.0 in
+    let none : t ≡ 0 → ⊥ = eqb-false _ _ parts.1 in
+    (omega arith, omega arith)
+
+-- a mask that excludes 0 alone leaves 1, so ADDG and SUBG give no tag 0
+pub choose_tag-one : (tag steps : ℕ) → tag < 16 → (choose_tag tag steps 1 < 16) × (choose_tag tag steps 1 ≢ 0)
+choose_tag-one tag steps in_range =
+    let a = choose_tag_allowed tag steps 1 1 in_range (omega arith) refl in
+    (a.below, not_the_one 0 (choose_tag tag steps 1) a.free)
+
+-- ---- draws among the tags of one parity
+
+-- of two tags one is not a third
+other_than : (a x y : ℕ) → x ≢ y → (t : ℕ) × ((t ≡ x) ⊎ (t ≡ y)) × (t ≢ a)
+other_than a x y apart = elim (cases_eq x a) [
+  | inr other ↦ (x, inl refl, other)
+  | inl same ↦ (y, inr refl, λ e. apart (same ∙ sym e))
+]
+
+-- the mask that excludes the tags of one parity, one more, and 0
+parity_mask : ℕ → ℕ → ℕ
+parity_mask mask last = bit_or (bit_or mask (2 ^ last)) 1
+
+-- where it leaves two tags of the other parity, the chosen one is not excluded by any part of it
+chosen : (mask x y : ℕ) (tag offset last : ℕ) → tag < 16 → x ≢ y → x < 16 → y < 16 → is_excluded mask x ≡ false → is_excluded mask y ≡ false → is_excluded 1 x ≡ false → is_excluded 1 y ≡ false →
+    IsAllowed mask (choose_tag tag offset (parity_mask mask last)) × (choose_tag tag offset (parity_mask mask last) ≢ last)
+unfolding parity_mask
+chosen mask x y tag offset last in_range apart x_below y_below x_free y_free x_some y_some =
+    let left = other_than last x y apart in
+    let below : left.0 < 16 = either (λ t. t < 16) left.0 left.1 x_below y_below in
+    let free : is_excluded mask left.0 ≡ false = either (λ t. is_excluded mask t ≡ false) left.0 left.1 x_free y_free in
+    let some : is_excluded 1 left.0 ≡ false = either (λ t. is_excluded 1 t ≡ false) left.0 left.1 x_some y_some in
+    let a = choose_tag_allowed tag offset (bit_or (bit_or mask (2 ^ last)) 1) left.0 in_range below
+    (is_excluded-or (bit_or mask (2 ^ last)) 1 left.0 (is_excluded-or mask (2 ^ last) left.0 free (is_excluded-one last left.0 left.2)) some) in
+    let outer = is_excluded-or_left (bit_or mask (2 ^ last)) 1 _ a.free in
+    (record { below = a.below; free = is_excluded-or_left mask (2 ^ last) _ outer }, not_the_one last _ (is_excluded-or_right mask (2 ^ last) _ outer))
+  where
+    either : (P : ℕ → Type 0) (t : ℕ) → (t ≡ x) ⊎ (t ≡ y) → P x → P y → P t
+    either P t (inl e) px py = subst P (sym e) px
+    either P t (inr e) px py = subst P (sym e) py
+
+pub odd_drawn : (tag seed last : ℕ) → tag < 16 →
+    (drawn_tag tag seed (bit_or 0x5555 (2 ^ last)) < 16) × (drawn_tag tag seed (bit_or 0x5555 (2 ^ last)) % 2 ≡ 1) × (drawn_tag tag seed (bit_or 0x5555 (2 ^ last)) ≢ last)
+unfolding drawn_tag parity_mask
+odd_drawn tag seed last in_range =
+    let c = chosen 0x5555 1 3 tag (next_offset seed) last in_range (omega arith) (omega arith) (omega arith) refl refl refl refl in
+    (c.0.below, odd_from _ c.0.below c.0.free, c.1)
+
+pub even_drawn : (tag seed last : ℕ) → tag < 16 →
+    (drawn_tag tag seed (bit_or 0xAAAB (2 ^ last)) < 16) × (drawn_tag tag seed (bit_or 0xAAAB (2 ^ last)) % 2 ≡ 0) × (0 < drawn_tag tag seed (bit_or 0xAAAB (2 ^ last))) × (drawn_tag tag seed (bit_or 0xAAAB (2 ^ last)) ≢ last)
+unfolding drawn_tag parity_mask
+even_drawn tag seed last in_range =
+    let c = chosen 0xAAAB 2 4 tag (next_offset seed) last in_range (omega arith) (omega arith) (omega arith) refl refl refl refl in
+    let even = even_from _ c.0.below c.0.free in
+    (c.0.below, even.0, even.1, c.1)

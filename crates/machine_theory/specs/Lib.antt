@@ -1,0 +1,7 @@
+pub mod Address
+pub mod Tags
+pub mod Seed
+pub mod Memory
+pub mod Access
+pub mod Machine
+pub mod Instructions

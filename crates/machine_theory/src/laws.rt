@@ -1,0 +1,8 @@
+//! What is true of the machine's definitions, each law the contract of a function that does nothing.
+
+pub mod access;
+pub mod addresses;
+pub mod instructions;
+pub mod memory;
+pub mod seed;
+pub mod tags;

@@ -1,0 +1,27 @@
+ghost use Rattle.machine_theory.specs.Access.{IsMapped, IsTagFault, access_fault, is_mapped};
+ghost use Rattle.machine_theory.specs.Address.{Touches, logical_tag};
+ghost use Rattle.machine_theory.specs.Memory.{Granule, tag_at};
+ghost use Rattle.machine_theory.specs.declared.fault.Fault.TheVariants.{TagCheck, Unmapped};
+ghost use Rattle.std.specs.Prelude.{◌≡◌, ◌≢◌, ◌↔◌, ◌<◌, IsSome, IsTrue, List, None, Some, length, ℕ};
+
+/// An access passes the test exactly where it is mapped.
+pub fn law_mapped()
+    ensures { (granules address len : ℕ) → IsTrue (is_mapped granules address len) ↔ IsMapped granules address len }
+{}
+
+/// An access is a tag fault exactly where it is mapped and a granule that it touches has another tag than the pointer's, and the
+/// fault names the lowest such granule.
+pub fn law_access()
+    ensures unmapped { (memory : List Granule) (address len : ℕ) → (IsMapped (length memory) address len → ⊥) →
+        access_fault memory address len ≡ Some Unmapped }
+    ensures tag { (memory : List Granule) (address len g memory_tag pointer_tag : ℕ) → 0 < len →
+        (access_fault memory address len ≡ Some (TagCheck g memory_tag pointer_tag)) ↔ IsTagFault memory address len g memory_tag pointer_tag }
+    ensures faults { (memory : List Granule) (address len g : ℕ) → Touches address len g → tag_at memory g ≢ logical_tag address →
+        IsSome (access_fault memory address len) }
+    ensures succeeds { (memory : List Granule) (address len : ℕ) → 0 < len → IsMapped (length memory) address len →
+        ((g : ℕ) → Touches address len g → tag_at memory g ≡ logical_tag address) → access_fault memory address len ≡ None }
+
+    // an access sees the length of the memory and its tags, and no byte
+    ensures by_tags { (memory other : List Granule) (address len : ℕ) → length other ≡ length memory →
+        ((g : ℕ) → tag_at other g ≡ tag_at memory g) → access_fault other address len ≡ access_fault memory address len }
+{}

@@ -1,0 +1,29 @@
+ghost use Rattle.machine_theory.specs.Address.{Holds, logical_tag, moved_by, place_of, region_start, with_tag};
+ghost use Rattle.std.specs.Prelude.{◌≡◌, ◌+◌, ◌<◌, ◌≤◌, ◌^◌, nat_abs, ℕ, ℤ};
+
+/// A tag that is put into an address is read from it, and the rest of the address stays.
+pub fn law_addresses()
+    ensures tag { (address tag : ℕ) → tag < 16 → logical_tag (with_tag address tag) ≡ tag }
+    ensures place { (address tag : ℕ) → place_of (with_tag address tag) ≡ place_of address }
+    ensures own_tag { (address : ℕ) → with_tag address (logical_tag address) ≡ address }
+    ensures fits { (address tag : ℕ) → address < 2 ^ 64 → tag < 16 → with_tag address tag < 2 ^ 64 }
+    ensures tag_fits { (address : ℕ) → logical_tag address < 16 }
+{}
+
+/// A place lies in one granule.
+pub fn law_granules()
+    ensures one { (g k place : ℕ) → Holds g place → Holds k place → g ≡ k }
+{}
+
+/// Near the region, an address that is moved by at most 2 ^ 20 bytes keeps its tag and its highest four bits, and null is not near
+/// the region.
+pub fn law_moved()
+    ensures tag { (address : ℕ) (offset : ℤ) (i : ℕ) → nat_abs offset ≤ 2 ^ 20 → i < 64 →
+        region_start ≤ place_of (moved_by address offset) + i → place_of (moved_by address offset) < 2 ^ 37 →
+        logical_tag (moved_by address offset) ≡ logical_tag address }
+    ensures plain { (address : ℕ) (offset : ℤ) → nat_abs offset ≤ 2 ^ 20 → address < 2 ^ 60 →
+        region_start ≤ place_of (moved_by address offset) → place_of (moved_by address offset) < 2 ^ 37 →
+        moved_by address offset < 2 ^ 60 }
+    ensures null { (offset : ℤ) (i : ℕ) → nat_abs offset ≤ 2 ^ 20 → i < 64 →
+        region_start ≤ place_of (moved_by 0 offset) + i → place_of (moved_by 0 offset) < 2 ^ 37 → ⊥ }
+{}

@@ -1,0 +1,4 @@
+pub mod Steps
+pub mod Fields
+pub mod Heap
+pub mod Written

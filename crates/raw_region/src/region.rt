@@ -1,0 +1,182 @@
+ghost use Rattle.raw_region.specs.Bytes.{word_at, with_bytes, ChangesOnly};
+ghost use Rattle.raw_region.specs.Ownership.{region_owns, region_lends};
+ghost use Rattle.std.specs.Borrow.{sem};
+ghost use Rattle.std.specs.Int.{w64, to_le_bytes};
+ghost use Rattle.std.specs.Prelude.{◌≡◌, ◌+◌, ◌-◌, ◌<◌, ◌≤◌, ◌^◌, ℕ, All, IfOk, List, length, replicate, slice_index, slice_range, slice_set};
+
+use crate::zeros::write_zeros;
+use std::alloc::{AllocError, Allocator, Global};
+use std::marker::Model;
+
+/// A block of 1 to 2^30 bytes, seen as their list. It has the block from its allocator, and gives it back when it is dropped.
+pub struct RawRegion {
+    ptr: *mut u8,
+    len: usize,
+    alloc: Global,
+    ghost bytes: { List ℕ },
+    ghost counted: { len ≡ length bytes },
+    ghost in_range: { (1 ≤ len) × (len ≤ 2 ^ 30) },
+}
+
+impl Model for RawRegion {
+    ghost Value = { List ℕ };
+
+    ghost view = { λ r. r.bytes };
+
+    ghost also_owns = { λ r. region_owns r.alloc r.ptr r.len r.bytes };
+
+    ghost also_shares = { λ r _ κ. region_lends r.ptr r.len r.bytes κ };
+}
+
+// It is proved that the block is freed at most once, and not touched afterwards. That it is freed at all rests on this body:
+// a derived `Drop`, which lets the block go, would be proved too.
+impl Drop for RawRegion {
+    fn drop(self) {
+        let RawRegion { ptr, len, alloc } = self;
+        unsafe { alloc.deallocate(ptr, len, 1) }
+    }
+}
+
+impl RawRegion {
+    ghost use Rattle.raw_region.specs.Lending.{LendsBytes};
+
+    /// A region of `len` bytes, 1 to 2^30, which are all 0. The only error is that the allocator has no such block.
+    pub fn new(alloc: Global, len: usize) -> Result<RawRegion, AllocError>
+        requires { (1 ≤ len) × (len ≤ 2 ^ 30) }
+        ensures len { IfOk result (λ region. length region ≡ len) }
+        ensures zeros { IfOk result (λ region. region ≡ replicate len 0) }
+    {
+        match alloc.allocate(len, 1) {
+            Ok(ptr) => {
+                unsafe { write_zeros(ptr, len) };
+                Ok(RawRegion { ptr, len, alloc })
+            }
+            Err(error) => Err(error),
+        }
+    }
+
+    /// The number of bytes, 1 to 2^30.
+    pub fn len(&self) -> usize
+        ensures len { result ≡ length self.now }
+        ensures range { (1 ≤ result) × (result ≤ 2 ^ 30) }
+
+        // What any region is known to be: its bytes are bytes.
+        ensures bytes { All (λ byte. byte < 2 ^ 8) self.now }
+    {
+        self.as_slice().len()
+    }
+
+    /// The byte at place i, which is below the length.
+    pub fn byte(&self, i: usize) -> u8
+        requires { i < length self.now }
+        ensures { result ≡ slice_index self.now i }
+    {
+        self.as_slice()[i]
+    }
+
+    /// Writes b to place i, which is below the length.
+    pub fn set_byte(&mut self, i: usize, b: u8)
+        requires { i < length self.old }
+        ensures { self.new ≡ slice_set self.old i b }
+    {
+        self.as_mut_slice()[i] = b;
+    }
+
+    /// The word at place i: the eight bytes from there on, the lowest first. It may lie at any place that has eight bytes.
+    #[tactic(auto, unfolding(crate::specs::Bytes::word_at))]
+    pub fn word(&self, i: usize) -> u64
+        requires { i + 8 ≤ length self.now }
+        ensures { result ≡ word_at self.now i }
+    {
+        // A word can't be read through a cast pointer; the eight reads compile to one load.
+        let s = self.as_slice();
+        u64::from_le_bytes([
+            s[i],
+            s[i + 1],
+            s[i + 2],
+            s[i + 3],
+            s[i + 4],
+            s[i + 5],
+            s[i + 6],
+            s[i + 7],
+        ])
+    }
+
+    /// Writes w to place i: the eight bytes from there on, the lowest first. It may lie at any place that has eight bytes.
+    #[tactic(auto, unfolding(crate::specs::Bytes::word_at))]
+    pub fn set_word(&mut self, i: usize, w: u64)
+        requires { i + 8 ≤ length self.old }
+        ensures bytes { self.new ≡ with_bytes self.old i (to_le_bytes w64 w) }
+        ensures word { word_at self.new i ≡ w }
+        ensures others { ChangesOnly self.old self.new i (i + 8) }
+    {
+        self.write_bytes(i, &w.to_le_bytes());
+    }
+
+    /// Writes b to each place from `from` on and below `to`, which is at most the length.
+    pub fn fill(&mut self, from: usize, to: usize, b: u8)
+        requires { (from ≤ to) × (to ≤ length self.old) }
+        ensures bytes { self.new ≡ with_bytes self.old from (replicate (to - from) b) }
+        ensures others { ChangesOnly self.old self.new from to }
+    {
+        self.as_mut_slice()[from..to].fill(b);
+    }
+
+    /// Copies the bytes from place i on into `to`, as many as it has: a run in one copy.
+    pub fn read_bytes(&self, i: usize, to: &mut [u8])
+        requires { i + length to.old ≤ length self.now }
+        ensures { to.new ≡ slice_range self.now i (i + length to.old) }
+    {
+        to.copy_from_slice(&self.as_slice()[i..i + to.len()]);
+    }
+
+    /// Copies `bytes` to place i on: a run in one copy.
+    pub fn write_bytes(&mut self, i: usize, bytes: &[u8])
+        requires { i + length bytes.now ≤ length self.old }
+        ensures bytes { self.new ≡ with_bytes self.old i bytes.now }
+        ensures others { ChangesOnly self.old self.new i (i + length bytes.now) }
+    {
+        self.as_mut_slice()[i..i + bytes.len()].copy_from_slice(bytes);
+    }
+
+    fn as_slice(&self) -> &[u8]
+        ensures value { result.now ≡ self.now }
+        ensures range { (1 ≤ length result.now) × (length result.now ≤ 2 ^ 30) }
+        ensures bytes { All (λ byte. byte < 2 ^ 8) result.now }
+    {
+        unsafe { std::slice::from_raw_parts(self.ptr, self.len) }
+    }
+
+    fn as_mut_slice(&mut self) -> &mut [u8]
+        ensures* writes_back { sem 𝓛 (LendsBytes self.entry result) }
+        ensures value { result.now ≡ self.old }
+    {
+        unsafe { std::slice::from_raw_parts_mut(self.ptr, self.len) }
+    }
+}
+
+#[cfg(test)]
+mod tests {
+    use super::*;
+    use std::test::Fail;
+
+    #[test]
+    fn each_call_with_ample_memory(rt: HostRuntime) -> Result<(), Fail> {
+        let mut region = RawRegion::new(rt.alloc(), 24)?;
+        assert_eq!(rt; region.len(), 24);
+        assert_eq!(rt; region.word(16), 0);
+        region.set_word(3, 0x0807_0605_0403_0201);
+        assert_eq!(rt; (region.byte(3), region.byte(10)), (1, 8));
+        region.set_byte(4, 0xff);
+        assert_eq!(rt; region.word(3), 0x0807_0605_0403_ff01);
+        region.fill(5, 10, 0xaa);
+        region.write_bytes(20, b"tags");
+        let mut run = [0; 10];
+        region.read_bytes(2, &mut run);
+        assert_eq!(rt; run, [0, 1, 0xff, 0xaa, 0xaa, 0xaa, 0xaa, 0xaa, 8, 0]);
+        let mut end = [0; 4];
+        region.read_bytes(20, &mut end);
+        assert_eq!(rt; &end, b"tags");
+        Ok(())
+    }
+}

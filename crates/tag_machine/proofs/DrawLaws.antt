@@ -1,0 +1,38 @@
+-- The four new bits of a draw, taken at once.
+use Rattle.std.proofs.Common.{◌≡◌, ℕ, ◌+◌, ◌*◌, ◌/◌, ◌%◌, ◌^◌, sym, ap, ◌∙◌, arith, pow-add}
+use Rattle.std.specs.Int.{bit_at}
+use Rattle.std.specs.Int.Bits.{bit_and, bit_xor}
+use Rattle.std.proofs.Math.Nat.{div-div-eq-div-mul}
+use Rattle.std.proofs.lemmas.Nat.{and_mask}
+use Rattle.std.proofs.lemmas.Nat.Bits.{bit_at_xor}
+use Rattle.machine_theory.specs.Seed.{next_bit, next_offset}
+
+-- a number shifted to the right
+pub bit_at_shr : (n k i : ℕ) → bit_at (n / 2 ^ k) i ≡ bit_at n (i + k)
+bit_at_shr n k i = let more : k + i ≡ i + k = omega arith in ap (λ m. m % 2) (div-div-eq-div-mul n (2 ^ k) (2 ^ i) ∙ ap (λ p. n / p) (sym (pow-add 2 k i)) ∙ ap (λ j. n / 2 ^ j) more)
+
+mixed : ℕ → ℕ
+mixed seed = bit_xor (bit_xor (bit_xor seed (seed / 4)) (seed / 8)) (seed / 32)
+
+mixed_bit : (seed n : ℕ) → bit_at (mixed seed) n ≡ next_bit seed n
+unfolding mixed
+mixed_bit seed n =
+    let outer : bit_at (mixed seed) n ≡ (bit_at (bit_xor (bit_xor seed (seed / 4)) (seed / 8)) n + bit_at seed (n + 5)) % 2 =
+    bit_at_xor (bit_xor (bit_xor seed (seed / 4)) (seed / 8)) (seed / 32) n ∙ ap (λ b. (bit_at (bit_xor (bit_xor seed (seed / 4)) (seed / 8)) n + b) % 2) (bit_at_shr seed 5 n) in
+    let middle : bit_at (bit_xor (bit_xor seed (seed / 4)) (seed / 8)) n ≡ (bit_at (bit_xor seed (seed / 4)) n + bit_at seed (n + 3)) % 2 =
+    bit_at_xor (bit_xor seed (seed / 4)) (seed / 8) n ∙ ap (λ b. (bit_at (bit_xor seed (seed / 4)) n + b) % 2) (bit_at_shr seed 3 n) in
+    let inner : bit_at (bit_xor seed (seed / 4)) n ≡ (bit_at seed n + bit_at seed (n + 2)) % 2 =
+    bit_at_xor seed (seed / 4) n ∙ ap (λ b. (bit_at seed n + b) % 2) (bit_at_shr seed 2 n) in
+    summed (bit_at seed n) (bit_at seed (n + 2)) (bit_at seed (n + 3)) (bit_at seed (n + 5)) _ _ _ inner middle outer
+  where
+    summed : (a b c d first mid out : ℕ) → first ≡ (a + b) % 2 → mid ≡ (first + c) % 2 → out ≡ (mid + d) % 2 → out ≡ (a + b + c + d) % 2
+    summed a b c d first mid out e f g = omega arith
+
+low_bits : (n : ℕ) → n % 16 ≡ bit_at n 0 + 2 * bit_at n 1 + 4 * bit_at n 2 + 8 * bit_at n 3
+low_bits n = omega arith
+
+pub new_bits : (seed : ℕ) → bit_and (bit_xor (bit_xor (bit_xor seed (seed / 4)) (seed / 8)) (seed / 32)) 15 ≡ next_offset seed
+unfolding next_offset mixed
+new_bits seed =
+    and_mask (mixed seed) 4 ∙ low_bits (mixed seed)
+    ∙ (λ i. mixed_bit seed 0 i + 2 * mixed_bit seed 1 i + 4 * mixed_bit seed 2 i + 8 * mixed_bit seed 3 i)

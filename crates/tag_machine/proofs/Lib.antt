@@ -1,0 +1,3 @@
+pub mod SetBitsLaws
+pub mod DrawLaws
+pub mod ChoiceLaws

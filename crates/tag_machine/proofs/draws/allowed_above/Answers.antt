@@ -1,0 +1,9 @@
+use Rattle.std.proofs.Common.{◌+◌, ◌-◌, ap, ◌∙◌, arith}
+use Rattle.std.specs.Int.{rotate_right, w16}
+use Rattle.tag_machine.proofs.ChoiceLaws.{allowed_places}
+use Rattle.tag_machine.proofs.draws.allowed_above.Goals as goal
+
+pub returns : goal.returns
+returns c =
+    allowed_places c.args.tag c.args.exclude c.rotate_right.result (omega arith) (omega arith)
+    (c.rotate_right.ensures ∙ ap (λ t. rotate_right w16 (65535 - c.args.exclude) (t + 1)) c.from.ensures)

@@ -1,0 +1,59 @@
+//! Tags, places and granules of addresses.
+ghost use Rattle.machine_theory.specs.Address.{aligned, byte_of, granule_of, logical_tag, place_of, region_start, with_tag};
+ghost use Rattle.std.specs.Prelude.{◌≡◌, ◌+◌, ◌-◌, ◌*◌, ◌<◌, ◌≤◌};
+
+/// The place at which the region begins.
+pub(crate) const REGION_START: u64 = 1 << 36;
+
+/// How far the tag lies above bit 0 of an address.
+const TAG_SHIFT: u32 = 56;
+
+/// The bytes of a granule.
+pub(crate) const GRANULE_BYTES: u64 = 16;
+
+/// Bits 59 to 56.
+pub(crate) fn logical_tag(address: u64) -> u8
+    ensures tag { result ≡ logical_tag address }
+    ensures below { result < 16 }
+{
+    ((address >> TAG_SHIFT) & 0xf) as u8
+}
+
+/// Bits 55 to 0.
+pub(crate) fn place_of(address: u64) -> u64
+    ensures { result ≡ place_of address }
+{
+    address & ((1 << TAG_SHIFT) - 1)
+}
+
+/// The address with this tag, 0 to 15, in place of its own.
+pub(crate) fn with_tag(address: u64, tag: u8) -> u64
+    requires { tag < 16 }
+    ensures { result ≡ with_tag address tag }
+{
+    ((address >> 60) << 60) + (u64::from(tag) << TAG_SHIFT) + place_of(address)
+}
+
+/// The address rounded down to a multiple of 16.
+pub(crate) fn aligned(address: u64) -> u64
+    ensures { result ≡ aligned address }
+{
+    address & !(GRANULE_BYTES - 1)
+}
+
+/// The number of the byte at the address's place, counted from the region's start.
+pub(crate) fn byte_of(address: u64) -> usize
+    requires { region_start ≤ place_of address }
+    ensures { result ≡ byte_of (place_of address) }
+{
+    (place_of(address) - REGION_START) as usize
+}
+
+/// The number of the granule that holds the address's place.
+pub(crate) fn granule_of(address: u64) -> u32
+    requires from { region_start ≤ place_of address }
+    requires to { place_of address < region_start + 16 * 262144 }
+    ensures { result ≡ granule_of (place_of address) }
+{
+    ((place_of(address) - REGION_START) / GRANULE_BYTES) as u32
+}

@@ -1,0 +1,67 @@
+//! Which accesses and which tag stores are refused.
+ghost use Rattle.machine_theory.specs.Access.{IsMapped, access_fault, is_mapped, ok_unless};
+ghost use Rattle.machine_theory.specs.Instructions.{tag_store_fault};
+ghost use Rattle.machine_theory.specs.Memory.{IsMemory};
+ghost use Rattle.std.specs.Prelude.{◌≡◌, ◌↔◌, ◌*◌, ◌%◌, ◌≤◌, IsTrue, OnOk, length};
+
+use crate::addresses::{GRANULE_BYTES, REGION_START, granule_of, logical_tag, place_of};
+use granule_memory::Memory;
+use machine_theory::Fault;
+use machine_theory::laws::access::law_access;
+
+/// Whether each of the `len` bytes, 1 to 64, lies in the region, and bits 63 to 60 of the address are 0.
+pub(crate) fn is_mapped(memory: &Memory, address: u64, len: u64) -> bool
+    requires { (1 ≤ len) × (len ≤ 64) }
+    ensures test { result ≡ is_mapped (length memory.now) address len }
+    ensures mapped { IsTrue result ↔ IsMapped (length memory.now) address len }
+    ensures memory { IsMemory memory.now }
+{
+    let place = place_of(address);
+    let end = REGION_START + GRANULE_BYTES * u64::from(memory.granules());
+    address >> 60 == 0 && place >= REGION_START && place + len <= end
+}
+
+/// The fault of an access of `len` bytes, 1 to 64, whose granules' tags are checked: where it is not mapped, else at the
+/// lowest granule whose tag is not the address's.
+pub(crate) fn check_access(memory: &Memory, address: u64, len: u64) -> Result<(), Fault>
+    requires { (1 ≤ len) × (len ≤ 64) }
+    ensures fault { result ≡ ok_unless (access_fault memory.now address len) }
+    ensures ok { OnOk result (IsMapped (length memory.now) address len) }
+    ensures memory { IsMemory memory.now }
+{
+    law_access();
+    if !is_mapped(memory, address, len) {
+        return Err(Fault::Unmapped);
+    }
+    let pointer_tag = logical_tag(address);
+    let last = granule_of(address + len - 1);
+    for granule in granule_of(address)..last + 1 {
+        let memory_tag = memory.tag(granule);
+        if memory_tag != pointer_tag {
+            return Err(Fault::TagCheck {
+                granule,
+                memory_tag,
+                pointer_tag,
+            });
+        }
+    }
+    Ok(())
+}
+
+/// The fault of a store of tags to `count` granules, 1 or 2, from the address on, if there is one: its alignment first.
+#[tactic(auto, unfolding(machine_theory::specs::Instructions::tag_store_fault))]
+pub(crate) fn check_tag_store(memory: &Memory, count: u64, address: u64) -> Result<(), Fault>
+    requires { (1 ≤ count) × (count ≤ 2) }
+    ensures fault { result ≡ ok_unless (tag_store_fault memory.now count address) }
+    ensures ok { OnOk result (IsMapped (length memory.now) address (16 * count)) }
+    ensures aligned { OnOk result (address % 16 ≡ 0) }
+    ensures memory { OnOk result (IsMemory memory.now) }
+{
+    if address % GRANULE_BYTES != 0 {
+        return Err(Fault::Alignment);
+    }
+    if !is_mapped(memory, address, GRANULE_BYTES * count) {
+        return Err(Fault::Unmapped);
+    }
+    Ok(())
+}

@@ -1,0 +1,18 @@
+//! The modelled machine: memory with tags, the eight tag instructions, and loads and stores that check the tags first.
+//!
+//! Its rules stand in docs/MACHINE.md and, as definitions, in `machine_theory`. A body that begins with the call of a law
+//! cites that law in its proof; the call does nothing.
+#![tactic(auto)]
+
+mod addresses;
+mod checks;
+mod draws;
+mod machine;
+mod set_bits;
+
+pub use machine::Machine;
+pub use machine_theory::Fault;
+pub use machine_theory::laws::tags::law_choose_tag;
+
+#[cfg(test)]
+mod tests;

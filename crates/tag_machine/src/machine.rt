@@ -1,0 +1,210 @@
+ghost use Rattle.machine_theory.specs.Access.{IsMapped, access_fault, is_mapped, loaded, ok_unless, stored};
+ghost use Rattle.machine_theory.specs.Instructions.{addg, after_irg, gmi, irg, ldg, st2g, stg, stzg, subg, tag_store_fault};
+ghost use Rattle.machine_theory.specs.Machine.{IsRegister};
+ghost use Rattle.std.specs.Borrow.{sem};
+ghost use Rattle.std.specs.Prelude.{◌≡◌, ◌≢◌, ◌↔◌, ◌≤◌, IsTrue, OnErr, OnOk, length};
+
+use crate::addresses::{GRANULE_BYTES, aligned, byte_of, granule_of, logical_tag, with_tag};
+use crate::checks::{check_access, check_tag_store, is_mapped};
+use crate::draws::{choose_tag, next_offset, next_seed};
+use granule_memory::Memory;
+use machine_theory::Fault;
+use machine_theory::laws::memory::law_changes;
+use machine_theory::laws::seed::law_register;
+use std::marker::Model;
+
+/// The tags that no instruction chooses, as `GCR_EL1.Exclude`: bit 0, for tag 0.
+const EXCLUDE: u16 = 1;
+
+/// The machine: a memory with tags, and the register `RGSR_EL1` with its fields SEED and TAG.
+///
+/// Each instruction does what the Arm Architecture Reference Manual (Arm DDI 0487) says of it in the Memory Tagging Extension,
+/// with this project's own choice of tags, random bits and order of faults (docs/MACHINE.md). A fault changes nothing.
+#[derive(Drop)]
+pub struct Machine {
+    memory: Memory,
+    seed: u16,
+    tag: u8,
+}
+
+impl Model for Machine {
+    ghost use Rattle.machine_theory.specs.Machine.{Machine as State};
+    ghost use Rattle.std.specs.Prelude.{◌<◌, ◌^◌};
+
+    ghost Value = { State };
+
+    ghost view = { λ m. record { memory = m.memory; seed = m.seed; tag = m.tag } };
+
+    ghost invariant = { λ m. (0 < m.seed) × (m.seed < 2 ^ 16) × (m.tag < 16) };
+}
+
+impl Machine {
+    ghost use Rattle.tag_machine.specs.Lending.{LendsMemory};
+
+    /// The machine over this memory, with SEED `seed`, which is not 0, and TAG 0.
+    pub fn new(memory: Memory, seed: u16) -> Machine
+        requires { seed ≢ 0 }
+        ensures { result ≡ record { memory = memory; seed = seed; tag = 0 } }
+    {
+        Machine {
+            memory,
+            seed,
+            tag: 0,
+        }
+    }
+
+    /// IRG: Xn with a random tag, one that is neither 0 nor excluded by the low sixteen bits of Xm (0 where all tags are excluded).
+    /// TAG becomes that tag, and SEED moves on by four bits.
+    #[tactic(auto, unfolding(machine_theory::specs::Instructions::drawn_tag))]
+    pub fn irg(&mut self, xn: u64, xm: u64) -> u64
+        ensures answer { result ≡ irg self.old xn xm }
+        ensures register { self.new ≡ after_irg self.old xm }
+    {
+        law_register();
+        let exclude = (xm & 0xffff) as u16 | EXCLUDE;
+        self.tag = choose_tag(self.tag, next_offset(self.seed), exclude);
+        self.seed = next_seed(self.seed);
+        with_tag(xn, self.tag)
+    }
+
+    /// ADDG: Xn, `u6` granules (0 to 63) further up modulo 2^64, with the tag that the offset `u4` (0 to 15) chooses from its own on.
+    #[tactic(auto, unfolding(machine_theory::specs::Instructions::addg))]
+    pub fn addg(&self, xn: u64, u6: u8, u4: u8) -> u64
+        requires granules { u6 ≤ 63 }
+        requires steps { u4 ≤ 15 }
+        ensures { result ≡ addg xn u6 u4 }
+    {
+        let up = xn.wrapping_add(GRANULE_BYTES * u64::from(u6));
+        with_tag(up, choose_tag(logical_tag(xn), u4, EXCLUDE))
+    }
+
+    /// SUBG: Xn, `u6` granules (0 to 63) further down modulo 2^64, with the tag that the offset `u4` (0 to 15) chooses from its own
+    /// on: upwards, as ADDG.
+    #[tactic(auto, unfolding(machine_theory::specs::Instructions::subg))]
+    pub fn subg(&self, xn: u64, u6: u8, u4: u8) -> u64
+        requires granules { u6 ≤ 63 }
+        requires steps { u4 ≤ 15 }
+        ensures { result ≡ subg xn u6 u4 }
+    {
+        let down = xn.wrapping_sub(GRANULE_BYTES * u64::from(u6));
+        with_tag(down, choose_tag(logical_tag(xn), u4, EXCLUDE))
+    }
+
+    /// GMI: the mask Xm with the bit set that Xn's tag numbers.
+    #[tactic(auto, unfolding(machine_theory::specs::Instructions::gmi))]
+    pub fn gmi(&self, xn: u64, xm: u64) -> u64
+        ensures { result ≡ gmi xn xm }
+    {
+        xm | 1 << logical_tag(xn)
+    }
+
+    /// LDG: Xt with the tag of the granule that holds Xn. `Unmapped` where that granule lies outside the region. No tag is checked.
+    #[tactic(auto, unfolding(machine_theory::specs::Instructions::ldg))]
+    pub fn ldg(&self, xt: u64, xn: u64) -> Result<u64, Fault>
+        ensures { result ≡ ldg self.now.memory xt xn }
+    {
+        if !is_mapped(&self.memory, aligned(xn), GRANULE_BYTES) {
+            return Err(Fault::Unmapped);
+        }
+        Ok(with_tag(xt, self.memory.tag(granule_of(xn))))
+    }
+
+    /// STG: gives the granule at Xn the tag of Xt. No tag is checked.
+    /// `Alignment` where Xn is no multiple of 16, else `Unmapped` where the granule lies outside the region.
+    pub fn stg(&mut self, xt: u64, xn: u64) -> Result<(), Fault>
+        ensures answer { result ≡ ok_unless (tag_store_fault self.old.memory 1 xn) }
+        ensures ok { OnOk result (self.new ≡ record self.old { memory = stg self.old.memory xt xn }) }
+        ensures err { OnErr result (self.new ≡ self.old) }
+    {
+        check_tag_store(&self.memory, 1, xn)?;
+        self.memory.set_tag(granule_of(xn), logical_tag(xt));
+        Ok(())
+    }
+
+    /// ST2G: gives the two granules from Xn on the tag of Xt; its faults are those of STG, for both granules.
+    pub fn st2g(&mut self, xt: u64, xn: u64) -> Result<(), Fault>
+        ensures answer { result ≡ ok_unless (tag_store_fault self.old.memory 2 xn) }
+        ensures ok { OnOk result (self.new ≡ record self.old { memory = st2g self.old.memory xt xn }) }
+        ensures err { OnErr result (self.new ≡ self.old) }
+    {
+        law_changes();
+        check_tag_store(&self.memory, 2, xn)?;
+        let granule = granule_of(xn);
+        let tag = logical_tag(xt);
+        self.memory.set_tag(granule, tag);
+        self.memory.set_tag(granule + 1, tag);
+        Ok(())
+    }
+
+    /// STZG: as STG, and makes the granule's sixteen bytes 0.
+    pub fn stzg(&mut self, xt: u64, xn: u64) -> Result<(), Fault>
+        ensures answer { result ≡ ok_unless (tag_store_fault self.old.memory 1 xn) }
+        ensures ok { OnOk result (self.new ≡ record self.old { memory = stzg self.old.memory xt xn }) }
+        ensures err { OnErr result (self.new ≡ self.old) }
+    {
+        check_tag_store(&self.memory, 1, xn)?;
+        let granule = granule_of(xn);
+        self.memory.set_tag(granule, logical_tag(xt));
+        self.memory.zero_granule(granule);
+        Ok(())
+    }
+
+    /// Reads as many bytes as `buf` has, 1 to 64, from the address on.
+    /// `Unmapped` where one of them lies outside the region or bits 63 to 60 of the address are not 0; else `TagCheck` with the
+    /// lowest granule that holds one of them and has another tag than the address; then `buf` stays as it was.
+    pub fn load(&self, address: u64, buf: &mut [u8]) -> Result<(), Fault>
+        requires { (1 ≤ length buf.old) × (length buf.old ≤ 64) }
+        ensures answer { result ≡ ok_unless (access_fault self.now.memory address (length buf.old)) }
+        ensures ok { OnOk result (buf.new ≡ loaded self.now.memory address (length buf.old)) }
+        ensures err { OnErr result (buf.new ≡ buf.old) }
+    {
+        check_access(&self.memory, address, buf.len() as u64)?;
+        self.memory.read_bytes(byte_of(address), buf);
+        Ok(())
+    }
+
+    /// Writes these bytes, 1 to 64 of them, from the address on. Its faults are those of `load`.
+    pub fn store(&mut self, address: u64, bytes: &[u8]) -> Result<(), Fault>
+        requires { (1 ≤ length bytes.now) × (length bytes.now ≤ 64) }
+        ensures answer { result ≡ ok_unless (access_fault self.old.memory address (length bytes.now)) }
+        ensures ok { OnOk result (self.new ≡ record self.old { memory = stored self.old.memory address bytes.now }) }
+        ensures err { OnErr result (self.new ≡ self.old) }
+    {
+        check_access(&self.memory, address, bytes.len() as u64)?;
+        self.memory.write_bytes(byte_of(address), bytes);
+        Ok(())
+    }
+
+    /// Whether all of the `len` bytes (1 to 64) from the address on lie in the region, and bits 63 to 60 of the address are 0.
+    pub fn mapped(&self, address: u64, len: usize) -> bool
+        requires { (1 ≤ len) × (len ≤ 64) }
+        ensures test { result ≡ is_mapped (length self.now.memory) address len }
+        ensures mapped { IsTrue result ↔ IsMapped (length self.now.memory) address len }
+    {
+        is_mapped(&self.memory, address, len as u64)
+    }
+
+    /// The register: TAG, 0 to 15, and SEED, which is never 0.
+    pub fn rgsr(&self) -> (u8, u16)
+        ensures tag { result.0 ≡ self.now.tag }
+        ensures seed { result.1 ≡ self.now.seed }
+        ensures register { IsRegister self.now }
+    {
+        (self.tag, self.seed)
+    }
+
+    /// The memory.
+    pub fn memory(&self) -> &Memory
+        ensures { result.now ≡ self.now.memory }
+    {
+        &self.memory
+    }
+
+    /// The memory, to be changed: what is written there stands in the machine, and the register stays.
+    pub fn memory_mut(&mut self) -> &mut Memory
+        ensures* lends { sem 𝓛 (LendsMemory self.entry result) }
+        ensures value { result.now ≡ self.old.memory }
+    {
+        &mut self.memory
+    }
+}
