@@ -3,3 +3,4 @@ pub mod Legal
 pub mod Spelled
 pub mod Walk
 pub mod Words
+pub mod Written

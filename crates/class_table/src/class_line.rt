@@ -1,12 +1,17 @@
-ghost use Rattle.std.specs.Prelude.{◌≡◌, ◌<◌, ◌≤◌, [], ◌∷◌, ◌++◌, true, false, length, IfOk};
-ghost use Rattle.class_table.specs.ClassLine.{numbers_of, table_of, table_of_line, table_of_numbers};
+ghost use Rattle.std.specs.Prelude.{◌≡◌, ◌<◌, ◌≤◌, ◌+◌, [], ◌∷◌, ◌++◌, true, false, codes, length, IfOk};
+ghost use Rattle.line_text.specs.Lines.{ended};
+ghost use Rattle.class_table.specs.ClassLine.{class_line, numbers_of, table_of, table_of_line, table_of_numbers};
 ghost use Rattle.class_table.specs.Faults.{Gives};
 ghost use Rattle.class_table.specs.Tables.{IsLegalTable};
 
 use crate::fault::TableError;
 use crate::table::{ClassTable, MOST_CLASSES};
 use arrayvec::ArrayVec;
+use itoa::Buffer;
 use line_text::{Words, capped_number_in, lines_in, words_in};
+
+/// The most bytes of a class line with its newline: `classes`, and 32 times a space and four digits.
+pub const LINE_BYTES: usize = 168;
 
 // the first word of a class line
 const NAME: &[u8] = b"classes";
@@ -30,6 +35,37 @@ impl ClassTable {
             return Err(TableError::BadLine);
         }
         table_in(line)
+    }
+
+    /// Writes the class line with its newline, in place of what `line` holds; `read_line` gives the table back.
+    pub fn write_line(&self, line: &mut ArrayVec<u8, LINE_BYTES>)
+        ensures { line.new.items ≡ ended (class_line self.now) }
+    {
+        line.clear();
+        append(line, NAME);
+        append_classes(line, &self.classes);
+        line.push(b'\n');
+    }
+}
+
+// appends bytes for which there is room
+fn append(line: &mut ArrayVec<u8, LINE_BYTES>, bytes: &[u8])
+    requires { length line.old.items + length bytes.now ≤ LINE_BYTES }
+    ensures { line.new.items ≡ line.old.items ++ bytes.now }
+{
+    let _ = line.try_extend_from_slice(bytes);
+}
+
+// appends a space and the number of each class to a line's words
+fn append_classes(line: &mut ArrayVec<u8, LINE_BYTES>, classes: &[u16])
+    requires legal { IsLegalTable 1 classes.now }
+    requires name { line.old.items ≡ codes "classes" }
+    ensures classes { line.new.items ≡ class_line classes.now }
+    ensures room { length line.new.items < LINE_BYTES }
+{
+    for class in classes {
+        line.push(b' ');
+        append(line, Buffer::new().format(*class).as_bytes());
     }
 }
 

@@ -1,4 +1,5 @@
 ghost use Rattle.std.specs.Prelude.{◌≡◌, ◌≤◌, IsTrue};
+ghost use Rattle.class_table.specs.Steps.{IsStep, round_up};
 ghost use Rattle.class_table.specs.Sizes.{need_of, loss_of, serves};
 
 /// The bytes of a granule.
@@ -35,4 +36,14 @@ pub fn loss(n: u32, class: u16) -> u32
     ensures { result ≡ loss_of n class }
 {
     (GRANULE_BYTES * u32::from(class)).saturating_sub(GRANULE_BYTES) - n
+}
+
+/// A need in granules (2 to 1024), rounded up to the least multiple of the step (1, 2, 4 or 8) that is not below it: at most 1024 too.
+pub fn round_up(need: u32, step: u8) -> u32
+    requires need { (2 ≤ need) × (need ≤ 1024) }
+    requires step { IsStep step }
+    ensures rounded { result ≡ round_up need step }
+    ensures in_range { (need ≤ result) × (result ≤ 1024) }
+{
+    need.next_multiple_of(u32::from(step))
 }

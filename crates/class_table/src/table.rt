@@ -1,7 +1,8 @@
 ghost use Rattle.std.specs.Prelude.{◌≡◌, ◌↔◌, ◌<◌, ◌≤◌, List, ℕ, [], length, slice_index, slice_get, Some, IsFalse, IsTrue, IfSome, IfNone, IfOk, All};
 ghost use Rattle.class_table.specs.Sizes.{serves};
 ghost use Rattle.class_table.specs.Faults.{Gives, fault_from, is_out_of_range, table_of_classes};
-ghost use Rattle.class_table.specs.Tables.{IsLegalTable, IsLeastServing, class_number_for};
+ghost use Rattle.class_table.specs.Tables.{FitsStep, IsLegalTable, IsLeastServing, class_number_for};
+ghost use Rattle.class_table.specs.Steps.{IsStep};
 
 use crate::fault::TableError;
 use crate::sizes::{LARGEST_CLASS, SMALLEST_CLASS, serves};
@@ -14,7 +15,7 @@ pub const MOST_CLASSES: usize = 32;
 /// A class table: block sizes in granules from 2 to 1024, strictly ascending, at most 32 of them. It is always legal, and may be empty.
 #[derive(Debug, Drop)]
 pub struct ClassTable {
-    classes: ArrayVec<u16, MOST_CLASSES>,
+    pub(crate) classes: ArrayVec<u16, MOST_CLASSES>,
 }
 
 impl Model for ClassTable {
@@ -70,6 +71,14 @@ impl ClassTable {
         self.classes[number]
     }
 
+    /// Whether each class is a multiple of the step (1, 2, 4 or 8): whether the table is legal for blocks that come in such multiples.
+    pub fn fits(&self, step: u8) -> bool
+        requires { IsStep step }
+        ensures { IsTrue result ↔ FitsStep step self.now }
+    {
+        are_multiples(&self.classes, u16::from(step))
+    }
+
     /// The number of the least class that serves a request of `n` bytes, counted from 0, or none where no class does.
     pub fn find(&self, n: u32) -> Option<usize>
         ensures number { result ≡ class_number_for self.now n }
@@ -85,6 +94,14 @@ fn number_for(classes: &[u16], n: u32) -> Option<usize>
     ensures { result ≡ class_number_for classes.now n }
 {
     classes.iter().position(|class| serves(n, *class))
+}
+
+// whether each class is a multiple of the step
+fn are_multiples(classes: &[u16], step: u16) -> bool
+    requires { 0 < step }
+    ensures { IsTrue result ↔ FitsStep step classes.now }
+{
+    classes.iter().all(|class| class % step == 0)
 }
 
 // whether the number is no class

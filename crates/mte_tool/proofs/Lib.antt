@@ -1,2 +1,3 @@
+pub mod Answering
 pub mod Moves
 pub mod Scoring

@@ -9,7 +9,7 @@ use Rattle.profile_count.specs.ProfileText.{profile_of_lines, profile_of}
 use Rattle.tuner_theory.specs.Waste.{Profile as Counted}
 use Rattle.mte_tool.specs.Outcome.{GivesAnswer}
 use Rattle.mte_tool.specs.Parts.{GivesPart, table_part, profile_part}
-use Rattle.mte_tool.specs.Score.{score_of, scored}
+use Rattle.mte_tool.specs.Score.{ScoreAnswers, score_of, scored}
 use Rattle.mte_tool.specs.declared.fault.InputFault.TheVariants.{Table}
 use Rattle.mte_tool.specs.declared.fault.ToolFault.{ToolFault}
 use Rattle.mte_tool.specs.declared.fault.ToolFault.TheVariants.{OutOfMemory, Input, ReadFault, WriteFault}
@@ -23,7 +23,7 @@ unfolding score_of
 no_line text none = rw none refl
 
 pub table_refused : (text line : List ℕ) (ls : List (List ℕ)) (fault : ToolFault) → lines text ≡ line ∷ ls → GivesPart {A = List ℕ} (Err fault) (table_part (table_of_line line))
-    → GivesAnswer (Err fault) (score_of text)
+    → GivesAnswer (Err fault) (ScoreAnswers text)
 unfolding score_of
 table_refused text line ls OutOfMemory parts gives = tt
 table_refused text line ls (Input fault) parts gives = rw (parts, gives) refl
@@ -31,7 +31,7 @@ table_refused text line ls ReadFault parts gives = gives
 table_refused text line ls WriteFault parts gives = gives
 
 pub profile_refused : (text line table rest : List ℕ) (ls : List (List ℕ)) (fault : ToolFault) → lines text ≡ line ∷ ls → table_part (table_of_line line) ≡ Ok table → lines rest ≡ ls
-    → GivesPart {A = Counted} (Err fault) (profile_part 1 (profile_of rest)) → GivesAnswer (Err fault) (score_of text)
+    → GivesPart {A = Counted} (Err fault) (profile_part 1 (profile_of rest)) → GivesAnswer (Err fault) (ScoreAnswers text)
 unfolding score_of
 profile_refused text line table rest ls OutOfMemory parts read same gives = tt
 profile_refused text line table rest ls (Input fault) parts read same gives =

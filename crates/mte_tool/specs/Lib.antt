@@ -4,3 +4,4 @@ pub mod Outcome
 pub mod Parts
 pub mod Score
 pub mod Streams
+pub mod Tune

@@ -1,5 +1,5 @@
 -- What `score` answers: the waste of a table on a profile, or the least counted size that the table doesn't serve.
-use Rattle.std.specs.Prelude.{ℕ, List, [], ◌∷◌, codes, Option, Some, None, Result, Ok, Err}
+use Rattle.std.specs.Prelude.{◌≡◌, ℕ, List, [], ◌∷◌, codes, Option, Some, None, Result, Ok, Err}
 use Rattle.std.specs.Fmt.{decimal}
 use Rattle.line_text.specs.Lines.{lines, line_of, ended}
 use Rattle.class_table.specs.ClassLine.{table_of_line}
@@ -31,3 +31,7 @@ score_of_lines (line ∷ ls) = do
 
 unfoldable pub score_of : List ℕ → Result Answer InputFault
 score_of input = score_of_lines (lines input)
+
+-- The one answer to a text.
+abbrev pub ScoreAnswers : List ℕ → Result Answer InputFault → Type 0
+ScoreAnswers text answer = score_of text ≡ answer

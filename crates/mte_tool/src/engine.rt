@@ -30,13 +30,13 @@ pub struct Answered {
 
 /// The part of an engine between its input and its output.
 pub trait TextEngine {
-    // What is written for a text, with its status, or the text's first fault.
-    ghost answer_of: { Self → List ℕ → Result Answer Refusal };
+    // What may be written for a text, with its status, or be told as its first fault.
+    ghost answers: { Self → List ℕ → Result Answer Refusal → Type 0 };
 
     /// What is written for a text. All that the engine has to allocate is allocated here. Errors are the text's first fault
     /// (`Input`) and `OutOfMemory`.
     fn answer(&self, alloc: Global, text: &[u8]) -> Result<Answered, ToolFault>
-        ensures { GivesAnswer result (answer_of self.now text.now) };
+        ensures { GivesAnswer result (answers self.now text.now) };
 }
 
 /// Reads the whole input, and writes the engine's answer to it and nothing else. All growths are made before the first write.
@@ -52,7 +52,7 @@ pub fn run_engine<E: TextEngine, R: ByteSource, W: ByteSink>(
     requires sink { W.failed sink.old < 2 ^ 63 }
     ensures read_fault { (result ≡ Err ReadFault) ↔ (R.failed source.old < R.failed source.new) }
     ensures write_fault { (result ≡ Err WriteFault) ↔ (W.failed sink.old < W.failed sink.new) }
-    ensures answer { TellsFor (E.answer_of engine.now) (R.remaining source.old) (W.taken sink.old) (W.taken sink.new) result }
+    ensures answer { TellsFor (E.answers engine.now) (R.remaining source.old) (W.taken sink.old) (W.taken sink.new) result }
     ensures quiet { IsQuiet sink.old sink.new result }
     ensures consumed { IfOk result (λ _. IsAtEnd (R.remaining source.new)) }
 {

@@ -20,6 +20,14 @@ pub enum InputFault {
     Profile(u64, ProfileFault),
 }
 
+/// What is wrong with the program's own words where each by itself is in its range; shown as its code and name.
+#[derive(Debug, Clone, Copy, PartialEq, Eq, Error)]
+pub enum OptionFault {
+    /// A step that is not 1, 2, 4 or 8. Nothing was read.
+    #[error("83 BadOption")]
+    BadOption,
+}
+
 /// Why an engine gave no answer; each is shown as its code and name, and the line where it has one.
 #[derive(Debug, Clone, Copy, PartialEq, Eq, Error)]
 pub enum ToolFault {

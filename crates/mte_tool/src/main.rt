@@ -12,6 +12,7 @@ mod standard;
 mod streams;
 #[cfg(test)]
 mod tests;
+mod tune;
 mod words;
 
 use std::process::ExitCode;

@@ -3,12 +3,13 @@ ghost use Rattle.std.specs.Prelude.{◌≡◌};
 ghost use Rattle.mte_tool.specs.Exit.{status_of};
 
 use crate::engine::Status;
-use crate::fault::ToolFault;
+use crate::fault::{OptionFault, ToolFault};
 use crate::score::score;
 use crate::standard::{StreamSink, StreamSource};
-use crate::words::command;
-use clap::Error;
+use crate::tune::tune;
+use crate::words::{LIMIT, STEP, command};
 use clap::error::ErrorKind;
+use clap::{ArgMatches, Error};
 use std::io::writer;
 use std::rt::Env;
 
@@ -30,9 +31,13 @@ pub fn run<R: Env + AllocGlobal + Input + Print + Eprint>(rt: &R) -> u8 {
     let Ok(command) = command(rt.alloc()) else {
         return finish(rt, Err(ToolFault::OutOfMemory));
     };
-    match command.try_get_matches_from(words.as_slice()) {
-        Ok(_) => run_score(rt),
-        Err(error) => refuse(rt, &error),
+    let matches = match command.try_get_matches_from(words.as_slice()) {
+        Ok(matches) => matches,
+        Err(error) => return refuse(rt, &error),
+    };
+    match matches.subcommand_matches("tune") {
+        Some(options) => run_tune(rt, options),
+        None => run_score(rt),
     }
 }
 
@@ -46,6 +51,27 @@ fn run_score<R: AllocGlobal + Input + Print + Eprint>(rt: &R) -> u8 {
     let mut source = StreamSource::new(rt.reader());
     let mut sink = StreamSink::new(writer(rt));
     finish(rt, score(rt.alloc(), &mut source, &mut sink))
+}
+
+// `tune` from standard input to standard output
+fn run_tune<R: AllocGlobal + Input + Print + Eprint>(rt: &R, options: &ArgMatches<'_>) -> u8 {
+    let (Some(limit @ 1..=32), Some(step @ (1 | 2 | 4 | 8))) = (
+        options.get_one::<u8>(LIMIT),
+        options.get_one::<u8>(STEP),
+    ) else {
+        return refuse_option(rt);
+    };
+    let mut source = StreamSource::new(rt.reader());
+    let mut sink = StreamSink::new(writer(rt));
+    finish(rt, tune(rt.alloc(), limit, step, &mut source, &mut sink))
+}
+
+// says on standard error that an option's number, though in its range, is none of those that there are
+fn refuse_option<R: Eprint>(rt: &R) -> u8
+    ensures { result ≡ 2 }
+{
+    let _ = eprintln!(rt; "error {}", OptionFault::BadOption);
+    REFUSED
 }
 
 // says on standard error why there is no answer, where there is none, and gives the exit status

@@ -4,7 +4,7 @@ ghost use Rattle.std.specs.Fmt.{decimal};
 ghost use Rattle.mte_tool.specs.declared.fault.ToolFault.TheVariants.{ReadFault, WriteFault};
 ghost use Rattle.std.specs.Io.KnownBytes.{IsAtEnd};
 ghost use Rattle.mte_tool.specs.Outcome.{TellsFor, IsQuiet, GivesAnswer};
-ghost use Rattle.mte_tool.specs.Score.{score_of, scored};
+ghost use Rattle.mte_tool.specs.Score.{ScoreAnswers, scored};
 
 use crate::engine::{Answered, Status, TextEngine, run_engine};
 use crate::fault::{InputFault, ToolFault};
@@ -31,7 +31,7 @@ pub fn score<R: ByteSource, W: ByteSink>(
     requires sink { W.failed sink.old < 2 ^ 63 }
     ensures read_fault { (result ≡ Err ReadFault) ↔ (R.failed source.old < R.failed source.new) }
     ensures write_fault { (result ≡ Err WriteFault) ↔ (W.failed sink.old < W.failed sink.new) }
-    ensures answer { TellsFor score_of (R.remaining source.old) (W.taken sink.old) (W.taken sink.new) result }
+    ensures answer { TellsFor ScoreAnswers (R.remaining source.old) (W.taken sink.old) (W.taken sink.new) result }
     ensures quiet { IsQuiet sink.old sink.new result }
     ensures consumed { IfOk result (λ _. IsAtEnd (R.remaining source.new)) }
 {
@@ -41,7 +41,7 @@ pub fn score<R: ByteSource, W: ByteSink>(
 struct ScoreEngine;
 
 impl TextEngine for ScoreEngine {
-    ghost answer_of = { λ _ text. score_of text };
+    ghost answers = { λ _. ScoreAnswers };
 
     fn answer(&self, alloc: Global, text: &[u8]) -> Result<Answered, ToolFault> {
         score_of_text(alloc, text)
@@ -50,7 +50,7 @@ impl TextEngine for ScoreEngine {
 
 // the answer to a text
 fn score_of_text(alloc: Global, text: &[u8]) -> Result<Answered, ToolFault>
-    ensures { GivesAnswer result (score_of text.now) }
+    ensures { GivesAnswer result (ScoreAnswers text.now) }
 {
     law_lines();
     let mut lines = lines_in(text);

@@ -1,6 +1,12 @@
 //! The words that the program takes, and what it says of itself.
-use clap::Command;
+use clap::{Arg, Command, value_parser};
 use std::alloc::{AllocError, Global};
+
+/// The option of `tune` for the most classes.
+pub const LIMIT: &str = "limit";
+
+/// The option of `tune` for the granules that each class is a multiple of.
+pub const STEP: &str = "step";
 
 const ABOUT: &str =
     "Size-class tables for a heap: how many bytes they waste on what a program really allocates.";
@@ -38,6 +44,38 @@ Refused input, with status 2:
 Failures, with status 3:
   1 OutOfMemory, 81 ReadFault, 82 WriteFault";
 
+const TUNE_ABOUT: &str = "Find the class table that wastes least on a profile, with a certificate";
+
+const TUNE_LONG: &str = "\
+Find the class table that wastes least on a profile, with a certificate.
+
+Standard input is a profile:
+
+  SIZE COUNT           a requested size in bytes, 0 to 16368, and how often it was requested, 1 to 1000000000; sizes strictly ascend
+  large COUNT          how often more than 16368 bytes were requested, if they were; it is the last line, and is not in the waste
+
+Written is a sheet:
+
+  classes C1 C2 ..     the table: of those that waste least and whose every class is used, the first in lexicographic order
+  limit K              the most classes that it might have
+  step S               each class is a multiple of it; no such line for 1
+  waste W              the bytes that all requests together leave unused in their blocks; no table of at most K classes wastes less
+  row N1 N2 ..         K rows: row k, number i is the least waste with at most k classes of the requests behind the i-1 smallest distinct needs
+
+The first numbers of the rows are the least wastes for 1, 2, .. K classes. The rows show that the waste is the least, whoever looks at them.";
+
+const TUNE_AFTER: &str = "\
+Example:
+  printf '16 3\\n40 1\\n' | mte_tool tune --limit 2
+writes the lines `classes 2 4`, `limit 2`, `waste 8`, `row 104 8` and `row 8 8`: one class would waste 104 bytes, two waste 8.
+
+Refused, with status 2:
+  83 BadOption                                               a step that is not 1, 2, 4 or 8; nothing is read then
+  30 BadLine, 31 NotAscending, 32 CountOutOfRange            a line of the profile: no such line, or no such size; a size not above the one before; a count out of range
+  80 InputTooLong                                            more than 67108864 bytes
+Failures, with status 3:
+  1 OutOfMemory, 81 ReadFault, 82 WriteFault";
+
 /// The command with its subcommands.
 pub fn command<'a>(alloc: Global) -> Result<Command<'a>, AllocError> {
     Command::new(alloc, "mte_tool")
@@ -46,7 +84,8 @@ pub fn command<'a>(alloc: Global) -> Result<Command<'a>, AllocError> {
         .after_help(AFTER)
         .subcommand_required(true)
         .arg_required_else_help(true)
-        .subcommand(score_command(alloc))
+        .subcommand(score_command(alloc))?
+        .subcommand(tune_command(alloc)?)
 }
 
 fn score_command<'a>(alloc: Global) -> Command<'a> {
@@ -54,4 +93,31 @@ fn score_command<'a>(alloc: Global) -> Command<'a> {
         .about(SCORE_ABOUT)
         .long_about(SCORE_LONG)
         .after_help(SCORE_AFTER)
+}
+
+fn tune_command<'a>(alloc: Global) -> Result<Command<'a>, AllocError> {
+    Command::new(alloc, "tune")
+        .about(TUNE_ABOUT)
+        .long_about(TUNE_LONG)
+        .after_help(TUNE_AFTER)
+        .arg(limit_option(alloc))?
+        .arg(step_option(alloc))
+}
+
+fn limit_option<'a>(alloc: Global) -> Arg<'a> {
+    Arg::new(alloc, LIMIT)
+        .long("limit")
+        .value_name("K")
+        .required(true)
+        .value_parser(value_parser!(u8).range(1..=32))
+        .help("The most classes that the table may have, 1 to 32")
+}
+
+fn step_option<'a>(alloc: Global) -> Arg<'a> {
+    Arg::new(alloc, STEP)
+        .long("step")
+        .value_name("S")
+        .default_value("1")
+        .value_parser(value_parser!(u8).range(1..=8))
+        .help("Each class is a multiple of so many granules: 1, 2, 4 or 8")
 }

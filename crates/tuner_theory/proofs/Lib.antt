@@ -1,2 +1,14 @@
+pub mod Bound
+pub mod Canonical
+pub mod ExampleProfiles
+pub mod ExampleSheets
+pub mod LeastRows
+pub mod Needs
+pub mod Rests
+pub mod Rounding
+pub mod Sheets
+pub mod Spans
 pub mod Sums
+pub mod Tables
+pub mod TunedTable
 pub mod Waste

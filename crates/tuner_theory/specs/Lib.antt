@@ -1,1 +1,9 @@
+pub mod Best
+pub mod Laws
+pub mod Potentials
+pub mod Rests
+pub mod Rows
+pub mod Sheets
+pub mod Spans
+pub mod Tuned
 pub mod Waste

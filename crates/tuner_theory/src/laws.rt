@@ -1,6 +1,35 @@
-//! What is true of every profile and table; each law is the contract of a function that does nothing.
+//! What is true of every profile, table and certificate; each law is the contract of a function that does nothing.
+//! A crate above uses a law by calling its function: the call costs nothing, and its `ensures` are facts from there on.
 ghost use Rattle.std.specs.Prelude.{ℕ, ◌^◌, ◌<◌, List};
 ghost use Rattle.class_table.specs.Tables.{IsLegalTable};
+ghost use Rattle.tuner_theory.specs.Laws.{
+  CountedHasPlace,
+  EndsAreLater,
+  EndsAscend,
+  FewPlaces,
+  LeastRowsAreValid,
+  NeedsCross,
+  NothingBetween,
+  OneCanonical,
+  OneRest,
+  OneVerdict,
+  OptimalIsBest,
+  PlaceIsClass,
+  PlaceIsCounted,
+  PlacesAscend,
+  PlacesCross,
+  PotentialsBound,
+  RoundingFits,
+  RoundingIsLeast,
+  SpansFit,
+  SumsAscend,
+  SumsFit,
+  SumsTellWaste,
+  TunedRowsAreRests,
+  TunedSheetIsOptimal,
+  TunedTableIsCanonical,
+  TunedTableWastes,
+};
 ghost use Rattle.tuner_theory.specs.Waste.{AreCounts, waste_of};
 
 use class_table::laws::law_class_for;
@@ -11,3 +40,77 @@ pub fn law_waste_fits()
 {
     law_class_for();
 }
+
+/// A rounded need is the least multiple of the step that is not below the need, and fits the largest class where the need does.
+pub fn law_round_up()
+    ensures least { RoundingIsLeast }
+    ensures fits { RoundingFits }
+{}
+
+/// The places are the distinct rounded needs of the counted sizes, ascending; each is a class, and there are at most 1,023.
+pub fn law_places()
+    ensures ascend { PlacesAscend }
+    ensures counted { PlaceIsCounted }
+    ensures has { CountedHasPlace }
+    ensures class { PlaceIsClass }
+    ensures few { FewPlaces }
+{}
+
+/// Exchanging the ends of two spans that cross never wastes less. This is what lets a tuner halve its search.
+pub fn law_crossing_spans()
+    ensures needs { NeedsCross }
+    ensures places { PlacesCross }
+    ensures nothing { NothingBetween }
+{}
+
+/// The waste of a span fits 64 bits.
+pub fn law_spans_fit()
+    ensures { SpansFit }
+{}
+
+/// The waste between two needs is told by two sums up to a need, and each step of telling it fits 64 bits.
+pub fn law_prefix_sums()
+    ensures waste { SumsTellWaste }
+    ensures ascend { SumsAscend }
+    ensures fit { SumsFit }
+{}
+
+/// Valid potentials bound the waste of every table in question from below.
+pub fn law_potentials_bound()
+    ensures { PotentialsBound }
+{}
+
+/// A sheet that meets all that a checker looks at has a best table, whoever wrote it.
+pub fn law_optimal_is_best()
+    ensures { OptimalIsBest }
+{}
+
+/// A sheet has one verdict.
+pub fn law_one_verdict()
+    ensures { OneVerdict }
+{}
+
+/// Least rows: their ends are behind their places, and their numbers are valid potentials.
+pub fn law_least_rows()
+    ensures ends { EndsAreLater }
+    ensures valid { LeastRowsAreValid }
+{}
+
+/// Where spans cross, a later place has no earlier least end.
+pub fn law_ends_ascend()
+    ensures { EndsAscend }
+{}
+
+/// The numbers of least rows over the spans of a profile are the least rests, and a least rest is one number.
+pub fn law_rests()
+    ensures rows { TunedRowsAreRests }
+    ensures one { OneRest }
+{}
+
+/// The table that least rows tell is the canonical one, which is one table; it wastes what they say, and its sheet breaks no condition.
+pub fn law_tuned_table()
+    ensures canonical { TunedTableIsCanonical }
+    ensures wastes { TunedTableWastes }
+    ensures optimal { TunedSheetIsOptimal }
+    ensures one { OneCanonical }
+{}

@@ -1,4 +1,8 @@
-//! The theory of size-class tables: profiles and the waste of a table. Definitions, and laws that are contracts of functions that do nothing.
+//! The theory of size-class tables: what a table wastes on a profile, which tables waste least, the certificates that show it,
+//! and the rows from which a best table is read off. Definitions, and laws that are contracts of functions that do nothing.
 #![tactic(auto)]
 
 pub mod laws;
+mod verdict;
+
+pub use verdict::{Refusal, Verdict};

@@ -19,12 +19,19 @@ pub fn source(input: &[u8]) -> MemorySource<'_>
     }
 }
 
-/// A sink over memory that takes all at once, with room for the texts of the tests.
+/// A sink over memory that takes all at once, with room for the short texts of the tests.
 pub fn sink(alloc: Global) -> Result<MemorySink, AllocError>
     ensures { IfOk result (λ s. s.failed ≡ 0) }
 {
+    sink_with_room(alloc, 4096)
+}
+
+/// A sink over memory that takes all at once, with room for a text of so many bytes.
+pub fn sink_with_room(alloc: Global, room: usize) -> Result<MemorySink, AllocError>
+    ensures { IfOk result (λ s. s.failed ≡ 0) }
+{
     Ok(MemorySink {
-        text: Vec::with_capacity(alloc, 4096)?,
+        text: Vec::with_capacity(alloc, room)?,
         most: usize::MAX,
         until_failure: None,
         failed: 0,

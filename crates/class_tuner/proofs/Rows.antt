@@ -1,0 +1,145 @@
+-- Rows of least costs, one after another.
+use Rattle.std.proofs.Common.{◌≡◌, ℕ, zero, suc, ◌+◌, ◌-◌, ◌<◌, ◌≤◌, List, [], ◌∷◌, ◌++◌, length, length-append, slice_index, get_or, arith, refl, ap, sym, subst, ◌∙◌, inl, inr}
+use Rattle.std.specs.Prelude.{Vec, slice_index_or}
+use Rattle.std.specs.declared.alloc.Global.{Global}
+use Rattle.std.proofs.lemmas.Bool.{cases_lt}
+use Rattle.std.proofs.lemmas.List.{get_or_append_left, get_or_past, get_or-map}
+use Rattle.std.proofs.lemmas.List.Elements.{All-push}
+use Rattle.std.proofs.Math.Seq.{get_or-append_seam}
+use Rattle.class_tuner.specs.Filling.{IsFilledWithin}
+use Rattle.potential_check.specs.Lists.{lists_of}
+use Rattle.tuner_theory.specs.Rows.{HasShape, IsFilled, IsLeastEnd, number_at}
+
+-- ---- numbers in rows
+
+number_at-old : (rows : List (List ℕ)) (row : List ℕ) (k i : ℕ) → 1 ≤ k → k ≤ length rows → number_at (rows ++ row ∷ []) k i ≡ number_at rows k i
+number_at-old rows row k i one le = ap (λ (r : List ℕ). slice_index r i) (get_or_append_left rows (row ∷ []) [] (k - 1) (omega arith))
+
+number_at-new : (rows : List (List ℕ)) (row : List ℕ) (k i : ℕ) → length rows ≡ k → number_at (rows ++ row ∷ []) (suc k) i ≡ slice_index row i
+number_at-new rows row k i size =
+    let last : suc k - 1 ≡ length rows = omega arith in
+    ap (λ m. slice_index (get_or (rows ++ row ∷ []) m []) i) last ∙ ap (λ (r : List ℕ). slice_index r i) (get_or-append_seam rows row [] [])
+
+number_at-end : (rows : List (List ℕ)) (limit d : ℕ) → HasShape rows limit d → (k : ℕ) → number_at rows k d ≡ 0
+number_at-end rows limit d shape k =
+    elim (cases_lt (k - 1) (length rows)) [
+      | inl inside ↦ get_or_past (slice_index_or rows (k - 1) []) d 0 (omega (arith, shape.row_lengths (k - 1) [] inside))
+      | inr past ↦ ap (λ (row : List ℕ). slice_index row d) (get_or_past rows (k - 1) [] past)
+    ]
+
+shape-pushed : (rows : List (List ℕ)) (row : List ℕ) (k d : ℕ) → HasShape rows k d → length row ≡ d → HasShape (rows ++ row ∷ []) (suc k) d
+shape-pushed rows row k d shape len = record {
+  row_count = omega (arith, length-append {A = List ℕ} rows (row ∷ []), shape.row_count);
+  row_lengths = All-push (λ (r : List ℕ). length r ≡ d) rows row shape.row_lengths len;
+}
+
+shape-one : (row : List ℕ) (d : ℕ) → length row ≡ d → HasShape (row ∷ []) 1 d
+shape-one row d len = shape-pushed [] row 0 d (record { row_count = refl; row_lengths = λ k def lt. absurd (omega arith) }) len
+
+-- ---- one row
+
+-- at place i, `number` is the least cost, and `end` has it, where the row before has the numbers `before`
+record IsLeastAt (cost : ℕ → ℕ → ℕ) (d : ℕ) (before : ℕ → ℕ) (i number end : ℕ) : Type 0 where
+  least : IsLeastEnd (λ j. cost i j + before j) i d end
+  is : number ≡ cost i end + before end
+
+least-same : (cost : ℕ → ℕ → ℕ) (d : ℕ) (before before' : ℕ → ℕ) (i number number' end end' : ℕ)
+    → ((j : ℕ) → before' j ≡ before j) → number' ≡ number → end' ≡ end → IsLeastAt cost d before i number end → IsLeastAt cost d before' i number' end'
+least-same cost d before before' i number number' end end' same same_number same_end l =
+    rw (same_number, same_end) (record {
+      least = record {
+        after = l.least.after;
+        within = l.least.within;
+        least = λ m lt le. omega (arith, same end, same m, l.least.least m lt le);
+        first = λ m lt lt_end. omega (arith, same end, same m, l.least.first m lt lt_end);
+      };
+      is = omega (arith, l.is, same end);
+    })
+
+-- ---- rows
+
+pub filled-first : (cost : ℕ → ℕ → ℕ) (d : ℕ) (row ends : List ℕ) → length row ≡ d → length ends ≡ d
+    → ((i : ℕ) → i < d → slice_index row i ≡ cost i d) → ((i : ℕ) → i < d → slice_index ends i ≡ d)
+    → IsFilled cost d 1 (row ∷ []) (ends ∷ [])
+filled-first cost d row ends row_len ends_len row_is ends_is = record {
+  rows_shape = shape-one row d row_len;
+  ends_shape = shape-one ends d ends_len;
+  least = record {
+    at_end = number_at-end (row ∷ []) 1 d (shape-one row d row_len);
+    first_row = λ i some lt. (row_is i lt, ends_is i lt);
+    later_row = λ k i some few lt. absurd (omega arith);
+  };
+}
+
+filled-more : (cost : ℕ → ℕ → ℕ) (d k : ℕ) (rows ends : List (List ℕ)) (row end : List ℕ) → 1 ≤ k → IsFilled cost d k rows ends
+    → length row ≡ d → length end ≡ d → IsFilledWithin cost d (slice_index_or rows (k - 1) []) row end 0 d
+    → IsFilled cost d (suc k) (rows ++ row ∷ []) (ends ++ end ∷ [])
+filled-more cost d k rows ends row end one f row_len end_len within = record {
+  rows_shape = shape-pushed rows row k d f.rows_shape row_len;
+  ends_shape = shape-pushed ends end k d f.ends_shape end_len;
+  least = record {
+    at_end = number_at-end (rows ++ row ∷ []) (suc k) d (shape-pushed rows row k d f.rows_shape row_len);
+    first_row = λ i some lt.
+        let old = f.least.first_row i one lt in
+        (number_at-old rows row 1 i (omega arith) (omega (arith, f.rows_shape.row_count)) ∙ old.0, number_at-old ends end 1 i (omega arith) (omega (arith, f.ends_shape.row_count)) ∙ old.1);
+    later_row = λ m i some few lt. let l = later m i some few lt in (l.least, l.is);
+  };
+}
+  where
+    later : (m i : ℕ) → 1 ≤ m → m < suc k → i < d
+        → IsLeastAt cost d (number_at (rows ++ row ∷ []) m) i (number_at (rows ++ row ∷ []) (suc m) i) (number_at (ends ++ end ∷ []) (suc m) i)
+    later m i some few lt =
+        let before : (j : ℕ) → number_at (rows ++ row ∷ []) m j ≡ number_at rows m j = (λ j. number_at-old rows row m j some (omega (arith, f.rows_shape.row_count))) in
+        elim (cases_lt m k) [
+          | inl inside ↦ (let old = f.least.later_row m i some inside lt in
+              least-same cost d (number_at rows m) (number_at (rows ++ row ∷ []) m) i _ _ _ _ before
+              (number_at-old rows row (suc m) i (omega arith) (omega (arith, f.rows_shape.row_count)))
+              (number_at-old ends end (suc m) i (omega arith) (omega (arith, f.ends_shape.row_count)))
+              (record { least = old.0; is = old.1 }))
+          | inr past ↦ (let last : m ≡ k = omega arith in
+              let new = within i (omega arith) lt in
+              let at_last : (j : ℕ) → number_at (rows ++ row ∷ []) m j ≡ slice_index (slice_index_or rows (k - 1) []) j = (λ j. before j ∙ ap (λ n. number_at rows n j) last) in
+              least-same cost d (slice_index (slice_index_or rows (k - 1) [])) (number_at (rows ++ row ∷ []) m) i _ _ _ _ at_last
+              (number_at-new rows row m i (omega (arith, f.rows_shape.row_count))) (number_at-new ends end m i (omega (arith, f.ends_shape.row_count)))
+              (record { least = new.0; is = new.1 }))
+        ]
+
+-- no number is above the largest cost of a span to the last place
+pub filled-small : (cost : ℕ → ℕ → ℕ) (d limit bound : ℕ) (rows ends : List (List ℕ)) → IsFilled cost d limit rows ends
+    → ((i : ℕ) → i < d → cost i d ≤ bound) → (k j : ℕ) → 1 ≤ k → k ≤ limit → number_at rows k j ≤ bound
+filled-small cost d limit bound rows ends f small k j one le =
+    elim (cases_lt j d) [
+      | inl inside ↦ at k one le inside
+      | inr past ↦ omega (
+        arith,
+        get_or_past (slice_index_or rows (k - 1) []) j 0 (omega (arith, f.rows_shape.row_lengths (k - 1) [] (omega (arith, f.rows_shape.row_count)))),
+      )
+    ]
+  where
+    at : (k : ℕ) → 1 ≤ k → k ≤ limit → j < d → number_at rows k j ≤ bound
+    at zero one le lt = absurd (omega arith)
+    at (suc zero) one le lt = omega (arith, (f.least.first_row j (omega arith) lt).0, small j lt)
+    at (suc (suc k)) one le lt =
+        let row = f.least.later_row (suc k) j (omega arith) (omega arith) lt in
+        omega (arith, row.1, row.0.least d lt (omega arith), f.least.at_end (suc k), small j lt)
+
+-- ---- rows in vectors
+
+lists-length : (vectors : List (Vec ℕ Global)) → length (lists_of vectors) ≡ length vectors
+lists-length [] = refl
+lists-length (v ∷ vs) = ap suc (lists-length vs)
+
+-- a row that was read, by its vector
+pub row-read : (cost : ℕ → ℕ → ℕ) (d limit k : ℕ) (rows : List (Vec ℕ Global)) (ends : List (List ℕ)) (v : Vec ℕ Global) (row : List ℕ) → k < limit
+    → IsFilled cost d limit (lists_of rows) ends → v ≡ slice_index_or rows k v → row ≡ v.items → row ≡ slice_index_or (lists_of rows) k []
+row-read cost d limit k rows ends v row lt f at is =
+    let inside : k < length rows = omega (arith, f.rows_shape.row_count, lists-length rows) in
+    is ∙ (ap (λ (v : Vec ℕ Global). v.items) at ∙ sym (get_or-map (λ (v : Vec ℕ Global). v.items) rows k v [] inside))
+
+pub filled-pushed : (cost : ℕ → ℕ → ℕ) (d k : ℕ) (rows ends rows' ends' : List (List ℕ)) (row end before : List ℕ) → 1 ≤ k
+    → IsFilled cost d k rows ends → length row ≡ d → length end ≡ d
+    → before ≡ slice_index_or rows (k - 1) [] → IsFilledWithin cost d before row end 0 d
+    → rows' ≡ rows ++ row ∷ [] → ends' ≡ ends ++ end ∷ [] → IsFilled cost d (suc k) rows' ends'
+filled-pushed cost d k rows ends rows' ends' row end before one f row_len end_len at within rows_are ends_are =
+    rw (rows_are, ends_are)
+    (filled-more cost d k rows ends row end one f row_len end_len (subst (λ (b : List ℕ). IsFilledWithin cost d b row end 0 d) at within))

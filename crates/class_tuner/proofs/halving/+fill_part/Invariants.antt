@@ -1,0 +1,5 @@
+use Rattle.std.proofs.Common.{◌-◌}
+use Rattle.class_tuner.proofs.halving.+fill_part.Given as goal
+
+abbrev pub decreases-fill_part : goal.decreases-fill_part
+decreases-fill_part g l = l.part.stop - l.part.start

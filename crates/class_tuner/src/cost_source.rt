@@ -1,0 +1,65 @@
+ghost use Rattle.std.specs.Prelude.{◌≡◌, ℕ, ◌+◌, ◌^◌, ◌<◌, ◌≤◌};
+ghost use Rattle.tuner_theory.specs.Spans.{IsCrossing};
+
+/// A source of the costs of spans, which counts how often it was asked for one. A span goes from a place to a later one;
+/// places are counted from 1, and place 0 is before them all. Code over any source knows a cost by `at` alone.
+pub trait CostSource {
+    /// What the span from one place to another costs.
+    ghost cost: { Self → ℕ → ℕ → ℕ };
+
+    /// How many places there are.
+    ghost place_count: { Self → ℕ };
+
+    /// How often `at` was called.
+    ghost call_count: { Self → ℕ };
+
+    /// The same source with another count of calls.
+    ghost with_calls: { Self → ℕ → Self };
+
+    /// How many places there are.
+    fn places(&self) -> usize
+        ensures { result ≡ place_count self.now };
+
+    /// How often `at` was called.
+    fn calls(&self) -> u64
+        ensures { result ≡ call_count self.now };
+
+    /// What the span from place `i` to a later place `j` costs. The count of calls, fewer than 2^63 before, rises by 1, and nothing else changes.
+    fn at(&mut self, i: usize, j: usize) -> u64
+        requires order { i < j }
+        requires within { j ≤ place_count self.old }
+        requires room { call_count self.old < 2 ^ 63 }
+        ensures cost { result ≡ cost self.old i j }
+        ensures counted { self.new ≡ with_calls self.old (call_count self.old + 1) };
+
+    /// No cost is above 2^60.
+    ghost is_small: { (s : Self) (i j : ℕ) → i < j → j ≤ place_count s → cost s i j ≤ 2 ^ 60 };
+
+    /// Exchanging the ends of two spans that cross never costs less.
+    ghost is_crossing: { (s : Self) → IsCrossing (cost s) (place_count s) };
+
+    /// `with_calls` sets the count of calls, and nothing else.
+    ghost sets_calls: { (s : Self) (n : ℕ) → call_count (with_calls s n) ≡ n };
+
+    ghost keeps_cost: { (s : Self) (n : ℕ) → cost (with_calls s n) ≡ cost s };
+
+    ghost keeps_places: { (s : Self) (n : ℕ) → place_count (with_calls s n) ≡ place_count s };
+
+    ghost keeps_last: { (s : Self) (m n : ℕ) → with_calls (with_calls s m) n ≡ with_calls s n };
+
+    ghost keeps_all: { (s : Self) → with_calls s (call_count s) ≡ s };
+}
+
+// What the span from i to j costs, asked of the source; what that leaves as it was is said for callers that ask often.
+pub(crate) fn ask<C: CostSource>(costs: &mut C, i: usize, j: usize) -> u64
+    requires order { i < j }
+    requires within { j ≤ C.place_count costs.old }
+    requires room { C.call_count costs.old < 2 ^ 63 }
+    ensures cost { result ≡ C.cost costs.old i j }
+    ensures counted { C.call_count costs.new ≡ C.call_count costs.old + 1 }
+    ensures kept { costs.new ≡ C.with_calls costs.old (C.call_count costs.new) }
+    ensures same_cost { C.cost costs.new ≡ C.cost costs.old }
+    ensures same_places { C.place_count costs.new ≡ C.place_count costs.old }
+{
+    costs.at(i, j)
+}

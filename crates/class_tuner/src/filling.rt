@@ -1,0 +1,124 @@
+ghost use Rattle.std.specs.Prelude.{◌≡◌, ℕ, ◌+◌, ◌-◌, ◌*◌, ◌^◌, ◌<◌, ◌≤◌, [], ◌∷◌, ◌++◌, length, slice_index, IfOk, OnOk};
+ghost use Rattle.class_tuner.specs.Filling.{IsFilledWithin, bits, most_calls};
+ghost use Rattle.potential_check.specs.Lists.{lists_of};
+ghost use Rattle.tuner_theory.specs.Rows.{IsFilled};
+
+use crate::cost_source::{CostSource, ask};
+use crate::halving::{Part, fill_part};
+use std::alloc::{AllocError, Global};
+
+/// Rows of least costs, and where each is reached. Row k, counted from 1, has at each place the least cost of serving all places above it
+/// with at most k spans; its end is the least place to which the first of these spans may go.
+#[derive(Debug, Drop)]
+pub struct Filled {
+    /// One row of costs for each number of spans, one number for each place from 0 on but the last.
+    pub rows: Vec<Vec<u64>>,
+    /// The least ends, in the same shape.
+    pub ends: Vec<Vec<usize>>,
+}
+
+// a row and its ends
+#[derive(Drop)]
+struct Row {
+    costs: Vec<u64>,
+    ends: Vec<usize>,
+}
+
+impl Filled {
+    // puts a row behind the others
+    fn push(&mut self, row: Row) -> Result<(), AllocError>
+        ensures rows { OnOk result (lists_of self.new.rows.items ≡ lists_of self.old.rows.items ++ row.costs.items ∷ []) }
+        ensures ends { OnOk result (lists_of self.new.ends.items ≡ lists_of self.old.ends.items ++ row.ends.items ∷ []) }
+    {
+        self.rows.push(row.costs)?;
+        self.ends.push(row.ends)?;
+        Ok(())
+    }
+}
+
+/// The first `limit` (1 to 32) rows of least costs over a source of at most 1,023 places that was asked fewer than 2^62 times.
+/// Over D places, at least one, the source is asked at most `limit * ((D - 1) * bits(D) + D)` times, `bits(D)` being the number of binary digits of D;
+/// over none it is not asked. An error only where memory was refused; nothing but the count of calls changes then too.
+pub fn fill_rows<C: CostSource>(
+    alloc: Global,
+    costs: &mut C,
+    limit: u8,
+) -> Result<Filled, AllocError>
+    requires some { 1 ≤ limit }
+    requires few { limit ≤ 32 }
+    requires places { C.place_count costs.old ≤ 1023 }
+    requires room { C.call_count costs.old < 2 ^ 62 }
+    ensures filled { IfOk result
+        (λ f. IsFilled (C.cost costs.old) (C.place_count costs.old) limit (lists_of f.rows.items) (lists_of f.ends.items)) }
+    ensures counted { C.call_count costs.new ≤ C.call_count costs.old + most_calls limit (C.place_count costs.old) }
+    ensures kept { costs.new ≡ C.with_calls costs.old (C.call_count costs.new) }
+{
+    let mut filled = Filled {
+        rows: Vec::new(alloc),
+        ends: Vec::new(alloc),
+    };
+    let first = first_row(alloc, costs)?;
+    filled.push(first)?;
+    for k in 1..limit as usize {
+        let next = next_row(alloc, costs, &filled.rows[k - 1])?;
+        filled.push(next)?;
+    }
+    Ok(filled)
+}
+
+// the first row: one span from each place to the last one
+fn first_row<C: CostSource>(alloc: Global, costs: &mut C) -> Result<Row, AllocError>
+    requires few { C.place_count costs.old ≤ 1023 }
+    requires room { C.call_count costs.old + C.place_count costs.old ≤ 2 ^ 63 }
+    ensures costs { let d = C.place_count costs.old in IfOk result (λ r. (i : ℕ) → i < d → slice_index r.costs.items i ≡ C.cost costs.old i d) }
+    ensures ends { let d = C.place_count costs.old in IfOk result (λ r. (i : ℕ) → i < d → slice_index r.ends.items i ≡ d) }
+    ensures costs_length { IfOk result (λ r. length r.costs.items ≡ C.place_count costs.old) }
+    ensures ends_length { IfOk result (λ r. length r.ends.items ≡ C.place_count costs.old) }
+    ensures counted { C.call_count costs.new ≤ C.call_count costs.old + C.place_count costs.old }
+    ensures kept { costs.new ≡ C.with_calls costs.old (C.call_count costs.new) }
+    ensures same_cost { C.cost costs.new ≡ C.cost costs.old }
+    ensures same_places { C.place_count costs.new ≡ C.place_count costs.old }
+{
+    let places = costs.places();
+    let mut row = Vec::new(alloc);
+    for i in 0..places {
+        row.push(ask(costs, i, places))?;
+    }
+    let ends = vec![in alloc; places; places]?;
+    Ok(Row { costs: row, ends })
+}
+
+// the row after another one
+fn next_row<C: CostSource>(alloc: Global, costs: &mut C, before: &[u64]) -> Result<Row, AllocError>
+    requires few { C.place_count costs.old ≤ 1023 }
+    requires before_length { length before.now ≡ C.place_count costs.old }
+    requires small { (j : ℕ) → slice_index before.now j ≤ 2 ^ 60 }
+    requires room { C.call_count costs.old + 1024 * C.place_count costs.old ≤ 2 ^ 63 }
+    ensures filled { let d = C.place_count costs.old in
+        IfOk result (λ r. IsFilledWithin (C.cost costs.old) d before.now r.costs.items r.ends.items 0 d) }
+    ensures costs_length { IfOk result (λ r. length r.costs.items ≡ C.place_count costs.old) }
+    ensures ends_length { IfOk result (λ r. length r.ends.items ≡ C.place_count costs.old) }
+    ensures counted { let d = C.place_count costs.old in C.call_count costs.new ≤ C.call_count costs.old + ((d - 1) * bits d + d) }
+    ensures kept { costs.new ≡ C.with_calls costs.old (C.call_count costs.new) }
+    ensures same_cost { C.cost costs.new ≡ C.cost costs.old }
+    ensures same_places { C.place_count costs.new ≡ C.place_count costs.old }
+{
+    let places = costs.places();
+    let mut row = vec![in alloc; 0u64; places]?;
+    let mut ends = vec![in alloc; places; places]?;
+    if places > 0 {
+        fill_part(
+            costs,
+            before,
+            &mut row,
+            &mut ends,
+            Part {
+                start: 0,
+                stop: places,
+                low: 1,
+                high: places,
+            },
+        );
+    }
+    Ok(Row { costs: row, ends })
+}

@@ -1,0 +1,111 @@
+//! One row by halving: the middle place first, and then the places on either side of it, each with ends on their side of its least end.
+//! Where spans cross, a later place has no earlier least end, so no end is tried in vain on both sides.
+ghost use Rattle.std.specs.Prelude.{◌≡◌, ℕ, ◌+◌, ◌-◌, ◌*◌, ◌^◌, ◌<◌, ◌≤◌, length, slice_index};
+ghost use Rattle.class_tuner.specs.Filling.{AreEndsBetween, IsFilledWithin, IsKeptOutside, end_cost};
+ghost use Rattle.tuner_theory.specs.Rows.{IsLeastEnd};
+
+use crate::cost_source::{CostSource, ask};
+use tuner_theory::laws::law_ends_ascend;
+
+/// A part of the places, from `start` up to `stop`, and the window of ends from `low` to `high` in which their least ends are.
+#[derive(Clone, Copy)]
+pub(crate) struct Part {
+    pub start: usize,
+    pub stop: usize,
+    pub low: usize,
+    pub high: usize,
+}
+
+// Fills a part of a row and of its ends, `before` being the row before it.
+pub(crate) fn fill_part<C: CostSource>(
+    costs: &mut C,
+    before: &[u64],
+    row: &mut [u64],
+    ends: &mut [usize],
+    part: Part,
+)
+    requires places { C.place_count costs.old ≤ 1023 }
+    requires before_length { length before.now ≡ C.place_count costs.old }
+    requires row_length { length row.old ≡ C.place_count costs.old }
+    requires ends_length { length ends.old ≡ C.place_count costs.old }
+    requires order { part.start ≤ part.stop }
+    requires behind { part.stop ≤ part.high }
+    requires window { part.low ≤ part.high }
+    requires within { part.high ≤ C.place_count costs.old }
+    requires small { (j : ℕ) → slice_index before.now j ≤ 2 ^ 60 }
+    requires room { C.call_count costs.old + 1024 * (part.stop - part.start) ≤ 2 ^ 63 }
+    requires between { AreEndsBetween (C.cost costs.old) (C.place_count costs.old) before.now part.start part.stop part.low part.high }
+    ensures filled { IsFilledWithin (C.cost costs.old) (C.place_count costs.old) before.now row.new ends.new part.start part.stop }
+    ensures row_kept { IsKeptOutside row.old row.new part.start part.stop }
+    ensures ends_kept { IsKeptOutside ends.old ends.new part.start part.stop }
+    ensures counted { (b : ℕ) → part.stop - part.start < 2 ^ b
+        → C.call_count costs.new ≤ C.call_count costs.old + (part.high - part.low) * b + (part.stop - part.start) }
+    ensures room { C.call_count costs.new ≤ C.call_count costs.old + 1024 * (part.stop - part.start) }
+    ensures kept { costs.new ≡ C.with_calls costs.old (C.call_count costs.new) }
+    ensures same_cost { C.cost costs.new ≡ C.cost costs.old }
+    ensures same_places { C.place_count costs.new ≡ C.place_count costs.old }
+{
+    law_ends_ascend();
+    if part.start < part.stop {
+        let middle = part.start + (part.stop - part.start) / 2;
+        let first = part.low.max(middle + 1);
+        let (cost, end) = least_end(costs, before, middle, first, part.high);
+        row[middle] = cost;
+        ends[middle] = end;
+        let left = Part {
+            stop: middle,
+            high: end,
+            ..part
+        };
+        let right = Part {
+            start: middle + 1,
+            low: end,
+            ..part
+        };
+        fill_part(costs, before, row, ends, left);
+        fill_part(costs, before, row, ends, right);
+    }
+}
+
+// The least cost of a place over its ends from `low` to `high`, with the least end that has it.
+fn least_end<C: CostSource>(
+    costs: &mut C,
+    before: &[u64],
+    place: usize,
+    low: usize,
+    high: usize,
+) -> (u64, usize)
+    requires places { C.place_count costs.old ≤ 1023 }
+    requires length { length before.now ≡ C.place_count costs.old }
+    requires order { place < low }
+    requires some { low ≤ high }
+    requires within { high ≤ C.place_count costs.old }
+    requires small { (j : ℕ) → slice_index before.now j ≤ 2 ^ 60 }
+    requires room { C.call_count costs.old + (high - low) + 1 ≤ 2 ^ 63 }
+    requires ends { (e : ℕ) → IsLeastEnd (end_cost (C.cost costs.old) before.now place) place (C.place_count costs.old) e → (low ≤ e) × (e ≤ high) }
+    ensures least { IsLeastEnd (end_cost (C.cost costs.old) before.now place) place (C.place_count costs.old) result.1 }
+    ensures cost { result.0 ≡ end_cost (C.cost costs.old) before.now place result.1 }
+    ensures window { (low ≤ result.1) × (result.1 ≤ high) }
+    ensures counted { C.call_count costs.new ≡ C.call_count costs.old + (high - low) + 1 }
+    ensures kept { costs.new ≡ C.with_calls costs.old (C.call_count costs.new) }
+    ensures same_cost { C.cost costs.new ≡ C.cost costs.old }
+    ensures same_places { C.place_count costs.new ≡ C.place_count costs.old }
+{
+    let mut end = low;
+    let mut least = ask(costs, place, low) + number_at(before, low);
+    for j in low + 1..high + 1 {
+        let cost = ask(costs, place, j) + number_at(before, j);
+        if cost < least {
+            least = cost;
+            end = j;
+        }
+    }
+    (least, end)
+}
+
+// the number of a row at a place, and 0 past its end
+fn number_at(row: &[u64], place: usize) -> u64
+    ensures { result ≡ slice_index row.now place }
+{
+    row.get(place).copied().unwrap_or(0)
+}

@@ -1,0 +1,18 @@
+//! The tuner: for a profile, a limit and a step, the class table of least waste with its certificate. The rows of the certificate
+//! are filled by halving, over a source of costs that counts how often it is asked.
+#![tactic(auto)]
+
+mod cost_source;
+mod costs;
+mod filling;
+mod halving;
+pub mod laws;
+mod table;
+#[cfg(test)]
+mod tests;
+mod tuning;
+
+pub use cost_source::CostSource;
+pub use costs::Costs;
+pub use filling::{Filled, fill_rows};
+pub use tuning::{Tuned, tune};

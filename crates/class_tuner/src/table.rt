@@ -1,0 +1,53 @@
+ghost use Rattle.std.specs.Prelude.{◌≡◌, ℕ, ◌+◌, ◌-◌, ◌<◌, ◌≤◌};
+ghost use Rattle.class_table.specs.Tables.{IsLegalTable};
+ghost use Rattle.potential_check.specs.Lists.{lists_of};
+ghost use Rattle.tuner_theory.specs.Rows.{number_at};
+ghost use Rattle.tuner_theory.specs.Spans.{places};
+ghost use Rattle.tuner_theory.specs.Tuned.{tuned_table};
+
+use arrayvec::ArrayVec;
+use class_table::laws::law_faults;
+use class_table::{ClassTable, MOST_CLASSES};
+use potential_check::Spans;
+
+// The table that the ends tell: the need at the end of place 0 in the last row, and on from there in the row before.
+pub(crate) fn table_of_ends(spans: &Spans<'_>, ends: &[Vec<usize>], limit: u8) -> ClassTable
+    requires few { limit ≤ 32 }
+    requires later { (k i : ℕ) → 1 ≤ k → k ≤ limit → i < places spans.now.counts spans.now.step
+        → (i < number_at (lists_of ends.now) k i) × (number_at (lists_of ends.now) k i ≤ places spans.now.counts spans.now.step) }
+    requires legal { IsLegalTable 1 (tuned_table spans.now.counts spans.now.step limit (number_at (lists_of ends.now))) }
+    ensures { result ≡ tuned_table spans.now.counts spans.now.step limit (number_at (lists_of ends.now)) }
+{
+    law_faults();
+    let classes = classes_of_ends(spans, ends, limit);
+    ClassTable::from_classes(&classes).unwrap()
+}
+
+// the classes of that table
+fn classes_of_ends(spans: &Spans<'_>, ends: &[Vec<usize>], limit: u8) -> ArrayVec<u16, MOST_CLASSES>
+    requires few { limit ≤ 32 }
+    requires later { (k i : ℕ) → 1 ≤ k → k ≤ limit → i < places spans.now.counts spans.now.step
+        → (i < number_at (lists_of ends.now) k i) × (number_at (lists_of ends.now) k i ≤ places spans.now.counts spans.now.step) }
+    ensures { result.items ≡ tuned_table spans.now.counts spans.now.step limit (number_at (lists_of ends.now)) }
+{
+    let mut classes = ArrayVec::new();
+    let mut place = 0;
+    for done in 0..limit as usize {
+        if place < spans.places() {
+            place = end_at(ends, limit as usize - done, place);
+            classes.push(spans.need(place));
+        }
+    }
+    classes
+}
+
+// the end in row k, counted from 1, at a place; 0 past the row's end
+fn end_at(ends: &[Vec<usize>], k: usize, place: usize) -> usize
+    requires { 1 ≤ k }
+    ensures { result ≡ number_at (lists_of ends.now) k place }
+{
+    match ends.get(k - 1) {
+        Some(row) => row.get(place).copied().unwrap_or(0),
+        None => 0,
+    }
+}

@@ -1,0 +1,271 @@
+//! The rows and tables of small profiles, worked by hand, and how often a source is asked for its costs.
+ghost use Rattle.std.specs.Prelude.{◌≡◌, ℕ, ◌+◌, ◌-◌, ◌*◌, ◌^◌, ◌<◌, ◌≤◌, refl};
+ghost use Rattle.std.proofs.Common.{arith};
+ghost use Rattle.std.proofs.Math.Nat.{mul-le-mul};
+
+use crate::cost_source::CostSource;
+use crate::costs::Costs;
+use crate::filling::fill_rows;
+use crate::tuning::tune;
+use profile_count::Profile;
+use std::test::Fail;
+
+// the places of the source below
+const PLACES: usize = 1023;
+
+// a source of costs that are the squares of the spans' lengths
+#[derive(Drop)]
+struct Squares {
+    calls: u64,
+}
+
+impl CostSource for Squares {
+    ghost cost = { λ s i j. (j - i) * (j - i) };
+
+    ghost place_count = { λ s. 1023 };
+
+    ghost call_count = { λ s. s.calls };
+
+    ghost with_calls = { λ s n. record { calls = n } };
+
+    fn places(&self) -> usize {
+        PLACES
+    }
+
+    fn calls(&self) -> u64 {
+        self.calls
+    }
+
+    fn at(&mut self, i: usize, j: usize) -> u64 {
+        self.calls += 1;
+        let length = (j - i) as u64;
+        length * length
+    }
+
+    ghost is_small = { λ s i j lt le. let short : j - i ≤ 1023 = Prim.omega arith in Prim.omega (arith, mul-le-mul short short) };
+
+    ghost is_crossing = { λ s a b c e ab bc ce le.
+        let left : c - a ≡ (b - a) + (c - b) = Prim.omega arith in
+        let right : e - b ≡ (c - b) + (e - c) = Prim.omega arith in
+        let whole : e - a ≡ (b - a) + (c - b) + (e - c) = Prim.omega arith in
+        Prim.rw (left, right, whole) (Prim.omega arith) };
+
+    ghost sets_calls = { λ s n. refl };
+
+    ghost keeps_cost = { λ s n. refl };
+
+    ghost keeps_places = { λ s n. refl };
+
+    ghost keeps_last = { λ s m n. refl };
+
+    ghost keeps_all = { λ s. refl };
+}
+
+// three requests of 16 bytes and one of 40; one request each of 16, 32 and 48 bytes
+const TWO_SIZES: &[u8] = b"16 3\n40 1\n";
+
+const THREE_SIZES: &[u8] = b"16 1\n32 1\n48 1\n";
+
+// What tune has to answer for a profile, a limit and a step; the last row stands for all later ones too.
+struct Case {
+    profile: &'static [u8],
+    limit: u8,
+    step: u8,
+    classes: &'static [u16],
+    waste: u64,
+    rows: &'static [&'static [u64]],
+}
+
+const CASES: [Case; 10] = [
+    Case {
+        profile: TWO_SIZES,
+        limit: 1,
+        step: 1,
+        classes: &[4],
+        waste: 104,
+        rows: &[&[104, 8]],
+    },
+    Case {
+        profile: TWO_SIZES,
+        limit: 2,
+        step: 1,
+        classes: &[2, 4],
+        waste: 8,
+        rows: &[&[104, 8], &[8, 8]],
+    },
+    Case {
+        profile: TWO_SIZES,
+        limit: 32,
+        step: 1,
+        classes: &[2, 4],
+        waste: 8,
+        rows: &[&[104, 8], &[8, 8]],
+    },
+    Case {
+        profile: b"",
+        limit: 1,
+        step: 1,
+        classes: &[],
+        waste: 0,
+        rows: &[&[]],
+    },
+    Case {
+        profile: THREE_SIZES,
+        limit: 2,
+        step: 1,
+        classes: &[2, 4],
+        waste: 16,
+        rows: &[&[48, 16, 0], &[16, 0, 0]],
+    },
+    Case {
+        profile: b"0 1\n",
+        limit: 1,
+        step: 1,
+        classes: &[2],
+        waste: 16,
+        rows: &[&[16]],
+    },
+    Case {
+        profile: b"16368 1\nlarge 1\n",
+        limit: 1,
+        step: 1,
+        classes: &[1024],
+        waste: 0,
+        rows: &[&[0]],
+    },
+    Case {
+        profile: THREE_SIZES,
+        limit: 2,
+        step: 2,
+        classes: &[2, 4],
+        waste: 16,
+        rows: &[&[48, 16], &[16, 16]],
+    },
+    Case {
+        profile: THREE_SIZES,
+        limit: 1,
+        step: 8,
+        classes: &[8],
+        waste: 240,
+        rows: &[&[240]],
+    },
+    Case {
+        profile: TWO_SIZES,
+        limit: 2,
+        step: 4,
+        classes: &[4],
+        waste: 104,
+        rows: &[&[104], &[104]],
+    },
+];
+
+#[test]
+fn tunes_small_profiles(rt: HostRuntime) -> Result<(), Fail> {
+    for case in &CASES {
+        let profile = Profile::read(rt.alloc(), case.profile)?;
+        let (limit, step) = (case.limit, case.step);
+        assert!(rt; limit >= 1 && limit <= 32);
+        assert!(rt; step == 1 || step == 2 || step == 4 || step == 8);
+        let tuned = tune(rt.alloc(), &profile, limit, step)?;
+        let sheet = tuned.sheet();
+        assert_eq!(rt; sheet.limit, limit);
+        assert_eq!(rt; sheet.step, step);
+        assert_eq!(rt; sheet.waste, case.waste, "limit {limit} step {step}");
+        assert_eq!(rt;
+            sheet.table.len(),
+            case.classes.len(),
+            "limit {limit} step {step}"
+        );
+        for (number, class) in case.classes.iter().enumerate() {
+            assert_eq!(rt;
+                sheet.table.class(number),
+                *class,
+                "class {number}, limit {limit} step {step}"
+            );
+        }
+        assert_eq!(rt;
+            sheet.rows.len(),
+            limit as usize,
+            "limit {limit} step {step}"
+        );
+        assert!(rt; case.rows.len() > 0);
+        for index in 0..sheet.rows.len() {
+            let row = case.rows[index.min(case.rows.len() - 1)];
+            assert_eq!(rt;
+                sheet.rows.row(index),
+                row,
+                "row {index}, limit {limit} step {step}"
+            );
+        }
+    }
+    Ok(())
+}
+
+#[test]
+fn counts_what_it_asks(rt: HostRuntime) -> Result<(), Fail> {
+    for case in &CASES {
+        let profile = Profile::read(rt.alloc(), case.profile)?;
+        let (limit, step) = (case.limit, case.step);
+        assert!(rt; limit >= 1 && limit <= 32);
+        assert!(rt; step == 1 || step == 2 || step == 4 || step == 8);
+        let mut costs = Costs::new(rt.alloc(), &profile, step)?;
+        assert_eq!(rt; costs.calls(), 0);
+        let _filled = fill_rows(rt.alloc(), &mut costs, limit)?;
+        let tuned = tune(rt.alloc(), &profile, limit, step)?;
+        assert_eq!(rt;
+            tuned.evaluations(),
+            costs.calls(),
+            "limit {limit} step {step}"
+        );
+    }
+    Ok(())
+}
+
+#[test]
+fn evaluations_of_small_profiles(rt: HostRuntime) -> Result<(), Fail> {
+    let two = Profile::read(rt.alloc(), TWO_SIZES)?;
+    let evaluations = tune(rt.alloc(), &two, 2, 1)?.evaluations();
+    assert!(rt; evaluations >= 2 && evaluations <= 8);
+    let none = Profile::read(rt.alloc(), b"")?;
+    assert_eq!(rt; tune(rt.alloc(), &none, 1, 1)?.evaluations(), 0);
+    Ok(())
+}
+
+// the places of a profile, and the waste of each span of them
+const TWO_SPANS: [(usize, usize, u64); 3] = [(0, 1, 0), (0, 2, 104), (1, 2, 8)];
+
+const THREE_SPANS: [(usize, usize, u64); 6] = [
+    (0, 1, 0),
+    (0, 2, 16),
+    (0, 3, 48),
+    (1, 2, 0),
+    (1, 3, 16),
+    (2, 3, 0),
+];
+
+#[test]
+fn span_wastes_of_small_profiles(rt: HostRuntime) -> Result<(), Fail> {
+    for (text, places, spans) in [
+        (TWO_SIZES, 2, TWO_SPANS.as_slice()),
+        (THREE_SIZES, 3, THREE_SPANS.as_slice()),
+    ] {
+        let profile = Profile::read(rt.alloc(), text)?;
+        let mut costs = Costs::new(rt.alloc(), &profile, 1)?;
+        assert_eq!(rt; costs.places(), places);
+        for (i, j, waste) in spans {
+            assert!(rt; *i < *j && *j <= costs.places());
+            assert!(rt; costs.calls() < 6);
+            assert_eq!(rt; costs.at(*i, *j), *waste, "from {i} to {j}");
+        }
+        assert_eq!(rt; costs.calls(), spans.len() as u64);
+    }
+    Ok(())
+}
+
+#[test]
+fn halves_a_thousand_places(rt: HostRuntime) -> Result<(), Fail> {
+    let mut squares = Squares { calls: 0 };
+    let _filled = fill_rows(rt.alloc(), &mut squares, 32)?;
+    assert!(rt; squares.calls() > 0 && squares.calls() <= 359_776);
+    Ok(())
+}

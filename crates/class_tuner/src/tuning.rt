@@ -1,0 +1,109 @@
+ghost use Rattle.std.specs.Prelude.{◌≡◌, ◌<◌, ◌≤◌, IfOk};
+ghost use Rattle.class_tuner.specs.Filling.{most_calls};
+ghost use Rattle.class_tuner.specs.Tuned.{AreRests, IsTuned};
+ghost use Rattle.potential_check.specs.Lists.{lists_of};
+ghost use Rattle.potential_check.specs.Sheets.{sheet_of};
+ghost use Rattle.potential_check.specs.Spanned.{IsSpanned};
+ghost use Rattle.tuner_theory.specs.Best.{IsCanonical};
+ghost use Rattle.tuner_theory.specs.Potentials.{AreValidPotentials};
+ghost use Rattle.tuner_theory.specs.Rows.{HasShape, IsFilled, number_at};
+ghost use Rattle.tuner_theory.specs.Sheets.{IsVerdict};
+ghost use Rattle.tuner_theory.specs.Spans.{places, span_waste};
+ghost use Rattle.class_table.specs.Steps.{IsStep};
+ghost use Rattle.tuner_theory.specs.Waste.{waste_of};
+
+use crate::cost_source::CostSource;
+use crate::costs::Costs;
+use crate::filling::{Filled, fill_rows};
+use crate::table::table_of_ends;
+use potential_check::{Rows, Sheet, Spans, Verdict};
+use profile_count::Profile;
+use std::alloc::{AllocError, Global};
+use std::marker::Model;
+use tuner_theory::laws::{law_least_rows, law_rests, law_tuned_table};
+
+/// What `tune` answers: a sheet, and how often the span wastes were asked for to make it.
+#[derive(Debug, Drop)]
+pub struct Tuned {
+    sheet: Sheet,
+    evaluations: u64,
+}
+
+impl Model for Tuned {
+    ghost use Rattle.class_tuner.specs.Tuned.{Tuning};
+
+    ghost Value = { Tuning };
+
+    ghost view = { λ t. record { sheet = t.sheet; evaluations = t.evaluations } };
+}
+
+impl Tuned {
+    /// The table with its certificate.
+    pub fn sheet(&self) -> &Sheet
+        ensures { result.now ≡ self.now.sheet }
+    {
+        &self.sheet
+    }
+
+    /// How often the span wastes were asked for.
+    pub fn evaluations(&self) -> u64
+        ensures { result ≡ self.now.evaluations }
+    {
+        self.evaluations
+    }
+}
+
+/// The class table of least waste for a profile, of at most `limit` (1 to 32) classes that are multiples of `step` (1, 2, 4 or 8 granules):
+/// of the best tables whose every class is used the lexicographically least, with its certificate. An error only where memory was refused.
+pub fn tune(alloc: Global, profile: &Profile, limit: u8, step: u8) -> Result<Tuned, AllocError>
+    requires some { 1 ≤ limit }
+    requires few { limit ≤ 32 }
+    requires step { IsStep step }
+
+    // the table, and the waste of all others
+    ensures canonical { IfOk result (λ tuned. IsCanonical profile.now.counts step limit tuned.sheet.table) }
+    ensures limit { IfOk result (λ tuned. tuned.sheet.limit ≡ limit) }
+    ensures step { IfOk result (λ tuned. tuned.sheet.step ≡ step) }
+    ensures waste { IfOk result (λ tuned. tuned.sheet.waste ≡ waste_of profile.now.counts tuned.sheet.table) }
+
+    // its certificate
+    ensures shape { IfOk result (λ tuned. HasShape tuned.sheet.rows limit (places profile.now.counts step)) }
+    ensures rests { IfOk result (λ tuned. AreRests profile.now.counts step limit tuned.sheet.rows) }
+    ensures valid { IfOk result
+        (λ tuned. AreValidPotentials (span_waste profile.now.counts step) (places profile.now.counts step) limit (number_at tuned.sheet.rows)) }
+    ensures optimal { IfOk result (λ tuned. IsVerdict profile.now.counts (sheet_of tuned.sheet) Verdict.Optimal) }
+
+    // the work
+    ensures evaluations { IfOk result (λ tuned. tuned.evaluations ≤ most_calls limit (places profile.now.counts step)) }
+{
+    let spans = Spans::new(alloc, profile, step)?;
+    let mut costs = Costs::over(spans);
+    let filled = fill_rows(alloc, &mut costs, limit)?;
+    let sheet = sheet_of_rows(costs.spans(), filled, limit);
+    let evaluations = costs.calls();
+    Ok(Tuned { sheet, evaluations })
+}
+
+// the sheet that filled rows tell
+fn sheet_of_rows(spans: &Spans<'_>, filled: Filled, limit: u8) -> Sheet
+    requires spans { IsSpanned spans.now }
+    requires some { 1 ≤ limit }
+    requires few { limit ≤ 32 }
+    requires filled { let d = places spans.now.counts spans.now.step in
+        IsFilled (span_waste spans.now.counts spans.now.step) d limit (lists_of filled.rows.items) (lists_of filled.ends.items) }
+    ensures { IsTuned spans.now.counts spans.now.step limit (sheet_of result) }
+{
+    law_least_rows();
+    law_rests();
+    law_tuned_table();
+    let table = table_of_ends(spans, &filled.ends, limit);
+    let rows = Rows::new(filled.rows);
+    let waste = rows.number(limit as usize, 0);
+    Sheet {
+        table,
+        limit,
+        step: spans.step(),
+        waste,
+        rows,
+    }
+}

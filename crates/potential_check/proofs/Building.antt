@@ -1,0 +1,299 @@
+-- The places of a profile and the sums up to each, as they grow size by size.
+use Rattle.std.proofs.Common.{◌≡◌, ℕ, zero, suc, ◌+◌, ◌-◌, ◌*◌, ◌<◌, ◌≤◌, List, [], ◌∷◌, ◌++◌, length, length-append, slice_index, cond, eqb, leb, ◌⊎◌, arith, refl, ap, sym, subst, inl, inr, ◌∙◌}
+use Rattle.std.proofs.lemmas.Bool.{cases_lt, cond_both, cond-false, cond-true, eq-eqb, le-leb, le-ltb, lt-leb, lt-ltb, ne_eqb}
+use Rattle.std.proofs.lemmas.List.{get_or_append_left}
+use Rattle.std.proofs.Math.Seq.{get_or-append_seam}
+use Rattle.std.proofs.Math.Nat.{mul-le-mul}
+use Rattle.class_table.specs.Sizes.{need_of}
+use Rattle.potential_check.specs.Spanned.{AreSumsUpTo, HoldsSums, last_need}
+use Rattle.tuner_theory.specs.Laws.{RoundingIsLeast}
+use Rattle.tuner_theory.specs.Spans.{needs_below, rounded_need, with_need}
+use Rattle.class_table.specs.Steps.{IsStep}
+use Rattle.tuner_theory.specs.Waste.{AreCounts, sum_below}
+
+-- ---- sums
+
+sum_below-more : (f : ℕ → ℕ) (m : ℕ) → sum_below f (suc m) ≡ sum_below f m + f m
+unfolding sum_below
+sum_below-more f m = refl
+
+sum_below-none : (f : ℕ → ℕ) → sum_below f 0 ≡ 0
+unfolding sum_below
+sum_below-none f = refl
+
+sum_below-same : (f g : ℕ → ℕ) (m : ℕ) → ((k : ℕ) → k < m → f k ≡ g k) → sum_below f m ≡ sum_below g m
+sum_below-same f g zero each = sum_below-none f ∙ sym (sum_below-none g)
+sum_below-same f g (suc m) each =
+    omega (arith, sum_below-more f m, sum_below-more g m, sum_below-same f g m (λ k lt. each k (omega arith)), each m (omega arith))
+
+sum_below-bounded : (f : ℕ → ℕ) (m bound : ℕ) → ((k : ℕ) → k < m → f k ≤ bound) → sum_below f m ≤ m * bound
+sum_below-bounded f zero bound each = omega (arith, sum_below-none f)
+sum_below-bounded f (suc m) bound each =
+    omega (arith, sum_below-more f m, sum_below-bounded f m bound (λ k lt. each k (omega arith)), each m (omega arith))
+
+-- the sum of f over the sizes below n whose rounded need is at most high
+abbrev pub sum_up_to : (ℕ → ℕ) → ℕ → ℕ → ℕ → ℕ
+sum_up_to f step n high = sum_below (λ k. cond (leb (rounded_need step k) high) (f k) 0) n
+
+-- ---- needs in a list
+
+-- the need at a place
+abbrev pub need_in : List ℕ → ℕ → ℕ
+need_in needs i = slice_index (0 ∷ needs) i
+
+last-in : (needs : List ℕ) → 0 < length needs → last_need needs ≡ slice_index needs (length needs - 1)
+last-in [] some = absurd (omega arith)
+last-in (x ∷ xs) some = let front : suc (length xs) - 1 ≡ length xs = omega arith in rw front refl
+
+with_need-in : (need i : ℕ) (needs : List ℕ) → i < length needs → slice_index needs i ≡ need → with_need needs need ≡ needs
+with_need-in need i [] lt e = absurd (omega arith)
+with_need-in need zero (x ∷ xs) lt e = cond-true _ _ _ (eq-eqb x need e)
+with_need-in need (suc i) (x ∷ xs) lt e =
+    cond_both (eqb x need) _ _ (λ (ys : List ℕ). ys ≡ x ∷ xs) (λ _. refl) (λ _. ap (λ (ys : List ℕ). x ∷ ys) (with_need-in need i xs (omega arith) e))
+
+with_need-above : (need : ℕ) (needs : List ℕ) → ((i : ℕ) → i < length needs → slice_index needs i < need) → with_need needs need ≡ needs ++ need ∷ []
+with_need-above need [] below = refl
+with_need-above need (x ∷ xs) below =
+    let first : x < need = below 0 (omega arith) in
+    cond-false _ _ _ (ne_eqb x need (λ e. omega arith)) ∙ ap (λ (ys : List ℕ). x ∷ ys) (with_need-above need xs (λ i lt. below (suc i) (omega arith)))
+
+need_in-old : (needs : List ℕ) (need i : ℕ) → i ≤ length needs → need_in (needs ++ need ∷ []) i ≡ need_in needs i
+need_in-old needs need i le = get_or_append_left (0 ∷ needs) (need ∷ []) 0 i (omega arith)
+
+need_in-new : (needs : List ℕ) (need : ℕ) → last_need (needs ++ need ∷ []) ≡ need
+need_in-new needs need =
+    let size : length (needs ++ need ∷ []) ≡ suc (length needs) = omega (arith, length-append {A = ℕ} needs (need ∷ [])) in
+    rw size (get_or-append_seam needs need [] 0)
+
+-- ---- what stands after the sizes below n
+
+-- for each place from 0 up to the one before the last, the sum up to its need; f is 0 at sizes that were not counted
+pub record AreSumsBefore (f : ℕ → ℕ) (step n : ℕ) (needs sums : List ℕ) (total : ℕ) : Type 0 where
+  pub size : length sums ≡ length needs
+  pub sums_are : (i : ℕ) → i < length needs → slice_index sums i ≡ sum_up_to f step n (need_in needs i)
+  pub total_is : total ≡ sum_below f n
+
+-- the needs so far are `needs`; they ascend, none is above the need of a later size, and the last one covers all counted sizes
+pub record AreNeeds (counts : List ℕ) (step n : ℕ) (all needs : List ℕ) : Type 0 where
+  pub needs_are : needs ≡ all
+  pub ascending : (i : ℕ) → i < length needs → need_in needs i < last_need needs
+  pub reached : (m : ℕ) → n ≤ m → last_need needs ≤ rounded_need step m
+  pub covered : (k : ℕ) → k < n → 0 < slice_index counts k → rounded_need step k ≤ last_need needs
+
+pub record IsBuilt (counts : List ℕ) (step n : ℕ) (needs counted bytes : List ℕ) (total total_bytes : ℕ) : Type 0 where
+  pub needs_are : AreNeeds counts step n (needs_below counts step n) needs
+  pub counted_are : AreSumsBefore (slice_index counts) step n needs counted total
+  pub bytes_are : AreSumsBefore (λ k. slice_index counts k * k) step n needs bytes total_bytes
+
+-- the same, once the rounded need of size n is the last one
+pub record HasPlace (counts : List ℕ) (step n : ℕ) (needs counted bytes : List ℕ) (total total_bytes : ℕ) : Type 0 where
+  pub needs_are : AreNeeds counts step n (with_need (needs_below counts step n) (rounded_need step n)) needs
+  pub last_is : last_need needs ≡ rounded_need step n
+  pub counted_are : AreSumsBefore (slice_index counts) step n needs counted total
+  pub bytes_are : AreSumsBefore (λ k. slice_index counts k * k) step n needs bytes total_bytes
+
+-- ---- one size more
+
+-- a sum up to a need that is below the one of size n, or f being 0 there
+sum_up_to-keeps : (f : ℕ → ℕ) (step n high : ℕ) → high < rounded_need step n → sum_up_to f step (suc n) high ≡ sum_up_to f step n high
+sum_up_to-keeps f step n high lt =
+    sum_below-more _ n ∙ omega (arith, cond-false {A = ℕ} _ (f n) 0 (lt-leb (rounded_need step n) high lt))
+
+sum_up_to-skips : (f : ℕ → ℕ) (step n high : ℕ) → f n ≡ 0 → sum_up_to f step (suc n) high ≡ sum_up_to f step n high
+sum_up_to-skips f step n high none =
+    sum_below-more _ n ∙ omega (arith, cond_both (leb (rounded_need step n) high) (f n) 0 (λ v. v ≡ 0) (λ _. none) (λ _. refl))
+
+-- a sum up to a need that covers all
+sum_up_to-all : (f : ℕ → ℕ) (step n high : ℕ) → ((k : ℕ) → k < n → 0 < f k → rounded_need step k ≤ high) → sum_up_to f step n high ≡ sum_below f n
+sum_up_to-all f step n high covers = sum_below-same _ f n (λ k lt. whole k lt (cases_lt 0 (f k)))
+  where
+    whole : (k : ℕ) → k < n → (0 < f k) ⊎ (f k ≤ 0) → cond (leb (rounded_need step k) high) (f k) 0 ≡ f k
+    whole k lt (inl some) = cond-true _ _ _ (le-leb (rounded_need step k) high (covers k lt some))
+    whole k lt (inr none) = cond_both (leb (rounded_need step k) high) (f k) 0 (λ v. v ≡ f k) (λ _. refl) (λ _. omega arith)
+
+sums-skip : (f : ℕ → ℕ) (step n total : ℕ) (needs sums : List ℕ) → f n ≡ 0 → AreSumsBefore f step n needs sums total → AreSumsBefore f step (suc n) needs sums total
+sums-skip f step n total needs sums none s = record {
+  size = s.size;
+  sums_are = λ i lt. s.sums_are i lt ∙ sym (sum_up_to-skips f step n (need_in needs i) none);
+  total_is = omega (arith, s.total_is, sum_below-more f n, none);
+}
+
+sums-add : (f : ℕ → ℕ) (step n total : ℕ) (needs sums : List ℕ) → ((i : ℕ) → i < length needs → need_in needs i < rounded_need step n)
+    → AreSumsBefore f step n needs sums total → AreSumsBefore f step (suc n) needs sums (total + f n)
+sums-add f step n total needs sums below s = record {
+  size = s.size;
+  sums_are = λ i lt. s.sums_are i lt ∙ sym (sum_up_to-keeps f step n (need_in needs i) (below i lt));
+  total_is = omega (arith, s.total_is, sum_below-more f n);
+}
+
+-- the total stands behind the sums, as the sum up to the last need
+pub sums-pushed : (f : ℕ → ℕ) (step n total : ℕ) (needs sums : List ℕ) → ((k : ℕ) → k < n → 0 < f k → rounded_need step k ≤ last_need needs)
+    → AreSumsBefore f step n needs sums total → (i : ℕ) → i ≤ length needs → slice_index (sums ++ total ∷ []) i ≡ sum_up_to f step n (need_in needs i)
+sums-pushed f step n total needs sums covers s i le =
+    elim (cases_lt i (length needs)) [
+      | inl lt ↦ get_or_append_left sums (total ∷ []) 0 i (omega (arith, s.size)) ∙ s.sums_are i lt
+      | inr not ↦ (let here : i ≡ length sums = omega (arith, s.size) in
+          let last : i ≡ length needs = omega arith in
+          (ap (slice_index (sums ++ total ∷ [])) here ∙ get_or-append_seam sums total [] 0)
+          ∙ ((s.total_is ∙ sym (sum_up_to-all f step n (last_need needs) covers)) ∙ ap (λ m. sum_up_to f step n (need_in needs m)) (sym last)))
+    ]
+
+sums-new : (f : ℕ → ℕ) (step n total need : ℕ) (needs sums : List ℕ) → ((k : ℕ) → k < n → 0 < f k → rounded_need step k ≤ last_need needs)
+    → AreSumsBefore f step n needs sums total → AreSumsBefore f step n (needs ++ need ∷ []) (sums ++ total ∷ []) total
+sums-new f step n total need needs sums covers s = record {
+  size = omega (arith, s.size, length-append {A = ℕ} sums (total ∷ []), length-append {A = ℕ} needs (need ∷ []));
+  sums_are = λ i lt.
+      let le : i ≤ length needs = omega (arith, length-append {A = ℕ} needs (need ∷ [])) in
+      sums-pushed f step n total needs sums covers s i le ∙ ap (sum_up_to f step n) (sym (need_in-old needs need i le));
+  total_is = s.total_is;
+}
+
+product-some : (a b : ℕ) → 0 < a * b → 0 < a
+product-some zero b some = absurd (let none : 0 * b ≡ 0 = omega arith in omega arith)
+product-some (suc a) b some = omega arith
+
+module _ (rounding : RoundingIsLeast) (counts : List ℕ) (step : ℕ) (is_step : IsStep step) where
+  rounded-mono : (m n : ℕ) → m ≤ n → rounded_need step m ≤ rounded_need step n
+  rounded-mono m n le =
+      let later = rounding step (need_of n) is_step in
+      let no_less : need_of m ≤ need_of n = omega arith in
+      (rounding step (need_of m) is_step).least (rounded_need step n) later.multiple (omega (arith, later.above))
+
+  rounded-positive : (n : ℕ) → 0 < rounded_need step n
+  rounded-positive n = let above = (rounding step (need_of n) is_step).above in let some : 0 < need_of n = omega arith in omega arith
+
+  pub built-none : IsBuilt counts step 0 [] [] [] 0 0
+  built-none = record {
+    needs_are = record { needs_are = refl; ascending = λ i lt. absurd (omega arith); reached = λ m le. omega arith; covered = λ k lt some. absurd (omega arith) };
+    counted_are = record { size = refl; sums_are = λ i lt. absurd (omega arith); total_is = sym (sum_below-none (slice_index counts)) };
+    bytes_are = record { size = refl; sums_are = λ i lt. absurd (omega arith); total_is = sym (sum_below-none (λ k. slice_index counts k * k)) };
+  }
+
+  module _ (n total total_bytes : ℕ) (needs counted bytes : List ℕ) where
+    -- a size that was not counted
+    pub built-skip : slice_index counts n ≤ 0 → IsBuilt counts step n needs counted bytes total total_bytes
+        → IsBuilt counts step (suc n) needs counted bytes total total_bytes
+    built-skip none b =
+        let no_count : slice_index counts n ≡ 0 = omega arith in
+        let no_bytes : slice_index counts n * n ≡ 0 = rw no_count (omega arith) in
+        record {
+          needs_are = record {
+            needs_are = b.needs_are.needs_are ∙ sym (cond-false _ _ _ (le-ltb 0 (slice_index counts n) none));
+            ascending = b.needs_are.ascending;
+            reached = λ m le. b.needs_are.reached m (omega arith);
+            covered = λ k lt some. elim (cases_lt k n) [
+              | inl before ↦ b.needs_are.covered k before some
+              | inr not ↦ absurd (let same : k ≡ n = omega arith in omega (arith, ap (slice_index counts) same))
+            ];
+          };
+          counted_are = sums-skip (slice_index counts) step n total needs counted no_count b.counted_are;
+          bytes_are = sums-skip (λ k. slice_index counts k * k) step n total_bytes needs bytes no_bytes b.bytes_are;
+        }
+
+    -- a size whose rounded need is the last one already
+    pub place-same : last_need needs ≡ rounded_need step n → IsBuilt counts step n needs counted bytes total total_bytes
+        → HasPlace counts step n needs counted bytes total total_bytes
+    place-same last b =
+        let some : 0 < length needs = some_place needs (omega (arith, last, rounded-positive n)) in
+        record {
+          needs_are = record {
+            needs_are = sym (ap (λ (xs : List ℕ). with_need xs (rounded_need step n)) (sym b.needs_are.needs_are)
+                ∙ with_need-in (rounded_need step n) (length needs - 1) needs (omega arith) (sym (last-in needs some) ∙ last));
+            ascending = b.needs_are.ascending;
+            reached = b.needs_are.reached;
+            covered = b.needs_are.covered;
+          };
+          last_is = last;
+          counted_are = b.counted_are;
+          bytes_are = b.bytes_are;
+        }
+      where
+        some_place : (xs : List ℕ) → 0 < last_need xs → 0 < length xs
+        some_place [] lt = absurd (omega arith)
+        some_place (x ∷ xs) lt = omega arith
+
+    -- a size with a new rounded need
+    pub place-new : (last_need needs ≡ rounded_need step n → ⊥) → IsBuilt counts step n needs counted bytes total total_bytes
+        → HasPlace counts step n (needs ++ rounded_need step n ∷ []) (counted ++ total ∷ []) (bytes ++ total_bytes ∷ []) total total_bytes
+    place-new new b =
+        let lower : last_need needs < rounded_need step n = omega (arith, b.needs_are.reached n (omega arith), new) in
+        let size : length (needs ++ rounded_need step n ∷ []) ≡ suc (length needs) = omega (arith, length-append {A = ℕ} needs (rounded_need step n ∷ [])) in
+        let last = need_in-new needs (rounded_need step n) in
+        record {
+          needs_are = record {
+            needs_are = sym (ap (λ (xs : List ℕ). with_need xs (rounded_need step n)) (sym b.needs_are.needs_are)
+                ∙ with_need-above (rounded_need step n) needs (λ i lt. below lower (suc i) (omega arith)));
+            ascending = λ i lt. omega (arith, below lower i (omega arith), need_in-old needs (rounded_need step n) i (omega arith), last);
+            reached = λ m le. omega (arith, last, rounded-mono n m le);
+            covered = λ k lt some. omega (arith, last, rounded-mono k n (omega arith));
+          };
+          last_is = last;
+          counted_are = sums-new (slice_index counts) step n total (rounded_need step n) needs counted b.needs_are.covered b.counted_are;
+          bytes_are = sums-new (λ k. slice_index counts k * k) step n total_bytes (rounded_need step n) needs bytes
+              (λ k lt some. b.needs_are.covered k lt (product-some (slice_index counts k) k some)) b.bytes_are;
+        }
+      where
+        below : last_need needs < rounded_need step n → (i : ℕ) → i ≤ length needs → need_in needs i < rounded_need step n
+        below lower i le =
+            elim (cases_lt i (length needs)) [
+              | inl lt ↦ omega (arith, b.needs_are.ascending i lt)
+              | inr not ↦ (let here : i ≡ length needs = omega arith in omega (arith, ap (need_in needs) here))
+            ]
+
+    -- its requests are added to the totals
+    pub built-add : 0 < slice_index counts n → HasPlace counts step n needs counted bytes total total_bytes
+        → IsBuilt counts step (suc n) needs counted bytes (total + slice_index counts n) (total_bytes + slice_index counts n * n)
+    built-add some b =
+        let below : (i : ℕ) → i < length needs → need_in needs i < rounded_need step n = (λ i lt. omega (arith, b.needs_are.ascending i lt, b.last_is)) in
+        record {
+          needs_are = record {
+            needs_are = b.needs_are.needs_are ∙ sym (cond-true _ _ _ (lt-ltb 0 (slice_index counts n) some));
+            ascending = b.needs_are.ascending;
+            reached = λ m le. b.needs_are.reached m (omega arith);
+            covered = λ k lt counted. elim (cases_lt k n) [
+              | inl before ↦ b.needs_are.covered k before counted
+              | inr not ↦ (let same : k ≡ n = omega arith in omega (arith, ap (rounded_need step) same, b.last_is))
+            ];
+          };
+          counted_are = sums-add (slice_index counts) step n total needs counted below b.counted_are;
+          bytes_are = sums-add (λ k. slice_index counts k * k) step n total_bytes needs bytes below b.bytes_are;
+        }
+
+-- ---- all sizes
+
+pub built-end : (counts : List ℕ) (step n total total_bytes : ℕ) (needs counted bytes : List ℕ) → IsStep step → AreCounts counts → n ≡ length counts
+    → IsBuilt counts step n needs counted bytes total total_bytes → HoldsSums counts step needs (counted ++ total ∷ []) (bytes ++ total_bytes ∷ [])
+built-end counts step n total total_bytes needs counted bytes is_step are end b = record {
+  is_step = is_step;
+  are_counts = are;
+  needs_are = all.needs_are.needs_are;
+  counted_are = sums (slice_index counts) total counted (λ k lt some. some) all.counted_are;
+  bytes_are = sums (λ k. slice_index counts k * k) total_bytes bytes (λ k lt some. product-some (slice_index counts k) k some) all.bytes_are;
+}
+  where
+    all : IsBuilt counts step (length counts) needs counted bytes total total_bytes
+    all = subst (λ (m : ℕ). IsBuilt counts step m needs counted bytes total total_bytes) end b
+
+    sums : (f : ℕ → ℕ) (total : ℕ) (xs : List ℕ) → ((k : ℕ) → k < length counts → 0 < f k → 0 < slice_index counts k)
+        → AreSumsBefore f step (length counts) needs xs total → AreSumsUpTo (sum_up_to f step (length counts)) counts step (xs ++ total ∷ [])
+    sums f total xs counted_too s = record {
+      size = omega (arith, s.size, length-append {A = ℕ} xs (total ∷ []), ap length all.needs_are.needs_are);
+      sums_are = λ i le.
+          sums-pushed f step (length counts) total needs xs (λ k lt some. all.needs_are.covered k lt (counted_too k lt some)) s i
+          (omega (arith, le, ap length all.needs_are.needs_are))
+          ∙ ap (λ (xs : List ℕ). sum_up_to f step (length counts) (need_in xs i)) all.needs_are.needs_are;
+    }
+
+pub built-small : (counts : List ℕ) (step n total total_bytes : ℕ) (needs counted bytes : List ℕ) → AreCounts counts → n ≤ 16369
+    → IsBuilt counts step n needs counted bytes total total_bytes → (total ≤ 16369 * 1000000000) × (total_bytes ≤ 16369 * 16368000000000)
+built-small counts step n total total_bytes needs counted bytes are le b = (
+  omega (arith, b.counted_are.total_is, sum_below-bounded (slice_index counts) n 1000000000 (λ k lt. are.in_range k 0 (omega (arith, are.sizes)))),
+  omega (
+    arith,
+    b.bytes_are.total_is,
+    sum_below-bounded (λ k. slice_index counts k * k) n 16368000000000 (λ k lt.
+        let small : slice_index counts k ≤ 1000000000 = are.in_range k 0 (omega (arith, are.sizes)) in
+        let within : k ≤ 16368 = omega arith in
+        mul-le-mul small within),
+  ),
+)

@@ -1,0 +1,90 @@
+-- Reading a sheet's lines in front of its rows, one after the other.
+use Rattle.std.proofs.Common.{◌≡◌, ℕ, suc, ◌+◌, add-one, List, [], ◌∷◌, Option, Some, None, option_map, Result, Ok, Err, Bor, refl, MatchOption}
+use Rattle.std.specs.Prelude.{All}
+use Rattle.std.specs.Iterator.{YieldsFirstBy}
+use Rattle.std.specs.Option.{ok_or}
+use Rattle.std.proofs.lemmas.List.Elements.{All-head}
+use Rattle.line_text.specs.Lines.{IsLine}
+use Rattle.potential_check.specs.Sheets.{sheet_of}
+use Rattle.potential_check.specs.SheetText.{Gives, limit_in, line_at, rows_from, sheet_of_lines, step_at, table_in, waste_in, waste_number}
+use Rattle.potential_check.specs.declared.fault.SheetError.{SheetError}
+use Rattle.potential_check.specs.declared.fault.SheetError.TheVariants.{OutOfMemory, Line}
+use Rattle.potential_check.specs.declared.sheet.Sheet.{Sheet as Held}
+use Rattle.tuner_theory.specs.Sheets.{Sheet}
+
+-- ---- the next line
+
+-- These lines gave this one, which is none where there was no line more.
+abbrev pub Gave : List (List ℕ) → Option (Bor (List ℕ)) → List (List ℕ) → Type 0
+Gave old line new = YieldsFirstBy {S = List (List ℕ)} {A = Bor (List ℕ)} {B = List ℕ} (λ x. x.now) (λ s. s) old line new
+
+-- and this is what was read off it
+abbrev pub IsRead : {A : Type 0} → (List ℕ → Option A) → Option (Bor (List ℕ)) → Option A → Type 0
+IsRead reading line read = MatchOption line (read ≡ None) (λ x. read ≡ reading x.now)
+
+pub given_is_line : (old new : List (List ℕ)) (line : Option (Bor (List ℕ))) → All IsLine old → Gave old line new → (x : Bor (List ℕ)) → line ≡ Some x → IsLine x.now
+given_is_line old new None all gave x e = absurd cc
+given_is_line old new (Some y) all gave x e =
+    let same : y ≡ x = cc in
+    rw (← same) (All-head IsLine y.now new (rw gave at all))
+
+pub line_at-some : {A : Type 0} (number : ℕ) (reading : List ℕ → Option A) (old new : List (List ℕ)) (line : Option (Bor (List ℕ))) (read : Option A) (x : A)
+    → Gave old line new → IsRead reading line read → read ≡ Some x → line_at number reading old ≡ Ok (x, new)
+line_at-some number reading old new None read x gave is e = absurd cc
+line_at-some number reading old new (Some y) read x gave is e =
+    let found : reading y.now ≡ Some x = cc in
+    rw (gave, found) refl
+
+pub line_at-none : {A : Type 0} (number : ℕ) (reading : List ℕ → Option A) (old new : List (List ℕ)) (line : Option (Bor (List ℕ))) (read : Option A)
+    → Gave old line new → IsRead reading line read → read ≡ None → line_at number reading old ≡ Err number
+line_at-none number reading old new None read gave is e = rw gave.0 refl
+line_at-none number reading old new (Some y) read gave is e =
+    let none : reading y.now ≡ None = cc in
+    rw (gave, none) refl
+
+-- ---- a fault
+
+-- where nothing was read off a line, its number is the error
+pub fault_given : {A : Type 0} (result : Result Held SheetError) (y e : SheetError) (read : Option A) (number : ℕ) (whole : Result Sheet ℕ) → result ≡ Err y → y ≡ e
+    → Err e ≡ ok_or read (Line number) → read ≡ None → whole ≡ Err number → Gives sheet_of result whole
+fault_given result y e read number whole is same given none fault =
+    let line : e ≡ Line number = (let err = rw none at given in cc) in
+    rw (is, same, line) fault
+
+-- an error in the rows is the sheet's
+pub rows_fault_given : (result : Result Held SheetError) (y e : SheetError) (rows : Result (List (List ℕ)) ℕ) (whole : Result Sheet ℕ) → result ≡ Err y → y ≡ e
+    → Gives (λ (r : List (List ℕ)). r) (Err e) rows → ((number : ℕ) → rows ≡ Err number → whole ≡ Err number) → Gives sheet_of result whole
+rows_fault_given result y OutOfMemory rows whole is same given fault = rw (is, same) tt
+rows_fault_given result y (Line number) rows whole is same given fault = rw (is, same) (fault number given)
+
+-- ---- one line after the other
+
+module _ (ls : List (List ℕ)) where
+  pub no_table : line_at 1 table_in ls ≡ Err 1 → sheet_of_lines ls ≡ Err 1
+  unfolding sheet_of_lines
+  no_table none = rw none refl
+
+  module _ (table : List ℕ) (behind_table : List (List ℕ)) (is_table : line_at 1 table_in ls ≡ Ok (table, behind_table)) where
+    pub no_limit : line_at 2 limit_in behind_table ≡ Err 2 → sheet_of_lines ls ≡ Err 2
+    unfolding sheet_of_lines
+    no_limit none = rw (is_table, none) refl
+
+    module _ (limit : ℕ) (behind_limit : List (List ℕ)) (is_limit : line_at 2 limit_in behind_table ≡ Ok (limit, behind_limit)) where
+      pub no_step : step_at behind_limit ≡ None → sheet_of_lines ls ≡ Err 3
+      unfolding sheet_of_lines
+      no_step none = rw (is_table, is_limit, none) refl
+
+      module _ (step : ℕ) (behind_step : List (List ℕ)) (is_step : step_at behind_limit ≡ Some (step, behind_step)) where
+        pub no_waste : line_at (waste_number step) waste_in behind_step ≡ Err (waste_number step) → sheet_of_lines ls ≡ Err (waste_number step)
+        unfolding sheet_of_lines
+        no_waste none = rw (is_table, is_limit, is_step, none) refl
+
+        module _ (waste : ℕ) (behind_waste : List (List ℕ)) (is_waste : line_at (waste_number step) waste_in behind_step ≡ Ok (waste, behind_waste)) where
+          pub no_rows : (number : ℕ) → rows_from (waste_number step + 1) 32 behind_waste ≡ Err number → sheet_of_lines ls ≡ Err number
+          unfolding sheet_of_lines
+          no_rows number none = rw (is_table, is_limit, is_step, is_waste, ← add-one (waste_number step), none) refl
+
+          pub all_rows : (rows : List (List ℕ)) → rows_from (waste_number step + 1) 32 behind_waste ≡ Ok rows
+              → sheet_of_lines ls ≡ Ok (record { table = table; limit = limit; step = step; waste = waste; rows = rows })
+          unfolding sheet_of_lines
+          all_rows rows is_rows = rw (is_table, is_limit, is_step, is_waste, ← add-one (waste_number step), is_rows) refl

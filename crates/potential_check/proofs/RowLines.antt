@@ -1,0 +1,56 @@
+-- Reading the rows of a sheet, line by line.
+use Rattle.std.proofs.Common.{◌≡◌, ℕ, suc, ◌+◌, ◌-◌, ◌<◌, ◌≤◌, List, [], ◌∷◌, ◌++◌, length, Result, Ok, Err, Option, Some, None, refl, sym, ap, ◌∙◌, arith, length-append, append_assoc, append-nil, add-zero}
+use Rattle.potential_check.specs.SheetText.{◌>>=◌, row_in, rows_from}
+
+-- What is read, where these rows were read before.
+abbrev pub behind : List (List ℕ) → Result (List (List ℕ)) ℕ → Result (List (List ℕ)) ℕ
+behind front (Ok rows) = Ok (front ++ rows)
+behind front (Err number) = Err number
+
+pub record RowsSoFar (first : ℕ) (all rest front : List (List ℕ)) : Type 0 where
+  pub read : rows_from first 32 all ≡ behind front (rows_from (first + length front) (32 - length front) rest)
+  pub few : length front ≤ 32
+
+pub rows_from-start : (first : ℕ) (all : List (List ℕ)) → RowsSoFar first all all []
+rows_from-start first all = record { read = rw add-zero (go (rows_from first 32 all)); few = omega arith }
+  where
+    go : (r : Result (List (List ℕ)) ℕ) → r ≡ behind [] r
+    go (Ok rows) = refl
+    go (Err number) = refl
+
+-- a line more than there is room for
+pub rows_from-full : (first : ℕ) (all rest new front : List (List ℕ)) (line : List ℕ) → RowsSoFar first all rest front → rest ≡ line ∷ new → length front ≡ 32
+    → rows_from first 32 all ≡ Err (first + length front)
+unfolding rows_from
+rows_from-full first all rest new front line so_far parts full = so_far.read ∙ rw (parts, full) refl
+
+-- a line that is no row
+pub rows_from-no_row : (first : ℕ) (all rest new front : List (List ℕ)) (line : List ℕ) → RowsSoFar first all rest front → rest ≡ line ∷ new → length front < 32
+    → row_in line ≡ None → rows_from first 32 all ≡ Err (first + length front)
+unfolding rows_from
+rows_from-no_row first all rest new front line so_far parts room none =
+    let most : 32 - length front ≡ suc (31 - length front) = omega arith in
+    so_far.read ∙ rw (parts, most, none) refl
+
+-- a row more
+pub rows_from-more : (first : ℕ) (all rest new front : List (List ℕ)) (line row : List ℕ) → RowsSoFar first all rest front → rest ≡ line ∷ new → length front < 32
+    → row_in line ≡ Some row → RowsSoFar first all new (front ++ row ∷ [])
+unfolding rows_from
+rows_from-more first all rest new front line row so_far parts room is_row =
+    let most : 32 - length front ≡ suc (31 - length front) = omega arith in
+    let longer : length (front ++ row ∷ []) ≡ suc (length front) = omega (arith, length-append front (row ∷ [])) in
+    let number : first + suc (length front) ≡ suc (first + length front) = omega arith in
+    let left : 32 - suc (length front) ≡ 31 - length front = omega arith in
+    record {
+      read = so_far.read ∙ rw (parts, most, is_row, longer, number, left) (go (rows_from (suc (first + length front)) (31 - length front) new));
+      few = omega arith;
+    }
+  where
+    go : (r : Result (List (List ℕ)) ℕ) → behind front (r >>= λ rows. Ok (row ∷ rows)) ≡ behind (front ++ row ∷ []) r
+    go (Ok rows) = ap Ok (sym (append_assoc front (row ∷ []) rows))
+    go (Err number) = refl
+
+-- no line more
+pub rows_from-end : (first : ℕ) (all rest front : List (List ℕ)) → RowsSoFar first all rest front → rest ≡ [] → rows_from first 32 all ≡ Ok front
+unfolding rows_from
+rows_from-end first all rest front so_far none = so_far.read ∙ rw (none, append-nil front) refl

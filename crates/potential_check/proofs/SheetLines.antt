@@ -1,0 +1,165 @@
+-- Each line of a sheet: it is read as what it spells, and no other line is.
+use Rattle.std.proofs.Common.{◌≡◌, ◌≢◌, ℕ, ◌+◌, ◌<◌, ◌≤◌, ◌^◌, Bool, true, false, not, ◌&&◌, List, [], ◌∷◌, ◌++◌, length, get_or, map, Option, Some, None, Result, Ok, Err, refl, sym, ap, ◌∙◌, arith, codes, ltb, leb, length-append, inl, inr, ◌⊎◌}
+use Rattle.std.specs.List.{list_all}
+use Rattle.std.specs.Prelude.{All}
+use Rattle.std.proofs.lemmas.Bool.{and_from, and_parts, leb-true, le-leb, lt-ltb, ltb-true, not-true}
+use Rattle.std.proofs.lemmas.Bool.Decides.{nat_tests}
+use Rattle.std.proofs.lemmas.List.{get_or_at}
+use Rattle.std.proofs.lemmas.List.Elements.{All-nil, All-cons, All-head, All-tail, All-weaker}
+use Rattle.std.proofs.lemmas.List.Sums.{AllPass-from_list_all}
+use Rattle.class_table.specs.ClassLine.{class_line, table_of, table_of_line}
+use Rattle.class_table.specs.Laws.{LineAloneIsRead, SpelledTableIsRead, TableIsSpelled}
+use Rattle.class_table.specs.Steps.{IsStep}
+use Rattle.class_table.specs.Tables.{IsLegalTable}
+use Rattle.class_table.specs.declared.fault.TableError.{TableError}
+use Rattle.line_text.specs.Laws.{TextLaws}
+use Rattle.line_text.specs.Lines.{IsLine, IsWord, ended, is_newline, is_space}
+use Rattle.potential_check.specs.SheetText.{IsRow, fits, is_limit, is_row, is_written_step, limit_in, named_line, numbers_in, row_in, step_in, table_in, waste_in}
+use Rattle.potential_check.proofs.NamedLines.{AreSmall, IsName, named_line-is_line, line-number_in, line-numbers_in, number_in-named_line, numbers_in-named_line}
+use Rattle.potential_check.proofs.RowNumbers.{passing-some}
+
+-- What is known of lines and class lines.
+pub record SheetLaws : Type 0 where
+  pub text : TextLaws
+  pub table_is_spelled : TableIsSpelled
+  pub spelled_table_is_read : SpelledTableIsRead
+  pub line_alone : LineAloneIsRead
+
+-- ---- the names
+
+is_plain : ℕ → Bool
+is_plain b = not (is_newline b) && not (is_space b)
+
+plain_name : (name : List ℕ) → list_all is_plain name ≡ true → 0 < length name → IsName name
+unfolding is_plain
+plain_name name plain some =
+    let all = AllPass-from_list_all is_plain name plain in
+    record {
+      line = All-weaker (λ b. is_plain b ≡ true) (λ b. is_newline b ≡ false) (λ b e. not-true (is_newline b) (and_parts _ _ e).0) name all;
+      word = All-weaker (λ b. is_plain b ≡ true) (λ b. is_space b ≡ false) (λ b e. not-true (is_space b) (and_parts _ _ e).1) name all;
+      some = some;
+    }
+
+pub limit_is_name : IsName (codes "limit")
+unfolding is_plain
+limit_is_name = plain_name (codes "limit") refl (omega arith)
+
+pub step_is_name : IsName (codes "step")
+unfolding is_plain
+step_is_name = plain_name (codes "step") refl (omega arith)
+
+pub waste_is_name : IsName (codes "waste")
+unfolding is_plain
+waste_is_name = plain_name (codes "waste") refl (omega arith)
+
+pub row_is_name : IsName (codes "row")
+unfolding is_plain
+row_is_name = plain_name (codes "row") refl (omega arith)
+
+-- ---- the tests
+
+limit_passes : (k : ℕ) → (1 ≤ k) × (k ≤ 32) → is_limit k ≡ true
+limit_passes k within = and_from (leb 1 k) (leb k 32) (le-leb 1 k within.0) (le-leb k 32 within.1)
+
+passed_limit : (k : ℕ) → is_limit k ≡ true → (1 ≤ k) × (k ≤ 32)
+passed_limit k e = let both = and_parts (leb 1 k) (leb k 32) e in (leb-true 1 k both.0, leb-true k 32 both.1)
+
+step_passes : (s : ℕ) → IsStep s → s ≢ 1 → is_written_step s ≡ true
+step_passes s is_step other = grind (arith, nat_tests)
+
+passed_step : (s : ℕ) → is_written_step s ≡ true → IsStep s × (2 ≤ s) × (s ≤ 8)
+passed_step s e = grind (arith, nat_tests)
+
+pub step_small : (s : ℕ) → IsStep s → s < 2 ^ 64
+step_small s is_step = let small : s ≤ 8 = grind (arith, nat_tests) in omega arith
+
+all_fit : (ns : List ℕ) → AreSmall ns → list_all fits ns ≡ true
+all_fit [] small = refl
+all_fit (n ∷ ns) small = and_from (fits n) (list_all fits ns) (lt-ltb n (2 ^ 64) (All-head (λ n. n < 2 ^ 64) n ns small)) (all_fit ns (All-tail (λ n. n < 2 ^ 64) n ns small))
+
+fitted : (ns : List ℕ) → list_all fits ns ≡ true → AreSmall ns
+fitted ns e = All-weaker (λ n. fits n ≡ true) (λ n. n < 2 ^ 64) (λ n f. ltb-true n (2 ^ 64) f) ns (AllPass-from_list_all fits ns e)
+
+row_passes : (ns : List ℕ) → IsRow ns → is_row ns ≡ true
+row_passes ns is = and_from (leb (length ns) 1023) (list_all fits ns) (le-leb (length ns) 1023 is.0) (all_fit ns is.1)
+
+passed_row : (ns : List ℕ) → is_row ns ≡ true → IsRow ns
+passed_row ns e = let both = and_parts (leb (length ns) 1023) (list_all fits ns) e in (leb-true (length ns) 1023 both.0, fitted ns both.1)
+
+-- ---- from what is spelled to the line
+
+pub one_small : (n : ℕ) → n < 2 ^ 64 → AreSmall (n ∷ [])
+one_small n small = All-cons (λ n. n < 2 ^ 64) n [] small (All-nil (λ n. n < 2 ^ 64))
+
+pub limit_in-line : TextLaws → (k : ℕ) → (1 ≤ k) × (k ≤ 32) → limit_in (named_line (codes "limit") (k ∷ [])) ≡ Some k
+limit_in-line laws k within = number_in-named_line laws (codes "limit") is_limit k limit_is_name (omega (arith, within.1)) (limit_passes k within)
+
+pub step_in-line : TextLaws → (s : ℕ) → IsStep s → s ≢ 1 → step_in (named_line (codes "step") (s ∷ [])) ≡ Some s
+step_in-line laws s is_step other =
+    let passes = step_passes s is_step other in
+    number_in-named_line laws (codes "step") is_written_step s step_is_name (omega (arith, (passed_step s passes).2)) passes
+
+pub waste_in-line : TextLaws → (w : ℕ) → w < 2 ^ 64 → waste_in (named_line (codes "waste") (w ∷ [])) ≡ Some w
+waste_in-line laws w small = number_in-named_line laws (codes "waste") fits w waste_is_name small (lt-ltb w (2 ^ 64) small)
+
+pub row_in-line : TextLaws → (ns : List ℕ) → IsRow ns → row_in (named_line (codes "row") ns) ≡ Some ns
+row_in-line laws ns is = rw (numbers_in-named_line laws (codes "row") ns row_is_name is.1, row_passes ns is) refl
+
+pub legal_small : (table : List ℕ) → IsLegalTable 1 table → AreSmall table
+legal_small table legal = All-weaker (λ class. (2 ≤ class) × (class ≤ 1024)) (λ n. n < 2 ^ 64) (λ class within. omega (arith, within.1)) table legal.in_range
+
+pub classes_is_name : IsName (codes "classes")
+unfolding is_plain
+classes_is_name = plain_name (codes "classes") refl (omega arith)
+
+pub class_line-is_line : TextLaws → (table : List ℕ) → IsLegalTable 1 table → IsLine (class_line table)
+class_line-is_line laws table legal = named_line-is_line laws (codes "classes") table classes_is_name (legal_small table legal)
+
+pub table_in-line : SheetLaws → (table : List ℕ) → IsLegalTable 1 table → table_in (class_line table) ≡ Some table
+table_in-line laws table legal =
+    let alone = laws.line_alone (class_line table) (class_line-is_line laws.text table legal) in
+    let read = laws.spelled_table_is_read (class_line table) table (record { legal = legal; line = inl refl }) in
+    rw (← alone, read) refl
+
+-- ---- from a line to what it spells
+
+pub line-limit_in : TextLaws → (line : List ℕ) (k : ℕ) → limit_in line ≡ Some k → (line ≡ named_line (codes "limit") (k ∷ [])) × (1 ≤ k) × (k ≤ 32)
+line-limit_in laws line k e =
+    let read = line-number_in laws (codes "limit") is_limit line k e (λ m f. omega (arith, (passed_limit m f).1)) in
+    let within = passed_limit k read.1 in
+    (read.0, within.0, within.1)
+
+pub line-step_in : TextLaws → (line : List ℕ) (s : ℕ) → step_in line ≡ Some s → (line ≡ named_line (codes "step") (s ∷ [])) × IsStep s × (s ≢ 1)
+line-step_in laws line s e =
+    let read = line-number_in laws (codes "step") is_written_step line s e (λ m f. omega (arith, (passed_step m f).2)) in
+    let step = passed_step s read.1 in
+    (read.0, step.0, λ one. omega (arith, step.1))
+
+pub line-waste_in : TextLaws → (line : List ℕ) (w : ℕ) → waste_in line ≡ Some w → (line ≡ named_line (codes "waste") (w ∷ [])) × (w < 2 ^ 64)
+line-waste_in laws line w e =
+    let read = line-number_in laws (codes "waste") fits line w e (λ m f. ltb-true m (2 ^ 64) f) in
+    (read.0, ltb-true w (2 ^ 64) read.1)
+
+pub line-row_in : TextLaws → (line ns : List ℕ) → row_in line ≡ Some ns → (line ≡ named_line (codes "row") ns) × IsRow ns
+line-row_in laws line ns e =
+    let passed = passing-some is_row (numbers_in (codes "row") line) ns e in
+    let is = passed_row ns passed.1 in
+    (line-numbers_in laws (codes "row") line ns passed.0 is.1, is)
+
+-- a line holds no newline
+not_ended : (line front : List ℕ) → IsLine line → line ≡ ended front → ⊥
+not_ended line front is_line e =
+    let all : IsLine (ended front) = rw e at is_line in
+    let newline = all (length front) 0 (omega (arith, length-append front (10 ∷ []))) in
+    let here = rw (get_or_at front 10 [] 0 (length front) refl) at newline in
+    cc
+
+pub line-table_in : SheetLaws → (line table : List ℕ) → IsLine line → table_in line ≡ Some table → (line ≡ class_line table) × IsLegalTable 1 table
+line-table_in laws line table is_line e = go (table_of_line line) refl
+  where
+    go : (read : Result (List ℕ) TableError) → table_of_line line ≡ read → (line ≡ class_line table) × IsLegalTable 1 table
+    go (Err fault) f = let none = rw f at e in absurd cc
+    go (Ok found) f =
+        let same : found ≡ table = (let is = rw f at e in cc) in
+        let spelled = laws.table_is_spelled line table (laws.line_alone line is_line ∙ f ∙ ap (λ (t : List ℕ). Ok t) same) in
+        (elim spelled.line [ inl is ↦ is | inr whole ↦ absurd (not_ended line (class_line table) is_line whole) ], spelled.legal)

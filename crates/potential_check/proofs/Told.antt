@@ -1,0 +1,55 @@
+-- The need at a place and the waste of a span, as they are told by what is kept.
+use Rattle.std.proofs.Common.{◌≡◌, ℕ, zero, suc, ◌-◌, ◌*◌, ◌^◌, ◌<◌, ◌≤◌, List, get_or, arith, ap, sym, ◌∙◌}
+use Rattle.std.proofs.lemmas.List.{get_or_default}
+use Rattle.std.proofs.Math.Nat.{mul-le-mul}
+use Rattle.potential_check.specs.Spanned.{HoldsSums, IsSpanned, Spanned}
+use Rattle.tuner_theory.specs.Laws.{PlaceIsClass, PlacesAscend, SumsAscend, SumsFit, SumsTellWaste}
+use Rattle.tuner_theory.specs.Spans.{bytes_up_to, counted_up_to, distinct_needs, need_at, places, span_waste}
+
+-- the need that is kept for a place is a class
+pub need-class : PlaceIsClass → (counts : List ℕ) (step place need : ℕ) (needs counted bytes : List ℕ) → HoldsSums counts step needs counted bytes
+    → 0 < place → place ≤ places counts step → need ≡ get_or needs (place - 1) need → (2 ≤ need) × (need ≤ 1024)
+need-class class counts step zero need needs counted bytes held some le e = absurd (omega arith)
+need-class class counts step (suc i) need needs counted bytes held some le e =
+    let front : suc i - 1 ≡ i = omega arith in
+    let at = class counts step (suc i) held.is_step held.are_counts some le in
+    let is : need ≡ need_at counts step (suc i) =
+    e ∙ (ap (λ k. get_or needs k need) front ∙ (ap (λ (xs : List ℕ). get_or xs i need) held.needs_are ∙ get_or_default (distinct_needs counts step) i need 0 le)) in
+    (omega (arith, at.0, is), omega (arith, at.1, is))
+
+-- the waste by the need at the span's end and the sums up to its two ends, each step of it a number of 64 bits
+pub record IsTold (waste need counted_low counted_high bytes_low bytes_high : ℕ) : Type 0 where
+  pub counted : counted_low ≤ counted_high
+  pub bytes : bytes_low ≤ bytes_high
+  pub fits : 16 * (need - 1) * (counted_high - counted_low) < 2 ^ 64
+  pub held : bytes_high - bytes_low ≤ 16 * (need - 1) * (counted_high - counted_low)
+  pub told : 16 * (need - 1) * (counted_high - counted_low) - (bytes_high - bytes_low) ≡ waste
+
+-- the laws that it rests on
+pub record SpanLaws : Type 0 where
+  pub ascend : PlacesAscend
+  pub class : PlaceIsClass
+  pub waste : SumsTellWaste
+  pub sums : SumsAscend
+  pub fit : SumsFit
+
+pub told : SpanLaws → (s : Spanned) → IsSpanned s → (i j : ℕ) → i < j → j ≤ places s.counts s.step
+    → IsTold (span_waste s.counts s.step i j) (need_at s.counts s.step j)
+    (counted_up_to s.counts s.step (need_at s.counts s.step i)) (counted_up_to s.counts s.step (need_at s.counts s.step j))
+    (bytes_up_to s.counts s.step (need_at s.counts s.step i)) (bytes_up_to s.counts s.step (need_at s.counts s.step j))
+told laws s spanned i j lt le =
+    let low = need_at s.counts s.step i in
+    let high = need_at s.counts s.step j in
+    let up : low ≤ high = omega (arith, laws.ascend s.counts s.step i j spanned.is_step lt le) in
+    let between = laws.sums s.counts s.step low high spanned.is_step up in
+    let small = (laws.class s.counts s.step j spanned.is_step spanned.are_counts (omega arith) le).1 in
+    let payload : 16 * (high - 1) ≤ 16368 = omega (arith, small) in
+    let requests : counted_up_to s.counts s.step high - counted_up_to s.counts s.step low ≤ 2 ^ 44 =
+    omega (arith, (laws.fit s.counts s.step high spanned.are_counts).0) in
+    record {
+      counted = between.counted;
+      bytes = between.bytes;
+      fits = omega (arith, mul-le-mul payload requests);
+      held = between.held;
+      told = sym (laws.waste s.counts s.step low high spanned.is_step up);
+    }

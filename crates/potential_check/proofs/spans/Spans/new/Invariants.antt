@@ -1,0 +1,10 @@
+use Rattle.std.proofs.Common.{◌<◌}
+use Rattle.potential_check.proofs.Building.{IsBuilt}
+use Rattle.potential_check.proofs.spans.Spans.new.Given as goal
+use Rattle.tuner_theory.specs.Waste.{AreCounts}
+
+abbrev pub invariant-loop-n : goal.invariant-loop-n
+invariant-loop-n l = record {
+  built : IsBuilt l.profile.counts l.step l.n l.needs.items l.counted.items l.bytes.items l.total l.total_bytes;
+  are_counts : 0 < l.n → AreCounts l.profile.counts;
+}

@@ -1,0 +1,37 @@
+use Rattle.std.proofs.Common.{arith}
+use Rattle.potential_check.proofs.Told.{IsTold, told}
+use Rattle.tuner_theory.specs.Spans.{span_waste}
+use Rattle.potential_check.proofs.spans.Spans.waste.Goals as goal
+
+facts : (c : goal.After-bytes_up_to-bytes) → IsTold (span_waste c.args.self.now.counts c.args.self.now.step c.args.i c.args.j) c.need.result
+    c.requests_up_to-requests_before.result c.requests_up_to-requests.result c.bytes_up_to-bytes_before.result c.bytes_up_to-bytes.result
+facts c =
+    rw (
+      c.need.ensures.need,
+      c.requests_up_to-requests_before.ensures.requests,
+      c.requests_up_to-requests.ensures.requests,
+      c.bytes_up_to-bytes_before.ensures,
+      c.bytes_up_to-bytes.ensures,
+    )
+    (told (record {
+      ascend = c.law_places.ensures.ascend;
+      class = c.law_places.ensures.class;
+      waste = c.law_prefix_sums.ensures.waste;
+      sums = c.law_prefix_sums.ensures.ascend;
+      fit = c.law_prefix_sums.ensures.fit;
+    }) c.args.self.now c.requests_up_to-requests.ensures.valid c.args.i c.args.j c.requires.order c.requires.within)
+
+pub overflow_sub-result : goal.overflow_sub-result
+overflow_sub-result c = (facts c).counted
+
+pub overflow_sub-result-2 : goal.overflow_sub-result-2
+overflow_sub-result-2 c = (facts c).bytes
+
+pub overflow_mul-result : goal.overflow_mul-result
+overflow_mul-result c = rw (c.from.ensures, c.from-2.ensures) (omega (arith, (facts c).fits))
+
+pub overflow_sub-result-3 : goal.overflow_sub-result-3
+overflow_sub-result-3 c = rw (c.from.ensures, c.from-2.ensures) (facts c).held
+
+pub returns-clause-waste : goal.returns-clause-waste
+returns-clause-waste c = rw (c.from.ensures, c.from-2.ensures) (facts c).told

@@ -1,0 +1,5 @@
+pub mod Laws
+pub mod Lists
+pub mod SheetText
+pub mod Sheets
+pub mod Spanned

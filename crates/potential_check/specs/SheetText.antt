@@ -1,0 +1,161 @@
+-- A sheet's text: a class line, `limit K`, `step S` where the step is not 1, `waste W`, and a line `row ..` for each row.
+use Rattle.std.specs.Prelude.{◌≡◌, ℕ, zero, suc, ◌<◌, ◌≤◌, ◌^◌, Bool, ◌⊎◌, ◌||◌, ◌&&◌, List, [], ◌∷◌, ◌++◌, length, map, All, codes, Option, Some, None, is_some, option_and_then, Result, Ok, Err, nat_lt, nat_le, ◌==◌, if◌then◌else◌}
+use Rattle.std.specs.Fmt.{decimal}
+use Rattle.std.specs.List.{list_all}
+use Rattle.std.specs.Option.{ok_or, option_map}
+use Rattle.std.specs.Result.{result_ok}
+use Rattle.std.specs.Str.{bytes_eq}
+use Rattle.class_table.specs.ClassLine.{class_line, numbers_of, table_of_line}
+use Rattle.class_table.specs.Steps.{IsStep}
+use Rattle.class_table.specs.Tables.{IsLegalTable}
+use Rattle.line_text.specs.Lines.{lines, words, line_of, text_of, ended}
+use Rattle.potential_check.specs.declared.fault.SheetError.{SheetError}
+use Rattle.potential_check.specs.declared.fault.SheetError.TheVariants.{OutOfMemory, Line}
+use Rattle.tuner_theory.specs.Sheets.{Sheet}
+
+-- ---- the spelling
+
+-- The line of a name and numbers.
+abbrev pub named_line : List ℕ → List ℕ → List ℕ
+named_line name numbers = line_of (name ∷ map decimal numbers)
+
+-- For step 1 there is no line.
+abbrev pub step_lines : ℕ → List (List ℕ)
+step_lines step = if step == 1 then [] else named_line (codes "step") (step ∷ []) ∷ []
+
+abbrev pub sheet_lines : Sheet → List (List ℕ)
+sheet_lines s =
+    class_line s.table ∷ named_line (codes "limit") (s.limit ∷ []) ∷ step_lines s.step
+    ++ named_line (codes "waste") (s.waste ∷ []) ∷ map (named_line (codes "row")) s.rows
+
+abbrev pub sheet_text : Sheet → List ℕ
+sheet_text s = text_of (sheet_lines s)
+
+-- The new text is the old one, and perhaps something behind it.
+pub record GoesOn (old new : List ℕ) : Type 0 where
+  pub behind : List ℕ
+  pub is : new ≡ old ++ behind
+
+-- ---- the limits of the format
+
+abbrev pub IsRow : List ℕ → Type 0
+IsRow numbers = (length numbers ≤ 1023) × All (λ n. n < 2 ^ 64) numbers
+
+-- What a sheet keeps to whose text can be read.
+pub record IsWithinLimits (s : Sheet) : Type 0 where
+  pub table : IsLegalTable 1 s.table
+  pub limit : (1 ≤ s.limit) × (s.limit ≤ 32)
+  pub step : IsStep s.step
+  pub waste : s.waste < 2 ^ 64
+  pub few : length s.rows ≤ 32
+  pub rows : All IsRow s.rows
+
+-- The text spells this sheet, its last line with its newline or without.
+pub record SpellsSheet (text : List ℕ) (s : Sheet) : Type 0 where
+  pub limits : IsWithinLimits s
+  pub spelled : (text ≡ sheet_text s) ⊎ (ended text ≡ sheet_text s)
+
+-- ---- reading a line
+
+-- What was read, where it passes a test.
+abbrev pub passing : {A : Type 0} → (A → Bool) → Option A → Option A
+passing test None = None
+passing test (Some x) = if test x then Some x else None
+
+-- The words of a line behind this name; none where the first word is another.
+abbrev pub words_behind : List ℕ → List (List ℕ) → Option (List (List ℕ))
+words_behind name [] = None
+words_behind name (w ∷ ws) = if bytes_eq w name then Some ws else None
+
+-- The numbers of a line of this name and numbers.
+abbrev pub numbers_in : List ℕ → List ℕ → Option (List ℕ)
+numbers_in name line = option_and_then numbers_of (words_behind name (words line))
+
+abbrev pub only_one : List ℕ → Option ℕ
+only_one (n ∷ []) = Some n
+only_one numbers = None
+
+-- The number of a line of this name and one number that passes a test.
+abbrev pub number_in : List ℕ → (ℕ → Bool) → List ℕ → Option ℕ
+number_in name test line = passing test (option_and_then only_one (numbers_in name line))
+
+abbrev pub fits : ℕ → Bool
+fits n = nat_lt n (2 ^ 64)
+
+abbrev pub is_limit : ℕ → Bool
+is_limit k = nat_le 1 k && nat_le k 32
+
+abbrev pub is_written_step : ℕ → Bool
+is_written_step step = step == 2 || step == 4 || step == 8
+
+abbrev pub is_row : List ℕ → Bool
+is_row numbers = nat_le (length numbers) 1023 && list_all fits numbers
+
+abbrev pub table_in : List ℕ → Option (List ℕ)
+table_in line = result_ok (table_of_line line)
+
+abbrev pub limit_in : List ℕ → Option ℕ
+limit_in line = number_in (codes "limit") is_limit line
+
+abbrev pub step_in : List ℕ → Option ℕ
+step_in line = number_in (codes "step") is_written_step line
+
+abbrev pub waste_in : List ℕ → Option ℕ
+waste_in line = number_in (codes "waste") fits line
+
+abbrev pub row_in : List ℕ → Option (List ℕ)
+row_in line = passing is_row (numbers_in (codes "row") line)
+
+-- Whether a line's first word is this name.
+abbrev pub is_named : List ℕ → List ℕ → Bool
+is_named name line = is_some (words_behind name (words line))
+
+-- ---- reading line by line; a fault is the number of the first faulty line
+
+-- Goes on with what was read, unless there was a fault.
+infixl 10 ◌>>=◌
+abbrev pub ◌>>=◌ : {A B : Type 0} → Result A ℕ → (A → Result B ℕ) → Result B ℕ
+(Ok x) >>= more = more x
+(Err number) >>= more = Err number
+
+-- What is read off the first of the lines, which has this number, and the lines behind it. A missing line is faulty too.
+abbrev pub line_at : {A : Type 0} → ℕ → (List ℕ → Option A) → List (List ℕ) → Result (A × List (List ℕ)) ℕ
+line_at number reading [] = Err number
+line_at number reading (line ∷ ls) = ok_or (option_map (λ x. (x, ls)) (reading line)) number
+
+-- The step, and the lines behind it. They begin with the third line, which is the step's only where its first word is `step`.
+abbrev pub step_at : List (List ℕ) → Option (ℕ × List (List ℕ))
+step_at [] = Some (1, [])
+step_at (line ∷ ls) = if is_named (codes "step") line then option_map (λ step. (step, ls)) (step_in line) else Some (1, line ∷ ls)
+
+-- The number of the waste's line: one more where there is a step line, which never says 1.
+abbrev pub waste_number : ℕ → ℕ
+waste_number step = if step == 1 then 3 else 4
+
+-- The rows of the lines, so many at most; the first line has this number.
+unfoldable pub rows_from : ℕ → ℕ → List (List ℕ) → Result (List (List ℕ)) ℕ
+rows_from number most [] = Ok []
+rows_from number zero (line ∷ ls) = Err number
+rows_from number (suc most) (line ∷ ls) = do
+  row ← ok_or (row_in line) number
+  rows ← rows_from (suc number) most ls
+  Ok (row ∷ rows)
+
+unfoldable pub sheet_of_lines : List (List ℕ) → Result Sheet ℕ
+sheet_of_lines ls = do
+  (table, ls) ← line_at 1 table_in ls
+  (limit, ls) ← line_at 2 limit_in ls
+  (step, ls) ← ok_or (step_at ls) 3
+  (waste, ls) ← line_at (waste_number step) waste_in ls
+  rows ← rows_from (suc (waste_number step)) 32 ls
+  Ok (record { table = table; limit = limit; step = step; waste = waste; rows = rows })
+
+-- The sheet that a text spells, or the number of its first faulty line.
+abbrev pub sheet_in : List ℕ → Result Sheet ℕ
+sheet_in text = sheet_of_lines (lines text)
+
+-- What a reader returned is what the definition says, unless memory ran out.
+abbrev pub Gives : {A B : Type 0} → (A → B) → Result A SheetError → Result B ℕ → Type 0
+Gives view (Ok x) read = read ≡ Ok (view x)
+Gives view (Err OutOfMemory) read = Unit {0}
+Gives view (Err (Line number)) read = read ≡ Err number

@@ -1,0 +1,113 @@
+//! What each line of a sheet spells.
+ghost use Rattle.std.specs.Prelude.{◌≡◌, IfOk, option_and_then};
+ghost use Rattle.std.specs.Option.{option_map};
+ghost use Rattle.line_text.specs.Lines.{IsLine, words};
+ghost use Rattle.class_table.specs.ClassLine.{numbers_of};
+ghost use Rattle.potential_check.specs.SheetText.{fits, is_named, limit_in, only_one, passing, row_in, step_in, table_in, waste_in, words_behind};
+
+use class_table::laws::law_class_line;
+use class_table::{ClassTable, LARGEST_CLASS, MOST_CLASSES, SMALLEST_CLASS};
+use line_text::{Number, Words, number_in, words_in};
+use std::alloc::{AllocError, Global};
+
+pub(crate) const LIMIT: &[u8] = b"limit";
+
+pub(crate) const STEP: &[u8] = b"step";
+
+pub(crate) const WASTE: &[u8] = b"waste";
+
+pub(crate) const ROW: &[u8] = b"row";
+
+// no table has more classes
+const MOST_LIMIT: u64 = MOST_CLASSES as u64;
+
+// the most numbers of a row: there are as many classes that a need can be
+const MOST_NUMBERS: usize = (LARGEST_CLASS - SMALLEST_CLASS + 1) as usize;
+
+// the table that a line spells
+pub(crate) fn table_in(line: &[u8]) -> Option<ClassTable>
+    requires { IsLine line.now }
+    ensures { result ≡ table_in line.now }
+{
+    law_class_line();
+    ClassTable::read_line(line).ok()
+}
+
+pub(crate) fn limit_in(line: &[u8]) -> Option<u8>
+    ensures { result ≡ limit_in line.now }
+{
+    match only_number(words_behind(LIMIT, line)?)? {
+        limit @ 1..=MOST_LIMIT => Some(limit as u8),
+        _ => None,
+    }
+}
+
+// the step of a step line, which is never 1
+pub(crate) fn step_in(line: &[u8]) -> Option<u8>
+    ensures { result ≡ step_in line.now }
+{
+    match only_number(words_behind(STEP, line)?)? {
+        2 => Some(2),
+        4 => Some(4),
+        8 => Some(8),
+        _ => None,
+    }
+}
+
+pub(crate) fn waste_in(line: &[u8]) -> Option<u64>
+    ensures { result ≡ waste_in line.now }
+{
+    only_number(words_behind(WASTE, line)?)
+}
+
+// the numbers of a row
+pub(crate) fn row_in(alloc: Global, line: &[u8]) -> Result<Option<Vec<u64>>, AllocError>
+    ensures { IfOk result (λ row. option_map (λ v. v.items) row ≡ row_in line.now) }
+{
+    let Some(words) = words_behind(ROW, line) else {
+        return Ok(None);
+    };
+    let mut row = Vec::new(alloc);
+    for word in words {
+        let Number::Value(number) = number_in(word) else {
+            return Ok(None);
+        };
+        if row.len() == MOST_NUMBERS {
+            return Ok(None);
+        }
+        row.push(number)?;
+    }
+    Ok(Some(row))
+}
+
+// whether a line's first word is this name
+pub(crate) fn is_named(name: &[u8], line: &[u8]) -> bool
+    ensures { result ≡ is_named name.now line.now }
+{
+    words_behind(name, line).is_some()
+}
+
+// the words behind a line's name
+fn words_behind<'a>(name: &[u8], line: &'a [u8]) -> Option<Words<'a>>
+    ensures { result ≡ words_behind name.now (words line.now) }
+{
+    let mut words = words_in(line);
+    if words.next()? != name {
+        return None;
+    }
+    Some(words)
+}
+
+// the number of words that are one number
+fn only_number(mut words: Words<'_>) -> Option<u64>
+    ensures { result ≡ passing fits (option_and_then only_one (numbers_of words.entry)) }
+{
+    let word = words.next()?;
+    if let Some(_other) = words.next() {
+        return None;
+    }
+    match number_in(word) {
+        Number::Value(number) => Some(number),
+        _ => None,
+    }
+}

@@ -1,0 +1,74 @@
+ghost use Rattle.std.specs.Prelude.{◌≡◌, ◌++◌, map, OnOk, OnErr};
+ghost use Rattle.line_text.specs.Lines.{ended, text_of};
+ghost use Rattle.class_table.specs.ClassLine.{class_line};
+ghost use Rattle.potential_check.specs.Sheets.{sheet_of};
+ghost use Rattle.potential_check.specs.SheetText.{GoesOn, named_line, sheet_text};
+
+use crate::rows::Rows;
+use crate::sheet::Sheet;
+use crate::sheet_line::{LIMIT, ROW, STEP, WASTE};
+use arrayvec::ArrayVec;
+use class_table::{ClassTable, LINE_BYTES};
+use itoa::Buffer;
+use std::alloc::AllocError;
+
+/// Appends the text of a sheet: its class line, `limit K`, `step S` where the step is not 1, `waste W`, and a line `row ..` for each row.
+/// Each line has its newline. Where memory is refused, the text is as before.
+pub fn write_sheet(sheet: &Sheet, text: &mut Vec<u8>) -> Result<(), AllocError>
+    ensures written { OnOk result (text.new.items ≡ text.old.items ++ sheet_text (sheet_of sheet.now)) }
+    ensures refused { OnErr result (text.new.items ≡ text.old.items) }
+{
+    let before = text.len();
+    let written = append_sheet(text, sheet);
+    if written.is_err() {
+        text.truncate(before);
+    }
+    written
+}
+
+fn append_sheet(text: &mut Vec<u8>, sheet: &Sheet) -> Result<(), AllocError>
+    ensures written { OnOk result (text.new.items ≡ text.old.items ++ sheet_text (sheet_of sheet.now)) }
+    ensures kept { GoesOn text.old.items text.new.items }
+{
+    append_table(text, &sheet.table)?;
+    append_line(text, LIMIT, &[u64::from(sheet.limit)])?;
+    if sheet.step != 1 {
+        append_line(text, STEP, &[u64::from(sheet.step)])?;
+    }
+    append_line(text, WASTE, &[sheet.waste])?;
+    append_rows(text, &sheet.rows)
+}
+
+fn append_table(text: &mut Vec<u8>, table: &ClassTable) -> Result<(), AllocError>
+    ensures written { OnOk result (text.new.items ≡ text.old.items ++ ended (class_line table.now)) }
+    ensures kept { GoesOn text.old.items text.new.items }
+{
+    let mut line = ArrayVec::<u8, LINE_BYTES>::new();
+    table.write_line(&mut line);
+    text.extend_from_slice(&line)
+}
+
+fn append_rows(text: &mut Vec<u8>, rows: &Rows) -> Result<(), AllocError>
+    ensures written { OnOk result (text.new.items ≡ text.old.items ++ text_of (map (named_line ROW.now) rows.now)) }
+    ensures kept { GoesOn text.old.items text.new.items }
+{
+    for index in 0..rows.len() {
+        append_line(text, ROW, rows.row(index))?;
+    }
+    Ok(())
+}
+
+// appends the line of a name and numbers
+fn append_line(text: &mut Vec<u8>, name: &[u8], numbers: &[u64]) -> Result<(), AllocError>
+    ensures written { OnOk result (text.new.items ≡ text.old.items ++ ended (named_line name.now numbers.now)) }
+    ensures kept { GoesOn text.old.items text.new.items }
+{
+    let mut buffer = Buffer::new();
+    text.extend_from_slice(name)?;
+    for number in numbers {
+        text.push(b' ')?;
+        text.extend_from_slice(buffer.format(*number).as_bytes())?;
+    }
+    text.push(b'\n')?;
+    Ok(())
+}

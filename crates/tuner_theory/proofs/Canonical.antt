@@ -1,0 +1,212 @@
+-- The table that least rows tell is best, and of the best tables whose every class is used the lexicographically least.
+use Rattle.std.proofs.Common.{◌≡◌, ℕ, zero, suc, ◌<◌, ◌≤◌, List, [], ◌∷◌, length, slice_index, ltb, Some, arith, refl, ap, sym, subst, ◌∙◌, inl, inr}
+use Rattle.std.specs.Bool.{⊤}
+use Rattle.std.specs.Prelude.{All}
+use Rattle.std.proofs.lemmas.Bool.{cases_lt, cond_both, ltb-true}
+use Rattle.std.proofs.lemmas.List.{get_or_default}
+use Rattle.class_table.specs.Tables.{class_for}
+use Rattle.tuner_theory.specs.Best.{IsBest, IsCandidate, IsCanonical, IsLexicographicallyAtMost, IsUsed}
+use Rattle.tuner_theory.specs.Tuned.{AreTunedRows, tuned_table}
+use Rattle.tuner_theory.specs.Rows.{AreLeastRows, table_of_ends}
+use Rattle.tuner_theory.specs.Spans.{need_at, places, rounded_need, span_waste}
+use Rattle.tuner_theory.specs.Waste.{IsCounted, waste_of}
+use Rattle.tuner_theory.proofs.Bound.{bound, potentials-bound}
+use Rattle.tuner_theory.proofs.LeastRows.{ends-later, rows-valid}
+use Rattle.tuner_theory.proofs.Needs.{Reaches, need_at-from, needs_ascend, reach, reach-at, reach-covers, reach-one}
+use Rattle.tuner_theory.proofs.Rounding.{rounded-positive, step-positive}
+use Rattle.tuner_theory.proofs.Tables.{AreClassesAbove, ServesAbove, ServesAbove-later, class-above, class_for-first, class_for-later, classes-from_legal, legal-from_classes, nothing-left, span-least, waste_above, waste_above-all, waste_above-cons}
+use Rattle.tuner_theory.proofs.TunedTable.{IsTableFor, next-above, table-tuned}
+
+-- ---- used classes
+
+-- each class has a counted request between it and the class before it, the first between it and low
+abbrev AreUsedAbove : List ℕ → ℕ → ℕ → List ℕ → Type 0
+AreUsedAbove counts step low [] = ⊤
+AreUsedAbove counts step low (c ∷ cs) =
+    ((n : ℕ) × IsCounted counts n × (low < rounded_need step n) × (rounded_need step n ≤ c)) × AreUsedAbove counts step c cs
+
+-- a counted request above low whose class is the one at k
+abbrev IsUsedAt : List ℕ → ℕ → ℕ → List ℕ → ℕ → Type 0
+IsUsedAt counts step low classes k =
+    (n : ℕ) × IsCounted counts n × (low < rounded_need step n) × (class_for classes n ≡ Some (slice_index classes k))
+
+some-same : {a b : ℕ} → Some a ≡ Some b → a ≡ b
+some-same e = cc
+
+module _ (step : ℕ) (pos : 0 < step) where
+  -- the class of a request is not below its need
+  class_for-above : (low n class : ℕ) (classes : List ℕ) → 1 ≤ low → AreClassesAbove step low classes → class_for classes n ≡ Some class
+      → rounded_need step n ≤ class
+  class_for-above low n class [] one above e = absurd cc
+  class_for-above low n class (c ∷ cs) one above e =
+      elim (cases_lt c (rounded_need step n)) [
+        | inr le ↦ (let same : c ≡ class = some-same (sym (class_for-first step pos n c cs le) ∙ e) in omega arith)
+        | inl lt ↦ class_for-above c n class cs (omega (arith, above.0)) above.3
+            (sym (class_for-later step pos n c cs (omega (arith, above.0)) above.2 lt) ∙ e)
+      ]
+
+module _ (counts : List ℕ) (step : ℕ) (pos : 0 < step) where
+  used-from : (low : ℕ) (classes : List ℕ) → 1 ≤ low → AreClassesAbove step low classes
+      → ((k : ℕ) → k < length classes → IsUsedAt counts step low classes k) → AreUsedAbove counts step low classes
+  used-from low [] one above used = tt
+  used-from low (c ∷ cs) one above used =
+      let first = used 0 (omega arith) in (
+        (first.0, first.1, first.2, class_for-above step pos low first.0 c (c ∷ cs) one above first.3),
+        used-from c cs (omega (arith, above.0)) above.3 (λ k lt.
+            let u = used (suc k) (omega arith) in
+            elim (cases_lt c (rounded_need step u.0)) [
+              | inl over ↦ (u.0, u.1, over, sym (class_for-later step pos u.0 c cs (omega (arith, above.0)) above.2 over) ∙ u.3)
+              | inr le ↦ absurd (let same : c ≡ slice_index cs k = some-same (sym (class_for-first step pos u.0 c cs le) ∙ u.3) in
+                  omega (arith, same, class-above step c k cs above.3 (omega arith)))
+            ]),
+      )
+
+  used-to : (low : ℕ) (classes : List ℕ) → 1 ≤ low → AreClassesAbove step low classes → AreUsedAbove counts step low classes
+      → (k : ℕ) → k < length classes → IsUsedAt counts step low classes k
+  used-to low [] one above used k lt = absurd (omega arith)
+  used-to low (c ∷ cs) one above used zero lt =
+      (used.0.0, used.0.1, used.0.2, class_for-first step pos used.0.0 c cs used.0.3)
+  used-to low (c ∷ cs) one above used (suc k) lt =
+      let u = used-to c cs (omega (arith, above.0)) above.3 used.1 k (omega arith) in
+      (u.0, u.1, omega (arith, above.0, u.2), class_for-later step pos u.0 c cs (omega (arith, above.0)) above.2 u.2 ∙ u.3)
+
+  used-from_all : (classes : List ℕ) → AreClassesAbove step 1 classes → All (IsUsed counts classes) classes → AreUsedAbove counts step 1 classes
+  used-from_all classes above used =
+      used-from 1 classes (omega arith) above
+      (λ k lt. let u = used k 0 lt in (u.0, u.1, rounded-positive step pos u.0, u.2))
+
+  all-from_used : (classes : List ℕ) → AreClassesAbove step 1 classes → AreUsedAbove counts step 1 classes → All (IsUsed counts classes) classes
+  all-from_used classes above used k d lt =
+      let u = used-to 1 classes (omega arith) above used k lt in
+      subst (IsUsed counts classes) (get_or_default classes k 0 d lt) (u.0, u.1, u.3)
+
+  -- a used class reaches farther than what is below it
+  used-farther : (low c i j n : ℕ) → Reaches counts step low (places counts step) i → Reaches counts step c (places counts step) j
+      → IsCounted counts n → low < rounded_need step n → rounded_need step n ≤ c → i < j
+  used-farther low c i j n ri rj counted over le =
+      let covered = reach-covers counts step pos c j n rj counted le in
+      elim (cases_lt i j) [
+        | inl lt ↦ lt
+        | inr not ↦ absurd (elim (cases_lt j i) [
+          | inl back ↦ omega (arith, ri.reached, covered, needs_ascend counts step pos j i back ri.within)
+          | inr other ↦ (let same : i ≡ j = omega arith in omega (arith, ri.reached, covered, ap (need_at counts step) same))
+        ])
+      ]
+
+-- ---- the order of tables
+
+pub order-antisymmetric : (a b : List ℕ) → IsLexicographicallyAtMost a b → IsLexicographicallyAtMost b a → a ≡ b
+order-antisymmetric [] [] h g = refl
+order-antisymmetric [] (y ∷ ys) h g = absurd g
+order-antisymmetric (x ∷ xs) [] h g = absurd h
+order-antisymmetric (x ∷ xs) (y ∷ ys) (inl h) (inl g) = absurd (omega arith)
+order-antisymmetric (x ∷ xs) (y ∷ ys) (inl h) (inr g) = absurd (omega (arith, g.0))
+order-antisymmetric (x ∷ xs) (y ∷ ys) (inr h) (inl g) = absurd (omega (arith, h.0))
+order-antisymmetric (x ∷ xs) (y ∷ ys) (inr h) (inr g) = let later = order-antisymmetric xs ys h.1 g.1 in let first = h.0 in cc
+
+module _ (counts : List ℕ) (step : ℕ) (pos : 0 < step) (limit : ℕ) (rows ends : ℕ → ℕ → ℕ)
+    (least : AreLeastRows (span_waste counts step) (places counts step) limit rows ends) where
+  -- each class that is read off is the need of a counted request
+  tuned-used : (k i low : ℕ) → k ≤ limit → Reaches counts step low (places counts step) i
+      → AreUsedAbove counts step low (table_of_ends (need_at counts step) ends (places counts step) k i)
+  tuned-used zero i low le r = tt
+  tuned-used (suc k) i low le r =
+      cond_both (ltb i (places counts step)) _ _ (AreUsedAbove counts step low)
+      (λ e. let j = ends (suc k) i in
+      let far = ends-later _ _ limit rows ends least (suc k) i (omega arith) le (ltb-true i (places counts step) e) in
+      let at = need_at-from counts step j (omega (arith, far.0)) far.1 in (
+        (at.0, at.1, omega (arith, at.2, next-above counts step pos low i j r far.0 far.1), omega (arith, at.2)),
+        tuned-used k j (need_at counts step j) (omega arith) (reach-at counts step pos j far.1),
+      ))
+      (λ e. tt)
+
+  -- the table that is read off comes before each used table that wastes no more
+  tuned-first : (k i low : ℕ) (classes : List ℕ) → 1 ≤ low → k ≤ limit → Reaches counts step low (places counts step) i
+      → AreClassesAbove step low classes → length classes ≤ k → ServesAbove counts step low classes → AreUsedAbove counts step low classes
+      → waste_above counts step low classes ≤ rows k i
+      → IsLexicographicallyAtMost (table_of_ends (need_at counts step) ends (places counts step) k i) classes
+  tuned-first zero i low classes one le r above few served used wasted = tt
+  tuned-first (suc k) i low [] one le r above few served used wasted =
+      cond_both (ltb i (places counts step)) _ _ (λ table. IsLexicographicallyAtMost table [])
+      (λ e. absurd (omega (arith, ltb-true i (places counts step) e, nothing-left counts step pos low i [] (omega arith) r served)))
+      (λ e. tt)
+  tuned-first (suc zero) i low (c ∷ cs) one le r above few served used wasted =
+      let d = places counts step in
+      cond_both (ltb i d) _ _ (λ table. IsLexicographicallyAtMost table (c ∷ cs))
+      (λ e. let j = reach counts step c d in
+      let later = ServesAbove-later counts step pos low c cs one above.0 above.2 served in
+      let all : j.0 ≡ d = nothing-left counts step pos c j.0 cs (omega arith) j.1 later in
+      let row = least.first_row i (omega arith) (ltb-true i d e) in
+      let same : need_at counts step (ends 1 i) ≡ need_at counts step j.0 = ap (need_at counts step) (row.1 ∙ sym all) in
+      elim (cases_lt (need_at counts step (ends 1 i)) c) [ inl lt ↦ inl lt | inr ge ↦ inr (omega (arith, j.1.reached), tt) ])
+      (λ e. tt)
+  tuned-first (suc (suc k)) i low (c ∷ cs) one le r above few served used wasted =
+      let d = places counts step in
+      cond_both (ltb i d) _ _ (λ table. IsLexicographicallyAtMost table (c ∷ cs))
+      (λ e. let j = reach counts step c d in
+      let far : i < j.0 = used-farther counts step pos low c i j.0 used.0.0 r j.1 used.0.1 used.0.2 used.0.3 in
+      let later = ServesAbove-later counts step pos low c cs one above.0 above.2 served in
+      let row = least.later_row (suc k) i (omega arith) (omega arith) (ltb-true i d e) in
+      let end = ends (suc (suc k)) i in
+      let rest : rows (suc k) j.0 ≤ waste_above counts step c cs =
+      bound counts step pos limit rows (rows-valid _ _ _ rows ends least) cs (suc k) c j.0 (omega (arith, above.0)) j.1 above.3 (omega arith) (omega arith) later in
+      let first = span-least counts step pos low c i j.0 r j.1 in
+      let all = waste_above-cons counts step pos low c cs one above.0 above.2 in
+      elim (cases_lt (need_at counts step end) c) [
+        | inl lt ↦ inl lt
+        | inr ge ↦ (let no_later : j.0 ≤ end = (reach-at counts step pos end row.0.within).last j.0 j.1.within (omega (arith, j.1.reached)) in
+            elim (cases_lt j.0 end) [
+              | inl before ↦ absurd (omega (arith, row.0.first j.0 far before, row.1, rest, first, all, wasted))
+              | inr not ↦ (let same : j.0 ≡ end = omega arith in
+                  let r' : Reaches counts step c d end = subst (Reaches counts step c d) same j.1 in
+                  inr (
+                    omega (arith, r'.reached),
+                    tuned-first (suc k) end c cs (omega (arith, above.0)) (omega arith) r' above.3 (omega arith) later used.1
+                        (omega (arith, row.1, all, wasted, span-least counts step pos low c i end r r')),
+                  ))
+            ])
+      ])
+      (λ e. tt)
+
+-- ---- the table from the last row and place 0
+
+pub tuned-canonical : (counts : List ℕ) (step limit : ℕ) (rows ends : ℕ → ℕ → ℕ) → AreTunedRows counts step limit rows ends
+    → IsCanonical counts step limit (tuned_table counts step limit ends) × (waste_of counts (tuned_table counts step limit ends) ≡ rows limit 0)
+tuned-canonical counts step zero rows ends tuned = absurd (omega (arith, tuned.some))
+tuned-canonical counts step (suc k) rows ends tuned = (record { best = best; used = used; least = least }, wasted)
+  where
+    pos : 0 < step
+    pos = step-positive step tuned.is_step
+
+    table : List ℕ
+    table = tuned_table counts step (suc k) ends
+
+    is : IsTableFor counts step (suc k) 1 (rows (suc k) 0) table
+    is = table-tuned counts step tuned.is_step (omega (arith, tuned.are_counts.sizes)) (suc k) rows ends tuned.least k 0 1 (omega arith) (omega arith) (reach-one counts step pos)
+
+    wasted : waste_of counts table ≡ rows (suc k) 0
+    wasted = omega (arith, waste_above-all counts step pos table, is.wasted)
+
+    candidate : IsCandidate counts step (suc k) table
+    candidate = record {
+      legal = legal-from_classes step table (omega (arith, is.few, tuned.few)) is.above;
+      few = is.few;
+      serving = λ n counted. is.served n counted (omega (arith, rounded-positive step pos n));
+    }
+
+    best : IsBest counts step (suc k) table
+    best = record {
+      candidate = candidate;
+      least = λ other question. omega (arith, wasted, potentials-bound counts step pos (suc k) rows (rows-valid _ _ _ rows ends tuned.least) other question);
+    }
+
+    used : All (IsUsed counts table) table
+    used = all-from_used counts step pos table is.above (tuned-used counts step pos (suc k) rows ends tuned.least (suc k) 0 1 (omega arith) (reach-one counts step pos))
+
+    least : (other : List ℕ) → IsBest counts step (suc k) other → All (IsUsed counts other) other → IsLexicographicallyAtMost table other
+    least other best_too used_too =
+        let above = classes-from_legal step other best_too.candidate.legal in
+        tuned-first counts step pos (suc k) rows ends tuned.least (suc k) 0 1 other (omega arith) (omega arith) (reach-one counts step pos)
+        above best_too.candidate.few (λ n counted over. best_too.candidate.serving n counted)
+        (used-from_all counts step pos other above used_too)
+        (omega (arith, waste_above-all counts step pos other, wasted, best_too.least table candidate))

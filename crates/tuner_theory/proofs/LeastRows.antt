@@ -1,0 +1,55 @@
+-- Least rows: their ends are behind their places, and ascend where spans cross; their numbers are valid potentials.
+use Rattle.std.proofs.Common.{◌≡◌, ℕ, zero, suc, ◌+◌, ◌<◌, ◌≤◌, arith, ap, inl, inr}
+use Rattle.std.proofs.lemmas.Bool.{cases_lt}
+use Rattle.tuner_theory.specs.Potentials.{AreValidPotentials}
+use Rattle.tuner_theory.specs.Rows.{AreLeastRows, IsLeastEnd}
+use Rattle.tuner_theory.specs.Spans.{IsCrossing}
+
+pub ends-ascend : (cost : ℕ → ℕ → ℕ) (before : ℕ → ℕ) (d i j e f : ℕ) → IsCrossing cost d → i ≤ j
+    → IsLeastEnd (λ m. cost i m + before m) i d e → IsLeastEnd (λ m. cost j m + before m) j d f → e ≤ f
+ends-ascend cost before d i j e f crossing ij le lf =
+    elim (cases_lt f e) [
+      | inr not ↦ not
+      | inl back ↦ absurd (omega (
+        arith,
+        le.first f (omega (arith, lf.after)) back,
+        lf.least e (omega (arith, lf.after)) le.within,
+        crossing i j f e ij lf.after (omega arith) le.within,
+      ))
+    ]
+
+module _ (cost : ℕ → ℕ → ℕ) (d limit : ℕ) (rows ends : ℕ → ℕ → ℕ) (least : AreLeastRows cost d limit rows ends) where
+  pub ends-later : (k i : ℕ) → 1 ≤ k → k ≤ limit → i < d → (i < ends k i) × (ends k i ≤ d)
+  ends-later zero i one le lt = absurd (omega arith)
+  ends-later (suc zero) i one le lt = let row = least.first_row i (omega arith) lt in (omega (arith, row.1), omega (arith, row.1))
+  ends-later (suc (suc k)) i one le lt = let row = least.later_row (suc k) i (omega arith) (omega arith) lt in (row.0.after, row.0.within)
+
+  edge-least : (k i j : ℕ) → 1 ≤ k → k < limit → i < j → j ≤ d → rows (suc k) i ≤ cost i j + rows k j
+  edge-least k i j one few lt le =
+      let row = least.later_row k i one few (omega arith) in omega (arith, row.1, row.0.least j lt le)
+
+  -- a row is not above the one before it: its best end serves there too
+  drop-least : (k i : ℕ) → suc k < limit → i < d → rows (suc (suc k)) i ≤ rows (suc k) i
+  drop-least zero i few lt =
+      omega (arith, edge-least 1 i d (omega arith) few lt (omega arith), least.at_end 1, (least.first_row i (omega arith) lt).0)
+  drop-least (suc k) i few lt =
+      let row = least.later_row (suc k) i (omega arith) (omega arith) lt in
+      let e = ends (suc (suc k)) i in
+      let edge = edge-least (suc (suc k)) i e (omega arith) few row.0.after row.0.within in
+      elim (cases_lt e d) [
+        | inl inside ↦ omega (arith, row.1, edge, drop-least k e (omega arith) inside)
+        | inr past ↦ (let end : e ≡ d = omega (arith, row.0.within) in
+            omega (arith, row.1, edge, ap (rows (suc (suc k))) end, least.at_end (suc (suc k))))
+      ]
+
+  stage-drop : (k i : ℕ) → 1 ≤ k → k < limit → i < d → rows (suc k) i ≤ rows k i
+  stage-drop zero i one few lt = absurd (omega arith)
+  stage-drop (suc k) i one few lt = drop-least k i few lt
+
+  pub rows-valid : AreValidPotentials cost d limit rows
+  rows-valid = record {
+    last_class = λ i one lt. omega (arith, (least.first_row i one lt).0);
+    stage_drop = stage-drop;
+    edge = edge-least;
+    at_end = least.at_end;
+  }

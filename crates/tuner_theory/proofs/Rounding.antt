@@ -1,0 +1,104 @@
+-- Needs, rounded up, against the classes that serve.
+use Rattle.std.proofs.Common.{◌≡◌, ℕ, ◌+◌, ◌-◌, ◌*◌, ◌/◌, ◌%◌, ◌<◌, ◌≤◌, ◌⊎◌, ◌||◌, arith, refl, inl, inr, subst, sym, eqb}
+use Rattle.std.proofs.lemmas.Bool.{or_cases, eqb-true}
+use Rattle.std.proofs.Math.Nat.{mul-le-mul_right, lt-mul-div-succ, div-lt_iff_lt-mul, div-add-mod, mul_comm, mul-mod_left}
+use Rattle.class_table.specs.Sizes.{need_of}
+use Rattle.tuner_theory.specs.Spans.{rounded_need}
+use Rattle.class_table.specs.Steps.{IsLeastMultiple, IsStep, round_up}
+
+-- ---- steps
+
+abbrev StepCase : ℕ → Type 0
+StepCase step = (step ≡ 1) ⊎ ((step ≡ 2) ⊎ ((step ≡ 4) ⊎ (step ≡ 8)))
+
+step-cases : (step : ℕ) → IsStep step → StepCase step
+step-cases step h =
+    elim (or_cases (eqb step 1 || eqb step 2 || eqb step 4) (eqb step 8) h) [
+      | inr e ↦ inr (inr (inr (eqb-true step 8 e)))
+      | inl h ↦ elim (or_cases (eqb step 1 || eqb step 2) (eqb step 4) h) [
+        | inr e ↦ inr (inr (inl (eqb-true step 4 e)))
+        | inl h ↦ elim (or_cases (eqb step 1) (eqb step 2) h) [
+          | inl e ↦ inl (eqb-true step 1 e)
+          | inr e ↦ inr (inl (eqb-true step 2 e))
+        ]
+      ]
+    ]
+
+-- what holds of each step
+at_each_step : (P : ℕ → Type 0) → P 1 → P 2 → P 4 → P 8 → (step : ℕ) → IsStep step → P step
+at_each_step P one two four eight step h =
+    elim (step-cases step h) [
+      | inl e ↦ subst P (sym e) one
+      | inr (inl e) ↦ subst P (sym e) two
+      | inr (inr (inl e)) ↦ subst P (sym e) four
+      | inr (inr (inr e)) ↦ subst P (sym e) eight
+    ]
+
+pub step-positive : (step : ℕ) → IsStep step → 0 < step
+step-positive = at_each_step (λ step. 0 < step) (omega arith) (omega arith) (omega arith) (omega arith)
+
+largest-multiple : (step : ℕ) → IsStep step → 1024 % step ≡ 0
+largest-multiple = at_each_step (λ step. 1024 % step ≡ 0) refl refl refl refl
+
+-- ---- rounding
+
+round_up-above : (need step : ℕ) → 0 < step → need ≤ round_up need step
+round_up-above need step pos = omega (arith, lt-mul-div-succ (need + step - 1) pos)
+
+-- none of the multiples that are not below the need is below the rounded one
+round_up-least : (need step other : ℕ) → 0 < step → other % step ≡ 0 → need ≤ other → round_up need step ≤ other
+round_up-least need step other pos multiple le =
+    let whole : step * (other / step) ≡ other = omega (arith, div-add-mod other step) in
+    let below : need + step - 1 < (other / step + 1) * step = omega (arith, mul_comm step (other / step)) in
+    let fewer : (need + step - 1) / step ≤ other / step = omega (arith, (div-lt_iff_lt-mul pos).1 below) in
+    omega (arith, mul-le-mul_right step fewer, mul_comm step (other / step))
+
+pub rounding-least : (step need : ℕ) → 0 < step → IsLeastMultiple step need (round_up need step)
+rounding-least step need pos = record {
+  multiple = mul-mod_left ((need + step - 1) / step) step;
+  above = round_up-above need step pos;
+  least = λ other multiple le. round_up-least need step other pos multiple le;
+}
+
+pub rounding-fits : (step need : ℕ) → IsStep step → need ≤ 1024 → round_up need step ≤ 1024
+rounding-fits step need is_step le = round_up-least need step 1024 (step-positive step is_step) (largest-multiple step is_step) le
+
+-- ---- rounded needs
+
+need-mono : (m n : ℕ) → m ≤ n → need_of m ≤ need_of n
+need-mono m n le = omega arith
+
+need-positive : (n : ℕ) → 2 ≤ need_of n
+need-positive n = omega arith
+
+need-small : (n : ℕ) → n < 16369 → need_of n ≤ 1024
+need-small n lt = omega arith
+
+need-fits : (n class : ℕ) → need_of n ≤ class → n ≤ 16 * class - 16
+need-fits n class le = omega arith
+
+fits-need : (n class : ℕ) → 2 ≤ class → n ≤ 16 * class - 16 → need_of n ≤ class
+fits-need n class two le = omega arith
+
+pub rounded-small : (step n : ℕ) → IsStep step → n < 16369 → rounded_need step n ≤ 1024
+rounded-small step n is_step lt = rounding-fits step (need_of n) is_step (need-small n lt)
+
+module _ (step : ℕ) (pos : 0 < step) where
+  pub rounded-multiple : (n : ℕ) → rounded_need step n % step ≡ 0
+  rounded-multiple n = (rounding-least step (need_of n) pos).multiple
+
+  pub rounded-mono : (m n : ℕ) → m ≤ n → rounded_need step m ≤ rounded_need step n
+  rounded-mono m n le =
+      let later = rounding-least step (need_of n) pos in
+      round_up-least (need_of m) step (rounded_need step n) pos later.multiple (omega (arith, need-mono m n le, later.above))
+
+  pub rounded-positive : (n : ℕ) → 2 ≤ rounded_need step n
+  rounded-positive n = omega (arith, round_up-above (need_of n) step pos, need-positive n)
+
+  -- a class that is not below the rounded need serves,
+  pub rounded-fits : (n class : ℕ) → rounded_need step n ≤ class → n ≤ 16 * class - 16
+  rounded-fits n class le = need-fits n class (omega (arith, round_up-above (need_of n) step pos))
+
+  -- and a class that serves, where it is a multiple of the step, is not below it
+  pub fits-rounded : (n class : ℕ) → 2 ≤ class → class % step ≡ 0 → n ≤ 16 * class - 16 → rounded_need step n ≤ class
+  fits-rounded n class two multiple le = round_up-least (need_of n) step class pos multiple (fits-need n class two le)

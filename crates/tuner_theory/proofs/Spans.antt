@@ -1,0 +1,134 @@
+-- The waste between two needs: spans that cross, and the two sums that tell it.
+use Rattle.std.proofs.Common.{◌≡◌, ℕ, ◌+◌, ◌-◌, ◌*◌, ◌^◌, ◌<◌, ◌≤◌, ◌&&◌, List, length, slice_index, cond, ltb, leb, arith, ap, inl, inr}
+use Rattle.std.proofs.lemmas.Bool.{cond_both, cases_lt, lt-ltb, le-ltb, le-leb, lt-leb}
+use Rattle.std.proofs.lemmas.Bool.Decides.{nat_tests}
+use Rattle.std.proofs.lemmas.List.{get_or_past}
+use Rattle.std.proofs.Math.Nat.{mul-le-mul, mul-le-mul_left}
+use Rattle.class_table.specs.Sizes.{loss_of}
+use Rattle.tuner_theory.specs.Laws.{IsWasteOfSums}
+use Rattle.tuner_theory.specs.Spans.{bytes_up_to, counted_up_to, need_at, places, rounded_need, span_waste, waste_between}
+use Rattle.class_table.specs.Steps.{IsStep}
+use Rattle.tuner_theory.specs.Waste.{AreCounts, sum_below}
+use Rattle.tuner_theory.proofs.Needs.{need_at-mono, place-class}
+use Rattle.tuner_theory.proofs.Rounding.{rounded-fits, step-positive}
+use Rattle.tuner_theory.proofs.Sums.{sum_at_most, sum_balance, sum_bounded, sum_exchange, sum_none}
+
+-- ---- spans that cross
+
+-- at one request, of need x, that loses u in the class c and v in the class d
+cross-at_one : (x a b c d u v : ℕ) → a ≤ b → b ≤ c → c ≤ d → u ≤ v
+    → cond (ltb a x && leb x c) u 0 + cond (ltb b x && leb x d) v 0
+    ≤ cond (ltb a x && leb x d) v 0 + cond (ltb b x && leb x c) u 0
+cross-at_one x a b c d u v ab bc cd uv = grind (arith, nat_tests)
+
+pub loss-mono : (count n c d : ℕ) → c ≤ d → count * loss_of n c ≤ count * loss_of n d
+loss-mono count n c d cd = mul-le-mul_left count (omega arith)
+
+pub needs-cross : (counts : List ℕ) (step a b c d : ℕ) → a ≤ b → b ≤ c → c ≤ d
+    → waste_between counts step a c + waste_between counts step b d ≤ waste_between counts step a d + waste_between counts step b c
+needs-cross counts step a b c d ab bc cd =
+    sum_exchange _ _ _ _ (length counts)
+    (λ n lt. cross-at_one (rounded_need step n) a b c d _ _ ab bc cd (loss-mono (slice_index counts n) n c d cd))
+
+pub places-cross : (counts : List ℕ) (step a b c d : ℕ) → IsStep step → a ≤ b → b ≤ c → c ≤ d → d ≤ places counts step
+    → span_waste counts step a c + span_waste counts step b d ≤ span_waste counts step a d + span_waste counts step b c
+places-cross counts step a b c d is_step ab bc cd le =
+    let up = need_at-mono counts step (step-positive step is_step) in
+    needs-cross counts step _ _ _ _ (up a b ab (omega arith)) (up b c bc (omega arith)) (up c d cd le)
+
+pub nothing-between : (counts : List ℕ) (step i : ℕ) → span_waste counts step i i ≡ 0
+nothing-between counts step i = sum_none _ (length counts) (λ n lt. none (rounded_need step n) (need_at counts step i) _)
+  where
+    none : (x y v : ℕ) → cond (ltb y x && leb x y) v 0 ≡ 0
+    none x y v = grind (arith, nat_tests)
+
+-- ---- the waste by two sums
+
+-- one request, of need x: u is what it loses in the class high, and k what that class holds
+sums-at_one : (x low high k count n u : ℕ) → low ≤ high → (x ≤ high → u + n ≡ k)
+    → cond (ltb low x && leb x high) (count * u) 0 + cond (leb x high) (count * n) 0 + k * cond (leb x low) count 0
+    ≡ k * cond (leb x high) count 0 + cond (leb x low) (count * n) 0
+sums-at_one x low high k count n u le whole =
+    elim (cases_lt high x) [
+      | inl above ↦ grind (arith, nat_tests)
+      | inr fits ↦ (let e : count * (u + n) ≡ count * k = ap (λ z. count * z) (whole fits) in
+          elim (cases_lt low x) [
+            | inl over ↦ simp (lt-ltb low x over, le-leb x high fits, lt-leb x low over) (omega (arith, e))
+            | inr under ↦ simp (le-ltb low x under, le-leb x high fits, le-leb x low under) (omega arith)
+          ])
+    ]
+
+-- the sums of counts and bytes up to low and up to high, with the waste w between: k is what the class high holds
+solved : (w bytes_low bytes_high counted_low counted_high k : ℕ) → counted_low ≤ counted_high → bytes_low ≤ bytes_high
+    → w + bytes_high + k * counted_low ≡ k * counted_high + bytes_low
+    → (w ≡ k * (counted_high - counted_low) - (bytes_high - bytes_low)) × (bytes_high - bytes_low ≤ k * (counted_high - counted_low))
+solved w bytes_low bytes_high counted_low counted_high k counted bytes balance =
+    let apart : (counted_high - counted_low) + counted_low ≡ counted_high = omega arith in
+    let scaled : k * (counted_high - counted_low) + k * counted_low ≡ k * counted_high = omega (arith, ap (λ z. k * z) apart) in
+    (omega arith, omega arith)
+
+module _ (counts : List ℕ) (step : ℕ) (pos : 0 < step) (low high : ℕ) (le : low ≤ high) where
+  sums-balance : waste_between counts step low high + bytes_up_to counts step high + 16 * (high - 1) * counted_up_to counts step low
+      ≡ 16 * (high - 1) * counted_up_to counts step high + bytes_up_to counts step low
+  sums-balance =
+      sum_balance _ _ _ _ _ (16 * (high - 1)) (length counts)
+      (λ n lt. sums-at_one (rounded_need step n) low high (16 * (high - 1)) (slice_index counts n) n _ le
+      (λ fits. omega (arith, rounded-fits step pos n high fits)))
+
+  up_to-mono : (f : ℕ → ℕ)
+      → sum_below (λ n. cond (leb (rounded_need step n) low) (f n) 0) (length counts) ≤ sum_below (λ n. cond (leb (rounded_need step n) high) (f n) 0) (length counts)
+  up_to-mono f = sum_at_most _ _ (length counts) (λ n lt. wider (rounded_need step n) (f n))
+    where
+      wider : (x v : ℕ) → cond (leb x low) v 0 ≤ cond (leb x high) v 0
+      wider x v = grind (arith, nat_tests)
+
+  counted-mono : counted_up_to counts step low ≤ counted_up_to counts step high
+  counted-mono = up_to-mono (slice_index counts)
+
+  bytes-mono : bytes_up_to counts step low ≤ bytes_up_to counts step high
+  bytes-mono = up_to-mono (λ n. slice_index counts n * n)
+
+  pub sums-waste : waste_between counts step low high
+      ≡ 16 * (high - 1) * (counted_up_to counts step high - counted_up_to counts step low) - (bytes_up_to counts step high - bytes_up_to counts step low)
+  sums-waste = (solved _ _ _ _ _ (16 * (high - 1)) counted-mono bytes-mono sums-balance).0
+
+  pub sums-ascend : IsWasteOfSums high (counted_up_to counts step low) (counted_up_to counts step high) (bytes_up_to counts step low) (bytes_up_to counts step high)
+  sums-ascend = record {
+    counted = counted-mono;
+    bytes = bytes-mono;
+    held = (solved _ _ _ _ _ (16 * (high - 1)) counted-mono bytes-mono sums-balance).1;
+  }
+
+-- ---- how large they are
+
+pub count-small : (counts : List ℕ) (n : ℕ) → AreCounts counts → slice_index counts n ≤ 1000000000
+count-small counts n are =
+    elim (cases_lt n (length counts)) [ inl within ↦ are.in_range n 0 within | inr past ↦ omega (arith, get_or_past counts n 0 past) ]
+
+-- a sum of the requests up to a need is not above so many times the largest of its terms
+up_to-bounded : (counts : List ℕ) (step high bound : ℕ) (f : ℕ → ℕ) → ((n : ℕ) → n < length counts → f n ≤ bound)
+    → sum_below (λ n. cond (leb (rounded_need step n) high) (f n) 0) (length counts) ≤ length counts * bound
+up_to-bounded counts step high bound f each =
+    sum_bounded _ (length counts) bound (λ n lt. cond_both (leb (rounded_need step n) high) _ _ (λ v. v ≤ bound) (λ e. each n lt) (λ e. omega arith))
+
+pub sums-fit : (counts : List ℕ) (step high : ℕ) → AreCounts counts
+    → (counted_up_to counts step high < 2 ^ 44) × (bytes_up_to counts step high < 2 ^ 58)
+sums-fit counts step high are =
+    let counted = up_to-bounded counts step high 1000000000 (slice_index counts) (λ n lt. count-small counts n are) in
+    let bytes = up_to-bounded counts step high (1000000000 * 16368) (λ n. slice_index counts n * n)
+    (λ n lt. let within : n ≤ 16368 = omega (arith, are.sizes) in mul-le-mul (count-small counts n are) within) in
+    (omega (arith, counted, are.sizes), omega (arith, bytes, are.sizes))
+
+pub spans-fit : (counts : List ℕ) (step i j : ℕ) → IsStep step → AreCounts counts → i < j → j ≤ places counts step → span_waste counts step i j < 2 ^ 58
+spans-fit counts step i j is_step are lt le =
+    let class = place-class counts step j is_step (omega (arith, are.sizes)) (omega arith) le in
+    let each = sum_bounded _ (length counts) (1000000000 * 16368) (λ n within. at_one n class.1) in
+    omega (arith, each, are.sizes)
+  where
+    at_one : (n : ℕ) → need_at counts step j ≤ 1024
+        → cond (ltb (need_at counts step i) (rounded_need step n) && leb (rounded_need step n) (need_at counts step j)) (slice_index counts n * loss_of n (need_at counts step j)) 0
+        ≤ 1000000000 * 16368
+    at_one n small =
+        let loss : loss_of n (need_at counts step j) ≤ 16368 = omega arith in
+        cond_both _ (slice_index counts n * loss_of n (need_at counts step j)) 0 (λ v. v ≤ 1000000000 * 16368)
+        (λ e. mul-le-mul (count-small counts n are) loss) (λ e. omega arith)

@@ -1,0 +1,158 @@
+-- A table and its waste, class by class.
+use Rattle.std.proofs.Common.{◌≡◌, ℕ, zero, suc, ◌+◌, ◌-◌, ◌*◌, ◌%◌, ◌<◌, ◌≤◌, ◌&&◌, List, [], ◌∷◌, length, slice_index, get_or, cond, ltb, leb, Option, Some, unwrap_or, arith, refl, sym, subst, inl, inr}
+use Rattle.std.specs.Bool.{⊤}
+use Rattle.std.specs.Prelude.{IsSome, All}
+use Rattle.std.specs.List.Sorted.{IsStrictlyIncreasing}
+use Rattle.std.proofs.lemmas.Bool.{cases_lt, cond_both, cond-true, cond-false, le-leb, lt-leb, lt-ltb, false≢true}
+use Rattle.std.proofs.lemmas.Bool.Decides.{nat_tests}
+use Rattle.std.proofs.Math.Nat.{mul-le-mul_right}
+use Rattle.class_table.specs.Sizes.{loss_of}
+use Rattle.class_table.specs.Tables.{FitsStep, IsLegalTable, class_for}
+use Rattle.tuner_theory.specs.Spans.{need_at, places, rounded_need, span_waste, waste_between}
+use Rattle.tuner_theory.specs.Waste.{IsCounted, sum_below, waste_at, waste_of}
+use Rattle.tuner_theory.proofs.Needs.{Reaches, need_at-from, reach-covers}
+use Rattle.tuner_theory.proofs.Rounding.{fits-rounded, rounded-fits, rounded-positive}
+use Rattle.tuner_theory.proofs.Spans.{loss-mono}
+use Rattle.tuner_theory.proofs.Sums.{sum_at_most, sum_none, sum_same, sum_split}
+
+-- ---- legal tables, class by class
+
+-- each class is above the one before it, the first above low, none above 1024, and each a multiple of the step
+abbrev pub AreClassesAbove : ℕ → ℕ → List ℕ → Type 0
+AreClassesAbove step low [] = ⊤
+AreClassesAbove step low (c ∷ cs) = (low < c) × (c ≤ 1024) × (c % step ≡ 0) × AreClassesAbove step c cs
+
+classes-from : (step low : ℕ) (classes : List ℕ) → (0 < length classes → low < slice_index classes 0) → IsStrictlyIncreasing classes
+    → All (λ class. (2 ≤ class) × (class ≤ 1024)) classes → FitsStep step classes → AreClassesAbove step low classes
+classes-from step low [] first up range fits = tt
+classes-from step low (c ∷ cs) first up range fits = (
+  first (omega arith),
+  (range 0 0 (omega arith)).1,
+  fits 0 0 (omega arith),
+  classes-from step c cs (λ some. let next : 0 + 1 ≡ suc 0 = refl in subst (λ (k : ℕ). c < slice_index (c ∷ cs) k) next (up 0 (omega arith)))
+      (λ k lt. let next : suc k + 1 ≡ suc (k + 1) = omega arith in
+      subst (λ (m : ℕ). slice_index cs k < slice_index (c ∷ cs) m) next (up (suc k) (omega arith)))
+      (λ k d lt. range (suc k) d (omega arith)) (λ k d lt. fits (suc k) d (omega arith)),
+)
+
+pub classes-from_legal : (step : ℕ) (classes : List ℕ) → IsLegalTable step classes → AreClassesAbove step 1 classes
+classes-from_legal step classes legal =
+    classes-from step 1 classes (λ some. let r = legal.in_range 0 0 some in omega (arith, r.0)) legal.ascending legal.in_range legal.fitting
+
+class_in : (step low k d : ℕ) (classes : List ℕ) → AreClassesAbove step low classes → k < length classes
+    → (low < get_or classes k d) × (get_or classes k d ≤ 1024) × (get_or classes k d % step ≡ 0)
+class_in step low k d [] above lt = absurd (omega arith)
+class_in step low zero d (c ∷ cs) above lt = (above.0, above.1, above.2)
+class_in step low (suc k) d (c ∷ cs) above lt =
+    let later = class_in step c k d cs above.3 (omega arith) in (omega (arith, above.0, later.0), later.1, later.2)
+
+pub class-above : (step low k : ℕ) (classes : List ℕ) → AreClassesAbove step low classes → k < length classes → low < slice_index classes k
+class-above step low k classes above lt = (class_in step low k 0 classes above lt).0
+
+next_above : (step low k : ℕ) (classes : List ℕ) → AreClassesAbove step low classes → suc k < length classes
+    → slice_index classes k < slice_index classes (suc k)
+next_above step low k [] above lt = absurd (omega arith)
+next_above step low zero (c ∷ cs) above lt = class-above step c 0 cs above.3 (omega arith)
+next_above step low (suc k) (c ∷ cs) above lt = next_above step c k cs above.3 (omega arith)
+
+pub legal-from_classes : (step : ℕ) (classes : List ℕ) → length classes ≤ 32 → AreClassesAbove step 1 classes → IsLegalTable step classes
+legal-from_classes step classes few above = record {
+  few = few;
+  in_range = λ k d lt. let here = class_in step 1 k d classes above lt in (omega (arith, here.0), here.1);
+  ascending = λ k lt. let next : k + 1 ≡ suc k = omega arith in rw next (next_above step 1 k classes above (omega arith));
+  fitting = λ k d lt. (class_in step 1 k d classes above lt).2;
+}
+
+pub lower_above : (step low : ℕ) (classes : List ℕ) → 1 ≤ low → AreClassesAbove step low classes → AreClassesAbove step 1 classes
+lower_above step low [] one above = tt
+lower_above step low (c ∷ cs) one above = (omega (arith, above.0), above.1, above.2, above.3)
+
+-- ---- the class of a request, by its rounded need
+
+module _ (step : ℕ) (pos : 0 < step) (n c : ℕ) (cs : List ℕ) where
+  -- the first class serves it where its need is not above that class,
+  pub class_for-first : rounded_need step n ≤ c → class_for (c ∷ cs) n ≡ Some c
+  class_for-first le = cond-true _ _ _ (le-leb n (16 * c - 16) (rounded-fits step pos n c le))
+
+  -- and otherwise it has its class among the later ones
+  pub class_for-later : 2 ≤ c → c % step ≡ 0 → c < rounded_need step n → class_for (c ∷ cs) n ≡ class_for cs n
+  class_for-later two multiple lt =
+      cond-false _ _ _ (elim (cases_lt (16 * c - 16) n) [
+        | inl over ↦ lt-leb n (16 * c - 16) over
+        | inr fits ↦ absurd (omega (arith, fits-rounded step pos n c two multiple fits))
+      ])
+
+-- ---- the waste above a need
+
+-- what a table wastes on the counted requests whose rounded need is above low
+abbrev pub waste_above : List ℕ → ℕ → ℕ → List ℕ → ℕ
+waste_above counts step low classes = sum_below (λ n. cond (ltb low (rounded_need step n)) (waste_at counts classes n) 0) (length counts)
+
+-- it serves each of them
+abbrev pub ServesAbove : List ℕ → ℕ → ℕ → List ℕ → Type 0
+ServesAbove counts step low classes = (n : ℕ) → IsCounted counts n → low < rounded_need step n → IsSome (class_for classes n)
+
+pub waste_above-none : (counts : List ℕ) (step low : ℕ) → waste_above counts step low [] ≡ 0
+waste_above-none counts step low =
+    sum_none _ (length counts) (λ n lt. cond_both (ltb low (rounded_need step n)) _ _ (λ (v : ℕ). v ≡ 0) (λ e. none (slice_index counts n) n) (λ e. refl))
+  where
+    none : (k n : ℕ) → k * (16 * 0 - 16 - n) ≡ 0
+    none k n = let zero-loss : 16 * 0 - 16 - n ≡ 0 = omega arith in rw zero-loss (omega arith)
+
+-- at one request, of need x: it is the first class's where its need is not above that class, and else the later ones'
+first-or-later : (x low c k n : ℕ) (rest : Option ℕ) → low < c → (x ≤ c → n ≤ 16 * c - 16) → (n ≤ 16 * c - 16 → x ≤ c)
+    → cond (ltb low x) (k * loss_of n (unwrap_or (cond (leb n (16 * c - 16)) (Some c) rest) 0)) 0
+    ≡ cond (ltb low x && leb x c) (k * loss_of n c) 0 + cond (ltb c x) (k * loss_of n (unwrap_or rest 0)) 0
+first-or-later x low c k n rest lt fits back = grind (arith, nat_tests)
+
+-- spans that are no longer, and a class that is no larger, waste no more
+span-at_one : (x low c a b k u v : ℕ) → (x ≤ low → x ≤ a) → b ≤ c → k * u ≤ k * v
+    → cond (ltb a x && leb x b) (k * u) 0 ≤ cond (ltb low x && leb x c) (k * v) 0
+span-at_one x low c a b k u v covers bc uv = grind (arith, nat_tests)
+
+span-at_none : (x a b k u r : ℕ) → k ≤ 0 → cond (ltb a x && leb x b) (k * u) 0 ≤ r
+span-at_none x a b k u r none =
+    cond_both (ltb a x && leb x b) (k * u) 0 (λ v. v ≤ r) (λ e. omega (arith, mul-le-mul_right u none)) (λ e. omega arith)
+
+module _ (counts : List ℕ) (step : ℕ) (pos : 0 < step) where
+  -- every need is above 1
+  pub waste_above-all : (classes : List ℕ) → waste_of counts classes ≡ waste_above counts step 1 classes
+  waste_above-all classes =
+      sum_same _ _ (length counts) (λ n lt. sym (cond-true _ _ _ (lt-ltb 1 (rounded_need step n) (rounded-positive step pos n))))
+
+  -- the first class serves the needs up to it, the later ones the rest
+  pub waste_above-cons : (low c : ℕ) (cs : List ℕ) → 1 ≤ low → low < c → c % step ≡ 0
+      → waste_above counts step low (c ∷ cs) ≡ waste_between counts step low c + waste_above counts step c cs
+  waste_above-cons low c cs one lt multiple =
+      sum_split _ _ _ (length counts)
+      (λ n within. first-or-later (rounded_need step n) low c (slice_index counts n) n (class_for cs n) lt
+      (rounded-fits step pos n c) (fits-rounded step pos n c (omega arith) multiple))
+
+  pub ServesAbove-later : (low c : ℕ) (cs : List ℕ) → 1 ≤ low → low < c → c % step ≡ 0 → ServesAbove counts step low (c ∷ cs) → ServesAbove counts step c cs
+  ServesAbove-later low c cs one lt multiple served n counted above =
+      subst (λ (class : Option ℕ). IsSome class) (class_for-later step pos n c cs (omega arith) multiple above) (served n counted (omega arith))
+
+  -- a class c behind low wastes at least what the span of the places between them does
+  pub span-least : (low c i j : ℕ) → Reaches counts step low (places counts step) i → Reaches counts step c (places counts step) j
+      → span_waste counts step i j ≤ waste_between counts step low c
+  span-least low c i j ri rj =
+      sum_at_most _ _ (length counts) (λ n lt.
+      elim (cases_lt 0 (slice_index counts n)) [
+        | inl some ↦ span-at_one (rounded_need step n) low c _ _ (slice_index counts n) _ _ (reach-covers counts step pos low i n ri (lt, some)) rj.reached
+            (loss-mono (slice_index counts n) n _ c rj.reached)
+        | inr none ↦ span-at_none (rounded_need step n) _ _ (slice_index counts n) _ _ none
+      ])
+
+  -- where no class is left and all are served, all places are reached
+  pub nothing-left : (low i : ℕ) (classes : List ℕ) → length classes ≤ 0
+      → Reaches counts step low (places counts step) i → ServesAbove counts step low classes → i ≡ places counts step
+  nothing-left low i (c ∷ cs) none r served = absurd (omega arith)
+  nothing-left low i [] none r served =
+      elim (cases_lt 0 (places counts step)) [
+        | inr no_place ↦ omega (arith, r.within)
+        | inl some ↦ (let end = need_at-from counts step (places counts step) some (omega arith) in
+            elim (cases_lt low (need_at counts step (places counts step))) [
+              | inl above ↦ absurd (false≢true (served end.0 end.1 (omega (arith, end.2))))
+              | inr below ↦ omega (arith, r.within, r.last (places counts step) (omega arith) below)
+            ])
+      ]

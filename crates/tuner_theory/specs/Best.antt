@@ -1,0 +1,31 @@
+-- The best tables for a profile, and the one that is chosen of them. `counts` is how often each size was requested.
+use Rattle.std.specs.Prelude.{◌≡◌, ℕ, ◌<◌, ◌≤◌, ◌⊎◌, List, [], ◌∷◌, length, Some, All, ⊤}
+use Rattle.class_table.specs.Tables.{IsLegalTable, class_for}
+use Rattle.tuner_theory.specs.Waste.{IsCounted, Serves, waste_of}
+
+-- A table in question: legal for the step, of at most so many classes, and with a class for each counted size.
+pub record IsCandidate (counts : List ℕ) (step limit : ℕ) (classes : List ℕ) : Type 0 where
+  pub legal : IsLegalTable step classes
+  pub few : length classes ≤ limit
+  pub serving : Serves counts classes
+
+-- A best table: no table in question wastes less.
+pub record IsBest (counts : List ℕ) (step limit : ℕ) (classes : List ℕ) : Type 0 where
+  pub candidate : IsCandidate counts step limit classes
+  pub least : (other : List ℕ) → IsCandidate counts step limit other → waste_of counts classes ≤ waste_of counts other
+
+-- Requests of some size were counted, and this is their class.
+abbrev pub IsUsed : List ℕ → List ℕ → ℕ → Type 0
+IsUsed counts classes class = (n : ℕ) × IsCounted counts n × (class_for classes n ≡ Some class)
+
+-- The order of tables by their first class that differs; a table comes before those that it begins.
+abbrev pub IsLexicographicallyAtMost : List ℕ → List ℕ → Type 0
+IsLexicographicallyAtMost [] ys = ⊤
+IsLexicographicallyAtMost (x ∷ xs) [] = ⊥
+IsLexicographicallyAtMost (x ∷ xs) (y ∷ ys) = (x < y) ⊎ ((x ≡ y) × IsLexicographicallyAtMost xs ys)
+
+-- The canonical table: of the best tables whose every class is used, the lexicographically least.
+pub record IsCanonical (counts : List ℕ) (step limit : ℕ) (classes : List ℕ) : Type 0 where
+  pub best : IsBest counts step limit classes
+  pub used : All (IsUsed counts classes) classes
+  pub least : (other : List ℕ) → IsBest counts step limit other → All (IsUsed counts other) other → IsLexicographicallyAtMost classes other

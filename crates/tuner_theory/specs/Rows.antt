@@ -1,0 +1,38 @@
+-- The rows of a tuner: the least costs of serving all places with so many classes, filled row by row, and the table that they tell.
+use Rattle.std.specs.Prelude.{◌≡◌, ℕ, zero, suc, ◌+◌, ◌-◌, ◌<◌, ◌≤◌, nat_lt, if◌then◌else◌, List, [], ◌∷◌, length, slice_index, slice_index_or, All}
+
+-- The number in row k, counted from 1, at place i; 0 past the row's end.
+abbrev pub number_at : List (List ℕ) → ℕ → ℕ → ℕ
+number_at rows k i = slice_index (slice_index_or rows (k - 1) []) i
+
+-- So many rows of d numbers.
+pub record HasShape (rows : List (List ℕ)) (limit d : ℕ) : Type 0 where
+  pub row_count : length rows ≡ limit
+  pub row_lengths : All (λ row. length row ≡ d) rows
+
+-- j is the first of the ends after i, up to d, at which the cost is least.
+pub record IsLeastEnd (cost : ℕ → ℕ) (i d j : ℕ) : Type 0 where
+  pub after : i < j
+  pub within : j ≤ d
+  pub least : (m : ℕ) → i < m → m ≤ d → cost j ≤ cost m
+  pub first : (m : ℕ) → i < m → m < j → cost j < cost m
+
+-- Rows of least costs with their least ends, over d places, where `cost i j` is what one class for the places above i up to j costs:
+-- row 1 has one class up to the last place, a later row the best first class and the row before it from there on.
+pub record AreLeastRows (cost : ℕ → ℕ → ℕ) (d limit : ℕ) (rows ends : ℕ → ℕ → ℕ) : Type 0 where
+  pub at_end : (k : ℕ) → rows k d ≡ 0
+  pub first_row : (i : ℕ) → 1 ≤ limit → i < d → (rows 1 i ≡ cost i d) × (ends 1 i ≡ d)
+  pub later_row : (k i : ℕ) → 1 ≤ k → k < limit → i < d
+      → IsLeastEnd (λ j. cost i j + rows k j) i d (ends (suc k) i)
+      × (rows (suc k) i ≡ cost i (ends (suc k) i) + rows k (ends (suc k) i))
+
+-- The same of rows and ends as lists.
+pub record IsFilled (cost : ℕ → ℕ → ℕ) (d limit : ℕ) (rows ends : List (List ℕ)) : Type 0 where
+  pub rows_shape : HasShape rows limit d
+  pub ends_shape : HasShape ends limit d
+  pub least : AreLeastRows cost d limit (number_at rows) (number_at ends)
+
+-- The table that the ends tell for the places above i, from row k on: the need at the end of i, and on from there in the row before.
+abbrev pub table_of_ends : (ℕ → ℕ) → (ℕ → ℕ → ℕ) → ℕ → ℕ → ℕ → List ℕ
+table_of_ends need ends d zero i = []
+table_of_ends need ends d (suc k) i = if nat_lt i d then need (ends (suc k) i) ∷ table_of_ends need ends d k (ends (suc k) i) else []

@@ -1,0 +1,18 @@
+-- What a tuner makes for a profile: rows over its spans, and the table that they tell.
+use Rattle.std.specs.Prelude.{ℕ, ◌≤◌, List}
+use Rattle.tuner_theory.specs.Rows.{AreLeastRows, table_of_ends}
+use Rattle.tuner_theory.specs.Spans.{need_at, places, span_waste}
+use Rattle.class_table.specs.Steps.{IsStep}
+use Rattle.tuner_theory.specs.Waste.{AreCounts}
+
+-- Least rows over the span wastes of a profile, for 1 to 32 classes.
+pub record AreTunedRows (counts : List ℕ) (step limit : ℕ) (rows ends : ℕ → ℕ → ℕ) : Type 0 where
+  pub is_step : IsStep step
+  pub are_counts : AreCounts counts
+  pub some : 1 ≤ limit
+  pub few : limit ≤ 32
+  pub least : AreLeastRows (span_waste counts step) (places counts step) limit rows ends
+
+-- The table that they tell, from the last row and place 0.
+abbrev pub tuned_table : List ℕ → ℕ → ℕ → (ℕ → ℕ → ℕ) → List ℕ
+tuned_table counts step limit ends = table_of_ends (need_at counts step) ends (places counts step) limit 0
