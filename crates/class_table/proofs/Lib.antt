@@ -1,5 +1,12 @@
+pub mod ClassOf
+pub mod Covering
+pub mod Filling
+pub mod Firsts
+pub mod LayoutExamples
 pub mod Least
 pub mod Legal
+pub mod SlotAt
+pub mod Slots
 pub mod Spelled
 pub mod Walk
 pub mod Words

@@ -1,6 +1,9 @@
 pub mod ClassLine
 pub mod Faults
 pub mod Laws
+pub mod Layout
+pub mod LayoutLaws
+pub mod LayoutView
 pub mod Sizes
 pub mod Steps
 pub mod Tables

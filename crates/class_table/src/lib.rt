@@ -1,14 +1,17 @@
-//! Size classes: the class of a request, tables of classes, and the text line that spells a table.
+//! Size classes: the class of a request, tables of classes, the text line that spells a table, and where the slots of a region lie.
 #![tactic(auto)]
 
 mod class_line;
 mod fault;
 pub mod laws;
+mod layout;
+pub mod layout_laws;
 mod sizes;
 mod table;
 
 pub use class_line::LINE_BYTES;
 pub use fault::TableError;
+pub use layout::{FEWEST_GRANULES, Layout, MOST_GRANULES};
 pub use sizes::{
     GRANULE_BYTES, LARGEST_CLASS, LARGEST_COUNTED, SMALLEST_CLASS, loss, need, round_up, serves,
 };

@@ -1,3 +1,4 @@
+pub mod Check
 pub mod Exit
 pub mod Moving
 pub mod Outcome

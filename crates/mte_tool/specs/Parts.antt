@@ -2,9 +2,10 @@
 use Rattle.std.specs.Prelude.{◌≡◌, ℕ, ◌+◌, List, Result, Ok, Err}
 use Rattle.class_table.specs.declared.fault.TableError.{TableError}
 use Rattle.profile_count.specs.declared.fault.ProfileFault.{ProfileFault}
+use Rattle.tuner_theory.specs.Sheets.{Sheet}
 use Rattle.tuner_theory.specs.Waste.{Profile as Counted}
 use Rattle.mte_tool.specs.declared.fault.InputFault.{InputFault}
-use Rattle.mte_tool.specs.declared.fault.InputFault.TheVariants.{Table, Profile}
+use Rattle.mte_tool.specs.declared.fault.InputFault.TheVariants.{Table, BadSheet, Profile}
 use Rattle.mte_tool.specs.declared.fault.ToolFault.{ToolFault}
 use Rattle.mte_tool.specs.declared.fault.ToolFault.TheVariants.{OutOfMemory, Input, ReadFault, WriteFault}
 
@@ -18,6 +19,11 @@ abbrev pub ◌>>=◌ : {A B : Type 0} → Result A InputFault → (A → Result 
 abbrev pub table_part : Result (List ℕ) TableError → Result (List ℕ) InputFault
 table_part (Ok table) = Ok table
 table_part (Err fault) = Err (Table fault)
+
+-- A sheet, which begins with the first line of its input.
+abbrev pub sheet_part : Result Sheet ℕ → Result Sheet InputFault
+sheet_part (Ok s) = Ok s
+sheet_part (Err number) = Err (BadSheet number)
 
 -- A profile behind so many lines of its input.
 abbrev pub profile_part : ℕ → Result Counted (ℕ × ProfileFault) → Result Counted InputFault

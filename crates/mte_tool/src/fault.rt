@@ -15,6 +15,9 @@ pub enum InputFault {
     /// The class line, which is the first line, is faulty.
     #[error("{0} line 1")]
     Table(TableError),
+    /// A line of the sheet is faulty or missing; it is counted from the input's first line, which is 1.
+    #[error("48 BadSheet line {0}")]
+    BadSheet(u64),
     /// A line of the profile is faulty; it is counted from the input's first line, which is 1.
     #[error("{1} line {0}")]
     Profile(u64, ProfileFault),

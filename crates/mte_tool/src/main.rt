@@ -1,6 +1,7 @@
 //! `mte_tool`: size-class tables and the bytes that they waste on real allocation profiles. Engines from a source of bytes to a sink of bytes, and the program.
 #![tactic(auto)]
 
+mod check;
 mod engine;
 mod fault;
 mod memory;

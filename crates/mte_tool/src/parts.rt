@@ -1,13 +1,18 @@
 //! The parts that inputs are made of, read with the input's line numbers.
-ghost use Rattle.std.specs.Prelude.{◌^◌, ◌<◌};
-ghost use Rattle.line_text.specs.Lines.{IsLine};
+ghost use Rattle.std.specs.Prelude.{◌≡◌, ◌^◌, ◌<◌, length, Ok, Err, IfOk, MatchResult};
+ghost use Rattle.line_text.specs.Lines.{IsLine, lines};
 ghost use Rattle.class_table.specs.ClassLine.{table_of_line};
 ghost use Rattle.profile_count.specs.ProfileText.{profile_of};
-ghost use Rattle.mte_tool.specs.Parts.{GivesPart, table_part, profile_part};
+ghost use Rattle.potential_check.specs.Leading.{leading_lines, lines_behind};
+ghost use Rattle.potential_check.specs.Sheets.{sheet_of};
+ghost use Rattle.potential_check.specs.SheetText.{sheet_of_lines};
+ghost use Rattle.tuner_theory.specs.Sheets.{Sheet};
+ghost use Rattle.mte_tool.specs.Parts.{GivesPart, table_part, sheet_part, profile_part};
 
 use crate::fault::{InputFault, ToolFault};
 use class_table::ClassTable;
 use class_table::laws::law_class_line;
+use potential_check::{LeadingSheet, SheetError, read_leading_sheet};
 use profile_count::{Profile, ProfileError};
 use std::alloc::Global;
 
@@ -20,6 +25,21 @@ pub fn read_table(line: &[u8]) -> Result<ClassTable, ToolFault>
     match ClassTable::read_line(line) {
         Ok(table) => Ok(table),
         Err(fault) => Err(ToolFault::Input(InputFault::Table(fault))),
+    }
+}
+
+/// The sheet in front of an input, with the text behind it.
+pub fn read_leading(alloc: Global, text: &[u8]) -> Result<LeadingSheet<'_>, ToolFault>
+    ensures sheet { MatchResult result
+        (λ leading. sheet_part (sheet_of_lines (leading_lines (lines text.now))) ≡ Ok (sheet_of leading.sheet))
+        (λ fault. GivesPart {A = Sheet} (Err fault) (sheet_part (sheet_of_lines (leading_lines (lines text.now))))) }
+    ensures lines { IfOk result (λ leading. (leading.lines ≡ length (leading_lines (lines text.now))) × (leading.lines < 2 ^ 63)) }
+    ensures rest { IfOk result (λ leading. lines leading.rest.now ≡ lines_behind (lines text.now)) }
+{
+    match read_leading_sheet(alloc, text) {
+        Ok(leading) => Ok(leading),
+        Err(SheetError::OutOfMemory) => Err(ToolFault::OutOfMemory),
+        Err(SheetError::Line(number)) => Err(ToolFault::Input(InputFault::BadSheet(number))),
     }
 }
 

@@ -2,6 +2,7 @@
 ghost use Rattle.std.specs.Prelude.{◌≡◌};
 ghost use Rattle.mte_tool.specs.Exit.{status_of};
 
+use crate::check::check;
 use crate::engine::Status;
 use crate::fault::{OptionFault, ToolFault};
 use crate::score::score;
@@ -35,9 +36,10 @@ pub fn run<R: Env + AllocGlobal + Input + Print + Eprint>(rt: &R) -> u8 {
         Ok(matches) => matches,
         Err(error) => return refuse(rt, &error),
     };
-    match matches.subcommand_matches("tune") {
-        Some(options) => run_tune(rt, options),
-        None => run_score(rt),
+    match matches.subcommand() {
+        Some(("tune", options)) => run_tune(rt, options),
+        Some(("check", _)) => run_check(rt),
+        _ => run_score(rt),
     }
 }
 
@@ -51,6 +53,13 @@ fn run_score<R: AllocGlobal + Input + Print + Eprint>(rt: &R) -> u8 {
     let mut source = StreamSource::new(rt.reader());
     let mut sink = StreamSink::new(writer(rt));
     finish(rt, score(rt.alloc(), &mut source, &mut sink))
+}
+
+// `check` from standard input to standard output
+fn run_check<R: AllocGlobal + Input + Print + Eprint>(rt: &R) -> u8 {
+    let mut source = StreamSource::new(rt.reader());
+    let mut sink = StreamSink::new(writer(rt));
+    finish(rt, check(rt.alloc(), &mut source, &mut sink))
 }
 
 // `tune` from standard input to standard output

@@ -1,4 +1,5 @@
 //! What no contract says: worked values, the texts of faults, and calls that fail in the middle of an input or an output.
+mod check_texts;
 mod counts;
 mod real_profiles;
 mod score_texts;

@@ -76,6 +76,46 @@ Refused, with status 2:
 Failures, with status 3:
   1 OutOfMemory, 81 ReadFault, 82 WriteFault";
 
+const CHECK_ABOUT: &str = "Tell whether a sheet shows its class table to waste least on a profile";
+
+const CHECK_LONG: &str = "\
+Tell whether a sheet shows its class table to waste least on a profile, whoever wrote it.
+
+Standard input is a sheet, and behind it a profile:
+
+  classes C1 C2 ..     the table: up to 32 block sizes in granules of 16 bytes, from 2 to 1024, strictly ascending
+  limit K              the most classes that a table may have, 1 to 32
+  step S               2, 4 or 8, where each class has to be a multiple of it; no such line for 1
+  waste W              what the table is said to waste, in bytes
+  row N1 N2 ..         K rows of a number for each distinct need; all lines that begin with `row` are the sheet's
+  SIZE COUNT           the profile, as for `score` and `tune`
+
+Written is `optimal`, where the sheet meets all of the conditions below: then no table of at most K classes that are multiples of S, and \
+that serves each counted size, wastes less. Or `refused CODE NAME`, with status 1: the first condition that the sheet breaks. A table may be \
+a best one and its sheet refused: the rows have to show it.
+
+  39 OffStep           each class is a multiple of the step
+  40 OverLimit         the table has at most K classes
+  41 NotServing        each counted size has a class
+  42 WasteWrong        the waste is the table's on the profile
+  43 Shape             there are K rows, of a number for each distinct need
+  44 LastClass         row 1, number i is at most what one class for all requests behind the i-1 smallest needs wastes
+  45 StageDrop         no number is above the one at its place in the row before
+  46 Edge              no number is above what one class up to a later need wastes with the number of the row before there
+  47 NotTight          the first number of row K is the waste";
+
+const CHECK_AFTER: &str = "\
+Example:
+  (mte_tool tune --limit 8 < app.profile; cat app.profile) | mte_tool check
+writes `optimal`: a sheet of `tune` shows its table to waste least. docs/CERTIFICATES.md in the repository tells how to write one by hand.
+
+Refused input, with status 2:
+  48 BadSheet                                                a line of the sheet is of no such form, or missing
+  30 BadLine, 31 NotAscending, 32 CountOutOfRange            a line of the profile: no such line, or no such size; a size not above the one before; a count out of range
+  80 InputTooLong                                            more than 67108864 bytes
+Failures, with status 3:
+  1 OutOfMemory, 81 ReadFault, 82 WriteFault";
+
 /// The command with its subcommands.
 pub fn command<'a>(alloc: Global) -> Result<Command<'a>, AllocError> {
     Command::new(alloc, "mte_tool")
@@ -85,7 +125,8 @@ pub fn command<'a>(alloc: Global) -> Result<Command<'a>, AllocError> {
         .subcommand_required(true)
         .arg_required_else_help(true)
         .subcommand(score_command(alloc))?
-        .subcommand(tune_command(alloc)?)
+        .subcommand(tune_command(alloc)?)?
+        .subcommand(check_command(alloc))
 }
 
 fn score_command<'a>(alloc: Global) -> Command<'a> {
@@ -102,6 +143,13 @@ fn tune_command<'a>(alloc: Global) -> Result<Command<'a>, AllocError> {
         .after_help(TUNE_AFTER)
         .arg(limit_option(alloc))?
         .arg(step_option(alloc))
+}
+
+fn check_command<'a>(alloc: Global) -> Command<'a> {
+    Command::new(alloc, "check")
+        .about(CHECK_ABOUT)
+        .long_about(CHECK_LONG)
+        .after_help(CHECK_AFTER)
 }
 
 fn limit_option<'a>(alloc: Global) -> Arg<'a> {

@@ -1,16 +1,13 @@
--- Reading a sheet's lines in front of its rows, one after the other.
-use Rattle.std.proofs.Common.{◌≡◌, ℕ, suc, ◌+◌, add-one, List, [], ◌∷◌, Option, Some, None, option_map, Result, Ok, Err, Bor, refl, MatchOption}
+-- Reading the head of a sheet, one line after the other.
+use Rattle.std.proofs.Common.{◌≡◌, ℕ, List, Option, Some, None, Result, Ok, Err, Bor, refl, MatchOption}
 use Rattle.std.specs.Prelude.{All}
 use Rattle.std.specs.Iterator.{YieldsFirstBy}
 use Rattle.std.specs.Option.{ok_or}
 use Rattle.std.proofs.lemmas.List.Elements.{All-head}
 use Rattle.line_text.specs.Lines.{IsLine}
-use Rattle.potential_check.specs.Sheets.{sheet_of}
-use Rattle.potential_check.specs.SheetText.{Gives, limit_in, line_at, rows_from, sheet_of_lines, step_at, table_in, waste_in, waste_number}
+use Rattle.potential_check.specs.SheetText.{Gives, head_of_lines, limit_in, line_at, step_at, table_in, waste_in, waste_number}
 use Rattle.potential_check.specs.declared.fault.SheetError.{SheetError}
-use Rattle.potential_check.specs.declared.fault.SheetError.TheVariants.{OutOfMemory, Line}
-use Rattle.potential_check.specs.declared.sheet.Sheet.{Sheet as Held}
-use Rattle.tuner_theory.specs.Sheets.{Sheet}
+use Rattle.potential_check.specs.declared.fault.SheetError.TheVariants.{Line}
 
 -- ---- the next line
 
@@ -45,46 +42,35 @@ line_at-none number reading old new (Some y) read gave is e =
 -- ---- a fault
 
 -- where nothing was read off a line, its number is the error
-pub fault_given : {A : Type 0} (result : Result Held SheetError) (y e : SheetError) (read : Option A) (number : ℕ) (whole : Result Sheet ℕ) → result ≡ Err y → y ≡ e
-    → Err e ≡ ok_or read (Line number) → read ≡ None → whole ≡ Err number → Gives sheet_of result whole
-fault_given result y e read number whole is same given none fault =
+pub fault_given : {A B X : Type 0} (view : X → B) (result : Result X SheetError) (y e : SheetError) (read : Option A) (number : ℕ) (whole : Result B ℕ) → result ≡ Err y → y ≡ e
+    → Err e ≡ ok_or read (Line number) → read ≡ None → whole ≡ Err number → Gives view result whole
+fault_given view result y e read number whole is same given none fault =
     let line : e ≡ Line number = (let err = rw none at given in cc) in
     rw (is, same, line) fault
-
--- an error in the rows is the sheet's
-pub rows_fault_given : (result : Result Held SheetError) (y e : SheetError) (rows : Result (List (List ℕ)) ℕ) (whole : Result Sheet ℕ) → result ≡ Err y → y ≡ e
-    → Gives (λ (r : List (List ℕ)). r) (Err e) rows → ((number : ℕ) → rows ≡ Err number → whole ≡ Err number) → Gives sheet_of result whole
-rows_fault_given result y OutOfMemory rows whole is same given fault = rw (is, same) tt
-rows_fault_given result y (Line number) rows whole is same given fault = rw (is, same) (fault number given)
 
 -- ---- one line after the other
 
 module _ (ls : List (List ℕ)) where
-  pub no_table : line_at 1 table_in ls ≡ Err 1 → sheet_of_lines ls ≡ Err 1
-  unfolding sheet_of_lines
+  pub no_table : line_at 1 table_in ls ≡ Err 1 → head_of_lines ls ≡ Err 1
+  unfolding head_of_lines
   no_table none = rw none refl
 
   module _ (table : List ℕ) (behind_table : List (List ℕ)) (is_table : line_at 1 table_in ls ≡ Ok (table, behind_table)) where
-    pub no_limit : line_at 2 limit_in behind_table ≡ Err 2 → sheet_of_lines ls ≡ Err 2
-    unfolding sheet_of_lines
+    pub no_limit : line_at 2 limit_in behind_table ≡ Err 2 → head_of_lines ls ≡ Err 2
+    unfolding head_of_lines
     no_limit none = rw (is_table, none) refl
 
     module _ (limit : ℕ) (behind_limit : List (List ℕ)) (is_limit : line_at 2 limit_in behind_table ≡ Ok (limit, behind_limit)) where
-      pub no_step : step_at behind_limit ≡ None → sheet_of_lines ls ≡ Err 3
-      unfolding sheet_of_lines
+      pub no_step : step_at behind_limit ≡ None → head_of_lines ls ≡ Err 3
+      unfolding head_of_lines
       no_step none = rw (is_table, is_limit, none) refl
 
       module _ (step : ℕ) (behind_step : List (List ℕ)) (is_step : step_at behind_limit ≡ Some (step, behind_step)) where
-        pub no_waste : line_at (waste_number step) waste_in behind_step ≡ Err (waste_number step) → sheet_of_lines ls ≡ Err (waste_number step)
-        unfolding sheet_of_lines
+        pub no_waste : line_at (waste_number step) waste_in behind_step ≡ Err (waste_number step) → head_of_lines ls ≡ Err (waste_number step)
+        unfolding head_of_lines
         no_waste none = rw (is_table, is_limit, is_step, none) refl
 
         module _ (waste : ℕ) (behind_waste : List (List ℕ)) (is_waste : line_at (waste_number step) waste_in behind_step ≡ Ok (waste, behind_waste)) where
-          pub no_rows : (number : ℕ) → rows_from (waste_number step + 1) 32 behind_waste ≡ Err number → sheet_of_lines ls ≡ Err number
-          unfolding sheet_of_lines
-          no_rows number none = rw (is_table, is_limit, is_step, is_waste, ← add-one (waste_number step), none) refl
-
-          pub all_rows : (rows : List (List ℕ)) → rows_from (waste_number step + 1) 32 behind_waste ≡ Ok rows
-              → sheet_of_lines ls ≡ Ok (record { table = table; limit = limit; step = step; waste = waste; rows = rows })
-          unfolding sheet_of_lines
-          all_rows rows is_rows = rw (is_table, is_limit, is_step, is_waste, ← add-one (waste_number step), is_rows) refl
+          pub all_read : head_of_lines ls ≡ Ok (record { table = table; limit = limit; step = step; waste = waste }, behind_waste)
+          unfolding head_of_lines
+          all_read = rw (is_table, is_limit, is_step, is_waste) refl

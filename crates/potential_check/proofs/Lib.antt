@@ -1,8 +1,13 @@
 pub mod Appended
 pub mod Building
+pub mod Certified
+pub mod Crossing
 pub mod HeadLines
+pub mod LeadingLines
 pub mod NamedLines
+pub mod ReadIsSpelled
 pub mod RowLines
 pub mod RowNumbers
 pub mod SheetLines
+pub mod SpelledIsRead
 pub mod Told

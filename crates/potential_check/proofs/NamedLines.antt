@@ -1,17 +1,15 @@
 -- The line of a name and numbers: it is read as these numbers, and no other line is.
-use Rattle.std.proofs.Common.{◌≡◌, ℕ, ◌+◌, ◌<◌, ◌≤◌, ◌^◌, Bool, true, false, List, [], ◌∷◌, ◌++◌, length, map, Option, Some, None, option_map, codes, refl, sym, ap, ◌∙◌, arith, ltb, leb, length-append}
-use Rattle.std.specs.List.{list_all}
+use Rattle.std.proofs.Common.{◌≡◌, ℕ, ◌<◌, ◌^◌, Bool, true, false, List, [], ◌∷◌, length, map, Option, Some, None, refl, sym, ap, ◌∙◌, arith, length-append}
 use Rattle.std.specs.Prelude.{All, option_and_then}
 use Rattle.std.specs.Fmt.{decimal}
 use Rattle.std.specs.Str.{bytes_eq}
-use Rattle.std.proofs.lemmas.Bool.{and_parts, leb-true, le-leb, lt-ltb, ltb-true}
 use Rattle.std.proofs.lemmas.List.Elements.{All-nil, All-cons, All-head, All-tail}
 use Rattle.std.proofs.lemmas.Slice.Eq.{bytes_eq-Decides}
 use Rattle.class_table.specs.ClassLine.{numbers_of}
 use Rattle.line_text.specs.Laws.{TextLaws}
 use Rattle.line_text.specs.Lines.{words, line_of, IsLine, IsWord}
 use Rattle.line_text.specs.Numbers.{number_of}
-use Rattle.potential_check.specs.SheetText.{IsRow, fits, is_row, named_line, number_in, numbers_in, only_one, passing, row_in, words_behind}
+use Rattle.potential_check.specs.SheetText.{named_line, number_in, numbers_in, only_one, words_behind}
 use Rattle.potential_check.proofs.RowNumbers.{passing-some}
 
 abbrev pub AreSmall : List ℕ → Type 0

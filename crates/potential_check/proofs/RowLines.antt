@@ -1,5 +1,5 @@
 -- Reading the rows of a sheet, line by line.
-use Rattle.std.proofs.Common.{◌≡◌, ℕ, suc, ◌+◌, ◌-◌, ◌<◌, ◌≤◌, List, [], ◌∷◌, ◌++◌, length, Result, Ok, Err, Option, Some, None, refl, sym, ap, ◌∙◌, arith, length-append, append_assoc, append-nil, add-zero}
+use Rattle.std.proofs.Common.{◌≡◌, ℕ, suc, ◌+◌, ◌-◌, ◌<◌, ◌≤◌, List, [], ◌∷◌, ◌++◌, length, Result, Ok, Err, Some, None, refl, sym, ap, ◌∙◌, arith, length-append, append_assoc, append-nil}
 use Rattle.potential_check.specs.SheetText.{◌>>=◌, row_in, rows_from}
 
 -- What is read, where these rows were read before.
@@ -10,13 +10,6 @@ behind front (Err number) = Err number
 pub record RowsSoFar (first : ℕ) (all rest front : List (List ℕ)) : Type 0 where
   pub read : rows_from first 32 all ≡ behind front (rows_from (first + length front) (32 - length front) rest)
   pub few : length front ≤ 32
-
-pub rows_from-start : (first : ℕ) (all : List (List ℕ)) → RowsSoFar first all all []
-rows_from-start first all = record { read = rw add-zero (go (rows_from first 32 all)); few = omega arith }
-  where
-    go : (r : Result (List (List ℕ)) ℕ) → r ≡ behind [] r
-    go (Ok rows) = refl
-    go (Err number) = refl
 
 -- a line more than there is room for
 pub rows_from-full : (first : ℕ) (all rest new front : List (List ℕ)) (line : List ℕ) → RowsSoFar first all rest front → rest ≡ line ∷ new → length front ≡ 32

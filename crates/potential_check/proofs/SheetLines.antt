@@ -1,19 +1,18 @@
 -- Each line of a sheet: it is read as what it spells, and no other line is.
-use Rattle.std.proofs.Common.{◌≡◌, ◌≢◌, ℕ, ◌+◌, ◌<◌, ◌≤◌, ◌^◌, Bool, true, false, not, ◌&&◌, List, [], ◌∷◌, ◌++◌, length, get_or, map, Option, Some, None, Result, Ok, Err, refl, sym, ap, ◌∙◌, arith, codes, ltb, leb, length-append, inl, inr, ◌⊎◌}
+use Rattle.std.proofs.Common.{◌≡◌, ◌≢◌, ℕ, ◌<◌, ◌≤◌, ◌^◌, Bool, true, false, not, ◌&&◌, List, [], ◌∷◌, length, Some, Result, Ok, Err, refl, ap, ◌∙◌, arith, codes, leb, length-append, inl, inr}
 use Rattle.std.specs.List.{list_all}
-use Rattle.std.specs.Prelude.{All}
 use Rattle.std.proofs.lemmas.Bool.{and_from, and_parts, leb-true, le-leb, lt-ltb, ltb-true, not-true}
 use Rattle.std.proofs.lemmas.Bool.Decides.{nat_tests}
 use Rattle.std.proofs.lemmas.List.{get_or_at}
 use Rattle.std.proofs.lemmas.List.Elements.{All-nil, All-cons, All-head, All-tail, All-weaker}
 use Rattle.std.proofs.lemmas.List.Sums.{AllPass-from_list_all}
-use Rattle.class_table.specs.ClassLine.{class_line, table_of, table_of_line}
+use Rattle.class_table.specs.ClassLine.{class_line, table_of_line}
 use Rattle.class_table.specs.Laws.{LineAloneIsRead, SpelledTableIsRead, TableIsSpelled}
 use Rattle.class_table.specs.Steps.{IsStep}
 use Rattle.class_table.specs.Tables.{IsLegalTable}
 use Rattle.class_table.specs.declared.fault.TableError.{TableError}
 use Rattle.line_text.specs.Laws.{TextLaws}
-use Rattle.line_text.specs.Lines.{IsLine, IsWord, ended, is_newline, is_space}
+use Rattle.line_text.specs.Lines.{IsLine, ended, is_newline, is_space}
 use Rattle.potential_check.specs.SheetText.{IsRow, fits, is_limit, is_row, is_written_step, limit_in, named_line, numbers_in, row_in, step_in, table_in, waste_in}
 use Rattle.potential_check.proofs.NamedLines.{AreSmall, IsName, named_line-is_line, line-number_in, line-numbers_in, number_in-named_line, numbers_in-named_line}
 use Rattle.potential_check.proofs.RowNumbers.{passing-some}

@@ -11,6 +11,7 @@ use Rattle.class_table.specs.Tables.{IsLegalTable}
 use Rattle.line_text.specs.Lines.{lines, words, line_of, text_of, ended}
 use Rattle.potential_check.specs.declared.fault.SheetError.{SheetError}
 use Rattle.potential_check.specs.declared.fault.SheetError.TheVariants.{OutOfMemory, Line}
+use Rattle.potential_check.specs.declared.reading.Head.{Head}
 use Rattle.tuner_theory.specs.Sheets.{Sheet}
 
 -- ---- the spelling
@@ -41,7 +42,7 @@ pub record GoesOn (old new : List ℕ) : Type 0 where
 abbrev pub IsRow : List ℕ → Type 0
 IsRow numbers = (length numbers ≤ 1023) × All (λ n. n < 2 ^ 64) numbers
 
--- What a sheet keeps to whose text can be read.
+-- What a sheet keeps to, for its text to be read.
 pub record IsWithinLimits (s : Sheet) : Type 0 where
   pub table : IsLegalTable 1 s.table
   pub limit : (1 ≤ s.limit) × (s.limit ≤ 32)
@@ -75,16 +76,18 @@ abbrev pub only_one : List ℕ → Option ℕ
 only_one (n ∷ []) = Some n
 only_one numbers = None
 
--- The number of a line of this name and one number that passes a test.
+-- The number of a line of this name and just one number, where it passes the test.
 abbrev pub number_in : List ℕ → (ℕ → Bool) → List ℕ → Option ℕ
 number_in name test line = passing test (option_and_then only_one (numbers_in name line))
 
+-- What 64 bits hold.
 abbrev pub fits : ℕ → Bool
 fits n = nat_lt n (2 ^ 64)
 
 abbrev pub is_limit : ℕ → Bool
 is_limit k = nat_le 1 k && nat_le k 32
 
+-- A step of 1 is not written.
 abbrev pub is_written_step : ℕ → Bool
 is_written_step step = step == 2 || step == 4 || step == 8
 
@@ -123,7 +126,7 @@ abbrev pub line_at : {A : Type 0} → ℕ → (List ℕ → Option A) → List (
 line_at number reading [] = Err number
 line_at number reading (line ∷ ls) = ok_or (option_map (λ x. (x, ls)) (reading line)) number
 
--- The step, and the lines behind it. They begin with the third line, which is the step's only where its first word is `step`.
+-- The step that the first of the lines tells, and the lines behind it; 1, and all of them, where its first word is not `step`.
 abbrev pub step_at : List (List ℕ) → Option (ℕ × List (List ℕ))
 step_at [] = Some (1, [])
 step_at (line ∷ ls) = if is_named (codes "step") line then option_map (λ step. (step, ls)) (step_in line) else Some (1, line ∷ ls)
@@ -132,7 +135,7 @@ step_at (line ∷ ls) = if is_named (codes "step") line then option_map (λ step
 abbrev pub waste_number : ℕ → ℕ
 waste_number step = if step == 1 then 3 else 4
 
--- The rows of the lines, so many at most; the first line has this number.
+-- The rows of the lines, of which the first has this number; a line more than so many is faulty, whatever it says.
 unfoldable pub rows_from : ℕ → ℕ → List (List ℕ) → Result (List (List ℕ)) ℕ
 rows_from number most [] = Ok []
 rows_from number zero (line ∷ ls) = Err number
@@ -141,14 +144,23 @@ rows_from number (suc most) (line ∷ ls) = do
   rows ← rows_from (suc number) most ls
   Ok (row ∷ rows)
 
-unfoldable pub sheet_of_lines : List (List ℕ) → Result Sheet ℕ
-sheet_of_lines ls = do
+-- The head of a sheet, which stands in front of its rows, and the lines behind it.
+unfoldable pub head_of_lines : List (List ℕ) → Result (Head × List (List ℕ)) ℕ
+head_of_lines ls = do
   (table, ls) ← line_at 1 table_in ls
   (limit, ls) ← line_at 2 limit_in ls
   (step, ls) ← ok_or (step_at ls) 3
   (waste, ls) ← line_at (waste_number step) waste_in ls
-  rows ← rows_from (suc (waste_number step)) 32 ls
-  Ok (record { table = table; limit = limit; step = step; waste = waste; rows = rows })
+  Ok (record { table = table; limit = limit; step = step; waste = waste }, ls)
+
+abbrev pub with_rows : Head → List (List ℕ) → Sheet
+with_rows head rows = record { table = head.table; limit = head.limit; step = head.step; waste = head.waste; rows = rows }
+
+unfoldable pub sheet_of_lines : List (List ℕ) → Result Sheet ℕ
+sheet_of_lines ls = do
+  (head, ls) ← head_of_lines ls
+  rows ← rows_from (suc (waste_number head.step)) 32 ls
+  Ok (with_rows head rows)
 
 -- The sheet that a text spells, or the number of its first faulty line.
 abbrev pub sheet_in : List ℕ → Result Sheet ℕ

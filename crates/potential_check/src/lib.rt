@@ -1,8 +1,12 @@
-//! Certificates: the wastes of the spans of a profile, and the sheet that shows a class table to be a best one.
+//! Certificates: the wastes of the spans of a profile, the sheet that shows a class table to be a best one, and the checker of sheets.
 #![tactic(auto)]
 
+mod bounds;
+mod certificate;
+mod checker;
 mod fault;
 pub mod laws;
+mod leading;
 mod reading;
 mod rows;
 mod sheet;
@@ -10,8 +14,10 @@ mod sheet_line;
 mod spans;
 mod writing;
 
+pub use checker::check;
 pub use fault::SheetError;
-pub use reading::read_sheet;
+pub use leading::LeadingSheet;
+pub use reading::{read_leading_sheet, read_sheet};
 pub use rows::Rows;
 pub use sheet::Sheet;
 pub use spans::Spans;

@@ -1,56 +1,100 @@
-ghost use Rattle.std.specs.Prelude.{◌≡◌, ◌≤◌};
+ghost use Rattle.std.specs.Prelude.{◌≡◌, ◌≤◌, ◌∷◌, [], All, Bool, length, drop, IfNone, IfOk, IfSome};
+ghost use Rattle.std.specs.List.{take_while};
 ghost use Rattle.std.specs.Option.{option_map};
+ghost use Rattle.line_text.specs.Lines.{IsLine, lines};
+ghost use Rattle.potential_check.specs.Leading.{GivesLeading, is_row_line};
 ghost use Rattle.potential_check.specs.Sheets.{sheet_of};
-ghost use Rattle.potential_check.specs.SheetText.{Gives, rows_from, sheet_in, step_at, waste_number};
+ghost use Rattle.potential_check.specs.SheetText.{Gives, IsWithinLimits, head_of_lines, is_named, rows_from, sheet_in, step_at, waste_number};
 
 use crate::fault::SheetError;
+use crate::laws::law_sheet_text;
+use crate::leading::LeadingSheet;
 use crate::rows::Rows;
 use crate::sheet::Sheet;
-use crate::sheet_line::{STEP, is_named, limit_in, row_in, step_in, table_in, waste_in};
-use class_table::MOST_CLASSES;
+use crate::sheet_line::{ROW, STEP, is_named, limit_in, row_in, step_in, table_in, waste_in};
+use class_table::{ClassTable, MOST_CLASSES};
 use line_text::laws::law_lines;
 use line_text::{Lines, lines_in};
 use std::alloc::Global;
 
-// no limit is greater
+// a sheet has a row for each number of classes up to its limit
 const MOST_ROWS: usize = MOST_CLASSES;
 
 /// The sheet that a text spells: a class line, `limit K` (1 to 32), perhaps `step S` (2, 4 or 8; else the step is 1), `waste W`, and at most
 /// 32 lines `row ..` of at most 1,023 numbers; each number is below 2^64. The last line may lack its newline.
 /// An error is the number of the first line that is faulty or missing, or that memory was refused.
 pub fn read_sheet(alloc: Global, text: &[u8]) -> Result<Sheet, SheetError>
-    ensures { Gives sheet_of result (sheet_in text.now) }
+    ensures exact { Gives sheet_of result (sheet_in text.now) }
+    ensures within { IfOk result (λ sheet. IsWithinLimits (sheet_of sheet)) }
+{
+    law_sheet_text();
+    let leading = read_leading_sheet(alloc, text)?;
+    match lines_in(leading.rest).next() {
+        None => Ok(leading.sheet),
+        Some(_line) => Err(SheetError::Line(leading.lines + 1)),
+    }
+}
+
+/// The sheet in front of a text, and the text behind it. Its lines are the first three, or four where the third begins with `step`, and all
+/// directly behind them whose first word is `row`. Errors are those of `read_sheet` over these lines.
+pub fn read_leading_sheet(alloc: Global, text: &[u8]) -> Result<LeadingSheet<'_>, SheetError>
+    ensures { GivesLeading (lines text.now) result }
 {
     law_lines();
     let mut lines = lines_in(text);
+    let head = head_in(&mut lines)?;
+    let size = waste_number(head.step);
+    let rows = rows_in(alloc, &mut lines, size + 1)?;
+    Ok(LeadingSheet {
+        lines: size + rows.len() as u64,
+        rest: lines.rest(),
+        sheet: Sheet {
+            table: head.table,
+            limit: head.limit,
+            step: head.step,
+            waste: head.waste,
+            rows,
+        },
+    })
+}
+
+// what stands in front of a sheet's rows
+#[derive(Drop)]
+struct Head {
+    table: ClassTable,
+    limit: u8,
+    step: u8,
+    waste: u64,
+}
+
+// the head that the next lines spell, from the first line on
+fn head_in(lines: &mut Lines<'_>) -> Result<Head, SheetError>
+    requires { All IsLine lines.old }
+    ensures { Gives (λ head. (head, lines.new)) result (head_of_lines lines.old) }
+{
     let table = lines.next().and_then(table_in).ok_or(SheetError::Line(1))?;
     let limit = lines.next().and_then(limit_in).ok_or(SheetError::Line(2))?;
-    let step = step_at(&mut lines).ok_or(SheetError::Line(3))?;
+    let step = step_at(lines).ok_or(SheetError::Line(3))?;
     let number = waste_number(step);
     let waste = lines
         .next()
         .and_then(waste_in)
         .ok_or(SheetError::Line(number))?;
-    let rows = rows_in(alloc, lines, number + 1)?;
-    Ok(Sheet {
+    Ok(Head {
         table,
         limit,
         step,
         waste,
-        rows,
     })
 }
 
-// The step, with the lines from the third on; its line is passed over where there is one.
+// The step that the next line, the third, tells, and then it is passed over; 1 where its first word is another.
 fn step_at(lines: &mut Lines<'_>) -> Option<u8>
     ensures { step_at lines.old ≡ option_map (λ step. (step, lines.new)) result }
 {
-    match lines_in(lines.rest()).next() {
-        Some(line) if is_named(STEP, line) => {
-            let _ = lines.next();
-            step_in(line)
-        }
-        _ => Some(1),
+    match next_named(STEP, lines) {
+        Some(line) => step_in(line),
+        None => Some(1),
     }
 }
 
@@ -62,13 +106,15 @@ fn waste_number(step: u8) -> u64
     if step == 1 { 3 } else { 4 }
 }
 
-// the rows of lines of which the first has this number
-fn rows_in(alloc: Global, lines: Lines<'_>, first: u64) -> Result<Rows, SheetError>
+// The rows that the next lines are, as long as their first word is `row`; the first of them has this number.
+fn rows_in(alloc: Global, lines: &mut Lines<'_>, first: u64) -> Result<Rows, SheetError>
     requires { first ≤ 5 }
-    ensures { Gives (λ rows. rows) result (rows_from first 32 lines.entry) }
+    ensures rows { Gives (λ rows. rows) result (rows_from first 32 (take_while is_row_line lines.old)) }
+    ensures size { IfOk result (λ rows. (length rows ≡ length (take_while is_row_line lines.old)) × (length rows ≤ 32)) }
+    ensures behind { IfOk result (λ rows. lines.new ≡ drop (length rows) lines.old) }
 {
     let mut rows = Vec::new(alloc);
-    for line in lines {
+    while let Some(line) = next_named(ROW, lines) {
         let number = first + rows.len() as u64;
         if rows.len() == MOST_ROWS {
             return Err(SheetError::Line(number));
@@ -79,4 +125,18 @@ fn rows_in(alloc: Global, lines: Lines<'_>, first: u64) -> Result<Rows, SheetErr
         rows.push(row).map_err(|_| SheetError::OutOfMemory)?;
     }
     Ok(Rows::new(rows))
+}
+
+// the next line where its first word is this name; it is passed over then
+fn next_named<'a>(name: &[u8], lines: &mut Lines<'a>) -> Option<&'a [u8]>
+    ensures some { IfSome result (λ line. (lines.old ≡ line.now ∷ lines.new) × (is_named name.now line.now ≡ Bool.true)) }
+    ensures none { IfNone result ((lines.new ≡ lines.old) × (take_while (is_named name.now) lines.old ≡ [])) }
+{
+    match lines_in(lines.rest()).next() {
+        Some(line) if is_named(name, line) => {
+            let _ = lines.next();
+            Some(line)
+        }
+        _ => None,
+    }
 }

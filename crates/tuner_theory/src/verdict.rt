@@ -1,35 +1,47 @@
-use thiserror::Error;
+ghost use Rattle.std.specs.Prelude.{Some};
+ghost use Rattle.tuner_theory.specs.Shown.{shown_refusal};
+
+use std::fmt;
 
 /// Why a sheet is refused: the first of these that holds of it, in this order. Each is shown as its code and name.
-#[derive(Debug, Clone, Copy, PartialEq, Eq, Error)]
+#[derive(Debug, Clone, Copy, PartialEq, Eq)]
 pub enum Refusal {
     /// The step is not 1, 2, 4 or 8, or a class of the table is no multiple of it.
-    #[error("39 OffStep")]
     OffStep,
     /// The table has more classes than the limit.
-    #[error("40 OverLimit")]
     OverLimit,
     /// A counted size has no class.
-    #[error("41 NotServing")]
     NotServing,
     /// The waste is not the table's.
-    #[error("42 WasteWrong")]
     WasteWrong,
     /// There are not as many rows as the limit, or a row has not one number for each distinct need.
-    #[error("43 Shape")]
     Shape,
     /// A number of row 1 is more than one class for all places above costs.
-    #[error("44 LastClass")]
     LastClass,
     /// A number is more than the one above it in the row before.
-    #[error("45 StageDrop")]
     StageDrop,
     /// A number is more than what a class up to a later place costs with the number of the row before at that place.
-    #[error("46 Edge")]
     Edge,
     /// The last row's first number is not the waste.
-    #[error("47 NotTight")]
     NotTight,
+}
+
+impl fmt::Display for Refusal {
+    ghost output = { λ refusal. Some (shown_refusal refusal) };
+
+    fn fmt<W: fmt::Write>(&self, f: &mut fmt::Formatter<W>) -> fmt::Result {
+        f.write_str(match self {
+            Refusal::OffStep => "39 OffStep",
+            Refusal::OverLimit => "40 OverLimit",
+            Refusal::NotServing => "41 NotServing",
+            Refusal::WasteWrong => "42 WasteWrong",
+            Refusal::Shape => "43 Shape",
+            Refusal::LastClass => "44 LastClass",
+            Refusal::StageDrop => "45 StageDrop",
+            Refusal::Edge => "46 Edge",
+            Refusal::NotTight => "47 NotTight",
+        })
+    }
 }
 
 /// What a checker says of a sheet.

@@ -1,6 +1,8 @@
-//! `tune` from text to text on what three real programs requested; the profiles are those in the folder `examples`.
-use super::support::{sink_with_room, source};
+//! `tune` and `check` from text to text on what three real programs requested; the profiles are those in the folder `examples`.
+use super::support::{sink, sink_with_room, source};
+use crate::check::check as check_sheet;
 use crate::engine::Status;
+use crate::fault::ToolFault;
 use crate::tune::tune;
 use std::process::Abort;
 use std::test::Fail;
@@ -164,6 +166,50 @@ waste 63311
             },
         ],
     )
+}
+
+// how `check` of a sheet and a profile ends
+fn checked(
+    rt: &(impl Abort + AllocGlobal),
+    sheet: &[u8],
+    profile: &[u8],
+) -> Result<Result<Status, ToolFault>, Fail> {
+    let mut input = Vec::from_slice(rt.alloc(), sheet)?;
+    input.extend_from_slice(profile)?;
+    let mut from = source(&input);
+    let mut to = sink(rt.alloc())?;
+    Ok(check_sheet(rt.alloc(), &mut from, &mut to))
+}
+
+// raises the last number that does not end in 9 by one
+fn raise_a_number(text: &mut [u8]) {
+    let mut last = true;
+    for byte in text.iter_mut().rev() {
+        if last && *byte >= b'0' && *byte < b'9' {
+            *byte += 1;
+            return;
+        }
+        last = *byte == b' ' || *byte == b'\n';
+    }
+}
+
+#[test]
+fn tuned_sheets_are_optimal(rt: HostRuntime) -> Result<(), Fail> {
+    for profile in [JQ, PERL, SQLITE] {
+        for step in [1, 2, 4, 8] {
+            assert!(rt; step == 1 || step == 2 || step == 4 || step == 8);
+            let mut from = source(profile);
+            let mut to = sink_with_room(rt.alloc(), 65_536)?;
+            let end = tune(rt.alloc(), 32, step, &mut from, &mut to);
+            assert_eq!(rt; end, Ok(Status::Done), "the end at step {step}");
+            let verdict = checked(&rt, &to.text, profile)?;
+            assert_eq!(rt; verdict, Ok(Status::Done), "the sheet at step {step}");
+            raise_a_number(&mut to.text);
+            let verdict = checked(&rt, &to.text, profile)?;
+            assert_eq!(rt; verdict, Ok(Status::No), "a number raised at step {step}");
+        }
+    }
+    Ok(())
 }
 
 const JQ: &[u8] = b"\

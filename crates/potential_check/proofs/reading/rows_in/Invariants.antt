@@ -1,6 +1,16 @@
+use Rattle.std.proofs.Common.{◌≡◌, ◌+◌, ◌-◌, length, drop}
+use Rattle.std.specs.List.{take_while}
+use Rattle.potential_check.specs.Leading.{is_row_line}
 use Rattle.potential_check.specs.Lists.{lists_of}
 use Rattle.potential_check.proofs.RowLines.{RowsSoFar}
 use Rattle.potential_check.proofs.reading.rows_in.Given as goal
 
 abbrev pub invariant-loop-line : goal.invariant-loop-line
-invariant-loop-line l = RowsSoFar l.first l.fn.lines l.line-iterator (lists_of l.rows.items)
+invariant-loop-line l = record {
+  rows : RowsSoFar l.first (take_while is_row_line l.fn.lines) (take_while is_row_line l.lines) (lists_of l.rows.items);
+  size : length (take_while is_row_line l.fn.lines) ≡ length l.rows.items + length (take_while is_row_line l.lines);
+  behind : l.lines ≡ drop (length l.rows.items) l.fn.lines;
+}
+
+abbrev pub decreases-loop-line : goal.decreases-loop-line
+decreases-loop-line l = 33 - length l.rows.items

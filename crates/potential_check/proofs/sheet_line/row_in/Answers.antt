@@ -1,4 +1,4 @@
-use Rattle.std.proofs.Common.{◌≡◌, ◌<◌, ℕ, length, sym, ◌∙◌, arith}
+use Rattle.std.proofs.Common.{◌≡◌, ◌<◌, length, sym, ◌∙◌, arith}
 use Rattle.line_text.specs.Numbers.{number_of}
 use Rattle.potential_check.proofs.RowNumbers.{no_value_passes, row_on-start, row_on-no_number, row_on-full, row_on-more, row_on-end, value_passes}
 use Rattle.potential_check.proofs.sheet_line.row_in.Goals as goal

@@ -1,0 +1,65 @@
+//! Headers in the granules of a memory.
+ghost use Rattle.chunk_header.specs.Seen.{seen, with_next};
+ghost use Rattle.granule_memory.specs.Changes.{ChangesOnlyBytes};
+ghost use Rattle.heap_theory.specs.Header.{header_at, with_header};
+ghost use Rattle.machine_theory.specs.Memory.{IsMemory};
+ghost use Rattle.std.specs.Prelude.{◌≡◌, ◌≢◌, ◌+◌, ◌*◌, ◌<◌, ◌^◌, length, ℕ};
+
+use crate::header::Header;
+use crate::words::{first_word, header_of, next_of, with_next_in};
+use granule_memory::Memory;
+use heap_theory::laws::headers::law_header;
+
+/// The header in a granule, which is below `granules()`. Any sixteen bytes are one: bits that are no field's are ignored.
+#[tactic(auto, unfolding(heap_theory::specs::Header::header_at))]
+pub fn read(memory: &Memory, granule: u32) -> Header
+    requires { granule < length memory.now }
+    ensures header { seen result ≡ header_at memory.now granule }
+    ensures size { result.size < 2 ^ 14 }
+    ensures tag { result.tag < 16 }
+    ensures class { result.class < 32 }
+{
+    header_of(memory.word(granule, 0), memory.word(granule, 1))
+}
+
+/// Writes a header to a granule, which is below `granules()`: it is read there from then on. Its size is below 2^14, its tag
+/// below 16 and its class below 32. All tags and all other granules stay.
+pub fn write(memory: &mut Memory, granule: u32, header: &Header)
+    requires granule { granule < length memory.old }
+    requires size { header.now.size < 2 ^ 14 }
+    requires tag { header.now.tag < 16 }
+    requires class { header.now.class < 32 }
+    ensures written { memory.new ≡ with_header memory.old granule (seen header.now) }
+    ensures read { header_at memory.new granule ≡ seen header.now }
+    ensures headers { (g : ℕ) → g ≢ granule → header_at memory.new g ≡ header_at memory.old g }
+    ensures others { ChangesOnlyBytes memory.old memory.new (16 * granule) (16 * granule + 16) }
+    ensures memory { IsMemory memory.new }
+{
+    law_header();
+    memory.set_word(granule, 0, first_word(header));
+    memory.set_word(granule, 1, header.mark);
+}
+
+/// The link of the header in a granule, which is below `granules()`: a slot's number plus one, or 0.
+#[tactic(auto, unfolding(heap_theory::specs::Header::header_at))]
+pub fn next(memory: &Memory, granule: u32) -> u32
+    requires { granule < length memory.now }
+    ensures { result ≡ (header_at memory.now granule).next }
+{
+    next_of(memory.word(granule, 0))
+}
+
+/// Puts this link in place of the one of the header in a granule, which is below `granules()`. The header's other fields,
+/// all tags and all other granules stay.
+pub fn set_next(memory: &mut Memory, granule: u32, next: u32)
+    requires { granule < length memory.old }
+    ensures written { memory.new ≡ with_next memory.old granule next }
+    ensures read { header_at memory.new granule ≡ record (header_at memory.old granule) { next = next } }
+    ensures headers { (g : ℕ) → g ≢ granule → header_at memory.new g ≡ header_at memory.old g }
+    ensures others { ChangesOnlyBytes memory.old memory.new (16 * granule) (16 * granule + 8) }
+    ensures memory { IsMemory memory.new }
+{
+    law_header();
+    let word = with_next_in(memory.word(granule, 0), next);
+    memory.set_word(granule, 0, word);
+}

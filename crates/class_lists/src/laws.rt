@@ -1,0 +1,43 @@
+//! What keeps a list, as the contract of a function that does nothing.
+ghost use Rattle.class_table.specs.Layout.{IsPartition};
+ghost use Rattle.class_lists.specs.Laws.{
+  EachSlotIsOnce,
+  EndIsEmptyList,
+  FrontIsInLayout,
+  ListIsOne,
+  ListIsShort,
+  ListStays,
+  OtherBytesKeepLists,
+  OtherFieldsKeepLists,
+  OtherHeadersKeepLists,
+  TagsKeepLists,
+};
+
+use class_table::Layout;
+use heap_theory::laws::headers::{law_header, law_links, law_links_in_headers};
+
+/// From a front at most one list is shown, which has each of its slots once, and it stays under each change that leaves the
+/// links of its slots.
+pub fn law_lists()
+    ensures empty { EndIsEmptyList }
+    ensures one { ListIsOne }
+    ensures once { EachSlotIsOnce }
+    ensures short { ListIsShort }
+    ensures front { FrontIsInLayout }
+    ensures links { ListStays }
+    ensures tags { TagsKeepLists }
+    ensures bytes { OtherBytesKeepLists }
+    ensures headers { OtherHeadersKeepLists }
+    ensures fields { OtherFieldsKeepLists }
+{
+    law_header();
+    law_links();
+    law_links_in_headers();
+}
+
+/// What is known of any layout.
+pub(crate) fn law_partition(layout: &Layout)
+    ensures { IsPartition layout.now }
+{
+    layout.granules();
+}

@@ -1,0 +1,133 @@
+ghost use Rattle.chunk_header.specs.Seen.{with_next};
+ghost use Rattle.class_lists.specs.Lists.{ShowsList};
+ghost use Rattle.class_table.specs.Layout.{IsPartition, slot_count, slot_of};
+ghost use Rattle.granule_memory.specs.Changes.{ChangesOnlyBytes};
+ghost use Rattle.heap_theory.specs.Links.{next_in};
+ghost use Rattle.machine_theory.specs.Memory.{IsMemory, Granule};
+ghost use Rattle.std.specs.Prelude.{◌≡◌, ◌+◌, ◌*◌, ◌<◌, ◌≤◌, ℕ, List, [], ◌∷◌, length, drop, replicate, slice_get, slice_index, slice_set, Contains, IfNone, IfSome};
+
+use crate::laws::{law_lists, law_partition};
+use arrayvec::ArrayVec;
+use chunk_header::{next, set_next};
+use class_table::{Layout, MOST_CLASSES};
+use granule_memory::Memory;
+use heap_theory::laws::headers::law_links;
+use std::marker::Model;
+
+/// A list of freed slots for each class of a layout. It is seen as its fronts, by the classes' numbers: a front is the number
+/// of the list's first slot plus one, or 0 where the list is empty. Each slot's header has the link to the next one, so the
+/// lists take no memory of their own, and each call wants the memory and the layout that they belong to.
+#[derive(Debug, Drop)]
+pub struct ClassLists {
+    fronts: ArrayVec<u32, MOST_CLASSES>,
+}
+
+impl Model for ClassLists {
+    ghost use Rattle.std.specs.Prelude.{List, ℕ};
+
+    ghost Value = { List ℕ };
+
+    ghost view = { λ lists. lists.fronts.items };
+}
+
+impl ClassLists {
+    /// An empty list for each class of the layout, whatever the memory holds.
+    pub fn new(layout: &Layout) -> ClassLists
+        ensures fronts { result ≡ replicate (length layout.now.classes) 0 }
+        ensures empty { (memory : List Granule) (class : ℕ) → ShowsList layout.now memory (slice_index result class) [] }
+    {
+        law_partition(layout);
+        let mut fronts = ArrayVec::new();
+        for _ in 0..layout.classes() {
+            fronts.push(0);
+        }
+        ClassLists { fronts }
+    }
+
+    /// Puts a slot in front of the list of a class, given by its number, so that it is the next one to be popped.
+    /// It is a slot of the layout that is in no list yet; that it is of that class is for the caller to know.
+    /// Its link changes, and nothing else of the memory.
+    pub fn push(&mut self, memory: &mut Memory, layout: &Layout, class: usize, slot: u32)
+        requires class { class < length self.old }
+        requires slot { slot < slot_count layout.now }
+        requires granules { length memory.old ≡ layout.now.granules }
+        ensures front { self.new ≡ slice_set self.old class (slot + 1) }
+        ensures link { memory.new ≡ with_next memory.old (slot_of layout.now slot).start (slice_index self.old class) }
+        ensures linked { next_in layout.now memory.new slot ≡ slice_index self.old class }
+        ensures pushed { (list : List ℕ) → ShowsList layout.now memory.old (slice_index self.old class) list →
+            (Contains list slot → ⊥) → ShowsList layout.now memory.new (slot + 1) (slot ∷ list) }
+        ensures others { (front : ℕ) (list : List ℕ) → ShowsList layout.now memory.old front list →
+            (Contains list slot → ⊥) → ShowsList layout.now memory.new front list }
+        ensures bytes { let start = (slot_of layout.now slot).start in
+            ChangesOnlyBytes memory.old memory.new (16 * start) (16 * start + 8) }
+        ensures memory { IsMemory memory.new }
+    {
+        law_lists();
+        let granule = header_granule(memory, layout, slot);
+        set_next(memory, granule, self.front(class));
+        self.set_front(class, slot + 1);
+    }
+
+    /// Takes the first slot off the list of a class, given by its number, or answers `None` where the list is empty.
+    /// The link of the slot that is taken off becomes 0, and nothing else of the memory changes.
+    pub fn pop(&mut self, memory: &mut Memory, layout: &Layout, class: usize) -> Option<u32>
+        requires class { class < length self.old }
+        requires front { slice_index self.old class ≤ slot_count layout.now }
+        requires granules { length memory.old ≡ layout.now.granules }
+        ensures none { IfNone result (slice_index self.old class ≡ 0) }
+        ensures some { IfSome result (λ slot. slice_index self.old class ≡ slot + 1) }
+        ensures same_fronts { IfNone result (self.new ≡ self.old) }
+        ensures same_memory { IfNone result (memory.new ≡ memory.old) }
+        ensures front { IfSome result (λ slot. self.new ≡ slice_set self.old class (next_in layout.now memory.old slot)) }
+        ensures link { IfSome result (λ slot. memory.new ≡ with_next memory.old (slot_of layout.now slot).start 0) }
+        ensures unlinked { IfSome result (λ slot. next_in layout.now memory.new slot ≡ 0) }
+        ensures first { (list : List ℕ) → ShowsList layout.now memory.old (slice_index self.old class) list → result ≡ slice_get list 0 }
+        ensures rest { (list : List ℕ) → ShowsList layout.now memory.old (slice_index self.old class) list →
+            ShowsList layout.now memory.new (slice_index self.new class) (drop 1 list) }
+        ensures others { (front : ℕ) (list : List ℕ) → ShowsList layout.now memory.old front list →
+            IfSome result (λ slot. Contains list slot → ⊥) → ShowsList layout.now memory.new front list }
+        ensures bytes { IfSome result (λ slot. let start = (slot_of layout.now slot).start in
+            ChangesOnlyBytes memory.old memory.new (16 * start) (16 * start + 8)) }
+        ensures memory { IfSome result (λ slot. IsMemory memory.new) }
+    {
+        law_lists();
+        law_links();
+        let front = self.front(class);
+        if front == 0 {
+            return None;
+        }
+        let slot = front - 1;
+        let granule = header_granule(memory, layout, slot);
+        self.set_front(class, next(memory, granule));
+        set_next(memory, granule, 0);
+        Some(slot)
+    }
+
+    fn front(&self, class: usize) -> u32
+        requires { class < length self.now }
+        ensures { result ≡ slice_index self.now class }
+    {
+        self.fronts[class]
+    }
+
+    fn set_front(&mut self, class: usize, front: u32)
+        requires { class < length self.old }
+        ensures { self.new ≡ slice_set self.old class front }
+    {
+        self.fronts[class] = front;
+    }
+}
+
+// The granule of a slot's header.
+fn header_granule(memory: &Memory, layout: &Layout, slot: u32) -> u32
+    requires slot { slot < slot_count layout.now }
+    requires granules { length memory.now ≡ layout.now.granules }
+    ensures start { result ≡ (slot_of layout.now slot).start }
+    ensures inside { result < length memory.now }
+    ensures few { slot < 131072 }
+    ensures partition { IsPartition layout.now }
+{
+    prove!(slot < layout.slots());
+    prove!(memory.granules() == layout.granules());
+    layout.start(slot)
+}

@@ -1,0 +1,42 @@
+-- The slot that covers a granule.
+use Rattle.std.proofs.Common.{◌≡◌, ℕ, ◌<◌, ◌≤◌, true, ltb, Some, None, ◌∙◌, ap, cond, arith}
+use Rattle.std.specs.Prelude.{◌↔◌}
+use Rattle.std.specs.List.{position_or_len}
+use Rattle.std.proofs.lemmas.Bool.{and_parts, and_from, leb-true, le-leb, ltb-true, lt-ltb, cond-true, false_from_ne_true}
+use Rattle.std.proofs.lemmas.List.Quantifiers.{position-Some}
+use Rattle.std.proofs.lemmas.List.Sums.{position_or_len_is}
+use Rattle.class_table.specs.Layout.{Partition, Slot, no_slot, end_of, slots_of, slot_count, slot_of, Covers, covers, slot_over}
+use Rattle.class_table.specs.Tables.{IsLegalTable}
+use Rattle.class_table.proofs.Slots.{in_order}
+
+pub Covers-true : (slot : Slot) (granule : ℕ) → covers slot granule ≡ true → Covers slot granule
+Covers-true slot granule test =
+    let both = and_parts _ _ test in record { from = leb-true slot.start granule both.0; to = ltb-true granule (end_of slot) both.1 }
+
+pub true-Covers : (slot : Slot) (granule : ℕ) → Covers slot granule → covers slot granule ≡ true
+true-Covers slot granule it = and_from _ _ (le-leb slot.start granule it.from) (lt-ltb granule (end_of slot) it.to)
+
+-- two slots that cover one granule are one
+one_covers : (step : ℕ) (region : Partition) (granule s r : ℕ) → IsLegalTable step region.classes → r < s → s < slot_count region →
+    Covers (slot_of region s) granule → Covers (slot_of region r) granule → ⊥
+one_covers step region granule s r legal before within at_s at_r =
+    let apart : end_of (slot_of region r) ≤ (slot_of region s).start = (in_order step region legal).apart r s before within in
+    omega (arith, at_s.from, at_r.to)
+
+pub slot_over-covers : (step : ℕ) (region : Partition) (granule s : ℕ) → IsLegalTable step region.classes →
+    (slot_over region granule ≡ Some s) ↔ ((s < slot_count region) × Covers (slot_of region s) granule)
+unfolding slot_over
+slot_over-covers step region granule s legal = (found, finds)
+  where
+    found : slot_over region granule ≡ Some s → (s < slot_count region) × Covers (slot_of region s) granule
+    found is =
+        let first = position-Some (λ slot. covers slot granule) (slots_of region) s no_slot is in (first.0, Covers-true (slot_of region s) granule first.1)
+
+    finds : (s < slot_count region) × Covers (slot_of region s) granule → slot_over region granule ≡ Some s
+    finds at =
+        let place : position_or_len (λ slot. covers slot granule) (slots_of region) ≡ s =
+        position_or_len_is (λ slot. covers slot granule) (slots_of region) s no_slot (omega (arith, at.0))
+        (λ r before. false_from_ne_true (covers (slot_of region r) granule)
+        (λ test. one_covers step region granule s r legal before at.0 at.1 (Covers-true (slot_of region r) granule test)))
+        (λ within. true-Covers (slot_of region s) granule at.1) in
+        ap (λ p. cond (ltb p (slot_count region)) (Some p) None) place ∙ cond-true (ltb s (slot_count region)) (Some s) None (lt-ltb s (slot_count region) at.0)

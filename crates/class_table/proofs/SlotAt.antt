@@ -1,0 +1,89 @@
+-- Which slot covers a granule, by arithmetic on the share.
+use Rattle.std.proofs.Common.{◌≡◌, ℕ, ◌+◌, ◌-◌, ◌*◌, ◌/◌, ◌%◌, ◌<◌, ◌≤◌, length, get_or, Option, Some, None, refl, sym, ◌∙◌, ap, subst, arith}
+use Rattle.std.proofs.lemmas.Nat.{mul-le, div-add-mod', div-mul-add, mod-mul-add, mod_below}
+use Rattle.class_table.specs.Layout.{Partition, IsPartition, Slot, end_of, share_of, slot_count, slot_of, first_slot, Covers, slot_over}
+use Rattle.class_table.proofs.Covering.{slot_over-covers}
+use Rattle.class_table.proofs.Firsts.{first_slot-suc, first_slot-most}
+use Rattle.class_table.proofs.Slots.{Place, place_of, slot_of-class}
+
+record IsAt (share granule number class k : ℕ) : Type 0 where
+  number_is : number ≡ granule / share
+  k_is : k ≡ granule % share / class
+
+divided : (share granule number class k : ℕ) → k < share / class → share * number + class * k ≤ granule → granule < share * number + class * k + class → IsAt share granule number class k
+divided share granule number class k fits from to =
+    let product : (k + 1) * class ≤ share / class * class = mul-le (k + 1) class (share / class) class (omega arith) (omega arith) in
+    let split : share / class * class + share % class ≡ share = div-add-mod' share class in
+    let inner : ℕ = granule - share * number in
+    let below : inner < share = omega arith in
+    let whole : granule ≡ number * share + inner = omega arith in
+    let rest : inner ≡ k * class + (inner - class * k) = omega arith in
+    let remainder : granule % share ≡ inner = ap (λ n. n % share) whole ∙ mod-mul-add number share inner below in
+    record {
+      number_is = sym (ap (λ n. n / share) whole ∙ div-mul-add number share inner below);
+      k_is = sym (ap (λ n. n / class) (remainder ∙ rest) ∙ div-mul-add k class (inner - class * k) (omega arith));
+    }
+
+-- where a slot stands that covers the granule
+covered : (region : Partition) (granule s : ℕ) (place : Place region s) → Covers (slot_of region s) granule →
+    IsAt (share_of region) granule place.number (get_or region.classes place.number 0) place.k
+covered region granule s place at =
+    let slot = ap (slot_of region) place.is ∙ slot_of-class region place.number place.k place.within place.fits in
+    let from : (slot_of region s).start ≤ granule = at.from in
+    let to : granule < end_of (slot_of region s) = at.to in
+    let start : (slot_of region s).start ≡ share_of region * place.number + get_or region.classes place.number 0 * place.k = ap (λ (slot : Slot). slot.start) slot in
+    let class : (slot_of region s).class ≡ get_or region.classes place.number 0 = ap (λ (slot : Slot). slot.class) slot in
+    divided (share_of region) granule place.number (get_or region.classes place.number 0) place.k place.fits (omega arith) (omega arith)
+
+-- no slot is found where none covers the granule
+none_over : (region : Partition) (granule : ℕ) → IsPartition region → ((s : ℕ) → s < slot_count region → Covers (slot_of region s) granule → ⊥) → None ≡ slot_over region granule
+none_over region granule is none = by (slot_over region granule) refl
+  where
+    by : (found : Option ℕ) → slot_over region granule ≡ found → None ≡ found
+    by None was = refl
+    by (Some s) was = let at = (slot_over-covers 1 region granule s is.table).0 was in absurd (none s at.0 at.1)
+
+pub none_without_share : (region : Partition) (granule : ℕ) → IsPartition region → share_of region ≡ 0 → None ≡ slot_over region granule
+none_without_share region granule is no_share = none_over region granule is (λ s within at.
+    let place = place_of region s within in
+    let fits : place.k < 0 / get_or region.classes place.number 0 = subst (λ n. place.k < n / get_or region.classes place.number 0) no_share place.fits in
+    omega arith)
+
+pub none_past_shares : (region : Partition) (granule : ℕ) → IsPartition region → length region.classes ≤ granule / share_of region → None ≡ slot_over region granule
+none_past_shares region granule is past = none_over region granule is (λ s within at.
+    let place = place_of region s within in
+    let where_is = covered region granule s place at in
+    omega (arith, place.within, where_is.number_is))
+
+-- where no slot of the granule's share covers it, none does
+pub none_behind_slots : (region : Partition) (granule : ℕ) → IsPartition region → granule / share_of region < length region.classes →
+    share_of region / get_or region.classes (granule / share_of region) 0 ≤ granule % share_of region / get_or region.classes (granule / share_of region) 0 →
+    None ≡ slot_over region granule
+none_behind_slots region granule is within past = none_over region granule is (λ s inside at.
+    let place = place_of region s inside in
+    let where_is = covered region granule s place at in
+    let fits : place.k < share_of region / get_or region.classes (granule / share_of region) 0 =
+    subst (λ n. place.k < share_of region / get_or region.classes n 0) where_is.number_is place.fits in
+    let k_is : place.k ≡ granule % share_of region / get_or region.classes (granule / share_of region) 0 =
+    subst (λ n. place.k ≡ granule % share_of region / get_or region.classes n 0) where_is.number_is where_is.k_is in
+    omega arith)
+
+-- and else it is the slot at that place
+pub some_in_share : (region : Partition) (granule s : ℕ) → IsPartition region → granule / share_of region < length region.classes →
+    granule % share_of region / get_or region.classes (granule / share_of region) 0 < share_of region / get_or region.classes (granule / share_of region) 0 →
+    s ≡ first_slot region (granule / share_of region) + granule % share_of region / get_or region.classes (granule / share_of region) 0 →
+    Some s ≡ slot_over region granule
+some_in_share region granule s is within fits place =
+    let share = share_of region in
+    let number = granule / share in
+    let class = get_or region.classes number 0 in
+    let k = granule % share / class in
+    let slot : slot_of region s ≡ record { start = share * number + class * k; class = class } = ap (slot_of region) place ∙ slot_of-class region number k within fits in
+    let start : (slot_of region s).start ≡ share * number + class * k = ap (λ (slot : Slot). slot.start) slot in
+    let width : (slot_of region s).class ≡ class = ap (λ (slot : Slot). slot.class) slot in
+    let whole : number * share + granule % share ≡ granule = div-add-mod' granule share in
+    let inner : k * class + granule % share % class ≡ granule % share = div-add-mod' (granule % share) class in
+    let wide : 2 ≤ class = (is.table.in_range number 0 within).0 in
+    let less : granule % share % class < class = mod_below (granule % share) class (omega arith) in
+    let inside : s < slot_count region = omega (arith, first_slot-suc region number within, first_slot-most region (number + 1)) in
+    sym ((slot_over-covers 1 region granule s is.table).1 (inside, record { from = omega arith; to = omega arith }))

@@ -1,0 +1,40 @@
+use Rattle.std.proofs.Common.{◌≡◌, ◌+◌, ◌/◌, length, map, get_or, arith, ◌∙◌, ap, take_all}
+use Rattle.std.specs.List.{range_with_len}
+use Rattle.std.proofs.lemmas.Option.{get_or_from_slice_get}
+use Rattle.class_table.specs.Layout.{IsPartition, first_slot}
+use Rattle.class_table.proofs.Filling.{IsFilled-more, firsts_more, length-numbers}
+use Rattle.class_table.proofs.Firsts.{first_slot-few}
+use Rattle.class_table.proofs.layout.Layout.new.Goals as goal
+
+pub push-requires-in-loop-number : goal.push-requires-in-loop-number
+push-requires-in-loop-number c =
+    let numbers = length-numbers _ _ _ _ _ c.loop-number.invariant in
+    (omega arith, omega (arith, numbers, c.len-number-end.ensures.len, c.len-number-end.ensures.legal.few))
+
+pub loop-number-preserved : goal.loop-number-preserved
+loop-number-preserved c =
+    let class : get_or c.args.table.now c.loop-number.number 0 ≡ c.class-class.result = get_or_from_slice_get c.args.table.now c.loop-number.number c.class-class.result 0 c.class-class.ensures.class in
+    rw (c.push.ensures.items, c.push-in-loop-number.ensures.items, c.from.ensures, ← class, c.share_of_each-share.ensures, c.len.ensures.len)
+    (IsFilled-more _ _ _ _ _ c.loop-number.invariant (omega (arith, c.len-number-end.ensures.len)))
+
+pub overflow_add-slots : goal.overflow_add-slots
+overflow_add-slots c =
+    let more = loop-number-preserved c in
+    let is : IsPartition (record { classes = c.args.table.now; granules = c.args.granules }) = record { table = c.len.ensures.legal; least = c.requires.least; most = c.requires.most } in
+    omega (arith, more.slots, first_slot-few (record { classes = c.args.table.now; granules = c.args.granules }) (c.loop-number.number + 1) is)
+
+pub push-requires-2 : goal.push-requires-2
+push-requires-2 c =
+    let numbers = length-numbers _ _ _ _ _ c.loop-number.invariant in
+    (omega arith, omega (arith, numbers, c.len-number-end.ensures.len, c.len-number-end.ensures.legal.few))
+
+pub invariant_of-result : goal.invariant_of-result
+invariant_of-result c =
+    let number : c.loop-number.number ≡ length c.args.table.now = omega (arith, c.len-number-end.ensures.len) in
+    let classes : c.loop-number.classes.items ≡ c.args.table.now = c.loop-number.invariant.classes ∙ take_all c.loop-number.number c.args.table.now (omega arith) in
+    rw classes (record {
+      partition = record { table = c.len.ensures.legal; least = c.requires.least; most = c.requires.most };
+      share = c.share_of_each-share.ensures ∙ ap (λ n. c.args.granules / n) c.len.ensures.len;
+      firsts = c.push-2.ensures.items ∙ firsts_more _ _ _ _ _ c.loop-number.invariant
+          ∙ ap (λ n. map (first_slot (record { classes = c.args.table.now; granules = c.args.granules })) (range_with_len 0 (n + 1))) number;
+    })

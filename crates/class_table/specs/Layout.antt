@@ -1,0 +1,84 @@
+-- How a region is divided into slots (this project's own): each class has an equal share of its granules.
+use Rattle.std.specs.Prelude.{ℕ, ◌+◌, ◌*◌, ◌/◌, ◌<◌, ◌≤◌, Bool, ◌&&◌, nat_le, nat_lt, List, [], ◌∷◌, ◌++◌, length, map, position, take, sum_by, slice_index_or, Option}
+use Rattle.std.specs.List.{range_with_len}
+use Rattle.class_table.specs.Sizes.{granule_bytes}
+use Rattle.class_table.specs.Tables.{IsLegalTable}
+
+-- A region of so many granules, and the table whose classes share it.
+pub record Partition : Type 0 where
+  pub classes : List ℕ
+  pub granules : ℕ
+
+-- The partitions that a heap may have.
+pub record IsPartition (region : Partition) : Type 0 where
+  pub table : IsLegalTable 1 region.classes
+  pub least : 64 ≤ region.granules
+  pub most : region.granules ≤ 262144
+
+-- A slot: its first granule, which is its header, and its class, which is the number of its granules.
+pub record Slot : Type 0 where
+  pub start : ℕ
+  pub class : ℕ
+
+-- what stands past the last slot
+abbrev pub no_slot : Slot
+no_slot = record { start = 0; class = 0 }
+
+-- the first granule behind a slot
+abbrev pub end_of : Slot → ℕ
+end_of slot = slot.start + slot.class
+
+-- the bytes of a slot's block, its header among them
+abbrev pub block_bytes : Slot → ℕ
+block_bytes slot = granule_bytes * slot.class
+
+-- ---- where slots lie
+
+-- the granules that each class has
+abbrev pub share_of : Partition → ℕ
+share_of region = region.granules / length region.classes
+
+-- the slots of a class whose share begins at granule `first`: as many as fit, one after the other
+abbrev pub slots_of_class : ℕ → ℕ → ℕ → List Slot
+slots_of_class first share class = map (λ k. record { start = first + class * k; class = class }) (range_with_len 0 (share / class))
+
+-- the slots of some classes, the first of which has its share from granule `first` on
+unfoldable pub slots_of_classes : ℕ → ℕ → List ℕ → List Slot
+slots_of_classes first share [] = []
+slots_of_classes first share (class ∷ classes) = slots_of_class first share class ++ slots_of_classes (first + share) share classes
+
+-- All slots of a region, numbered from 0 in address order. Its other granules are slack.
+unfoldable pub slots_of : Partition → List Slot
+slots_of region = slots_of_classes 0 (share_of region) region.classes
+
+abbrev pub slot_count : Partition → ℕ
+slot_count region = length (slots_of region)
+
+-- the slot of this number
+abbrev pub slot_of : Partition → ℕ → Slot
+slot_of region s = slice_index_or (slots_of region) s no_slot
+
+-- the number of the first slot of the class of this number; for the number of classes itself, the number of slots
+abbrev pub first_slot : Partition → ℕ → ℕ
+first_slot region number = sum_by (λ class. share_of region / class) (take number region.classes)
+
+-- ---- which slot covers a granule
+
+pub record Covers (slot : Slot) (granule : ℕ) : Type 0 where
+  pub from : slot.start ≤ granule
+  pub to : granule < end_of slot
+
+abbrev pub covers : Slot → ℕ → Bool
+covers slot granule = nat_le slot.start granule && nat_lt granule (end_of slot)
+
+-- The number of the slot that covers a granule, if one does.
+unfoldable pub slot_over : Partition → ℕ → Option ℕ
+slot_over region granule = position (λ slot. covers slot granule) (slots_of region)
+
+-- ---- what is true of every layout
+
+-- The slots stand in address order, apart from one another and inside the region; each has a payload, and a class of the table.
+pub record AreInOrder (region : Partition) : Type 0 where
+  pub inside : (s : ℕ) → s < slot_count region → end_of (slot_of region s) ≤ region.granules
+  pub wide : (s : ℕ) → s < slot_count region → 2 ≤ (slot_of region s).class
+  pub apart : (s r : ℕ) → s < r → r < slot_count region → end_of (slot_of region s) ≤ (slot_of region r).start

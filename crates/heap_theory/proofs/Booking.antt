@@ -1,0 +1,287 @@
+-- What a call makes of a heap is booked by what it makes of the queue and the lists.
+use Rattle.std.proofs.Common.{◌≡◌, ℕ, ◌+◌, ◌-◌, ◌<◌, true, false, List, [], ◌∷◌, ◌++◌, length, get_or, refl, sym, ap, ◌∙◌, subst, inl, inr, ⊎_elim, arith, Some}
+use Rattle.std.specs.Prelude.{slice_get, slice_set, replicate, Contains}
+use Rattle.std.proofs.lemmas.Bool.{cases_eq}
+use Rattle.std.proofs.lemmas.List.{get_or-set_same, get_or-set_other, length-set, length-replicate}
+use Rattle.std.proofs.lemmas.List.Elements.{Contains-append_left, Contains-push}
+use Rattle.machine_theory.specs.Memory.{Granule}
+use Rattle.class_table.specs.Layout.{Partition, slot_count, block_bytes}
+use Rattle.heap_theory.specs.Booked.{HasMark, IsChain, IsFreedList, IsBookedFrom, IsBooked, bytes_in}
+use Rattle.heap_theory.specs.Calls.{next_tag, given_out, freed, resized}
+use Rattle.heap_theory.specs.Choice.{is_dead}
+use Rattle.heap_theory.specs.Links.{list_of}
+use Rattle.heap_theory.specs.Sound.{IsSoundHeap}
+use Rattle.heap_theory.specs.State.{State, Heap, slot_in, state_at, last_tag, is_fresh, first_heap}
+use Rattle.heap_theory.specs.State.State.{Fresh, Live, Dead}
+use Rattle.heap_theory.proofs.FirstHeap.{get_or-replicate_any}
+use Rattle.heap_theory.proofs.Found.{Contains-head, Contains-behind, Contains-cases}
+use Rattle.heap_theory.proofs.HeapKept.{in_states}
+use Rattle.heap_theory.proofs.Marks.{one_mark, not_marked, chain_bytes, chain_mark, chain_dead, list_mark, list_dead, list_weaker, one_number, IsNumberOf, number_is}
+use Rattle.heap_theory.proofs.Releasing.{list_of-here, list_of-there}
+
+-- ---- a change of the memory
+
+chain_over : (h : Heap) (memory : List Granule) (from : ℕ) (queue : List ℕ) → IsChain h from queue → IsChain (record h { memory = memory }) from queue
+chain_over h memory from [] c = c
+chain_over h memory from (s ∷ rest) c = (c.0, c.1, chain_over h memory (from + block_bytes (slot_in h s)) rest c.2)
+
+list_over : (h : Heap) (memory : List Granule) (class bound : ℕ) (list : List ℕ) → IsFreedList h class bound list → IsFreedList (record h { memory = memory }) class bound list
+list_over h memory class bound [] f = tt
+list_over h memory class bound (s ∷ rest) f = (f.0, f.1, f.2, f.3, f.4, list_over h memory class f.0 rest f.5)
+
+pub booked_over : (h : Heap) (memory : List Granule) (queue : List ℕ) (lists : List (List ℕ)) → IsBooked h queue lists → IsBooked (record h { memory = memory }) queue lists
+booked_over h memory queue lists b = record {
+  from = b.from;
+  booked = record {
+    chain = chain_over h memory b.from queue b.booked.chain;
+    long = b.booked.long;
+    freed = λ number within. list_over h memory _ b.from (list_of lists number) (b.booked.freed number within);
+    queued = b.booked.queued;
+    listed = b.booked.listed;
+    released = b.booked.released;
+  };
+  held = b.held;
+}
+
+-- ---- the state of one slot changes
+
+module _ (h : Heap) (s : ℕ) (state : State) (memory : List Granule) (total seed tag : ℕ) (within : s < length h.states) where
+  changed : Heap
+  changed = record h { states = slice_set h.states s state; memory = memory; total = total; seed = seed; tag = tag }
+
+  state_here : state_at changed s ≡ state
+  unfolding changed
+  state_here = get_or-set_same h.states s state Fresh within
+
+  state_there : (r : ℕ) → (r ≡ s → ⊥) → state_at changed r ≡ state_at h r
+  unfolding changed
+  state_there r not = get_or-set_other h.states s r state Fresh not
+
+  marked_there : (r mark : ℕ) → (r ≡ s → ⊥) → HasMark (state_at h r) mark → HasMark (state_at changed r) mark
+  marked_there r mark not d = subst (λ x. HasMark x mark) (sym (state_there r not)) d
+
+  marked_before : (r mark : ℕ) → (r ≡ s → ⊥) → HasMark (state_at changed r) mark → HasMark (state_at h r) mark
+  marked_before r mark not d = subst (λ x. HasMark x mark) (state_there r not) d
+
+  marked_here : (r mark : ℕ) → r ≡ s → HasMark (state_at changed r) mark → HasMark state mark
+  marked_here r mark is d = subst (λ x. HasMark x mark) state_here (subst (λ q. HasMark (state_at changed q) mark) is d)
+
+  list_stays : (class bound : ℕ) (list : List ℕ) → (Contains list s → ⊥) → IsFreedList h class bound list → IsFreedList changed class bound list
+  unfolding changed
+  list_stays class bound [] out f = tt
+  list_stays class bound (r ∷ rest) out f = (
+    f.0,
+    f.1,
+    f.2,
+    marked_there r f.0 (λ is. out (subst (Contains (r ∷ rest)) is (Contains-head r rest))) f.3,
+    f.4,
+    list_stays class f.0 rest (λ there. out (Contains-behind r rest s there)) f.5,
+  )
+
+  chain_stays : (from : ℕ) (queue : List ℕ) → total ≡ h.total → (Contains queue s → ⊥) → IsChain h from queue → IsChain changed from queue
+  unfolding changed
+  chain_stays from [] same out c = c ∙ sym same
+  chain_stays from (r ∷ rest) same out c = (
+    c.0,
+    marked_there r from (λ is. out (subst (Contains (r ∷ rest)) is (Contains-head r rest))) c.1,
+    chain_stays (from + block_bytes (slot_in h r)) rest same (λ there. out (Contains-behind r rest s there)) c.2,
+  )
+
+  bytes_same : (queue : List ℕ) → bytes_in changed queue ≡ bytes_in h queue
+  unfolding changed
+  bytes_same queue = refl
+
+  -- a slot that becomes live, or stays so, leaves the lists if it was in one
+  made_live : (queue : List ℕ) (lists new : List (List ℕ)) → total ≡ h.total → is_dead state ≡ false → IsBooked h queue lists → (Contains queue s → ⊥) →
+      length new ≡ length lists → ((number : ℕ) → number < length new → Contains (list_of new number) s → ⊥) →
+      ((number class bound : ℕ) → number < length new → IsFreedList h class bound (list_of lists number) → IsFreedList h class bound (list_of new number)) →
+      ((number r : ℕ) → (r ≡ s → ⊥) → Contains (list_of lists number) r → Contains (list_of new number) r) → IsBooked changed queue new
+  unfolding changed
+  made_live queue lists new same alive b not_queued long out kept others = record {
+    from = b.from;
+    booked = record {
+      chain = chain_stays b.from queue same not_queued b.booked.chain;
+      long = long ∙ b.booked.long;
+      freed = λ number inside. list_stays _ b.from (list_of new number) (out number inside) (kept number _ b.from inside (b.booked.freed number (subst (λ n. number < n) long inside)));
+      queued = λ r mark in_range d le. let before = dead_before r mark d in b.booked.queued r mark in_range before.1 le;
+      listed = λ r mark number in_range d lt found. let before = dead_before r mark d in others number r before.0 (b.booked.listed r mark number in_range before.1 lt found);
+      released = λ r mark in_range d lt.
+          let before = dead_before r mark d in
+          let over : h.quarantine < h.total - mark = b.booked.released r mark in_range before.1 lt in subst (λ t. h.quarantine < t - mark) (sym same) over;
+    };
+    held = b.held;
+  }
+    where
+      dead_before : (r mark : ℕ) → HasMark (state_at changed r) mark → (r ≡ s → ⊥) × HasMark (state_at h r) mark
+      dead_before r mark d =
+          let not : r ≡ s → ⊥ = λ is. not_marked state mark alive (marked_here r mark is d) in
+          (not, marked_before r mark not d)
+
+  -- a live slot that is freed goes to the end of the queue
+  chain_push : (from : ℕ) (queue : List ℕ) → s < slot_count h.layout → HasMark state h.total → total ≡ h.total + block_bytes (slot_in h s) →
+      (Contains queue s → ⊥) → IsChain h from queue → IsChain changed from (queue ++ s ∷ [])
+  unfolding changed
+  chain_push from [] in_range d grows out c =
+      (in_range, subst (λ x. HasMark x from) (sym state_here) (subst (HasMark state) (sym c) d), omega (arith, c))
+  chain_push from (r ∷ rest) in_range d grows out c = (
+    c.0,
+    marked_there r from (λ is. out (subst (Contains (r ∷ rest)) is (Contains-head r rest))) c.1,
+    chain_push (from + block_bytes (slot_in h r)) rest in_range d grows (λ there. out (Contains-behind r rest s there)) c.2,
+  )
+
+  made_dead : (queue : List ℕ) (lists : List (List ℕ)) → s < slot_count h.layout → HasMark state h.total → total ≡ h.total + block_bytes (slot_in h s) →
+      (b : IsBooked h queue lists) → (Contains queue s → ⊥) → ((number : ℕ) → number < length lists → Contains (list_of lists number) s → ⊥) →
+      IsBookedFrom changed b.from (queue ++ s ∷ []) lists
+  unfolding changed
+  made_dead queue lists in_range d grows b not_queued out = record {
+    chain = chain_push b.from queue in_range d grows not_queued b.booked.chain;
+    long = b.booked.long;
+    freed = λ number inside. list_stays _ b.from (list_of lists number) (out number inside) (b.booked.freed number inside);
+    queued = λ r mark k dead le. elim (cases_eq r s) [
+      | inl is ↦ subst (Contains (queue ++ s ∷ [])) (sym is) (Contains-push queue s)
+      | inr not ↦ Contains-append_left queue (s ∷ []) r (b.booked.queued r mark k (marked_before r mark not dead) le)
+    ];
+    listed = λ r mark number k dead lt found. elim (cases_eq r s) [
+      | inl is ↦ absurd (not_before r mark is dead lt)
+      | inr not ↦ b.booked.listed r mark number k (marked_before r mark not dead) lt found
+    ];
+    released = λ r mark k dead lt. elim (cases_eq r s) [
+      | inl is ↦ absurd (not_before r mark is dead lt)
+      | inr not ↦ let over : h.quarantine < h.total - mark = b.booked.released r mark k (marked_before r mark not dead) lt in omega arith
+    ];
+  }
+    where
+      not_before : (r mark : ℕ) → r ≡ s → HasMark (state_at changed r) mark → mark < b.from → ⊥
+      not_before r mark is dead lt =
+          let own : mark ≡ h.total = one_mark state mark h.total (marked_here r mark is dead) d in
+          let sum = chain_bytes h b.from queue b.booked.chain in
+          omega arith
+
+-- ---- a slot that is not dead is in no list
+
+not_queued : (h : Heap) (from : ℕ) (queue : List ℕ) (s : ℕ) → IsChain h from queue → is_dead (state_at h s) ≡ false → Contains queue s → ⊥
+not_queued h from queue s c alive there = let q = chain_dead h from queue s c there in not_marked (state_at h s) q.mark alive q.marked
+
+not_listed : (h : Heap) (queue : List ℕ) (lists : List (List ℕ)) (s : ℕ) → (b : IsBooked h queue lists) → is_dead (state_at h s) ≡ false →
+    (number : ℕ) → number < length lists → Contains (list_of lists number) s → ⊥
+not_listed h queue lists s b alive number inside there =
+    let l = list_dead h _ b.from (list_of lists number) s (b.booked.freed number inside) there in not_marked (state_at h s) l.mark alive l.marked
+
+alive_fresh : (x : State) → is_fresh x ≡ true → is_dead x ≡ false
+alive_fresh Fresh fresh = refl
+alive_fresh (Live n t) fresh = refl
+alive_fresh (Dead n t m) fresh = cc
+
+-- ---- the changes that calls make
+
+pub booked_freed : (h : Heap) (queue : List ℕ) (lists : List (List ℕ)) (s n t : ℕ) → IsSoundHeap h → (b : IsBooked h queue lists) → s < slot_count h.layout → state_at h s ≡ Live n t →
+    IsBookedFrom (freed h s n) b.from (queue ++ s ∷ []) lists
+unfolding freed changed
+booked_freed h queue lists s n t sound b in_range live =
+    made_dead h s (Dead n (last_tag (state_at h s)) h.total) _ (h.total + block_bytes (slot_in h s)) _ _ (in_states h s sound in_range)
+    queue lists in_range refl refl b
+    (not_queued h b.from queue s b.booked.chain (ap is_dead live))
+    (not_listed h queue lists s b (ap is_dead live))
+
+pub booked_fresh : (h : Heap) (queue : List ℕ) (lists : List (List ℕ)) (s n : ℕ) → IsSoundHeap h → IsBooked h queue lists → s < slot_count h.layout → is_fresh (state_at h s) ≡ true →
+    IsBooked (given_out h s n) queue lists
+unfolding given_out changed
+booked_fresh h queue lists s n sound b in_range fresh =
+    made_live h s (Live n (next_tag h s)) _ h.total _ _ (in_states h s sound in_range) queue lists lists refl refl b
+    (not_queued h b.from queue s b.booked.chain (alive_fresh (state_at h s) fresh))
+    refl
+    (not_listed h queue lists s b (alive_fresh (state_at h s) fresh))
+    (λ number class bound inside f. f) (λ number r not there. there)
+
+pub booked_resized : (h : Heap) (queue : List ℕ) (lists : List (List ℕ)) (s n m t : ℕ) → IsSoundHeap h → IsBooked h queue lists → s < slot_count h.layout → state_at h s ≡ Live m t →
+    IsBooked (resized h s n) queue lists
+unfolding resized changed
+booked_resized h queue lists s n m t sound b in_range live =
+    made_live h s (Live n (last_tag (state_at h s))) _ h.total _ _ (in_states h s sound in_range) queue lists lists refl refl b
+    (not_queued h b.from queue s b.booked.chain (ap is_dead live))
+    refl
+    (not_listed h queue lists s b (ap is_dead live))
+    (λ number class bound inside f. f) (λ number r not there. there)
+
+-- the front of a class's list is given out
+module _ (h : Heap) (queue : List ℕ) (lists : List (List ℕ)) (number class s n : ℕ) (rest : List ℕ) (sound : IsSoundHeap h) (b : IsBooked h queue lists)
+    (numbered : slice_get h.layout.classes number ≡ Some class) (is : list_of lists number ≡ s ∷ rest) where
+  is_number : IsNumberOf h.layout.classes number class
+  is_number = number_is h.layout.classes number class numbered
+
+  inside : number < length lists
+  inside = subst (λ k. number < k) (sym b.booked.long) is_number.within
+
+  front : IsFreedList h class b.from (s ∷ rest)
+  front = subst (λ list. IsFreedList h class b.from list) is (subst (λ c. IsFreedList h c b.from (list_of lists number)) is_number.is (b.booked.freed number inside))
+
+  in_no_queue : Contains queue s → ⊥
+  in_no_queue there =
+      let f = front in
+      let below : f.0 < b.from = f.4 in
+      omega (arith, chain_mark h b.from queue s f.0 b.booked.chain there f.3)
+
+  in_no_list : (other : ℕ) → other < length (slice_set lists number rest) → Contains (list_of (slice_set lists number rest) other) s → ⊥
+  in_no_list other within there =
+      let f = front in
+      elim (cases_eq other number) [
+        | inl same ↦
+            let behind : Contains rest s = subst (λ list. Contains list s) (list_of-here lists number rest inside) (subst (λ k. Contains (list_of (slice_set lists number rest) k) s) same there) in
+            let below : f.0 < f.0 = list_mark h class f.0 rest s f.0 f.5 behind f.3 in
+            omega arith
+        | inr not ↦
+            let in_lists : other < length lists = subst (λ k. other < k) (length-set lists number rest) within in
+            let l = list_dead h (get_or h.layout.classes other 0) b.from (list_of lists other) s (b.booked.freed other in_lists)
+            (subst (λ list. Contains list s) (list_of-there lists number other rest not) there) in
+            not (one_number 1 h.layout.classes other number sound.region.table (subst (λ k. other < k) b.booked.long in_lists) is_number.within
+            (sym l.of_class ∙ f.2 ∙ sym is_number.is))
+      ]
+
+  rest_freed : (other c bound : ℕ) → other < length (slice_set lists number rest) → IsFreedList h c bound (list_of lists other) → IsFreedList h c bound (list_of (slice_set lists number rest) other)
+  rest_freed other c bound within f = elim (cases_eq other number) [
+    | inl same ↦
+        subst (λ k. IsFreedList h c bound (list_of (slice_set lists number rest) k)) (sym same)
+        (subst (λ list. IsFreedList h c bound list) (sym (list_of-here lists number rest inside))
+        (tail_of (subst (λ list. IsFreedList h c bound list) (ap (list_of lists) same ∙ is) f)))
+    | inr not ↦ subst (λ list. IsFreedList h c bound list) (sym (list_of-there lists number other rest not)) f
+  ]
+    where
+      tail_of : IsFreedList h c bound (s ∷ rest) → IsFreedList h c bound rest
+      tail_of f = let below : f.0 < bound = f.4 in list_weaker h c f.0 bound rest (omega arith) f.5
+
+  others_listed : (other r : ℕ) → (r ≡ s → ⊥) → Contains (list_of lists other) r → Contains (list_of (slice_set lists number rest) other) r
+  others_listed other r another there = elim (cases_eq other number) [
+    | inl same ↦
+        subst (λ k. Contains (list_of (slice_set lists number rest) k) r) (sym same)
+        (subst (λ list. Contains list r) (sym (list_of-here lists number rest inside))
+        (⊎_elim (λ front. absurd (another (sym front))) (λ behind. behind)
+        (Contains-cases s rest r (subst (λ list. Contains list r) (ap (list_of lists) same ∙ is) there))))
+    | inr not ↦ subst (λ list. Contains list r) (sym (list_of-there lists number other rest not)) there
+  ]
+
+  pub booked_taken : IsBooked (given_out h s n) queue (slice_set lists number rest)
+  unfolding given_out changed
+  booked_taken =
+      let f = front in
+      made_live h s (Live n (next_tag h s)) _ h.total _ _ (in_states h s sound f.1) queue lists (slice_set lists number rest) refl refl b
+      in_no_queue (length-set lists number rest) in_no_list rest_freed others_listed
+
+-- ---- a new heap
+
+pub booked_first : (layout : Partition) (seed quarantine : ℕ) → IsBooked (first_heap layout seed quarantine) [] (replicate (length layout.classes) [])
+unfolding first_heap
+booked_first layout seed quarantine = record {
+  from = 0;
+  booked = record {
+    chain = refl;
+    long = length-replicate (length layout.classes) [];
+    freed = λ number inside. subst (λ list. IsFreedList (first_heap layout seed quarantine) (get_or layout.classes number 0) 0 list) (sym (get_or-replicate_any (length layout.classes) number [])) tt;
+    queued = λ s mark in_range d le. absurd (none s mark d);
+    listed = λ s mark number in_range d lt found. absurd (none s mark d);
+    released = λ s mark in_range d lt. absurd (none s mark d);
+  };
+  held = omega arith;
+}
+  where
+    none : (s mark : ℕ) → HasMark (get_or (replicate (slot_count layout) Fresh) s Fresh) mark → ⊥
+    none s mark d = subst (λ x. HasMark x mark) (get_or-replicate_any (slot_count layout) s Fresh) d

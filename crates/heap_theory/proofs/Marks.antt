@@ -1,0 +1,134 @@
+-- The marks of slots in a queue and in lists.
+use Rattle.std.proofs.Common.{◌≡◌, ◌≢◌, ℕ, ◌+◌, ◌-◌, ◌<◌, ◌≤◌, true, false, List, [], ◌∷◌, length, get_or, refl, sym, ◌∙◌, subst, inl, inr, arith}
+use Rattle.std.specs.Prelude.{Contains, slice_get, Some}
+use Rattle.std.proofs.lemmas.Bool.{cases_order, lt-ltb}
+use Rattle.std.proofs.lemmas.List.Kept.{AllPairs-from_increasing}
+use Rattle.std.proofs.lemmas.List.Sums.{sum_by-cons}
+use Rattle.std.proofs.lemmas.Option.{get_or_from_slice_get, slice_get_within}
+use Rattle.class_table.specs.Layout.{slot_count, block_bytes}
+use Rattle.class_table.specs.Tables.{IsLegalTable}
+use Rattle.heap_theory.specs.Booked.{HasMark, IsChain, IsFreedList, bytes_in}
+use Rattle.heap_theory.specs.Choice.{mark_of, is_dead, is_released}
+use Rattle.heap_theory.specs.Sound.{IfDead}
+use Rattle.heap_theory.specs.State.{State, Heap, slot_in, state_at}
+use Rattle.heap_theory.specs.State.State.{Fresh, Live, Dead}
+use Rattle.heap_theory.proofs.Found.{Contains-cases, Contains-none}
+
+-- ---- one mark
+
+pub one_mark : (x : State) (m k : ℕ) → HasMark x m → HasMark x k → m ≡ k
+one_mark Fresh m k a b = absurd a
+one_mark (Live n t) m k a b = absurd a
+one_mark (Dead n t own) m k a b = sym a ∙ b
+
+pub mark_of-is : (x : State) (mark : ℕ) → HasMark x mark → mark_of x ≡ mark
+mark_of-is Fresh mark d = absurd d
+mark_of-is (Live n t) mark d = absurd d
+mark_of-is (Dead n t m) mark d = d
+
+pub HasMark-own : (x : State) → is_dead x ≡ true → HasMark x (mark_of x)
+HasMark-own Fresh dead = cc
+HasMark-own (Live n t) dead = cc
+HasMark-own (Dead n t m) dead = refl
+
+pub dead_with_mark : (x : State) (mark : ℕ) → HasMark x mark → is_dead x ≡ true
+dead_with_mark Fresh mark d = absurd d
+dead_with_mark (Live n t) mark d = absurd d
+dead_with_mark (Dead n t m) mark d = refl
+
+pub not_marked : (x : State) (mark : ℕ) → is_dead x ≡ false → HasMark x mark → ⊥
+not_marked x mark alive d = let dead = sym alive ∙ dead_with_mark x mark d in cc
+
+pub same_mark : (x y : State) (m k : ℕ) → HasMark x m → HasMark y k → m ≡ k → IfDead x (λ mark. IfDead y (λ other. mark ≢ other)) → ⊥
+same_mark Fresh y m k d e same differ = d
+same_mark (Live n t) y m k d e same differ = d
+same_mark (Dead n t own) Fresh m k d e same differ = e
+same_mark (Dead n t own) (Live a b) m k d e same differ = e
+same_mark (Dead n t own) (Dead a b other) m k d e same differ = differ (d ∙ same ∙ sym e)
+
+pub released_from_mark : (h : Heap) (x : State) (mark : ℕ) → HasMark x mark → h.quarantine < h.total - mark → is_released h x ≡ true
+released_from_mark h Fresh mark d over = absurd d
+released_from_mark h (Live n t) mark d over = absurd d
+released_from_mark h (Dead n t m) mark d over = lt-ltb _ _ (subst (λ k. h.quarantine < h.total - k) (sym d) over)
+
+-- ---- the queue
+
+pub bytes_in-cons : (h : Heap) (s : ℕ) (queue : List ℕ) → bytes_in h (s ∷ queue) ≡ block_bytes (slot_in h s) + bytes_in h queue
+bytes_in-cons h s queue = sum_by-cons (λ s. block_bytes (slot_in h s)) s queue
+
+pub chain_bytes : (h : Heap) (from : ℕ) (queue : List ℕ) → IsChain h from queue → from + bytes_in h queue ≡ h.total
+chain_bytes h from [] c = omega (arith, c)
+chain_bytes h from (s ∷ rest) c = omega (arith, bytes_in-cons h s rest, chain_bytes h (from + block_bytes (slot_in h s)) rest c.2)
+
+pub chain_mark : (h : Heap) (from : ℕ) (queue : List ℕ) (s mark : ℕ) → IsChain h from queue → Contains queue s → HasMark (state_at h s) mark → from ≤ mark
+chain_mark h from [] s mark c there d = absurd (Contains-none s there)
+chain_mark h from (r ∷ rest) s mark c there d = elim (Contains-cases r rest s there) [
+  | inl is ↦ omega (arith, one_mark (state_at h s) from mark (subst (λ r. HasMark (state_at h r) from) is c.1) d)
+  | inr behind ↦ omega (arith, chain_mark h (from + block_bytes (slot_in h r)) rest s mark c.2 behind d)
+]
+
+-- each slot of a queue is dead
+pub record IsQueued (h : Heap) (from s : ℕ) : Type 0 where
+  pub in_range : s < slot_count h.layout
+  pub mark : ℕ
+  pub marked : HasMark (state_at h s) mark
+  pub above : from ≤ mark
+
+pub chain_dead : (h : Heap) (from : ℕ) (queue : List ℕ) (s : ℕ) → IsChain h from queue → Contains queue s → IsQueued h from s
+chain_dead h from [] s c there = absurd (Contains-none s there)
+chain_dead h from (r ∷ rest) s c there = elim (Contains-cases r rest s there) [
+  | inl is ↦ subst (IsQueued h from) is (record { in_range = c.0; mark = from; marked = c.1; above = omega arith })
+  | inr behind ↦
+      let q = chain_dead h (from + block_bytes (slot_in h r)) rest s c.2 behind in
+      record { in_range = q.in_range; mark = q.mark; marked = q.marked; above = omega (arith, q.above) }
+]
+
+-- ---- lists
+
+pub list_mark : (h : Heap) (class bound : ℕ) (list : List ℕ) (s mark : ℕ) → IsFreedList h class bound list → Contains list s → HasMark (state_at h s) mark → mark < bound
+list_mark h class bound [] s mark f there d = absurd (Contains-none s there)
+list_mark h class bound (r ∷ rest) s mark f there d =
+    let below : f.0 < bound = f.4 in
+    elim (Contains-cases r rest s there) [
+      | inl is ↦ omega (arith, one_mark (state_at h s) f.0 mark (subst (λ r. HasMark (state_at h r) f.0) is f.3) d)
+      | inr behind ↦ omega (arith, list_mark h class f.0 rest s mark f.5 behind d)
+    ]
+
+pub list_weaker : (h : Heap) (class a b : ℕ) (list : List ℕ) → a ≤ b → IsFreedList h class a list → IsFreedList h class b list
+list_weaker h class a b [] le f = tt
+list_weaker h class a b (s ∷ rest) le f = let below : f.0 < a = f.4 in (f.0, f.1, f.2, f.3, omega arith, f.5)
+
+-- each slot of a list is dead, and of its class
+pub record IsListed (h : Heap) (class bound s : ℕ) : Type 0 where
+  pub in_range : s < slot_count h.layout
+  pub of_class : (slot_in h s).class ≡ class
+  pub mark : ℕ
+  pub marked : HasMark (state_at h s) mark
+  pub below : mark < bound
+
+pub list_dead : (h : Heap) (class bound : ℕ) (list : List ℕ) (s : ℕ) → IsFreedList h class bound list → Contains list s → IsListed h class bound s
+list_dead h class bound [] s f there = absurd (Contains-none s there)
+list_dead h class bound (r ∷ rest) s f there = elim (Contains-cases r rest s there) [
+  | inl is ↦ subst (IsListed h class bound) is (record { in_range = f.1; of_class = f.2; mark = f.0; marked = f.3; below = f.4 })
+  | inr behind ↦
+      let l = list_dead h class f.0 rest s f.5 behind in
+      let above : f.0 < bound = f.4 in
+      record { in_range = l.in_range; of_class = l.of_class; mark = l.mark; marked = l.marked; below = omega (arith, l.below) }
+]
+
+-- ---- classes
+
+-- a class has one number
+pub one_number : (step : ℕ) (classes : List ℕ) (a b : ℕ) → IsLegalTable step classes → a < length classes → b < length classes → get_or classes a 0 ≡ get_or classes b 0 → a ≡ b
+one_number step classes a b legal in_a in_b same = elim (cases_order a b) [
+  | inl is ↦ is
+  | inr (inl before) ↦ absurd (omega (arith, AllPairs-from_increasing classes legal.ascending a b 0 before in_b))
+  | inr (inr behind) ↦ absurd (omega (arith, AllPairs-from_increasing classes legal.ascending b a 0 behind in_a))
+]
+
+pub record IsNumberOf (classes : List ℕ) (number class : ℕ) : Type 0 where
+  pub within : number < length classes
+  pub is : get_or classes number 0 ≡ class
+
+pub number_is : (classes : List ℕ) (number class : ℕ) → slice_get classes number ≡ Some class → IsNumberOf classes number class
+number_is classes number class found = record { within = slice_get_within classes number class found; is = get_or_from_slice_get classes number class 0 found }

@@ -1,0 +1,33 @@
+-- The tag that is drawn for a slot is one that it may take, and not the one that it was last given out with.
+use Rattle.std.proofs.Common.{◌≡◌, ◌≢◌, ℕ, ◌%◌, ◌^◌, ◌<◌, Bool, true, false, cond, refl, arith}
+use Rattle.std.specs.Prelude.{bit_or, ◌==◌}
+use Rattle.std.proofs.lemmas.Bool.{eqb-true, eqb-false}
+use Rattle.machine_theory.specs.Instructions.{drawn_tag}
+use Rattle.heap_theory.specs.Below.{LawsBelow}
+use Rattle.heap_theory.specs.Calls.{parity_exclude, next_tag}
+use Rattle.heap_theory.specs.Sound.{IsTagOf}
+use Rattle.heap_theory.specs.State.{Heap, state_at, last_tag}
+
+module _ (laws : LawsBelow) where
+  drawn : (s last tag seed : ℕ) → tag < 16 →
+      IsTagOf s (drawn_tag tag seed (bit_or (parity_exclude s) (2 ^ last))) × (drawn_tag tag seed (bit_or (parity_exclude s) (2 ^ last)) ≢ last)
+  drawn s last tag seed below = by_parity (s % 2 == 0) refl
+    where
+      by_parity : (is_even : Bool) → (s % 2 == 0) ≡ is_even →
+          IsTagOf s (drawn_tag tag seed (bit_or (cond is_even 0x5555 0xAAAB) (2 ^ last))) × (drawn_tag tag seed (bit_or (cond is_even 0x5555 0xAAAB) (2 ^ last)) ≢ last)
+      by_parity true test =
+          let is = laws.odd_drawn tag seed last below in
+          let even : s % 2 ≡ 0 = eqb-true _ _ test in
+          let odd : drawn_tag tag seed (bit_or 0x5555 (2 ^ last)) % 2 ≡ 1 = is.1 in
+          (record { below = is.0; not_zero = omega arith; other_parity = omega arith }, is.2)
+      by_parity false test =
+          let is = laws.even_drawn tag seed last below in
+          let odd : s % 2 ≡ 0 → ⊥ = eqb-false _ _ test in
+          let even : drawn_tag tag seed (bit_or 0xAAAB (2 ^ last)) % 2 ≡ 0 = is.1 in
+          (record { below = is.0; not_zero = is.2; other_parity = omega arith }, is.3)
+
+  pub IsTagOf-next_tag : (h : Heap) (s : ℕ) → h.tag < 16 → IsTagOf s (next_tag h s)
+  IsTagOf-next_tag h s below = (drawn s (last_tag (state_at h s)) h.tag h.seed below).0
+
+  pub next_tag-differs : (h : Heap) (s : ℕ) → h.tag < 16 → next_tag h s ≢ last_tag (state_at h s)
+  next_tag-differs h s below = (drawn s (last_tag (state_at h s)) h.tag h.seed below).1

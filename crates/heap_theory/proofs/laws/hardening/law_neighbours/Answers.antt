@@ -1,0 +1,6 @@
+use Rattle.heap_theory.proofs.Hardened.{neighbours_fault}
+use Rattle.heap_theory.proofs.RunKept.{IsRunWith-run}
+use Rattle.heap_theory.proofs.laws.hardening.law_neighbours.Goals as goal
+
+pub returns : goal.returns
+returns c = λ layout seed quarantine events is. neighbours_fault c.laws_below.ensures _ (IsRunWith-run c.laws_below.ensures layout seed quarantine events is).sound

@@ -1,0 +1,85 @@
+-- The run with what nothing stores: how often each slot was given out, and of which giving-out each variable has its address.
+-- No answer depends on these, since the stored part is followed by itself.
+use Rattle.std.specs.Prelude.{ℕ, suc, ◌==◌, if◌then◌else◌, List, replicate, fold, slice_set, slice_index, slice_index_or, Option, Some, None, Result, Ok, Err}
+use Rattle.std.specs.Result.{result_ok}
+use Rattle.class_table.specs.Layout.{Partition, slot_count}
+use Rattle.heap_theory.specs.declared.event.Event.{Event}
+use Rattle.heap_theory.specs.declared.event.Event.TheVariants.{Malloc, Calloc, Realloc, Free, Load, Store, Addg, Subg}
+use Rattle.heap_theory.specs.declared.fault.FreeError.{FreeError}
+use Rattle.heap_theory.specs.Calls.{stays_in_class}
+use Rattle.heap_theory.specs.Choice.{Chunk, slot_for_request, chunk_at}
+use Rattle.heap_theory.specs.Run.{Replay, variable, replay_after, first_replay}
+use Rattle.heap_theory.specs.State.{Heap}
+
+-- A generation: the time-th time that the slot was given out.
+pub record Generation : Type 0 where
+  pub slot : ℕ
+  pub time : ℕ
+
+-- A run: what is stored, for each slot the times that it was given out, and for each variable its generation, if it has one.
+pub record Run : Type 0 where
+  pub replay : Replay
+  pub times : List ℕ
+  pub generations : List (Option Generation)
+
+abbrev pub times_of : Run → ℕ → ℕ
+times_of run s = slice_index run.times s
+
+abbrev pub generation_of : Run → ℕ → Option Generation
+generation_of run v = slice_index_or run.generations v None
+
+-- ---- which slot an event gives out
+
+abbrev pub slot_if_moved : Heap → ℕ → Result Chunk FreeError → Option ℕ
+slot_if_moved heap n (Ok chunk) = if stays_in_class heap chunk n then None else result_ok (slot_for_request heap n)
+slot_if_moved heap n (Err error) = None
+
+unfoldable pub slot_given : Replay → Event → Option ℕ
+slot_given replay (Malloc v n) = result_ok (slot_for_request replay.heap n)
+slot_given replay (Calloc v n) = result_ok (slot_for_request replay.heap n)
+slot_given replay (Realloc v n) =
+    if variable replay v == 0 then result_ok (slot_for_request replay.heap n) else slot_if_moved replay.heap n (chunk_at replay.heap (variable replay v))
+slot_given replay (Free v) = None
+slot_given replay (Load v off len) = None
+slot_given replay (Store v off len byte) = None
+slot_given replay (Addg v w u6 u4) = None
+slot_given replay (Subg v w u6 u4) = None
+
+-- ---- what an event leaves
+
+abbrev pub times_with : Run → Option ℕ → List ℕ
+times_with run None = run.times
+times_with run (Some s) = slice_set run.times s (suc (times_of run s))
+
+-- the generation that begins where a slot is given out, else the other one
+abbrev pub begun_or : Run → Option Generation → Option ℕ → Option Generation
+begun_or run other None = other
+begun_or run other (Some s) = Some (record { slot = s; time = suc (times_of run s) })
+
+unfoldable pub generations_after : Run → Event → List (Option Generation)
+generations_after run (Malloc v n) = slice_set run.generations v (begun_or run None (slot_given run.replay (Malloc v n)))
+generations_after run (Calloc v n) = slice_set run.generations v (begun_or run None (slot_given run.replay (Calloc v n)))
+generations_after run (Realloc v n) = slice_set run.generations v (begun_or run (generation_of run v) (slot_given run.replay (Realloc v n)))
+generations_after run (Free v) = run.generations
+generations_after run (Load v off len) = run.generations
+generations_after run (Store v off len byte) = run.generations
+generations_after run (Addg v w u6 u4) = slice_set run.generations v None
+generations_after run (Subg v w u6 u4) = slice_set run.generations v None
+
+unfoldable pub run_after : Run → Event → Run
+run_after run event = record {
+  replay = replay_after run.replay event;
+  times = times_with run (slot_given run.replay event);
+  generations = generations_after run event;
+}
+
+unfoldable pub first_run : Partition → ℕ → ℕ → Run
+first_run layout seed quarantine = record {
+  replay = first_replay layout seed quarantine;
+  times = replicate (slot_count layout) 0;
+  generations = replicate 1024 None;
+}
+
+-- The run of a list of events, from a new heap on.
+unfoldable pub run : Partition → ℕ → ℕ → List Event → Run
+run layout seed quarantine events = fold run_after (first_run layout seed quarantine) events

@@ -1,0 +1,151 @@
+-- What hardens the heap, said of a run. An access touches each granule that holds one of its bytes, mapped as a whole or not.
+use Rattle.std.specs.Prelude.{◌≡◌, ◌≢◌, ◌⊎◌, ℕ, suc, ◌+◌, ◌-◌, ◌%◌, ◌^◌, ◌<◌, ◌≤◌, ℤ, nat_abs, length, Some, None, IsSome, ⊤}
+use Rattle.machine_theory.specs.Access.{access_fault}
+use Rattle.machine_theory.specs.Address.{logical_tag, place_of, moved_by, Holds, Touches}
+use Rattle.machine_theory.specs.Memory.{tag_at}
+use Rattle.class_table.specs.Layout.{end_of, Covers}
+use Rattle.heap_theory.specs.declared.place.PlaceKind.{PlaceKind}
+use Rattle.heap_theory.specs.declared.place.PlaceKind.TheVariants.{Slack, Header, Tail, Dead as DeadChunk, Other}
+use Rattle.heap_theory.specs.Generations.{Run, times_of, generation_of}
+use Rattle.heap_theory.specs.Places.{place_kind}
+use Rattle.heap_theory.specs.Run.{Answer, variable}
+use Rattle.heap_theory.specs.Run.Answer.{Silent, Loaded, NotMapped, TagFault, NoPointer, NotFreed}
+use Rattle.heap_theory.specs.State.{State, Heap, slot_in, state_at, chunk_of, IsSlot}
+use Rattle.heap_theory.specs.State.State.{Fresh, Live, Dead}
+
+-- ---- accesses
+
+-- The access of a load or a store through variable v.
+pub record IsAccess (run : Run) (v : ℕ) (off : ℤ) (len address : ℕ) : Type 0 where
+  pub near : nat_abs off ≤ 2 ^ 20
+  pub some : 0 < len
+  pub few : len ≤ 64
+  pub address_is : address ≡ moved_by (variable run.replay v) off
+
+-- it is answered by a fault
+abbrev pub Faults : Run → ℕ → ℕ → Type 0
+Faults run address len = IsSome (access_fault run.replay.heap.memory address len)
+
+-- it succeeds
+abbrev pub Succeeds : Run → ℕ → ℕ → Type 0
+Succeeds run address len = access_fault run.replay.heap.memory address len ≡ None
+
+abbrev pub IsFaultAnswer : Answer → Type 0
+IsFaultAnswer Silent = ⊥
+IsFaultAnswer (Loaded bytes) = ⊥
+IsFaultAnswer NotMapped = ⊤
+IsFaultAnswer (TagFault granule memory_tag pointer_tag kind) = ⊤
+IsFaultAnswer (NoPointer cause) = ⊥
+IsFaultAnswer (NotFreed error) = ⊥
+
+-- ---- granules
+
+pub record IsChunkGranule (heap : Heap) (s g : ℕ) : Type 0 where
+  pub in_range : IsSlot heap s
+  pub from : (slot_in heap s).start < g
+  pub to : g ≤ (slot_in heap s).start + chunk_of (state_at heap s)
+
+pub record IsPayloadGranule (heap : Heap) (s g : ℕ) : Type 0 where
+  pub in_range : IsSlot heap s
+  pub from : (slot_in heap s).start < g
+  pub to : g < end_of (slot_in heap s)
+
+abbrev pub IsBookkeeping : PlaceKind → Type 0
+IsBookkeeping Slack = ⊤
+IsBookkeeping Header = ⊤
+IsBookkeeping Tail = ⊤
+IsBookkeeping DeadChunk = ⊥
+IsBookkeeping Other = ⊥
+
+abbrev pub HaveOtherParity : ℕ → ℕ → Type 0
+HaveOtherParity s r = (s + r) % 2 ≡ 1
+
+-- ---- generations
+
+abbrev pub IsLive : State → Type 0
+IsLive Fresh = ⊥
+IsLive (Live size tag) = ⊤
+IsLive (Dead size tag mark) = ⊥
+
+abbrev pub IsDead : State → Type 0
+IsDead Fresh = ⊥
+IsDead (Live size tag) = ⊥
+IsDead (Dead size tag mark) = ⊤
+
+-- the variable has its address from the time-th giving-out of the slot
+abbrev pub HasGeneration : Run → ℕ → ℕ → ℕ → Type 0
+HasGeneration run v s time = generation_of run v ≡ Some (record { slot = s; time = time })
+
+-- that generation is live
+pub record IsLiveGeneration (run : Run) (s time : ℕ) : Type 0 where
+  pub live : IsLive (state_at run.replay.heap s)
+  pub times : times_of run s ≡ time
+
+-- it was freed, and the next one was not
+abbrev pub WasFreed : Run → ℕ → ℕ → Type 0
+WasFreed run s time =
+    (IsDead (state_at run.replay.heap s) × (times_of run s ≡ time)) ⊎ (IsLive (state_at run.replay.heap s) × (times_of run s ≡ suc time))
+
+-- ---- tags
+
+abbrev pub ChunkTagsNotZero : Run → Type 0
+ChunkTagsNotZero run = (s g : ℕ) → IsChunkGranule run.replay.heap s g → tag_at run.replay.heap.memory g ≢ 0
+
+-- Chunk granules of an even slot and of an odd one never have the same tag.
+abbrev pub ChunkTagsDiffer : Run → Type 0
+ChunkTagsDiffer run =
+    (s r g k : ℕ) → HaveOtherParity s r → IsChunkGranule run.replay.heap s g → IsChunkGranule run.replay.heap r k →
+    tag_at run.replay.heap.memory g ≢ tag_at run.replay.heap.memory k
+
+-- ---- bookkeeping out of reach
+
+abbrev pub NullOrTagged : Run → Type 0
+NullOrTagged run = (v : ℕ) → (variable run.replay v ≡ 0) ⊎ (logical_tag (variable run.replay v) ≢ 0)
+
+-- An access through any variable that touches slack, a header or a tail is a fault.
+abbrev pub BookkeepingOutOfReach : Run → Type 0
+BookkeepingOutOfReach run =
+    (v : ℕ) (off : ℤ) (len address g : ℕ) → IsAccess run v off len address → g < length run.replay.heap.memory → Touches address len g →
+    IsBookkeeping (place_kind run.replay.heap g) → Faults run address len
+
+-- ---- inside, neighbours, freed
+
+-- Through a variable whose generation is live, an access of bytes of its chunk succeeds.
+abbrev pub InsideSucceeds : Run → Type 0
+InsideSucceeds run =
+    (v : ℕ) (off : ℤ) (len address s time : ℕ) → IsAccess run v off len address → HasGeneration run v s time → IsLiveGeneration run s time →
+    ((i : ℕ) → i < len → (g : ℕ) × IsChunkGranule run.replay.heap s g × Holds g (place_of address + i)) → Succeeds run address len
+
+-- Through a variable with a generation of a slot, an access that touches the payload of a slot of the other parity is a fault.
+abbrev pub NeighboursFault : Run → Type 0
+NeighboursFault run =
+    (v : ℕ) (off : ℤ) (len address s time r g : ℕ) → IsAccess run v off len address → HasGeneration run v s time → HaveOtherParity s r →
+    IsPayloadGranule run.replay.heap r g → Touches address len g → Faults run address len
+
+-- Through a variable whose generation was freed, an access that touches its slot is a fault, until the next generation was freed too.
+abbrev pub FreedFaults : Run → Type 0
+FreedFaults run =
+    (v : ℕ) (off : ℤ) (len address s time g : ℕ) → IsAccess run v off len address → HasGeneration run v s time → WasFreed run s time →
+    Covers (slot_in run.replay.heap s) g → Touches address len g → Faults run address len
+
+-- ---- what an event does to a slot
+
+-- A dead slot is given out only where more bytes than the quarantine's limit were freed from its free on, its own among them.
+abbrev pub ReuseIsDelayed : ℕ → Run → Run → Type 0
+ReuseIsDelayed quarantine run next =
+    (s size tag mark : ℕ) → state_at run.replay.heap s ≡ Dead size tag mark → IsLive (state_at next.replay.heap s) →
+    quarantine < run.replay.heap.total - mark
+
+abbrev pub StaysAsItIs : State → State → Type 0
+StaysAsItIs Fresh new = new ≡ Fresh
+StaysAsItIs (Live size tag) new = IsLive new
+StaysAsItIs (Dead size tag mark) new = new ≡ Dead size tag mark
+
+-- A slot stays fresh, live or dead, or is freed, or is given out once more.
+abbrev pub LifeStep : State → ℕ → State → ℕ → Type 0
+LifeStep old times new next =
+    (StaysAsItIs old new × (next ≡ times)) ⊎ (IsLive old × IsDead new × (next ≡ times))
+    ⊎ ((IsLive old → ⊥) × IsLive new × (next ≡ suc times))
+
+abbrev pub LivesOn : Run → Run → Type 0
+LivesOn run next = (s : ℕ) → LifeStep (state_at run.replay.heap s) (times_of run s) (state_at next.replay.heap s) (times_of next s)

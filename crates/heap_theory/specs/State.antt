@@ -1,0 +1,92 @@
+-- What a heap holds (this project's own).
+use Rattle.std.specs.Prelude.{ℕ, ◌+◌, ◌*◌, ◌/◌, ◌<◌, Bool, true, false, ◌==◌, if◌then◌else◌, List, [], map, max, replicate, slice_index_or}
+use Rattle.std.specs.List.{range_with_len, list_any}
+use Rattle.machine_theory.specs.Address.{region_start, with_tag}
+use Rattle.machine_theory.specs.Memory.{Granule, no_granule, new_granule, each_granule}
+use Rattle.class_table.specs.Layout.{Partition, Slot, slots_of, slot_count, slot_of}
+
+-- A slot was never given out; or it was, for a request of `size` bytes under `tag`; or it was freed since. A freed one keeps both, and
+-- its mark is the bytes of all blocks that were freed before it.
+pub data State : Type 0 where
+  Fresh : State
+  Live : (size tag : ℕ) → State
+  Dead : (size tag mark : ℕ) → State
+
+pub record Heap : Type 0 where
+  pub layout : Partition  -- where its slots lie
+  pub quarantine : ℕ  -- how many bytes its quarantine may hold
+  pub states : List State  -- one for each slot
+  pub memory : List Granule  -- without the bytes of headers
+  pub total : ℕ  -- the bytes of all blocks that were ever freed
+  pub seed : ℕ  -- RGSR_EL1.SEED
+  pub tag : ℕ  -- RGSR_EL1.TAG, the tag that was drawn last
+
+-- ---- slots
+
+abbrev pub IsSlot : Heap → ℕ → Type 0
+IsSlot heap s = s < slot_count heap.layout
+
+abbrev pub slot_in : Heap → ℕ → Slot
+slot_in heap s = slot_of heap.layout s
+
+abbrev pub state_at : Heap → ℕ → State
+state_at heap s = slice_index_or heap.states s Fresh
+
+abbrev pub is_fresh : State → Bool
+is_fresh Fresh = true
+is_fresh (Live size tag) = false
+is_fresh (Dead size tag mark) = false
+
+-- the tag that the slot was last given out with, or 0
+abbrev pub last_tag : State → ℕ
+last_tag Fresh = 0
+last_tag (Live size tag) = tag
+last_tag (Dead size tag mark) = tag
+
+-- ---- chunks
+
+-- the granules that a request of n bytes has as its chunk: the first ones of a payload
+abbrev pub chunk_granules : ℕ → ℕ
+chunk_granules n = max 1 ((n + 15) / 16)
+
+-- how many granules of the slot's payload are its chunk
+abbrev pub chunk_of : State → ℕ
+chunk_of Fresh = 0
+chunk_of (Live size tag) = chunk_granules size
+chunk_of (Dead size tag mark) = chunk_granules size
+
+-- the first granule of the payload
+abbrev pub payload_start : Slot → ℕ
+payload_start slot = slot.start + 1
+
+-- the place of the payload's first byte
+abbrev pub payload_place : Slot → ℕ
+payload_place slot = region_start + 16 * payload_start slot
+
+-- the address of the payload, under the tag that the slot was last given out with
+abbrev pub pointer_to : Heap → ℕ → ℕ
+pointer_to heap s = with_tag (payload_place (slot_in heap s)) (last_tag (state_at heap s))
+
+-- ---- memory without header bytes, which is what a heap's caller may know of
+
+abbrev pub is_header : Partition → ℕ → Bool
+is_header layout g = list_any (λ slot. slot.start == g) (slots_of layout)
+
+unfoldable pub without_headers : Partition → List Granule → List Granule
+without_headers layout memory = each_granule (λ g granule. if is_header layout g then record granule { bytes = [] } else granule) memory
+
+-- a new memory, without header bytes
+unfoldable pub first_memory : Partition → List Granule
+first_memory layout = map (λ g. if is_header layout g then no_granule else new_granule) (range_with_len 0 layout.granules)
+
+-- A heap of which nothing was given out, with this seed and this limit of its quarantine.
+unfoldable pub first_heap : Partition → ℕ → ℕ → Heap
+first_heap layout seed quarantine = record {
+  layout = layout;
+  quarantine = quarantine;
+  states = replicate (slot_count layout) Fresh;
+  memory = first_memory layout;
+  total = 0;
+  seed = seed;
+  tag = 0;
+}

@@ -1,0 +1,122 @@
+-- What is counted over a trace.
+use Rattle.std.specs.Prelude.{ℕ, ◌+◌, Bool, true, false, if◌then◌else◌, List, length, count_by, sum_by, Option, Some, None, is_some}
+use Rattle.std.specs.Option.{option_map_or}
+use Rattle.class_table.specs.Sizes.{loss_of}
+use Rattle.class_table.specs.Tables.{class_for}
+use Rattle.heap_theory.specs.declared.event.Event.{Event}
+use Rattle.heap_theory.specs.declared.event.Event.TheVariants.{Malloc, Calloc, Realloc, Free, Load, Store, Addg, Subg}
+use Rattle.heap_theory.specs.declared.fault.NullCause.TheVariants.{Large, NoClass, Exhausted}
+use Rattle.heap_theory.specs.Run.{Answer}
+use Rattle.heap_theory.specs.Run.Answer.{Silent, NotMapped, TagFault, NoPointer, NotFreed}
+
+pub record Totals : Type 0 where
+  pub events : ℕ
+  pub requests : ℕ
+  pub null_large : ℕ
+  pub null_no_class : ℕ
+  pub null_exhausted : ℕ
+  pub faults_tag : ℕ
+  pub faults_unmapped : ℕ
+  pub refused_frees : ℕ
+  pub loss : ℕ
+
+abbrev pub no_totals : Totals
+no_totals = record {
+  events = 0;
+  requests = 0;
+  null_large = 0;
+  null_no_class = 0;
+  null_exhausted = 0;
+  faults_tag = 0;
+  faults_unmapped = 0;
+  refused_frees = 0;
+  loss = 0;
+}
+
+-- ---- what an event and its answer count as
+
+abbrev pub request_size : Event → Option ℕ
+request_size (Malloc v n) = Some n
+request_size (Calloc v n) = Some n
+request_size (Realloc v n) = Some n
+request_size (Free v) = None
+request_size (Load v off len) = None
+request_size (Store v off len byte) = None
+request_size (Addg v w u6 u4) = None
+request_size (Subg v w u6 u4) = None
+
+abbrev pub is_request : Event → Bool
+is_request event = is_some (request_size event)
+
+abbrev pub is_large : Answer → Bool
+is_large (NoPointer Large) = true
+is_large other = false
+
+abbrev pub is_no_class : Answer → Bool
+is_no_class (NoPointer NoClass) = true
+is_no_class other = false
+
+abbrev pub is_exhausted : Answer → Bool
+is_exhausted (NoPointer Exhausted) = true
+is_exhausted other = false
+
+abbrev pub is_tag_fault : Answer → Bool
+is_tag_fault (TagFault granule memory_tag pointer_tag kind) = true
+is_tag_fault other = false
+
+abbrev pub is_unmapped : Answer → Bool
+is_unmapped NotMapped = true
+is_unmapped other = false
+
+abbrev pub is_refused : Answer → Bool
+is_refused (NotFreed error) = true
+is_refused other = false
+
+abbrev pub is_silent : Answer → Bool
+is_silent Silent = true
+is_silent other = false
+
+-- the bytes lost by rounding a request up to its class
+abbrev pub loss_of_size : List ℕ → ℕ → ℕ
+loss_of_size classes n = option_map_or (loss_of n) (class_for classes n) 0
+
+abbrev pub loss_of_request : List ℕ → Option ℕ → ℕ
+loss_of_request classes None = 0
+loss_of_request classes (Some n) = loss_of_size classes n
+
+-- only a request that was not refused is silent
+abbrev pub loss_of_event : List ℕ → Event × Answer → ℕ
+loss_of_event classes p = if is_silent p.1 then loss_of_request classes (request_size p.0) else 0
+
+-- ---- counts and sums
+
+-- Over the events and their answers.
+unfoldable pub totals_of : List ℕ → List (Event × Answer) → Totals
+totals_of classes happened = record {
+  events = length happened;
+  requests = count_by (λ p. is_request p.0) happened;
+  null_large = count_by (λ p. is_large p.1) happened;
+  null_no_class = count_by (λ p. is_no_class p.1) happened;
+  null_exhausted = count_by (λ p. is_exhausted p.1) happened;
+  faults_tag = count_by (λ p. is_tag_fault p.1) happened;
+  faults_unmapped = count_by (λ p. is_unmapped p.1) happened;
+  refused_frees = count_by (λ p. is_refused p.1) happened;
+  loss = sum_by (loss_of_event classes) happened;
+}
+
+abbrev pub one_if : Bool → ℕ
+one_if b = if b then 1 else 0
+
+-- Once one more event has happened.
+unfoldable pub totals_after : List ℕ → Totals → Event × Answer → Totals
+totals_after classes t p = record {
+  events = t.events + 1;
+  requests = t.requests + one_if (is_request p.0);
+  null_large = t.null_large + one_if (is_large p.1);
+  null_no_class = t.null_no_class + one_if (is_no_class p.1);
+  null_exhausted = t.null_exhausted + one_if (is_exhausted p.1);
+  faults_tag = t.faults_tag + one_if (is_tag_fault p.1);
+  faults_unmapped = t.faults_unmapped + one_if (is_unmapped p.1);
+  refused_frees = t.refused_frees + one_if (is_refused p.1);
+  loss = t.loss + loss_of_event classes p;
+}

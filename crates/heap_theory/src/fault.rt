@@ -1,0 +1,40 @@
+use thiserror::Error;
+
+/// Why a request is given no slot, in the order in which that is looked for; each is shown as its code and name.
+#[derive(Debug, Clone, Copy, PartialEq, Eq, Error)]
+pub enum NullCause {
+    /// The request is larger than 16,368 bytes.
+    #[error("60 Large")]
+    Large,
+    /// No class of the table serves the request.
+    #[error("61 NoClass")]
+    NoClass,
+    /// The class has no fresh slot, and no freed one that the quarantine has let go.
+    #[error("62 Exhausted")]
+    Exhausted,
+}
+
+/// Why a pointer is not freed, in the order in which that is looked for; each is shown as its code and name.
+#[derive(Debug, Clone, Copy, PartialEq, Eq, Error)]
+pub enum FreeError {
+    /// Bits 63 to 60 of the pointer are not 0, or its place is not the first payload byte of a slot.
+    #[error("63 Misplaced")]
+    Misplaced,
+    /// The slot is not live.
+    #[error("64 NotLive")]
+    NotLive,
+    /// The pointer's tag is not the tag that the slot was last given out with.
+    #[error("65 WrongTag")]
+    WrongTag,
+}
+
+/// Why a chunk is not resized; each is shown as its code and name.
+#[derive(Debug, Clone, Copy, PartialEq, Eq, Error)]
+pub enum ReallocError {
+    /// The pointer names no live chunk.
+    #[error(transparent)]
+    Refused(FreeError),
+    /// The new size is given no slot.
+    #[error(transparent)]
+    Null(NullCause),
+}

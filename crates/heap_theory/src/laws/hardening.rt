@@ -1,0 +1,66 @@
+//! The hardening laws, over every run of events.
+ghost use Rattle.heap_theory.specs.Hardening.{
+  BookkeepingOutOfReach,
+  ChunkTagsDiffer,
+  ChunkTagsNotZero,
+  FreedFaults,
+  InsideSucceeds,
+  LivesOn,
+  NeighboursFault,
+  NullOrTagged,
+  ReuseIsDelayed,
+};
+ghost use Rattle.heap_theory.specs.Laws.{AfterEveryRun, AtEveryEvent};
+
+use super::laws_below;
+
+/// No chunk granule has tag 0, and those of an even slot and of an odd one never have the same tag.
+pub fn law_chunk_tags()
+    ensures not_zero { AfterEveryRun ChunkTagsNotZero }
+    ensures differ { AfterEveryRun ChunkTagsDiffer }
+{
+    laws_below();
+}
+
+/// An access through any variable that touches slack, a header or a tail is a fault.
+pub fn law_bookkeeping()
+    ensures variables { AfterEveryRun NullOrTagged }
+    ensures faults { AfterEveryRun BookkeepingOutOfReach }
+{
+    laws_below();
+}
+
+/// Through a variable whose generation is live, an access of bytes of its chunk succeeds.
+pub fn law_inside()
+    ensures { AfterEveryRun InsideSucceeds }
+{
+    laws_below();
+}
+
+/// Through a variable with a generation of a slot, an access that touches the payload of a slot of the other parity is a fault.
+pub fn law_neighbours()
+    ensures { AfterEveryRun NeighboursFault }
+{
+    laws_below();
+}
+
+/// Through a variable whose generation was freed, an access that touches its slot is a fault, until the next generation was freed too.
+pub fn law_freed()
+    ensures { AfterEveryRun FreedFaults }
+{
+    laws_below();
+}
+
+/// A dead slot is given out only where more bytes than the quarantine's limit were freed from its free on, its own among them.
+pub fn law_delay()
+    ensures { AtEveryEvent ReuseIsDelayed }
+{
+    laws_below();
+}
+
+/// In an event each slot stays as it is, or is freed, or is given out once more.
+pub fn law_life()
+    ensures { AtEveryEvent (λ quarantine. LivesOn) }
+{
+    laws_below();
+}

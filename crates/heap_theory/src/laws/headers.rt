@@ -1,0 +1,90 @@
+ghost use Rattle.heap_theory.specs.HeaderLaws.{
+  AccessesAreSeen,
+  BytesAreSeen,
+  ClassIsAtItsNumber,
+  EachSlotOnce,
+  HeaderBytesAreNotSeen,
+  HeaderIsReadFromWords,
+  HeaderIsTwoWords,
+  HeaderKeepsMemory,
+  HeaderKeepsTags,
+  HeaderShowsState,
+  HeadersAreSpared,
+  LastSlotEnds,
+  LinksStay,
+  NewMemoryIsSeen,
+  OneListIsLinked,
+  OtherBytesKeepHeaders,
+  OtherGranulesAreSeen,
+  OtherHeadersStay,
+  OtherLinksStay,
+  OwnLinkIsSet,
+  PutBehind,
+  PutBehindIsLast,
+  PutInFront,
+  ReadHeaderFits,
+  SlotHeaderFits,
+  TagsAreSeen,
+  TagsKeepHeaders,
+  WordsFit,
+  WrittenHeaderIsRead,
+};
+
+use super::laws_below;
+
+/// A header that is written is read, and nothing else changes.
+pub fn law_header()
+    ensures words { HeaderIsReadFromWords }
+    ensures fit { WordsFit }
+    ensures fits { ReadHeaderFits }
+    ensures two_words { HeaderIsTwoWords }
+    ensures read { WrittenHeaderIsRead }
+    ensures others { OtherHeadersStay }
+    ensures tags { HeaderKeepsTags }
+    ensures memory { HeaderKeepsMemory }
+    ensures under_tags { TagsKeepHeaders }
+    ensures under_bytes { OtherBytesKeepHeaders }
+{
+    laws_below();
+}
+
+/// What the header of a heap's slot says, and that its fields have room.
+pub fn law_slot_header()
+    ensures state { HeaderShowsState }
+    ensures class { ClassIsAtItsNumber }
+    ensures fits { SlotHeaderFits }
+{
+    laws_below();
+}
+
+/// Links depend on the slots of their list alone and show one list; how they change as a slot is put in front or behind.
+pub fn law_links()
+    ensures stay { LinksStay }
+    ensures one { OneListIsLinked }
+    ensures once { EachSlotOnce }
+    ensures ends { LastSlotEnds }
+    ensures in_front { PutInFront }
+    ensures behind { PutBehind }
+    ensures last { PutBehindIsLast }
+{}
+
+/// How the links of slots change with their headers.
+pub fn law_links_in_headers()
+    ensures own { OwnLinkIsSet }
+    ensures others { OtherLinksStay }
+{
+    laws_below();
+}
+
+/// What a heap's caller sees of the memory, the bytes of headers left out.
+pub fn law_seen_memory()
+    ensures new { NewMemoryIsSeen }
+    ensures tags { TagsAreSeen }
+    ensures bytes { BytesAreSeen }
+    ensures accesses { AccessesAreSeen }
+    ensures granules { OtherGranulesAreSeen }
+    ensures header_bytes { HeaderBytesAreNotSeen }
+    ensures spared { HeadersAreSpared }
+{
+    laws_below();
+}

@@ -1,0 +1,52 @@
+ghost use Rattle.heap_theory.specs.Laws.{
+  EachCallKeepsSound,
+  FirstHeapIsSound,
+  FreeingKeepsSound,
+  GivingOutKeepsSound,
+  LowestFreshIsFirst,
+  MovingKeepsSound,
+  NamedChunkIsLive,
+  NoneIsFresh,
+  OwnPointerNamesChunk,
+  PointerIsOfSlot,
+  RequestIsGiven,
+  ResizingKeepsSound,
+  WritingKeepsSound,
+};
+
+use super::laws_below;
+
+/// A new heap is sound, and each change that a call makes keeps it so.
+pub fn law_sound()
+    ensures first { FirstHeapIsSound }
+    ensures given_out { GivingOutKeepsSound }
+    ensures freed { FreeingKeepsSound }
+    ensures resized { ResizingKeepsSound }
+    ensures moved { MovingKeepsSound }
+    ensures written { WritingKeepsSound }
+{
+    laws_below();
+}
+
+/// Each call keeps a heap sound, also where it is refused.
+pub fn law_calls()
+    ensures { EachCallKeepsSound }
+{
+    laws_below();
+}
+
+/// What is true of the slot that a request is given, and of the chunk that a pointer names.
+pub fn law_choices()
+    ensures request { RequestIsGiven }
+    ensures chunk { NamedChunkIsLive }
+    ensures own_pointer { OwnPointerNamesChunk }
+    ensures pointer { PointerIsOfSlot }
+{
+    laws_below();
+}
+
+/// Which fresh slot is the lowest of its class.
+pub fn law_lowest_fresh()
+    ensures first { LowestFreshIsFirst }
+    ensures none { NoneIsFresh }
+{}

@@ -1,0 +1,325 @@
+-- Lines that are read as a sheet in front of others, and what is read where there are no others.
+use Rattle.std.proofs.Common.{◌≡◌, ℕ, zero, suc, ◌+◌, ◌≤◌, add-one, add-zero, Bool, true, false, List, [], ◌∷◌, length, drop, Option, Some, None, option_and_then, Result, Ok, Err, inl, inr, ne_eqb, refl, sym, ap, ◌∙◌, arith, codes}
+use Rattle.std.specs.List.{take_while}
+use Rattle.std.proofs.lemmas.Bool.{cases_eq}
+use Rattle.std.proofs.lemmas.List.Sums.{take_while-cons}
+use Rattle.line_text.specs.Lines.{lines, words}
+use Rattle.potential_check.specs.Leading.{GivesLeading, IsLeading, is_row_line, leading_lines, lines_behind}
+use Rattle.potential_check.specs.SheetText.{◌>>=◌, Gives, head_of_lines, is_named, is_written_step, limit_in, numbers_in, only_one, passing, row_in, rows_from, sheet_of_lines, step_in, table_in, waste_in, waste_number, with_rows, words_behind}
+use Rattle.potential_check.proofs.RowNumbers.{passing-some}
+use Rattle.potential_check.specs.declared.fault.SheetError.{SheetError}
+use Rattle.potential_check.specs.declared.fault.SheetError.TheVariants.{OutOfMemory, Line}
+use Rattle.potential_check.specs.declared.leading.LeadingSheet.{LeadingSheet}
+use Rattle.potential_check.specs.declared.reading.Head.{Head}
+use Rattle.potential_check.specs.declared.sheet.Sheet.{Sheet as Held}
+use Rattle.potential_check.specs.Sheets.{sheet_of}
+use Rattle.tuner_theory.specs.Sheets.{Sheet}
+
+-- ---- rows
+
+abbrev pub rows_of : List (List ℕ) → List (List ℕ)
+rows_of ls = take_while is_row_line ls
+
+abbrev pub rest_of : List (List ℕ) → List (List ℕ)
+rest_of ls = drop (length (rows_of ls)) ls
+
+pub rows_of-row : (ls new : List (List ℕ)) (line : List ℕ) → ls ≡ line ∷ new → is_row_line line ≡ true → rows_of ls ≡ line ∷ rows_of new
+rows_of-row ls new line parts e = rw parts (take_while-cons is_row_line line new ∙ rw e refl)
+
+no_rows_of : (line : List ℕ) (ls : List (List ℕ)) → is_row_line line ≡ false → rows_of (line ∷ ls) ≡ []
+no_rows_of line ls e = take_while-cons is_row_line line ls ∙ rw e refl
+
+-- one line more is passed over
+pub drop-line : (all ls new : List (List ℕ)) (line : List ℕ) (n : ℕ) → ls ≡ drop n all → ls ≡ line ∷ new → new ≡ drop (suc n) all
+drop-line all ls new line zero e parts = rw (← e, parts) refl
+drop-line [] ls new line (suc n) e parts = absurd cc
+drop-line (first ∷ all) ls new line (suc n) e parts = drop-line all ls new line n e parts
+
+no_row : (line : List ℕ) → is_row_line line ≡ false → row_in line ≡ None
+no_row line e = go (words_behind (codes "row") (words line)) refl
+  where
+    go : (behind : Option (List (List ℕ))) → words_behind (codes "row") (words line) ≡ behind → row_in line ≡ None
+    go None f = rw f refl
+    go (Some ws) f = let row = rw f at e in absurd cc
+
+-- a line behind the rows is faulty
+abbrev unless_more : List (List ℕ) → ℕ → Result (List (List ℕ)) ℕ → Result (List (List ℕ)) ℕ
+unless_more [] number read = read
+unless_more (line ∷ ls) number (Ok rows) = Err (number + length rows)
+unless_more (line ∷ ls) number (Err fault) = Err fault
+
+one_row_more : (rest : List (List ℕ)) (number : ℕ) (row : List ℕ) (read : Result (List (List ℕ)) ℕ)
+    → (unless_more rest (suc number) read >>= λ rows. Ok (row ∷ rows)) ≡ unless_more rest number (read >>= λ rows. Ok (row ∷ rows))
+one_row_more [] number row read = refl
+one_row_more (line ∷ ls) number row (Ok rows) = ap Err (omega arith)
+one_row_more (line ∷ ls) number row (Err fault) = refl
+
+rows_from-all : (ls : List (List ℕ)) (number most : ℕ) → rows_from number most ls ≡ unless_more (rest_of ls) number (rows_from number most (rows_of ls))
+unfolding rows_from
+rows_from-all [] number most = refl
+rows_from-all (line ∷ ls) number zero = go (is_row_line line) refl
+  where
+    go : (is : Bool) → is_row_line line ≡ is → rows_from number zero (line ∷ ls) ≡ unless_more (rest_of (line ∷ ls)) number (rows_from number zero (rows_of (line ∷ ls)))
+    go false e = rw (no_rows_of line ls e, add-zero) refl
+    go true e = rw (rows_of-row (line ∷ ls) ls line refl e) (either (rest_of ls))
+      where
+        either : (rest : List (List ℕ)) → Err number ≡ unless_more rest number (Err number)
+        either [] = refl
+        either (line ∷ ls) = refl
+rows_from-all (line ∷ ls) number (suc most) = go (rows_from-all ls (suc number) most) (is_row_line line) refl
+  where
+    go : rows_from (suc number) most ls ≡ unless_more (rest_of ls) (suc number) (rows_from (suc number) most (rows_of ls)) → (is : Bool) → is_row_line line ≡ is
+        → rows_from number (suc most) (line ∷ ls) ≡ unless_more (rest_of (line ∷ ls)) number (rows_from number (suc most) (rows_of (line ∷ ls)))
+    go others false e = rw (no_rows_of line ls e, no_row line e, add-zero) refl
+    go others true e = rw (rows_of-row (line ∷ ls) ls line refl e) (found (row_in line) refl)
+      where
+        found : (o : Option (List ℕ)) → row_in line ≡ o
+            → rows_from number (suc most) (line ∷ ls) ≡ unless_more (rest_of ls) number (rows_from number (suc most) (line ∷ rows_of ls))
+        found None f = rw f (either (rest_of ls))
+          where
+            either : (rest : List (List ℕ)) → Err number ≡ unless_more rest number (Err number)
+            either [] = refl
+            either (line ∷ ls) = refl
+        found (Some row) f = rw (f, others) (one_row_more (rest_of ls) number row (rows_from (suc number) most (rows_of ls)))
+
+-- each line is a row
+pub rows_from-length : (ls : List (List ℕ)) (number most : ℕ) (rows : List (List ℕ)) → rows_from number most ls ≡ Ok rows → (length rows ≡ length ls) × (length rows ≤ most)
+unfolding rows_from
+rows_from-length [] number most rows e =
+    let none : [] ≡ rows = cc in
+    rw (← none) (refl, omega arith)
+rows_from-length (line ∷ ls) number zero rows e = absurd cc
+rows_from-length (line ∷ ls) number (suc most) rows e = go (rows_from-length ls (suc number) most) (row_in line) refl (rows_from (suc number) most ls) refl
+  where
+    go : ((rows : List (List ℕ)) → rows_from (suc number) most ls ≡ Ok rows → (length rows ≡ length ls) × (length rows ≤ most))
+        → (o : Option (List ℕ)) → row_in line ≡ o → (r : Result (List (List ℕ)) ℕ) → rows_from (suc number) most ls ≡ r
+        → (length rows ≡ suc (length ls)) × (length rows ≤ suc most)
+    go others None f r g = let none = rw f at e in absurd cc
+    go others (Some row) f (Err fault) g = let none = rw (f, g) at e in absurd cc
+    go others (Some row) f (Ok more) g =
+        let is = rw (f, g) at e in
+        let same : row ∷ more ≡ rows = cc in
+        let rest = others more g in
+        rw (← same) (omega (arith, rest.0), omega (arith, rest.1))
+
+-- ---- the head
+
+-- The head of the sheet's lines is the head of all lines, and the rows are behind it.
+pub record HeadIsFound (ls : List (List ℕ)) (head : Head) (behind : List (List ℕ)) : Type 0 where
+  pub leading : head_of_lines (leading_lines ls) ≡ Ok (head, rows_of behind)
+  pub size : length (leading_lines ls) ≡ waste_number head.step + length (rows_of behind)
+  pub rest : lines_behind ls ≡ rest_of behind
+
+data Heading (ls : List (List ℕ)) : Type 0 where
+  Faulty : (number : ℕ) → head_of_lines ls ≡ Err number → head_of_lines (leading_lines ls) ≡ Err number → Heading ls
+  Found : (head : Head) (behind : List (List ℕ)) → head_of_lines ls ≡ Ok (head, behind) → HeadIsFound ls head behind → Heading ls
+
+-- a step that is written is not 1
+written_not_one : (o : Option ℕ) (step : ℕ) → passing is_written_step o ≡ Some step → waste_number step ≡ 4
+written_not_one o step e = elim (cases_eq step 1) [
+  | inl one ↦ let passed = (passing-some is_written_step o step e).1 in let no = rw one at passed in absurd cc
+  | inr other ↦ rw (ne_eqb step 1 other) refl
+]
+
+module _ (a b c : List ℕ) (xs : List (List ℕ)) where
+  -- without a step line
+  three : is_named (codes "step") c ≡ false → Heading (a ∷ b ∷ c ∷ xs)
+  unfolding head_of_lines leading_lines lines_behind
+  three e = go (table_in a) refl (limit_in b) refl (waste_in c) refl
+    where
+      go : (table : Option (List ℕ)) → table_in a ≡ table → (limit : Option ℕ) → limit_in b ≡ limit → (waste : Option ℕ) → waste_in c ≡ waste → Heading (a ∷ b ∷ c ∷ xs)
+      go None is_table limit is_limit waste is_waste = Faulty 1 (rw is_table refl) (rw (e, is_table) refl)
+      go (Some table) is_table None is_limit waste is_waste = Faulty 2 (rw (is_table, is_limit) refl) (rw (e, is_table, is_limit) refl)
+      go (Some table) is_table (Some limit) is_limit None is_waste = Faulty 3 (rw (is_table, is_limit, e, is_waste) refl) (rw (e, is_table, is_limit, e, is_waste) refl)
+      go (Some table) is_table (Some limit) is_limit (Some waste) is_waste =
+          Found (record { table = table; limit = limit; step = 1; waste = waste }) xs (rw (is_table, is_limit, e, is_waste) refl)
+          (record { leading = rw (e, is_table, is_limit, e, is_waste) refl; size = rw e (omega arith); rest = rw e refl })
+
+module _ (a b c d : List ℕ) (xs : List (List ℕ)) where
+  -- with one
+  four : is_named (codes "step") c ≡ true → Heading (a ∷ b ∷ c ∷ d ∷ xs)
+  unfolding head_of_lines leading_lines lines_behind
+  four e = go (table_in a) refl (limit_in b) refl (step_in c) refl (waste_in d) refl
+    where
+      go : (table : Option (List ℕ)) → table_in a ≡ table → (limit : Option ℕ) → limit_in b ≡ limit → (step : Option ℕ) → step_in c ≡ step → (waste : Option ℕ) → waste_in d ≡ waste
+          → Heading (a ∷ b ∷ c ∷ d ∷ xs)
+      go None is_table limit is_limit step is_step waste is_waste = Faulty 1 (rw is_table refl) (rw (e, is_table) refl)
+      go (Some table) is_table None is_limit step is_step waste is_waste = Faulty 2 (rw (is_table, is_limit) refl) (rw (e, is_table, is_limit) refl)
+      go (Some table) is_table (Some limit) is_limit None is_step waste is_waste = Faulty 3 (rw (is_table, is_limit, e, is_step) refl) (rw (e, is_table, is_limit, e, is_step) refl)
+      go (Some table) is_table (Some limit) is_limit (Some step) is_step None is_waste =
+          Faulty (waste_number step) (rw (is_table, is_limit, e, is_step, is_waste) refl) (rw (e, is_table, is_limit, e, is_step, is_waste) refl)
+      go (Some table) is_table (Some limit) is_limit (Some step) is_step (Some waste) is_waste =
+          Found (record { table = table; limit = limit; step = step; waste = waste }) xs (rw (is_table, is_limit, e, is_step, is_waste) refl)
+          (record { leading = rw (e, is_table, is_limit, e, is_step, is_waste) refl; size = rw (e, written_not_one (option_and_then only_one (numbers_in (codes "step") c)) step is_step) (omega arith); rest = rw e refl })
+
+-- ---- fewer lines
+
+no_lines : leading_lines [] ≡ []
+unfolding leading_lines
+no_lines = go (is_named (codes "step") []) refl
+  where
+    go : (named : Bool) → is_named (codes "step") [] ≡ named → leading_lines [] ≡ []
+    go false e = rw e refl
+    go true e = rw e refl
+
+one_line : (a : List ℕ) → leading_lines (a ∷ []) ≡ a ∷ []
+unfolding leading_lines
+one_line a = go (is_named (codes "step") []) refl
+  where
+    go : (named : Bool) → is_named (codes "step") [] ≡ named → leading_lines (a ∷ []) ≡ a ∷ []
+    go false e = rw e refl
+    go true e = rw e refl
+
+two_lines : (a b : List ℕ) → leading_lines (a ∷ b ∷ []) ≡ a ∷ b ∷ []
+unfolding leading_lines
+two_lines a b = go (is_named (codes "step") []) refl
+  where
+    go : (named : Bool) → is_named (codes "step") [] ≡ named → leading_lines (a ∷ b ∷ []) ≡ a ∷ b ∷ []
+    go false e = rw e refl
+    go true e = rw e refl
+
+same_fault : (ls : List (List ℕ)) (number : ℕ) → leading_lines ls ≡ ls → head_of_lines ls ≡ Err number → Heading ls
+same_fault ls number all e = Faulty number e (ap head_of_lines all ∙ e)
+
+short_heading : (a b : List ℕ) → Heading (a ∷ b ∷ [])
+unfolding head_of_lines
+short_heading a b = go (table_in a) refl (limit_in b) refl
+  where
+    go : (table : Option (List ℕ)) → table_in a ≡ table → (limit : Option ℕ) → limit_in b ≡ limit → Heading (a ∷ b ∷ [])
+    go None is_table limit is_limit = same_fault (a ∷ b ∷ []) 1 (two_lines a b) (rw is_table refl)
+    go (Some table) is_table None is_limit = same_fault (a ∷ b ∷ []) 2 (two_lines a b) (rw (is_table, is_limit) refl)
+    go (Some table) is_table (Some limit) is_limit = same_fault (a ∷ b ∷ []) 3 (two_lines a b) (rw (is_table, is_limit) refl)
+
+-- where the step's line is the last
+cut_heading : (a b c : List ℕ) → is_named (codes "step") c ≡ true → Heading (a ∷ b ∷ c ∷ [])
+unfolding head_of_lines leading_lines
+cut_heading a b c e = go (table_in a) refl (limit_in b) refl (step_in c) refl
+  where
+    all : leading_lines (a ∷ b ∷ c ∷ []) ≡ a ∷ b ∷ c ∷ []
+    all = rw e refl
+
+    go : (table : Option (List ℕ)) → table_in a ≡ table → (limit : Option ℕ) → limit_in b ≡ limit → (step : Option ℕ) → step_in c ≡ step → Heading (a ∷ b ∷ c ∷ [])
+    go None is_table limit is_limit step is_step = same_fault (a ∷ b ∷ c ∷ []) 1 all (rw is_table refl)
+    go (Some table) is_table None is_limit step is_step = same_fault (a ∷ b ∷ c ∷ []) 2 all (rw (is_table, is_limit) refl)
+    go (Some table) is_table (Some limit) is_limit None is_step = same_fault (a ∷ b ∷ c ∷ []) 3 all (rw (is_table, is_limit, e, is_step) refl)
+    go (Some table) is_table (Some limit) is_limit (Some step) is_step = same_fault (a ∷ b ∷ c ∷ []) (waste_number step) all (rw (is_table, is_limit, e, is_step) refl)
+
+heading : (ls : List (List ℕ)) → Heading ls
+unfolding head_of_lines
+heading [] = same_fault [] 1 no_lines refl
+heading (a ∷ []) = go (table_in a) refl
+  where
+    go : (table : Option (List ℕ)) → table_in a ≡ table → Heading (a ∷ [])
+    go None is_table = same_fault (a ∷ []) 1 (one_line a) (rw is_table refl)
+    go (Some table) is_table = same_fault (a ∷ []) 2 (one_line a) (rw is_table refl)
+heading (a ∷ b ∷ []) = short_heading a b
+heading (a ∷ b ∷ c ∷ []) = go (is_named (codes "step") c) refl
+  where
+    go : (named : Bool) → is_named (codes "step") c ≡ named → Heading (a ∷ b ∷ c ∷ [])
+    go false e = three a b c [] e
+    go true e = cut_heading a b c e
+heading (a ∷ b ∷ c ∷ d ∷ xs) = go (is_named (codes "step") c) refl
+  where
+    go : (named : Bool) → is_named (codes "step") c ≡ named → Heading (a ∷ b ∷ c ∷ d ∷ xs)
+    go false e = three a b c (d ∷ xs) e
+    go true e = four a b c d xs e
+
+-- ---- the sheet
+
+abbrev head_and : Head → List (List ℕ) → Result (Head × List (List ℕ)) ℕ
+head_and head behind = Ok (head, behind)
+
+abbrev head_fault : ℕ → Result (Head × List (List ℕ)) ℕ
+head_fault number = Err number
+
+same_head : (h g : Head) (xs ys : List (List ℕ)) → head_and h xs ≡ head_and g ys → (h ≡ g) × (xs ≡ ys)
+same_head h g xs ys e =
+    let same : ◌≡◌ {A = Head × List (List ℕ)} (h, xs) (g, ys) = cc in
+    (ap (λ (p : Head × List (List ℕ)). p.0) same, ap (λ (p : Head × List (List ℕ)). p.1) same)
+
+pub leading-faulty : (ls : List (List ℕ)) (number : ℕ) → head_of_lines ls ≡ head_fault number → sheet_of_lines (leading_lines ls) ≡ Err number
+unfolding sheet_of_lines
+leading-faulty ls number e = elim (heading ls) [
+  | Faulty k all leading ↦
+      let same : k ≡ number = cc in
+      rw (leading, same) refl
+  | Found head behind all found ↦ absurd cc
+]
+
+pub head-is_found : (ls : List (List ℕ)) (head : Head) (behind : List (List ℕ)) → head_of_lines ls ≡ head_and head behind → HeadIsFound ls head behind
+head-is_found ls head behind e = elim (heading ls) [
+  | Faulty k all leading ↦ absurd cc
+  | Found h b all found ↦
+      let same = same_head h head b behind (sym all ∙ e) in
+      rw (← same.0, ← same.1) found
+]
+
+module _ (ls : List (List ℕ)) (head : Head) (behind : List (List ℕ)) (found : HeadIsFound ls head behind) where
+  pub leading-read : (rows : List (List ℕ)) → rows_from (waste_number head.step + 1) 32 (rows_of behind) ≡ Ok rows → sheet_of_lines (leading_lines ls) ≡ Ok (with_rows head rows)
+  unfolding sheet_of_lines
+  leading-read rows e = rw (found.leading, ← add-one (waste_number head.step), e) refl
+
+  pub leading-row_fault : (number : ℕ) → rows_from (waste_number head.step + 1) 32 (rows_of behind) ≡ Err number → sheet_of_lines (leading_lines ls) ≡ Err number
+  unfolding sheet_of_lines
+  leading-row_fault number e = rw (found.leading, ← add-one (waste_number head.step), e) refl
+
+-- ---- faults
+
+pub head_fault_given : {A : Type 0} (view : A → Head × List (List ℕ)) (ls : List (List ℕ)) (result : Result LeadingSheet SheetError) (y e : SheetError) → result ≡ Err y → y ≡ e
+    → Gives view (Err e) (head_of_lines ls) → GivesLeading ls result
+head_fault_given view ls result y OutOfMemory is same given = rw (is, same) tt
+head_fault_given view ls result y (Line number) is same given = rw (is, same) (leading-faulty ls number given)
+
+pub row_fault_given : (ls : List (List ℕ)) (head : Head) (behind : List (List ℕ)) (result : Result LeadingSheet SheetError) (y e : SheetError) → HeadIsFound ls head behind
+    → result ≡ Err y → y ≡ e → Gives (λ (rows : List (List ℕ)). rows) (Err e) (rows_from (waste_number head.step + 1) 32 (rows_of behind)) → GivesLeading ls result
+row_fault_given ls head behind result y OutOfMemory found is same given = rw (is, same) tt
+row_fault_given ls head behind result y (Line number) found is same given = rw (is, same) (leading-row_fault ls head behind found number given)
+
+-- ---- all lines
+
+-- the sheet in front, unless there is a line behind it
+abbrev pub unless_line : List (List ℕ) → ℕ → Result Sheet ℕ → Result Sheet ℕ
+unless_line [] size read = read
+unless_line (line ∷ ls) size (Ok s) = Err (size + 1)
+unless_line (line ∷ ls) size (Err number) = Err number
+
+-- What is read of all lines is the sheet in front of them, where it is all of them.
+pub sheet_of_all : (ls : List (List ℕ)) → sheet_of_lines ls ≡ unless_line (lines_behind ls) (length (leading_lines ls)) (sheet_of_lines (leading_lines ls))
+unfolding sheet_of_lines
+sheet_of_all ls = elim (heading ls) [
+  | Faulty k all leading ↦ rw (all, leading) (either (lines_behind ls) k)
+  | Found head behind all found ↦
+      rw (all, found.leading, found.rest, found.size, rows_from-all behind (suc (waste_number head.step)) 32)
+      (more head (rest_of behind) (length (rows_of behind)) (rows_from (suc (waste_number head.step)) 32 (rows_of behind))
+      (λ rows e. (rows_from-length (rows_of behind) (suc (waste_number head.step)) 32 rows e).0))
+]
+  where
+    either : (rest : List (List ℕ)) (k : ℕ) → Err k ≡ unless_line rest (length (leading_lines ls)) (Err k)
+    either [] k = refl
+    either (line ∷ rest) k = refl
+
+    more : (head : Head) (rest : List (List ℕ)) (size : ℕ) (read : Result (List (List ℕ)) ℕ) → ((rows : List (List ℕ)) → read ≡ Ok rows → length rows ≡ size)
+        → (unless_more rest (suc (waste_number head.step)) read >>= λ rows. Ok (with_rows head rows))
+        ≡ unless_line rest (waste_number head.step + size) (read >>= λ rows. Ok (with_rows head rows))
+    more head [] size read long = refl
+    more head (line ∷ rest) size (Ok rows) long = ap Err (omega (arith, long rows refl))
+    more head (line ∷ rest) size (Err number) long = refl
+
+pub all_fault_given : (ls : List (List ℕ)) (result : Result Held SheetError) (y e : SheetError) → result ≡ Err y → y ≡ e → GivesLeading ls (Err e) → Gives sheet_of result (sheet_of_lines ls)
+all_fault_given ls result y OutOfMemory is same given = rw (is, same) tt
+all_fault_given ls result y (Line number) is same given = rw (is, same) (sheet_of_all ls ∙ rw given (either (lines_behind ls)))
+  where
+    either : (rest : List (List ℕ)) → unless_line rest (length (leading_lines ls)) (Err number) ≡ Err number
+    either [] = refl
+    either (line ∷ rest) = refl
+
+pub all_read : (ls : List (List ℕ)) (leading : LeadingSheet) → IsLeading ls leading → lines leading.rest.now ≡ [] → sheet_of_lines ls ≡ Ok (sheet_of leading.sheet)
+all_read ls leading is none =
+    let rest : lines_behind ls ≡ [] = sym is.behind ∙ none in
+    sheet_of_all ls ∙ rw (rest, is.sheet) refl
+
+pub line_behind : (ls new : List (List ℕ)) (line : List ℕ) (leading : LeadingSheet) → IsLeading ls leading → lines leading.rest.now ≡ line ∷ new
+    → sheet_of_lines ls ≡ Err (leading.lines + 1)
+line_behind ls new line leading is some =
+    let rest : lines_behind ls ≡ line ∷ new = sym is.behind ∙ some in
+    sheet_of_all ls ∙ rw (rest, is.sheet, is.size) refl

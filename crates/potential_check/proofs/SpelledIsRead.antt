@@ -1,0 +1,85 @@
+-- The text of a sheet is read as that sheet, line by line.
+use Rattle.std.proofs.Common.{◌≡◌, add-one, ℕ, zero, suc, ◌+◌, ◌<◌, ◌≤◌, ◌^◌, List, [], ◌∷◌, ◌++◌, length, map, Option, Some, Ok, refl, ap, ◌∙◌, arith, codes, ne_eqb, inl, inr}
+use Rattle.std.specs.Prelude.{All}
+use Rattle.std.proofs.lemmas.Bool.{cases_eq}
+use Rattle.std.proofs.lemmas.List.Elements.{All-nil, All-cons, All-head, All-tail, All-append}
+use Rattle.class_table.specs.ClassLine.{class_line}
+use Rattle.class_table.specs.Steps.{IsStep}
+use Rattle.line_text.specs.Laws.{TextLaws}
+use Rattle.line_text.specs.Lines.{IsFullLine, lines}
+use Rattle.potential_check.specs.SheetText.{IsRow, IsWithinLimits, SpellsSheet, head_of_lines, line_at, limit_in, named_line, rows_from, sheet_in, sheet_lines, sheet_of_lines, step_at, step_lines, table_in, waste_in, waste_number, with_rows}
+use Rattle.potential_check.specs.declared.reading.Head.{Head}
+use Rattle.potential_check.proofs.HeadLines.{all_read}
+use Rattle.potential_check.proofs.NamedLines.{AreSmall, IsName, named_line-is_line, named_line-some, words-named_line}
+use Rattle.potential_check.proofs.SheetLines.{SheetLaws, classes_is_name, legal_small, limit_is_name, limit_in-line, one_small, row_is_name, row_in-line, step_is_name, step_in-line, step_small, table_in-line, waste_is_name, waste_in-line}
+use Rattle.tuner_theory.specs.Sheets.{Sheet}
+
+-- ---- a sheet's lines are lines, and not empty
+
+full_line : TextLaws → (name ns : List ℕ) → IsName name → AreSmall ns → IsFullLine (named_line name ns)
+full_line laws name ns is_name small = (named_line-is_line laws name ns is_name small, named_line-some name ns is_name)
+
+rows-full : TextLaws → (rows : List (List ℕ)) → All IsRow rows → All IsFullLine (map (named_line (codes "row")) rows)
+rows-full laws [] all = All-nil IsFullLine
+rows-full laws (row ∷ rows) all =
+    All-cons IsFullLine (named_line (codes "row") row) (map (named_line (codes "row")) rows) (full_line laws (codes "row") row row_is_name (All-head IsRow row rows all).1)
+    (rows-full laws rows (All-tail IsRow row rows all))
+
+step_lines-full : TextLaws → (step : ℕ) → IsStep step → All IsFullLine (step_lines step)
+step_lines-full laws step is_step = elim (cases_eq step 1) [
+  | inl one ↦ rw one (All-nil IsFullLine)
+  | inr other ↦
+      rw (ne_eqb step 1 other)
+      (All-cons IsFullLine (named_line (codes "step") (step ∷ [])) [] (full_line laws (codes "step") (step ∷ []) step_is_name (one_small step (step_small step is_step))) (All-nil IsFullLine))
+]
+
+sheet_lines-full : TextLaws → (s : Sheet) → IsWithinLimits s → All IsFullLine (sheet_lines s)
+sheet_lines-full laws s within =
+    let table = full_line laws (codes "classes") s.table classes_is_name (legal_small s.table within.table) in
+    let limit = full_line laws (codes "limit") (s.limit ∷ []) limit_is_name (one_small s.limit (omega (arith, within.limit.1))) in
+    let waste = full_line laws (codes "waste") (s.waste ∷ []) waste_is_name (one_small s.waste within.waste) in
+    let rows = map (named_line (codes "row")) s.rows in
+    let behind = named_line (codes "waste") (s.waste ∷ []) ∷ rows in
+    let from_waste = All-cons IsFullLine (named_line (codes "waste") (s.waste ∷ [])) rows waste (rows-full laws s.rows within.rows) in
+    let from_step = All-append IsFullLine (step_lines s.step) behind (step_lines-full laws s.step within.step) from_waste in
+    let from_limit = All-cons IsFullLine (named_line (codes "limit") (s.limit ∷ [])) (step_lines s.step ++ behind) limit from_step in
+    All-cons IsFullLine (class_line s.table) (named_line (codes "limit") (s.limit ∷ []) ∷ step_lines s.step ++ behind) table from_limit
+
+-- ---- they are read one after the other
+
+read_at : {A : Type 0} (number : ℕ) (reading : List ℕ → Option A) (line : List ℕ) (ls : List (List ℕ)) (x : A) → reading line ≡ Some x → line_at number reading (line ∷ ls) ≡ Ok (x, ls)
+read_at number reading line ls x e = rw e refl
+
+-- the line of another name is no step line
+step_at-lines : TextLaws → (step waste : ℕ) (ls : List (List ℕ)) → IsStep step → waste < 2 ^ 64
+    → step_at (step_lines step ++ named_line (codes "waste") (waste ∷ []) ∷ ls) ≡ Some (step, named_line (codes "waste") (waste ∷ []) ∷ ls)
+step_at-lines laws step waste ls is_step small = elim (cases_eq step 1) [
+  | inl one ↦ rw (one, words-named_line laws (codes "waste") (waste ∷ []) waste_is_name (one_small waste small)) refl
+  | inr other ↦
+      rw (ne_eqb step 1 other, step_in-line laws step is_step other, words-named_line laws (codes "step") (step ∷ []) step_is_name (one_small step (step_small step is_step))) refl
+]
+
+rows_from-lines : TextLaws → (rows : List (List ℕ)) (number most : ℕ) → length rows ≤ most → All IsRow rows → rows_from number most (map (named_line (codes "row")) rows) ≡ Ok rows
+unfolding rows_from
+rows_from-lines laws [] number most few all = refl
+rows_from-lines laws (row ∷ rows) number zero few all = absurd (omega arith)
+rows_from-lines laws (row ∷ rows) number (suc most) few all =
+    rw (row_in-line laws row (All-head IsRow row rows all), rows_from-lines laws rows (suc number) most (omega arith) (All-tail IsRow row rows all)) refl
+
+-- the rows behind a head are read
+read_on : (ls behind : List (List ℕ)) (head : Head) (rows : List (List ℕ)) → head_of_lines ls ≡ Ok (head, behind)
+    → rows_from (waste_number head.step + 1) 32 behind ≡ Ok rows → sheet_of_lines ls ≡ Ok (with_rows head rows)
+unfolding sheet_of_lines
+read_on ls behind head rows is_head is_rows = rw (is_head, ← add-one (waste_number head.step), is_rows) refl
+
+-- The text of a sheet within the limits is read as that sheet.
+pub sheet_in-spelled : SheetLaws → (text : List ℕ) (s : Sheet) → SpellsSheet text s → sheet_in text ≡ Ok s
+sheet_in-spelled laws text s spells =
+    let within = spells.limits in
+    let is : lines text ≡ sheet_lines s = laws.text.full_lines (sheet_lines s) text (sheet_lines-full laws.text s within) spells.spelled in
+    let table = read_at 1 table_in (class_line s.table) _ s.table (table_in-line laws s.table within.table) in
+    let limit = read_at 2 limit_in (named_line (codes "limit") (s.limit ∷ [])) _ s.limit (limit_in-line laws.text s.limit within.limit) in
+    let step = step_at-lines laws.text s.step s.waste (map (named_line (codes "row")) s.rows) within.step within.waste in
+    let waste = read_at (waste_number s.step) waste_in (named_line (codes "waste") (s.waste ∷ [])) _ s.waste (waste_in-line laws.text s.waste within.waste) in
+    let rows = rows_from-lines laws.text s.rows (waste_number s.step + 1) 32 within.few within.rows in
+    ap sheet_of_lines is ∙ read_on _ _ _ s.rows (all_read _ _ _ table _ _ limit _ _ step _ _ waste) rows

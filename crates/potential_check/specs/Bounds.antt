@@ -1,0 +1,26 @@
+-- What bounds the numbers of a certificate's rows: the first row by itself, a later row beside the row before it.
+use Rattle.std.specs.Prelude.{ℕ, ◌+◌, ◌<◌, ◌≤◌, List, length, slice_index}
+use Rattle.potential_check.specs.Spanned.{Spanned}
+use Rattle.tuner_theory.specs.Spans.{places, span_waste}
+
+-- No number is more than what one class for all needs above its place wastes.
+pub record LastClassHolds (s : Spanned) (row : List ℕ) : Type 0 where
+  pub each : (i : ℕ) → i < length row → slice_index row i ≤ span_waste s.counts s.step i (places s.counts s.step)
+
+-- No number is more than the one at its place in the row before.
+pub record StageDropHolds (before row : List ℕ) : Type 0 where
+  pub each : (i : ℕ) → i < length row → slice_index row i ≤ slice_index before i
+
+-- The most that a number at place i may be by its edge to a later place j:
+-- what one class for the needs above i up to j wastes, and the number of the row before at j.
+abbrev pub edge_bound : Spanned → List ℕ → ℕ → ℕ → ℕ
+edge_bound s before i j = span_waste s.counts s.step i j + slice_index before j
+
+-- No number is more than its edge to any later place allows.
+pub record EdgesHold (s : Spanned) (before row : List ℕ) : Type 0 where
+  pub each : (i j : ℕ) → i < length row → i < j → j ≤ places s.counts s.step → slice_index row i ≤ edge_bound s before i j
+
+-- The same of the places from `start` to below `stop` and their edges to the places from `low` to below `high` alone.
+abbrev pub EdgesHoldWithin : Spanned → List ℕ → List ℕ → ℕ → ℕ → ℕ → ℕ → Type 0
+EdgesHoldWithin s before row start stop low high =
+    (i j : ℕ) → start ≤ i → i < stop → i < j → low ≤ j → j < high → slice_index row i ≤ edge_bound s before i j

@@ -1,0 +1,38 @@
+-- A sheet in front of other lines, as the checker's input has it in front of the profile.
+use Rattle.std.specs.Prelude.{◌≡◌, ◌≤◌, ℕ, Bool, List, [], ◌++◌, length, take, drop, codes, slice_index_or, Result, Ok, Err, if◌then◌else◌}
+use Rattle.std.specs.List.{take_while}
+use Rattle.line_text.specs.Lines.{lines}
+use Rattle.potential_check.specs.Sheets.{sheet_of}
+use Rattle.potential_check.specs.SheetText.{is_named, sheet_of_lines}
+use Rattle.potential_check.specs.declared.fault.SheetError.{SheetError}
+use Rattle.potential_check.specs.declared.fault.SheetError.TheVariants.{OutOfMemory, Line}
+use Rattle.potential_check.specs.declared.leading.LeadingSheet.{LeadingSheet}
+
+-- Whether a line's first word is `row`.
+abbrev pub is_row_line : List ℕ → Bool
+is_row_line line = is_named (codes "row") line
+
+-- How many lines stand in front of a sheet's rows: four where the third line's first word is `step`, else three.
+abbrev pub head_size : List (List ℕ) → ℕ
+head_size ls = if is_named (codes "step") (slice_index_or ls 2 []) then 4 else 3
+
+-- The lines of the sheet: so many, and all directly behind them whose first word is `row`.
+unfoldable pub leading_lines : List (List ℕ) → List (List ℕ)
+leading_lines ls = take (head_size ls) ls ++ take_while is_row_line (drop (head_size ls) ls)
+
+-- The lines behind the sheet.
+unfoldable pub lines_behind : List (List ℕ) → List (List ℕ)
+lines_behind ls = drop (length (leading_lines ls)) ls
+
+-- The sheet that the lines spell, how many lines it has, and the text behind them.
+pub record IsLeading (ls : List (List ℕ)) (leading : LeadingSheet) : Type 0 where
+  pub sheet : sheet_of_lines (leading_lines ls) ≡ Ok (sheet_of leading.sheet)
+  pub size : leading.lines ≡ length (leading_lines ls)
+  pub few : leading.lines ≤ 36
+  pub behind : lines leading.rest.now ≡ lines_behind ls
+
+-- What was read of these lines, unless memory ran out.
+abbrev pub GivesLeading : List (List ℕ) → Result LeadingSheet SheetError → Type 0
+GivesLeading ls (Ok leading) = IsLeading ls leading
+GivesLeading ls (Err OutOfMemory) = Unit {0}
+GivesLeading ls (Err (Line number)) = sheet_of_lines (leading_lines ls) ≡ Err number

@@ -1,0 +1,111 @@
+//! What bounds the numbers of a certificate's rows. A number may be any of 64 bits, so sums with one are made in 128.
+ghost use Rattle.std.specs.Prelude.{◌≡◌, ◌↔◌, ℕ, ◌+◌, ◌<◌, ◌≤◌, length, slice_index, IsTrue};
+ghost use Rattle.class_table.specs.Steps.{IsStep};
+ghost use Rattle.potential_check.specs.Bounds.{EdgesHold, EdgesHoldWithin, LastClassHolds, StageDropHolds, edge_bound};
+ghost use Rattle.tuner_theory.specs.Spans.{places};
+
+use crate::spans::Spans;
+use std::ops::Range;
+use tuner_theory::laws::law_crossing_spans;
+
+/// Whether no number of a row is more than what one class for all needs above its place wastes.
+pub(crate) fn last_class_holds(spans: &Spans, row: &[u64]) -> bool
+    requires { length row.now ≡ places spans.now.counts spans.now.step }
+    ensures { IsTrue result ↔ LastClassHolds spans.now row.now }
+{
+    let last = spans.places();
+    for (i, number) in row.iter().enumerate() {
+        if *number > spans.waste(i, last) {
+            return false;
+        }
+    }
+    true
+}
+
+/// Whether no number of a row is more than the one at its place in the row before.
+pub(crate) fn stage_drop_holds(before: &[u64], row: &[u64]) -> bool
+    ensures { IsTrue result ↔ StageDropHolds before.now row.now }
+{
+    for (i, number) in row.iter().enumerate() {
+        if *number > number_in(before, i) {
+            return false;
+        }
+    }
+    true
+}
+
+/// Whether no number of a row is more than its edge to any later place allows.
+pub(crate) fn edges_hold(spans: &Spans, before: &[u64], row: &[u64]) -> bool
+    requires { length row.now ≡ places spans.now.counts spans.now.step }
+    ensures { IsTrue result ↔ EdgesHold spans.now before.now row.now }
+{
+    let last = spans.places();
+    edges_hold_within(spans, before, row, 0..last, 0..last + 1)
+}
+
+// Whether no number of a part of a row is more than its edge to any of these ends allows.
+// The middle place is tested by its tightest end. Since spans cross, that end is as tight for an earlier place as any behind it,
+// and for a later place as any before it: so earlier places are left with the ends up to it, and later ones with those from it on.
+fn edges_hold_within(
+    spans: &Spans,
+    before: &[u64],
+    row: &[u64],
+    part: Range<usize>,
+    ends: Range<usize>,
+) -> bool
+    requires step { IsStep spans.now.step }
+    requires row { length row.now ≡ places spans.now.counts spans.now.step }
+    requires some { ends.start < ends.end }
+    requires within { ends.end ≤ places spans.now.counts spans.now.step + 1 }
+    requires behind { part.end < ends.end }
+    ensures { IsTrue result ↔ EdgesHoldWithin spans.now before.now row.now part.start part.end ends.start ends.end }
+{
+    law_crossing_spans();
+    if part.is_empty() {
+        return true;
+    }
+    let middle = part.start + (part.end - part.start) / 2;
+    let end = tightest_end(spans, before, middle, ends.start.max(middle + 1)..ends.end);
+    if u128::from(row[middle]) > edge_bound(spans, before, middle, end) {
+        return false;
+    }
+    edges_hold_within(spans, before, row, part.start..middle, ends.start..end + 1)
+        && edges_hold_within(spans, before, row, middle + 1..part.end, end..ends.end)
+}
+
+// the tightest of these ends for place `i`: the one whose edge allows a number there the least
+fn tightest_end(spans: &Spans, before: &[u64], i: usize, ends: Range<usize>) -> usize
+    requires after { i < ends.start }
+    requires some { ends.start < ends.end }
+    requires within { ends.end ≤ places spans.now.counts spans.now.step + 1 }
+    ensures listed { (ends.start ≤ result) × (result < ends.end) }
+    ensures least { (j : ℕ) → ends.start ≤ j → j < ends.end
+        → edge_bound spans.now before.now i result ≤ edge_bound spans.now before.now i j }
+{
+    let mut end = ends.start;
+    let mut least = edge_bound(spans, before, i, end);
+    for j in ends.start + 1..ends.end {
+        let bound = edge_bound(spans, before, i, j);
+        if bound < least {
+            end = j;
+            least = bound;
+        }
+    }
+    end
+}
+
+// the most that a number at place `i` may be by its edge to place `j`
+fn edge_bound(spans: &Spans, before: &[u64], i: usize, j: usize) -> u128
+    requires order { i < j }
+    requires within { j ≤ places spans.now.counts spans.now.step }
+    ensures { result ≡ edge_bound spans.now before.now i j }
+{
+    u128::from(spans.waste(i, j)) + u128::from(number_in(before, j))
+}
+
+// the number of a row at a place, and 0 past its end
+fn number_in(row: &[u64], place: usize) -> u64
+    ensures { result ≡ slice_index row.now place }
+{
+    row.get(place).copied().unwrap_or(0)
+}

@@ -1,0 +1,134 @@
+-- What putting a slot behind a queue, and taking one off its front, make of it.
+use Rattle.std.proofs.Common.{◌≡◌, ◌≢◌, ◌⊎◌, ℕ, zero, suc, ◌+◌, ◌-◌, ◌<◌, ◌≤◌, List, [], ◌∷◌, ◌++◌, length, get_or, drop, refl, sym, ap, ◌∙◌, subst, inl, inr, ⊎_elim, arith}
+use Rattle.std.specs.Prelude.{All, Contains}
+use Rattle.std.proofs.lemmas.List.Elements.{Contains-get_or}
+use Rattle.std.proofs.lemmas.List.Sums.{sum_by-cons, sum_by_push}
+use Rattle.machine_theory.specs.Memory.{Granule}
+use Rattle.class_table.specs.Layout.{Partition, block_bytes, slot_count, slot_of}
+use Rattle.heap_theory.specs.HeaderLaws.{EachSlotOnce, LastSlotEnds, LinksStay, PutBehind, PutBehindIsLast}
+use Rattle.heap_theory.specs.Links.{IsLinked, last_link, next_in}
+use Rattle.quarantine_core.specs.Links.{SetsLink}
+use Rattle.quarantine_core.specs.Queue.{Queue, AreQueued, bytes_of}
+
+-- ---- what a list contains
+
+first_or_behind : (x : ℕ) (xs : List ℕ) (y : ℕ) → Contains (x ∷ xs) y → (x ≡ y) ⊎ Contains xs y
+first_or_behind x xs y there = at there.0 there.1 there.2
+  where
+    at : (k : ℕ) → k < length (x ∷ xs) → get_or (x ∷ xs) k y ≡ y → (x ≡ y) ⊎ Contains xs y
+    at zero within is = inl is
+    at (suc k) within is = inr (k, omega arith, is)
+
+behind : (x : ℕ) (xs : List ℕ) (y : ℕ) → Contains xs y → Contains (x ∷ xs) y
+behind x xs y there = (suc there.0, omega (arith, there.1), there.2)
+
+-- what a list contains with one element more
+last_or_before : (xs : List ℕ) (x y : ℕ) → Contains (xs ++ x ∷ []) y → (x ≡ y) ⊎ Contains xs y
+last_or_before [] x y there = first_or_behind x [] y there
+last_or_before (z ∷ zs) x y there =
+    ⊎_elim (λ is. inr (0, omega arith, is)) (λ more. ⊎_elim inl (λ before. inr (behind z zs y before)) (last_or_before zs x y more))
+    (first_or_behind z (zs ++ x ∷ []) y there)
+
+-- ---- a slot is put in
+
+-- a list whose last link is 0 has no slot
+no_last : (queue : List ℕ) → last_link queue ≡ 0 → queue ≡ []
+no_last [] is = refl
+no_last (s ∷ []) is = absurd (omega (arith, is))
+no_last (s ∷ r ∷ rest) is = absurd (some r rest is)
+  where
+    some : (r : ℕ) (rest : List ℕ) → last_link (r ∷ rest) ≡ 0 → ⊥
+    some r [] is = omega (arith, is)
+    some r (q ∷ more) is = some q more is
+
+-- the last slot is of the layout
+pub last_within : (value : Queue) (layout : Partition) (memory : List Granule) (queue : List ℕ) → AreQueued value layout memory queue → value.back ≢ 0 →
+    value.back - 1 < slot_count layout
+last_within value layout memory queue old some = subst (λ last. last - 1 < slot_count layout) (sym old.back) (last_in queue (λ k d at. old.slots (get_or queue k d) (Contains-get_or queue k d at)) (λ none. some (old.back ∙ none)))
+  where
+    last_in : (slots : List ℕ) → All (λ s. s < slot_count layout) slots → last_link slots ≢ 0 → last_link slots - 1 < slot_count layout
+    last_in [] within some = absurd (some refl)
+    last_in (s ∷ []) within some = let first : s < slot_count layout = within 0 s (omega arith) in omega arith
+    last_in (s ∷ r ∷ rest) within some = last_in (r ∷ rest) (λ k d at. within (suc k) d (omega arith)) some
+
+pub put_first : (value new : Queue) (layout : Partition) (memory : List Granule) (queue : List ℕ) (slot bytes : ℕ) →
+    AreQueued value layout memory queue → value.back ≡ 0 → slot < slot_count layout → next_in layout memory slot ≡ 0 → bytes ≡ block_bytes (slot_of layout slot) →
+    new.front ≡ suc slot → new.back ≡ suc slot → new.held ≡ value.held + bytes → AreQueued new layout memory (queue ++ slot ∷ [])
+put_first value new layout memory queue slot bytes old none within ends is front back held =
+    let empty : queue ≡ [] = no_last queue (sym old.back ∙ none) in
+    let alone : bytes_of layout queue ≡ 0 = ap (bytes_of layout) empty in
+    subst (λ q. AreQueued new layout memory (q ++ slot ∷ [])) (sym empty)
+    (record {
+      slots = λ s there. ⊎_elim (λ same. subst (λ n. n < slot_count layout) same within) (λ none. absurd (omega (arith, none.1))) (first_or_behind slot [] s there);
+      linked = (front, ends);
+      back = back;
+      held = held ∙ omega (arith, old.held, alone, is);
+    })
+
+pub put_behind : PutBehind → PutBehindIsLast → LastSlotEnds → (value new : Queue) (layout : Partition) (memory after : List Granule) (queue : List ℕ) (last slot next bytes : ℕ) →
+    AreQueued value layout memory queue → value.back ≡ suc last → SetsLink layout memory after last next → next ≡ suc slot →
+    slot < slot_count layout → (Contains queue slot → ⊥) → next_in layout memory slot ≡ 0 → bytes ≡ block_bytes (slot_of layout slot) →
+    new.front ≡ value.front → new.back ≡ suc slot → new.held ≡ value.held + bytes → AreQueued new layout after (queue ++ slot ∷ [])
+put_behind behind is_last ends_at value new layout memory after queue last slot next bytes old some link to within outside ends is front back held = record {
+  slots = λ s there. ⊎_elim (λ same. subst (λ n. n < slot_count layout) same within) (old.slots s) (last_or_before queue slot s there);
+  linked =
+      subst (λ f. IsLinked (next_in layout after) f (queue ++ slot ∷ [])) (sym front)
+      (behind (next_in layout memory) (next_in layout after) value.front last slot queue old.linked (sym old.back ∙ some)
+      (λ r there other. link.links r (old.slots r there) other)
+      (link.own ∙ to)
+      (link.links slot within another ∙ ends));
+  back = back ∙ sym (is_last queue slot);
+  held = held ∙ omega (arith, old.held, is, sum_by_push (λ s. block_bytes (slot_of layout s)) queue slot);
+}
+  where
+    in_queue : Contains queue last
+    in_queue = (ends_at (next_in layout memory) value.front last queue old.linked (sym old.back ∙ some)).0
+
+    another : slot ≢ last
+    another same = outside (subst (Contains queue) (sym same) in_queue)
+
+-- ---- a slot is taken off
+
+-- a queue of some bytes has a first slot
+pub some_held : (value : Queue) (layout : Partition) (memory : List Granule) (queue : List ℕ) → AreQueued value layout memory queue → 0 < value.held →
+    queue ≡ (value.front - 1) ∷ drop 1 queue
+some_held value layout memory [] old some = absurd (omega (arith, old.held))
+some_held value layout memory (s ∷ rest) old some = let front : s ≡ value.front - 1 = omega (arith, old.linked.0) in ap (λ r. r ∷ rest) front
+
+-- which is of the layout
+pub first_within : (value : Queue) (layout : Partition) (memory : List Granule) (queue : List ℕ) → AreQueued value layout memory queue → 0 < value.held →
+    (1 ≤ value.front) × (value.front - 1 < slot_count layout)
+first_within value layout memory [] old some = absurd (omega (arith, old.held))
+first_within value layout memory (s ∷ rest) old some =
+    let within : s < slot_count layout = old.slots s (0, omega arith, refl) in
+    (omega (arith, old.linked.0), omega (arith, old.linked.0))
+
+pub take_oldest : EachSlotOnce → LinksStay → (value new : Queue) (layout : Partition) (memory after : List Granule) (slot next : ℕ) (queue : List ℕ) →
+    AreQueued value layout memory (slot ∷ queue) → SetsLink layout memory after slot 0 → next ≡ next_in layout memory slot →
+    new.front ≡ next → (next ≡ 0 → new.back ≡ 0) → (next ≢ 0 → new.back ≡ value.back) →
+    new.held + block_bytes (slot_of layout slot) ≡ value.held → AreQueued new layout after queue
+take_oldest once stay value new layout memory after slot next queue old link is front none some held = record {
+  slots = λ s there. old.slots s (behind slot queue s there);
+  linked =
+      subst (λ f. IsLinked (next_in layout after) f queue) (sym (front ∙ is))
+      (stay (next_in layout memory) (next_in layout after) (next_in layout memory slot) queue same old.linked.1);
+  back = back queue old.linked.1 old.back;
+  held = omega (arith, old.held, held, sum_by-cons (λ s. block_bytes (slot_of layout s)) slot queue);
+}
+  where
+    same : (r : ℕ) → Contains queue r → next_in layout after r ≡ next_in layout memory r
+    same r there =
+        link.links r (old.slots r (behind slot queue r there))
+        (λ is. once (next_in layout memory) value.front (slot ∷ queue) old.linked 0 (suc there.0) r (omega arith) (omega (arith, there.1)) (sym (there.2 ∙ is)))
+
+    back : (queue : List ℕ) → IsLinked (next_in layout memory) (next_in layout memory slot) queue → value.back ≡ last_link (slot ∷ queue) → new.back ≡ last_link queue
+    back [] linked last = none (is ∙ linked)
+    back (r ∷ rest) linked last = some (λ zero. omega (arith, linked.0)) ∙ last
+
+-- the first slot's block is among the bytes that are held
+pub oldest_held : (value : Queue) (layout : Partition) (memory : List Granule) (queue : List ℕ) (front bytes held : ℕ) →
+    AreQueued value layout memory queue → 0 < value.held → front ≡ value.front → bytes ≡ block_bytes (slot_of layout (front - 1)) → held ≡ value.held → bytes ≤ held
+oldest_held value layout memory queue front bytes held old some is block all =
+    let first : queue ≡ (front - 1) ∷ drop 1 queue = subst (λ f. queue ≡ (f - 1) ∷ drop 1 queue) (sym is) (some_held value layout memory queue old some) in
+    let sum : bytes_of layout queue ≡ bytes_of layout ((front - 1) ∷ drop 1 queue) = ap (bytes_of layout) first in
+    omega (arith, old.held, sum, block, all, sum_by-cons (λ s. block_bytes (slot_of layout s)) (front - 1) (drop 1 queue))

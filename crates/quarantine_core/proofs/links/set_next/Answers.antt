@@ -1,0 +1,12 @@
+use Rattle.quarantine_core.proofs.Linked.{link_set}
+use Rattle.quarantine_core.proofs.links.set_next.Goals as goal
+
+pub returns-clause-link : goal.returns-clause-link
+returns-clause-link c =
+    link_set c.law_links_in_headers.ensures.others c.law_links.ensures.stay c.args.layout.now c.args.memory.now c.set_next.new.memory c.args.slot c.args.next
+    c.granules-2.ensures.partition c.requires.slot
+    (rw (← c.start.ensures.start) c.set_next.ensures.written)
+    (rw (← c.start.ensures.start) c.set_next.ensures.read)
+    (rw (← c.start.ensures.start) c.set_next.ensures.headers)
+    (rw (← c.start.ensures.start) c.set_next.ensures.others)
+    c.set_next.ensures.memory

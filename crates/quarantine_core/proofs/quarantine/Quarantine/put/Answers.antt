@@ -1,0 +1,40 @@
+use Rattle.std.proofs.Common.{◌≡◌, ◌≢◌, ◌+◌, ◌-◌, ◌<◌, arith, sym, ap, ◌∙◌, subst}
+use Rattle.class_table.specs.Layout.{slot_count}
+use Rattle.quarantine_core.proofs.Queued.{last_within, put_first, put_behind}
+use Rattle.quarantine_core.proofs.quarantine.Quarantine.put.Goals as goal
+use Rattle.quarantine_core.proofs.quarantine.Quarantine.put.Goals.{then-self-eq0, else-self-eq0}
+
+pub set_next-requires-clause-slot : goal.set_next-requires-clause-slot
+set_next-requires-clause-slot c =
+    let same : c.self.inside.back ≡ c.args.self.now.back = ap (λ q. q.back) c.self.view_is in
+    let some : c.args.self.now.back ≢ 0 = λ none. c.if-self-eq0.false (same ∙ none) in
+    subst (λ back. back - 1 < slot_count c.args.layout.now) (sym same)
+    (last_within c.args.self.now c.args.layout.now c.args.memory.now c.requires.linked.0 c.requires.linked.1 some)
+
+pub returns-clause-queued : goal.returns-clause-queued
+returns-clause-queued c = λ queue old.
+    let front : c.self.inside.front ≡ c.args.self.now.front = ap (λ q. q.front) c.self.view_is in
+    let back : c.args.self.now.back ≡ c.self.inside.back = sym (ap (λ q. q.back) c.self.view_is) in
+    let held : c.self.inside.held + c.from.result ≡ c.args.self.now.held + c.args.bytes = omega (arith, ap (λ q. q.held) c.self.view_is, c.from.ensures) in
+    elim c.if-self-eq0.branch [
+      | then-self-eq0 w ↦
+          rw (w.self-inside-is, w.memory-is)
+          (put_first c.args.self.now _ c.args.layout.now c.args.memory.now queue c.args.slot c.args.bytes old (back ∙ w.if-self-eq0.true)
+          c.requires.slot c.requires.next c.requires.bytes (omega arith) (omega arith) held)
+      | else-self-eq0 w ↦
+          rw (w.self-inside-is, w.memory-is)
+          (put_behind c.law_links.ensures.behind c.law_links.ensures.last c.law_links.ensures.ends
+          c.args.self.now _ c.args.layout.now c.args.memory.now w.set_next.new.memory queue (c.self.inside.back - 1) c.args.slot (c.args.slot + 1) c.args.bytes old
+          (omega (arith, back, w.if-self-eq0.false)) w.set_next.ensures.link (omega arith) c.requires.slot (c.requires.outside queue old) c.requires.next c.requires.bytes
+          front (omega arith) held)
+    ]
+
+pub returns-clause-lists : goal.returns-clause-lists
+returns-clause-lists c = λ front list within outside linked.
+    let back : c.args.self.now.back ≡ c.self.inside.back = sym (ap (λ q. q.back) c.self.view_is) in
+    elim c.if-self-eq0.branch [
+      | then-self-eq0 w ↦ rw w.memory-is linked
+      | else-self-eq0 w ↦
+          rw w.memory-is
+          (w.set_next.ensures.link.lists front list within (λ there. outside (c.self.inside.back - 1) there (omega (arith, back, w.if-self-eq0.false))) linked)
+    ]

@@ -1,0 +1,30 @@
+//! What is true of the quarantine's queue, each law the contract of a function that does nothing.
+//! A crate above uses a law by calling its function: the call costs nothing, and its `ensures` are facts from there on.
+ghost use Rattle.quarantine_core.specs.QueueLaws.{
+  NothingIsQueued,
+  OneQueueIsShown,
+  OtherBytesKeepQueue,
+  OtherFieldsKeepQueue,
+  OtherHeadersKeepQueue,
+  QueueIsShort,
+  QueueStays,
+  TagsKeepQueue,
+};
+
+use heap_theory::laws::headers::{law_header, law_links, law_links_in_headers};
+
+/// The links show one queue, which ends, and it stays under each change that leaves the links of its slots.
+pub fn law_queue()
+    ensures empty { NothingIsQueued }
+    ensures one { OneQueueIsShown }
+    ensures short { QueueIsShort }
+    ensures links { QueueStays }
+    ensures tags { TagsKeepQueue }
+    ensures bytes { OtherBytesKeepQueue }
+    ensures headers { OtherHeadersKeepQueue }
+    ensures fields { OtherFieldsKeepQueue }
+{
+    law_header();
+    law_links();
+    law_links_in_headers();
+}

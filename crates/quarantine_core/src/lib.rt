@@ -1,0 +1,10 @@
+//! The quarantine: freed slots that are held back from reuse, the one freed first let go first, in a queue that is linked through
+//! the slots' own headers.
+//! A body that begins with the call of a law cites that law in its proof; the call does nothing.
+#![tactic(auto)]
+
+pub mod laws;
+mod links;
+mod quarantine;
+
+pub use quarantine::Quarantine;

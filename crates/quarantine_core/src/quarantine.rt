@@ -1,0 +1,146 @@
+ghost use Rattle.class_table.specs.Layout.{block_bytes, slot_count, slot_of};
+ghost use Rattle.heap_theory.specs.Links.{IsLinked, next_in};
+ghost use Rattle.machine_theory.specs.Memory.{Granule};
+ghost use Rattle.quarantine_core.specs.Links.{SetsLink};
+ghost use Rattle.quarantine_core.specs.Queue.{
+  AreQueued,
+  IsOutside,
+  LinksStand,
+  with_newest,
+  without_oldest,
+};
+ghost use Rattle.std.specs.Prelude.{◌≡◌, ◌≢◌, ◌↔◌, ◌+◌, ◌<◌, [], ◌∷◌, ◌++◌, drop, length, suc, Contains, IfNone, IfSome, IsSome, List, ℕ};
+
+use crate::links::{blocks_are_few, next, set_next};
+use class_table::Layout;
+use granule_memory::Memory;
+use heap_theory::laws::headers::law_links;
+use std::marker::Model;
+
+/// Freed slots that are held back, oldest first, with the bytes of their blocks. Their queue stands in the slots' own headers: each
+/// one's link names the slot that was put in after it, and the last one's is 0. It takes no memory, and each call takes the same time
+/// however many slots there are.
+///
+/// Each call wants the memory and the layout whose headers the links stand in; the layout was made for the memory's granules.
+#[derive(Debug, Drop)]
+pub struct Quarantine {
+    front: u32,
+    back: u32,
+    held: u64,
+    limit: u32,
+}
+
+impl Model for Quarantine {
+    ghost use Rattle.quarantine_core.specs.Queue.{Queue};
+
+    ghost Value = { Queue };
+
+    ghost view = { λ q. record { front = q.front; back = q.back; held = q.held; limit = q.limit } };
+}
+
+impl Quarantine {
+    /// A quarantine of no slots of a layout, which lets go of none while the blocks in it have at most `limit` bytes.
+    pub fn new(_layout: &Layout, limit: u32) -> Quarantine
+        ensures value { result ≡ record { front = 0; back = 0; held = 0; limit = limit } }
+        ensures queued { (memory : List Granule) → AreQueued result _layout.now memory [] }
+    {
+        Quarantine {
+            front: 0,
+            back: 0,
+            held: 0,
+            limit,
+        }
+    }
+
+    /// The bytes of the blocks in it.
+    pub fn held_bytes(&self) -> u64
+        ensures { result ≡ self.now.held }
+    {
+        self.held
+    }
+
+    /// Puts a slot of the layout in, behind all others; its block has so many bytes. It is not in it yet, and its link is 0.
+    /// Of the memory only the link of the slot that was put in before it changes.
+    pub fn put(&mut self, memory: &mut Memory, layout: &Layout, slot: u32, bytes: u32)
+        requires region { length memory.old ≡ layout.now.granules }
+        requires linked { LinksStand self.old layout.now memory.old }
+        requires slot { slot < slot_count layout.now }
+        requires outside { IsOutside self.old layout.now memory.old slot }
+        requires next { next_in layout.now memory.old slot ≡ 0 }
+        requires bytes { bytes ≡ block_bytes (slot_of layout.now slot) }
+        ensures queued { (queue : List ℕ) → AreQueued self.old layout.now memory.old queue → AreQueued self.new layout.now memory.new (queue ++ slot ∷ []) }
+        ensures value { self.new ≡ with_newest self.old slot bytes }
+
+        // what changes of the memory
+        ensures first { self.old.back ≡ 0 → memory.new ≡ memory.old }
+        ensures behind { (last : ℕ) → self.old.back ≡ suc last → SetsLink layout.now memory.old memory.new last (suc slot) }
+        ensures lists { (front : ℕ) (list : List ℕ) → ((s : ℕ) → Contains list s → s < slot_count layout.now) → ((s : ℕ) → Contains list s → self.old.back ≢ suc s) →
+            IsLinked (next_in layout.now memory.old) front list → IsLinked (next_in layout.now memory.new) front list }
+        ensures region { length memory.new ≡ layout.now.granules }
+    {
+        law_links();
+        blocks_are_few(layout);
+        if self.back == 0 {
+            self.front = slot + 1;
+        } else {
+            set_next(memory, layout, self.back - 1, slot + 1);
+        }
+        self.back = slot + 1;
+        self.held += u64::from(bytes);
+    }
+
+    /// Takes the slot off that was put in first, exactly where the blocks have more bytes than the limit; else it gives none and changes
+    /// nothing. Of the memory only the slot's own link changes: it is 0 from then on.
+    pub fn next_out(&mut self, memory: &mut Memory, layout: &Layout) -> Option<u32>
+        requires region { length memory.old ≡ layout.now.granules }
+        requires linked { LinksStand self.old layout.now memory.old }
+        ensures over { IsSome result ↔ (self.old.limit < self.old.held) }
+
+        // nothing is let go
+        ensures same { IfNone result (self.new ≡ self.old) }
+        ensures untouched { IfNone result (memory.new ≡ memory.old) }
+
+        // the oldest is
+        ensures slot { IfSome result (λ slot. slot < slot_count layout.now) }
+        ensures oldest { IfSome result (λ slot. (queue : List ℕ) → AreQueued self.old layout.now memory.old queue → queue ≡ slot ∷ drop 1 queue) }
+        ensures queued { IfSome
+            result
+            (λ slot.
+            (queue : List ℕ) → AreQueued self.old layout.now memory.old (slot ∷ queue) → AreQueued self.new layout.now memory.new queue) }
+        ensures value { IfSome
+            result
+            (λ slot. self.new ≡ without_oldest self.old (next_in layout.now memory.old slot) (block_bytes (slot_of layout.now slot))) }
+        ensures held { IfSome result (λ slot. self.new.held + block_bytes (slot_of layout.now slot) ≡ self.old.held) }
+        ensures link { IfSome result (λ slot. SetsLink layout.now memory.old memory.new slot 0) }
+        ensures region { length memory.new ≡ layout.now.granules }
+    {
+        if self.held <= u64::from(self.limit) {
+            return None;
+        }
+        Some(self.take_oldest(memory, layout))
+    }
+
+    // takes the slot off that was put in first, where some bytes are held
+    fn take_oldest(&mut self, memory: &mut Memory, layout: &Layout) -> u32
+        requires region { length memory.old ≡ layout.now.granules }
+        requires linked { LinksStand self.old layout.now memory.old }
+        requires some { 0 < self.old.held }
+        ensures slot { result < slot_count layout.now }
+        ensures oldest { (queue : List ℕ) → AreQueued self.old layout.now memory.old queue → queue ≡ result ∷ drop 1 queue }
+        ensures queued { (queue : List ℕ) → AreQueued self.old layout.now memory.old (result ∷ queue) → AreQueued self.new layout.now memory.new queue }
+        ensures value { self.new ≡ without_oldest self.old (next_in layout.now memory.old result) (block_bytes (slot_of layout.now result)) }
+        ensures held { self.new.held + block_bytes (slot_of layout.now result) ≡ self.old.held }
+        ensures link { SetsLink layout.now memory.old memory.new result 0 }
+        ensures region { length memory.new ≡ layout.now.granules }
+    {
+        law_links();
+        let slot = self.front - 1;
+        self.held -= u64::from(layout.bytes(slot));
+        self.front = next(memory, layout, slot);
+        if self.front == 0 {
+            self.back = 0;
+        }
+        set_next(memory, layout, slot, 0);
+        slot
+    }
+}
