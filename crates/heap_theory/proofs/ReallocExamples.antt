@@ -6,9 +6,8 @@ use Rattle.heap_theory.specs.declared.event.Event.TheVariants.{Malloc, Realloc, 
 use Rattle.heap_theory.specs.declared.fault.FreeError.TheVariants.{NotLive}
 use Rattle.heap_theory.specs.declared.fault.NullCause.TheVariants.{NoClass, Exhausted}
 use Rattle.heap_theory.specs.declared.place.PlaceKind.TheVariants.{Tail, Dead as DeadChunk}
-use Rattle.heap_theory.specs.Header.{Header, first_word, header_for}
+use Rattle.heap_theory.specs.Header.{first_word, header_for}
 use Rattle.heap_theory.specs.Header.Standing.{Quarantined, Freed}
-use Rattle.heap_theory.specs.Header.Standing.{Live as LiveSlot}
 use Rattle.heap_theory.specs.Run.Answer.{Silent, Loaded, TagFault, NoPointer, NotFreed}
 use Rattle.heap_theory.proofs.Shown.{shown, heap_of, totals}
 use Rattle.class_table.specs.Layout.{slots_of_classes, slots_of}
@@ -48,11 +47,11 @@ pointer_is_judged_before_the_size = refl
 
 -- ---- headers
 
-abbrev header : Header
-header = record { standing = LiveSlot; size = 16; tag = 1; class = 0; next = 0; mark = 0 }
-
--- the first word of a slot's header through its life
-words_of_a_life : (first_word header ≡ 65601) × (first_word (record header { standing = Quarantined }) ≡ 65602) × (first_word (record header { standing = Freed }) ≡ 65603)
+-- the first word of the header of slot 0 while its chunk of 16 bytes is live, once it is in the quarantine, and where nothing is held back
+words_of_a_life : (first_word (header_for (heap_of (2 ∷ 4 ∷ []) 64 (Malloc 1 16 ∷ [])) 0 0) ≡ 65601)
+    × (first_word (header_for (heap_of (2 ∷ 4 ∷ []) 64 (Malloc 1 16 ∷ Free 1 ∷ [])) 0 0) ≡ 65602)
+    × (first_word (header_for (heap_of (2 ∷ 4 ∷ []) 0 (Malloc 1 16 ∷ Free 1 ∷ [])) 0 0) ≡ 65603)
+unfolding heap_of header_for slots_of slots_of_classes
 words_of_a_life = (refl, refl, refl)
 
 -- three blocks of 32 bytes were freed, and the quarantine holds 64 bytes

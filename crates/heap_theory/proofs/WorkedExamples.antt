@@ -18,6 +18,18 @@ header_neighbour_and_dead_chunk_fault :
 unfolding shown
 header_neighbour_and_dead_chunk_fault = refl
 
+one_class_for_both_sizes :
+    shown (2 ∷ []) 64 (Malloc 1 16 ∷ Store 1 (pos 16) 1 0xaa ∷ Malloc 2 0 ∷ Load 1 (pos 32) 1 ∷ Free 1 ∷ Load 1 (pos 0) 1 ∷ [])
+    ≡ (Silent ∷ TagFault 2 0 1 Header ∷ Silent ∷ TagFault 3 2 1 Other ∷ Silent ∷ TagFault 1 3 1 Dead ∷ [], totals 6 2 0 0 0 3 0 0 16)
+unfolding shown
+one_class_for_both_sizes = refl
+
+larger_class_has_a_tail :
+    shown (4 ∷ []) 64 (Malloc 1 16 ∷ Store 1 (pos 16) 1 0xaa ∷ Malloc 2 0 ∷ Load 1 (pos 32) 1 ∷ Free 1 ∷ Load 1 (pos 0) 1 ∷ [])
+    ≡ (Silent ∷ TagFault 2 0 1 Tail ∷ Silent ∷ TagFault 3 0 1 Tail ∷ Silent ∷ TagFault 1 3 1 Dead ∷ [], totals 6 2 0 0 0 3 0 0 80)
+unfolding shown
+larger_class_has_a_tail = refl
+
 quarantine_releases_past_its_limit :
     shown (2 ∷ []) 64 (Malloc 1 16 ∷ Malloc 2 16 ∷ Malloc 3 16 ∷ Free 1 ∷ Free 2 ∷ Malloc 4 16 ∷ Free 3 ∷ Malloc 5 16 ∷ Load 1 (pos 0) 1 ∷ [])
     ≡ (replicate 8 Silent ++ TagFault 1 3 1 Other ∷ [], totals 9 5 0 0 0 1 0 0 0)

@@ -84,7 +84,7 @@ abbrev pub loss_of_request : List ℕ → Option ℕ → ℕ
 loss_of_request classes None = 0
 loss_of_request classes (Some n) = loss_of_size classes n
 
--- only a request that was not refused is silent
+-- a request is silent exactly where it was not refused; other events lose nothing
 abbrev pub loss_of_event : List ℕ → Event × Answer → ℕ
 loss_of_event classes p = if is_silent p.1 then loss_of_request classes (request_size p.0) else 0
 

@@ -6,3 +6,4 @@ mod score_texts;
 mod streams_failing;
 mod support;
 mod tune_texts;
+mod verdicts;

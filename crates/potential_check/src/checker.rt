@@ -63,6 +63,3 @@ fn fits_step(sheet: &Sheet) -> bool
 {
     matches!(sheet.step, 1 | 2 | 4 | 8) && sheet.table.fits(sheet.step)
 }
-
-#[cfg(test)]
-mod tests;

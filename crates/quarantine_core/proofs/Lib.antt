@@ -1,3 +1,4 @@
 pub mod Blocks
+pub mod LetGo
 pub mod Linked
 pub mod Queued

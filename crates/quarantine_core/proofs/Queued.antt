@@ -12,18 +12,18 @@ use Rattle.quarantine_core.specs.Queue.{Queue, AreQueued, bytes_of}
 
 -- ---- what a list contains
 
-first_or_behind : (x : ℕ) (xs : List ℕ) (y : ℕ) → Contains (x ∷ xs) y → (x ≡ y) ⊎ Contains xs y
+pub first_or_behind : (x : ℕ) (xs : List ℕ) (y : ℕ) → Contains (x ∷ xs) y → (x ≡ y) ⊎ Contains xs y
 first_or_behind x xs y there = at there.0 there.1 there.2
   where
     at : (k : ℕ) → k < length (x ∷ xs) → get_or (x ∷ xs) k y ≡ y → (x ≡ y) ⊎ Contains xs y
     at zero within is = inl is
     at (suc k) within is = inr (k, omega arith, is)
 
-behind : (x : ℕ) (xs : List ℕ) (y : ℕ) → Contains xs y → Contains (x ∷ xs) y
+pub behind : (x : ℕ) (xs : List ℕ) (y : ℕ) → Contains xs y → Contains (x ∷ xs) y
 behind x xs y there = (suc there.0, omega (arith, there.1), there.2)
 
 -- what a list contains with one element more
-last_or_before : (xs : List ℕ) (x y : ℕ) → Contains (xs ++ x ∷ []) y → (x ≡ y) ⊎ Contains xs y
+pub last_or_before : (xs : List ℕ) (x y : ℕ) → Contains (xs ++ x ∷ []) y → (x ≡ y) ⊎ Contains xs y
 last_or_before [] x y there = first_or_behind x [] y there
 last_or_before (z ∷ zs) x y there =
     ⊎_elim (λ is. inr (0, omega arith, is)) (λ more. ⊎_elim inl (λ before. inr (behind z zs y before)) (last_or_before zs x y more))

@@ -8,3 +8,6 @@ mod links;
 mod quarantine;
 
 pub use quarantine::Quarantine;
+
+#[cfg(test)]
+mod tests;

@@ -69,6 +69,7 @@ impl Quarantine {
         requires next { next_in layout.now memory.old slot ≡ 0 }
         requires bytes { bytes ≡ block_bytes (slot_of layout.now slot) }
         ensures queued { (queue : List ℕ) → AreQueued self.old layout.now memory.old queue → AreQueued self.new layout.now memory.new (queue ++ slot ∷ []) }
+        ensures linked { LinksStand self.new layout.now memory.new }
         ensures value { self.new ≡ with_newest self.old slot bytes }
 
         // what changes of the memory
@@ -95,6 +96,7 @@ impl Quarantine {
         requires region { length memory.old ≡ layout.now.granules }
         requires linked { LinksStand self.old layout.now memory.old }
         ensures over { IsSome result ↔ (self.old.limit < self.old.held) }
+        ensures linked { LinksStand self.new layout.now memory.new }
 
         // nothing is let go
         ensures same { IfNone result (self.new ≡ self.old) }
@@ -128,6 +130,7 @@ impl Quarantine {
         ensures slot { result < slot_count layout.now }
         ensures oldest { (queue : List ℕ) → AreQueued self.old layout.now memory.old queue → queue ≡ result ∷ drop 1 queue }
         ensures queued { (queue : List ℕ) → AreQueued self.old layout.now memory.old (result ∷ queue) → AreQueued self.new layout.now memory.new queue }
+        ensures linked { LinksStand self.new layout.now memory.new }
         ensures value { self.new ≡ without_oldest self.old (next_in layout.now memory.old result) (block_bytes (slot_of layout.now result)) }
         ensures held { self.new.held + block_bytes (slot_of layout.now result) ≡ self.old.held }
         ensures link { SetsLink layout.now memory.old memory.new result 0 }

@@ -1,4 +1,4 @@
-use Rattle.std.proofs.Common.{◌≡◌, ◌≢◌, ◌+◌, ◌-◌, ◌<◌, arith, sym, ap, ◌∙◌, subst}
+use Rattle.std.proofs.Common.{◌≡◌, ◌≢◌, ◌+◌, ◌-◌, ◌<◌, [], ◌∷◌, ◌++◌, arith, sym, ap, ◌∙◌, subst}
 use Rattle.class_table.specs.Layout.{slot_count}
 use Rattle.quarantine_core.proofs.Queued.{last_within, put_first, put_behind}
 use Rattle.quarantine_core.proofs.quarantine.Quarantine.put.Goals as goal
@@ -38,3 +38,6 @@ returns-clause-lists c = λ front list within outside linked.
           rw w.memory-is
           (w.set_next.ensures.link.lists front list within (λ there. outside (c.self.inside.back - 1) there (omega (arith, back, w.if-self-eq0.false))) linked)
     ]
+
+pub returns-clause-linked : goal.returns-clause-linked
+returns-clause-linked c = (c.requires.linked.0 ++ c.args.slot ∷ [], returns-clause-queued c c.requires.linked.0 c.requires.linked.1)

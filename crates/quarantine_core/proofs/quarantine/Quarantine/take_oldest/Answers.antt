@@ -1,6 +1,7 @@
-use Rattle.std.proofs.Common.{◌≡◌, ◌-◌, ◌≤◌, arith, ap, ◌∙◌}
+use Rattle.std.proofs.Common.{◌∷◌, drop, sym, subst, ◌≡◌, ◌-◌, ◌≤◌, arith, ap, ◌∙◌}
 use Rattle.class_table.specs.Layout.{block_bytes, slot_of}
-use Rattle.quarantine_core.proofs.Queued.{first_within, oldest_held, take_oldest}
+use Rattle.quarantine_core.specs.Queue.{AreQueued}
+use Rattle.quarantine_core.proofs.Queued.{first_within, oldest_held, some_held, take_oldest}
 use Rattle.quarantine_core.proofs.quarantine.Quarantine.take_oldest.Goals as goal
 use Rattle.quarantine_core.proofs.quarantine.Quarantine.take_oldest.Goals.{then-self-eq0, else-self-eq0}
 
@@ -50,3 +51,12 @@ returns-clause-queued c = λ queue old.
           (c.self.inside.front - 1) c.next-self-inside.result queue old c.set_next.ensures.link c.next-self-inside.ensures
           (omega arith) (λ zero. absurd (w.if-self-eq0.false zero)) (λ other. ap (λ q. q.back) c.self.view_is) (omega arith))
     ]
+
+pub returns-clause-linked : goal.returns-clause-linked
+returns-clause-linked c =
+    let old = c.args.self.now in
+    let front : c.args.self.now.front ≡ c.self.inside.front = sym (ap (λ q. q.front) c.self.view_is) in
+    let first : c.requires.linked.0 ≡ (c.self.inside.front - 1) ∷ drop 1 c.requires.linked.0 =
+    subst (λ f. c.requires.linked.0 ≡ (f - 1) ∷ drop 1 c.requires.linked.0) front
+    (some_held old c.args.layout.now c.args.memory.now c.requires.linked.0 c.requires.linked.1 c.requires.some) in
+    (drop 1 c.requires.linked.0, returns-clause-queued c (drop 1 c.requires.linked.0) (subst (AreQueued old c.args.layout.now c.args.memory.now) first c.requires.linked.1))

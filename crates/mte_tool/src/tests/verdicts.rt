@@ -1,6 +1,6 @@
-//! Verdicts on small sheets, worked by hand.
-use crate::{Refusal, Rows, Sheet, Verdict, check};
+//! Verdicts on small sheets, worked by hand; some of them no reader gives.
 use class_table::ClassTable;
+use potential_check::{Refusal, Rows, Sheet, Verdict, check};
 use profile_count::Profile;
 use std::alloc::Global;
 use std::test::Fail;

@@ -1,0 +1,23 @@
+use Rattle.std.proofs.Common.{[], ◌∷◌, ◌++◌, ⊎_elim, arith}
+use Rattle.std.specs.Prelude.{Contains}
+use Rattle.quarantine_core.proofs.LetGo.{was_in}
+use Rattle.quarantine_core.proofs.Queued.{first_or_behind, last_or_before}
+use Rattle.quarantine_core.proofs.tests.quarantine_releases_past_its_limit.Goals as goal
+
+-- what is in the quarantine by then was put in: slots 0 and 1
+pub put-requires-3-clause-outside : goal.put-requires-3-clause-outside
+put-requires-3-clause-outside g c = λ queue is there.
+    let layout = c.new-layout.result in
+    let once = c.next_out.ensures in
+    let twice = c.next_out-2.ensures in
+    let one = c.law_queue.ensures.one in
+    let left = once.linked.0 in
+    let early : Contains left 2 → Contains (0 ∷ []) 2 =
+    was_in one c.put.new.self c.next_out.new.self layout c.put.new.memory c.next_out.new.memory c.next_out.result once.same once.untouched once.oldest once.queued
+    (0 ∷ []) left (c.put.ensures.queued [] (c.new-quarantine.ensures.queued _)) once.linked.1 2 in
+    let late : Contains (left ++ 1 ∷ []) 2 =
+    was_in one c.put-2.new.self c.next_out-2.new.self layout c.put-2.new.memory c.next_out-2.new.memory c.next_out-2.result twice.same twice.untouched twice.oldest twice.queued
+    (left ++ 1 ∷ []) queue (c.put-2.ensures.queued left once.linked.1) is 2 there in
+    ⊎_elim (λ same. omega (arith, same))
+    (λ before. ⊎_elim (λ same. omega (arith, same)) (λ none. omega (arith, none.1)) (first_or_behind 0 [] 2 (early before)))
+    (last_or_before left 1 2 late)

@@ -1,0 +1,84 @@
+-- Bytes that are written and read in parts.
+use Rattle.std.proofs.Common.{◌≡◌, ℕ, zero, suc, ◌+◌, ◌*◌, ◌<◌, ◌≤◌, ◌⊎◌, false, List, [], ◌∷◌, ◌++◌, length, get_or, map, take, drop, replicate, refl, sym, ap, ◌∙◌, subst, inl, inr, arith, min, length-append, length-drop, length-take}
+use Rattle.std.proofs.Math.Seq.{take-append_seam}
+use Rattle.std.specs.List.{range_with_len}
+use Rattle.std.specs.Prelude.{slice_index, nat_le, nat_lt}
+use Rattle.std.proofs.lemmas.Bool.{cases_Bool, and_parts, leb-true, ltb-true, cond-false}
+use Rattle.std.proofs.lemmas.List.{map-append, replicate-append-replicate}
+use Rattle.std.proofs.lemmas.List.FromFn.{fill_by_all, length-map-range_with_len}
+use Rattle.machine_theory.specs.Memory.{Granule, no_granule, granule_at, each_granule, is_among, byte_after, bytes_after, byte_at, bytes_at, written}
+
+none_among : (i j : ℕ) → is_among i 0 j ≡ false
+none_among i j = elim (cases_Bool (is_among i 0 j)) [
+  | inl is ↦
+      let parts = and_parts (nat_le i j) (nat_lt j (i + 0)) is in
+      absurd (omega (arith, leb-true i j parts.0, ltb-true j (i + 0) parts.1))
+  | inr not ↦ not
+]
+
+pub written-none : (i : ℕ) (memory : List Granule) → written i [] memory ≡ memory
+unfolding written each_granule
+written-none i memory = sym (fill_by_all change memory (length memory) no_granule refl same)
+  where
+    change : ℕ → Granule
+    change g = record (granule_at memory g) { bytes = bytes_after i [] g (granule_at memory g).bytes }
+
+    bytes_same : (g : ℕ) (bytes : List ℕ) → bytes ≡ bytes_after i [] g bytes
+    bytes_same g bytes =
+        fill_by_all (λ k. byte_after i [] (16 * g + k) (slice_index bytes k)) bytes (length bytes) 0 refl
+        (λ k within. sym (cond-false (is_among i 0 (16 * g + k)) _ _ (none_among i (16 * g + k))))
+
+    same : (g : ℕ) → g < length memory → get_or memory g no_granule ≡ change g
+    same g within = λ j. record { tag = (granule_at memory g).tag; bytes = bytes_same g (granule_at memory g).bytes j }
+
+pub length-bytes_at : (memory : List Granule) (i len : ℕ) → length (bytes_at memory i len) ≡ len
+unfolding bytes_at
+length-bytes_at memory i len = length-map-range_with_len (λ j. byte_at memory j) i len
+
+pub bytes_at-none : (memory : List Granule) (i : ℕ) → bytes_at memory i 0 ≡ []
+unfolding bytes_at
+bytes_at-none memory i = refl
+
+range-append : (i a b : ℕ) → range_with_len i (a + b) ≡ range_with_len i a ++ range_with_len (i + a) b
+range-append i zero b = let same : 0 + b ≡ b = omega arith in let start : i ≡ i + 0 = omega arith in ap (range_with_len i) same ∙ ap (λ k. range_with_len k b) start
+range-append i (suc a) b =
+    let same : suc a + b ≡ suc (a + b) = omega arith in
+    let start : i + 1 + a ≡ i + suc a = omega arith in
+    ap (range_with_len i) same ∙ ap (λ xs. i ∷ xs) (range-append (i + 1) a b ∙ ap (λ k. range_with_len (i + 1) a ++ range_with_len k b) start)
+
+pub bytes_at-append : (memory : List Granule) (i a b : ℕ) → bytes_at memory i (a + b) ≡ bytes_at memory i a ++ bytes_at memory (i + a) b
+unfolding bytes_at
+bytes_at-append memory i a b = ap (map (λ j. byte_at memory j)) (range-append i a b) ∙ map-append (λ j. byte_at memory j) (range_with_len i a) (range_with_len (i + a) b)
+
+-- one granule more of zeros
+pub zeros_more : (n : ℕ) → replicate {A = ℕ} (16 * n) 0 ++ replicate 16 0 ≡ replicate (16 * (n + 1)) 0
+zeros_more n = replicate-append-replicate (16 * n) 16 0 ∙ ap (λ k. replicate k 0) (let e : 16 * n + 16 ≡ 16 * (n + 1) = omega arith in e)
+
+-- a run of bytes is copied in pieces, by way of a piece of 256 bytes
+module _ (in_parts : (i : ℕ) (a b : List ℕ) (memory : List Granule) → written (i + length a) b (written i a memory) ≡ written i (a ++ b) memory)
+    (other_bytes : (i j len : ℕ) (new : List ℕ) (memory : List Granule) → (j + len ≤ i) ⊎ (i + length new ≤ j) → bytes_at (written i new memory) j len ≡ bytes_at memory j len)
+    (m now new : List Granule) (from to done len count : ℕ) (piece read : List ℕ) (before : now ≡ written to (bytes_at m from done) m) (long : length piece ≡ 256) (few : len ≤ 256)
+    (more : done + len ≤ count) (read_is : read ≡ bytes_at now (from + done) (length (take len piece))) where
+  piece_long : length (take len piece) ≡ len
+  piece_long = length-take len piece ∙ (let e : min len (length piece) ≡ len = omega (arith, long) in e)
+
+  read_long : length read ≡ len
+  read_long = ap length read_is ∙ length-bytes_at now (from + done) (length (take len piece)) ∙ piece_long
+
+  pub copied_long : length (read ++ drop len piece) ≡ 256
+  copied_long = omega (arith, length-append read (drop len piece), length-drop len piece, read_long, long)
+
+  front_is : take len (read ++ drop len piece) ≡ read
+  front_is = subst (λ n. take n (read ++ drop len piece) ≡ read) read_long (take-append_seam read (drop len piece))
+
+  pub copied_more : (from + count ≤ to) ⊎ (to + count ≤ from) → new ≡ written (to + done) (take len (read ++ drop len piece)) now → new ≡ written to (bytes_at m from (done + len)) m
+  copied_more apart is =
+      let done_long : length (bytes_at m from done) ≡ done = length-bytes_at m from done in
+      let outside : (from + done + len ≤ to) ⊎ (to + length (bytes_at m from done) ≤ from + done) = elim apart [ inl before ↦ inl (omega arith) | inr behind ↦ inr (omega (arith, done_long)) ] in
+      let read_old : read ≡ bytes_at m (from + done) len =
+      read_is ∙ ap (bytes_at now (from + done)) piece_long ∙ ap (λ x. bytes_at x (from + done) len) before ∙ other_bytes to (from + done) len (bytes_at m from done) m outside in
+      is ∙ ap (λ bytes. written (to + done) bytes now) (front_is ∙ read_old)
+      ∙ ap (written (to + done) (bytes_at m (from + done) len)) before
+      ∙ ap (λ k. written (to + k) (bytes_at m (from + done) len) (written to (bytes_at m from done) m)) (sym done_long)
+      ∙ in_parts to (bytes_at m from done) (bytes_at m (from + done) len) m
+      ∙ ap (λ bytes. written to bytes m) (sym (bytes_at-append m from done len))

@@ -1,0 +1,60 @@
+use Rattle.std.proofs.Common.{◌≡◌, ap, refl, sym, subst}
+use Rattle.heap_theory.specs.State.{Heap}
+use Rattle.quarantine_core.specs.Queue.{Queue}
+use Rattle.tagged_heap.specs.View.{IsLettingGo}
+use Rattle.tagged_heap.proofs.LettingGo.{region_at, stands_at, list_fits, step_at}
+use Rattle.tagged_heap.proofs.freeing.let_go.Goals as goal
+use Rattle.tagged_heap.proofs.freeing.let_go.Goals.{After-list_freed}
+
+pub next_out-requires-clause-region : goal.next_out-requires-clause-region
+next_out-requires-clause-region c =
+    let some = c.loop-slot.invariant.0 in
+    region_at c.laws_below.ensures some.0 c.args.layout.now some.1 c.loop-slot.memory c.loop-slot.quarantine c.loop-slot.lists some.2
+
+pub next_out-requires-clause-linked : goal.next_out-requires-clause-linked
+next_out-requires-clause-linked c =
+    let some = c.loop-slot.invariant.0 in
+    stands_at c.laws_below.ensures some.0 c.args.layout.now some.1 c.loop-slot.memory c.loop-slot.quarantine c.loop-slot.lists some.2
+
+pub list_freed-requires-clause-class : goal.list_freed-requires-clause-class
+list_freed-requires-clause-class c =
+    let some = c.loop-slot.invariant.0 in
+    (list_fits c.laws_below.ensures some.0 c.args.layout.now some.1 c.loop-slot.memory c.loop-slot.quarantine c.loop-slot.lists some.2 c.next_out.new.memory c.next_out.new.self c.in-Some.slot (record {
+      over = c.in-Some.ensures.over.0 refl;
+      oldest = c.in-Some.ensures.oldest;
+      queued = c.in-Some.ensures.queued;
+      front = ap (λ (q : Queue). q.front) c.in-Some.ensures.value;
+      limit = ap (λ (q : Queue). q.limit) c.in-Some.ensures.value;
+      link = c.in-Some.ensures.link;
+    })).0
+
+pub list_freed-requires-clause-front : goal.list_freed-requires-clause-front
+list_freed-requires-clause-front c =
+    let some = c.loop-slot.invariant.0 in
+    (list_fits c.laws_below.ensures some.0 c.args.layout.now some.1 c.loop-slot.memory c.loop-slot.quarantine c.loop-slot.lists some.2 c.next_out.new.memory c.next_out.new.self c.in-Some.slot (record {
+      over = c.in-Some.ensures.over.0 refl;
+      oldest = c.in-Some.ensures.oldest;
+      queued = c.in-Some.ensures.queued;
+      front = ap (λ (q : Queue). q.front) c.in-Some.ensures.value;
+      limit = ap (λ (q : Queue). q.limit) c.in-Some.ensures.value;
+      link = c.in-Some.ensures.link;
+    })).1
+
+next : (c : After-list_freed) (heap : Heap) → heap.layout ≡ c.args.layout.now → IsLettingGo heap c.loop-slot.memory c.loop-slot.quarantine c.loop-slot.lists →
+    IsLettingGo heap c.list_freed.new.memory c.next_out.new.self c.list_freed.new.lists
+next c heap is g =
+    subst (IsLettingGo heap c.list_freed.new.memory c.next_out.new.self) (sym c.list_freed.ensures.front)
+    (step_at c.laws_below.ensures heap c.args.layout.now is c.loop-slot.memory c.loop-slot.quarantine c.loop-slot.lists g c.next_out.new.memory c.list_freed.new.memory c.next_out.new.self c.in-Some.slot
+    (record {
+      over = c.in-Some.ensures.over.0 refl;
+      oldest = c.in-Some.ensures.oldest;
+      queued = c.in-Some.ensures.queued;
+      front = ap (λ (q : Queue). q.front) c.in-Some.ensures.value;
+      limit = ap (λ (q : Queue). q.limit) c.in-Some.ensures.value;
+      link = c.in-Some.ensures.link;
+    }) c.list_freed.ensures.header c.list_freed.ensures.memory)
+
+pub loop-slot-preserved : goal.loop-slot-preserved
+loop-slot-preserved c =
+    let some = c.loop-slot.invariant.0 in
+    ((some.0, some.1, next c some.0 some.1 some.2), λ heap is g. next c heap is (c.loop-slot.invariant.1 heap is g))

@@ -1,0 +1,37 @@
+-- The chunk that the pointer names decides the answer and the new state; where it names none, nothing changes.
+use Rattle.std.proofs.Common.{◌∙◌, ap}
+use Rattle.std.proofs.lemmas.Result.{err_from_is_err_and}
+use Rattle.tagged_heap.specs.View.{Counted}
+use Rattle.tagged_heap.proofs.CallSteps.{free_null, free_chunk, free_refused}
+use Rattle.tagged_heap.proofs.heap.Heap.free.Goals as goal
+
+pub returns-then-p-eq0-clause-answer : goal.returns-then-p-eq0-clause-answer
+returns-then-p-eq0-clause-answer c = ap (λ step. step.answer) (free_null _ _ c.if-p-eq0.true)
+
+pub returns-then-p-eq0-clause-state : goal.returns-then-p-eq0-clause-state
+returns-then-p-eq0-clause-state c = ap (λ step. step.heap) (free_null _ _ c.if-p-eq0.true)
+
+pub returns-in_err-chunk-clause-answer : goal.returns-in_err-chunk-clause-answer
+returns-in_err-chunk-clause-answer c =
+    let p = err_from_is_err_and c.from_residual.result c.from_residual.ensures.1 in
+    rw (p.1, p.2) (ap (λ step. step.answer) (free_refused _ _ _ c.if-p-eq0.false c.in_err-chunk.ensures.err))
+
+pub returns-in_err-chunk-clause-state : goal.returns-in_err-chunk-clause-state
+returns-in_err-chunk-clause-state c = ap (λ step. step.heap) (free_refused _ _ _ c.if-p-eq0.false c.in_err-chunk.ensures.err)
+
+pub release-requires-clause-slot : goal.release-requires-clause-slot
+release-requires-clause-slot c = (c.laws_below.ensures.chunk _ _ _ c.in_ok-chunk.ensures.ok).in_range
+
+pub release-requires-clause-live : goal.release-requires-clause-live
+release-requires-clause-live c = (_, _, (c.laws_below.ensures.chunk _ _ _ c.in_ok-chunk.ensures.ok).live)
+
+pub returns-clause-answer : goal.returns-clause-answer
+returns-clause-answer c = ap (λ step. step.answer) (free_chunk _ _ _ c.if-p-eq0.false c.in_ok-chunk.ensures.ok)
+
+pub returns-clause-state : goal.returns-clause-state
+returns-clause-state c =
+    ap (λ (x : Counted). x.state) (c.release.ensures _ _ (c.laws_below.ensures.chunk _ _ _ c.in_ok-chunk.ensures.ok).live)
+    ∙ ap (λ step. step.heap) (free_chunk _ _ _ c.if-p-eq0.false c.in_ok-chunk.ensures.ok)
+
+pub returns-clause-counted : goal.returns-clause-counted
+returns-clause-counted c = λ _. ap (λ (x : Counted). x.frees) (c.release.ensures _ _ (c.laws_below.ensures.chunk _ _ _ c.in_ok-chunk.ensures.ok).live)

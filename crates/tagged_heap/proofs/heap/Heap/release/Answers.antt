@@ -1,0 +1,85 @@
+use Rattle.std.proofs.Common.{◌≡◌, ◌+◌, ◌*◌, ◌≤◌, refl, sym, ap, ◌∙◌, subst, arith}
+use Rattle.heap_theory.specs.Calls.{freed}
+use Rattle.tagged_heap.specs.Inside.{state_of}
+use Rattle.tagged_heap.specs.View.{Counted, shown_heap, IsHeldIn}
+use Rattle.tagged_heap.proofs.Opened.{slot_within, state_seen}
+use Rattle.tagged_heap.proofs.Retiring.{room_for, lent_region, lent_linked, lent_outside, lent_unlinked, put_letting_go, retired_held, retired_shown}
+use Rattle.tagged_heap.proofs.heap.Heap.release.Goals as goal
+
+pub bytes-bytes-requires : goal.bytes-bytes-requires
+bytes-bytes-requires c = slot_within c.self.inside c.args.self.now c.args.slot c.self.view_is c.requires.slot
+
+pub retire-requires : goal.retire-requires
+retire-requires c =
+    room_for c.laws_below.ensures c.self.inside c.args.self.now c.self.view_is c.self.invariant c.args.slot c.requires.live.0 c.requires.live.1 c.requires.slot c.requires.live.2
+
+pub put-requires-clause-region : goal.put-requires-clause-region
+put-requires-clause-region c =
+    lent_region c.laws_below.ensures c.self.inside c.args.self.now c.self.view_is c.self.invariant c.args.slot c.requires.live.0 c.requires.live.1 c.requires.slot c.requires.live.2
+    c.requires.few c.retire.new.machine c.retire.ensures.machine c.retire.ensures.memory c.memory_mut-memory.result.now c.memory_mut-memory.ensures.value
+
+pub put-requires-clause-linked : goal.put-requires-clause-linked
+put-requires-clause-linked c =
+    lent_linked c.laws_below.ensures c.self.inside c.args.self.now c.self.view_is c.self.invariant c.args.slot c.requires.live.0 c.requires.live.1 c.requires.slot c.requires.live.2
+    c.requires.few c.retire.new.machine c.retire.ensures.machine c.retire.ensures.memory c.memory_mut-memory.result.now c.memory_mut-memory.ensures.value
+
+pub put-requires-clause-outside : goal.put-requires-clause-outside
+put-requires-clause-outside c =
+    lent_outside c.laws_below.ensures c.self.inside c.args.self.now c.self.view_is c.self.invariant c.args.slot c.requires.live.0 c.requires.live.1 c.requires.slot c.requires.live.2
+    c.requires.few c.retire.new.machine c.retire.ensures.machine c.retire.ensures.memory c.memory_mut-memory.result.now c.memory_mut-memory.ensures.value
+
+pub put-requires-clause-next : goal.put-requires-clause-next
+put-requires-clause-next c =
+    lent_unlinked c.laws_below.ensures c.self.inside c.args.self.now c.self.view_is c.self.invariant c.args.slot c.requires.live.0 c.requires.live.1 c.requires.slot c.requires.live.2
+    c.requires.few c.retire.new.machine c.retire.ensures.machine c.retire.ensures.memory c.memory_mut-memory.result.now c.memory_mut-memory.ensures.value
+
+pub let_go-requires : goal.let_go-requires
+unfolding shown_heap freed
+let_go-requires c =
+    let letting =
+    put_letting_go c.laws_below.ensures c.self.inside c.args.self.now c.self.view_is c.self.invariant c.args.slot c.requires.live.0 c.requires.live.1 c.requires.slot c.requires.live.2
+    c.requires.few c.retire.new.machine c.retire.ensures.machine c.retire.ensures.memory c.memory_mut-memory.result.now c.memory_mut-memory.ensures.value
+    c.put.new.memory c.put.new.self c.bytes-bytes.result c.put.ensures.queued c.put.ensures.value c.put.ensures.first c.put.ensures.behind in
+    record { kept = (freed (state_of c.self.inside) c.args.slot c.requires.live.0, refl, letting) }
+
+pub overflow_add-self : goal.overflow_add-self
+unfolding shown_heap
+overflow_add-self c =
+    let before : c.self.inside.total ≤ 16384 * c.self.inside.frees = c.self.invariant.total in
+    let same : c.self.inside.frees ≡ c.args.self.now.frees = ap (λ (v : Counted). v.frees) c.self.view_is in
+    omega (arith, before, same, c.requires.few, c.from.ensures, c.bytes-bytes.ensures.in_range)
+
+pub invariant_of-self : goal.invariant_of-self
+unfolding shown_heap freed
+invariant_of-self c =
+    let letting =
+    c.let_go.ensures.kept (freed (state_of c.self.inside) c.args.slot c.requires.live.0) refl
+    (put_letting_go c.laws_below.ensures c.self.inside c.args.self.now c.self.view_is c.self.invariant c.args.slot c.requires.live.0 c.requires.live.1 c.requires.slot c.requires.live.2
+    c.requires.few c.retire.new.machine c.retire.ensures.machine c.retire.ensures.memory c.memory_mut-memory.result.now c.memory_mut-memory.ensures.value
+    c.put.new.memory c.put.new.self c.bytes-bytes.result c.put.ensures.queued c.put.ensures.value c.put.ensures.first c.put.ensures.behind) in
+    let shown =
+    ap (λ b. shown_heap c.self.inside.layout c.let_go.new.quarantine.limit c.let_go.new.memory (c.self.inside.total + b) c.retire.new.machine.seed c.retire.new.machine.tag)
+    (c.from.ensures ∙ c.bytes-bytes.ensures.bytes)
+    ∙ retired_shown c.laws_below.ensures c.self.inside c.args.self.now c.self.view_is c.self.invariant c.args.slot c.requires.live.0 c.requires.live.1 c.requires.slot c.requires.live.2
+    c.requires.few c.retire.new.machine c.retire.ensures.machine c.retire.ensures.memory c.let_go.new.memory c.let_go.new.quarantine c.let_go.new.lists letting c.let_go.ensures.held in
+    subst (λ h. IsHeldIn h (c.self.inside.frees + 1) c.let_go.new.memory c.let_go.new.quarantine c.let_go.new.lists c.self.inside.firsts.items) (sym shown)
+    (retired_held c.laws_below.ensures c.self.inside c.args.self.now c.self.view_is c.self.invariant c.args.slot c.requires.live.0 c.requires.live.1 c.requires.slot c.requires.live.2
+    c.requires.few c.retire.new.machine c.retire.ensures.machine c.retire.ensures.memory c.let_go.new.memory c.let_go.new.quarantine c.let_go.new.lists letting c.let_go.ensures.held)
+
+pub returns : goal.returns
+unfolding shown_heap freed
+returns c n tag live =
+    let letting =
+    c.let_go.ensures.kept (freed (state_of c.self.inside) c.args.slot n) refl
+    (put_letting_go c.laws_below.ensures c.self.inside c.args.self.now c.self.view_is c.self.invariant c.args.slot n tag c.requires.slot live
+    c.requires.few c.retire.new.machine c.retire.ensures.machine c.retire.ensures.memory c.memory_mut-memory.result.now c.memory_mut-memory.ensures.value
+    c.put.new.memory c.put.new.self c.bytes-bytes.result c.put.ensures.queued c.put.ensures.value c.put.ensures.first c.put.ensures.behind) in
+    let shown =
+    ap (λ b. shown_heap c.self.inside.layout c.let_go.new.quarantine.limit c.let_go.new.memory (c.self.inside.total + b) c.retire.new.machine.seed c.retire.new.machine.tag)
+    (c.from.ensures ∙ c.bytes-bytes.ensures.bytes)
+    ∙ retired_shown c.laws_below.ensures c.self.inside c.args.self.now c.self.view_is c.self.invariant c.args.slot n tag c.requires.slot live
+    c.requires.few c.retire.new.machine c.retire.ensures.machine c.retire.ensures.memory c.let_go.new.memory c.let_go.new.quarantine c.let_go.new.lists letting c.let_go.ensures.held in
+    (λ k. record {
+      state = (shown ∙ ap (λ h. freed h c.args.slot n) (state_seen c.self.inside c.args.self.now c.self.view_is)) k;
+      frees = ap (λ (v : Counted). v.frees + 1) c.self.view_is k;
+    })

@@ -1,0 +1,13 @@
+-- What stands in a heap.
+use Rattle.heap_theory.specs.State.{Heap}
+use Rattle.tagged_heap.specs.declared.heap.Heap.TheInside.{Inside}
+use Rattle.tagged_heap.specs.View.{Counted, shown_heap, IsHeldIn}
+
+abbrev pub state_of : Inside → Heap
+state_of heap = shown_heap heap.layout heap.quarantine.limit heap.machine.memory heap.total heap.machine.seed heap.machine.tag
+
+abbrev pub seen : Inside → Counted
+seen heap = record { state = state_of heap; frees = heap.frees }
+
+abbrev pub IsHeld : Inside → Type 0
+IsHeld heap = IsHeldIn (state_of heap) heap.frees heap.machine.memory heap.quarantine heap.lists heap.firsts.items

@@ -1,0 +1,7 @@
+pub mod Below
+pub mod Chunks
+pub mod Keeping
+pub mod View
+pub mod Inside
+pub mod Frees
+pub mod Bookkeeping

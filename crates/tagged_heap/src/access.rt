@@ -1,0 +1,81 @@
+//! The calls that read and write the region, and that look at it.
+ghost use Rattle.heap_theory.specs.Places.{place_kind};
+ghost use Rattle.machine_theory.specs.Access.{IsMapped, access_fault, is_mapped, loaded, ok_unless, stored};
+ghost use Rattle.machine_theory.specs.Address.{logical_tag};
+ghost use Rattle.std.specs.Prelude.{◌≡◌, ◌≢◌, ◌↔◌, ◌⊎◌, ◌≤◌, IsFalse, IsTrue, OnErr, OnOk, length};
+
+use crate::headers::header;
+use crate::heap::Heap;
+use crate::laws_below::laws_below;
+use crate::tags::chunk_granules;
+use chunk_header::State;
+use heap_theory::PlaceKind;
+use tag_machine::Fault;
+
+impl Heap {
+    /// Reads as many bytes as `buf` has, 1 to 64, from the address on. The address has another tag than 0, or the access is not mapped: so
+    /// no header is read.
+    ///
+    /// `Unmapped` where one of the bytes lies outside the region or bits 63 to 60 of the address are not 0; else `TagCheck` with the
+    /// lowest granule that holds one of them and has another tag than the address; then `buf` stays as it was.
+    pub fn load(&self, address: u64, buf: &mut [u8]) -> Result<(), Fault>
+        requires len { (1 ≤ length buf.old) × (length buf.old ≤ 64) }
+        requires tagged { (logical_tag address ≢ 0)
+            ⊎ IsFalse (is_mapped (length self.now.state.memory) address (length buf.old)) }
+        ensures answer { result ≡ ok_unless (access_fault self.now.state.memory address (length buf.old)) }
+        ensures ok { OnOk result (buf.new ≡ loaded self.now.state.memory address (length buf.old)) }
+        ensures err { OnErr result (buf.new ≡ buf.old) }
+    {
+        laws_below();
+        self.machine.load(address, buf)
+    }
+
+    /// Writes these bytes, 1 to 64 of them, from the address on. Its faults are those of `load`, and then nothing changes; and as
+    /// there the address has another tag than 0, or the access is not mapped: so no header is written.
+    pub fn store(&mut self, address: u64, bytes: &[u8]) -> Result<(), Fault>
+        requires len { (1 ≤ length bytes.now) × (length bytes.now ≤ 64) }
+        requires tagged { (logical_tag address ≢ 0)
+            ⊎ IsFalse (is_mapped (length self.old.state.memory) address (length bytes.now)) }
+        ensures answer { result ≡ ok_unless (access_fault self.old.state.memory address (length bytes.now)) }
+        ensures ok { OnOk result (self.new ≡ record self.old {
+          state = record self.old.state { memory = stored self.old.state.memory address bytes.now };
+        }) }
+        ensures err { OnErr result (self.new ≡ self.old) }
+    {
+        laws_below();
+        self.machine.store(address, bytes)
+    }
+
+    /// Whether each of the `len` bytes (1 to 64) from the address on lies in the region, and bits 63 to 60 of the address are 0.
+    pub fn mapped(&self, address: u64, len: usize) -> bool
+        requires { (1 ≤ len) × (len ≤ 64) }
+        ensures test { result ≡ is_mapped (length self.now.state.memory) address len }
+        ensures mapped { IsTrue result ↔ IsMapped (length self.now.state.memory) address len }
+    {
+        laws_below();
+        self.machine.mapped(address, len)
+    }
+
+    /// What a granule is to the heap; past the region it is slack.
+    pub fn place_kind(&self, granule: u32) -> PlaceKind
+        ensures { result ≡ place_kind self.now.state granule }
+    {
+        laws_below();
+        let Some(slot) = self.layout.slot_at(granule) else {
+            return PlaceKind::Slack;
+        };
+        let start = self.layout.start(slot);
+        if granule == start {
+            return PlaceKind::Header;
+        }
+        let header = header(self.machine.memory(), &self.layout, slot);
+        if granule - start > chunk_granules(u32::from(header.size)) {
+            return PlaceKind::Tail;
+        }
+        match header.state {
+            State::Fresh => PlaceKind::Tail,
+            State::Live => PlaceKind::Other,
+            State::Quarantined | State::Freed => PlaceKind::Dead,
+        }
+    }
+}

@@ -1,0 +1,43 @@
+//! The bytes of payloads.
+ghost use Rattle.machine_theory.specs.Memory.{bytes_at, written, IsMemory};
+ghost use Rattle.std.specs.Prelude.{◌≡◌, ◌⊎◌, ◌+◌, ◌*◌, ◌≤◌, length, replicate};
+
+use granule_memory::Memory;
+use machine_theory::laws::memory::{law_changes, law_memory, law_reads};
+
+// the bytes that are copied at once
+const PIECE: usize = 256;
+
+/// Writes 0 to all bytes of `count` granules from `first` on.
+pub(crate) fn zero(memory: &mut Memory, first: u32, count: u32)
+    requires granules { first + count ≤ length memory.old }
+    requires few { length memory.old ≤ 262144 }
+    ensures { memory.new ≡ written (16 * first) (replicate (16 * count) 0) memory.old }
+{
+    law_changes();
+    law_memory();
+    for done in 0..count {
+        memory.zero_granule(first + done);
+    }
+}
+
+/// Copies `count` bytes from byte `from` on to byte `to` on, where the two runs do not meet.
+pub(crate) fn copy(memory: &mut Memory, from: usize, to: usize, count: usize)
+    requires few { length memory.old ≤ 262144 }
+    requires source { from + count ≤ 16 * length memory.old }
+    requires target { to + count ≤ 16 * length memory.old }
+    requires apart { (from + count ≤ to) ⊎ (to + count ≤ from) }
+    ensures { memory.new ≡ written to (bytes_at memory.old from count) memory.old }
+{
+    law_changes();
+    law_memory();
+    law_reads();
+    let mut piece = [0; PIECE];
+    let mut done = 0;
+    while done < count {
+        let len = PIECE.min(count - done);
+        memory.read_bytes(from + done, &mut piece[..len]);
+        memory.write_bytes(to + done, &piece[..len]);
+        done += len;
+    }
+}

@@ -1,0 +1,99 @@
+//! What is done with the chunk of one slot: its header and its tags.
+ghost use Rattle.class_table.specs.Layout.{end_of, slot_count, slot_of};
+ghost use Rattle.heap_theory.specs.Calls.{chunk_tagged, parity_exclude};
+ghost use Rattle.heap_theory.specs.Header.{header_at, with_header};
+ghost use Rattle.heap_theory.specs.Header.Standing.{Live, Quarantined};
+ghost use Rattle.heap_theory.specs.State.{chunk_granules, payload_start};
+ghost use Rattle.machine_theory.specs.Instructions.{drawn_tag};
+ghost use Rattle.machine_theory.specs.Memory.{tagged, IsMemory};
+ghost use Rattle.machine_theory.specs.Seed.{next_seed};
+ghost use Rattle.std.specs.Prelude.{◌≡◌, ◌+◌, ◌^◌, ◌<◌, ◌≤◌, bit_or, length};
+ghost use Rattle.tagged_heap.specs.Chunks.{HasRoom, given_header, retired_header, tag_for};
+ghost use Rattle.tagged_heap.specs.Keeping.{header_in};
+
+use crate::headers::header;
+use crate::tags::{chunk_granules, draw, exclude, set_tags, tag_chunk};
+use chunk_header::{Header, State, write};
+use class_table::Layout;
+use machine_theory::laws::memory::law_memory;
+use tag_machine::Machine;
+
+/// Gives a slot out for `n` bytes, at most 16,368, which it has room for: draws a tag, writes the header and tags the chunk.
+pub(crate) fn give_out(machine: &mut Machine, layout: &Layout, slot: u32, n: u32)
+    requires { HasRoom layout.now machine.old.memory slot n }
+    ensures machine { let tag = tag_for layout.now machine.old slot in
+        let header = given_header (header_in layout.now machine.old.memory slot) n tag in
+        let place = slot_of layout.now slot in
+        machine.new ≡ record {
+          memory = chunk_tagged place n tag (with_header machine.old.memory place.start header);
+          seed = next_seed machine.old.seed;
+          tag = tag;
+        } }
+    ensures memory { IsMemory machine.new.memory }
+{
+    let before = header(machine.memory(), layout, slot);
+    let tag = draw(machine, exclude(slot, before.tag));
+    let after = Header {
+        state: State::Live,
+        size: n as u16,
+        tag,
+        class: before.class,
+        next: 0,
+        mark: 0,
+    };
+    write(machine.memory_mut(), layout.start(slot), &after);
+    tag_chunk(machine, layout, slot, n, tag);
+}
+
+/// Gives the chunk of a live slot `n` bytes under the tag that it has, where its slot has room for them.
+pub(crate) fn resize(machine: &mut Machine, layout: &Layout, slot: u32, n: u32)
+    requires { HasRoom layout.now machine.old.memory slot n }
+    ensures machine { let before = header_in layout.now machine.old.memory slot in
+        let place = slot_of layout.now slot in
+        machine.new ≡ record machine.old {
+          memory = chunk_tagged place n before.tag (with_header machine.old.memory place.start (record before { size = n }));
+        } }
+    ensures memory { IsMemory machine.new.memory }
+{
+    let before = header(machine.memory(), layout, slot);
+    let after = Header {
+        size: n as u16,
+        ..before
+    };
+    write(machine.memory_mut(), layout.start(slot), &after);
+    tag_chunk(machine, layout, slot, n, before.tag);
+}
+
+/// Takes the chunk of a live slot back, with this mark: draws a tag, writes the header and gives the chunk the tag.
+pub(crate) fn retire(machine: &mut Machine, layout: &Layout, slot: u32, mark: u64)
+    requires { HasRoom layout.now machine.old.memory slot (header_in layout.now machine.old.memory slot).size }
+    ensures machine { let before = header_in layout.now machine.old.memory slot in
+        let tag = tag_for layout.now machine.old slot in
+        let place = slot_of layout.now slot in
+        machine.new ≡ record {
+          memory = tagged (payload_start place) (chunk_granules before.size) tag
+              (with_header machine.old.memory place.start (retired_header before mark));
+          seed = next_seed machine.old.seed;
+          tag = tag;
+        } }
+    ensures memory { IsMemory machine.new.memory }
+{
+    law_memory();
+    let before = header(machine.memory(), layout, slot);
+    let other = draw(machine, exclude(slot, before.tag));
+    let after = Header {
+        state: State::Quarantined,
+        next: 0,
+        mark,
+        ..before
+    };
+    let start = layout.start(slot);
+    let memory = machine.memory_mut();
+    write(memory, start, &after);
+    set_tags(
+        memory,
+        start + 1,
+        chunk_granules(u32::from(before.size)),
+        other,
+    );
+}

@@ -1,0 +1,129 @@
+//! The call that takes a chunk back.
+ghost use Rattle.class_table.specs.Layout.{slot_count, AreInOrder};
+ghost use Rattle.heap_theory.specs.Calls.{free_step, freed};
+ghost use Rattle.heap_theory.specs.Choice.{chunk_at};
+ghost use Rattle.heap_theory.specs.Header.Standing.{Freed};
+ghost use Rattle.heap_theory.specs.State.{state_at, without_headers, Heap as TheHeap, IsSlot};
+ghost use Rattle.heap_theory.specs.State.State.{Live};
+ghost use Rattle.machine_theory.specs.Memory.{IsMemory};
+ghost use Rattle.std.specs.Prelude.{◌≡◌, ◌≢◌, ◌+◌, ◌^◌, ◌<◌, ◌≤◌, length, slice_index, slice_set, IfErr, IfOk, OnErr, OnOk, ℕ};
+ghost use Rattle.tagged_heap.specs.Keeping.{header_in, IsRewritten};
+ghost use Rattle.tagged_heap.specs.View.{AreLettingGo, IsLettingGo};
+
+use crate::chunks::retire;
+use crate::headers::header;
+use crate::heap::Heap;
+use crate::laws_below::laws_below;
+use crate::pointers::{logical_tag, slot_of_pointer};
+use chunk_header::{Header, State, write};
+use class_lists::ClassLists;
+use class_table::Layout;
+use granule_memory::Memory;
+use heap_theory::FreeError;
+use quarantine_core::Quarantine;
+
+/// A live chunk: its slot, and the bytes that were requested.
+#[derive(Clone, Copy)]
+pub(crate) struct Chunk {
+    pub(crate) slot: u32,
+    pub(crate) size: u32,
+}
+
+impl Heap {
+    /// Takes the chunk at p back: its granules get another tag, and its slot goes into the quarantine. Nothing happens at null, 0.
+    ///
+    /// `Misplaced` where p is not the address of a slot's first payload byte, else `NotLive` where the slot is not given out, else
+    /// `WrongTag` where it is given out under another tag than p's; then nothing changes.
+    pub fn free(&mut self, p: u64) -> Result<(), FreeError>
+        requires few { self.old.frees < 2 ^ 48 }
+        ensures answer { result ≡ (free_step self.old.state p).answer }
+        ensures state { self.new.state ≡ (free_step self.old.state p).heap }
+        ensures null { p ≡ 0 → self.new ≡ self.old }
+        ensures counted { OnOk result (p ≢ 0 → self.new.frees ≡ self.old.frees + 1) }
+        ensures refused { OnErr result (self.new ≡ self.old) }
+    {
+        if p == 0 {
+            return Ok(());
+        }
+        laws_below();
+        let chunk = self.chunk(p)?;
+        self.release(chunk.slot);
+        Ok(())
+    }
+
+    // The live chunk at p, or why there is none.
+    pub(crate) fn chunk(&self, p: u64) -> Result<Chunk, FreeError>
+        ensures ok { IfOk result (λ chunk. chunk_at self.now.state p ≡ Ok (record { slot = chunk.slot; size = chunk.size })) }
+        ensures err { IfErr result (λ error. chunk_at self.now.state p ≡ Err error) }
+    {
+        laws_below();
+        let slot = slot_of_pointer(&self.layout, p).ok_or(FreeError::Misplaced)?;
+        let header = header(self.machine.memory(), &self.layout, slot);
+        match header.state {
+            State::Live => {}
+            State::Fresh | State::Quarantined | State::Freed => return Err(FreeError::NotLive),
+        }
+        if header.tag != logical_tag(p) {
+            return Err(FreeError::WrongTag);
+        }
+        Ok(Chunk {
+            slot,
+            size: u32::from(header.size),
+        })
+    }
+
+    // Takes the chunk of a live slot back.
+    pub(crate) fn release(&mut self, slot: u32)
+        requires slot { IsSlot self.old.state slot }
+        requires live { (n : ℕ) × (tag : ℕ) × (state_at self.old.state slot ≡ Live n tag) }
+        requires few { self.old.frees < 2 ^ 48 }
+        ensures { (n tag : ℕ) → state_at self.old.state slot ≡ Live n tag →
+            self.new ≡ record { state = freed self.old.state slot n; frees = self.old.frees + 1 } }
+    {
+        laws_below();
+        let bytes = self.layout.bytes(slot);
+        retire(&mut self.machine, &self.layout, slot, self.total);
+        let memory = self.machine.memory_mut();
+        self.quarantine.put(memory, &self.layout, slot, bytes);
+        let_go(memory, &self.layout, &mut self.quarantine, &mut self.lists);
+        self.total += u64::from(bytes);
+        self.frees += 1;
+    }
+}
+
+// Releases the oldest slots of the quarantine to their classes' lists while it holds more than its limit.
+fn let_go(memory: &mut Memory, layout: &Layout, quarantine: &mut Quarantine, lists: &mut ClassLists)
+    requires kept { AreLettingGo layout.now memory.old quarantine.old lists.old }
+    ensures kept { (heap : TheHeap) → heap.layout ≡ layout.now → IsLettingGo heap memory.old quarantine.old lists.old →
+        IsLettingGo heap memory.new quarantine.new lists.new }
+    ensures held { quarantine.new.held ≤ quarantine.new.limit }
+{
+    laws_below();
+    while let Some(slot) = quarantine.next_out(memory, layout) {
+        list_freed(memory, layout, lists, slot);
+    }
+}
+
+// Puts a slot that the quarantine let go into its class's list.
+fn list_freed(memory: &mut Memory, layout: &Layout, lists: &mut ClassLists, slot: u32)
+    requires slot { slot < slot_count layout.now }
+    requires region { length memory.old ≡ layout.now.granules }
+    requires memory { IsMemory memory.old }
+    requires order { AreInOrder layout.now }
+    requires class { (header_in layout.now memory.old slot).class < length lists.old }
+    requires front { slice_index lists.old (header_in layout.now memory.old slot).class < 2 ^ 32 }
+    ensures header { let before = header_in layout.now memory.old slot in
+        let after = record before { standing = Freed; next = slice_index lists.old before.class } in
+        IsRewritten layout.now memory.old memory.new slot after (without_headers layout.now memory.old) }
+    ensures front { lists.new ≡ slice_set lists.old (header_in layout.now memory.old slot).class (slot + 1) }
+    ensures memory { IsMemory memory.new }
+{
+    laws_below();
+    let before = header(memory, layout, slot);
+    let after = Header {
+        state: State::Freed,
+        ..before
+    };
+    write(memory, layout.start(slot), &after);
+    lists.push(memory, layout, usize::from(before.class), slot);
+}

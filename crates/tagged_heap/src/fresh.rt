@@ -1,0 +1,52 @@
+//! A new heap's headers and counters.
+ghost use Rattle.class_table.specs.Layout.{IsPartition, first_slot, slot_count};
+ghost use Rattle.heap_theory.specs.Header.{header_for};
+ghost use Rattle.heap_theory.specs.State.{first_heap, without_headers};
+ghost use Rattle.machine_theory.specs.Memory.{IsMemory};
+ghost use Rattle.std.specs.List.{range_with_len};
+ghost use Rattle.std.specs.Prelude.{◌≡◌, ◌+◌, ◌<◌, ◌≤◌, ℕ, length, map, slice_index, slice_set, IfNone, IfSome};
+ghost use Rattle.tagged_heap.specs.Keeping.{header_in};
+
+use crate::laws_below::laws_below;
+use arrayvec::ArrayVec;
+use chunk_header::{Header, State, write};
+use class_table::{Layout, MOST_CLASSES};
+use granule_memory::Memory;
+
+/// Writes to each slot the header of a slot that was never given out.
+pub(crate) fn write_fresh_headers(memory: &mut Memory, layout: &Layout)
+    requires region { length memory.old ≡ layout.now.granules }
+    requires memory { IsMemory memory.old }
+    ensures headers { (s : ℕ) → s < slot_count layout.now →
+        header_in layout.now memory.new s ≡ header_for (first_heap layout.now 0 0) s 0 }
+    ensures seen { without_headers layout.now memory.new ≡ without_headers layout.now memory.old }
+    ensures memory { IsMemory memory.new }
+    // What any layout is known to be.
+    ensures partition { IsPartition layout.now }
+{
+    laws_below();
+    layout.granules();
+    for slot in 0..layout.slots() {
+        let header = Header {
+            state: State::Fresh,
+            size: 0,
+            tag: 0,
+            class: layout.class_of(slot) as u8,
+            next: 0,
+            mark: 0,
+        };
+        write(memory, layout.start(slot), &header);
+    }
+}
+
+/// The first slot of each class: the counters of a heap in which all slots are fresh.
+pub(crate) fn first_slots(layout: &Layout) -> ArrayVec<u32, MOST_CLASSES>
+    ensures { result.items ≡ map (first_slot layout.now) (range_with_len 0 (length layout.now.classes)) }
+{
+    layout.granules();
+    let mut firsts = ArrayVec::new();
+    for number in 0..layout.classes() {
+        firsts.push(layout.first_slot(number));
+    }
+    firsts
+}

@@ -1,0 +1,105 @@
+ghost use Rattle.heap_theory.specs.State.{first_heap};
+ghost use Rattle.machine_theory.specs.Instructions.{addg, subg};
+ghost use Rattle.std.specs.Prelude.{◌≡◌, ◌≢◌, ◌≤◌, IfOk};
+
+use crate::fresh::{first_slots, write_fresh_headers};
+use crate::laws_below::laws_below;
+use arrayvec::ArrayVec;
+use class_lists::ClassLists;
+use class_table::{ClassTable, Layout, MOST_CLASSES};
+use granule_memory::Memory;
+use quarantine_core::Quarantine;
+use std::alloc::{AllocError, Global};
+use std::marker::Model;
+use tag_machine::Machine;
+
+/// How a heap is set up.
+#[derive(Clone, Copy, Debug)]
+pub struct Config {
+    /// The granules of its region, 64 to 262,144.
+    pub granules: u32,
+    /// What the random tags begin with; not 0.
+    pub seed: u16,
+    /// The bytes of freed blocks that are held back from reuse, 0 to 4,194,304.
+    pub quarantine: u32,
+}
+
+/// A heap, hardened with memory tags.
+#[derive(Drop)]
+pub struct Heap {
+    pub(crate) machine: Machine,
+    pub(crate) layout: Layout,
+    pub(crate) quarantine: Quarantine,
+    pub(crate) lists: ClassLists,
+    pub(crate) firsts: ArrayVec<u32, MOST_CLASSES>,
+    pub(crate) total: u64,
+    pub(crate) frees: u64,
+}
+
+impl Model for Heap {
+    ghost use Rattle.tagged_heap.specs.View.{Counted};
+
+    ghost Value = { Counted };
+
+    ghost use Rattle.tagged_heap.specs.Inside.{seen, IsHeld};
+
+    ghost view = { seen };
+
+    ghost invariant = { IsHeld };
+}
+
+impl Heap {
+    /// A heap in which nothing was given out yet, over the classes of a table. The only error is that the allocator has no block of
+    /// 17 bytes for each granule. No other call takes memory.
+    pub fn new(alloc: Global, table: &ClassTable, config: Config) -> Result<Heap, AllocError>
+        requires granules { (64 ≤ config.granules) × (config.granules ≤ 262144) }
+        requires seed { config.seed ≢ 0 }
+        requires quarantine { config.quarantine ≤ 4194304 }
+        ensures state { IfOk result (λ heap.
+            heap.state ≡ first_heap (record { classes = table.now; granules = config.granules }) config.seed config.quarantine) }
+        ensures frees { IfOk result (λ heap. heap.frees ≡ 0) }
+    {
+        laws_below();
+        let layout = Layout::new(table, config.granules);
+        let mut memory = Memory::new(alloc, config.granules)?;
+        write_fresh_headers(&mut memory, &layout);
+        let lists = ClassLists::new(&layout);
+        let quarantine = Quarantine::new(&layout, config.quarantine);
+        let firsts = first_slots(&layout);
+        Ok(Heap {
+            machine: Machine::new(memory, config.seed),
+            layout,
+            quarantine,
+            lists,
+            firsts,
+            total: 0,
+            frees: 0,
+        })
+    }
+
+    /// How many chunks were freed.
+    pub fn frees(&self) -> u64
+        ensures { result ≡ self.now.frees }
+    {
+        self.frees
+    }
+
+    /// ADDG: the address `u6` granules (0 to 63) further up modulo 2^64, with the tag that the offset `u4` (0 to 15) chooses from its own on.
+    pub fn addg(&self, address: u64, u6: u8, u4: u8) -> u64
+        requires granules { u6 ≤ 63 }
+        requires steps { u4 ≤ 15 }
+        ensures { result ≡ addg address u6 u4 }
+    {
+        self.machine.addg(address, u6, u4)
+    }
+
+    /// SUBG: the address `u6` granules (0 to 63) further down modulo 2^64, with the tag that the offset `u4` (0 to 15) chooses from its own
+    /// on: upwards, as `addg`.
+    pub fn subg(&self, address: u64, u6: u8, u4: u8) -> u64
+        requires granules { u6 ≤ 63 }
+        requires steps { u4 ≤ 15 }
+        ensures { result ≡ subg address u6 u4 }
+    {
+        self.machine.subg(address, u6, u4)
+    }
+}

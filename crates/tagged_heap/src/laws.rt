@@ -1,0 +1,39 @@
+//! What is true of every heap, each law the contract of a call that does nothing; and the laws of whole runs, from `heap_theory`.
+ghost use Rattle.heap_theory.specs.HeaderLaws.{HeadersAreSpared};
+ghost use Rattle.heap_theory.specs.Sound.{IsSoundHeap};
+ghost use Rattle.tagged_heap.specs.Bookkeeping.{ChunksAreTagged, IsKept, ParitiesDiffer};
+
+use crate::heap::Heap;
+use crate::laws_below::laws_below;
+pub use heap_theory::laws::hardening::{
+    law_bookkeeping, law_chunk_tags, law_delay, law_freed, law_inside, law_life, law_neighbours,
+};
+
+/// An access that succeeds under another tag than 0 touches no header: so no load reads and no store changes a header's words.
+pub fn law_headers_spared()
+    ensures { HeadersAreSpared }
+{
+    laws_below();
+}
+
+impl Heap {
+    /// What stands in the region: each header decodes and agrees with the state; from the quarantine's front the links visit each
+    /// quarantined slot once in ascending mark, from each class's front each of its released slots once in descending mark; no
+    /// slot is in two of these, and no fresh or live one in any. Headers, slack and tails have tag 0.
+    pub fn law_kept(&self)
+        ensures kept { IsKept self.now.state }
+        ensures sound { IsSoundHeap self.now.state }
+    {
+        laws_below();
+        let _ = &self.layout;
+    }
+
+    /// No granule of a chunk has tag 0, and chunks of slots with an even and an odd number never have the same tag.
+    pub fn law_tags(&self)
+        ensures tagged { ChunksAreTagged self.now.state }
+        ensures differ { ParitiesDiffer self.now.state }
+    {
+        laws_below();
+        let _ = &self.layout;
+    }
+}

@@ -1,0 +1,27 @@
+//! The heap, hardened with memory tags, after the Primary and the Quarantine of LLVM's Scudo: `malloc`, `calloc`, `free` and `realloc` over one
+//! region of tagged memory. Headers, class lists and quarantine are words inside the region; no call after `Heap::new` takes memory.
+//!
+//! Its rules stand in docs/HEAP.md and, as definitions, in `heap_theory`. A body that begins with the call of a law cites that law in its
+//! proof; the call does nothing.
+#![tactic(auto)]
+
+mod access;
+mod allocation;
+mod bytes;
+mod chunks;
+mod freeing;
+mod fresh;
+mod headers;
+mod heap;
+pub mod laws;
+mod laws_below;
+mod pointers;
+mod resizing;
+mod tags;
+mod taking;
+
+pub use heap::{Config, Heap};
+pub use heap_theory::{FreeError, NullCause, PlaceKind, ReallocError};
+
+#[cfg(test)]
+mod tests;

@@ -1,0 +1,81 @@
+//! The tags of chunks: how one is drawn, and the granules that get it.
+ghost use Rattle.class_table.specs.Layout.{end_of, slot_count, slot_of};
+ghost use Rattle.heap_theory.specs.Calls.{chunk_tagged, parity_exclude};
+ghost use Rattle.heap_theory.specs.State.{chunk_granules};
+ghost use Rattle.machine_theory.specs.Instructions.{drawn_tag};
+ghost use Rattle.machine_theory.specs.Memory.{tagged, IsMemory};
+ghost use Rattle.machine_theory.specs.Seed.{next_seed};
+ghost use Rattle.std.specs.Prelude.{◌≡◌, ◌+◌, ◌^◌, ◌<◌, ◌≤◌, bit_or, length};
+
+use class_table::{GRANULE_BYTES, Layout};
+use granule_memory::Memory;
+use machine_theory::laws::memory::{law_changes, law_memory};
+use tag_machine::Machine;
+
+/// The granules of the chunk for a request of `n` bytes, at most 16,368.
+pub(crate) fn chunk_granules(n: u32) -> u32
+    requires { n ≤ 16368 }
+    ensures granules { result ≡ chunk_granules n }
+    ensures some { 1 ≤ result }
+    ensures most { result ≤ 1023 }
+{
+    if n == 0 { 1 } else { n.div_ceil(GRANULE_BYTES) }
+}
+
+/// The tags that a slot of this number does not take where `last` is the tag that it has or had last: those of the other parity,
+/// and that one.
+pub(crate) fn exclude(slot: u32, last: u8) -> u16
+    requires { last < 16 }
+    ensures { result ≡ bit_or (parity_exclude slot) (2 ^ last) }
+{
+    let parity = if slot % 2 == 0 { 0x5555 } else { 0xAAAB };
+    parity | 1 << last
+}
+
+/// Draws a tag that is not excluded, by one IRG.
+#[tactic(auto, unfolding(machine_theory::specs::Instructions::drawn_tag))]
+pub(crate) fn draw(machine: &mut Machine, exclude: u16) -> u8
+    ensures tag { result ≡ drawn_tag machine.old.tag machine.old.seed exclude }
+    ensures below { result < 16 }
+    ensures register { machine.new ≡ record machine.old { seed = next_seed machine.old.seed; tag = result } }
+{
+    machine.irg(0, u64::from(exclude));
+    machine.rgsr().0
+}
+
+/// Gives `count` granules from `first` on the tag.
+pub(crate) fn set_tags(memory: &mut Memory, first: u32, count: u32, tag: u8)
+    requires granules { first + count ≤ length memory.old }
+    requires memory { IsMemory memory.old }
+    requires tag { tag < 16 }
+    ensures tagged { memory.new ≡ tagged first count tag memory.old }
+    ensures memory { IsMemory memory.new }
+{
+    law_changes();
+    law_memory();
+    for done in 0..count {
+        memory.set_tag(first + done, tag);
+    }
+}
+
+/// Gives the chunk for a request of `n` bytes the tag, and the rest of the slot's payload tag 0.
+pub(crate) fn tag_chunk(machine: &mut Machine, layout: &Layout, slot: u32, n: u32, tag: u8)
+    requires in_range { slot < slot_count layout.now }
+    requires inside { end_of (slot_of layout.now slot) ≤ length machine.old.memory }
+    requires memory { IsMemory machine.old.memory }
+    requires size { n ≤ 16368 }
+    requires room { chunk_granules n < (slot_of layout.now slot).class }
+    requires tag { tag < 16 }
+    ensures tagged { machine.new ≡ record machine.old {
+      memory = chunk_tagged (slot_of layout.now slot) n tag machine.old.memory;
+    } }
+    ensures memory { IsMemory machine.new.memory }
+{
+    law_memory();
+    let first = layout.start(slot) + 1;
+    let chunk = chunk_granules(n);
+    let payload = layout.bytes(slot) / GRANULE_BYTES - 1;
+    let memory = machine.memory_mut();
+    set_tags(memory, first, chunk, tag);
+    set_tags(memory, first + chunk, payload - chunk, 0);
+}

@@ -1,0 +1,51 @@
+//! Which slot a class gives out next.
+ghost use Rattle.std.specs.Prelude.{◌≡◌, ◌+◌, ◌<◌, ◌≤◌, length, slice_index, slice_set, IfNone, IfSome};
+ghost use Rattle.class_table.specs.Layout.{first_slot};
+ghost use Rattle.machine_theory.specs.Memory.{IsMemory};
+ghost use Rattle.tagged_heap.specs.Chunks.{HasClass, Takes};
+
+use arrayvec::ArrayVec;
+use class_lists::ClassLists;
+use class_table::{Layout, MOST_CLASSES};
+use granule_memory::Memory;
+
+/// Takes the first slot of a class's list off it, or the class's next fresh slot where the list is empty, or none where there is none.
+pub(crate) fn take_slot(
+    memory: &mut Memory,
+    layout: &Layout,
+    lists: &mut ClassLists,
+    firsts: &mut ArrayVec<u32, MOST_CLASSES>,
+    number: usize,
+) -> Option<u32>
+    requires { HasClass layout.now memory.old lists.old firsts.old.items number }
+    ensures takes { Takes layout.now memory.old memory.new lists.old lists.new firsts.old.items firsts.new.items number result }
+    ensures memory { IsMemory memory.new }
+{
+    if let Some(slot) = lists.pop(memory, layout, number) {
+        return Some(slot);
+    }
+    next_fresh(firsts, layout, number)
+}
+
+// Takes the next fresh slot of a class by its counter, or none where the class has none left.
+fn next_fresh(
+    firsts: &mut ArrayVec<u32, MOST_CLASSES>,
+    layout: &Layout,
+    number: usize,
+) -> Option<u32>
+    requires classes { number < length layout.now.classes }
+    requires counters { number < length firsts.old.items }
+    requires few { slice_index firsts.old.items number ≤ first_slot layout.now (number + 1) }
+    ensures none { IfNone result (slice_index firsts.old.items number ≡ first_slot layout.now (number + 1)) }
+    ensures stays { IfNone result (firsts.new.items ≡ firsts.old.items) }
+    ensures some { IfSome result (λ slot. slot ≡ slice_index firsts.old.items number) }
+    ensures below { IfSome result (λ slot. slot < first_slot layout.now (number + 1)) }
+    ensures counted { IfSome result (λ slot. firsts.new.items ≡ slice_set firsts.old.items number (slot + 1)) }
+{
+    let slot = firsts[number];
+    if slot == layout.first_slot(number + 1) {
+        return None;
+    }
+    firsts[number] = slot + 1;
+    Some(slot)
+}
