@@ -24,7 +24,10 @@ pub struct Config {
     pub quarantine: u32,
 }
 
-/// A heap, hardened with memory tags.
+/// A heap over one region of tagged memory: it gives out chunks under random tags, and holds freed ones back for a while.
+///
+/// It is seen as the heap state of the definitions, in which the bytes of headers do not stand, and the number of its frees. What stands in
+/// the headers, and how they are linked, is told by `law_kept`.
 #[derive(Drop)]
 pub struct Heap {
     pub(crate) machine: Machine,
@@ -77,7 +80,7 @@ impl Heap {
         })
     }
 
-    /// How many chunks were freed.
+    /// How many chunks were freed so far, those that `realloc` moved among them; null is not counted.
     pub fn frees(&self) -> u64
         ensures { result ≡ self.now.frees }
     {

@@ -358,3 +358,153 @@ fn every_class_is_filled_twice(rt: HostRuntime) -> Result<(), Fail> {
     assert_eq!(rt; (second.len(), heap.frees()), (25_294, 25_294));
     Ok(())
 }
+
+#[test]
+fn header_neighbour_and_dead_chunk_fault(rt: HostRuntime) -> Result<(), Fail> {
+    let mut heap = heap(rt.alloc(), &[2, 4], 64)?;
+    let mut byte = [0xff];
+    let first = heap.malloc(16)?;
+    assert_eq!(rt;
+        store(&rt, &mut heap, first.wrapping_add(16), &[0xaa]),
+        tag_fault(2, 0, 1)
+    );
+    assert_eq!(rt; heap.malloc(0), Ok(pointer(3, 2)));
+    assert_eq!(rt;
+        load(&rt, &heap, first.wrapping_add(32), &mut byte),
+        tag_fault(3, 2, 1)
+    );
+    free(&rt, &mut heap, first)?;
+    assert_eq!(rt; load(&rt, &heap, first, &mut byte), tag_fault(1, 3, 1));
+    Ok(())
+}
+
+#[test]
+fn three_ways_to_get_null(rt: HostRuntime) -> Result<(), Fail> {
+    let mut heap = heap(rt.alloc(), &[64], 0)?;
+    let mut byte = [0xff];
+    let mut bytes = [0xff; 16];
+    let first = heap.malloc(100)?;
+    assert_eq!(rt;
+        (heap.malloc(1), heap.malloc(1009), heap.malloc(16_369)),
+        (
+            Err(NullCause::Exhausted),
+            Err(NullCause::NoClass),
+            Err(NullCause::Large)
+        )
+    );
+    load(&rt, &heap, first.wrapping_add(96), &mut bytes)?;
+    assert_eq!(rt; bytes, [0; 16]);
+    assert_eq!(rt;
+        load(&rt, &heap, first.wrapping_add(104), &mut bytes),
+        tag_fault(8, 0, 1)
+    );
+    assert_eq!(rt;
+        load(&rt, &heap, first.wrapping_sub(16), &mut byte),
+        tag_fault(0, 0, 1)
+    );
+    for outside in [first.wrapping_sub(17), first.wrapping_add(1008)] {
+        assert_eq!(rt;
+            load(&rt, &heap, outside, &mut byte),
+            Err(Fault::Unmapped),
+            "at {outside}"
+        );
+    }
+    assert_eq!(rt; heap.mapped(0, 1), false);
+    Ok(())
+}
+
+#[test]
+fn lowest_granule_is_reported(rt: HostRuntime) -> Result<(), Fail> {
+    let mut heap = heap(rt.alloc(), &[2], 0)?;
+    let mut bytes = [0xff; 32];
+    let first = heap.malloc(16)?;
+    assert_eq!(rt;
+        load(&rt, &heap, first.wrapping_add(16), &mut bytes),
+        tag_fault(2, 0, 1)
+    );
+    assert_eq!(rt; bytes, [0xff; 32]);
+    Ok(())
+}
+
+#[test]
+fn shorter_chunk_leaves_a_tail(rt: HostRuntime) -> Result<(), Fail> {
+    let mut heap = heap(rt.alloc(), &[3], 0)?;
+    let mut byte = [0xff];
+    let first = heap.malloc(1)?;
+    assert_eq!(rt;
+        load(&rt, &heap, first.wrapping_add(992), &mut byte),
+        tag_fault(63, 0, 1)
+    );
+    assert_eq!(rt;
+        load(&rt, &heap, first.wrapping_add(48), &mut byte),
+        tag_fault(4, 0, 1)
+    );
+    let second = heap.malloc(32)?;
+    free(&rt, &mut heap, second)?;
+    let third = heap.malloc(16)?;
+    assert_eq!(rt; (second, third), (pointer(4, 2), pointer(4, 6)));
+    assert_eq!(rt;
+        load(&rt, &heap, third.wrapping_add(16), &mut byte),
+        tag_fault(5, 0, 6)
+    );
+    Ok(())
+}
+
+#[test]
+fn addg_and_subg_reach_the_neighbour(rt: HostRuntime) -> Result<(), Fail> {
+    let mut heap = heap(rt.alloc(), &[2], 0)?;
+    let mut byte = [0xff];
+    let mut bytes = [0xff; 3];
+    let first = heap.malloc(16)?;
+    let second = heap.malloc(16)?;
+    store(&rt, &mut heap, second, &[0xc3; 2])?;
+    let up = heap.addg(first, 2, 1);
+    load(&rt, &heap, up, &mut bytes)?;
+    assert_eq!(rt; (up, bytes), (second, [0xc3, 0xc3, 0]));
+    let down = heap.subg(up, 2, 14);
+    load(&rt, &heap, down, &mut byte)?;
+    assert_eq!(rt; (down, byte), (first, [0]));
+    Ok(())
+}
+
+// the last load succeeds: the next chunk of the slot was freed too, and the tag came again
+#[test]
+fn freed_pointer_faults_until_the_next_free(rt: HostRuntime) -> Result<(), Fail> {
+    let mut heap = heap(rt.alloc(), &[2], 0)?;
+    let mut byte = [0xff];
+    let first = heap.malloc(16)?;
+    free(&rt, &mut heap, first)?;
+    let second = heap.malloc(16)?;
+    assert_eq!(rt; load(&rt, &heap, first, &mut byte), tag_fault(1, 5, 1));
+    assert_eq!(rt; free(&rt, &mut heap, first), Err(FreeError::WrongTag));
+    assert_eq!(rt;
+        store(&rt, &mut heap, first.wrapping_sub(16), &[0xff; 8]),
+        tag_fault(0, 0, 1)
+    );
+    free(&rt, &mut heap, second)?;
+    load(&rt, &heap, first, &mut byte)?;
+    assert_eq!(rt; (second, byte), (pointer(1, 5), [0]));
+    Ok(())
+}
+
+#[test]
+fn chunk_freed_by_a_made_pointer_is_dead(rt: HostRuntime) -> Result<(), Fail> {
+    let mut heap = heap(rt.alloc(), &[2], 64)?;
+    let mut byte = [0xff];
+    let mut bytes = [0xff; 16];
+    let first = heap.malloc(16)?;
+    let second = heap.malloc(16)?;
+    let made = heap.addg(first, 2, 1);
+    free(&rt, &mut heap, made)?;
+    assert_eq!(rt; load(&rt, &heap, made, &mut byte), tag_fault(3, 6, 2));
+    let below = heap.subg(first, 4, 0);
+    assert_eq!(rt; load(&rt, &heap, below, &mut byte), Err(Fault::Unmapped));
+    let header = heap.addg(first, 1, 0);
+    assert_eq!(rt;
+        store(&rt, &mut heap, header, &[0xee; 16]),
+        tag_fault(2, 0, 1)
+    );
+    assert_eq!(rt; load(&rt, &heap, second, &mut bytes), tag_fault(3, 6, 2));
+    assert_eq!(rt; free(&rt, &mut heap, second), Err(FreeError::NotLive));
+    Ok(())
+}
