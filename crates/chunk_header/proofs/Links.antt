@@ -2,9 +2,10 @@
 use Rattle.std.proofs.Common.{◌≡◌, ℕ, ◌+◌, ◌*◌, ◌<◌, ◌^◌, List, sym, ap, ◌∙◌, arith}
 use Rattle.std.specs.Int.{w64, to_le_bytes}
 use Rattle.machine_theory.specs.Memory.{Granule, IsMemory, word_at, written}
-use Rattle.heap_theory.specs.Header.{Header, FitsWords, first_word, header_of, header_at}
-use Rattle.heap_theory.specs.HeaderLaws.{HeaderIsReadFromWords, HeaderIsTwoWords}
+use Rattle.heap_theory.specs.Header.{Header, first_word, header_of, header_at}
+use Rattle.heap_theory.specs.HeaderLaws.{HeaderIsTwoWords}
 use Rattle.chunk_header.specs.Seen.{with_next}
+use Rattle.chunk_header.proofs.Codes.{header_of-with_next}
 use Rattle.chunk_header.proofs.Rewrites.{word_written_over}
 
 -- the header in granule g, with this link
@@ -30,10 +31,8 @@ link_written two_words old new g next is stays first =
     ∙ sym (two_words old g (linked old g next))
 
 -- the mark is the second word, whatever the first one is
-pub link_read : HeaderIsReadFromWords → (old new : List Granule) (g next : ℕ) → next < 2 ^ 32 → word_at new (16 * g + 8) ≡ word_at old (16 * g + 8) →
+pub link_read : (old new : List Granule) (g next : ℕ) → word_at new (16 * g + 8) ≡ word_at old (16 * g + 8) →
     word_at new (16 * g) ≡ first_word (linked old g next) → header_at new g ≡ linked old g next
 unfolding header_at
-link_read words old new g next below stays first =
-    let unmarked : Header = record (linked old g next) { mark = 0 } in
-    let fits : FitsWords unmarked = record { size = omega arith; tag = omega arith; class = omega arith; next = below; mark = omega arith } in
-    (λ i. header_of (first i) (stays i)) ∙ ap (λ (header : Header). record header { mark = word_at old (16 * g + 8) }) (words unmarked fits)
+link_read old new g next stays first =
+    (λ i. header_of (first i) (stays i)) ∙ header_of-with_next (word_at old (16 * g)) (word_at old (16 * g + 8)) next

@@ -3,17 +3,29 @@ ghost use Rattle.chunk_header.specs.Seen.{seen, with_next};
 ghost use Rattle.granule_memory.specs.Changes.{ChangesOnlyBytes};
 ghost use Rattle.heap_theory.specs.Header.{header_at, with_header};
 ghost use Rattle.machine_theory.specs.Memory.{IsMemory};
-ghost use Rattle.std.specs.Prelude.{◌≡◌, ◌≢◌, ◌+◌, ◌*◌, ◌<◌, ◌^◌, length, ℕ};
+ghost use Rattle.std.specs.Prelude.{◌≡◌, ◌≢◌, ◌↔◌, ◌+◌, ◌*◌, ◌<◌, ◌^◌, length, IsTrue, ℕ};
 
 use crate::header::Header;
-use crate::words::{first_word, header_of, next_of, with_next_in};
+use crate::words::{class_of, first_word, header_of, next_of, with_next_in};
+use class_table::MOST_CLASSES;
 use granule_memory::Memory;
 use heap_theory::laws::headers::law_header;
 
-/// The header in a granule, which is below `granules()`. Any sixteen bytes are one: bits that are no field's are ignored.
+/// Whether the bytes of a granule, which is below `granules()`, spell a header: the class is below 32, and so bits 25 to 31 of the
+/// first word are 0.
+#[tactic(auto, unfolding(heap_theory::specs::Header::header_at))]
+pub fn is_header(memory: &Memory, granule: u32) -> bool
+    requires { granule < length memory.now }
+    ensures { IsTrue result ↔ ((header_at memory.now granule).class < 32) }
+{
+    class_of(memory.word(granule, 0)) < MOST_CLASSES as u64
+}
+
+/// The header in a granule, which is below `granules()` and has one, as `is_header` tells.
 #[tactic(auto, unfolding(heap_theory::specs::Header::header_at))]
 pub fn read(memory: &Memory, granule: u32) -> Header
-    requires { granule < length memory.now }
+    requires granule { granule < length memory.now }
+    requires class { (header_at memory.now granule).class < 32 }
     ensures header { seen result ≡ header_at memory.now granule }
     ensures size { result.size < 2 ^ 14 }
     ensures tag { result.tag < 16 }

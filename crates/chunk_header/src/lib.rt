@@ -6,7 +6,7 @@ mod granule;
 mod header;
 mod words;
 
-pub use granule::{next, read, set_next, write};
+pub use granule::{is_header, next, read, set_next, write};
 pub use header::{Header, State};
 
 #[cfg(test)]

@@ -1,9 +1,9 @@
 //! The words of a header. This is the one place where its fields are bits: of the first word, bits 0 to 1 say how the slot
-//! stands, 2 to 15 are the size, 16 to 19 the tag, 20 to 24 the class, 25 to 31 are 0, and 32 to 63 are the link. The second
-//! word is the mark.
+//! stands, 2 to 15 are the size, 16 to 19 the tag, 20 to 31 the class, and 32 to 63 the link. The second word is the mark.
+//! A class is below 32, so that bits 25 to 31 of a header are 0.
 ghost use Rattle.chunk_header.specs.Seen.{seen, standing_seen};
 ghost use Rattle.heap_theory.specs.Header.{FitsWords, code_of, first_word, header_of, standing_of};
-ghost use Rattle.std.specs.Prelude.{◌≡◌, ◌/◌, ◌<◌, ◌^◌, ℕ};
+ghost use Rattle.std.specs.Prelude.{◌≡◌, ◌/◌, ◌%◌, ◌<◌, ◌^◌, ℕ};
 
 use crate::header::{Header, State};
 
@@ -19,12 +19,12 @@ const TAG_MASK: u64 = (1 << 4) - 1;
 
 const CLASS_SHIFT: u32 = 20;
 
-const CLASS_MASK: u64 = (1 << 5) - 1;
+const CLASS_MASK: u64 = (1 << 12) - 1;
 
 const NEXT_SHIFT: u32 = 32;
 
 // the bits of all fields below the link
-const BELOW_NEXT_MASK: u64 = (1 << 25) - 1;
+const BELOW_NEXT_MASK: u64 = (1 << NEXT_SHIFT) - 1;
 
 /// The first word of a header.
 pub(crate) fn first_word(header: &Header) -> u64
@@ -43,6 +43,7 @@ pub(crate) fn first_word(header: &Header) -> u64
 
 /// The header that two words spell.
 pub(crate) fn header_of(first: u64, second: u64) -> Header
+    requires class { (header_of first second).class < 32 }
     ensures seen { seen result ≡ header_of first second }
     ensures size { result.size < 2 ^ 14 }
     ensures tag { result.tag < 16 }
@@ -52,10 +53,17 @@ pub(crate) fn header_of(first: u64, second: u64) -> Header
         state: state_of(first & STATE_MASK),
         size: ((first >> SIZE_SHIFT) & SIZE_MASK) as u16,
         tag: ((first >> TAG_SHIFT) & TAG_MASK) as u8,
-        class: ((first >> CLASS_SHIFT) & CLASS_MASK) as u8,
+        class: class_of(first) as u8,
         next: next_of(first),
         mark: second,
     }
+}
+
+/// The class in a first word.
+pub(crate) fn class_of(first: u64) -> u64
+    ensures { result ≡ first / 2 ^ 20 % 2 ^ 12 }
+{
+    (first >> CLASS_SHIFT) & CLASS_MASK
 }
 
 /// The link in a first word.

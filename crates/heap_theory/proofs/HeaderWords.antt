@@ -39,15 +39,15 @@ header_of-words header fits =
     let standing_is : standing_of (first_word header % 2 ^ 2) ≡ header.standing = ap standing_of code_is ∙ standing_of-code_of header.standing in
     let size_is : first_word header / 2 ^ 2 % 2 ^ 14 ≡ header.size = omega arith in
     let tag_is : first_word header / 2 ^ 16 % 2 ^ 4 ≡ header.tag = omega arith in
-    let class_is : first_word header / 2 ^ 20 % 2 ^ 5 ≡ header.class = omega arith in
+    let class_is : first_word header / 2 ^ 20 % 2 ^ 12 ≡ header.class = omega arith in
     let next_is : first_word header / 2 ^ 32 ≡ header.next = omega arith in
     λ i. record { standing = standing_is i; size = size_is i; tag = tag_is i; class = class_is i; next = next_is i; mark = header.mark }
 
 pub words_fit : (header : Header) → FitsWords header → (first_word header < 2 ^ 64) × (second_word header < 2 ^ 64)
 words_fit header fits = let code = code_fits header.standing in (omega arith, fits.mark)
 
-pub header_of-fits : (first second : ℕ) → first < 2 ^ 64 → second < 2 ^ 64 → FitsWords (header_of first second)
-header_of-fits first second one other = record { size = omega arith; tag = omega arith; class = omega arith; next = omega arith; mark = other }
+pub header_of-fits : (first second : ℕ) → first < 2 ^ 64 → second < 2 ^ 64 → (header_of first second).class < 32 → FitsWords (header_of first second)
+header_of-fits first second one other class = record { size = omega arith; tag = omega arith; class = class; next = omega arith; mark = other }
 
 -- ---- in memory
 

@@ -46,20 +46,20 @@ standing_of (suc zero) = Live
 standing_of (suc (suc zero)) = Quarantined
 standing_of (suc (suc (suc code))) = Freed
 
--- bits 0 to 1 say how the slot stands, 2 to 15 are the size, 16 to 19 the tag, 20 to 24 the class, 32 to 63 next, and the others 0
+-- bits 0 to 1 say how the slot stands, 2 to 15 are the size, 16 to 19 the tag, 20 to 31 the class, and 32 to 63 next
 abbrev pub first_word : Header → ℕ
 first_word header = code_of header.standing + 2 ^ 2 * header.size + 2 ^ 16 * header.tag + 2 ^ 20 * header.class + 2 ^ 32 * header.next
 
 abbrev pub second_word : Header → ℕ
 second_word header = header.mark
 
--- the header that two words spell
+-- The header that two words spell. Its class is below 32, and so bits 25 to 31 are 0, where a slot's header stands.
 abbrev pub header_of : ℕ → ℕ → Header
 header_of first second = record {
   standing = standing_of (first % 2 ^ 2);
   size = first / 2 ^ 2 % 2 ^ 14;
   tag = first / 2 ^ 16 % 2 ^ 4;
-  class = first / 2 ^ 20 % 2 ^ 5;
+  class = first / 2 ^ 20 % 2 ^ 12;
   next = first / 2 ^ 32;
   mark = second;
 }

@@ -19,7 +19,7 @@ abbrev pub WordsFit : Type 0
 WordsFit = (header : Header) → FitsWords header → (first_word header < 2 ^ 64) × (second_word header < 2 ^ 64)
 
 abbrev pub ReadHeaderFits : Type 0
-ReadHeaderFits = (first second : ℕ) → first < 2 ^ 64 → second < 2 ^ 64 → FitsWords (header_of first second)
+ReadHeaderFits = (first second : ℕ) → first < 2 ^ 64 → second < 2 ^ 64 → (header_of first second).class < 32 → FitsWords (header_of first second)
 
 -- ---- headers in memory
 

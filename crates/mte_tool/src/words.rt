@@ -87,7 +87,7 @@ Standard input is a sheet, and behind it a profile:
   limit K              the most classes that a table may have, 1 to 32
   step S               2, 4 or 8, where each class has to be a multiple of it; no such line for 1
   waste W              what the table is said to waste, in bytes
-  row N1 N2 ..         K rows of a number for each distinct need; all lines that begin with `row` are the sheet's
+  row N1 N2 ..         K rows of a number for each distinct need; all such lines directly behind are the sheet's
   SIZE COUNT           the profile, as for `score` and `tune`
 
 Written is `optimal`, where the sheet meets all of the conditions below: then no table of at most K classes that are multiples of S, and \

@@ -9,7 +9,7 @@ use Rattle.class_table.specs.Tables.{class_number_for}
 use Rattle.heap_theory.specs.declared.fault.NullCause.TheVariants.{Exhausted}
 use Rattle.heap_theory.specs.Calls.{chunk_tagged, given_out, next_tag}
 use Rattle.heap_theory.specs.Choice.{slot_for_request}
-use Rattle.heap_theory.specs.Header.{with_header}
+use Rattle.heap_theory.specs.Header.{Header, with_header}
 use Rattle.heap_theory.specs.Links.{IsLinked, next_in, list_of}
 use Rattle.tagged_heap.specs.Below.{LawsBelow}
 use Rattle.tagged_heap.specs.Chunks.{given_header, tag_for, HasRoom, HasClass, Takes}
@@ -21,7 +21,7 @@ use Rattle.tagged_heap.proofs.Changed.{list_slot}
 use Rattle.tagged_heap.proofs.Giving.{IsTaken, give_held, tag_drawn, long, take_front, take_fresh, take_none}
 use Rattle.tagged_heap.proofs.Opened.{region_of}
 use Rattle.tagged_heap.proofs.Shown.{shown_is}
-use Rattle.tagged_heap.proofs.Slots.{Contains-head}
+use Rattle.tagged_heap.proofs.Slots.{class_few, Contains-head}
 
 -- a front is the link to a slot
 front_few : (i : Inside) (held : IsHeld i) (number : ℕ) → number < length held.lists → slice_index i.lists number ≤ slot_count i.layout
@@ -80,6 +80,7 @@ module _ (laws : LawsBelow) (i : Inside) (held : IsHeld i) (m1 : List Granule) (
     memory_is = t.memory_is;
     size = few;
     room = t.given.room;
+    header = subst (λ (x : Header). x.class < 32) (sym t.before.own) (class_few laws (state_of i) s 0 held.kept.sound t.given.reusable.in_range);
   }
 
   -- what giving out makes of the machine

@@ -7,31 +7,27 @@ use Rattle.heap_theory.specs.Sound.{IsSoundHeap, IsTagOf, IsChunkTag}
 use Rattle.heap_theory.specs.State.{State, Heap, state_at, chunk_of}
 use Rattle.heap_theory.specs.State.State.{Fresh, Live, Dead}
 use Rattle.tagged_heap.specs.Below.{LawsBelow}
-use Rattle.tagged_heap.specs.Bookkeeping.{IsKept, ChunksAreTagged, ParitiesDiffer}
+use Rattle.tagged_heap.specs.Bookkeeping.{IsKeptIn, ChunksAreTagged, ParitiesDiffer}
 use Rattle.tagged_heap.specs.Keeping.{IsKeptBy}
 
-pub kept_said : LawsBelow → (h : Heap) (m : List Granule) (front : ℕ) (fronts queue : List ℕ) (lists : List (List ℕ)) → IsKeptBy h m front fronts queue lists → IsKept h
+pub kept_said : LawsBelow → (h : Heap) (m : List Granule) (front : ℕ) (fronts queue : List ℕ) (lists : List (List ℕ)) → IsKeptBy h m front fronts queue lists → IsKeptIn h m
 kept_said laws h m front fronts queue lists k = record {
-  sound = k.sound;
-  memory = m;
+  seen = k.seen;
+  headers = k.headers.headers;
+  unlinked = k.headers.unlinked;
   front = front;
-  fronts = fronts;
   queue = queue;
+  queue_linked = k.linked.queue_linked;
+  queue_holds = laws.queue_holds h queue lists k.sound k.booked;
+  queue_once = laws.each_once (next_in h.layout m) front queue k.linked.queue_linked;
+  fronts = fronts;
   lists = lists;
-  bookkept = record {
-    seen = k.seen;
-    headers = k.headers.headers;
-    unlinked = k.headers.unlinked;
-    queue_linked = k.linked.queue_linked;
-    queue_holds = laws.queue_holds h queue lists k.sound k.booked;
-    queue_once = laws.each_once (next_in h.layout m) front queue k.linked.queue_linked;
-    fronts_long = k.linked.fronts_long ∙ k.booked.booked.long;
-    list_linked = λ number within. k.linked.lists_linked number (in_lists number within);
-    list_holds = λ number class found. laws.lists_hold h queue lists number class k.sound k.booked found;
-    list_once = λ number within. laws.each_once (next_in h.layout m) _ (list_of lists number) (k.linked.lists_linked number (in_lists number within));
-    one_list = λ a b s in_a in_b there also. laws.one_list_has h queue lists a b s k.sound k.booked (in_lists a in_a) (in_lists b in_b) there also;
-    apart = λ number s within queued listed. laws.queue_apart h queue lists number s k.booked (in_lists number within) queued listed;
-  };
+  fronts_long = k.linked.fronts_long ∙ k.booked.booked.long;
+  list_linked = λ number within. k.linked.lists_linked number (in_lists number within);
+  list_holds = λ number class found. laws.lists_hold h queue lists number class k.sound k.booked found;
+  list_once = λ number within. laws.each_once (next_in h.layout m) _ (list_of lists number) (k.linked.lists_linked number (in_lists number within));
+  one_list = λ a b s in_a in_b there also. laws.one_list_has h queue lists a b s k.sound k.booked (in_lists a in_a) (in_lists b in_b) there also;
+  apart = λ number s within queued listed. laws.queue_apart h queue lists number s k.booked (in_lists number within) queued listed;
 }
   where
     in_lists : (number : ℕ) → number < length fronts → number < length lists

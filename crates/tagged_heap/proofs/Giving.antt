@@ -69,10 +69,6 @@ pub tag_is : (h : Heap) (s next : ℕ) → (header_for h s next).tag ≡ last_ta
 unfolding header_for
 tag_is h s next = refl
 
-pub class_is : (h : Heap) (s next : ℕ) → (header_for h s next).class ≡ class_number h.layout s
-unfolding header_for
-class_is h s next = refl
-
 given_header_is : (h : Heap) (s n : ℕ) → s < length h.states → given_header (header_for h s 0) n (next_tag h s) ≡ header_for (given_out h s n) s 0
 unfolding given_out header_for
 given_header_is h s n within =

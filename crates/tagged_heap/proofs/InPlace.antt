@@ -21,7 +21,7 @@ use Rattle.tagged_heap.proofs.Changed.{kept_changed}
 use Rattle.tagged_heap.proofs.Firsts.{firsts_stay}
 use Rattle.tagged_heap.proofs.Giving.{tag_is}
 use Rattle.tagged_heap.proofs.HeaderPlaces.{length-without_headers, then_tagged, written_header}
-use Rattle.tagged_heap.proofs.Opened.{state_seen, region_of, ends_within}
+use Rattle.tagged_heap.proofs.Opened.{state_seen, region_of, ends_within, class_shown}
 use Rattle.tagged_heap.proofs.Shown.{shown_is}
 
 module _ (laws : LawsBelow) (h : Heap) (frees : ℕ) (m : List Granule) (q : Queue) (fronts firsts : List ℕ) (k : IsHeldIn h frees m q fronts firsts) (s size tag n : ℕ) (in_range : IsSlot h s)
@@ -131,6 +131,7 @@ module _ (laws : LawsBelow) (i : Inside) (v : Counted) (view : seen i ≡ v) (he
     memory_is = held.memory_is;
     size = few;
     room = own_room;
+    header = class_shown laws i s held own_range;
   }
 
   module _ (machine : Machine) (is : IsResizedBy i s n machine) (memory : IsMemory machine.memory) where

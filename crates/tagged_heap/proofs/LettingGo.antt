@@ -16,15 +16,11 @@ use Rattle.tagged_heap.specs.Keeping.{header_in, IsReleasing, IsRewritten}
 use Rattle.tagged_heap.specs.View.{IsLettingGo}
 use Rattle.tagged_heap.proofs.HeaderPlaces.{length-without_headers, header_unseen, start_inside, first_or_more, starts_differ}
 use Rattle.tagged_heap.proofs.Releasing.{as_quarantined, with_link, released_step}
-use Rattle.tagged_heap.proofs.Slots.{in_chain, in_list, Contains-head}
+use Rattle.tagged_heap.proofs.Slots.{class_few, class_is, in_chain, in_list, Contains-head}
 
 -- a header has its slot's class, however it stands
-class_of_header : (h : Heap) (s next : ℕ) → (header_for h s next).class ≡ class_number h.layout s
-unfolding header_for
-class_of_header h s next = refl
-
 class_of_quarantined : (h : Heap) (s next : ℕ) → (as_quarantined (header_for h s next)).class ≡ class_number h.layout s
-class_of_quarantined h s next = class_of_header h s next
+class_of_quarantined h s next = class_is h s next
 
 module _ (laws : LawsBelow) (h : Heap) (m : List Granule) (q : Queue) (fronts : List ℕ) (g : IsLettingGo h m q fronts) where
   pub region : length m ≡ h.layout.granules
@@ -70,6 +66,9 @@ module _ (laws : LawsBelow) (h : Heap) (m : List Granule) (q : Queue) (fronts : 
     pub front_class : (header_in h.layout m1 s).class ≡ class_number h.layout s
     front_class =
         ap (λ (x : Header). x.class) (link.header ∙ ap (λ x. with_link x 0) (g.releasing.headers.queued s front_slot front_in)) ∙ class_of_quarantined h s (next_in h.layout m s)
+
+    pub front_class_few : (header_in h.layout m1 s).class < 32
+    front_class_few = omega (arith, front_class, class_is h s 0, class_few laws h s 0 g.releasing.sound front_slot)
 
     pub class_found : slice_get h.layout.classes (header_in h.layout m1 s).class ≡ Some (slot_in h s).class
     class_found = ap (slice_get h.layout.classes) front_class ∙ laws.class_number_is h.layout s front_slot
@@ -121,9 +120,15 @@ pub record IsLetOut (layout : Partition) (m m1 : List Granule) (q q1 : Queue) (s
   pub limit : q1.limit ≡ q.limit
   pub link : SetsLink layout m m1 s 0
 
+-- the number of a class, with its front
+pub record IsListed (fronts : List ℕ) (class : ℕ) : Type 0 where
+  pub few : class < 32
+  pub listed : class < length fronts
+  pub front : slice_index fronts class < 2 ^ 32
+
 abbrev Fits : Heap → List ℕ → List Granule → List Granule → Queue → Queue → ℕ → Partition → Type 0
 Fits h fronts m m1 q q1 s layout =
-    IsLetOut layout m m1 q q1 s → ((header_in layout m1 s).class < length fronts) × (slice_index fronts (header_in layout m1 s).class < 2 ^ 32)
+    IsLetOut layout m m1 q q1 s → IsListed fronts (header_in layout m1 s).class
 
 abbrev Steps : Heap → List ℕ → List Granule → List Granule → List Granule → Queue → Queue → ℕ → Partition → Type 0
 Steps h fronts m m1 m2 q q1 s layout =
@@ -140,10 +145,11 @@ module _ (laws : LawsBelow) (h : Heap) (layout : Partition) (is : h.layout ≡ l
 
   pub list_fits : (m1 : List Granule) (q1 : Queue) (s : ℕ) → Fits h fronts m m1 q q1 s layout
   list_fits m1 q1 s = subst (Fits h fronts m m1 q q1 s) is
-      (λ out. let oldest = out.oldest g.queue (as_queue laws h m q fronts g) in (
-        class_in_fronts laws h m q fronts g m1 s oldest out.link,
-        front_fits laws h m q fronts g _ (class_within laws h m q fronts g m1 s oldest out.link),
-      ))
+      (λ out. let oldest = out.oldest g.queue (as_queue laws h m q fronts g) in record {
+        few = front_class_few laws h m q fronts g m1 s oldest out.link;
+        listed = class_in_fronts laws h m q fronts g m1 s oldest out.link;
+        front = front_fits laws h m q fronts g _ (class_within laws h m q fronts g m1 s oldest out.link);
+      })
 
   pub step_at : (m1 m2 : List Granule) (q1 : Queue) (s : ℕ) → Steps h fronts m m1 m2 q q1 s layout
   step_at m1 m2 q1 s = subst (Steps h fronts m m1 m2 q q1 s) is

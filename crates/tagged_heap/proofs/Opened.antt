@@ -11,6 +11,7 @@ use Rattle.tagged_heap.specs.View.{Counted, shown_heap}
 use Rattle.tagged_heap.specs.declared.heap.Heap.TheInside.{Inside}
 use Rattle.tagged_heap.proofs.HeaderPlaces.{length-without_headers}
 use Rattle.tagged_heap.proofs.Giving.{tag_is}
+use Rattle.tagged_heap.proofs.Slots.{class_few}
 
 pub state_seen : (i : Inside) (v : Counted) → seen i ≡ v → state_of i ≡ v.state
 state_seen i v view = ap (λ (v : Counted). v.state) view
@@ -30,6 +31,11 @@ ends_within i s held within = held.kept.sound.slots.inside s within
 pub header_shows : (i : Inside) (s : ℕ) → IsHeld i → s < slot_count i.layout → header_in i.layout i.machine.memory s ≡ header_for (state_of i) s (next_in i.layout i.machine.memory s)
 unfolding shown_heap
 header_shows i s held within = held.kept.headers.headers s within
+
+pub class_shown : LawsBelow → (i : Inside) (s : ℕ) → IsHeld i → s < slot_count i.layout → (header_in i.layout i.machine.memory s).class < 32
+unfolding shown_heap
+class_shown laws i s held within =
+    subst (λ (x : Header). x.class < 32) (sym (header_shows i s held within)) (class_few laws (state_of i) s (next_in i.layout i.machine.memory s) held.kept.sound within)
 
 pub tag_shown : (i : Inside) (s : ℕ) → IsHeld i → s < slot_count i.layout → (header_in i.layout i.machine.memory s).tag ≡ last_tag (state_at (state_of i) s)
 tag_shown i s held within = ap (λ (x : Header). x.tag) (header_shows i s held within) ∙ tag_is (state_of i) s _

@@ -1,12 +1,15 @@
 -- Slots in lists, and what their headers say.
 use Rattle.std.proofs.Common.{◌≡◌, ◌⊎◌, ℕ, zero, suc, ◌+◌, ◌<◌, ◌≤◌, true, List, [], ◌∷◌, length, get_or, refl, sym, ◌∙◌, subst, inl, inr, arith}
 use Rattle.std.specs.Prelude.{Contains}
+use Rattle.std.proofs.lemmas.Option.{slice_get_within}
 use Rattle.class_table.specs.Layout.{block_bytes}
 use Rattle.heap_theory.specs.Booked.{HasMark, IsChain, IsFreedList}
 use Rattle.heap_theory.specs.Choice.{is_dead, mark_of}
-use Rattle.heap_theory.specs.Header.{standing_in}
+use Rattle.heap_theory.specs.Header.{header_for, standing_in, class_number}
+use Rattle.heap_theory.specs.Sound.{IsSoundHeap}
 use Rattle.heap_theory.specs.State.{State, Heap, slot_in, state_at, IsSlot}
 use Rattle.heap_theory.specs.State.State.{Fresh, Live, Dead}
+use Rattle.tagged_heap.specs.Below.{LawsBelow}
 
 -- ---- elements of lists
 
@@ -69,6 +72,16 @@ in_list h class bound (r ∷ rest) s f there = elim (Contains-cases r rest s the
 ]
 
 -- ---- headers
+
+-- a header has its slot's class,
+pub class_is : (h : Heap) (s next : ℕ) → (header_for h s next).class ≡ class_number h.layout s
+unfolding header_for
+class_is h s next = refl
+
+-- which is one of at most 32
+pub class_few : LawsBelow → (h : Heap) (s next : ℕ) → IsSoundHeap h → IsSlot h s → (header_for h s next).class < 32
+class_few laws h s next sound in_range =
+    omega (arith, class_is h s next, slice_get_within h.layout.classes _ _ (laws.class_number_is h.layout s in_range), sound.region.table.few)
 
 -- how a slot stands depends on the limit, the total and its state
 pub same_standing : (h k : Heap) (x : State) → k.quarantine ≡ h.quarantine → k.total ≡ h.total → standing_in k x ≡ standing_in h x

@@ -26,7 +26,7 @@ use Rattle.tagged_heap.proofs.Firsts.{firsts_stay}
 use Rattle.tagged_heap.proofs.Giving.{tag_is}
 use Rattle.tagged_heap.proofs.HeaderPlaces.{length-without_headers, header_unseen, starts_differ, then_tagged, written_header}
 use Rattle.tagged_heap.proofs.Releasing.{as_quarantined, with_link, queued_step, kept_at_last}
-use Rattle.tagged_heap.proofs.Slots.{dead_of}
+use Rattle.tagged_heap.proofs.Slots.{class_few, dead_of}
 
 -- ---- sizes
 
@@ -79,6 +79,7 @@ module _ (laws : LawsBelow) (h : Heap) (frees : ℕ) (m : List Granule) (q : Que
         memory_is = k.memory_is;
         size = size_most n (slot_in h s).class room (class_most laws h s k.kept.sound in_range);
         room = room;
+        header = subst (λ (x : Header). x.class < 32) (sym (k.kept.headers.headers s in_range)) (class_few laws h s _ k.kept.sound in_range);
       })
 
   within : s < length h.states

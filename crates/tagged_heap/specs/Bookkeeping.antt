@@ -12,18 +12,21 @@ use Rattle.tagged_heap.specs.Keeping.{header_in}
 
 -- ---- headers and links
 
--- The region of a heap, with the link to the slot that was freed first of the quarantined ones, and for each class the link to the released
--- slot that was freed last.
-pub record IsBookkept (heap : Heap) (memory : List Granule) (front : ℕ) (fronts queue : List ℕ) (lists : List (List ℕ)) : Type 0 where
+-- The region of a heap: its headers, and the queue and lists that are linked through them.
+pub record IsKeptIn (heap : Heap) (memory : List Granule) : Type 0 where
   -- each header shows how its slot stands
   pub seen : without_headers heap.layout memory ≡ heap.memory
   pub headers : (s : ℕ) → IsSlot heap s → header_in heap.layout memory s ≡ header_for heap s (next_in heap.layout memory s)
   pub unlinked : (s : ℕ) → IsSlot heap s → IsFalse (is_dead (state_at heap s)) → next_in heap.layout memory s ≡ 0
   -- from the quarantine's front the links meet each quarantined slot once, in ascending mark, and end
+  pub front : ℕ
+  pub queue : List ℕ
   pub queue_linked : IsLinked (next_in heap.layout memory) front queue
   pub queue_holds : HoldsQuarantined heap queue
   pub queue_once : AllPairs (λ s r. s ≢ r) queue
   -- from each class's front they meet each of its released slots once, in descending mark, and end
+  pub fronts : List ℕ
+  pub lists : List (List ℕ)
   pub fronts_long : length fronts ≡ length heap.layout.classes
   pub list_linked : (number : ℕ) → number < length fronts → IsLinked (next_in heap.layout memory) (slice_index fronts number) (list_of lists number)
   pub list_holds : (number class : ℕ) → slice_get heap.layout.classes number ≡ Some class → HoldsReleased heap class (list_of lists number)
@@ -31,16 +34,6 @@ pub record IsBookkept (heap : Heap) (memory : List Granule) (front : ℕ) (front
   -- no slot is in two lists, or in a list and in the queue
   pub one_list : (a b s : ℕ) → a < length fronts → b < length fronts → Contains (list_of lists a) s → Contains (list_of lists b) s → a ≡ b
   pub apart : (number s : ℕ) → number < length fronts → Contains queue s → Contains (list_of lists number) s → ⊥
-
--- A heap that is kept in some region so; the tags of its granules are those of a sound heap.
-pub record IsKept (heap : Heap) : Type 0 where
-  pub sound : IsSoundHeap heap
-  pub memory : List Granule
-  pub front : ℕ
-  pub fronts : List ℕ
-  pub queue : List ℕ
-  pub lists : List (List ℕ)
-  pub bookkept : IsBookkept heap memory front fronts queue lists
 
 -- ---- the tags of chunks
 

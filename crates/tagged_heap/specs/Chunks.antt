@@ -41,6 +41,7 @@ pub record HasRoom (layout : Partition) (memory : List Granule) (s n : ℕ) : Ty
   pub memory_is : IsMemory memory
   pub size : n ≤ 16368
   pub room : chunk_granules n < (slot_of layout s).class
+  pub header : (header_in layout memory s).class < 32
 
 -- ---- a slot is taken for a request
 

@@ -3,12 +3,14 @@ ghost use Rattle.heap_theory.specs.Places.{place_kind};
 ghost use Rattle.machine_theory.specs.Access.{IsMapped, access_fault, is_mapped, loaded, ok_unless, stored};
 ghost use Rattle.machine_theory.specs.Address.{logical_tag};
 ghost use Rattle.std.specs.Prelude.{◌≡◌, ◌≢◌, ◌↔◌, ◌⊎◌, ◌≤◌, IsFalse, IsTrue, OnErr, OnOk, length};
+ghost use Rattle.tagged_heap.specs.Bookkeeping.{IsKeptIn};
 
 use crate::headers::header;
 use crate::heap::Heap;
 use crate::laws_below::laws_below;
 use crate::tags::chunk_granules;
 use chunk_header::State;
+use granule_memory::Memory;
 use heap_theory::PlaceKind;
 use tag_machine::Fault;
 
@@ -54,6 +56,16 @@ impl Heap {
     {
         laws_below();
         self.machine.mapped(address, len)
+    }
+
+    /// The memory of the region as it stands, headers and links included, to be looked at: each header decodes and agrees with the
+    /// heap's state; from the quarantine's front the links visit each quarantined slot once in ascending mark, from each class's
+    /// front each of its released slots once in descending mark; no slot is in two of these, and no fresh or live one in any.
+    pub fn memory(&self) -> &Memory
+        ensures { IsKeptIn self.now.state result.now }
+    {
+        laws_below();
+        self.machine.memory()
     }
 
     /// What a granule is to the heap; past the region it is slack.

@@ -52,7 +52,7 @@ impl Heap {
         ensures refused { OnErr result (self.new ≡ self.old) }
     {
         laws_below();
-        self.law_state();
+        self.law_sound();
         let slot = self.allocate(n)?;
         self.zero_chunk(slot, n);
         Ok(self.pointer(slot))

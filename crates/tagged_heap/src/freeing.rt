@@ -110,6 +110,7 @@ fn list_freed(memory: &mut Memory, layout: &Layout, lists: &mut ClassLists, slot
     requires region { length memory.old ≡ layout.now.granules }
     requires memory { IsMemory memory.old }
     requires order { AreInOrder layout.now }
+    requires few { (header_in layout.now memory.old slot).class < 32 }
     requires class { (header_in layout.now memory.old slot).class < length lists.old }
     requires front { slice_index lists.old (header_in layout.now memory.old slot).class < 2 ^ 32 }
     ensures header { let before = header_in layout.now memory.old slot in

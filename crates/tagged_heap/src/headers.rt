@@ -13,6 +13,7 @@ use granule_memory::Memory;
 pub(crate) fn header(memory: &Memory, layout: &Layout, slot: u32) -> Header
     requires slot { slot < slot_count layout.now }
     requires region { length memory.now ≡ layout.now.granules }
+    requires class { (header_in layout.now memory.now slot).class < 32 }
     ensures header { seen result ≡ header_in layout.now memory.now slot }
     ensures fits { FitsWords (seen result) }
     ensures size { result.size < 2 ^ 14 }

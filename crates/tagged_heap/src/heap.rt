@@ -27,7 +27,7 @@ pub struct Config {
 /// A heap over one region of tagged memory: it gives out chunks under random tags, and holds freed ones back for a while.
 ///
 /// It is seen as the heap state of the definitions, in which the bytes of headers do not stand, and the number of its frees. What stands in
-/// the headers, and how they are linked, is told by `law_kept`.
+/// the headers, and how they are linked, is told by `memory`.
 #[derive(Drop)]
 pub struct Heap {
     pub(crate) machine: Machine,

@@ -1,7 +1,7 @@
 //! What is true of every heap, each law the contract of a call that does nothing; and the laws of whole runs, from `heap_theory`.
 ghost use Rattle.heap_theory.specs.HeaderLaws.{HeadersAreSpared};
 ghost use Rattle.heap_theory.specs.Sound.{IsSoundHeap};
-ghost use Rattle.tagged_heap.specs.Bookkeeping.{ChunksAreTagged, IsKept, ParitiesDiffer};
+ghost use Rattle.tagged_heap.specs.Bookkeeping.{ChunksAreTagged, ParitiesDiffer};
 
 use crate::heap::Heap;
 use crate::laws_below::laws_below;
@@ -17,14 +17,11 @@ pub fn law_headers_spared()
 }
 
 impl Heap {
-    /// What stands in the region: each header decodes and agrees with the state; from the quarantine's front the links visit each
-    /// quarantined slot once in ascending mark, from each class's front each of its released slots once in descending mark; no
-    /// slot is in two of these, and no fresh or live one in any. Headers, slack and tails have tag 0.
-    pub fn law_kept(&self)
-        ensures kept { IsKept self.now.state }
-        ensures sound { IsSoundHeap self.now.state }
+    /// Headers, slack and tails have tag 0; the chunk granules of a slot share one tag, which is the slot's while it is live, and
+    /// another one that it may take once it is freed.
+    pub fn law_sound(&self)
+        ensures { IsSoundHeap self.now.state }
     {
-        laws_below();
         let _ = &self.layout;
     }
 

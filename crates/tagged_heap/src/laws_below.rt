@@ -1,8 +1,6 @@
 //! What the proofs of this crate cite of the laws below it.
-ghost use Rattle.heap_theory.specs.Sound.{IsSoundHeap};
 ghost use Rattle.tagged_heap.specs.Below.{LawsBelow};
 
-use crate::heap::Heap;
 use class_table::laws::law_class_for;
 use class_table::layout_laws::{law_layout, law_slot_over};
 use heap_theory::laws::booking::{law_booking, law_front, law_held};
@@ -29,13 +27,4 @@ pub(crate) fn laws_below()
     law_layout();
     law_slot_over();
     law_class_for();
-}
-
-impl Heap {
-    // what is true of every heap
-    pub(crate) fn law_state(&self)
-        ensures { IsSoundHeap self.now.state }
-    {
-        let _ = &self.layout;
-    }
 }

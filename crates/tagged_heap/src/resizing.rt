@@ -26,6 +26,7 @@ impl Heap {
         ensures answer { result ≡ (realloc_step self.old.state p n).answer }
         ensures state { self.new.state ≡ (realloc_step self.old.state p n).heap }
         ensures counted { self.new.frees ≡ self.old.frees + frees_of_realloc self.old.state p n }
+        ensures at_most_one { self.new.frees ≤ self.old.frees + 1 }
         ensures refused { OnErr result (self.new ≡ self.old) }
     {
         if p == 0 {
@@ -56,7 +57,7 @@ impl Heap {
     {
         laws_below();
         law_reads();
-        self.law_state();
+        self.law_sound();
         let slot = self.allocate(n)?;
         let moved_to = self.pointer(slot);
         self.copy_payload(chunk.slot, slot, chunk.size.min(n));

@@ -21,6 +21,6 @@ returns-clause-read c =
     let new = c.set_word.new.self in
     let at : 16 * g + 0 ≡ 16 * g = omega arith in
     let word = c.with_next_in-word.ensures 0 ∙ word_linked old g c.args.next c.word.result 0 c.word.ensures in
-    link_read c.law_header.ensures.words old new g c.args.next c.ranges.next.fits
+    link_read old new g c.args.next
     (c.set_word.ensures.others.word (16 * g + 8) (inr (omega arith)))
     (ap (word_at new) (sym at) ∙ c.set_word.ensures.word ∙ word)

@@ -5,7 +5,7 @@ use Rattle.chunk_header.proofs.words.with_next_in.Goals as goal
 
 pub returns : goal.returns
 returns c = λ second.
-    let masked : bit_and c.args.first 33554431 ≡ c.args.first % 2 ^ 25 = and_mask c.args.first 25 in
+    let masked : bit_and c.args.first 4294967295 ≡ c.args.first % 2 ^ 32 = and_mask c.args.first 32 in
     let word = first_word-with_next c.args.first second c.args.next in
     let from = c.from.ensures in
     let fits = c.ranges.next.fits in

@@ -1,10 +1,11 @@
 use Rattle.std.proofs.Common.{◌≡◌, ap, refl, sym, subst}
 use Rattle.heap_theory.specs.State.{Heap}
 use Rattle.quarantine_core.specs.Queue.{Queue}
+use Rattle.tagged_heap.specs.Keeping.{header_in}
 use Rattle.tagged_heap.specs.View.{IsLettingGo}
-use Rattle.tagged_heap.proofs.LettingGo.{region_at, stands_at, list_fits, step_at}
+use Rattle.tagged_heap.proofs.LettingGo.{IsLetOut, IsListed, region_at, stands_at, list_fits, step_at}
 use Rattle.tagged_heap.proofs.freeing.let_go.Goals as goal
-use Rattle.tagged_heap.proofs.freeing.let_go.Goals.{After-list_freed}
+use Rattle.tagged_heap.proofs.freeing.let_go.Goals.{In-Some, After-list_freed}
 
 pub next_out-requires-clause-region : goal.next_out-requires-clause-region
 next_out-requires-clause-region c =
@@ -16,45 +17,41 @@ next_out-requires-clause-linked c =
     let some = c.loop-slot.invariant.0 in
     stands_at c.laws_below.ensures some.0 c.args.layout.now some.1 c.loop-slot.memory c.loop-slot.quarantine c.loop-slot.lists some.2
 
-pub list_freed-requires-clause-class : goal.list_freed-requires-clause-class
-list_freed-requires-clause-class c =
+-- what was taken off
+let_out : (c : In-Some) → IsLetOut c.args.layout.now c.loop-slot.memory c.next_out.new.memory c.loop-slot.quarantine c.next_out.new.self c.in-Some.slot
+let_out c = record {
+  over = c.in-Some.ensures.over.0 refl;
+  oldest = c.in-Some.ensures.oldest;
+  queued = c.in-Some.ensures.queued;
+  front = ap (λ (q : Queue). q.front) c.in-Some.ensures.value;
+  limit = ap (λ (q : Queue). q.limit) c.in-Some.ensures.value;
+  link = c.in-Some.ensures.link;
+}
+
+-- where it is put
+listed : (c : In-Some) → IsListed c.loop-slot.lists (header_in c.args.layout.now c.next_out.new.memory c.in-Some.slot).class
+listed c =
     let some = c.loop-slot.invariant.0 in
-    (list_fits c.laws_below.ensures some.0 c.args.layout.now some.1 c.loop-slot.memory c.loop-slot.quarantine c.loop-slot.lists some.2 c.next_out.new.memory c.next_out.new.self c.in-Some.slot (record {
-      over = c.in-Some.ensures.over.0 refl;
-      oldest = c.in-Some.ensures.oldest;
-      queued = c.in-Some.ensures.queued;
-      front = ap (λ (q : Queue). q.front) c.in-Some.ensures.value;
-      limit = ap (λ (q : Queue). q.limit) c.in-Some.ensures.value;
-      link = c.in-Some.ensures.link;
-    })).0
+    list_fits c.laws_below.ensures some.0 c.args.layout.now some.1 c.loop-slot.memory c.loop-slot.quarantine c.loop-slot.lists some.2 c.next_out.new.memory c.next_out.new.self c.in-Some.slot (let_out c)
+
+pub list_freed-requires-clause-few : goal.list_freed-requires-clause-few
+list_freed-requires-clause-few c = (listed (goal.at.list_freed-requires-clause-few c).In-Some).few
+
+pub list_freed-requires-clause-class : goal.list_freed-requires-clause-class
+list_freed-requires-clause-class c = (listed (goal.at.list_freed-requires-clause-class c).In-Some).listed
 
 pub list_freed-requires-clause-front : goal.list_freed-requires-clause-front
-list_freed-requires-clause-front c =
-    let some = c.loop-slot.invariant.0 in
-    (list_fits c.laws_below.ensures some.0 c.args.layout.now some.1 c.loop-slot.memory c.loop-slot.quarantine c.loop-slot.lists some.2 c.next_out.new.memory c.next_out.new.self c.in-Some.slot (record {
-      over = c.in-Some.ensures.over.0 refl;
-      oldest = c.in-Some.ensures.oldest;
-      queued = c.in-Some.ensures.queued;
-      front = ap (λ (q : Queue). q.front) c.in-Some.ensures.value;
-      limit = ap (λ (q : Queue). q.limit) c.in-Some.ensures.value;
-      link = c.in-Some.ensures.link;
-    })).1
+list_freed-requires-clause-front c = (listed (goal.at.list_freed-requires-clause-front c).In-Some).front
 
-next : (c : After-list_freed) (heap : Heap) → heap.layout ≡ c.args.layout.now → IsLettingGo heap c.loop-slot.memory c.loop-slot.quarantine c.loop-slot.lists →
+next : (c : After-list_freed) → (out : IsLetOut c.args.layout.now c.loop-slot.memory c.next_out.new.memory c.loop-slot.quarantine c.next_out.new.self c.in-Some.slot) (heap : Heap) → heap.layout ≡ c.args.layout.now → IsLettingGo heap c.loop-slot.memory c.loop-slot.quarantine c.loop-slot.lists →
     IsLettingGo heap c.list_freed.new.memory c.next_out.new.self c.list_freed.new.lists
-next c heap is g =
+next c out heap is g =
     subst (IsLettingGo heap c.list_freed.new.memory c.next_out.new.self) (sym c.list_freed.ensures.front)
     (step_at c.laws_below.ensures heap c.args.layout.now is c.loop-slot.memory c.loop-slot.quarantine c.loop-slot.lists g c.next_out.new.memory c.list_freed.new.memory c.next_out.new.self c.in-Some.slot
-    (record {
-      over = c.in-Some.ensures.over.0 refl;
-      oldest = c.in-Some.ensures.oldest;
-      queued = c.in-Some.ensures.queued;
-      front = ap (λ (q : Queue). q.front) c.in-Some.ensures.value;
-      limit = ap (λ (q : Queue). q.limit) c.in-Some.ensures.value;
-      link = c.in-Some.ensures.link;
-    }) c.list_freed.ensures.header c.list_freed.ensures.memory)
+    out c.list_freed.ensures.header c.list_freed.ensures.memory)
 
 pub loop-slot-preserved : goal.loop-slot-preserved
 loop-slot-preserved c =
     let some = c.loop-slot.invariant.0 in
-    ((some.0, some.1, next c some.0 some.1 some.2), λ heap is g. next c heap is (c.loop-slot.invariant.1 heap is g))
+    let out = let_out (goal.at.loop-slot-preserved c).In-Some in
+    ((some.0, some.1, next c out some.0 some.1 some.2), λ heap is g. next c out heap is (c.loop-slot.invariant.1 heap is g))

@@ -22,7 +22,7 @@ zero_chunk-requires-clause-size c = size_of_given _ _ _ c.in_ok-slot.ensures.slo
 
 pub zero_chunk-requires-clause-room : goal.zero_chunk-requires-clause-room
 zero_chunk-requires-clause-room c =
-    rw c.in_ok-slot.ensures.given (room_given _ _ _ _ (c.laws_below.ensures.request _ _ _ c.law_state.ensures (sym c.in_ok-slot.ensures.slot)).room)
+    rw c.in_ok-slot.ensures.given (room_given _ _ _ _ (c.laws_below.ensures.request _ _ _ c.law_sound.ensures (sym c.in_ok-slot.ensures.slot)).room)
 
 pub pointer-requires : goal.pointer-requires
 pointer-requires c =

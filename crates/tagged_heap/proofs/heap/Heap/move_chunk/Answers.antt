@@ -17,18 +17,18 @@ copy_payload-requires-clause-to c = rw c.in_ok-slot.ensures.given (slot_given _ 
 
 pub copy_payload-requires-clause-apart : goal.copy_payload-requires-clause-apart
 copy_payload-requires-clause-apart c =
-    let given = c.laws_below.ensures.request _ _ _ c.law_state.ensures (sym c.in_ok-slot.ensures.slot) in
+    let given = c.laws_below.ensures.request _ _ _ c.law_sound.ensures (sym c.in_ok-slot.ensures.slot) in
     live_apart _ _ _ _ _ c.requires.live.1 given.reusable
 
 pub copy_payload-requires-clause-source : goal.copy_payload-requires-clause-source
 copy_payload-requires-clause-source c =
-    let room = (c.law_state.ensures.tagged _ c.requires.slot).room in
+    let room = (c.law_sound.ensures.tagged _ c.requires.slot).room in
     let live : chunk_of (state_at c.args.self.now.state c.args.chunk.slot) ≡ chunk_granules c.args.chunk.size = ap chunk_of c.requires.live.1 in
     rw (c.in_ok-slot.ensures.given, same_slot) (omega (arith, room, live, c.min.ensures))
 
 pub copy_payload-requires-clause-target : goal.copy_payload-requires-clause-target
 copy_payload-requires-clause-target c =
-    let room = (c.laws_below.ensures.request _ _ _ c.law_state.ensures (sym c.in_ok-slot.ensures.slot)).room in
+    let room = (c.laws_below.ensures.request _ _ _ c.law_sound.ensures (sym c.in_ok-slot.ensures.slot)).room in
     rw (c.in_ok-slot.ensures.given, same_slot) (omega (arith, room, c.min.ensures))
 
 pub release-requires-clause-slot : goal.release-requires-clause-slot
@@ -36,13 +36,13 @@ release-requires-clause-slot c = rw (c.copy_payload.ensures, c.in_ok-slot.ensure
 
 pub release-requires-clause-live : goal.release-requires-clause-live
 release-requires-clause-live c =
-    let given = c.laws_below.ensures.request _ _ _ c.law_state.ensures (sym c.in_ok-slot.ensures.slot) in
+    let given = c.laws_below.ensures.request _ _ _ c.law_sound.ensures (sym c.in_ok-slot.ensures.slot) in
     let apart = live_apart _ _ _ _ _ c.requires.live.1 given.reusable in
     (c.args.chunk.size, c.requires.live.0, rw (c.copy_payload.ensures, c.in_ok-slot.ensures.given, state_written) (live_given _ _ _ _ _ _ apart c.requires.live.1))
 
 pub returns-clause-ok : goal.returns-clause-ok
 returns-clause-ok c =
-    let given = c.laws_below.ensures.request _ _ _ c.law_state.ensures (sym c.in_ok-slot.ensures.slot) in
+    let given = c.laws_below.ensures.request _ _ _ c.law_sound.ensures (sym c.in_ok-slot.ensures.slot) in
     let apart = live_apart _ _ _ _ _ c.requires.live.1 given.reusable in
     let live : state_at c.copy_payload.new.self.state c.args.chunk.slot ≡ Live c.args.chunk.size c.requires.live.0
     = rw (c.copy_payload.ensures, c.in_ok-slot.ensures.given, state_written) (live_given _ _ _ _ _ _ apart c.requires.live.1) in (

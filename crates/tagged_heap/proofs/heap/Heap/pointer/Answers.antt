@@ -5,7 +5,7 @@ use Rattle.heap_theory.specs.Header.{Header}
 use Rattle.heap_theory.specs.State.{payload_place, pointer_to}
 use Rattle.tagged_heap.specs.Keeping.{header_in}
 use Rattle.tagged_heap.specs.View.{Counted, shown_heap}
-use Rattle.tagged_heap.proofs.Opened.{slot_within, region_of, tag_shown}
+use Rattle.tagged_heap.proofs.Opened.{slot_within, region_of, class_shown, tag_shown}
 use Rattle.tagged_heap.proofs.heap.Heap.pointer.Goals as goal
 
 pub header-tag-requires-clause-slot : goal.header-tag-requires-clause-slot
@@ -13,6 +13,11 @@ header-tag-requires-clause-slot c = slot_within c.self.inside c.args.self.now c.
 
 pub header-tag-requires-clause-region : goal.header-tag-requires-clause-region
 header-tag-requires-clause-region c = ap length c.memory.ensures ∙ region_of c.laws_below.ensures c.self.inside c.self.invariant
+
+pub header-tag-requires-clause-class : goal.header-tag-requires-clause-class
+header-tag-requires-clause-class c =
+    rw c.memory.ensures
+    (class_shown c.laws_below.ensures c.self.inside c.args.slot c.self.invariant (slot_within c.self.inside c.args.self.now c.args.slot c.self.view_is c.requires))
 
 pub payload_address-requires-clause-slot : goal.payload_address-requires-clause-slot
 payload_address-requires-clause-slot c = slot_within c.self.inside c.args.self.now c.args.slot c.self.view_is c.requires
