@@ -54,7 +54,7 @@ pub fn write(memory: &mut Memory, granule: u32, header: &Header)
 
 /// The link of the header in a granule, which is below `granules()`: a slot's number plus one, or 0.
 #[tactic(auto, unfolding(heap_theory::specs::Header::header_at))]
-pub fn next(memory: &Memory, granule: u32) -> u32
+pub(crate) fn next(memory: &Memory, granule: u32) -> u32
     requires { granule < length memory.now }
     ensures { result ≡ (header_at memory.now granule).next }
 {
@@ -63,7 +63,7 @@ pub fn next(memory: &Memory, granule: u32) -> u32
 
 /// Puts this link in place of the one of the header in a granule, which is below `granules()`. The header's other fields,
 /// all tags and all other granules stay.
-pub fn set_next(memory: &mut Memory, granule: u32, next: u32)
+pub(crate) fn set_next(memory: &mut Memory, granule: u32, next: u32)
     requires { granule < length memory.old }
     ensures written { memory.new ≡ with_next memory.old granule next }
     ensures read { header_at memory.new granule ≡ record (header_at memory.old granule) { next = next } }

@@ -4,10 +4,12 @@
 
 mod granule;
 mod header;
+mod slot_links;
 mod words;
 
-pub use granule::{is_header, next, read, set_next, write};
+pub use granule::{is_header, read, write};
 pub use header::{Header, State};
+pub use slot_links::{link, set_link};
 
 #[cfg(test)]
 mod tests;

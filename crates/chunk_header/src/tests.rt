@@ -1,4 +1,5 @@
 use super::*;
+use class_table::{ClassTable, Layout};
 use granule_memory::Memory;
 use std::test::Fail;
 
@@ -31,6 +32,9 @@ fn headers_are_these_words(rt: HostRuntime) -> Result<(), Fail> {
 #[test]
 fn a_link_is_set_alone(rt: HostRuntime) -> Result<(), Fail> {
     let mut memory = Memory::new(rt.alloc(), 64)?;
+    let table = ClassTable::from_classes(&[2])?;
+    let layout = Layout::new(&table, 64);
+    assert!(rt; layout.slots() == 32);
     let header = Header {
         state: State::Quarantined,
         size: 16_368,
@@ -39,10 +43,12 @@ fn a_link_is_set_alone(rt: HostRuntime) -> Result<(), Fail> {
         next: 131_072,
         mark: u64::MAX,
     };
-    write(&mut memory, 63, &header);
-    assert_eq!(rt; read(&memory, 63), header);
-    set_next(&mut memory, 63, 3);
-    assert_eq!(rt; next(&memory, 63), 3);
-    assert_eq!(rt; read(&memory, 63), Header { next: 3, ..header });
+    write(&mut memory, 62, &header);
+    assert_eq!(rt; read(&memory, 62), header);
+    assert_eq!(rt; link(&memory, &layout, 31), 131_072);
+    set_link(&mut memory, &layout, 31, 3);
+    assert_eq!(rt; link(&memory, &layout, 31), 3);
+    assert_eq!(rt; read(&memory, 62), Header { next: 3, ..header });
+    assert_eq!(rt; link(&memory, &layout, 30), 0);
     Ok(())
 }

@@ -1,5 +1,4 @@
 //! What keeps a list, as the contract of a function that does nothing.
-ghost use Rattle.class_table.specs.Layout.{IsPartition};
 ghost use Rattle.class_lists.specs.Laws.{
   EachSlotIsOnce,
   EndIsEmptyList,
@@ -13,7 +12,6 @@ ghost use Rattle.class_lists.specs.Laws.{
   TagsKeepLists,
 };
 
-use class_table::Layout;
 use heap_theory::laws::headers::{law_header, law_links, law_links_in_headers};
 
 /// From a front at most one list is shown, which has each of its slots once, and it stays under each change that leaves the
@@ -33,11 +31,4 @@ pub fn law_lists()
     law_header();
     law_links();
     law_links_in_headers();
-}
-
-/// What is known of any layout.
-pub(crate) fn law_partition(layout: &Layout)
-    ensures { IsPartition layout.now }
-{
-    layout.granules();
 }

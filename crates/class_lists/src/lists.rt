@@ -1,14 +1,13 @@
 ghost use Rattle.chunk_header.specs.Seen.{with_next};
 ghost use Rattle.class_lists.specs.Lists.{ShowsList};
-ghost use Rattle.class_table.specs.Layout.{IsPartition, slot_count, slot_of};
+ghost use Rattle.class_table.specs.Layout.{slot_count, slot_of};
 ghost use Rattle.granule_memory.specs.Changes.{ChangesOnlyBytes};
 ghost use Rattle.heap_theory.specs.Links.{next_in};
 ghost use Rattle.machine_theory.specs.Memory.{IsMemory, Granule};
 ghost use Rattle.std.specs.Prelude.{◌≡◌, ◌+◌, ◌*◌, ◌<◌, ◌≤◌, ℕ, List, [], ◌∷◌, length, drop, replicate, slice_get, slice_index, slice_set, Contains, IfNone, IfSome};
 
-use crate::laws::{law_lists, law_partition};
 use arrayvec::ArrayVec;
-use chunk_header::{next, set_next};
+use chunk_header::{link, set_link};
 use class_table::{Layout, MOST_CLASSES};
 use granule_memory::Memory;
 use heap_theory::laws::headers::law_links;
@@ -36,7 +35,6 @@ impl ClassLists {
         ensures fronts { result ≡ replicate (length layout.now.classes) 0 }
         ensures empty { (memory : List Granule) (class : ℕ) → ShowsList layout.now memory (slice_index result class) [] }
     {
-        law_partition(layout);
         let mut fronts = ArrayVec::new();
         for _ in 0..layout.classes() {
             fronts.push(0);
@@ -62,9 +60,8 @@ impl ClassLists {
             ChangesOnlyBytes memory.old memory.new (16 * start) (16 * start + 8) }
         ensures memory { IsMemory memory.new }
     {
-        law_lists();
-        let granule = header_granule(memory, layout, slot);
-        set_next(memory, granule, self.front(class));
+        prove!(slot < layout.slots());
+        set_link(memory, layout, slot, self.front(class));
         self.set_front(class, slot + 1);
     }
 
@@ -90,16 +87,14 @@ impl ClassLists {
             ChangesOnlyBytes memory.old memory.new (16 * start) (16 * start + 8)) }
         ensures memory { IfSome result (λ slot. IsMemory memory.new) }
     {
-        law_lists();
         law_links();
         let front = self.front(class);
         if front == 0 {
             return None;
         }
         let slot = front - 1;
-        let granule = header_granule(memory, layout, slot);
-        self.set_front(class, next(memory, granule));
-        set_next(memory, granule, 0);
+        self.set_front(class, link(memory, layout, slot));
+        set_link(memory, layout, slot, 0);
         Some(slot)
     }
 
@@ -116,18 +111,4 @@ impl ClassLists {
     {
         self.fronts[class] = front;
     }
-}
-
-// The granule of a slot's header.
-fn header_granule(memory: &Memory, layout: &Layout, slot: u32) -> u32
-    requires slot { slot < slot_count layout.now }
-    requires granules { length memory.now ≡ layout.now.granules }
-    ensures start { result ≡ (slot_of layout.now slot).start }
-    ensures inside { result < length memory.now }
-    ensures few { slot < 131072 }
-    ensures partition { IsPartition layout.now }
-{
-    prove!(slot < layout.slots());
-    prove!(memory.granules() == layout.granules());
-    layout.start(slot)
 }

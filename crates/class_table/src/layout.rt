@@ -73,7 +73,8 @@ impl Layout {
 
     /// How many classes share the region.
     pub fn classes(&self) -> usize
-        ensures { result ≡ length self.now.classes }
+        ensures classes { result ≡ length self.now.classes }
+        ensures partition { IsPartition self.now }
     {
         self.classes.len()
     }

@@ -1,4 +1,3 @@
 pub mod Blocks
 pub mod LetGo
-pub mod Linked
 pub mod Queued

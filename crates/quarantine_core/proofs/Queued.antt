@@ -7,7 +7,7 @@ use Rattle.machine_theory.specs.Memory.{Granule}
 use Rattle.class_table.specs.Layout.{Partition, block_bytes, slot_count, slot_of}
 use Rattle.heap_theory.specs.HeaderLaws.{EachSlotOnce, LastSlotEnds, LinksStay, PutBehind, PutBehindIsLast}
 use Rattle.heap_theory.specs.Links.{IsLinked, last_link, next_in}
-use Rattle.quarantine_core.specs.Links.{SetsLink}
+use Rattle.chunk_header.specs.Links.{SetsLink}
 use Rattle.quarantine_core.specs.Queue.{Queue, AreQueued, bytes_of}
 
 -- ---- what a list contains

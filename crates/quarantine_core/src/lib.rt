@@ -3,8 +3,8 @@
 //! A body that begins with the call of a law cites that law in its proof; the call does nothing.
 #![tactic(auto)]
 
+mod bounds;
 pub mod laws;
-mod links;
 mod quarantine;
 
 pub use quarantine::Quarantine;

@@ -1,7 +1,7 @@
+ghost use Rattle.chunk_header.specs.Links.{SetsLink};
 ghost use Rattle.class_table.specs.Layout.{block_bytes, slot_count, slot_of};
 ghost use Rattle.heap_theory.specs.Links.{IsLinked, next_in};
 ghost use Rattle.machine_theory.specs.Memory.{Granule};
-ghost use Rattle.quarantine_core.specs.Links.{SetsLink};
 ghost use Rattle.quarantine_core.specs.Queue.{
   AreQueued,
   IsOutside,
@@ -11,7 +11,8 @@ ghost use Rattle.quarantine_core.specs.Queue.{
 };
 ghost use Rattle.std.specs.Prelude.{◌≡◌, ◌≢◌, ◌↔◌, ◌+◌, ◌<◌, [], ◌∷◌, ◌++◌, drop, length, suc, Contains, IfNone, IfSome, IsSome, List, ℕ};
 
-use crate::links::{blocks_are_few, next, set_next};
+use crate::bounds::blocks_are_few;
+use chunk_header::{link, set_link};
 use class_table::Layout;
 use granule_memory::Memory;
 use heap_theory::laws::headers::law_links;
@@ -84,7 +85,7 @@ impl Quarantine {
         if self.back == 0 {
             self.front = slot + 1;
         } else {
-            set_next(memory, layout, self.back - 1, slot + 1);
+            set_link(memory, layout, self.back - 1, slot + 1);
         }
         self.back = slot + 1;
         self.held += u64::from(bytes);
@@ -139,11 +140,11 @@ impl Quarantine {
         law_links();
         let slot = self.front - 1;
         self.held -= u64::from(layout.bytes(slot));
-        self.front = next(memory, layout, slot);
+        self.front = link(memory, layout, slot);
         if self.front == 0 {
             self.back = 0;
         }
-        set_next(memory, layout, slot, 0);
+        set_link(memory, layout, slot, 0);
         slot
     }
 }

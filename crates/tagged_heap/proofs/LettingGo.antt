@@ -10,7 +10,7 @@ use Rattle.heap_theory.specs.Header.Standing.{Freed}
 use Rattle.heap_theory.specs.Links.{IsLinked, next_in, list_of}
 use Rattle.heap_theory.specs.State.{Heap, slot_in, without_headers, IsSlot}
 use Rattle.quarantine_core.specs.Queue.{Queue, AreQueued, LinksStand}
-use Rattle.quarantine_core.specs.Links.{SetsLink}
+use Rattle.chunk_header.specs.Links.{SetsLink}
 use Rattle.tagged_heap.specs.Below.{LawsBelow}
 use Rattle.tagged_heap.specs.Keeping.{header_in, IsReleasing, IsRewritten}
 use Rattle.tagged_heap.specs.View.{IsLettingGo}

@@ -9,7 +9,7 @@ use Rattle.heap_theory.specs.Header.{header_for, with_header}
 use Rattle.heap_theory.specs.Links.{next_in}
 use Rattle.heap_theory.specs.State.{state_at, chunk_granules, payload_start, IsSlot}
 use Rattle.heap_theory.specs.State.State.{Live}
-use Rattle.quarantine_core.specs.Links.{SetsLink}
+use Rattle.chunk_header.specs.Links.{SetsLink}
 use Rattle.quarantine_core.specs.Queue.{Queue, AreQueued, IsOutside, LinksStand, with_newest}
 use Rattle.tagged_heap.specs.Below.{LawsBelow}
 use Rattle.tagged_heap.specs.Chunks.{HasRoom, retired_header, tag_for}

@@ -15,7 +15,7 @@ use Rattle.heap_theory.specs.Links.{next_in}
 use Rattle.heap_theory.specs.Sound.{IsSoundHeap}
 use Rattle.heap_theory.specs.State.{Heap, slot_in, state_at, is_fresh, last_tag, chunk_granules, chunk_of, payload_start, without_headers, IsSlot}
 use Rattle.heap_theory.specs.State.State.{Fresh, Live, Dead}
-use Rattle.quarantine_core.specs.Links.{SetsLink}
+use Rattle.chunk_header.specs.Links.{SetsLink}
 use Rattle.quarantine_core.specs.Queue.{Queue, AreQueued, IsOutside, with_newest}
 use Rattle.tagged_heap.specs.Below.{LawsBelow}
 use Rattle.tagged_heap.specs.Chunks.{HasRoom, retired_header, tag_for}

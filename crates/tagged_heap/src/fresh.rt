@@ -43,7 +43,6 @@ pub(crate) fn write_fresh_headers(memory: &mut Memory, layout: &Layout)
 pub(crate) fn first_slots(layout: &Layout) -> ArrayVec<u32, MOST_CLASSES>
     ensures { result.items ≡ map (first_slot layout.now) (range_with_len 0 (length layout.now.classes)) }
 {
-    layout.granules();
     let mut firsts = ArrayVec::new();
     for number in 0..layout.classes() {
         firsts.push(layout.first_slot(number));

@@ -4,8 +4,8 @@ use Rattle.quarantine_core.proofs.Queued.{last_within, put_first, put_behind}
 use Rattle.quarantine_core.proofs.quarantine.Quarantine.put.Goals as goal
 use Rattle.quarantine_core.proofs.quarantine.Quarantine.put.Goals.{then-self-eq0, else-self-eq0}
 
-pub set_next-requires-clause-slot : goal.set_next-requires-clause-slot
-set_next-requires-clause-slot c =
+pub set_link-requires-clause-slot : goal.set_link-requires-clause-slot
+set_link-requires-clause-slot c =
     let same : c.self.inside.back ≡ c.args.self.now.back = ap (λ q. q.back) c.self.view_is in
     let some : c.args.self.now.back ≢ 0 = λ none. c.if-self-eq0.false (same ∙ none) in
     subst (λ back. back - 1 < slot_count c.args.layout.now) (sym same)
@@ -24,8 +24,8 @@ returns-clause-queued c = λ queue old.
       | else-self-eq0 w ↦
           rw (w.self-inside-is, w.memory-is)
           (put_behind c.law_links.ensures.behind c.law_links.ensures.last c.law_links.ensures.ends
-          c.args.self.now _ c.args.layout.now c.args.memory.now w.set_next.new.memory queue (c.self.inside.back - 1) c.args.slot (c.args.slot + 1) c.args.bytes old
-          (omega (arith, back, w.if-self-eq0.false)) w.set_next.ensures.link (omega arith) c.requires.slot (c.requires.outside queue old) c.requires.next c.requires.bytes
+          c.args.self.now _ c.args.layout.now c.args.memory.now w.set_link.new.memory queue (c.self.inside.back - 1) c.args.slot (c.args.slot + 1) c.args.bytes old
+          (omega (arith, back, w.if-self-eq0.false)) w.set_link.ensures.link (omega arith) c.requires.slot (c.requires.outside queue old) c.requires.next c.requires.bytes
           front (omega arith) held)
     ]
 
@@ -36,7 +36,7 @@ returns-clause-lists c = λ front list within outside linked.
       | then-self-eq0 w ↦ rw w.memory-is linked
       | else-self-eq0 w ↦
           rw w.memory-is
-          (w.set_next.ensures.link.lists front list within (λ there. outside (c.self.inside.back - 1) there (omega (arith, back, w.if-self-eq0.false))) linked)
+          (w.set_link.ensures.link.lists front list within (λ there. outside (c.self.inside.back - 1) there (omega (arith, back, w.if-self-eq0.false))) linked)
     ]
 
 pub returns-clause-linked : goal.returns-clause-linked

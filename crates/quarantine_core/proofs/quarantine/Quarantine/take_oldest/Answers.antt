@@ -42,13 +42,13 @@ returns-clause-queued c = λ queue old.
     elim c.if-self-eq0.branch [
       | then-self-eq0 w ↦
           rw w.self-is
-          (take_oldest c.law_links.ensures.once c.law_links.ensures.stay c.args.self.now _ c.args.layout.now c.args.memory.now c.set_next.new.memory
-          (c.self.inside.front - 1) c.next-self-inside.result queue old c.set_next.ensures.link c.next-self-inside.ensures
+          (take_oldest c.law_links.ensures.once c.law_links.ensures.stay c.args.self.now _ c.args.layout.now c.args.memory.now c.set_link.new.memory
+          (c.self.inside.front - 1) c.link-self-inside.result queue old c.set_link.ensures.link c.link-self-inside.ensures
           (omega arith) (λ zero. omega arith) (λ other. absurd (other w.if-self-eq0.true)) (omega arith))
       | else-self-eq0 w ↦
           rw w.self-is
-          (take_oldest c.law_links.ensures.once c.law_links.ensures.stay c.args.self.now _ c.args.layout.now c.args.memory.now c.set_next.new.memory
-          (c.self.inside.front - 1) c.next-self-inside.result queue old c.set_next.ensures.link c.next-self-inside.ensures
+          (take_oldest c.law_links.ensures.once c.law_links.ensures.stay c.args.self.now _ c.args.layout.now c.args.memory.now c.set_link.new.memory
+          (c.self.inside.front - 1) c.link-self-inside.result queue old c.set_link.ensures.link c.link-self-inside.ensures
           (omega arith) (λ zero. absurd (w.if-self-eq0.false zero)) (λ other. ap (λ q. q.back) c.self.view_is) (omega arith))
     ]
 

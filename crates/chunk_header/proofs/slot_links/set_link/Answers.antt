@@ -1,4 +1,3 @@
--- What a link that is set in a slot's header leaves as it was.
 use Rattle.std.proofs.Common.{◌≡◌, ◌≢◌, ℕ, ◌+◌, ◌*◌, ◌<◌, List, ap, ◌∙◌, subst}
 use Rattle.std.specs.Prelude.{Contains}
 use Rattle.machine_theory.specs.Memory.{Granule, IsMemory}
@@ -7,10 +6,12 @@ use Rattle.class_table.specs.Layout.{Partition, IsPartition, slot_count, slot_of
 use Rattle.heap_theory.specs.Header.{header_at}
 use Rattle.heap_theory.specs.HeaderLaws.{LinksStay, OtherLinksStay}
 use Rattle.heap_theory.specs.Links.{next_in}
+use Rattle.chunk_header.specs.Links.{SetsLink}
 use Rattle.chunk_header.specs.Seen.{with_next}
-use Rattle.quarantine_core.specs.Links.{SetsLink}
+use Rattle.chunk_header.proofs.slot_links.set_link.Goals as goal
 
-pub link_set : OtherLinksStay → LinksStay → (layout : Partition) (old new : List Granule) (s next : ℕ) → IsPartition layout → s < slot_count layout →
+-- what a link that is set in a slot's header leaves as it was
+link_set : OtherLinksStay → LinksStay → (layout : Partition) (old new : List Granule) (s next : ℕ) → IsPartition layout → s < slot_count layout →
     new ≡ with_next old (slot_of layout s).start next →
     header_at new (slot_of layout s).start ≡ record (header_at old (slot_of layout s).start) { next = next } →
     ((g : ℕ) → g ≢ (slot_of layout s).start → header_at new g ≡ header_at old g) →
@@ -31,3 +32,13 @@ link_set apart stay layout old new s next partition within written header header
     links r inside other =
         ap (λ memory. next_in layout memory r) written
         ∙ apart layout old s r (record (header_at old (slot_of layout s).start) { next = next }) partition within inside other
+
+pub returns-clause-link : goal.returns-clause-link
+returns-clause-link c =
+    link_set c.law_links_in_headers.ensures.others c.law_links.ensures.stay c.args.layout.now c.args.memory.now c.set_next.new.memory c.args.slot c.args.link
+    c.granules-2.ensures.partition c.requires.slot
+    (rw (← c.start.ensures.start) c.set_next.ensures.written)
+    (rw (← c.start.ensures.start) c.set_next.ensures.read)
+    (rw (← c.start.ensures.start) c.set_next.ensures.headers)
+    (rw (← c.start.ensures.start) c.set_next.ensures.others)
+    c.set_next.ensures.memory

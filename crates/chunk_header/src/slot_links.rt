@@ -1,0 +1,32 @@
+//! The links of a layout's slots, in the headers of a memory.
+ghost use Rattle.chunk_header.specs.Links.{SetsLink};
+ghost use Rattle.class_table.specs.Layout.{slot_count};
+ghost use Rattle.heap_theory.specs.Links.{next_in};
+ghost use Rattle.std.specs.Prelude.{◌≡◌, ◌<◌, length};
+
+use crate::granule::{next, set_next};
+use class_table::Layout;
+use granule_memory::Memory;
+use heap_theory::laws::headers::{law_links, law_links_in_headers};
+
+/// The link of a slot of the layout, which was made for the memory: a slot's number plus one, or 0.
+pub fn link(memory: &Memory, layout: &Layout, slot: u32) -> u32
+    requires region { length memory.now ≡ layout.now.granules }
+    requires slot { slot < slot_count layout.now }
+    ensures { result ≡ next_in layout.now memory.now slot }
+{
+    next(memory, layout.start(slot))
+}
+
+/// Sets the link of a slot of the layout, which was made for the memory: to a slot's number plus one, or 0. Nothing else changes.
+pub fn set_link(memory: &mut Memory, layout: &Layout, slot: u32, link: u32)
+    requires region { length memory.old ≡ layout.now.granules }
+    requires slot { slot < slot_count layout.now }
+    ensures link { SetsLink layout.now memory.old memory.new slot link }
+    ensures region { length memory.new ≡ layout.now.granules }
+{
+    law_links();
+    law_links_in_headers();
+    prove!(memory.granules() == layout.granules());
+    set_next(memory, layout.start(slot), link);
+}
