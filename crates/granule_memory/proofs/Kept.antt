@@ -2,13 +2,13 @@
 use Rattle.std.specs.Prelude.{slice_range, slice_index, ◌⊎◌}
 use Rattle.std.specs.Int.{w64, from_le_bytes}
 use Rattle.std.specs.List.{range_with_len}
-use Rattle.std.proofs.Common.{◌≡◌, ◌≢◌, ℕ, ◌+◌, ◌*◌, ◌/◌, ◌%◌, ◌<◌, ◌≤◌, List, map, length, refl, sym, ap, subst, ◌∙◌, arith, inl, inr, ⊎_elim}
+use Rattle.std.proofs.Common.{◌≡◌, ℕ, ◌+◌, ◌*◌, ◌/◌, ◌%◌, ◌<◌, ◌≤◌, List, map, length, refl, sym, ap, subst, ◌∙◌, arith, inl, inr, ⊎_elim}
 use Rattle.std.proofs.lemmas.Bool.{cases_lt}
 use Rattle.std.proofs.lemmas.Grind.{same_number_lists}
 use Rattle.std.proofs.lemmas.List.FromFn.{get_or-map-range_with_len, length-map-range_with_len}
 use Rattle.machine_theory.specs.Memory.{Granule, no_granule, granule_at, tag_at, byte_at, bytes_at, word_at}
 use Rattle.granule_memory.specs.Layout.{granules_of}
-use Rattle.granule_memory.specs.Changes.{ChangesOnlyBytes, ChangesOnlyTag}
+use Rattle.granule_memory.specs.Changes.{ChangesOnlyBytes, ChangesOnlyTags}
 use Rattle.granule_memory.proofs.Granules.{granules_counted, granule_is, granule_past, tag_is, byte_is, slice_range_byte, slice_range_long}
 
 module _ (xs ys : List ℕ) (count : ℕ) (long : length xs ≡ 17 * count) (same_length : length ys ≡ length xs) where
@@ -80,17 +80,21 @@ module _ (xs ys : List ℕ) (count : ℕ) (long : length xs ≡ 17 * count) (sam
       inside g j h (inl low) = inl (omega arith)
       inside g j h (inr past) = inr (omega arith)
 
-  pub changes_tag : (g : ℕ) → ((k : ℕ) → k ≢ 16 * count + g → SameAt k) → ChangesOnlyTag old new g
-  changes_tag g same = record {
+  pub changes_tags : (from to : ℕ) → ((k : ℕ) → (k < 16 * count + from) ⊎ (16 * count + to ≤ k) → SameAt k) → ChangesOnlyTags old new from to
+  changes_tags from to same = record {
     len = granules_counted ys count ∙ sym (granules_counted xs count);
     byte = byte;
     word = λ k. same_word k (λ j h. byte (k + j));
     bytes = bytes;
-    granule = λ h other. same_granule h (same_tag h (λ _. same (16 * count + h) (λ e. other (omega arith)))) (bytes h);
+    granule = λ g out. same_granule g (same_tag g (λ _. same (16 * count + g) (further g out))) (bytes g);
   }
     where
       byte : (k : ℕ) → byte_at new k ≡ byte_at old k
-      byte k = same_byte k (λ h. same k (λ e. omega arith))
+      byte k = same_byte k (λ h. same k (inl (omega arith)))
 
-      bytes : (h : ℕ) → (granule_at new h).bytes ≡ (granule_at old h).bytes
-      bytes h = same_bytes h (λ j l inside. same (16 * h + j) (λ e. omega arith))
+      bytes : (g : ℕ) → (granule_at new g).bytes ≡ (granule_at old g).bytes
+      bytes g = same_bytes g (λ j l inside. same (16 * g + j) (inl (omega arith)))
+
+      further : (g : ℕ) → (g < from) ⊎ (to ≤ g) → (16 * count + g < 16 * count + from) ⊎ (16 * count + to ≤ 16 * count + g)
+      further g (inl low) = inl (omega arith)
+      further g (inr past) = inr (omega arith)

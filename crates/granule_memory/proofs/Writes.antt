@@ -1,18 +1,17 @@
--- A run of bytes that is written into the list is written into the granules, and a byte that is set past them is a tag.
-use Rattle.std.specs.Prelude.{if◌then◌else◌, slice_range, slice_index, slice_set, ◌⊎◌, All, replicate}
-use Rattle.std.proofs.Common.{◌≡◌, ◌≢◌, ℕ, ◌+◌, ◌-◌, ◌*◌, ◌<◌, ◌≤◌, ◌++◌, List, length, take, drop, sym, ap, subst, ◌∙◌, lit<, arith, inr, ⊎_elim}
-use Rattle.std.proofs.lemmas.Bool.{cases_lt, cases_eq, cond-true, cond-false, and_from, and_left, and_right, le-leb, lt-ltb, lt-leb, le-ltb}
-use Rattle.std.proofs.lemmas.Bool.Decides.{nat_tests}
+-- A run of bytes that is written into the list is written into the granules, and a run of one byte past them is the tag of a run of granules.
+use Rattle.std.specs.Prelude.{if◌then◌else◌, slice_range, slice_index, ◌⊎◌, All, replicate}
+use Rattle.std.proofs.Common.{◌≡◌, ℕ, ◌+◌, ◌-◌, ◌*◌, ◌<◌, ◌≤◌, ◌++◌, List, length, take, drop, sym, ap, subst, ◌∙◌, lit<, arith, inl, inr, ⊎_elim}
+use Rattle.std.proofs.lemmas.Bool.{cases_lt, cond-true, cond-false, and_from, and_left, and_right, le-leb, lt-ltb, lt-leb, le-ltb}
 use Rattle.std.proofs.lemmas.Grind.{same_number_lists}
-use Rattle.std.proofs.lemmas.List.{length-append, length-take-le, length-drop, length-set, length-replicate, get_or-take, get_or-drop, get_or_append_left, get_or-append_right, get_or-set_same, get_or-set_other, get_or-replicate}
-use Rattle.std.proofs.lemmas.List.Elements.{All-take, All-drop, All-append, All-set, All-replicate}
+use Rattle.std.proofs.lemmas.List.{length-append, length-take-le, length-drop, length-replicate, get_or-take, get_or-drop, get_or_append_left, get_or-append_right, get_or-replicate}
+use Rattle.std.proofs.lemmas.List.Elements.{All-take, All-drop, All-append, All-replicate}
 use Rattle.std.proofs.lemmas.List.FromFn.{get_or-map-range_with_len, length-map-range_with_len, fill_by_all}
 use Rattle.machine_theory.specs.Memory.{Granule, no_granule, granule_at, tag_at, bytes_at, each_granule, is_among, tagged, byte_after, bytes_after, written, new_granule}
 use Rattle.raw_region.specs.Bytes.{with_bytes}
 use Rattle.granule_memory.specs.Layout.{granule_in, granules_of, IsLaidOut}
-use Rattle.granule_memory.specs.Changes.{ChangesOnlyBytes, ChangesOnlyTag}
+use Rattle.granule_memory.specs.Changes.{ChangesOnlyBytes, ChangesOnlyTags}
 use Rattle.granule_memory.proofs.Granules.{granules_counted, granule_is, tag_is, bytes_are, slice_range_byte, slice_range_long}
-use Rattle.granule_memory.proofs.Kept.{changes_bytes, changes_tag}
+use Rattle.granule_memory.proofs.Kept.{changes_bytes, changes_tags}
 
 abbrev Below : ℕ → Type 0
 Below byte = byte < 256
@@ -46,6 +45,30 @@ byte-with_bytes xs new i k fits = ⊎_elim before (λ from. ⊎_elim (inside fro
         get_or-drop (i + length new) xs (k - (i + length new)) 0 ∙ ap (λ (n : ℕ). slice_index xs n) back ∙
         sym (cond-false (is_among i (length new) k) (slice_index new (k - i)) (slice_index xs k) (and_right _ _ (le-ltb _ _ past)))
 
+-- the list xs, in which a run is written, becomes ys
+module _ (xs ys : List ℕ) (i : ℕ) (run : List ℕ) (at : ys ≡ with_bytes xs i run) (within : i + length run ≤ length xs) where
+  run_length : length ys ≡ length xs
+  run_length =
+      let front = length-take-le i xs (omega (arith, within)) in
+      ap length at ∙ omega (arith, within, front, length-append (take i xs ++ run) (drop (i + length run) xs), length-append (take i xs) run, length-drop (i + length run) xs)
+
+  run_byte : (k : ℕ) → slice_index ys k ≡ byte_after i run k (slice_index xs k)
+  run_byte k = ap (λ (zs : List ℕ). slice_index zs k) at ∙ byte-with_bytes xs run i k within
+
+  run_outside : (k : ℕ) → (k < i) ⊎ (i + length run ≤ k) → slice_index ys k ≡ slice_index xs k
+  run_outside k out = run_byte k ∙ cond-false (is_among i (length run) k) (slice_index run (k - i)) (slice_index xs k)
+      (⊎_elim (λ low. and_left _ _ (lt-leb _ _ low)) (λ past. and_right _ _ (le-ltb _ _ past)) out)
+
+  run_inside : (j : ℕ) → j < length run → slice_index ys (i + j) ≡ slice_index run j
+  run_inside j inner =
+      let back : i + j - i ≡ j = omega arith in
+      run_byte (i + j) ∙
+      cond-true (is_among i (length run) (i + j)) (slice_index run (i + j - i)) (slice_index xs (i + j)) (and_from _ _ (le-leb i (i + j) (omega arith)) (lt-ltb (i + j) (i + length run) (omega arith))) ∙
+      ap (λ (k : ℕ). slice_index run k) back
+
+  run_below : All Below xs → All Below run → All Below ys
+  run_below old new = subst (All Below) (sym at) (All-append Below (take i xs ++ run) (drop (i + length run) xs) (All-append Below (take i xs) run (All-take Below i xs old) new) (All-drop Below (i + length run) xs old))
+
 granule_from : (tag tag' : ℕ) (bytes bytes' : List ℕ) → tag ≡ tag' → bytes ≡ bytes' → ◌≡◌ {A = Granule} (record { tag = tag; bytes = bytes }) (record { tag = tag'; bytes = bytes' })
 granule_from tag tag' bytes bytes' same_tag same_bytes =
     ap (λ (t : ℕ). record { tag = t; bytes = bytes }) same_tag ∙ ap (λ (b : List ℕ). record { tag = tag'; bytes = b }) same_bytes
@@ -74,16 +97,10 @@ module _ (xs ys : List ℕ) (count : ℕ) (memory : List Granule) (laid : IsLaid
     within = let long = laid.long in omega (arith, inside)
 
     same_length : length ys ≡ length xs
-    same_length =
-        let front = length-take-le i xs (omega (arith, within)) in
-        ap length at ∙ omega (arith, within, front, length-append (take i xs ++ run) (drop (i + length run) xs), length-append (take i xs) run, length-drop (i + length run) xs)
-
-    each : (k : ℕ) → slice_index ys k ≡ byte_after i run k (slice_index xs k)
-    each k = ap (λ (zs : List ℕ). slice_index zs k) at ∙ byte-with_bytes xs run i k within
+    same_length = run_length xs ys i run at within
 
     outside : (k : ℕ) → (k < i) ⊎ (i + length run ≤ k) → slice_index ys k ≡ slice_index xs k
-    outside k out = each k ∙ cond-false (is_among i (length run) k) (slice_index run (k - i)) (slice_index xs k)
-        (⊎_elim (λ low. and_left _ _ (lt-leb _ _ low)) (λ past. and_right _ _ (le-ltb _ _ past)) out)
+    outside = run_outside xs ys i run at within
 
     granule_written : (g : ℕ) → g < count → granule_in ys count g ≡ record (granule_in xs count g) { bytes = bytes_after i run g (granule_in xs count g).bytes }
     granule_written g below =
@@ -95,7 +112,7 @@ module _ (xs ys : List ℕ) (count : ℕ) (memory : List Granule) (laid : IsLaid
         granule_from _ _ _ _ (outside (16 * count + g) (inr (omega arith)))
         (same_number_lists new (bytes_after i run g old) (sixteen ∙ sym (length-map-range_with_len change 0 (length old) ∙ sixteen_old))
         (λ j h. let inner : j < 16 = subst (λ (n : ℕ). j < n) sixteen h in
-        slice_range_byte ys (16 * g) 16 j inner ∙ each (16 * g + j) ∙ ap (byte_after i run (16 * g + j)) (sym (slice_range_byte xs (16 * g) 16 j inner)) ∙
+        slice_range_byte ys (16 * g) 16 j inner ∙ run_byte xs ys i run at within (16 * g + j) ∙ ap (byte_after i run (16 * g + j)) (sym (slice_range_byte xs (16 * g) 16 j inner)) ∙
         sym (get_or-map-range_with_len change 0 (length old) j j 0 (subst (λ (n : ℕ). j < n) (sym sixteen_old) inner) (omega arith))))
 
     pub written_is : granules_of ys count ≡ written i run memory
@@ -109,10 +126,8 @@ module _ (xs ys : List ℕ) (count : ℕ) (memory : List Granule) (laid : IsLaid
         let long = slice_range_long ys i (length run) (omega (arith, within, same_length)) in
         bytes_are ys count i (length run) (same_length ∙ laid.long) inside ∙
         same_number_lists (slice_range ys i (i + length run)) run long
-        (λ j h. let inner : j < length run = subst (λ (n : ℕ). j < n) long h in let back : i + j - i ≡ j = omega arith in
-        slice_range_byte ys i (length run) j inner ∙ each (i + j) ∙
-        cond-true (is_among i (length run) (i + j)) (slice_index run (i + j - i)) (slice_index xs (i + j)) (and_from _ _ (le-leb i (i + j) (omega arith)) (lt-ltb (i + j) (i + length run) (omega arith))) ∙
-        ap (λ (k : ℕ). slice_index run k) back)
+        (λ j h. let inner : j < length run = subst (λ (n : ℕ). j < n) long h in
+        slice_range_byte ys i (length run) j inner ∙ run_inside xs ys i run at within j inner)
 
     pub written_keeps : ChangesOnlyBytes memory (granules_of ys count) i (i + length run)
     written_keeps =
@@ -124,66 +139,89 @@ module _ (xs ys : List ℕ) (count : ℕ) (memory : List Granule) (laid : IsLaid
       long = same_length ∙ laid.long;
       least = laid.least;
       most = laid.most;
-      below = subst (All Below) (sym at) (All-append Below (take i xs ++ run) (drop (i + length run) xs) (All-append Below (take i xs) run (All-take Below i xs laid.below) below) (All-drop Below (i + length run) xs laid.below));
+      below = run_below xs ys i run at within laid.below below;
       tags = λ g among. subst (λ (n : ℕ). n < 16) (sym (outside (16 * count + g) (inr (omega (arith, inside))))) (laid.tags g among);
     }
 
-  -- by the byte that is granule g's tag
-  module _ (g t : ℕ) (at : ys ≡ slice_set xs (16 * length memory + g) t) (among : g < length memory) where
-    below : g < count
-    below = omega (arith, counted)
+  -- by a run past the bytes, which are the tags of n granules from `first` on
+  module _ (first n t place : ℕ) (lies : place ≡ 16 * length memory + first) (at : ys ≡ with_bytes xs place (replicate (place + n - place) t)) (fits : first + n ≤ length memory) where
+    abbrev run : List ℕ
+    run = replicate (place + n - place) t
 
-    lies : ys ≡ slice_set xs (16 * count + g) t
-    lies = at ∙ ap (λ (n : ℕ). slice_set xs (16 * n + g) t) counted
+    starts : place ≡ 16 * count + first
+    starts = omega (arith, lies, counted)
+
+    ends : first + n ≤ count
+    ends = omega (arith, fits, counted)
+
+    as_many : length run ≡ n
+    as_many = omega (arith, length-replicate (place + n - place) t)
+
+    in_list : place + length run ≤ length xs
+    in_list = let long = laid.long in omega (arith, long, starts, ends, as_many)
 
     as_long : length ys ≡ length xs
-    as_long = ap length at ∙ length-set xs (16 * length memory + g) t
+    as_long = run_length xs ys place run at in_list
 
-    there : slice_index ys (16 * count + g) ≡ t
-    there = let long = laid.long in let h = below in ap (λ (zs : List ℕ). slice_index zs (16 * count + g)) lies ∙ get_or-set_same xs (16 * count + g) t 0 (omega arith)
+    there : (g : ℕ) → first ≤ g → g < first + n → slice_index ys (16 * count + g) ≡ t
+    there g from to =
+        let is : place + (g - first) ≡ 16 * count + g = omega (arith, starts) in
+        sym (ap (λ (k : ℕ). slice_index ys k) is) ∙ run_inside xs ys place run at in_list (g - first) (omega (arith, as_many)) ∙
+        get_or-replicate (place + n - place) (g - first) t 0 (omega arith)
 
-    elsewhere : (k : ℕ) → k ≢ 16 * count + g → slice_index ys k ≡ slice_index xs k
-    elsewhere k other = ap (λ (zs : List ℕ). slice_index zs k) lies ∙ get_or-set_other xs (16 * count + g) k t 0 other
+    elsewhere : (k : ℕ) → (k < 16 * count + first) ⊎ (16 * count + (first + n) ≤ k) → slice_index ys k ≡ slice_index xs k
+    elsewhere k out = run_outside xs ys place run at in_list k (⊎_elim (λ low. inl (omega (arith, starts))) (λ past. inr (omega (arith, starts, as_many))) out)
+
+    other_tag : (h : ℕ) → (h < first) ⊎ (first + n ≤ h) → slice_index ys (16 * count + h) ≡ slice_index xs (16 * count + h)
+    other_tag h out = elsewhere (16 * count + h) (⊎_elim (λ low. inl (omega arith)) (λ past. inr (omega arith)) out)
 
     same_range : (h : ℕ) → h < count → slice_range ys (16 * h) (16 * h + 16) ≡ slice_range xs (16 * h) (16 * h + 16)
     same_range h inner =
         let long = laid.long in let same_long = as_long in
         let sixteen = slice_range_long ys (16 * h) 16 (omega arith) in
         same_number_lists _ _ (sixteen ∙ sym (slice_range_long xs (16 * h) 16 (omega arith)))
-        (λ j l. let low : j < 16 = subst (λ (n : ℕ). j < n) sixteen l in
-        slice_range_byte ys (16 * h) 16 j low ∙ elsewhere (16 * h + j) (λ e. omega arith) ∙ sym (slice_range_byte xs (16 * h) 16 j low))
+        (λ j l. let low : j < 16 = subst (λ (k : ℕ). j < k) sixteen l in
+        slice_range_byte ys (16 * h) 16 j low ∙ elsewhere (16 * h + j) (inl (omega arith)) ∙ sym (slice_range_byte xs (16 * h) 16 j low))
 
-    granule_tagged : (h : ℕ) → h < count → granule_in ys count h ≡ (if is_among g 1 h then record (granule_in xs count h) { tag = t } else granule_in xs count h)
-    granule_tagged h inner = ⊎_elim
-        (λ same. granule_from _ _ _ _ (ap (λ (n : ℕ). slice_index ys (16 * count + n)) same ∙ there) (same_range h inner) ∙
-        sym (cond-true (is_among g 1 h) (record (granule_in xs count h) { tag = t }) (granule_in xs count h) (and_from _ _ (le-leb g h (omega arith)) (lt-ltb h (g + 1) (omega arith)))))
-        (λ other. granule_from _ _ _ _ (elsewhere (16 * count + h) (λ e. other (omega arith))) (same_range h inner) ∙
-        sym (cond-false (is_among g 1 h) (record (granule_in xs count h) { tag = t }) (granule_in xs count h) (grind (arith, nat_tests))))
-        (cases_eq h g)
+    granule_tagged : (h : ℕ) → h < count → granule_in ys count h ≡ (if is_among first n h then record (granule_in xs count h) { tag = t } else granule_in xs count h)
+    granule_tagged h inner = ⊎_elim (λ low. other (inl low)) (λ from. ⊎_elim (among from) (λ past. other (inr past)) (cases_lt h (first + n))) (cases_lt h first)
+      where
+        among : first ≤ h → h < first + n → granule_in ys count h ≡ (if is_among first n h then record (granule_in xs count h) { tag = t } else granule_in xs count h)
+        among from to =
+            granule_from _ _ _ _ (there h from to) (same_range h inner) ∙
+            sym (cond-true (is_among first n h) (record (granule_in xs count h) { tag = t }) (granule_in xs count h) (and_from _ _ (le-leb _ _ from) (lt-ltb _ _ to)))
 
-    pub tagged_is : granules_of ys count ≡ tagged g 1 t memory
+        other : (h < first) ⊎ (first + n ≤ h) → granule_in ys count h ≡ (if is_among first n h then record (granule_in xs count h) { tag = t } else granule_in xs count h)
+        other out =
+            granule_from _ _ _ _ (other_tag h out) (same_range h inner) ∙
+            sym (cond-false (is_among first n h) (record (granule_in xs count h) { tag = t }) (granule_in xs count h) (⊎_elim (λ low. and_left _ _ (lt-leb _ _ low)) (λ past. and_right _ _ (le-ltb _ _ past)) out))
+
+    pub tagged_is : granules_of ys count ≡ tagged first n t memory
     unfolding tagged
     tagged_is =
-        changed_is (λ h granule. if is_among g 1 h then record granule { tag = t } else granule) xs ys count granule_tagged ∙
-        ap (each_granule (λ h granule. if is_among g 1 h then record granule { tag = t } else granule)) view
+        changed_is (λ h granule. if is_among first n h then record granule { tag = t } else granule) xs ys count granule_tagged ∙
+        ap (each_granule (λ h granule. if is_among first n h then record granule { tag = t } else granule)) view
 
-    pub tagged_reads : tag_at (granules_of ys count) g ≡ t
-    tagged_reads = tag_is ys count g below ∙ there
+    pub tagged_reads : (g : ℕ) → first ≤ g → g < first + n → tag_at (granules_of ys count) g ≡ t
+    tagged_reads g from to = tag_is ys count g (omega (arith, ends)) ∙ there g from to
 
-    pub tagged_keeps : ChangesOnlyTag memory (granules_of ys count) g
-    tagged_keeps = subst (λ (old : List Granule). ChangesOnlyTag old (granules_of ys count) g) view (changes_tag xs ys count laid.long as_long g elsewhere)
+    pub tagged_keeps : ChangesOnlyTags memory (granules_of ys count) first (first + n)
+    tagged_keeps = subst (λ (old : List Granule). ChangesOnlyTags old (granules_of ys count) first (first + n)) view (changes_tags xs ys count laid.long as_long first (first + n) elsewhere)
 
     pub tagged_fits : t < 16 → IsLaidOut ys count
     tagged_fits small = record {
       long = as_long ∙ laid.long;
       least = laid.least;
       most = laid.most;
-      below = subst (All Below) (sym lies) (All-set Below xs (16 * count + g) t (omega arith) laid.below);
+      below = run_below xs ys place run at in_list laid.below (All-replicate Below (place + n - place) t (omega arith));
       tags = λ h inner. ⊎_elim
-          (λ same. subst (λ (n : ℕ). n < 16) (sym (ap (λ (n : ℕ). slice_index ys (16 * count + n)) same ∙ there)) small)
-          (λ other. subst (λ (n : ℕ). n < 16) (sym (elsewhere (16 * count + h) (λ e. other (omega arith)))) (laid.tags h inner))
-          (cases_eq h g);
+          (λ low. old h inner (inl low))
+          (λ from. ⊎_elim (λ to. subst (λ (k : ℕ). k < 16) (sym (there h from to)) small) (λ past. old h inner (inr past)) (cases_lt h (first + n)))
+          (cases_lt h first);
     }
+      where
+        old : (h : ℕ) → h < count → (h < first) ⊎ (first + n ≤ h) → slice_index ys (16 * count + h) < 16
+        old h inner out = subst (λ (k : ℕ). k < 16) (sym (other_tag h out)) (laid.tags h inner)
 
 -- ---- a list of zeros
 

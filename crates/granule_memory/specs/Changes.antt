@@ -1,5 +1,5 @@
 -- What a change of tags or bytes leaves as it was.
-use Rattle.std.specs.Prelude.{◌≡◌, ◌≢◌, ℕ, ◌+◌, ◌*◌, ◌<◌, ◌≤◌, ◌⊎◌, List, length}
+use Rattle.std.specs.Prelude.{◌≡◌, ℕ, ◌+◌, ◌*◌, ◌<◌, ◌≤◌, ◌⊎◌, List, length}
 use Rattle.machine_theory.specs.Memory.{Granule, granule_at, tag_at, byte_at, word_at}
 
 -- all tags, and the bytes before `from` and from `to` on, are as they were
@@ -10,10 +10,10 @@ pub record ChangesOnlyBytes (old new : List Granule) (from to : ℕ) : Type 0 wh
   pub word : (k : ℕ) → (k + 8 ≤ from) ⊎ (to ≤ k) → word_at new k ≡ word_at old k
   pub granule : (g : ℕ) → (16 * g + 16 ≤ from) ⊎ (to ≤ 16 * g) → granule_at new g ≡ granule_at old g
 
--- all bytes, and all granules but g, are as they were
-pub record ChangesOnlyTag (old new : List Granule) (g : ℕ) : Type 0 where
+-- all bytes, and the granules before `from` and from `to` on, are as they were
+pub record ChangesOnlyTags (old new : List Granule) (from to : ℕ) : Type 0 where
   pub len : length new ≡ length old
   pub byte : (k : ℕ) → byte_at new k ≡ byte_at old k
   pub word : (k : ℕ) → word_at new k ≡ word_at old k
-  pub bytes : (h : ℕ) → (granule_at new h).bytes ≡ (granule_at old h).bytes
-  pub granule : (h : ℕ) → h ≢ g → granule_at new h ≡ granule_at old h
+  pub bytes : (g : ℕ) → (granule_at new g).bytes ≡ (granule_at old g).bytes
+  pub granule : (g : ℕ) → (g < from) ⊎ (to ≤ g) → granule_at new g ≡ granule_at old g

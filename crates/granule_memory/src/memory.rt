@@ -1,7 +1,7 @@
-ghost use Rattle.granule_memory.specs.Changes.{ChangesOnlyBytes, ChangesOnlyTag};
+ghost use Rattle.granule_memory.specs.Changes.{ChangesOnlyBytes, ChangesOnlyTags};
 ghost use Rattle.machine_theory.specs.Memory.{byte_at, bytes_at, new_granule, tag_at, tagged, word_at, written, Granule, IsMemory};
 ghost use Rattle.std.specs.Int.{to_le_bytes, w64};
-ghost use Rattle.std.specs.Prelude.{◌≡◌, ◌+◌, ◌*◌, ◌<◌, ◌≤◌, [], ◌∷◌, IfOk, List, length, replicate};
+ghost use Rattle.std.specs.Prelude.{◌≡◌, ◌+◌, ◌*◌, ◌<◌, ◌≤◌, [], ◌∷◌, ℕ, IfOk, List, length, replicate};
 
 use raw_region::RawRegion;
 use std::alloc::{AllocError, Global};
@@ -66,17 +66,30 @@ impl Memory {
     }
 
     /// Gives granule g, which is below `granules()`, the Allocation Tag t, which is below 16. No byte changes.
-    #[tactic(auto, using(crate::proofs::Granules::granules_counted, crate::proofs::Granules::granules_fit, crate::proofs::Writes::tagged_is, crate::proofs::Writes::tagged_fits, crate::proofs::Writes::tagged_reads))]
     pub fn set_tag(&mut self, g: u32, t: u8)
         requires granule { g < length self.old }
         requires tag { t < 16 }
         ensures tagged { self.new ≡ tagged g 1 t self.old }
         ensures tag { tag_at self.new g ≡ t }
-        ensures others { ChangesOnlyTag self.old self.new g }
+        ensures others { ChangesOnlyTags self.old self.new g (g + 1) }
         ensures memory { IsMemory self.new }
     {
-        let place = self.place_of_tag(g);
-        self.region.set_byte(place, t);
+        self.set_tags(g, 1, t);
+    }
+
+    /// Gives `count` granules from `first` on, which end at most at `granules()`, the Allocation Tag `tag`, which is below 16.
+    /// No byte changes.
+    #[tactic(auto, using(crate::proofs::Granules::granules_counted, crate::proofs::Writes::tagged_is))]
+    pub fn set_tags(&mut self, first: u32, count: u32, tag: u8)
+        requires granules { first + count ≤ length self.old }
+        requires tag { tag < 16 }
+        ensures tagged { self.new ≡ tagged first count tag self.old }
+        ensures tags { (g : ℕ) → first ≤ g → g < first + count → tag_at self.new g ≡ tag }
+        ensures others { ChangesOnlyTags self.old self.new first (first + count) }
+        ensures memory { IsMemory self.new }
+    {
+        let place = self.place_of_tag(first);
+        self.region.fill(place, place + count as usize, tag);
     }
 
     /// Byte i, 0 to 15, of granule g, which is below `granules()`.
@@ -159,10 +172,10 @@ impl Memory {
         self.region.write_bytes(i, bytes);
     }
 
-    // Where the tag of granule g lies.
+    // Where the tag of granule g lies, or past the last one the end.
     #[tactic(auto, using(crate::proofs::Granules::granules_counted))]
     fn place_of_tag(&self, g: u32) -> usize
-        requires { g < length self.now }
+        requires { g ≤ length self.now }
         ensures { result ≡ 16 * length self.now + g }
     {
         place_of(self.granules) + g as usize
@@ -204,6 +217,16 @@ mod tests {
             (0, 0, 15)
         );
         assert_eq!(rt; memory.byte(62, 15), 2);
+        memory.set_tags(60, 3, 9);
+        assert_eq!(rt;
+            (
+                memory.tag(59),
+                memory.tag(60),
+                memory.tag(62),
+                memory.tag(63)
+            ),
+            (0, 9, 9, 15)
+        );
         Ok(())
     }
 }

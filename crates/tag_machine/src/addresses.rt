@@ -2,32 +2,32 @@
 ghost use Rattle.machine_theory.specs.Address.{aligned, byte_of, granule_of, logical_tag, place_of, region_start, with_tag};
 ghost use Rattle.std.specs.Prelude.{◌≡◌, ◌+◌, ◌-◌, ◌*◌, ◌<◌, ◌≤◌};
 
-/// The place at which the region begins.
-pub(crate) const REGION_START: u64 = 1 << 36;
+/// The place at which the region begins: granule 0 lies there.
+pub const REGION_START: u64 = 1 << 36;
 
 /// How far the tag lies above bit 0 of an address.
 const TAG_SHIFT: u32 = 56;
 
 /// The bytes of a granule.
-pub(crate) const GRANULE_BYTES: u64 = 16;
+pub const GRANULE_BYTES: u64 = 16;
 
-/// Bits 59 to 56.
-pub(crate) fn logical_tag(address: u64) -> u8
+/// The Logical Address Tag of an address, 0 to 15: its bits 59 to 56.
+pub fn logical_tag(address: u64) -> u8
     ensures tag { result ≡ logical_tag address }
     ensures below { result < 16 }
 {
     ((address >> TAG_SHIFT) & 0xf) as u8
 }
 
-/// Bits 55 to 0.
-pub(crate) fn place_of(address: u64) -> u64
+/// The place that an address names, below 2^56: its bits 55 to 0.
+pub fn place_of(address: u64) -> u64
     ensures { result ≡ place_of address }
 {
     address & ((1 << TAG_SHIFT) - 1)
 }
 
-/// The address with this tag, 0 to 15, in place of its own.
-pub(crate) fn with_tag(address: u64, tag: u8) -> u64
+/// The address with this tag, 0 to 15, in place of its own; its other bits stay.
+pub fn with_tag(address: u64, tag: u8) -> u64
     requires { tag < 16 }
     ensures { result ≡ with_tag address tag }
 {

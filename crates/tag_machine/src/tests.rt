@@ -1,7 +1,7 @@
 //! Worked examples of the rules, and accesses at every edge.
 ghost use Rattle.std.specs.Prelude.{◌≡◌, ◌≤◌, IfOk, length};
 
-use crate::{Fault, Machine};
+use crate::{Fault, Machine, logical_tag, place_of, with_tag};
 use granule_memory::Memory;
 use std::alloc::{AllocError, Global};
 use std::process::Abort;
@@ -25,6 +25,15 @@ fn pointer(granule: u8, tag: u8) -> u64 {
 /// What a granule's tag is, shown by LDG.
 fn tag_of(machine: &Machine, granule: u8) -> Result<u64, Fault> {
     machine.ldg(0, pointer(granule, 0))
+}
+
+#[test]
+fn parts_of_an_address(rt: HostRuntime) -> Result<(), Fail> {
+    let address = 0xF512_3456_789A_BCDE;
+    assert_eq!(rt; logical_tag(address), 5);
+    assert_eq!(rt; place_of(address), 0x0012_3456_789A_BCDE);
+    assert_eq!(rt; with_tag(address, 10), 0xFA12_3456_789A_BCDE);
+    Ok(())
 }
 
 #[test]

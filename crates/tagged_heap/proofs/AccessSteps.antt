@@ -1,6 +1,5 @@
 -- What an access reads, and what a granule is, by what stands in a heap.
-use Rattle.std.proofs.Common.{◌≡◌, ◌≢◌, ℕ, zero, suc, ◌+◌, ◌-◌, ◌*◌, ◌/◌, ◌%◌, ◌^◌, ◌<◌, ◌≤◌, Bool, true, false, cond, eqb, ◌∷◌, length, map, refl, sym, ap, ◌∙◌, subst, arith, Some, None}
-use Rattle.std.specs.List.{range_with_len}
+use Rattle.std.proofs.Common.{◌≡◌, ◌≢◌, ℕ, ◌+◌, ◌-◌, ◌*◌, ◌/◌, ◌%◌, ◌^◌, ◌<◌, ◌≤◌, Bool, true, false, cond, eqb, length, refl, sym, ap, ◌∙◌, subst, arith, Some, None}
 use Rattle.std.specs.Prelude.{slice_index, nat_lt, nat_le, ◌&&◌}
 use Rattle.std.proofs.lemmas.Bool.{and_parts, and_right, and_from, leb-true, cond-true, cond-false, eq-eqb, ne_eqb, lt-ltb, le-ltb, le-leb}
 use Rattle.machine_theory.specs.Access.{access_fault, loaded}
@@ -20,6 +19,7 @@ use Rattle.tagged_heap.specs.Inside.{state_of, seen, IsHeld}
 use Rattle.tagged_heap.specs.Keeping.{header_in}
 use Rattle.tagged_heap.specs.View.{Counted, shown_heap}
 use Rattle.tagged_heap.specs.declared.heap.Heap.TheInside.{Inside}
+use Rattle.tagged_heap.proofs.BytesInParts.{map_same}
 use Rattle.tagged_heap.proofs.HeaderPlaces.{length-without_headers}
 use Rattle.tagged_heap.proofs.Opened.{header_shows}
 use Rattle.tagged_heap.proofs.PayloadWritten.{mapped_of}
@@ -32,13 +32,6 @@ length_seen laws i v view = sym (length-without_headers laws i.layout i.machine.
 
 -- ---- an access that succeeds under another tag than 0 reads what is seen
 
-map_agrees : {X : Type 0} (f g : ℕ → X) (a n : ℕ) → ((j : ℕ) → a ≤ j → j < a + n → f j ≡ g j) → map f (range_with_len a n) ≡ map g (range_with_len a n)
-map_agrees f g a zero same = refl
-map_agrees f g a (suc n) same =
-    let first = same a (omega arith) (omega arith) in
-    let rest = map_agrees f g (a + 1) n (λ j from to. same j (omega arith) (omega arith)) in
-    λ i. first i ∷ rest i
-
 in_access : (place base len j : ℕ) → base ≤ place → place - base ≤ j → j < place - base + len →
     (k : ℕ) × (k < len) × (base + 16 * (j / 16) ≤ place + k) × (place + k < base + 16 * (j / 16) + 16)
 in_access place base len j region from to = (j - (place - base), omega arith, omega arith, omega arith)
@@ -47,7 +40,7 @@ pub load_seen : LawsBelow → (inside : Inside) → IsHeld inside → (address l
     loaded inside.machine.memory address len ≡ loaded (state_of inside).memory address len
 unfolding shown_heap bytes_at
 load_seen laws inside held address len tagged none =
-    map_agrees (byte_at inside.machine.memory) (byte_at (without_headers inside.layout inside.machine.memory)) (byte_of (place_of address)) len
+    map_same (byte_at inside.machine.memory) (byte_at (without_headers inside.layout inside.machine.memory)) (byte_of (place_of address)) len
     (λ j from to. ap (λ (granule : Granule). slice_index granule.bytes (j % 16)) (sym (laws.granules_seen inside.layout inside.machine.memory (j / 16) (no_header j from to))))
   where
     region : region_start ≤ place_of address

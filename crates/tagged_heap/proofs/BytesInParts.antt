@@ -39,6 +39,14 @@ pub bytes_at-none : (memory : List Granule) (i : ℕ) → bytes_at memory i 0 �
 unfolding bytes_at
 bytes_at-none memory i = refl
 
+-- functions that agree on a range make the same list of it
+pub map_same : {X : Type 0} (f g : ℕ → X) (a n : ℕ) → ((j : ℕ) → a ≤ j → j < a + n → f j ≡ g j) → map f (range_with_len a n) ≡ map g (range_with_len a n)
+map_same f g a zero same = refl
+map_same f g a (suc n) same =
+    let first = same a (omega arith) (omega arith) in
+    let rest = map_same f g (a + 1) n (λ j from to. same j (omega arith) (omega arith)) in
+    λ i. first i ∷ rest i
+
 range-append : (i a b : ℕ) → range_with_len i (a + b) ≡ range_with_len i a ++ range_with_len (i + a) b
 range-append i zero b = let same : 0 + b ≡ b = omega arith in let start : i ≡ i + 0 = omega arith in ap (range_with_len i) same ∙ ap (λ k. range_with_len k b) start
 range-append i (suc a) b =

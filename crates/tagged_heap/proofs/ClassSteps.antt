@@ -3,8 +3,7 @@ use Rattle.std.proofs.Common.{◌≡◌, ℕ, ◌*◌, ◌-◌, ◌<◌, ◌≤�
 use Rattle.std.specs.Prelude.{slice_get, slice_index, option_and_then, IfOk, IfErr}
 use Rattle.std.specs.Option.{ok_or}
 use Rattle.std.specs.Result.{result_eq, result_map_both}
-use Rattle.std.proofs.lemmas.Bool.{cases_eq, cases_lt, cond-true, cond-false, eq-eqb, eqb-true, ne_eqb, lt-ltb, le-ltb, leb-true}
-use Rattle.std.proofs.lemmas.List.Kept.{AllPairs-from_increasing}
+use Rattle.std.proofs.lemmas.Bool.{cases_eq, cond-true, cond-false, eq-eqb, eqb-true, ne_eqb, lt-ltb, le-ltb, leb-true}
 use Rattle.std.proofs.lemmas.List.Quantifiers.{position-Some}
 use Rattle.std.proofs.lemmas.Option.{slice_get-get_or, slice_get_within, get_or_from_slice_get}
 use Rattle.class_table.specs.Layout.{Slot}
@@ -17,6 +16,7 @@ use Rattle.heap_theory.specs.Choice.{class_for_request}
 use Rattle.heap_theory.specs.State.{Heap, chunk_granules}
 use Rattle.tagged_heap.specs.Below.{LawsBelow}
 use Rattle.tagged_heap.specs.Chunks.{IsCauseFor}
+use Rattle.tagged_heap.proofs.Shares.{one_class}
 
 module _ (laws : LawsBelow) (h : Heap) (n : ℕ) where
   pub class_for_is : (r : Result ℕ NullCause) → IfOk r (λ k. (n ≤ 16368) × (class_number_for h.layout.classes n ≡ Some k)) → IfErr r (IsCauseFor h.layout.classes n) →
@@ -36,19 +36,8 @@ module _ (laws : LawsBelow) (h : Heap) (n : ℕ) where
       eqb k number ≡ eqb (slice_index classes k) slot.class
   same_test classes slot k number legal within at = elim (cases_eq k number) [
     | inl is ↦ eq-eqb k number is ∙ sym (eq-eqb _ _ (ap (slice_index classes) is ∙ get_or_from_slice_get classes number slot.class 0 at))
-    | inr other ↦ ne_eqb k number other ∙ sym (ne_eqb _ _ (λ same. other (one_place (same ∙ sym (get_or_from_slice_get classes number slot.class 0 at)))))
+    | inr other ↦ ne_eqb k number other ∙ sym (ne_eqb _ _ (λ same. other (one_class classes k number legal within (slice_get_within classes number slot.class at) (same ∙ sym (get_or_from_slice_get classes number slot.class 0 at)))))
   ]
-    where
-      one_place : slice_index classes k ≡ slice_index classes number → k ≡ number
-      one_place same =
-          let there = slice_get_within classes number slot.class at in
-          elim (cases_lt k number) [
-            | inl less ↦ absurd (omega (arith, AllPairs-from_increasing classes legal.ascending k number 0 less there))
-            | inr more ↦ elim (cases_lt number k) [
-              | inl less ↦ absurd (omega (arith, AllPairs-from_increasing classes legal.ascending number k 0 less within))
-              | inr equal ↦ omega arith
-            ]
-          ]
 
   pub stays_is : (slot : Slot) (number : ℕ) (cause_eq : NullCause → NullCause → Bool) (r : Result ℕ NullCause) → IsLegalTable 1 h.layout.classes →
       slice_get h.layout.classes number ≡ Some slot.class → IfOk r (λ k. (n ≤ 16368) × (class_number_for h.layout.classes n ≡ Some k)) →

@@ -1,5 +1,5 @@
 -- Bytes that are written outside all headers keep a heap, and are seen as they are written.
-use Rattle.std.proofs.Common.{◌≡◌, ◌≢◌, ◌⊎◌, ℕ, zero, suc, ◌+◌, ◌-◌, ◌*◌, ◌/◌, ◌%◌, ◌^◌, ◌<◌, ◌≤◌, true, false, List, ◌∷◌, length, map, refl, sym, ap, ◌∙◌, subst, inl, inr, arith, Some, None, Option}
+use Rattle.std.proofs.Common.{◌≡◌, ◌≢◌, ◌⊎◌, ℕ, ◌+◌, ◌-◌, ◌*◌, ◌/◌, ◌%◌, ◌^◌, ◌<◌, ◌≤◌, true, false, List, length, map, refl, sym, ap, ◌∙◌, subst, inl, inr, arith, Some, None, Option}
 use Rattle.std.specs.List.{range_with_len}
 use Rattle.std.specs.Prelude.{All, slice_index, nat_lt, nat_le, ◌&&◌, ◌==◌}
 use Rattle.std.proofs.lemmas.Bool.{cases_lt, cases_eq, cases_Bool, and_parts, leb-true, eqb-true, cond-false}
@@ -23,6 +23,7 @@ use Rattle.tagged_heap.specs.Inside.{state_of, seen, IsHeld}
 use Rattle.tagged_heap.specs.Keeping.{header_in, IsKeptBy}
 use Rattle.tagged_heap.specs.View.{Counted, shown_heap, IsHeldIn}
 use Rattle.tagged_heap.specs.declared.heap.Heap.TheInside.{Inside}
+use Rattle.tagged_heap.proofs.BytesInParts.{map_same}
 use Rattle.tagged_heap.proofs.Changed.{linked_same, queue_slot, list_slot}
 use Rattle.tagged_heap.proofs.Firsts.{firsts_stay}
 use Rattle.tagged_heap.proofs.HeaderPlaces.{start_is_header, length-without_headers}
@@ -256,13 +257,6 @@ not_header layout s g order in_s from to = elim (cases_Bool (is_header layout g)
       ]
   | inr not ↦ not
 ]
-
-map_same : {X : Type 0} (f g : ℕ → X) (a n : ℕ) → ((j : ℕ) → a ≤ j → j < a + n → f j ≡ g j) → map f (range_with_len a n) ≡ map g (range_with_len a n)
-map_same f g a zero same = refl
-map_same f g a (suc n) same =
-    let first = same a (omega arith) (omega arith) in
-    let rest = map_same f g (a + 1) n (λ j from to. same j (omega arith) (omega arith)) in
-    λ i. first i ∷ rest i
 
 pub payload_seen : LawsBelow → (layout : Partition) (m : List Granule) (s n : ℕ) → AreInOrder layout → s < slot_count layout → n + 16 ≤ 16 * (slot_of layout s).class →
     bytes_at (without_headers layout m) (16 * payload_start (slot_of layout s)) n ≡ bytes_at m (16 * payload_start (slot_of layout s)) n

@@ -1,5 +1,5 @@
 -- Which slots a class has.
-use Rattle.std.proofs.Common.{◌≡◌, ℕ, zero, suc, ◌+◌, ◌-◌, ◌/◌, ◌<◌, ◌≤◌, length, sym, ap, ◌∙◌, subst, inl, inr, arith}
+use Rattle.std.proofs.Common.{◌≡◌, ℕ, zero, suc, ◌+◌, ◌-◌, ◌/◌, ◌<◌, ◌≤◌, List, length, sym, ap, ◌∙◌, subst, inl, inr, arith}
 use Rattle.std.specs.Prelude.{slice_index}
 use Rattle.std.proofs.lemmas.Bool.{cases_lt}
 use Rattle.std.proofs.lemmas.List.Kept.{AllPairs-from_increasing}
@@ -48,12 +48,12 @@ share_below region s (suc number) within below = elim (cases_lt s (first_slot re
       (number, omega arith, from, subst (λ n. s < first_slot region n) same below)
 ]
 
-one_class : (region : Partition) (a b : ℕ) → IsLegalTable 1 region.classes → a < length region.classes → b < length region.classes →
-    slice_index region.classes a ≡ slice_index region.classes b → a ≡ b
-one_class region a b legal in_a in_b same = elim (cases_lt a b) [
-  | inl less ↦ absurd (omega (arith, AllPairs-from_increasing region.classes legal.ascending a b 0 less in_b))
+-- a class has one number
+pub one_class : (classes : List ℕ) (a b : ℕ) → IsLegalTable 1 classes → a < length classes → b < length classes → slice_index classes a ≡ slice_index classes b → a ≡ b
+one_class classes a b legal in_a in_b same = elim (cases_lt a b) [
+  | inl less ↦ absurd (omega (arith, AllPairs-from_increasing classes legal.ascending a b 0 less in_b))
   | inr more ↦ elim (cases_lt b a) [
-    | inl less ↦ absurd (omega (arith, AllPairs-from_increasing region.classes legal.ascending b a 0 less in_a))
+    | inl less ↦ absurd (omega (arith, AllPairs-from_increasing classes legal.ascending b a 0 less in_a))
     | inr equal ↦ omega arith
   ]
 ]
@@ -63,5 +63,5 @@ pub share_of_slot : LawsBelow → (region : Partition) (number s : ℕ) → IsLe
 share_of_slot laws region number s legal within in_range class =
     let j = share_below region s (length region.classes) (omega arith) (omega (arith, laws.all_slots region)) in
     let own = in_share laws region j.0 s j.1 j.2 j.3 in
-    let same : j.0 ≡ number = one_class region j.0 number legal j.1 within (sym own.1 ∙ class) in
+    let same : j.0 ≡ number = one_class region.classes j.0 number legal j.1 within (sym own.1 ∙ class) in
     subst (λ n. (first_slot region n ≤ s) × (s < first_slot region (n + 1))) same (j.2, j.3)

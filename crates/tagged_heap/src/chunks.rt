@@ -12,7 +12,7 @@ ghost use Rattle.tagged_heap.specs.Chunks.{HasRoom, given_header, retired_header
 ghost use Rattle.tagged_heap.specs.Keeping.{header_in};
 
 use crate::headers::header;
-use crate::tags::{chunk_granules, draw, exclude, set_tags, tag_chunk};
+use crate::tags::{chunk_granules, draw, exclude, tag_chunk};
 use chunk_header::{Header, State, write};
 use class_table::Layout;
 use machine_theory::laws::memory::law_memory;
@@ -90,10 +90,5 @@ pub(crate) fn retire(machine: &mut Machine, layout: &Layout, slot: u32, mark: u6
     let start = layout.start(slot);
     let memory = machine.memory_mut();
     write(memory, start, &after);
-    set_tags(
-        memory,
-        start + 1,
-        chunk_granules(u32::from(before.size)),
-        other,
-    );
+    memory.set_tags(start + 1, chunk_granules(u32::from(before.size)), other);
 }

@@ -14,13 +14,14 @@ use crate::chunks::retire;
 use crate::headers::header;
 use crate::heap::Heap;
 use crate::laws_below::laws_below;
-use crate::pointers::{logical_tag, slot_of_pointer};
+use crate::pointers::slot_of_pointer;
 use chunk_header::{Header, State, write};
 use class_lists::ClassLists;
 use class_table::Layout;
 use granule_memory::Memory;
 use heap_theory::FreeError;
 use quarantine_core::Quarantine;
+use tag_machine::logical_tag;
 
 /// A live chunk: its slot, and the bytes that were requested.
 #[derive(Clone, Copy)]

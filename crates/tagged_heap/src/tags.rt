@@ -8,8 +8,6 @@ ghost use Rattle.machine_theory.specs.Seed.{next_seed};
 ghost use Rattle.std.specs.Prelude.{◌≡◌, ◌+◌, ◌^◌, ◌<◌, ◌≤◌, bit_or, length};
 
 use class_table::{GRANULE_BYTES, Layout};
-use granule_memory::Memory;
-use machine_theory::laws::memory::{law_changes, law_memory};
 use tag_machine::Machine;
 
 /// The granules of the chunk for a request of `n` bytes, at most 16,368.
@@ -43,21 +41,6 @@ pub(crate) fn draw(machine: &mut Machine, exclude: u16) -> u8
     machine.rgsr().0
 }
 
-/// Gives `count` granules from `first` on the tag.
-pub(crate) fn set_tags(memory: &mut Memory, first: u32, count: u32, tag: u8)
-    requires granules { first + count ≤ length memory.old }
-    requires memory { IsMemory memory.old }
-    requires tag { tag < 16 }
-    ensures tagged { memory.new ≡ tagged first count tag memory.old }
-    ensures memory { IsMemory memory.new }
-{
-    law_changes();
-    law_memory();
-    for done in 0..count {
-        memory.set_tag(first + done, tag);
-    }
-}
-
 /// Gives the chunk for a request of `n` bytes the tag, and the rest of the slot's payload tag 0.
 pub(crate) fn tag_chunk(machine: &mut Machine, layout: &Layout, slot: u32, n: u32, tag: u8)
     requires in_range { slot < slot_count layout.now }
@@ -71,11 +54,10 @@ pub(crate) fn tag_chunk(machine: &mut Machine, layout: &Layout, slot: u32, n: u3
     } }
     ensures memory { IsMemory machine.new.memory }
 {
-    law_memory();
     let first = layout.start(slot) + 1;
     let chunk = chunk_granules(n);
     let payload = layout.bytes(slot) / GRANULE_BYTES - 1;
     let memory = machine.memory_mut();
-    set_tags(memory, first, chunk, tag);
-    set_tags(memory, first + chunk, payload - chunk, 0);
+    memory.set_tags(first, chunk, tag);
+    memory.set_tags(first + chunk, payload - chunk, 0);
 }

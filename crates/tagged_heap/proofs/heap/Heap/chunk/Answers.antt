@@ -71,7 +71,7 @@ returns-then-header-logical_tag-clause-err c =
     let header = shows (goal.at.returns-then-header-logical_tag-clause-err c).After-header-header (within (goal.at.returns-then-header-logical_tag-clause-err c).In_ok-slot) in
     sym (ap (λ h. chunk_at h c.args.p) (state_seen i c.args.self.now c.self.view_is))
     ∙ chunk_wrong_tag c.laws_below.ensures (state_of i) c.args.p c.in_ok-slot.slot c.slot_of_pointer.result (header_seen c.header-header.result) _ c.self.invariant.kept.sound c.slot_of_pointer.ensures c.in_ok-slot.ensures.ok_part header
-    (ap standing_seen c.in-Live.is) (λ same. c.if-header-logical_tag.true (sym same ∙ sym c.logical_tag.ensures))
+    (ap standing_seen c.in-Live.is) (λ same. c.if-header-logical_tag.true (sym same ∙ sym c.logical_tag.ensures.tag))
 
 pub returns-clause-ok : goal.returns-clause-ok
 unfolding shown_heap
@@ -80,5 +80,5 @@ returns-clause-ok c =
     let header = shows (goal.at.returns-clause-ok c).After-header-header (within (goal.at.returns-clause-ok c).In_ok-slot) in
     sym (ap (λ h. chunk_at h c.args.p) (state_seen i c.args.self.now c.self.view_is))
     ∙ chunk_live c.laws_below.ensures (state_of i) c.args.p c.in_ok-slot.slot c.slot_of_pointer.result (header_seen c.header-header.result) _ c.self.invariant.kept.sound c.slot_of_pointer.ensures c.in_ok-slot.ensures.ok_part header
-    (ap standing_seen c.in-Live.is) (sym c.logical_tag.ensures ∙ sym c.if-header-logical_tag.false)
+    (ap standing_seen c.in-Live.is) (sym c.logical_tag.ensures.tag ∙ sym c.if-header-logical_tag.false)
     ∙ ap (λ n. Ok (record { slot = c.in_ok-slot.slot; size = n })) (sym c.from.ensures)
