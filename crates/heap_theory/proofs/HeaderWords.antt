@@ -1,5 +1,5 @@
 -- A header that is written is read, and says how its slot stands.
-use Rattle.std.proofs.Common.{⊎_elim, ◌≡◌, ◌≢◌, ◌⊎◌, ℕ, ◌+◌, ◌*◌, ◌/◌, ◌%◌, ◌^◌, ◌<◌, ◌≤◌, false, List, ◌++◌, length, get_or, refl, sym, ap, ◌∙◌, inl, inr, arith, Some, None, Option}
+use Rattle.std.proofs.Common.{⊎_elim, ◌≡◌, ◌≢◌, ◌⊎◌, ℕ, zero, suc, ◌+◌, ◌*◌, ◌/◌, ◌%◌, ◌^◌, ◌<◌, ◌≤◌, false, List, ◌++◌, length, get_or, refl, sym, ap, ◌∙◌, inl, inr, arith, Some, None, Option}
 use Rattle.std.specs.Prelude.{◌==◌, All, slice_get, position, unwrap_or}
 use Rattle.std.specs.Int.{w64, to_le_bytes, from_le_bytes}
 use Rattle.std.proofs.lemmas.Bool.{cases_Bool, cases_order, eq-eqb, eqb-true, both_ways}
@@ -42,6 +42,16 @@ header_of-words header fits =
     let class_is : first_word header / 2 ^ 20 % 2 ^ 12 ≡ header.class = omega arith in
     let next_is : first_word header / 2 ^ 32 ≡ header.next = omega arith in
     λ i. record { standing = standing_is i; size = size_is i; tag = tag_is i; class = class_is i; next = next_is i; mark = header.mark }
+
+code_of-standing_of : (code : ℕ) → code < 4 → code_of (standing_of code) ≡ code
+code_of-standing_of zero below = refl
+code_of-standing_of (suc zero) below = refl
+code_of-standing_of (suc (suc zero)) below = refl
+code_of-standing_of (suc (suc (suc zero))) below = refl
+code_of-standing_of (suc (suc (suc (suc code)))) below = absurd (omega arith)
+
+pub words-header_of : (first second : ℕ) → (first_word (header_of first second) ≡ first) × (second_word (header_of first second) ≡ second)
+words-header_of first second = let code = code_of-standing_of (first % 2 ^ 2) (omega arith) in (omega arith, refl)
 
 pub words_fit : (header : Header) → FitsWords header → (first_word header < 2 ^ 64) × (second_word header < 2 ^ 64)
 words_fit header fits = let code = code_fits header.standing in (omega arith, fits.mark)

@@ -15,6 +15,10 @@ use Rattle.heap_theory.specs.State.{Heap, state_at, is_header, without_headers, 
 abbrev pub HeaderIsReadFromWords : Type 0
 HeaderIsReadFromWords = (header : Header) → FitsWords header → header_of (first_word header) (second_word header) ≡ header
 
+-- No bit of the words is lost: the header that they spell has them all.
+abbrev pub WordsAreOfHeader : Type 0
+WordsAreOfHeader = (first second : ℕ) → (first_word (header_of first second) ≡ first) × (second_word (header_of first second) ≡ second)
+
 abbrev pub WordsFit : Type 0
 WordsFit = (header : Header) → FitsWords header → (first_word header < 2 ^ 64) × (second_word header < 2 ^ 64)
 

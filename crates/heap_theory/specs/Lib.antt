@@ -10,6 +10,7 @@ pub mod Kept
 pub mod Laws
 pub mod Links
 pub mod Places
+pub mod Ranges
 pub mod Report
 pub mod Run
 pub mod Sound

@@ -6,7 +6,8 @@ use Rattle.std.proofs.lemmas.List.{map-append, take_at, take_more}
 use Rattle.std.proofs.lemmas.List.Concat.{flat_map-append}
 use Rattle.std.proofs.lemmas.Option.{get_or_from_slice_get, slice_get_within}
 use Rattle.line_text.specs.Lines.{ended, line_of, text_of}
-use Rattle.potential_check.specs.SheetText.{GoesOn, named_line}
+use Rattle.profile_count.specs.Appended.{GoesOn}
+use Rattle.potential_check.specs.SheetText.{named_line}
 
 -- ---- a text that goes on
 

@@ -32,11 +32,6 @@ sheet_lines s =
 abbrev pub sheet_text : Sheet → List ℕ
 sheet_text s = text_of (sheet_lines s)
 
--- The new text is the old one, and perhaps something behind it.
-pub record GoesOn (old new : List ℕ) : Type 0 where
-  pub behind : List ℕ
-  pub is : new ≡ old ++ behind
-
 -- ---- the limits of the format
 
 abbrev pub IsRow : List ℕ → Type 0

@@ -1,3 +1,5 @@
+pub mod Appended
+pub mod CountedRequests
 pub mod EntryLines
 pub mod FirstServing
 pub mod LineByLine

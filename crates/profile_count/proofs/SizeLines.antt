@@ -1,6 +1,8 @@
 -- The lines of the sizes, of which only counted ones have one.
-use Rattle.std.proofs.Common.{◌≡◌, ◌≢◌, ℕ, zero, suc, ◌+◌, ◌-◌, ◌<◌, ◌≤◌, List, [], ◌∷◌, length, get_or, drop, refl, arith, ne_eqb, add-zero}
+use Rattle.std.proofs.Common.{◌≡◌, ◌≢◌, ℕ, zero, suc, ◌+◌, ◌-◌, ◌<◌, ◌≤◌, List, [], ◌∷◌, ◌++◌, length, get_or, drop, refl, arith, ne_eqb, add-one, add-zero}
 use Rattle.std.proofs.Math.Seq.{drop-cons}
+use Rattle.std.proofs.lemmas.List.{drop_all}
+use Rattle.line_text.specs.Lines.{ended, text_of}
 use Rattle.profile_count.specs.ProfileText.{size_line, size_lines}
 
 -- where nothing is counted, there is no line
@@ -36,3 +38,23 @@ pub size_lines-passed : (counts : List ℕ) (low high : ℕ) → low ≤ high �
 size_lines-passed counts low high order within none =
     let is : low + (high - low) ≡ high = omega arith in
     rw is at (passed counts low (high - low) (omega arith) (λ k from below. none k from (omega arith)))
+
+-- ---- the text of the sizes from one on
+
+abbrev pub text_from : List ℕ → ℕ → List ℕ
+text_from counts size = text_of (size_lines_from counts size)
+
+-- a size that is counted has a line in front of the others,
+pub text_from-counted : (counts : List ℕ) (size : ℕ) → size < length counts → 0 < get_or counts size 0
+    → text_from counts size ≡ ended (size_line size (get_or counts size 0)) ++ text_from counts (size + 1)
+text_from-counted counts size within some =
+    rw (drop-cons counts size 0 within, size_lines-counted size (get_or counts size 0) (drop (suc size) counts) (λ none. omega arith), add-one) refl
+
+-- one that is not has none,
+pub text_from-zero : (counts : List ℕ) (size : ℕ) → size < length counts → get_or counts size 0 ≡ 0 → text_from counts size ≡ text_from counts (size + 1)
+text_from-zero counts size within none = rw (drop-cons counts size 0 within, none, size_lines-zero, add-one) refl
+
+-- and behind the last size there is nothing
+pub text_from-end : (counts : List ℕ) (size : ℕ) → length counts ≤ size → text_from counts size ≡ []
+unfolding size_lines
+text_from-end counts size past = rw (drop_all size counts past) refl

@@ -1,5 +1,6 @@
--- Counts of sizes, and the least counted size that a table does not serve.
-use Rattle.std.specs.Prelude.{ℕ, suc, ◌&&◌, List, [], ◌∷◌, Option, Some, None, nat_lt, is_none, if◌then◌else◌, replicate, slice_set}
+-- Counts of sizes, one request more, and the least counted size that a table does not serve.
+use Rattle.std.specs.Prelude.{ℕ, suc, ◌+◌, ◌&&◌, List, [], ◌∷◌, Option, Some, None, nat_lt, nat_le, is_none, if◌then◌else◌, replicate, slice_index, slice_set}
+use Rattle.class_table.specs.Sizes.{largest_counted}
 use Rattle.class_table.specs.Tables.{class_for}
 use Rattle.tuner_theory.specs.Waste.{Profile}
 
@@ -16,6 +17,14 @@ with_count p size count = record { counts = slice_set p.counts size count; large
 
 abbrev pub with_large : Profile → ℕ → Profile
 with_large p count = record { counts = p.counts; large = count }
+
+-- The count in which a request of n bytes is counted: that of its size, or that of the large requests.
+abbrev pub count_for : Profile → ℕ → ℕ
+count_for p n = if nat_le n largest_counted then slice_index p.counts n else p.large
+
+-- A profile with one more request of n bytes: that one count is higher by 1.
+abbrev pub with_one_more : Profile → ℕ → Profile
+with_one_more p n = if nat_le n largest_counted then with_count p n (slice_index p.counts n + 1) else with_large p (p.large + 1)
 
 -- The first size from n on that is counted and has no class; the counts are those of the sizes from n on.
 unfoldable pub unserved_from : List ℕ → ℕ → List ℕ → Option ℕ

@@ -1,7 +1,11 @@
--- The laws of a profile's text, as a crate that reads or writes profiles wants them.
-use Rattle.std.specs.Prelude.{◌≡◌, List, ℕ, Ok}
+-- The laws of a profile's text, as a crate that reads or writes profiles wants them, and of the profile of requests.
+use Rattle.std.specs.Prelude.{◌≡◌, ◌≤◌, List, [], ◌∷◌, ◌++◌, length, ℕ, Ok}
 use Rattle.tuner_theory.specs.Waste.{Profile}
+use Rattle.profile_count.specs.Counts.{count_for, nothing_counted, with_one_more}
 use Rattle.profile_count.specs.ProfileText.{SpellsProfile, profile_of}
+use Rattle.profile_count.specs.Requests.{CountsRequests, profile_of_sizes, with_more}
+
+-- ---- the text
 
 -- What is read as a profile is its text, the last line with its newline or without.
 abbrev pub ProfileIsSpelled : Type 0
@@ -10,3 +14,21 @@ ProfileIsSpelled = (text : List ℕ) (p : Profile) → profile_of text ≡ Ok p 
 -- The text of a profile, its last line with its newline or without, is read as that profile.
 abbrev pub SpelledProfileIsRead : Type 0
 SpelledProfileIsRead = (text : List ℕ) (p : Profile) → SpellsProfile text p → profile_of text ≡ Ok p
+
+-- ---- requests
+
+-- The profile of requests has for each size the number of its requests, and the number of large ones.
+abbrev pub ProfileCountsRequests : Type 0
+ProfileCountsRequests = (sizes : List ℕ) → CountsRequests (profile_of_sizes sizes) sizes
+
+-- Requests that are added one by one to the empty profile give their profile.
+abbrev pub AddedRequestsAreCounted : Type 0
+AddedRequestsAreCounted = (sizes : List ℕ) → with_more nothing_counted sizes ≡ profile_of_sizes sizes
+
+-- One request more gives the profile of all of them.
+abbrev pub OneMoreIsCounted : Type 0
+OneMoreIsCounted = (sizes : List ℕ) (n : ℕ) → with_one_more (profile_of_sizes sizes) n ≡ profile_of_sizes (sizes ++ n ∷ [])
+
+-- No count is above the number of all requests.
+abbrev pub CountsAreFew : Type 0
+CountsAreFew = (sizes : List ℕ) (n : ℕ) → count_for (profile_of_sizes sizes) n ≤ length sizes

@@ -1,3 +1,5 @@
+pub mod Appended
 pub mod Counts
 pub mod Laws
 pub mod ProfileText
+pub mod Requests

@@ -9,7 +9,7 @@ use class_table::LARGEST_COUNTED;
 use line_text::{capped_number_in, words_in};
 
 // the first word of the line of large requests
-const LARGE: &[u8] = b"large";
+pub(crate) const LARGE: &[u8] = b"large";
 
 /// What a line of a profile counts.
 #[derive(Debug, Clone, Copy, PartialEq, Eq)]

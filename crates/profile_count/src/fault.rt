@@ -29,6 +29,11 @@ pub enum ProfileError {
     Line(u32, ProfileFault),
 }
 
+/// The count of a request stands at 1,000,000,000, so it can't be raised; shown as its code and name.
+#[derive(Debug, Clone, Copy, PartialEq, Eq, Error)]
+#[error("33 CountFull")]
+pub struct CountFull;
+
 impl From<AllocError> for ProfileError {
     ghost from_gives = { λ _ e. e ≡ OutOfMemory };
 

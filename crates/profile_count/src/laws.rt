@@ -1,5 +1,5 @@
-//! What is true of every profile's text; each law is the contract of a function that does nothing.
-ghost use Rattle.profile_count.specs.Laws.{ProfileIsSpelled, SpelledProfileIsRead};
+//! What is true of every profile's text and of every list of requests; each law is the contract of a function that does nothing.
+ghost use Rattle.profile_count.specs.Laws.{AddedRequestsAreCounted, CountsAreFew, OneMoreIsCounted, ProfileCountsRequests, ProfileIsSpelled, SpelledProfileIsRead};
 
 use line_text::laws::law_text;
 
@@ -10,3 +10,12 @@ pub fn law_profile_text()
 {
     law_text();
 }
+
+/// The profile of requests has the number of each size's requests and of the large ones, none above the number of all;
+/// requests that are added one by one to the empty profile give it.
+pub fn law_profile_of_sizes()
+    ensures counts { ProfileCountsRequests }
+    ensures added { AddedRequestsAreCounted }
+    ensures one_more { OneMoreIsCounted }
+    ensures few { CountsAreFew }
+{}

@@ -1,4 +1,4 @@
-//! Profiles: how often each size was requested, read from their text, and what a class table wastes on one.
+//! Profiles: how often each size was requested, counted one by one or read from their text, written, and what a class table wastes on one.
 #![tactic(auto)]
 
 mod entry;
@@ -7,6 +7,7 @@ pub mod laws;
 mod profile;
 mod reading;
 mod serving;
+mod writing;
 
-pub use fault::{ProfileError, ProfileFault};
+pub use fault::{CountFull, ProfileError, ProfileFault};
 pub use profile::{MOST_COUNTED, Profile};

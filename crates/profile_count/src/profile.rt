@@ -1,8 +1,9 @@
-ghost use Rattle.std.specs.Prelude.{◌≡◌, ◌<◌, ◌≤◌, ◌^◌, ℕ, slice_index, None, IsSome, IfOk, IfSome, IfNone};
+ghost use Rattle.std.specs.Prelude.{◌≡◌, ◌↔◌, ◌<◌, ◌≤◌, ◌+◌, ◌^◌, ℕ, slice_index, None, IsErr, IsSome, IfOk, IfSome, IfNone, OnErr, OnOk};
 ghost use Rattle.class_table.specs.Tables.{class_for};
 ghost use Rattle.tuner_theory.specs.Waste.{IsCounted, IsProfile, Serves, waste_of};
-ghost use Rattle.profile_count.specs.Counts.{nothing_counted, unserved_of, with_count, with_large, zeros};
+ghost use Rattle.profile_count.specs.Counts.{count_for, nothing_counted, unserved_of, with_count, with_large, with_one_more, zeros};
 
+use crate::fault::CountFull;
 use crate::serving::{first_unserved, table_losses};
 use class_table::{ClassTable, LARGEST_COUNTED};
 use std::alloc::{AllocError, Global};
@@ -57,6 +58,21 @@ impl Profile {
         self.large
     }
 
+    /// Counts one more request of `n` bytes, any number; above 16,368 it is a large one.
+    /// The error is that its count stands at 1,000,000,000; the profile is then as before.
+    pub fn add(&mut self, n: u32) -> Result<(), CountFull>
+        ensures added { OnOk result (self.new ≡ with_one_more self.old n) }
+        ensures full { IsErr result ↔ (count_for self.old n ≡ MOST_COUNTED) }
+        ensures kept { OnErr result (self.new ≡ self.old) }
+    {
+        if n > LARGEST_COUNTED {
+            self.set_large(one_more(self.large)?);
+        } else {
+            self.set_count(n, one_more(self.count(n))?);
+        }
+        Ok(())
+    }
+
     // Sets the count of a size.
     pub(crate) fn set_count(&mut self, n: u32, count: u32)
         requires size { n ≤ LARGEST_COUNTED }
@@ -92,6 +108,19 @@ impl Profile {
     {
         table_losses(&self.counts, table)
     }
+}
+
+// a count that is higher by 1, unless this one is the highest
+fn one_more(count: u32) -> Result<u32, CountFull>
+    requires { count ≤ MOST_COUNTED }
+    ensures more { IfOk result (λ more. more ≡ count + 1) }
+    ensures small { IfOk result (λ more. more ≤ MOST_COUNTED) }
+    ensures full { IsErr result ↔ (count ≡ MOST_COUNTED) }
+{
+    if count == MOST_COUNTED {
+        return Err(CountFull);
+    }
+    Ok(count + 1)
 }
 
 // so many zeros

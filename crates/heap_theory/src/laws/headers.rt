@@ -26,6 +26,7 @@ ghost use Rattle.heap_theory.specs.HeaderLaws.{
   SlotHeaderFits,
   TagsAreSeen,
   TagsKeepHeaders,
+  WordsAreOfHeader,
   WordsFit,
   WrittenHeaderIsRead,
 };
@@ -35,6 +36,7 @@ use super::laws_below;
 /// A header that is written is read, and nothing else changes.
 pub fn law_header()
     ensures words { HeaderIsReadFromWords }
+    ensures all_bits { WordsAreOfHeader }
     ensures fit { WordsFit }
     ensures fits { ReadHeaderFits }
     ensures two_words { HeaderIsTwoWords }

@@ -1,6 +1,6 @@
 //! The calls of the crates below, each once.
 use class_table::{ClassTable, TableError, loss, need, serves};
-use profile_count::Profile;
+use profile_count::{CountFull, MOST_COUNTED, Profile};
 use std::test::Fail;
 
 #[test]
@@ -74,5 +74,53 @@ fn profiles(rt: HostRuntime) -> Result<(), Fail> {
         .ok()
         .ok_or("a table")?;
     assert_eq!(rt; profile.unserved(&table), None);
+    Ok(())
+}
+
+// sizes in bytes that are added one by one, and the text of their profile
+const ADDED: [(&[u32], &str); 6] = [
+    (&[], ""),
+    (&[0], "0 1\n"),
+    (&[16_368, 16_369], "16368 1\nlarge 1\n"),
+    (&[17, 16, 17, 0], "0 1\n16 1\n17 2\n"),
+    (&[u32::MAX, 16_369, 1 << 31], "large 3\n"),
+    (
+        &[5, 32, 33, 8, 65, 3, 16],
+        "3 1\n5 1\n8 1\n16 1\n32 1\n33 1\n65 1\n",
+    ),
+];
+
+#[test]
+fn added_requests_are_written(rt: HostRuntime) -> Result<(), Fail> {
+    for (sizes, lines) in ADDED {
+        let mut profile = Profile::new(rt.alloc())?;
+        for size in sizes {
+            assert_eq!(rt; profile.add(*size), Ok(()), "{size} of {sizes:?}");
+        }
+        let mut text = Vec::from_slice(rt.alloc(), b"before\n")?;
+        let written = profile.write(&mut text);
+        // where a growth is refused, the text is as before
+        let lines = if written.is_ok() { lines } else { "" };
+        let expected = format!(in rt.alloc(); "before\n{lines}")?;
+        assert_eq!(rt; text.as_slice(), expected.as_bytes(), "{sizes:?}");
+        written?;
+    }
+    Ok(())
+}
+
+#[test]
+fn a_full_count_stays(rt: HostRuntime) -> Result<(), Fail> {
+    let text = b"15 999999999\n16 1000000000\nlarge 1000000000\n";
+    let mut profile = Profile::read(rt.alloc(), text).ok().ok_or("a profile")?;
+    for n in [16, 16_369, u32::MAX] {
+        assert_eq!(rt; profile.add(n), Err(CountFull), "{n}");
+    }
+    assert_eq!(rt; profile.count(16), MOST_COUNTED);
+    assert_eq!(rt; profile.large(), MOST_COUNTED);
+    assert_eq!(rt; profile.add(15), Ok(()));
+    assert_eq!(rt; profile.add(15), Err(CountFull));
+    assert_eq!(rt; profile.count(15), 1_000_000_000);
+    let shown = format!(in rt.alloc(); "{CountFull}")?;
+    assert_eq!(rt; shown.as_str(), "33 CountFull");
     Ok(())
 }

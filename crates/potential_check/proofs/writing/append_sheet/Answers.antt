@@ -1,4 +1,4 @@
-use Rattle.potential_check.specs.SheetText.{GoesOn}
+use Rattle.profile_count.specs.Appended.{GoesOn}
 use Rattle.potential_check.proofs.Appended.{goes_on-through}
 use Rattle.potential_check.proofs.writing.append_sheet.Goals as goal
 use Rattle.potential_check.proofs.writing.append_sheet.Goals.{then-sheet-ne1+in_ok-append_line-2, else-sheet-ne1}

@@ -1,0 +1,37 @@
+use Rattle.std.proofs.Common.{◌≡◌, ◌+◌, ◌<◌, ◌≤◌, ◌++◌, length, get_or, refl, sym, ◌∙◌, arith, append_assoc, append-nil}
+use Rattle.std.specs.Fmt.{decimal}
+use Rattle.line_text.specs.Lines.{ended}
+use Rattle.profile_count.specs.ProfileText.{size_line}
+use Rattle.profile_count.proofs.Appended.{goes_on-through}
+use Rattle.profile_count.proofs.SizeLines.{text_from, text_from-counted, text_from-end, text_from-zero}
+use Rattle.profile_count.proofs.writing.append_sizes.Goals as goal
+use Rattle.profile_count.proofs.writing.append_sizes.Goals.{then-count-gt0+in_ok-append_line, else-count-gt0}
+
+pub loop-size-preserved : goal.loop-size-preserved
+loop-size-preserved c =
+    let counts = c.args.profile.now.counts in
+    let size = c.loop-size.size in
+    let before = c.loop-size.text.items in
+    let within : size < length counts = omega (arith, c.requires.counts.sizes) in
+    elim c.if-count-gt0.branch [
+      | then-count-gt0+in_ok-append_line w ↦
+          let count : c.count-count.result ≡ get_or counts size 0 = c.count-count.ensures.count in
+          let word : w.as_bytes.result.now ≡ decimal size = w.as_bytes.ensures.value ∙ w.format.ensures.text in
+          let appended : c.if-count-gt0.text.items ≡ before ++ ended (size_line size (get_or counts size 0)) = rw w.text-is (w.in_ok-append_line.ensures.written ∙ rw (word, count) refl) in
+          let counted = text_from-counted counts size within (omega (arith, count, w.if-count-gt0.true)) in
+          record {
+            rest = c.loop-size.invariant.rest ∙ rw (counted, appended) (sym (append_assoc before (ended (size_line size (get_or counts size 0))) (text_from counts (size + 1))));
+            kept = rw w.text-is (goes_on-through _ _ _ c.loop-size.invariant.kept w.in_ok-append_line.ensures.kept);
+          }
+      | else-count-gt0 w ↦
+          let none : get_or counts size 0 ≡ 0 = omega (arith, c.count-count.ensures.count, w.if-count-gt0.false) in
+          record {
+            rest = c.loop-size.invariant.rest ∙ rw (w.text-is, text_from-zero counts size within none) refl;
+            kept = rw w.text-is c.loop-size.invariant.kept;
+          }
+    ]
+
+pub returns-clause-written : goal.returns-clause-written
+returns-clause-written c =
+    let past : length c.args.profile.now.counts ≤ c.loop-size.size = omega (arith, c.requires.counts.sizes) in
+    sym (c.loop-size.invariant.rest ∙ rw (text_from-end c.args.profile.now.counts c.loop-size.size past) (append-nil c.loop-size.text.items))

@@ -1,0 +1,6 @@
+pub mod Accesses
+pub mod LayoutStays
+pub mod Losses
+pub mod Reached
+pub mod StoredMore
+pub mod Written

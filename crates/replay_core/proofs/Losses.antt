@@ -1,0 +1,59 @@
+-- What is lost on a request, and how large totals become.
+use Rattle.std.proofs.Common.{◌≡◌, ℕ, suc, ◌+◌, ◌*◌, ◌^◌, ◌<◌, ◌≤◌, Bool, true, false, cond, List, [], ◌∷◌, length, get_or, drop, drop-cons, add-one, refl, ap, ◌∙◌, arith, Option, Some, None}
+use Rattle.std.specs.Prelude.{All, is_some}
+use Rattle.std.specs.Option.{option_map_or}
+use Rattle.class_table.specs.Sizes.{loss_of, serves}
+use Rattle.class_table.specs.Tables.{IsLegalTable, class_for}
+use Rattle.heap_theory.specs.declared.event.Event.{Event}
+use Rattle.heap_theory.specs.Run.{Answer}
+use Rattle.heap_theory.specs.Totals.{Totals, is_request, request_size, is_large, is_no_class, is_exhausted, is_tag_fault, is_unmapped, is_refused, is_silent, loss_of_size, loss_of_request, loss_of_event, one_if, totals_after}
+use Rattle.replay_core.specs.Bounds.{AreBounded}
+use Rattle.replay_core.specs.Counted.{with_answer, with_request}
+
+-- the class of a request, looked for class by class
+pub class_for-drop : (classes : List ℕ) (n i : ℕ) → i < length classes →
+    class_for (drop i classes) n ≡ cond (serves n (get_or classes i 0)) (Some (get_or classes i 0)) (class_for (drop (i + 1) classes) n)
+class_for-drop classes n i within = rw (add-one, drop-cons classes i 0) refl
+
+loss_of_size-le : (classes : List ℕ) (n : ℕ) → All (λ class. (2 ≤ class) × (class ≤ 1024)) classes → loss_of_size classes n ≤ 16368
+loss_of_size-le [] n legal = omega arith
+loss_of_size-le (class ∷ classes) n legal =
+    elim (serves n class) as (λ b. option_map_or (loss_of n) (cond b (Some class) (class_for classes n)) 0 ≤ 16368) [
+      | true ↦ omega (arith, (legal 0 0 (omega arith)).1)
+      | false ↦ loss_of_size-le classes n (λ i d within. legal (suc i) d (omega arith))
+    ]
+
+one_if-le : (b : Bool) → one_if b ≤ 1
+one_if-le true = omega arith
+one_if-le false = omega arith
+
+loss_of_event-le : (classes : List ℕ) (p : Event × Answer) → IsLegalTable 1 classes → loss_of_event classes p ≤ 16368 * one_if (is_request p.0)
+loss_of_event-le classes p legal = by_test (is_silent p.1) (request_size p.0)
+  where
+    by_test : (b : Bool) (size : Option ℕ) → cond b (loss_of_request classes size) 0 ≤ 16368 * one_if (is_some size)
+    by_test true (Some n) = omega (arith, loss_of_size-le classes n legal.in_range)
+    by_test true None = omega arith
+    by_test false (Some n) = omega arith
+    by_test false None = omega arith
+
+pub AreBounded-after : (classes : List ℕ) (t : Totals) (p : Event × Answer) → IsLegalTable 1 classes → AreBounded t → t.events < 2 ^ 40 → AreBounded (totals_after classes t p)
+unfolding totals_after
+AreBounded-after classes t p legal b few = record {
+  events = omega arith;
+  requests = omega (arith, b.requests, one_if-le (is_request p.0));
+  null_large = omega (arith, b.null_large, one_if-le (is_large p.1));
+  null_no_class = omega (arith, b.null_no_class, one_if-le (is_no_class p.1));
+  null_exhausted = omega (arith, b.null_exhausted, one_if-le (is_exhausted p.1));
+  faults_tag = omega (arith, b.faults_tag, one_if-le (is_tag_fault p.1));
+  faults_unmapped = omega (arith, b.faults_unmapped, one_if-le (is_unmapped p.1));
+  refused_frees = omega (arith, b.refused_frees, one_if-le (is_refused p.1));
+  loss = omega (arith, b.loss, loss_of_event-le classes p legal);
+}
+
+-- one event more, counted in parts
+pub counted_in_parts : (classes : List ℕ) (t answered requested : Totals) (size : Option ℕ) (event : Event) (answer : Answer) → answered ≡ with_answer t answer → size ≡ request_size event →
+    requested ≡ with_request classes answered size answer → record requested { events = requested.events + 1 } ≡ totals_after classes t (event, answer)
+unfolding totals_after
+counted_in_parts classes t answered requested size event answer first is second =
+    ap (λ (x : Totals). record x { events = x.events + 1 })
+    (second ∙ ap (λ (x : Totals). with_request classes x size answer) first ∙ ap (λ (n : Option ℕ). with_request classes (with_answer t answer) n answer) is)

@@ -1,0 +1,45 @@
+-- What is stored of some run, and of one event more.
+use Rattle.std.proofs.Common.{◌≡◌, ◌≢◌, ◌⊎◌, ℕ, List, [], ◌∷◌, ◌++◌, sym, ap, ◌∙◌, subst}
+use Rattle.machine_theory.specs.Address.{logical_tag}
+use Rattle.heap_theory.specs.declared.event.Event.{Event}
+use Rattle.heap_theory.specs.Generations.{Run, run_after}
+use Rattle.heap_theory.specs.Run.{Replay, Answer, variable, heap_after, variables_after, replay_after, answer_of, replay_of, first_replay}
+use Rattle.heap_theory.specs.State.{Heap}
+use Rattle.heap_theory.specs.Totals.{Totals, totals_after}
+use Rattle.replay_core.specs.Below.{LawsBelow}
+use Rattle.replay_core.specs.Shown.{AreNullOrTagged, over}
+use Rattle.replay_core.specs.Stored.{Stored, IsStored, stored_after, stored_of}
+use Rattle.replay_core.proofs.StoredMore.{stored_of-push}
+
+replay_is : (stored : Stored) (i : IsStored stored) → stored.replay ≡ replay_of (first_replay i.layout i.seed i.quarantine) i.events
+unfolding stored_of
+replay_is stored i = ap (λ (s : Stored). s.replay) i.stored_is
+
+pub null_or_tagged : (laws : LawsBelow) (stored : Stored) → IsStored stored → AreNullOrTagged stored.replay.variables
+null_or_tagged laws stored i v =
+    subst (λ (r : Replay). (variable r v ≡ 0) ⊎ (logical_tag (variable r v) ≢ 0)) (laws.stored_part i.layout i.seed i.quarantine i.events ∙ sym (replay_is stored i))
+    (laws.variables i.layout i.seed i.quarantine i.events i.region v)
+
+pub IsStored-after : (laws : LawsBelow) (stored : Stored) (e : Event) → IsStored stored → IsStored (stored_after stored e)
+IsStored-after laws stored e i = record {
+  layout = i.layout;
+  seed = i.seed;
+  quarantine = i.quarantine;
+  events = i.events ++ e ∷ [];
+  region = i.region;
+  stored_is = ap (λ s. stored_after s e) i.stored_is ∙ sym (stored_of-push laws i.layout i.seed i.quarantine i.events e);
+}
+
+-- the parts of what is stored, each after the event
+pub stored_in_parts : (stored : Stored) (e : Event) (heap : Heap) (variables : List ℕ) (totals : Totals) (classes : List ℕ) (answer : Answer) → heap ≡ heap_after stored.replay e →
+    variables ≡ variables_after stored.replay e → answer ≡ answer_of stored.replay e → classes ≡ stored.replay.heap.layout.classes → totals ≡ totals_after classes stored.totals (e, answer) →
+    record { replay = over heap variables; totals = totals } ≡ stored_after stored e
+unfolding stored_after replay_after
+stored_in_parts stored e heap variables totals classes answer heap_is variables_are answer_is classes_are totals_are =
+    let counted = totals_are ∙ ap (λ c. totals_after c stored.totals (e, answer)) classes_are ∙ ap (λ a. totals_after stored.replay.heap.layout.classes stored.totals (e, a)) answer_is in
+    λ i. record { replay = record { heap = heap_is i; variables = variables_are i }; totals = counted i }
+
+-- the run, with what is not stored, goes on with it
+pub run_goes_on : (w : Run) (stored : Stored) (e : Event) → w.replay ≡ stored.replay → (run_after w e).replay ≡ (stored_after stored e).replay
+unfolding run_after stored_after
+run_goes_on w stored e same = ap (λ r. replay_after r e) same

@@ -1,0 +1,48 @@
+use Rattle.std.proofs.Common.{ℕ, [], length, sym, ap, ◌∙◌, subst, arith}
+use Rattle.std.proofs.lemmas.List.{length-replicate}
+use Rattle.class_table.specs.Tables.{IsLegalTable}
+use Rattle.heap_theory.specs.Run.{first_replay}
+use Rattle.heap_theory.specs.State.{Heap, first_heap}
+use Rattle.heap_theory.specs.Totals.{no_totals}
+use Rattle.replay_core.specs.Stored.{first_stored}
+use Rattle.replay_core.proofs.StoredMore.{stored_of-none}
+use Rattle.replay_core.proofs.replay.Replay.new.Goals as goal
+
+pub returns : goal.returns
+unfolding first_stored first_replay
+returns c = λ i. record {
+  replay = record { heap = c.in_ok-heap.ensures.state i; variables = c.in_ok-variables.ensures.items_if_clones_equal (λ y is. is) i };
+  totals = no_totals;
+}
+
+pub invariant_of-result : goal.invariant_of-result
+unfolding first_heap
+invariant_of-result c = record {
+  reached = record {
+    layout = record { classes = c.args.table.now; granules = c.args.config.granules };
+    seed = c.args.config.seed;
+    quarantine = c.args.config.quarantine;
+    events = [];
+    region = record {
+      table = subst (IsLegalTable 1) c.classes_of-classes.ensures.classes c.classes_of-classes.ensures.legal;
+      least = c.requires.granules.0;
+      most = c.requires.granules.1;
+    };
+    stored_is = returns c ∙ sym (stored_of-none c.laws_below.ensures _ _ _);
+  };
+  bounded = record {
+    events = omega arith;
+    requests = omega arith;
+    null_large = omega arith;
+    null_no_class = omega arith;
+    null_exhausted = omega arith;
+    faults_tag = omega arith;
+    faults_unmapped = omega arith;
+    refused_frees = omega arith;
+    loss = omega arith;
+  };
+  long = ap length (c.in_ok-variables.ensures.items_if_clones_equal (λ y is. is)) ∙ length-replicate {A = ℕ} 1024 0;
+  legal = c.classes_of-classes.ensures.legal;
+  classes = c.classes_of-classes.ensures.classes ∙ sym (ap (λ (h : Heap). h.layout.classes) c.in_ok-heap.ensures.state);
+  few = omega (arith, c.in_ok-heap.ensures.frees);
+}

@@ -1,0 +1,67 @@
+use Rattle.std.proofs.Common.{◌≡◌, ◌+◌, length, sym, ap, ◌∙◌, subst, arith}
+use Rattle.std.proofs.lemmas.List.{with_items_is}
+use Rattle.std.specs.Vec.{with_items}
+use Rattle.class_table.specs.Layout.{Partition}
+use Rattle.heap_theory.specs.Report.{report_line}
+use Rattle.heap_theory.specs.Run.{heap_after, variables_after, answer_of}
+use Rattle.heap_theory.specs.Totals.{Totals, totals_after}
+use Rattle.heap_theory.specs.State.{Heap}
+use Rattle.replay_core.specs.Inside.{stored}
+use Rattle.replay_core.specs.Shown.{AreNullOrTagged, over, shown, totals_in}
+use Rattle.replay_core.specs.Stored.{Stored, IsStored, stored_after}
+use Rattle.replay_core.proofs.LayoutStays.{layout_after}
+use Rattle.replay_core.proofs.Reached.{null_or_tagged, IsStored-after, stored_in_parts, run_goes_on}
+use Rattle.replay_core.proofs.replay.Replay.step.Goals as goal
+
+pub perform-answer-requires-clause-tagged : goal.perform-answer-requires-clause-tagged
+perform-answer-requires-clause-tagged c =
+    subst AreNullOrTagged (sym c.deref_mut.ensures.value) (null_or_tagged c.laws_below.ensures (stored c.self.inside) c.self.invariant.reached)
+
+-- ---- the parts, after the event
+
+module _ (c : goal.After-write_line) where
+  variables_are : c.perform-answer.new.variables ≡ variables_after (stored c.self.inside).replay c.args.event.now
+  variables_are = c.perform-answer.ensures.variables ∙ ap (λ vs. variables_after (over c.self.inside.heap.state vs) c.args.event.now) c.deref_mut.ensures.value
+
+  heap_is : c.perform-answer.new.heap.state ≡ heap_after (stored c.self.inside).replay c.args.event.now
+  heap_is = c.perform-answer.ensures.state ∙ ap (λ vs. heap_after (over c.self.inside.heap.state vs) c.args.event.now) c.deref_mut.ensures.value
+
+  answer_is : shown c.perform-answer.new.bytes c.perform-answer.result ≡ answer_of (stored c.self.inside).replay c.args.event.now
+  answer_is = c.perform-answer.ensures.answer ∙ ap (λ vs. answer_of (over c.self.inside.heap.state vs) c.args.event.now) c.deref_mut.ensures.value
+
+  items_are : (with_items c.self.inside.variables c.perform-answer.new.variables).items ≡ c.perform-answer.new.variables
+  items_are = with_items_is c.self.inside.variables c.perform-answer.new.variables (c.perform-answer.auto.variables ∙ c.deref_mut.ensures.len)
+
+  counted : totals_in c.count.new.self ≡ totals_after c.self.inside.classes.items (stored c.self.inside).totals (c.args.event.now, shown c.perform-answer.new.bytes c.perform-answer.result)
+  counted = c.count.ensures.counted c.perform-answer.new.bytes ∙ ap (λ classes. totals_after classes (stored c.self.inside).totals (c.args.event.now, shown c.perform-answer.new.bytes c.perform-answer.result)) c.deref.ensures.0
+
+  stored_is : record { replay = over c.perform-answer.new.heap.state (with_items c.self.inside.variables c.perform-answer.new.variables).items; totals = totals_in c.count.new.self } ≡ stored_after (stored c.self.inside) c.args.event.now
+  stored_is =
+      stored_in_parts (stored c.self.inside) c.args.event.now c.perform-answer.new.heap.state _ (totals_in c.count.new.self) c.self.inside.classes.items (shown c.perform-answer.new.bytes c.perform-answer.result)
+      heap_is (items_are ∙ variables_are) answer_is c.self.invariant.classes counted
+
+  events_are : c.count.new.self.events ≡ c.self.inside.totals.events + 1
+  unfolding totals_after
+  events_are = ap (λ (t : Totals). t.events) counted
+
+pub returns-clause-stored : goal.returns-clause-stored
+returns-clause-stored c = stored_is c ∙ ap (λ (s : Stored). stored_after s c.args.event.now) c.self.view_is
+
+pub returns-clause-line : goal.returns-clause-line
+returns-clause-line c =
+    c.write_line.ensures ∙ ap (λ n. report_line n (shown c.perform-answer.new.bytes c.perform-answer.result)) (events_are c)
+    ∙ ap (λ answer. report_line (c.self.inside.totals.events + 1) answer) (answer_is c)
+    ∙ ap (λ (s : Stored). report_line (s.totals.events + 1) (answer_of s.replay c.args.event.now)) c.self.view_is
+
+pub invariant_of-self : goal.invariant_of-self
+invariant_of-self c = record {
+  reached = subst IsStored (sym (stored_is c)) (IsStored-after c.laws_below.ensures (stored c.self.inside) c.args.event.now c.self.invariant.reached);
+  bounded = c.count.ensures.bounded;
+  long = ap length (items_are c) ∙ c.perform-answer.auto.variables ∙ ap length c.deref_mut.ensures.value ∙ c.self.invariant.long;
+  legal = c.self.invariant.legal;
+  classes = c.self.invariant.classes ∙ sym (ap (λ (h : Heap). h.layout.classes) (heap_is c) ∙ ap (λ (l : Partition). l.classes) (layout_after (stored c.self.inside).replay c.args.event.now));
+  few = omega (arith, c.perform-answer.ensures.frees, c.self.invariant.few, events_are c);
+}
+
+pub returns-clause-run : goal.returns-clause-run
+returns-clause-run c run same = run_goes_on run c.args.self.now c.args.event.now same ∙ sym (ap (λ (s : Stored). s.replay) (returns-clause-stored c))

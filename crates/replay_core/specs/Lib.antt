@@ -1,0 +1,6 @@
+pub mod Below
+pub mod Bounds
+pub mod Counted
+pub mod Inside
+pub mod Shown
+pub mod Stored

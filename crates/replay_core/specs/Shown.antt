@@ -1,0 +1,49 @@
+-- The types of the code, as the definitions see them.
+use Rattle.std.specs.Prelude.{◌≡◌, ◌≢◌, ◌⊎◌, ℕ, ◌≤◌, List, slice_index, take, ⊤}
+use Rattle.machine_theory.specs.Address.{logical_tag}
+use Rattle.heap_theory.specs.Run.{Replay, Answer}
+use Rattle.heap_theory.specs.Run.Answer.{Silent, Loaded, NotMapped, TagFault, NoPointer, NotFreed}
+use Rattle.heap_theory.specs.State.{Heap}
+use Rattle.heap_theory.specs.Totals.{Totals}
+use Rattle.replay_core.specs.declared.answer.Answer.{Answer as TheAnswer}
+use Rattle.replay_core.specs.declared.answer.Answer.TheVariants.{Silent as ItIsSilent, Loaded as ItLoaded, NotMapped as ItIsNotMapped, TagFault as ItIsATagFault, NoPointer as ItHasNoPointer, NotFreed as ItIsNotFreed}
+use Rattle.replay_core.specs.declared.totals.Totals.{Totals as TheTotals}
+
+-- An answer, with the buffer in which the bytes of a load stand.
+abbrev pub shown : List ℕ → TheAnswer → Answer
+shown bytes ItIsSilent = Silent
+shown bytes (ItLoaded len) = Loaded (take len bytes)
+shown bytes ItIsNotMapped = NotMapped
+shown bytes (ItIsATagFault granule memory_tag pointer_tag kind) = TagFault granule memory_tag pointer_tag kind
+shown bytes (ItHasNoPointer cause) = NoPointer cause
+shown bytes (ItIsNotFreed error) = NotFreed error
+
+abbrev pub totals_in : TheTotals → Totals
+totals_in t = record {
+  events = t.events;
+  requests = t.requests;
+  null_large = t.null_large;
+  null_no_class = t.null_no_class;
+  null_exhausted = t.null_exhausted;
+  faults_tag = t.faults_tag;
+  faults_unmapped = t.faults_unmapped;
+  refused_frees = t.refused_frees;
+  loss = t.loss;
+}
+
+-- a heap with its variables
+abbrev pub over : Heap → List ℕ → Replay
+over heap variables = record { heap = heap; variables = variables }
+
+-- Each variable is null or tagged.
+abbrev pub AreNullOrTagged : List ℕ → Type 0
+AreNullOrTagged variables = (v : ℕ) → (slice_index variables v ≡ 0) ⊎ (logical_tag (slice_index variables v) ≢ 0)
+
+-- The buffer, of 64 bytes, has as many as were loaded.
+abbrev pub IsFilled : TheAnswer → Type 0
+IsFilled ItIsSilent = ⊤
+IsFilled (ItLoaded len) = len ≤ 64
+IsFilled ItIsNotMapped = ⊤
+IsFilled (ItIsATagFault granule memory_tag pointer_tag kind) = ⊤
+IsFilled (ItHasNoPointer cause) = ⊤
+IsFilled (ItIsNotFreed error) = ⊤

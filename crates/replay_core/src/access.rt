@@ -1,0 +1,73 @@
+//! Loads and stores through a variable.
+ghost use Rattle.heap_theory.specs.Run.{access_answer, fault_answer, store_step};
+ghost use Rattle.heap_theory.specs.Run.Answer.{Loaded, Silent};
+ghost use Rattle.machine_theory.specs.Access.{access_fault, is_mapped, loaded};
+ghost use Rattle.machine_theory.specs.Address.{logical_tag, moved_by};
+ghost use Rattle.replay_core.specs.Shown.{IsFilled, shown};
+ghost use Rattle.std.specs.Prelude.{◌≡◌, ◌≢◌, ◌⊎◌, ◌≤◌, IsFalse, List, length, replicate, ℕ};
+
+use crate::answer::Answer;
+use heap_theory::PlaceKind;
+use tag_machine::Fault;
+use tagged_heap::Heap;
+
+/// The most bytes of an access.
+pub(crate) const MOST_BYTES: usize = 64;
+
+// The address so many bytes behind another one, modulo 2^64.
+pub(crate) fn moved_by(address: u64, off: i32) -> u64
+    ensures { result ≡ moved_by address off }
+{
+    address.wrapping_add_signed(i64::from(off))
+}
+
+// Loads `len` bytes into the front of `bytes`; the address is tagged, or the access not mapped.
+pub(crate) fn load(heap: &Heap, address: u64, len: u8, bytes: &mut [u8; MOST_BYTES]) -> Answer
+    requires len { (1 ≤ len) × (len ≤ 64) }
+    requires tagged { (logical_tag address ≢ 0) ⊎ IsFalse (is_mapped (length heap.now.state.memory) address len) }
+    ensures answer { shown bytes.new result ≡ access_answer heap.now.state (Loaded (loaded heap.now.state.memory address len))
+        (access_fault heap.now.state.memory address len) }
+    ensures filled { IsFilled result }
+{
+    match heap.load(address, &mut bytes[..usize::from(len)]) {
+        Ok(()) => Answer::Loaded { len },
+        Err(fault) => fault_answer(heap, fault),
+    }
+}
+
+// Stores `len` bytes of this value; the address is tagged, or the access not mapped.
+#[tactic(auto, unfolding(heap_theory::specs::Run::store_step))]
+pub(crate) fn store(heap: &mut Heap, address: u64, len: u8, byte: u8) -> Answer
+    requires len { (1 ≤ len) × (len ≤ 64) }
+    requires tagged { (logical_tag address ≢ 0) ⊎ IsFalse (is_mapped (length heap.old.state.memory) address len) }
+    ensures answer { (bytes : List ℕ) → shown bytes result ≡ access_answer heap.old.state Silent (access_fault heap.old.state.memory address len) }
+    ensures filled { IsFilled result }
+    ensures state { heap.new.state ≡ store_step heap.old.state address (replicate len byte) }
+    ensures frees { heap.new.frees ≡ heap.old.frees }
+{
+    let bytes = [byte; MOST_BYTES];
+    match heap.store(address, &bytes[..usize::from(len)]) {
+        Ok(()) => Answer::Silent,
+        Err(fault) => fault_answer(heap, fault),
+    }
+}
+
+// What a fault answers; an access meets no Alignment fault.
+fn fault_answer(heap: &Heap, fault: Fault) -> Answer
+    ensures answer { (bytes : List ℕ) → shown bytes result ≡ fault_answer heap.now.state fault }
+    ensures filled { IsFilled result }
+{
+    match fault {
+        Fault::Unmapped | Fault::Alignment => Answer::NotMapped,
+        Fault::TagCheck {
+            granule,
+            memory_tag,
+            pointer_tag,
+        } => Answer::TagFault {
+            granule,
+            memory_tag,
+            pointer_tag,
+            kind: heap.place_kind(granule),
+        },
+    }
+}

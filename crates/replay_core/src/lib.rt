@@ -1,0 +1,26 @@
+//! The replay of a trace on the hardened heap: events over 1,024 variables, one after the other, each with its line of the report, and the
+//! totals over all of them.
+//!
+//! The rules stand in docs/HEAP.md and, as definitions, in `heap_theory`. A body that begins with the call of a law cites that law in its
+//! proof; the call does nothing.
+#![tactic(auto)]
+
+mod access;
+mod answer;
+pub mod laws;
+mod laws_below;
+mod line;
+mod perform;
+mod ranges;
+mod replay;
+mod text;
+mod totals;
+
+pub use heap_theory::Event;
+pub use ranges::is_in_range;
+pub use replay::{LINE_BYTES, Replay};
+pub use tagged_heap::Config;
+pub use totals::{TOTALS_BYTES, Totals};
+
+#[cfg(test)]
+mod tests;

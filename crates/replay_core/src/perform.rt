@@ -1,0 +1,109 @@
+//! What an event does to the heap and to the variables.
+ghost use Rattle.heap_theory.specs.Calls.{free_step, realloc_step};
+ghost use Rattle.heap_theory.specs.Ranges.{IsInRange};
+ghost use Rattle.heap_theory.specs.Run.{answer_of, free_answer, heap_after, malloc_answer, realloc_answer, variables_after};
+ghost use Rattle.replay_core.specs.Shown.{AreNullOrTagged, IsFilled, over, shown};
+ghost use Rattle.std.specs.Prelude.{◌≡◌, ◌+◌, ◌^◌, ◌<◌, ◌≤◌, List, length, slice_index, slice_set, ℕ};
+ghost use Rattle.std.specs.Result.{result_unwrap_or};
+
+use crate::access::{MOST_BYTES, load, moved_by, store};
+use crate::answer::Answer;
+use crate::laws_below::laws_below;
+use heap_theory::{Event, NullCause, ReallocError};
+use tagged_heap::Heap;
+
+// Lets the event happen. What is loaded stands at the front of `bytes`.
+#[tactic(auto, unfolding(heap_theory::specs::Run::heap_after, heap_theory::specs::Run::variables_after, heap_theory::specs::Run::answer_of))]
+pub(crate) fn perform(
+    heap: &mut Heap,
+    variables: &mut [u64],
+    event: &Event,
+    bytes: &mut [u8; MOST_BYTES],
+) -> Answer
+    requires in_range { IsInRange event.now }
+    requires variables { length variables.old ≡ 1024 }
+    requires tagged { AreNullOrTagged variables.old }
+    requires few { heap.old.frees < 2 ^ 48 }
+    ensures state { heap.new.state ≡ heap_after (over heap.old.state variables.old) event.now }
+    ensures variables { variables.new ≡ variables_after (over heap.old.state variables.old) event.now }
+    ensures answer { shown bytes.new result ≡ answer_of (over heap.old.state variables.old) event.now }
+    ensures filled { IsFilled result }
+    ensures frees { heap.new.frees ≤ heap.old.frees + 1 }
+{
+    laws_below();
+    heap.law_sound();
+    match *event {
+        Event::Malloc { v, n } => give(variables, v, heap.malloc(n)),
+        Event::Calloc { v, n } => give(variables, v, heap.calloc(n)),
+        Event::Realloc { v, n } => reallocate(heap, variables, v, n),
+        Event::Free { v } => free(heap, variables[usize::from(v)]),
+        Event::Load { v, off, len } => {
+            load(heap, moved_by(variables[usize::from(v)], off), len, bytes)
+        }
+        Event::Store { v, off, len, byte } => {
+            store(heap, moved_by(variables[usize::from(v)], off), len, byte)
+        }
+        Event::Addg { v, w, u6, u4 } => {
+            variables[usize::from(v)] = heap.addg(variables[usize::from(w)], u6, u4);
+            Answer::Silent
+        }
+        Event::Subg { v, w, u6, u4 } => {
+            variables[usize::from(v)] = heap.subg(variables[usize::from(w)], u6, u4);
+            Answer::Silent
+        }
+    }
+}
+
+// Sets a variable to the pointer that it was given, or to null.
+fn give(variables: &mut [u64], v: u16, given: Result<u64, NullCause>) -> Answer
+    requires { v < length variables.old }
+    ensures variables { variables.new ≡ slice_set variables.old v (result_unwrap_or given 0) }
+    ensures answer { (bytes : List ℕ) → shown bytes result ≡ malloc_answer given }
+    ensures filled { IsFilled result }
+{
+    match given {
+        Ok(p) => {
+            variables[usize::from(v)] = p;
+            Answer::Silent
+        }
+        Err(cause) => {
+            variables[usize::from(v)] = 0;
+            Answer::NoPointer(cause)
+        }
+    }
+}
+
+// Resizes the chunk at a variable, and sets the variable to its new address; it stays where that is refused.
+fn reallocate(heap: &mut Heap, variables: &mut [u64], v: u16, n: u32) -> Answer
+    requires variable { v < length variables.old }
+    requires few { heap.old.frees < 2 ^ 48 }
+    ensures state { heap.new.state ≡ (realloc_step heap.old.state (slice_index variables.old v) n).heap }
+    ensures variables { variables.new ≡ slice_set variables.old v
+        (result_unwrap_or (realloc_step heap.old.state (slice_index variables.old v) n).answer (slice_index variables.old v)) }
+    ensures answer { (bytes : List ℕ) → shown bytes result ≡ realloc_answer (realloc_step heap.old.state (slice_index variables.old v) n).answer }
+    ensures filled { IsFilled result }
+    ensures frees { heap.new.frees ≤ heap.old.frees + 1 }
+{
+    match heap.realloc(variables[usize::from(v)], n) {
+        Ok(p) => {
+            variables[usize::from(v)] = p;
+            Answer::Silent
+        }
+        Err(ReallocError::Null(cause)) => Answer::NoPointer(cause),
+        Err(ReallocError::Refused(error)) => Answer::NotFreed(error),
+    }
+}
+
+// Frees the chunk at a pointer.
+fn free(heap: &mut Heap, p: u64) -> Answer
+    requires { heap.old.frees < 2 ^ 48 }
+    ensures state { heap.new.state ≡ (free_step heap.old.state p).heap }
+    ensures answer { (bytes : List ℕ) → shown bytes result ≡ free_answer (free_step heap.old.state p).answer }
+    ensures filled { IsFilled result }
+    ensures frees { heap.new.frees ≤ heap.old.frees + 1 }
+{
+    match heap.free(p) {
+        Ok(()) => Answer::Silent,
+        Err(error) => Answer::NotFreed(error),
+    }
+}

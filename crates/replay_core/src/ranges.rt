@@ -1,0 +1,54 @@
+//! The ranges of an event's numbers.
+ghost use Rattle.heap_theory.specs.Ranges.{IsAccessOf, IsInRange, IsMove, IsVariable};
+ghost use Rattle.std.specs.Prelude.{◌↔◌, IsTrue};
+
+use crate::access::MOST_BYTES;
+use crate::replay::VARIABLES;
+use heap_theory::Event;
+
+// a request has fewer bytes
+const REQUEST_END: u32 = 1 << 31;
+
+// the most bytes between a variable's address and an access
+const MOST_OFFSET: u32 = 1_048_576;
+
+/// Whether an event's numbers are in the ranges that `Event` names, as `Replay::step` asks.
+pub fn is_in_range(event: &Event) -> bool
+    ensures { IsTrue result ↔ IsInRange event.now }
+{
+    match *event {
+        Event::Malloc { v, n } | Event::Calloc { v, n } | Event::Realloc { v, n } => {
+            is_variable(v) && n < REQUEST_END
+        }
+        Event::Free { v } => is_variable(v),
+        Event::Load { v, off, len } => is_access(v, off, len),
+        Event::Store {
+            v,
+            off,
+            len,
+            byte: _byte,
+        } => is_access(v, off, len),
+        Event::Addg { v, w, u6, u4 } | Event::Subg { v, w, u6, u4 } => is_move(v, w, u6, u4),
+    }
+}
+
+fn is_variable(v: u16) -> bool
+    ensures { IsTrue result ↔ IsVariable v }
+{
+    usize::from(v) < VARIABLES
+}
+
+fn is_access(v: u16, off: i32, len: u8) -> bool
+    ensures { IsTrue result ↔ IsAccessOf v off len }
+{
+    is_variable(v)
+        && off.unsigned_abs() <= MOST_OFFSET
+        && len >= 1
+        && usize::from(len) <= MOST_BYTES
+}
+
+fn is_move(v: u16, w: u16, u6: u8, u4: u8) -> bool
+    ensures { IsTrue result ↔ IsMove v w u6 u4 }
+{
+    is_variable(v) && is_variable(w) && u6 <= 63 && u4 <= 15
+}

@@ -1,0 +1,106 @@
+ghost use Rattle.class_table.specs.Tables.{IsLegalTable};
+ghost use Rattle.heap_theory.specs.Generations.{Run, run_after};
+ghost use Rattle.heap_theory.specs.Ranges.{IsInRange};
+ghost use Rattle.heap_theory.specs.Report.{report_line};
+ghost use Rattle.heap_theory.specs.Run.{answer_of};
+ghost use Rattle.replay_core.specs.Stored.{first_stored, stored_after};
+ghost use Rattle.std.specs.Prelude.{◌≡◌, ◌≢◌, ◌+◌, ◌^◌, ◌<◌, ◌≤◌, IfOk};
+
+use crate::access::MOST_BYTES;
+use crate::laws_below::laws_below;
+use crate::line::write_line;
+use crate::perform::perform;
+use crate::totals::Totals;
+use arrayvec::ArrayVec;
+use class_table::{ClassTable, MOST_CLASSES};
+use heap_theory::Event;
+use std::alloc::{AllocError, Global};
+use std::marker::Model;
+use tagged_heap::{Config, Heap};
+
+/// The most bytes of a report line with its newline.
+pub const LINE_BYTES: usize = 160;
+
+// How many variables a trace has.
+pub(crate) const VARIABLES: usize = 1024;
+
+/// The replay of a trace: a heap, and the 1,024 variables that the events of the trace set and use.
+///
+/// It is seen as what is stored of a run of the definitions: heap state, variables and totals.
+#[derive(Drop)]
+pub struct Replay {
+    pub(crate) heap: Heap,
+    pub(crate) variables: Vec<u64>,
+    pub(crate) classes: ArrayVec<u16, MOST_CLASSES>,
+    pub(crate) totals: Totals,
+}
+
+impl Model for Replay {
+    ghost use Rattle.replay_core.specs.Stored.{Stored};
+
+    ghost Value = { Stored };
+
+    ghost use Rattle.replay_core.specs.Inside.{stored, IsKept};
+
+    ghost view = { stored };
+
+    ghost invariant = { IsKept };
+}
+
+impl Replay {
+    /// A replay in which nothing has happened yet: a new heap over the classes of a table, and all variables null, which is 0. The only error
+    /// is that the allocator has no block for the heap or for the variables. No other call takes memory.
+    pub fn new(alloc: Global, table: &ClassTable, config: Config) -> Result<Replay, AllocError>
+        requires granules { (64 ≤ config.granules) × (config.granules ≤ 262144) }
+        requires seed { config.seed ≢ 0 }
+        requires quarantine { config.quarantine ≤ 4194304 }
+        ensures { IfOk result (λ replay.
+            replay ≡ first_stored (record { classes = table.now; granules = config.granules }) config.seed config.quarantine) }
+    {
+        laws_below();
+        let classes = classes_of(table);
+        let variables = vec![in alloc; 0; VARIABLES]?;
+        let heap = Heap::new(alloc, table, config)?;
+        Ok(Replay {
+            heap,
+            variables,
+            classes,
+            totals: Totals::NONE,
+        })
+    }
+
+    /// Lets the event happen, and writes its report line with its newline in place of what `line` holds, or nothing where it has none. The
+    /// event's numbers are in their ranges, and there were fewer than 2^40 steps so far, as `steps` tells.
+    pub fn step(&mut self, event: &Event, line: &mut ArrayVec<u8, LINE_BYTES>)
+        requires few { self.old.totals.events < 2 ^ 40 }
+        requires in_range { IsInRange event.now }
+        ensures line { line.new.items ≡ report_line (self.old.totals.events + 1) (answer_of self.old.replay event.now) }
+        ensures stored { self.new ≡ stored_after self.old event.now }
+        ensures run { (run : Run) → run.replay ≡ self.old.replay → (run_after run event.now).replay ≡ self.new.replay }
+    {
+        laws_below();
+        let mut bytes = [0; MOST_BYTES];
+        let answer = perform(&mut self.heap, &mut self.variables, event, &mut bytes);
+        self.totals.count(&self.classes, event, &answer);
+        write_line(line, self.totals.events, &answer, &bytes);
+    }
+
+    /// How many events have happened.
+    pub fn steps(&self) -> u64
+        ensures { result ≡ self.now.totals.events }
+    {
+        self.totals.events
+    }
+}
+
+// the classes of a table
+fn classes_of(table: &ClassTable) -> ArrayVec<u16, MOST_CLASSES>
+    ensures classes { result.items ≡ table.now }
+    ensures legal { IsLegalTable 1 result.items }
+{
+    let mut classes = ArrayVec::new();
+    for number in 0..table.len() {
+        classes.push(table.class(number));
+    }
+    classes
+}

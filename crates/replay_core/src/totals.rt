@@ -1,0 +1,167 @@
+ghost use Rattle.class_table.specs.Tables.{IsLegalTable};
+ghost use Rattle.heap_theory.specs.Report.{total_line, totals_text};
+ghost use Rattle.heap_theory.specs.Totals.{loss_of_size, request_size, totals_after};
+ghost use Rattle.line_text.specs.Lines.{ended};
+ghost use Rattle.replay_core.specs.Bounds.{AreBounded};
+ghost use Rattle.replay_core.specs.Counted.{with_answer, with_request};
+ghost use Rattle.replay_core.specs.Shown.{shown, totals_in};
+ghost use Rattle.std.specs.Prelude.{◌≡◌, ◌++◌, ◌+◌, ◌*◌, ◌^◌, ◌<◌, ◌≤◌, List, length, ℕ};
+
+use crate::answer::Answer;
+use crate::replay::Replay;
+use crate::text::{append, append_number};
+use arrayvec::ArrayVec;
+use class_table::{loss, serves};
+use heap_theory::{Event, NullCause};
+
+/// The most bytes of the lines of totals.
+pub const TOTALS_BYTES: usize = 512;
+
+/// What is counted over the events of a trace. A request is a malloc, a calloc or a realloc.
+#[derive(Clone, Copy, Debug, PartialEq, Eq)]
+pub struct Totals {
+    /// All events.
+    pub events: u64,
+    /// The requests, null or not.
+    pub requests: u64,
+    /// The requests of more than 16,368 bytes.
+    pub null_large: u64,
+    /// The requests that no class serves.
+    pub null_no_class: u64,
+    /// The requests whose class had no slot left.
+    pub null_exhausted: u64,
+    /// The accesses that touched a granule with another tag than their pointer.
+    pub faults_tag: u64,
+    /// The accesses that were not mapped.
+    pub faults_unmapped: u64,
+    /// The frees and reallocs of a pointer that names no live chunk.
+    pub refused_frees: u64,
+    /// The bytes that the requests which were not refused leave unused in blocks of their classes.
+    pub loss: u64,
+}
+
+impl Totals {
+    pub(crate) const NONE: Totals = Totals {
+        events: 0,
+        requests: 0,
+        null_large: 0,
+        null_no_class: 0,
+        null_exhausted: 0,
+        faults_tag: 0,
+        faults_unmapped: 0,
+        refused_frees: 0,
+        loss: 0,
+    };
+
+    /// Writes the nine lines of totals, in place of what `text` holds: each the name of a field, in words, and its number.
+    pub fn write(&self, text: &mut ArrayVec<u8, TOTALS_BYTES>)
+        ensures { text.new.items ≡ totals_text (totals_in self.now) }
+    {
+        text.clear();
+        append_total(text, b"events", self.events);
+        append_total(text, b"requests", self.requests);
+        append_total(text, b"null large", self.null_large);
+        append_total(text, b"null no-class", self.null_no_class);
+        append_total(text, b"null exhausted", self.null_exhausted);
+        append_total(text, b"faults tag", self.faults_tag);
+        append_total(text, b"faults unmapped", self.faults_unmapped);
+        append_total(text, b"refused frees", self.refused_frees);
+        append_total(text, b"loss", self.loss);
+    }
+
+    // Counts one event more, with its answer.
+    pub(crate) fn count(&mut self, classes: &[u16], event: &Event, answer: &Answer)
+        requires few { self.old.events < 2 ^ 40 }
+        requires bounded { AreBounded (totals_in self.old) }
+        requires legal { IsLegalTable 1 classes.now }
+        ensures counted { (bytes : List ℕ) →
+            totals_in self.new ≡ totals_after classes.now (totals_in self.old) (event.now, shown bytes answer.now) }
+        ensures bounded { AreBounded (totals_in self.new) }
+    {
+        self.count_answer(answer);
+        self.count_request(classes, request_size(event), answer);
+        self.events += 1;
+    }
+
+    // Counts the answer of an event.
+    fn count_answer(&mut self, answer: &Answer)
+        requires { AreBounded (totals_in self.old) }
+        ensures { (bytes : List ℕ) → totals_in self.new ≡ with_answer (totals_in self.old) (shown bytes answer.now) }
+    {
+        match answer {
+            Answer::Silent | Answer::Loaded { .. } => {}
+            Answer::NotMapped => self.faults_unmapped += 1,
+            Answer::TagFault { .. } => self.faults_tag += 1,
+            Answer::NoPointer(NullCause::Large) => self.null_large += 1,
+            Answer::NoPointer(NullCause::NoClass) => self.null_no_class += 1,
+            Answer::NoPointer(NullCause::Exhausted) => self.null_exhausted += 1,
+            Answer::NotFreed(_) => self.refused_frees += 1,
+        }
+    }
+
+    // Counts a request of this size, if there was one, and what is lost on it where it was not refused.
+    fn count_request(&mut self, classes: &[u16], size: Option<u32>, answer: &Answer)
+        requires few { self.old.requests ≤ 2 ^ 40 }
+        requires small { self.old.loss ≤ 16368 * 2 ^ 40 }
+        requires legal { IsLegalTable 1 classes.now }
+        ensures { (bytes : List ℕ) →
+            totals_in self.new ≡ with_request classes.now (totals_in self.old) size (shown bytes answer.now) }
+    {
+        let Some(n) = size else {
+            return;
+        };
+        self.requests += 1;
+        if let Answer::Silent = answer {
+            self.loss += u64::from(loss_in(classes, n));
+        }
+    }
+}
+
+impl Replay {
+    /// What was counted over the events that have happened.
+    pub fn totals(&self) -> Totals
+        ensures { totals_in result ≡ self.now.totals }
+    {
+        self.totals
+    }
+}
+
+// appends a line of totals
+fn append_total(text: &mut ArrayVec<u8, TOTALS_BYTES>, name: &[u8], total: u64)
+    requires { length text.old.items + length name.now + 22 ≤ TOTALS_BYTES }
+    ensures items { text.new.items ≡ text.old.items ++ ended (total_line name.now total) }
+    ensures len { length text.new.items ≤ length text.old.items + length name.now + 22 }
+{
+    append(text, name);
+    text.push(b' ');
+    append_number(text, total);
+    text.push(b'\n');
+}
+
+// the bytes that an event requests, if it is a request
+fn request_size(event: &Event) -> Option<u32>
+    ensures { result ≡ request_size event.now }
+{
+    match *event {
+        Event::Malloc { n, .. } | Event::Calloc { n, .. } | Event::Realloc { n, .. } => Some(n),
+        Event::Free { .. }
+        | Event::Load { .. }
+        | Event::Store { .. }
+        | Event::Addg { .. }
+        | Event::Subg { .. } => None,
+    }
+}
+
+// the bytes that a request leaves unused in a block of its class; 0 where it has none
+fn loss_in(classes: &[u16], n: u32) -> u32
+    requires { IsLegalTable 1 classes.now }
+    ensures loss { result ≡ loss_of_size classes.now n }
+    ensures small { result ≤ 16368 }
+{
+    for class in classes {
+        if serves(n, *class) {
+            return loss(n, *class);
+        }
+    }
+    0
+}

@@ -1,0 +1,60 @@
+-- Lines whose words are too many, or of which one is empty.
+use Rattle.std.proofs.Common.{◌≡◌, ℕ, ◌<◌, Bool, true, false, cond, ◌||◌, List, [], ◌∷◌, ◌++◌, length, Result, Err, refl, arith, eq-eqb}
+use Rattle.std.specs.Prelude.{codes}
+use Rattle.std.specs.Str.{bytes_eq}
+use Rattle.std.specs.List.{list_any}
+use Rattle.heap_theory.specs.declared.event.Event.{Event}
+use Rattle.trace_reader.specs.declared.fault.TraceFault.{TraceFault}
+use Rattle.trace_reader.specs.declared.fault.TraceFault.TheVariants.{BadWord}
+use Rattle.trace_reader.specs.TraceLine.{event_of_words, event_named, is_empty_word}
+
+abbrev bad : Result Event TraceFault
+bad = Err BadWord
+
+either : (v : Bool) (a b : Result Event TraceFault) → a ≡ bad → b ≡ bad → cond v a b ≡ bad
+either true a b x y = x
+either false a b x y = y
+
+many_named : (name a b c d e : List ℕ) (ws : List (List ℕ)) → event_named name (a ∷ b ∷ c ∷ d ∷ e ∷ ws) ≡ bad
+many_named name a b c d e ws =
+    either (bytes_eq name (codes "malloc")) _ _ refl
+    (either (bytes_eq name (codes "calloc")) _ _ refl
+    (either (bytes_eq name (codes "realloc")) _ _ refl
+    (either (bytes_eq name (codes "free")) _ _ refl
+    (either (bytes_eq name (codes "load")) _ _ refl
+    (either (bytes_eq name (codes "store")) _ _ refl
+    (either (bytes_eq name (codes "addg")) _ _ refl
+    (either (bytes_eq name (codes "subg")) _ _ refl refl)))))))
+
+-- no event has so many words
+pub many_words : (ws : List (List ℕ)) → 5 < length ws → event_of_words ws ≡ Err BadWord
+unfolding event_of_words
+many_words [] many = absurd (omega arith)
+many_words (name ∷ []) many = absurd (omega arith)
+many_words (name ∷ a ∷ []) many = absurd (omega arith)
+many_words (name ∷ a ∷ b ∷ []) many = absurd (omega arith)
+many_words (name ∷ a ∷ b ∷ c ∷ []) many = absurd (omega arith)
+many_words (name ∷ a ∷ b ∷ c ∷ d ∷ []) many = absurd (omega arith)
+many_words (name ∷ a ∷ b ∷ c ∷ d ∷ e ∷ ws) many = either (list_any is_empty_word (name ∷ a ∷ b ∷ c ∷ d ∷ e ∷ ws)) bad _ refl (many_named name a b c d e ws)
+
+-- a word among the others
+list_any-among : {X : Type 0} (test : X → Bool) (front : List X) (x : X) (behind : List X) → test x ≡ true → list_any test (front ++ x ∷ behind) ≡ true
+list_any-among test [] x behind is = rw is refl
+list_any-among test (y ∷ front) x behind is = go (test y) (list_any-among test front x behind is)
+  where
+    go : (v : Bool) → list_any test (front ++ x ∷ behind) ≡ true → (v || list_any test (front ++ x ∷ behind)) ≡ true
+    go true e = refl
+    go false e = e
+
+pub empty_word : (front : List (List ℕ)) (word : List ℕ) (behind ws : List (List ℕ)) → ws ≡ front ++ word ∷ behind → length word ≡ 0 → event_of_words ws ≡ Err BadWord
+unfolding event_of_words
+empty_word front word behind ws is none = rw (is, list_any-among is_empty_word front word behind (eq-eqb (length word) 0 none)) refl
+
+-- one full word more
+pub list_any-push : {X : Type 0} (test : X → Bool) (front : List X) (x : X) → list_any test front ≡ false → test x ≡ false → list_any test (front ++ x ∷ []) ≡ false
+list_any-push test [] x none is = rw is refl
+list_any-push test (y ∷ front) x none is = go (test y) none (λ others. list_any-push test front x others is)
+  where
+    go : (v : Bool) → (v || list_any test front) ≡ false → (list_any test front ≡ false → list_any test (front ++ x ∷ []) ≡ false) → (v || list_any test (front ++ x ∷ [])) ≡ false
+    go true e next = absurd cc
+    go false e next = next e

@@ -1,0 +1,222 @@
+-- From an event to its line: the event is read from it.
+use Rattle.std.proofs.Common.{◌≡◌, ℕ, suc, ◌+◌, ◌<◌, ◌≤◌, ◌^◌, true, false, leb, eqb, List, [], ◌∷◌, length, Ok, refl, ap, ◌∙◌, arith, ℤ, pos, negsuc, nat_abs, ne_eqb, length-append}
+use Rattle.std.specs.Fmt.{decimal, signed_decimal}
+use Rattle.std.specs.Prelude.{codes, All}
+use Rattle.std.specs.List.{list_all}
+use Rattle.std.proofs.lemmas.Bool.{le-leb, le-ltb, leb-true}
+use Rattle.std.proofs.lemmas.Fmt.{decimal_nonempty, length-decimal-le}
+use Rattle.std.proofs.lemmas.List.Elements.{All-nil, All-cons}
+use Rattle.line_text.specs.Hexadecimal.{hex}
+use Rattle.line_text.specs.Lines.{words, line_of, is_newline, is_space, IsLine, IsWord}
+use Rattle.heap_theory.specs.declared.event.Event.{Event}
+use Rattle.heap_theory.specs.declared.event.Event.TheVariants.{Malloc, Calloc, Realloc, Free, Load, Store, Addg, Subg}
+use Rattle.heap_theory.specs.Ranges.{IsInRange}
+use Rattle.trace_reader.specs.TraceLine.{number_from, offset_of, byte_of, event_line, event_of_words, event_of_line, event_words, move_words, request_words}
+use Rattle.trace_reader.proofs.LineRanges.{both_pass}
+use Rattle.trace_reader.specs.Below.{SpellingLaws}
+use Rattle.trace_reader.proofs.Offsets.{fits_signed}
+
+-- ---- words
+
+abbrev IsText : List ℕ → Type 0
+IsText word = IsLine word × IsWord word
+
+-- letters are neither newlines nor spaces
+letters : (word : List ℕ) → list_all (λ b. leb 97 b) word ≡ true → IsText word
+letters [] all = (All-nil _, All-nil _)
+letters (b ∷ word) all =
+    let p = both_pass (leb 97 b) (list_all (λ b. leb 97 b) word) all in
+    let high = leb-true 97 b p.0 in
+    let others = letters word p.1 in (
+      All-cons (λ x. is_newline x ≡ false) b word (ne_eqb b 10 (λ e. omega (arith, high, e))) others.0,
+      All-cons (λ x. is_space x ≡ false) b word (ne_eqb b 32 (λ e. omega (arith, high, e))) others.1,
+    )
+
+record AreTexts (ws : List (List ℕ)) : Type 0 where
+  lines : All IsLine ws
+  words : All IsWord ws
+
+no_word : AreTexts []
+no_word = record { lines = All-nil _; words = All-nil _ }
+
+one_word_more : {ws : List (List ℕ)} (word : List ℕ) → IsText word → AreTexts ws → AreTexts (word ∷ ws)
+one_word_more {ws} word text others = record { lines = All-cons IsLine word ws text.0 others.lines; words = All-cons IsWord word ws text.1 others.words }
+
+number_word : {ws : List (List ℕ)} → SpellingLaws → (n : ℕ) → n < 2 ^ 64 → AreTexts ws → AreTexts (decimal n ∷ ws)
+number_word laws n small others = one_word_more (decimal n) (laws.text.word n small) others
+
+request_texts : SpellingLaws → (name : List ℕ) (v n : ℕ) → IsText name → v < 1024 → n < 2 ^ 31 → AreTexts (request_words name v n)
+request_texts laws name v n text v_in n_in = one_word_more name text (number_word laws v (omega (arith, v_in)) (number_word laws n (omega (arith, n_in)) no_word))
+
+move_texts : SpellingLaws → (name : List ℕ) (v w u6 u4 : ℕ) → IsText name → v < 1024 → w < 1024 → u6 ≤ 63 → u4 ≤ 15 → AreTexts (move_words name v w u6 u4)
+move_texts laws name v w u6 u4 text v_in w_in u6_in u4_in =
+    one_word_more name text
+    (number_word laws v (omega (arith, v_in)) (number_word laws w (omega (arith, w_in)) (number_word laws u6 (omega (arith, u6_in)) (number_word laws u4 (omega (arith, u4_in)) no_word))))
+
+event_texts : SpellingLaws → (event : Event) → IsInRange event → AreTexts (event_words event)
+event_texts laws (Malloc v n) is = request_texts laws (codes "malloc") v n (letters (codes "malloc") refl) is.0 is.1
+event_texts laws (Calloc v n) is = request_texts laws (codes "calloc") v n (letters (codes "calloc") refl) is.0 is.1
+event_texts laws (Realloc v n) is = request_texts laws (codes "realloc") v n (letters (codes "realloc") refl) is.0 is.1
+event_texts laws (Free v) is = one_word_more (codes "free") (letters (codes "free") refl) (number_word laws v (omega (arith, is)) no_word)
+event_texts laws (Load v off len) is =
+    one_word_more (codes "load") (letters (codes "load") refl)
+    (number_word laws v (omega (arith, is.0)) (one_word_more (signed_decimal off) (laws.signed_word off (fits_signed off is.1)) (number_word laws len (omega (arith, is.3)) no_word)))
+event_texts laws (Store v off len byte) is =
+    one_word_more (codes "store") (letters (codes "store") refl)
+    (number_word laws v (omega (arith, is.0.0))
+    (one_word_more (signed_decimal off) (laws.signed_word off (fits_signed off is.0.1)) (number_word laws len (omega (arith, is.0.3)) (one_word_more (hex byte) (laws.hex_word byte is.1) no_word))))
+event_texts laws (Addg v w u6 u4) is = move_texts laws (codes "addg") v w u6 u4 (letters (codes "addg") refl) is.0 is.1 is.2 is.3
+event_texts laws (Subg v w u6 u4) is = move_texts laws (codes "subg") v w u6 u4 (letters (codes "subg") refl) is.0 is.1 is.2 is.3
+
+-- ---- what the words say
+
+full_number : (n : ℕ) → n < 2 ^ 64 → eqb (length (decimal n)) 0 ≡ false
+full_number n small = ne_eqb (length (decimal n)) 0 (λ none. omega (arith, decimal_nonempty n small, none))
+
+full_offset : (z : ℤ) → nat_abs z ≤ 1048576 → eqb (length (signed_decimal z)) 0 ≡ false
+full_offset (pos n) near = full_number n (omega (arith, near))
+full_offset (negsuc n) near = ne_eqb (length (signed_decimal (negsuc n))) 0 (λ none. omega (arith, none))
+
+number_read : SpellingLaws → (low high n : ℕ) → low ≤ n → n ≤ high → high < 2 ^ 64 → number_from low high (decimal n) ≡ Ok n
+number_read laws low high n above below small = rw (laws.text.read n (omega (arith, below, small)), le-leb low n above, le-leb n high below) refl
+
+variable_read : SpellingLaws → (v : ℕ) → v < 1024 → number_from 0 1023 (decimal v) ≡ Ok v
+variable_read laws v v_in = number_read laws 0 1023 v (omega arith) (omega (arith, v_in)) (omega arith)
+
+size_read : SpellingLaws → (n : ℕ) → n < 2 ^ 31 → number_from 0 2147483647 (decimal n) ≡ Ok n
+size_read laws n n_in = number_read laws 0 2147483647 n (omega arith) (omega (arith, n_in)) (omega arith)
+
+offset_read : SpellingLaws → (z : ℤ) → nat_abs z ≤ 1048576 → offset_of (signed_decimal z) ≡ Ok z
+offset_read laws z near = rw (laws.signed_read z (fits_signed z near), le-leb (nat_abs z) 1048576 near) refl
+
+byte_read : SpellingLaws → (n : ℕ) → n < 2 ^ 8 → byte_of (hex n) ≡ Ok n
+byte_read laws n small = rw (laws.hex_read n small) refl
+
+event_read : SpellingLaws → (event : Event) → IsInRange event → event_of_words (event_words event) ≡ Ok event
+unfolding event_of_words
+event_read laws (Malloc v n) is = rw (full_number v (omega (arith, is.0)), full_number n (omega (arith, is.1)), variable_read laws v is.0, size_read laws n is.1) refl
+event_read laws (Calloc v n) is = rw (full_number v (omega (arith, is.0)), full_number n (omega (arith, is.1)), variable_read laws v is.0, size_read laws n is.1) refl
+event_read laws (Realloc v n) is = rw (full_number v (omega (arith, is.0)), full_number n (omega (arith, is.1)), variable_read laws v is.0, size_read laws n is.1) refl
+event_read laws (Free v) is = rw (full_number v (omega (arith, is)), variable_read laws v is) refl
+event_read laws (Load v off len) is =
+    rw (
+      full_number v (omega (arith, is.0)),
+      full_offset off is.1,
+      full_number len (omega (arith, is.3)),
+      variable_read laws v is.0,
+      offset_read laws off is.1,
+      number_read laws 1 64 len is.2 is.3 (omega arith),
+    )
+    refl
+event_read laws (Store v off len byte) is =
+    rw (
+      full_number v (omega (arith, is.0.0)),
+      full_offset off is.0.1,
+      full_number len (omega (arith, is.0.3)),
+      variable_read laws v is.0.0,
+      offset_read laws off is.0.1,
+      number_read laws 1 64 len is.0.2 is.0.3 (omega arith),
+      byte_read laws byte is.1,
+    )
+    refl
+event_read laws (Addg v w u6 u4) is =
+    rw (
+      full_number v (omega (arith, is.0)),
+      full_number w (omega (arith, is.1)),
+      full_number u6 (omega (arith, is.2)),
+      full_number u4 (omega (arith, is.3)),
+      variable_read laws v is.0,
+      variable_read laws w is.1,
+      number_read laws 0 63 u6 (omega arith) is.2 (omega arith),
+      number_read laws 0 15 u4 (omega arith) is.3 (omega arith),
+    )
+    refl
+event_read laws (Subg v w u6 u4) is =
+    rw (
+      full_number v (omega (arith, is.0)),
+      full_number w (omega (arith, is.1)),
+      full_number u6 (omega (arith, is.2)),
+      full_number u4 (omega (arith, is.3)),
+      variable_read laws v is.0,
+      variable_read laws w is.1,
+      number_read laws 0 63 u6 (omega arith) is.2 (omega arith),
+      number_read laws 0 15 u4 (omega arith) is.3 (omega arith),
+    )
+    refl
+
+-- ---- the line
+
+-- so many digits at most
+variable_len : (v : ℕ) → v < 1024 → length (decimal v) ≤ 10
+variable_len v v_in = length-decimal-le 10 v (omega arith) (omega (arith, v_in)) (omega (arith, v_in))
+
+number_len : (n : ℕ) → n < 2 ^ 31 → length (decimal n) ≤ 10
+number_len n n_in = length-decimal-le 10 n (omega arith) (omega (arith, n_in)) (omega (arith, n_in))
+
+offset_len : (z : ℤ) → nat_abs z ≤ 1048576 → length (signed_decimal z) ≤ 11
+offset_len (pos n) near = omega (arith, number_len n (omega (arith, near)))
+offset_len (negsuc n) near = omega (arith, number_len (suc n) (omega (arith, near)))
+
+-- one word more
+len_more : (k m : ℕ) (word next : List ℕ) (ws : List (List ℕ)) → length word ≤ k → length (line_of (next ∷ ws)) ≤ m → length (line_of (word ∷ next ∷ ws)) ≤ k + suc m
+len_more k m word next ws of_word of_line = omega (arith, length-append word (32 ∷ line_of (next ∷ ws)), of_word, of_line)
+
+request_len : (name : List ℕ) (v n : ℕ) → length name ≤ 7 → v < 1024 → n < 2 ^ 31 → length (line_of (request_words name v n)) ≤ 80
+request_len name v n short v_in n_in = omega (arith, len_more 7 21 name (decimal v) (decimal n ∷ []) short (len_more 10 10 (decimal v) (decimal n) [] (number_len v (omega (arith, v_in))) (number_len n n_in)))
+
+move_len : (name : List ℕ) (v w u6 u4 : ℕ) → length name ≤ 7 → v < 1024 → w < 1024 → u6 ≤ 63 → u4 ≤ 15 → length (line_of (move_words name v w u6 u4)) ≤ 80
+move_len name v w u6 u4 short v_in w_in u6_in u4_in =
+    let tags = len_more 10 10 (decimal u6) (decimal u4) [] (number_len u6 (omega (arith, u6_in))) (number_len u4 (omega (arith, u4_in))) in
+    let other = len_more 10 21 (decimal w) (decimal u6) (decimal u4 ∷ []) (number_len w (omega (arith, w_in))) tags in
+    let numbers = len_more 10 32 (decimal v) (decimal w) (decimal u6 ∷ decimal u4 ∷ []) (number_len v (omega (arith, v_in))) other in
+    omega (arith, len_more 7 43 name (decimal v) (decimal w ∷ decimal u6 ∷ decimal u4 ∷ []) short numbers)
+
+event_len : (event : Event) → IsInRange event → length (event_line event) ≤ 80
+event_len (Malloc v n) is = request_len (codes "malloc") v n (omega arith) is.0 is.1
+event_len (Calloc v n) is = request_len (codes "calloc") v n (omega arith) is.0 is.1
+event_len (Realloc v n) is = request_len (codes "realloc") v n (omega arith) is.0 is.1
+event_len (Free v) is = omega (arith, len_more 4 10 (codes "free") (decimal v) [] (omega arith) (number_len v (omega (arith, is))))
+event_len (Load v off len) is =
+    let access = len_more 11 10 (signed_decimal off) (decimal len) [] (offset_len off is.1) (number_len len (omega (arith, is.3))) in
+    let numbers = len_more 10 22 (decimal v) (signed_decimal off) (decimal len ∷ []) (number_len v (omega (arith, is.0))) access in
+    omega (arith, len_more 4 33 (codes "load") (decimal v) (signed_decimal off ∷ decimal len ∷ []) (omega arith) numbers)
+event_len (Store v off len byte) is =
+    let bytes = len_more 10 2 (decimal len) (hex byte) [] (number_len len (omega (arith, is.0.3))) (omega arith) in
+    let access = len_more 11 13 (signed_decimal off) (decimal len) (hex byte ∷ []) (offset_len off is.0.1) bytes in
+    let numbers = len_more 10 25 (decimal v) (signed_decimal off) (decimal len ∷ hex byte ∷ []) (number_len v (omega (arith, is.0.0))) access in
+    omega (arith, len_more 5 36 (codes "store") (decimal v) (signed_decimal off ∷ decimal len ∷ hex byte ∷ []) (omega arith) numbers)
+event_len (Addg v w u6 u4) is = move_len (codes "addg") v w u6 u4 (omega arith) is.0 is.1 is.2 is.3
+event_len (Subg v w u6 u4) is = move_len (codes "subg") v w u6 u4 (omega arith) is.0 is.1 is.2 is.3
+
+pub event_line-some : (event : Event) → 0 < length (event_line event)
+event_line-some (Malloc v n) = omega arith
+event_line-some (Calloc v n) = omega arith
+event_line-some (Realloc v n) = omega arith
+event_line-some (Free v) = omega arith
+event_line-some (Load v off len) = omega arith
+event_line-some (Store v off len byte) = omega arith
+event_line-some (Addg v w u6 u4) = omega arith
+event_line-some (Subg v w u6 u4) = omega arith
+
+pub event_line-is_line : SpellingLaws → (event : Event) → IsInRange event → IsLine (event_line event)
+event_line-is_line laws event is = laws.text.makes_line (event_words event) (event_texts laws event is).lines
+
+words_of_line : SpellingLaws → (ws : List (List ℕ)) → 0 < length ws → All IsWord ws → words (line_of ws) ≡ ws
+words_of_line laws [] some all = absurd (omega arith)
+words_of_line laws (w ∷ ws) some all = laws.text.written_words w ws all
+
+some_words : (event : Event) → 0 < length (event_words event)
+some_words (Malloc v n) = omega arith
+some_words (Calloc v n) = omega arith
+some_words (Realloc v n) = omega arith
+some_words (Free v) = omega arith
+some_words (Load v off len) = omega arith
+some_words (Store v off len byte) = omega arith
+some_words (Addg v w u6 u4) = omega arith
+some_words (Subg v w u6 u4) = omega arith
+
+pub event_of_line-spelled : SpellingLaws → (number : ℕ) (event : Event) → number ≤ 1000000 → IsInRange event → event_of_line number (event_line event) ≡ Ok event
+unfolding event_of_line
+event_of_line-spelled laws number event few is =
+    let read = ap event_of_words (words_of_line laws (event_words event) (some_words event) (event_texts laws event is).words) ∙ event_read laws event is in
+    rw (le-ltb 80 (length (event_line event)) (event_len event is), le-ltb 1000000 number few) read

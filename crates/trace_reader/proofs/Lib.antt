@@ -1,0 +1,13 @@
+pub mod BadWords
+pub mod Cutting
+pub mod Ending
+pub mod EventLines
+pub mod Feeding
+pub mod LineRanges
+pub mod Offsets
+pub mod Pieces
+pub mod Reaching
+pub mod SpelledLines
+pub mod TraceSpelling
+pub mod Traces
+pub mod WorkedExamples

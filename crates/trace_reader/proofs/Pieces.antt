@@ -1,0 +1,68 @@
+-- A text in pieces is the whole text.
+use Rattle.std.proofs.lemmas.List.{length-append}
+use Rattle.std.proofs.Common.{◌≡◌, ℕ, suc, ◌+◌, Bool, true, false, cond, ltb, List, [], ◌∷◌, ◌++◌, length, Option, Some, None, refl, sym, ap, ◌∙◌, arith, append_assoc, append-nil, ◌≤◌}
+use Rattle.std.proofs.lemmas.Bool.{ltb-true}
+use Rattle.std.specs.List.{concat}
+use Rattle.trace_reader.specs.declared.fault.TraceError.TheVariants.{Line}
+use Rattle.trace_reader.specs.declared.fault.TraceFault.{TraceFault}
+use Rattle.trace_reader.specs.declared.fault.TraceFault.TheVariants.{LineTooLong}
+use Rattle.trace_reader.specs.TraceText.{Trace, trace_from, trace_of}
+use Rattle.trace_reader.specs.Reading.{Cut, Reading, added, cut, fed, fed_all, finished, finished_in, last_line, nothing_read, reading_of_cut, state_behind, whole_reading}
+use Rattle.trace_reader.specs.Reading.State.{Open, Failed}
+use Rattle.trace_reader.proofs.Cutting.{going_on-nil, last_lines, lines-cut}
+use Rattle.trace_reader.proofs.Feeding.{fed-append}
+use Rattle.trace_reader.proofs.LineRanges.{few_events_of}
+use Rattle.trace_reader.proofs.Reaching.{IsFrontOf-finished}
+use Rattle.trace_reader.proofs.Traces.{followed, followed_by, trace_from-append, trace_from-long, trace_from-none, trace_from-one}
+
+fed_all-fed : (r : Reading) (a : List ℕ) (pieces : List (List ℕ)) → fed_all (fed r a) pieces ≡ fed r (a ++ concat pieces)
+fed_all-fed r a [] = ap (fed r) (sym (append-nil a))
+fed_all-fed r a (piece ∷ pieces) =
+    ap (λ (x : Reading). fed_all x pieces) (fed-append r a piece) ∙ fed_all-fed r (a ++ piece) pieces ∙ ap (fed r) (append_assoc a piece (concat pieces))
+
+fed_all-concat : (pieces : List (List ℕ)) → fed_all nothing_read pieces ≡ fed nothing_read (concat pieces)
+unfolding fed cut trace_from
+fed_all-concat [] = refl
+fed_all-concat (piece ∷ pieces) = fed_all-fed nothing_read piece pieces
+
+-- the last line, behind so many whole ones
+last_line-trace : (n : ℕ) (rest : List ℕ) → last_line n rest ≡ trace_from (suc n) (last_lines rest)
+last_line-trace n [] = sym (trace_from-none (suc n))
+last_line-trace n (b ∷ rest) = sym (trace_from-one (suc n) (b ∷ rest))
+
+too_long-trace : (n : ℕ) (rest : List ℕ) → ltb 80 (length rest) ≡ true → trace_from (suc n) (last_lines rest) ≡ record { events = []; fault = Some (suc n, LineTooLong) }
+too_long-trace n [] long = absurd cc
+too_long-trace n (b ∷ rest) long = trace_from-long (suc n) (b ∷ rest) [] (ltb-true 80 (length (b ∷ rest)) long)
+
+-- the end behind a whole text
+at_end : (n : ℕ) (c : Cut) (t : Trace) (fault : Option (ℕ × TraceFault)) → t.fault ≡ fault
+    → added t.events (finished_in (state_behind n c.unfinished fault)) ≡ whole_reading (followed_by fault t.events (trace_from (suc n) (last_lines c.unfinished)))
+at_end n c t (Some fault) is = rw (append-nil t.events) refl
+at_end n c t None is = go (ltb 80 (length c.unfinished)) refl
+  where
+    go : (v : Bool) → ltb 80 (length c.unfinished) ≡ v
+        → added t.events (finished_in (cond v (Failed (Line (suc n) LineTooLong)) (Open n c.unfinished))) ≡ whole_reading (followed_by None t.events (trace_from (suc n) (last_lines c.unfinished)))
+    go true long = rw (too_long-trace n c.unfinished long) refl
+    go false short = rw (last_line-trace n c.unfinished) refl
+
+whole_text : (text : List ℕ) → finished (fed nothing_read text) ≡ whole_reading (trace_of text)
+unfolding fed finished
+whole_text text =
+    let c = cut text in
+    let t = trace_from 1 c.whole in
+    let n = 0 + length c.whole in
+    let count : suc n ≡ 1 + length c.whole = omega arith in
+    ap (λ (d : Cut). added (reading_of_cut 0 d).events (finished_in (reading_of_cut 0 d).state)) (going_on-nil c)
+    ∙ at_end n c t t.fault refl
+    ∙ ap (λ (k : ℕ). whole_reading (followed t (trace_from k (last_lines c.unfinished)))) count
+    ∙ sym (ap (λ (ls : List (List ℕ)). whole_reading (trace_from 1 ls)) (lines-cut text) ∙ ap whole_reading (trace_from-append 1 c.whole (last_lines c.unfinished)))
+
+pub in_pieces : (pieces : List (List ℕ)) → finished (fed_all nothing_read pieces) ≡ whole_reading (trace_of (concat pieces))
+in_pieces pieces = ap finished (fed_all-concat pieces) ∙ whole_text (concat pieces)
+
+pub few_in_pieces : (pieces : List (List ℕ)) → length (fed_all nothing_read pieces).events ≤ 1000000
+few_in_pieces pieces =
+    let all = fed_all nothing_read pieces in
+    let more = IsFrontOf-finished all in
+    let same : (finished all).events ≡ (trace_of (concat pieces)).events = ap (λ (r : Reading). r.events) (in_pieces pieces) in
+    omega (arith, few_events_of (concat pieces), ap length (sym more.1 ∙ same), length-append all.events more.0)

@@ -1,0 +1,160 @@
+-- Readings that a call comes to.
+use Rattle.std.proofs.Common.{◌≡◌, ℕ, suc, ◌+◌, ◌<◌, ◌≤◌, true, false, ltb, List, [], ◌∷◌, ◌++◌, length, Result, Ok, Err, IfOk, IsOk, OnOk, is_err, ◌↔◌, refl, sym, ap, subst, ◌∙◌, arith, append_assoc, append-nil, add-one, add-zero}
+use Rattle.std.proofs.lemmas.Bool.{lt-ltb}
+use Rattle.std.proofs.lemmas.Bool.Decides.{nat_tests}
+use Rattle.line_text.specs.Lines.{IsLine}
+use Rattle.heap_theory.specs.declared.event.Event.{Event}
+use Rattle.trace_reader.specs.declared.fault.TraceError.{TraceError}
+use Rattle.trace_reader.specs.declared.fault.TraceError.TheVariants.{OutOfMemory, Line}
+use Rattle.trace_reader.specs.declared.fault.TraceFault.{TraceFault}
+use Rattle.trace_reader.specs.declared.fault.TraceFault.TheVariants.{LineTooLong}
+use Rattle.trace_reader.specs.declared.status.Status.{Status}
+use Rattle.trace_reader.specs.declared.status.Status.TheVariants.{Open as IsOpen, Failed as HasFailed, Finished as HasFinished}
+use Rattle.heap_theory.specs.Ranges.{IsInRange}
+use Rattle.trace_reader.specs.Reached.{HasReached, IsFrontOf, answer_of}
+use Rattle.trace_reader.specs.Reading.{Cut, Reading, added, fed, fed_in, finished, finished_in, going_on, is_open, is_open_state, judgement_in, reading_of_cut, with_judged, IsJudgementIn, unfinished_state}
+use Rattle.trace_reader.specs.Reading.State.{Open, Failed}
+use Rattle.trace_reader.specs.Status.{state_of}
+use Rattle.trace_reader.specs.TraceLine.{event_of_line}
+use Rattle.trace_reader.proofs.Cutting.{cut-line}
+use Rattle.trace_reader.proofs.Traces.{trace_from-none}
+
+abbrev Answer : Type 0
+Answer = Result (Unit {0}) TraceError
+
+-- ---- fronts
+
+pub IsFrontOf-self : (events : List Event) → IsFrontOf events events
+IsFrontOf-self events = ([], sym (append-nil events))
+
+pub IsFrontOf-is : (a b : List Event) → a ≡ b → IsFrontOf a b
+IsFrontOf-is a b is = ([], sym is ∙ sym (append-nil a))
+
+pub IsFrontOf-trans : (a b c : List Event) → IsFrontOf a b → IsFrontOf b c → IsFrontOf a c
+IsFrontOf-trans a b c ab bc = (ab.0 ++ bc.0, bc.1 ∙ ap (λ (es : List Event). es ++ bc.0) ab.1 ∙ append_assoc a ab.0 bc.0)
+
+-- every step only adds events
+pub IsFrontOf-fed : (r : Reading) (piece : List ℕ) → IsFrontOf r.events (fed r piece).events
+unfolding fed
+IsFrontOf-fed r piece = ((fed_in r.state piece).events, refl)
+
+pub IsFrontOf-finished : (r : Reading) → IsFrontOf r.events (finished r).events
+unfolding finished
+IsFrontOf-finished r = ((finished_in r.state).events, refl)
+
+-- ---- where a call ends
+
+pub came : (old wanted new : Reading) (result : Answer) → new ≡ wanted → result ≡ answer_of wanted.state → IsFrontOf old.events wanted.events → HasReached old wanted new result
+came old wanted new result is answer kept =
+    record {
+      answer = answer ∙ sym (ap (λ (r : Reading). answer_of r.state) is);
+      reading = λ other. is;
+      kept = subst (λ (r : Reading). IsFrontOf old.events r.events) (sym is) kept;
+      front = IsFrontOf-is new.events wanted.events (ap (λ (r : Reading). r.events) is);
+    }
+
+pub ran_out : (old wanted new : Reading) (result : Answer) → new ≡ record { events = old.events; state = Failed OutOfMemory } → result ≡ Err OutOfMemory → IsFrontOf old.events wanted.events → HasReached old wanted new result
+ran_out old wanted new result is answer kept =
+    let same : new.events ≡ old.events = ap (λ (r : Reading). r.events) is in
+    record {
+      answer = answer ∙ sym (ap (λ (r : Reading). answer_of r.state) is);
+      reading = λ other. absurd (other answer);
+      kept = IsFrontOf-is old.events new.events (sym same);
+      front = subst (λ (es : List Event). IsFrontOf es wanted.events) (sym same) kept;
+    }
+
+-- ---- the fields of an open reader
+
+abbrev pub fields : List Event → ℕ → List ℕ → Status → Reading
+fields events lines rest status = record { events = events; state = state_of status lines rest }
+
+abbrev pub open_at : List Event → ℕ → List ℕ → Reading
+open_at events lines rest = record { events = events; state = Open lines rest }
+
+pub status_open : (status : Status) (lines : ℕ) (rest : List ℕ) → is_open_state (state_of status lines rest) ≡ true → status ≡ IsOpen
+status_open IsOpen lines rest e = refl
+status_open (HasFailed error) lines rest e = absurd cc
+status_open HasFinished lines rest e = absurd cc
+
+pub is_open_at : (old : Reading) (events : List Event) (lines : ℕ) (rest : List ℕ) (status : Status) → fields events lines rest status ≡ old → is_open old ≡ true → (status ≡ IsOpen) × (old ≡ open_at events lines rest)
+is_open_at old events lines rest status is open_now =
+    let s = status_open status lines rest (ap is_open is ∙ open_now) in
+    (s, sym is ∙ ap (fields events lines rest) s)
+
+-- ---- a line that was judged
+
+pub judged_event : (old : Reading) (events : List Event) (lines : ℕ) (rest : List ℕ) (status : Status) (event : Event) (events' : List Event) (rest' : List ℕ)
+    → fields events lines rest status ≡ old → is_open old ≡ true → events' ≡ events ++ event ∷ [] → rest' ≡ []
+    → HasReached old (with_judged old (Ok event)) (fields events' (lines + 1) rest' status) (Ok tt)
+unfolding with_judged
+judged_event old events lines rest status event events' rest' is open_now more none =
+    let s = is_open_at old events lines rest status is open_now in
+    rw s.1
+    (came (open_at events lines rest) _ _ _ (rw (s.0, more, none, add-one lines) refl) refl (event ∷ [], refl))
+
+pub judged_memory : (old new : Reading) (events : List Event) (lines : ℕ) (rest : List ℕ) (status : Status) (event : Event) (result : Answer)
+    → fields events lines rest status ≡ old → is_open old ≡ true → new ≡ record { events = events; state = Failed OutOfMemory } → result ≡ Err OutOfMemory
+    → HasReached old (with_judged old (Ok event)) new result
+unfolding with_judged
+judged_memory old new events lines rest status event result is open_now failed answer =
+    let s = is_open_at old events lines rest status is open_now in
+    rw s.1 (ran_out (open_at events lines rest) _ new result failed answer (event ∷ [], refl))
+
+pub judged_fault : (old new : Reading) (events : List Event) (lines : ℕ) (rest : List ℕ) (status : Status) (fault : TraceFault) (result : Answer)
+    → fields events lines rest status ≡ old → is_open old ≡ true → new ≡ record { events = old.events; state = Failed (Line (lines + 1) fault) } → result ≡ Err (Line (lines + 1) fault)
+    → HasReached old (with_judged old (Err fault)) new result
+unfolding with_judged
+judged_fault old new events lines rest status fault result is open_now failed answer =
+    let s = is_open_at old events lines rest status is open_now in
+    rw s.1
+    (came (open_at events lines rest) _ new result (failed ∙ rw (s.1, append-nil events, add-one lines) refl) (answer ∙ rw (add-one lines) refl) ([], refl))
+
+pub judgement : (old : Reading) (events : List Event) (lines : ℕ) (rest : List ℕ) (status : Status) (end line : List ℕ)
+    → fields events lines rest status ≡ old → is_open old ≡ true → line ≡ rest ++ end → event_of_line (lines + 1) line ≡ judgement_in old.state end
+judgement old events lines rest status end line is open_now all =
+    let s = is_open_at old events lines rest status is open_now in
+    rw (s.1, all, add-one lines) refl
+
+pub judgement-next : (old : Reading) (events : List Event) (lines : ℕ) (rest : List ℕ) (status : Status) (judged : Result Event TraceFault)
+    → fields events lines rest status ≡ old → is_open old ≡ true → IfOk judged IsInRange → IfOk judged (λ event. lines + 1 ≤ 1000000) → IsJudgementIn old.state judged
+judgement-next old events lines rest status judged is open_now ranges few =
+    let s = is_open_at old events lines rest status is open_now in
+    rw s.1 (both judged ranges few)
+  where
+    both : (judged : Result Event TraceFault) → IfOk judged IsInRange → IfOk judged (λ event. lines + 1 ≤ 1000000) → IfOk judged (λ event. IsInRange event × (lines < 1000000))
+    both (Ok event) a b = (a, omega (arith, b))
+    both (Err fault) a b = tt
+
+-- ---- bytes without a newline
+
+pub fed_at-line : (events : List Event) (lines : ℕ) (rest bytes : List ℕ) → IsLine bytes
+    → fed (open_at events lines rest) bytes ≡ record { events = events; state = unfinished_state lines (rest ++ bytes) }
+unfolding fed
+fed_at-line events lines rest bytes line =
+    let whole : fed_in (Open lines rest) bytes ≡ record { events = []; state = unfinished_state lines (rest ++ bytes) } =
+    ap (λ (c : Cut). reading_of_cut lines (going_on rest c)) (cut-line bytes line) ∙ rw (trace_from-none (suc lines), add-zero lines) refl in
+    ap (added events) whole ∙ rw (append-nil events) refl
+
+-- what an extension that fits says
+pub extended : {E : Type 0} (r : Result (Unit {0}) E) (Fits Is : Type 0) → is_err r ≡ false → IsOk r ↔ Fits → OnOk r Is → Fits × Is
+extended (Ok done) Fits Is ok fits is = (fits.0 refl, is)
+extended (Err e) Fits Is ok fits is = absurd cc
+
+-- and one that does not
+pub not_extended : {E : Type 0} (r : Result (Unit {0}) E) (Fits : Type 0) → is_err r ≡ true → IsOk r ↔ Fits → Fits → ⊥
+not_extended (Ok done) Fits failed fits holds = absurd cc
+not_extended (Err e) Fits failed fits holds = let ok = fits.1 holds in absurd cc
+
+pub keeps : (old : Reading) (events : List Event) (lines : ℕ) (rest bytes rest' : List ℕ) (status : Status)
+    → fields events lines rest status ≡ old → is_open old ≡ true → IsLine bytes → length (rest ++ bytes) ≤ 80 → rest' ≡ rest ++ bytes → fields events lines rest' status ≡ fed old bytes
+keeps old events lines rest bytes rest' status is open_now line fits all =
+    let s = is_open_at old events lines rest status is open_now in
+    let short : ltb 80 (length (rest ++ bytes)) ≡ false = grind (arith, nat_tests) in
+    rw (s.0, s.1, all, fed_at-line events lines rest bytes line, short) refl
+
+pub keeps_not : (old new : Reading) (events : List Event) (lines : ℕ) (rest bytes : List ℕ) (status : Status)
+    → fields events lines rest status ≡ old → is_open old ≡ true → IsLine bytes → 80 < length (rest ++ bytes)
+    → new ≡ record { events = events; state = Failed (Line (lines + 1) LineTooLong) } → new ≡ fed old bytes
+keeps_not old new events lines rest bytes status is open_now line long failed =
+    let s = is_open_at old events lines rest status is open_now in
+    rw (s.1, fed_at-line events lines rest bytes line, lt-ltb 80 (length (rest ++ bytes)) long, ← add-one lines) failed

@@ -1,0 +1,34 @@
+use Rattle.std.proofs.Common.{◌∙◌, [], Err, sym, ap}
+use Rattle.std.proofs.lemmas.Result.{err_from_is_err_and}
+use Rattle.trace_reader.specs.Reached.{answer_of}
+use Rattle.trace_reader.specs.Reading.{Reading, fed, line_ended}
+use Rattle.trace_reader.proofs.Ending.{IsFrontOf-ended, is_open-kept, line_ended-kept, line_ended-long, reached_from}
+use Rattle.trace_reader.proofs.Reaching.{IsFrontOf-fed, IsFrontOf-is, IsFrontOf-trans, came}
+use Rattle.trace_reader.proofs.reader.TraceReader.end_line.Goals as goal
+
+pub returns-in_err-keep : goal.returns-in_err-keep
+returns-in_err-keep c =
+    let old = c.args.self.now in
+    let end = c.args.end.now in
+    let error = c.in_err-keep.field-0.0 in
+    let kept = c.in_err-keep.ensures.reading in
+    let answer = c.in_err-keep.ensures.answer ∙ ap (λ (r : Reading). answer_of r.state) kept in
+    let long = line_ended-long old end error c.requires.open c.requires.line answer in
+    let p = err_from_is_err_and c.from_residual.result c.from_residual.ensures.1 in
+    rw (p.1, p.2) (came old (line_ended old end) c.keep.new.self (Err error) (kept ∙ long) (answer ∙ ap (λ (r : Reading). answer_of r.state) long) (IsFrontOf-ended old end))
+
+pub judge_rest-requires : goal.judge_rest-requires
+judge_rest-requires c =
+    let answer = c.in_ok-keep.ensures.answer ∙ ap (λ (r : Reading). answer_of r.state) c.in_ok-keep.ensures.reading in
+    rw c.in_ok-keep.ensures.reading (is_open-kept c.args.self.now c.args.end.now c.requires.open c.requires.line answer)
+
+pub returns : goal.returns
+returns c =
+    let old = c.args.self.now in
+    let end = c.args.end.now in
+    let mid = c.keep.new.self in
+    let kept = c.in_ok-keep.ensures.reading in
+    let answer = c.in_ok-keep.ensures.answer ∙ ap (λ (r : Reading). answer_of r.state) kept in
+    let same = ap (λ (r : Reading). line_ended r []) kept ∙ line_ended-kept old end c.requires.open c.requires.line answer in
+    let front = IsFrontOf-trans old.events (fed old end).events mid.events (IsFrontOf-fed old end) (IsFrontOf-is _ _ (sym (ap (λ (r : Reading). r.events) kept))) in
+    reached_from old mid (line_ended mid []) (line_ended old end) c.judge_rest.new.self c.judge_rest.result same front c.judge_rest.ensures

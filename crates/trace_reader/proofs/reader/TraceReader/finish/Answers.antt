@@ -1,0 +1,39 @@
+use Rattle.std.proofs.Common.{◌≡◌, ◌∙◌, Ok, sym, ap, true, eqb-true, length, rules, refl}
+use Rattle.std.proofs.lemmas.Result.{err_from_is_err_and}
+use Rattle.trace_reader.specs.Reached.{HasReached}
+use Rattle.trace_reader.specs.Reading.{Reading, finished, is_open}
+use Rattle.trace_reader.specs.Reading.State.{Finished}
+use Rattle.trace_reader.proofs.Ending.{finish_empty, finish_failed, finish_line, finished-failed, finished_after, not_empty, state_failed, unchanged_if_failed}
+use Rattle.trace_reader.proofs.Reaching.{IsFrontOf-finished}
+use Rattle.trace_reader.proofs.reader.TraceReader.finish.Goals as goal
+use Rattle.trace_reader.proofs.reader.TraceReader.finish.Goals.{then-not-is_empty+in_ok-judge_rest, else-not-is_empty}
+
+pub returns-in-Failed-clause-reading : goal.returns-in-Failed-clause-reading
+returns-in-Failed-clause-reading c =
+    let i = c.self.inside in
+    λ other. sym (finished-failed c.args.self.now c.in-Failed.error (state_failed c.args.self.now i.events.items i.lines i.rest.items i.status c.in-Failed.error c.self.view_is c.in-Failed.is))
+
+pub returns-in-Failed-clause-front : goal.returns-in-Failed-clause-front
+returns-in-Failed-clause-front c = IsFrontOf-finished c.args.self.now
+
+pub returns-in_err-judge_rest : goal.returns-in_err-judge_rest
+returns-in_err-judge_rest c =
+    let old = c.args.self.now in
+    let i = c.self.inside in
+    let open_now : is_open old ≡ true = search rules in
+    let some = not_empty i.rest.items c.is_empty.result c.is_empty.ensures (search rules) in
+    let p = err_from_is_err_and c.from_residual.result c.from_residual.ensures.1 in
+    let r = finish_failed old c.judge_rest.new.self i.events.items i.lines i.rest.items i.status c.in_err-judge_rest.field-0.0 c.self.view_is open_now some c.in_err-judge_rest.ensures in
+    rw (p.1, p.2) (record { answer = r.answer; failed = unchanged_if_failed old c.judge_rest.new.self open_now; reading = r.reading; kept = r.kept; front = r.front; finished = finished_after old c.judge_rest.new.self c.in_err-judge_rest.field-0.0 r })
+
+pub returns : goal.returns
+returns c =
+    let old = c.args.self.now in
+    let i = c.self.inside in
+    let open_now : is_open old ≡ true = search rules in
+    let r : HasReached old (finished old) (record { events = c.self-2.inside.events.items; state = Finished }) (Ok tt) =
+    elim c.if-not-is_empty.branch [
+      | then-not-is_empty+in_ok-judge_rest w ↦ finish_line old w.judge_rest.new.self i.events.items i.lines i.rest.items i.status c.self-2.inside.events.items c.self.view_is open_now (not_empty i.rest.items c.is_empty.result c.is_empty.ensures (search rules)) w.in_ok-judge_rest.ensures (ap (λ (r : Reading). r.events) (c.self-2.view_is ∙ w.self-is))
+      | else-not-is_empty w ↦ finish_empty old i.events.items i.lines i.rest.items i.status c.self-2.inside.events.items c.self.view_is open_now (eqb-true (length i.rest.items) 0 (sym c.is_empty.ensures ∙ search rules)) (ap (λ (r : Reading). r.events) (c.self-2.view_is ∙ w.self-is))
+    ] in
+    record { answer = r.answer; failed = unchanged_if_failed old _ open_now; reading = r.reading; kept = r.kept; front = r.front; finished = refl }

@@ -1,0 +1,148 @@
+-- A trace that comes in pieces: what has been read of it, and what one more piece and its end make of that.
+use Rattle.std.specs.Prelude.{ℕ, suc, ◌+◌, Bool, true, false, List, [], ◌∷◌, ◌++◌, length, Option, Some, None, Result, Ok, Err, nat_lt, if◌then◌else◌, IfOk, ◌<◌, ⊤}
+use Rattle.line_text.specs.Lines.{is_newline}
+use Rattle.heap_theory.specs.declared.event.Event.{Event}
+use Rattle.trace_reader.specs.declared.fault.TraceError.{TraceError}
+use Rattle.trace_reader.specs.declared.fault.TraceError.TheVariants.{Line}
+use Rattle.trace_reader.specs.declared.fault.TraceFault.{TraceFault}
+use Rattle.trace_reader.specs.declared.fault.TraceFault.TheVariants.{LineTooLong}
+use Rattle.heap_theory.specs.Ranges.{IsInRange}
+use Rattle.trace_reader.specs.TraceLine.{event_of_line, longest_line, most_events}
+use Rattle.trace_reader.specs.TraceText.{Trace, no_lines, with_line, trace_from}
+
+-- ---- whole lines
+
+-- A text by its newlines: the lines that have one, without it, and the bytes behind the last.
+pub record Cut : Type 0 where
+  pub whole : List (List ℕ)
+  pub unfinished : List ℕ
+
+abbrev pub line_in_front : List ℕ → Cut → Cut
+line_in_front line c = record { whole = line ∷ c.whole; unfinished = c.unfinished }
+
+-- Bytes in front of the first line, be it whole or not.
+abbrev pub bytes_in_front : List ℕ → List (List ℕ) → List ℕ → Cut
+bytes_in_front front [] unfinished = record { whole = []; unfinished = front ++ unfinished }
+bytes_in_front front (line ∷ ls) unfinished = record { whole = (front ++ line) ∷ ls; unfinished = unfinished }
+
+abbrev pub going_on : List ℕ → Cut → Cut
+going_on front c = bytes_in_front front c.whole c.unfinished
+
+unfoldable pub cut : List ℕ → Cut
+cut [] = record { whole = []; unfinished = [] }
+cut (b ∷ text) = if is_newline b then line_in_front [] (cut text) else going_on (b ∷ []) (cut text)
+
+-- ---- what has been read
+
+-- Where a reading stands: behind so many whole lines, with the bytes of the unfinished one; at an error; or at the text's end.
+pub data State : Type 0 where
+  Open : (lines : ℕ) (rest : List ℕ) → State
+  Failed : TraceError → State
+  Finished : State
+
+-- The events that were read and not yet taken out, and where the reading stands.
+pub record Reading : Type 0 where
+  pub events : List Event
+  pub state : State
+
+abbrev pub nothing_read : Reading
+nothing_read = record { events = []; state = Open 0 [] }
+
+abbrev pub is_finished_state : State → Bool
+is_finished_state (Open lines rest) = false
+is_finished_state (Failed error) = false
+is_finished_state Finished = true
+
+abbrev pub is_finished : Reading → Bool
+is_finished reading = is_finished_state reading.state
+
+-- ---- one more piece
+
+abbrev pub added : List Event → Reading → Reading
+added events reading = record { events = events ++ reading.events; state = reading.state }
+
+-- Behind whole lines without a fault: an unfinished line that is too long already is faulty.
+abbrev pub unfinished_state : ℕ → List ℕ → State
+unfinished_state lines rest = if nat_lt longest_line (length rest) then Failed (Line (suc lines) LineTooLong) else Open lines rest
+
+abbrev pub state_behind : ℕ → List ℕ → Option (ℕ × TraceFault) → State
+state_behind lines rest None = unfinished_state lines rest
+state_behind lines rest (Some (number, fault)) = Failed (Line number fault)
+
+-- The whole lines are judged up to the first fault, and the unfinished one is kept.
+abbrev pub reading_of_cut : ℕ → Cut → Reading
+reading_of_cut lines c =
+    let trace = trace_from (suc lines) c.whole in
+    record { events = trace.events; state = state_behind (lines + length c.whole) c.unfinished trace.fault }
+
+-- The piece goes on with the unfinished line. After an error it is not looked at.
+abbrev pub fed_in : State → List ℕ → Reading
+fed_in (Open lines rest) piece = reading_of_cut lines (going_on rest (cut piece))
+fed_in (Failed error) piece = record { events = []; state = Failed error }
+fed_in Finished piece = record { events = []; state = Finished }
+
+unfoldable pub fed : Reading → List ℕ → Reading
+fed reading piece = added reading.events (fed_in reading.state piece)
+
+-- All pieces, one after the other.
+abbrev pub fed_all : Reading → List (List ℕ) → Reading
+fed_all reading [] = reading
+fed_all reading (piece ∷ pieces) = fed_all (fed reading piece) pieces
+
+-- ---- one line, as the reader's inner calls say it
+
+abbrev pub is_open_state : State → Bool
+is_open_state (Open lines rest) = true
+is_open_state (Failed error) = false
+is_open_state Finished = false
+
+abbrev pub is_open : Reading → Bool
+is_open reading = is_open_state reading.state
+
+-- The unfinished line was judged, and is behind.
+abbrev pub judged_in : State → Result Event TraceFault → Reading
+judged_in (Open lines rest) (Ok event) = record { events = event ∷ []; state = Open (suc lines) [] }
+judged_in (Open lines rest) (Err fault) = record { events = []; state = Failed (Line (suc lines) fault) }
+judged_in (Failed error) judged = record { events = []; state = Failed error }
+judged_in Finished judged = record { events = []; state = Finished }
+
+unfoldable pub with_judged : Reading → Result Event TraceFault → Reading
+with_judged reading judged = added reading.events (judged_in reading.state judged)
+
+-- What the unfinished line is judged to be where it goes on by these bytes and then ends; some fault where no more is read.
+abbrev pub judgement_in : State → List ℕ → Result Event TraceFault
+judgement_in (Open lines rest) end = event_of_line (suc lines) (rest ++ end)
+judgement_in (Failed error) end = Err LineTooLong
+judgement_in Finished end = Err LineTooLong
+
+abbrev pub line_ended : Reading → List ℕ → Reading
+line_ended reading end = with_judged reading (judgement_in reading.state end)
+
+-- What a line was judged to be that comes next: where it is an event, that is in its ranges, and there is room for it.
+abbrev pub IsJudgementIn : State → Result Event TraceFault → Type 0
+IsJudgementIn (Open lines rest) judged = IfOk judged (λ event. IsInRange event × (lines < most_events))
+IsJudgementIn (Failed error) judged = ⊤
+IsJudgementIn Finished judged = ⊤
+
+-- ---- the end of the text
+
+abbrev pub ended_state : Option (ℕ × TraceFault) → State
+ended_state None = Finished
+ended_state (Some (number, fault)) = Failed (Line number fault)
+
+-- A trace, as a reading that has come to its end or to its fault.
+abbrev pub whole_reading : Trace → Reading
+whole_reading trace = record { events = trace.events; state = ended_state trace.fault }
+
+-- The unfinished line, where there is one, is the last line.
+abbrev pub last_line : ℕ → List ℕ → Trace
+last_line lines [] = no_lines
+last_line lines (b ∷ rest) = with_line (suc lines) (event_of_line (suc lines) (b ∷ rest)) no_lines
+
+abbrev pub finished_in : State → Reading
+finished_in (Open lines rest) = whole_reading (last_line lines rest)
+finished_in (Failed error) = record { events = []; state = Failed error }
+finished_in Finished = record { events = []; state = Finished }
+
+unfoldable pub finished : Reading → Reading
+finished reading = added reading.events (finished_in reading.state)

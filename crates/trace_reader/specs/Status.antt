@@ -1,0 +1,11 @@
+-- How a reader's fields stand for a reading.
+use Rattle.std.specs.Prelude.{ℕ, List}
+use Rattle.trace_reader.specs.declared.status.Status.{Status}
+use Rattle.trace_reader.specs.declared.status.Status.TheVariants.{Open as IsOpen, Failed as HasFailed, Finished as HasFinished}
+use Rattle.trace_reader.specs.Reading.{State}
+use Rattle.trace_reader.specs.Reading.State.{Open, Failed, Finished}
+
+abbrev pub state_of : Status → ℕ → List ℕ → State
+state_of IsOpen lines rest = Open lines rest
+state_of (HasFailed error) lines rest = Failed error
+state_of HasFinished lines rest = Finished

@@ -1,0 +1,16 @@
+//! Traces: the events that the lines of a text spell, read from the text in pieces of any size.
+#![tactic(auto)]
+
+mod cut;
+mod fault;
+pub mod laws;
+mod line;
+mod reader;
+mod status;
+#[cfg(test)]
+mod tests;
+mod words;
+
+pub use fault::{TraceError, TraceFault};
+pub use heap_theory::Event;
+pub use reader::TraceReader;

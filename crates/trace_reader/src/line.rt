@@ -1,0 +1,187 @@
+//! The event that a line spells.
+ghost use Rattle.std.specs.Prelude.{◌≡◌, ◌<◌, ◌≤◌, ◌^◌, ℕ, Result, Ok, Err, IfOk, List, map};
+ghost use Rattle.heap_theory.specs.declared.event.Event.{Event as EventView};
+ghost use Rattle.heap_theory.specs.Ranges.{IsInRange};
+ghost use Rattle.trace_reader.specs.TraceLine.{made, event_named, event_of_line, free_of, load_of, move_of, request_of, store_of, variable_of, len_of};
+
+use crate::fault::TraceFault;
+use crate::words::{byte_in, full_words_in, number_from, offset_in};
+use heap_theory::Event;
+use line_text::laws::law_hex;
+
+// the most bytes of a line, without its newline
+pub(crate) const LONGEST_LINE: usize = 80;
+
+// the most events of a trace, one for each line
+pub(crate) const MOST_EVENTS: u32 = 1_000_000;
+
+// the first words of events
+const MALLOC: &[u8] = b"malloc";
+
+const CALLOC: &[u8] = b"calloc";
+
+const REALLOC: &[u8] = b"realloc";
+
+const FREE: &[u8] = b"free";
+
+const LOAD: &[u8] = b"load";
+
+const STORE: &[u8] = b"store";
+
+const ADDG: &[u8] = b"addg";
+
+const SUBG: &[u8] = b"subg";
+
+// the greatest numbers of each kind; a request's is in bytes, and so is an access's
+const LAST_VARIABLE: u32 = 1023;
+
+const LARGEST_REQUEST: u32 = 2_147_483_647;
+
+const LONGEST_ACCESS: u32 = 64;
+
+const MOST_GRANULES: u32 = 63;
+
+const MOST_TAGS: u32 = 15;
+
+// the event that the line of this number spells, counted from 1, or the line's fault
+pub(crate) fn event_in(number: u32, line: &[u8]) -> Result<Event, TraceFault>
+    ensures event { result ≡ event_of_line number line.now }
+    ensures range { IfOk result (λ event. IsInRange event) }
+    ensures few { IfOk result (λ event. number ≤ MOST_EVENTS) }
+{
+    law_hex();
+    judged_line(number, line)
+}
+
+#[tactic(auto, unfolding(crate::specs::TraceLine::event_of_line, crate::specs::TraceLine::event_of_words))]
+fn judged_line(number: u32, line: &[u8]) -> Result<Event, TraceFault>
+    ensures { result ≡ event_of_line number line.now }
+{
+    if line.len() > LONGEST_LINE {
+        return Err(TraceFault::LineTooLong);
+    }
+    if number > MOST_EVENTS {
+        return Err(TraceFault::TooManyEvents);
+    }
+    let Some(words) = full_words_in(line) else {
+        return Err(TraceFault::BadWord);
+    };
+    let [name, arguments @ ..] = words.as_slice() else {
+        return Err(TraceFault::BadWord);
+    };
+    event_named(name, arguments)
+}
+
+// the event of this name whose numbers are these words
+fn event_named(name: &[u8], words: &[&[u8]]) -> Result<Event, TraceFault>
+    ensures { result ≡ event_named name.now (map (λ w. w.now) words.now) }
+{
+    if name == MALLOC {
+        let (v, n) = request_in(words)?;
+        return Ok(Event::Malloc { v, n });
+    }
+    if name == CALLOC {
+        let (v, n) = request_in(words)?;
+        return Ok(Event::Calloc { v, n });
+    }
+    if name == REALLOC {
+        let (v, n) = request_in(words)?;
+        return Ok(Event::Realloc { v, n });
+    }
+    if name == FREE {
+        return free_in(words);
+    }
+    if name == LOAD {
+        return load_in(words);
+    }
+    if name == STORE {
+        return store_in(words);
+    }
+    if name == ADDG {
+        let (v, w, u6, u4) = move_in(words)?;
+        return Ok(Event::Addg { v, w, u6, u4 });
+    }
+    if name == SUBG {
+        let (v, w, u6, u4) = move_in(words)?;
+        return Ok(Event::Subg { v, w, u6, u4 });
+    }
+    Err(TraceFault::BadWord)
+}
+
+// the number of a variable
+fn variable_in(word: &[u8]) -> Result<u16, TraceFault>
+    ensures { result ≡ variable_of word.now }
+{
+    Ok(number_from(0, LAST_VARIABLE, word)? as u16)
+}
+
+// the event of a line `free`, by the words behind that one, and so below
+fn free_in(words: &[&[u8]]) -> Result<Event, TraceFault>
+    ensures { result ≡ free_of (map (λ w. w.now) words.now) }
+{
+    let [v] = words else {
+        return Err(TraceFault::BadWord);
+    };
+    let v = variable_in(v)?;
+    Ok(Event::Free { v })
+}
+
+fn load_in(words: &[&[u8]]) -> Result<Event, TraceFault>
+    ensures { result ≡ load_of (map (λ w. w.now) words.now) }
+{
+    let [v, off, len] = words else {
+        return Err(TraceFault::BadWord);
+    };
+    let v = variable_in(v)?;
+    let off = offset_in(off)?;
+    let len = len_in(len)?;
+    Ok(Event::Load { v, off, len })
+}
+
+fn store_in(words: &[&[u8]]) -> Result<Event, TraceFault>
+    ensures { result ≡ store_of (map (λ w. w.now) words.now) }
+{
+    let [v, off, len, byte] = words else {
+        return Err(TraceFault::BadWord);
+    };
+    let v = variable_in(v)?;
+    let off = offset_in(off)?;
+    let len = len_in(len)?;
+    let byte = byte_in(byte)?;
+    Ok(Event::Store { v, off, len, byte })
+}
+
+// the variable and the size of a request, whatever event it is of
+fn request_in(words: &[&[u8]]) -> Result<(u16, u32), TraceFault>
+    ensures { (event : ℕ → ℕ → EventView)
+        → made (λ x. event x.0 x.1) result ≡ request_of event (map (λ w. w.now) words.now) }
+{
+    let [v, n] = words else {
+        return Err(TraceFault::BadWord);
+    };
+    let v = variable_in(v)?;
+    let n = number_from(0, LARGEST_REQUEST, n)?;
+    Ok((v, n))
+}
+
+// the two variables of a move, its granules and its tags
+fn move_in(words: &[&[u8]]) -> Result<(u16, u16, u8, u8), TraceFault>
+    ensures { (event : ℕ → ℕ → ℕ → ℕ → EventView)
+        → made (λ x. event x.0 x.1 x.2 x.3) result ≡ move_of event (map (λ w. w.now) words.now) }
+{
+    let [v, w, u6, u4] = words else {
+        return Err(TraceFault::BadWord);
+    };
+    let v = variable_in(v)?;
+    let w = variable_in(w)?;
+    let u6 = number_from(0, MOST_GRANULES, u6)? as u8;
+    let u4 = number_from(0, MOST_TAGS, u4)? as u8;
+    Ok((v, w, u6, u4))
+}
+
+// the bytes of an access
+fn len_in(word: &[u8]) -> Result<u8, TraceFault>
+    ensures { result ≡ len_of word.now }
+{
+    Ok(number_from(1, LONGEST_ACCESS, word)? as u8)
+}

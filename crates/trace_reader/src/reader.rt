@@ -1,0 +1,182 @@
+ghost use Rattle.std.specs.Prelude.{◌≡◌, ◌≢◌, ◌++◌, ◌∷◌, [], List, drop, slice_get, false, true, Err, IfSome, Result, is_ok};
+ghost use Rattle.line_text.specs.Lines.{IsLine};
+ghost use Rattle.heap_theory.specs.declared.event.Event.{Event as EventView};
+ghost use Rattle.trace_reader.specs.declared.fault.TraceError.TheVariants.{OutOfMemory};
+ghost use Rattle.trace_reader.specs.declared.fault.TraceFault.{TraceFault as Fault};
+ghost use Rattle.heap_theory.specs.Ranges.{IsInRange};
+ghost use Rattle.trace_reader.specs.Reached.{HasReached, IsFrontOf, answer_of};
+ghost use Rattle.trace_reader.specs.Reading.State.{Failed};
+ghost use Rattle.trace_reader.specs.Reading.{fed, finished, is_finished, nothing_read, IsJudgementIn, is_open, line_ended, with_judged};
+
+use crate::cut::first_line;
+use crate::fault::{TraceError, TraceFault};
+use crate::line::{LONGEST_LINE, event_in};
+use crate::status::Status;
+use arrayvec::ArrayVec;
+use heap_theory::Event;
+use std::alloc::Global;
+use std::collections::VecDeque;
+use std::marker::Model;
+
+/// Reads a trace that comes in pieces of any size. It keeps the events that were not yet taken out, and of the text only the bytes of the
+/// unfinished line.
+#[derive(Debug, Drop)]
+pub struct TraceReader {
+    events: VecDeque<Event>,
+    lines: u32,
+    rest: ArrayVec<u8, LONGEST_LINE>,
+    status: Status,
+}
+
+impl Model for TraceReader {
+    ghost use Rattle.std.specs.Prelude.{◌≤◌, All};
+    ghost use Rattle.heap_theory.specs.Ranges.{IsInRange};
+    ghost use Rattle.trace_reader.specs.Reading.{Reading};
+
+    ghost Value = { Reading };
+
+    ghost use Rattle.trace_reader.specs.Status.{state_of};
+
+    ghost view = { λ r. record { events = r.events.items; state = state_of r.status r.lines r.rest.items } };
+
+    ghost invariant = { λ r. (r.lines ≤ 1000000) × All IsInRange r.events.items };
+}
+
+impl TraceReader {
+    /// A reader to which nothing was fed. It takes no memory yet.
+    pub fn new(alloc: Global) -> TraceReader
+        ensures { result ≡ nothing_read }
+    {
+        TraceReader {
+            events: VecDeque::new(alloc),
+            lines: 0,
+            rest: ArrayVec::new(),
+            status: Status::Open,
+        }
+    }
+
+    /// Reads the next piece of the text, which may begin and end within a line. The events of the whole lines wait for `next_event`.
+    /// An error is the fault of the first faulty line, or that memory was refused; it stays, each later call answers it and reads nothing, and the
+    /// events of the lines before it can still be taken out.
+    pub fn feed(&mut self, piece: &[u8]) -> Result<(), TraceError>
+        requires { is_finished self.old ≡ false }
+        ensures answer { result ≡ answer_of self.new.state }
+        ensures failed { (error : TraceError) → self.old.state ≡ Failed error → self.new ≡ self.old }
+        ensures reading { result ≢ Err OutOfMemory → self.new ≡ fed self.old piece.now }
+        ensures kept { IsFrontOf self.old.events self.new.events }
+        ensures front { IsFrontOf self.new.events (fed self.old piece.now).events }
+        ensures unfinished { is_finished self.new ≡ false }
+    {
+        if let Status::Failed(error) = self.status {
+            return Err(error);
+        }
+        let mut text = piece;
+        while let Some((line, behind)) = first_line(text) {
+            self.end_line(line)?;
+            text = behind;
+        }
+        self.keep(text)
+    }
+
+    /// Takes the end of the text: its last line may lack its newline. An error is as in `feed`, and stays in the same way.
+    pub fn finish(&mut self) -> Result<(), TraceError>
+        requires { is_finished self.old ≡ false }
+        ensures answer { result ≡ answer_of self.new.state }
+        ensures failed { (error : TraceError) → self.old.state ≡ Failed error → self.new ≡ self.old }
+        ensures reading { result ≢ Err OutOfMemory → self.new ≡ finished self.old }
+        ensures kept { IsFrontOf self.old.events self.new.events }
+        ensures front { IsFrontOf self.new.events (finished self.old).events }
+        ensures finished { is_finished self.new ≡ is_ok result }
+    {
+        if let Status::Failed(error) = self.status {
+            return Err(error);
+        }
+        if !self.rest.is_empty() {
+            self.judge_rest()?;
+        }
+        self.status = Status::Finished;
+        Ok(())
+    }
+
+    /// Whether the end of the text was taken without an error. Then `feed` and `finish` may not be called any more.
+    pub fn is_finished(&self) -> bool
+        ensures { result ≡ is_finished self.now }
+    {
+        matches!(self.status, Status::Finished)
+    }
+
+    /// Takes out the first event that was read and not yet taken out; none where there is no such event now.
+    pub fn next_event(&mut self) -> Option<Event>
+        ensures event { result ≡ slice_get self.old.events 0 }
+        ensures rest { self.new.events ≡ drop 1 self.old.events }
+        ensures state { self.new.state ≡ self.old.state }
+        ensures range { IfSome result IsInRange }
+    {
+        self.events.pop_front()
+    }
+
+    // ends the unfinished line by these bytes and a newline.
+    fn end_line(&mut self, end: &[u8]) -> Result<(), TraceError>
+        requires open { is_open self.old ≡ true }
+        requires line { IsLine end.now }
+        ensures { HasReached self.old (line_ended self.old end.now) self.new result }
+    {
+        if self.rest.is_empty() {
+            let judged = event_in(self.lines + 1, end);
+            return self.add(judged);
+        }
+        self.keep(end)?;
+        self.judge_rest()
+    }
+
+    // judges the unfinished line as a whole one.
+    fn judge_rest(&mut self) -> Result<(), TraceError>
+        requires { is_open self.old ≡ true }
+        ensures { HasReached self.old (line_ended self.old []) self.new result }
+    {
+        let judged = event_in(self.lines + 1, self.rest.as_slice());
+        self.add(judged)
+    }
+
+    // takes what the unfinished line was judged to be.
+    fn add(&mut self, judged: Result<Event, TraceFault>) -> Result<(), TraceError>
+        requires open { is_open self.old ≡ true }
+        requires judged { IsJudgementIn self.old.state judged }
+        ensures { HasReached self.old (with_judged self.old judged) self.new result }
+    {
+        match judged {
+            Ok(event) => {
+                if self.events.push_back(event).is_err() {
+                    return self.fail(TraceError::OutOfMemory);
+                }
+                self.lines += 1;
+                self.rest.clear();
+                Ok(())
+            }
+            Err(fault) => self.fail(TraceError::Line(self.lines + 1, fault)),
+        }
+    }
+
+    // goes on with the unfinished line by bytes that hold no newline.
+    fn keep(&mut self, bytes: &[u8]) -> Result<(), TraceError>
+        requires open { is_open self.old ≡ true }
+        requires line { IsLine bytes.now }
+        ensures answer { result ≡ answer_of self.new.state }
+        ensures reading { self.new ≡ fed self.old bytes.now }
+    {
+        let number = self.lines + 1;
+        if self.rest.try_extend_from_slice(bytes).is_err() {
+            return self.fail(TraceError::Line(number, TraceFault::LineTooLong));
+        }
+        Ok(())
+    }
+
+    // stops at an error.
+    fn fail(&mut self, error: TraceError) -> Result<(), TraceError>
+        ensures answer { result ≡ Err error }
+        ensures failed { self.new ≡ record { events = self.old.events; state = Failed error } }
+    {
+        self.status = Status::Failed(error);
+        Err(error)
+    }
+}

@@ -1,0 +1,278 @@
+//! Worked texts in pieces: events and errors do not depend on where a text is cut.
+use crate::{Event, TraceError, TraceFault, TraceReader};
+use std::alloc::Global;
+use std::process::Abort;
+use std::test::Fail;
+
+// The last line has no newline.
+const ACCESSES: &[u8] = b"malloc 1 100\nmalloc 2 1\nmalloc 3 1009\nmalloc 4 16369\nload 1 96 16\n\
+load 1 104 16\nload 2 0 1\nload 1 -16 1\nload 1 -17 1\nload 1 1008 1";
+
+// 81 letters.
+const LETTERS: &[u8] = &[b'a'; 81];
+
+fn load(v: u16, off: i32, len: u8) -> Event {
+    Event::Load { v, off, len }
+}
+
+// What a reader gave: all events, and what its last call answered.
+#[derive(Drop)]
+struct Seen {
+    events: Vec<Event>,
+    answer: Result<(), TraceError>,
+}
+
+// What pieces give, whose events are taken out behind each of them. An error stays to the end.
+fn read_pieces(rt: &impl Abort, alloc: Global, pieces: &[&[u8]]) -> Result<Seen, Fail> {
+    let mut reader = TraceReader::new(alloc);
+    let mut events = Vec::new(alloc);
+    let mut answer = Ok(());
+    for piece in pieces {
+        assert!(rt; !reader.is_finished());
+        let fed = reader.feed(piece);
+        assert!(rt; answer.is_ok() || fed == answer, "an error stays");
+        answer = fed;
+        take_events(&mut reader, &mut events)?;
+    }
+    assert!(rt; !reader.is_finished());
+    let finished = reader.finish();
+    assert!(rt;
+        answer.is_ok() || finished == answer,
+        "an error stays at the end"
+    );
+    assert_eq!(rt; reader.is_finished(), finished.is_ok());
+    take_events(&mut reader, &mut events)?;
+    Ok(Seen {
+        events,
+        answer: finished,
+    })
+}
+
+fn take_events(reader: &mut TraceReader, events: &mut Vec<Event>) -> Result<(), Fail> {
+    for _ in 0..1000 {
+        match reader.next_event() {
+            Some(event) => events.push(event)?,
+            None => break,
+        }
+    }
+    Ok(())
+}
+
+// A text gives these events and this answer, whole, byte by byte, and in two pieces at each place.
+fn gives(
+    rt: &impl Abort,
+    alloc: Global,
+    text: &[u8],
+    events: &[Event],
+    answer: Result<(), TraceError>,
+) -> Result<(), Fail> {
+    let mut bytes = Vec::new(alloc);
+    for place in 0..text.len() {
+        bytes.push(&text[place..place + 1])?;
+        let (front, behind) = text.split_at(place);
+        agrees(
+            rt,
+            read_pieces(rt, alloc, &[front, behind])?,
+            events,
+            answer,
+        )?;
+    }
+    agrees(rt, read_pieces(rt, alloc, &bytes)?, events, answer)?;
+    agrees(rt, read_pieces(rt, alloc, &[text])?, events, answer)
+}
+
+// What was read is what was wanted. Where memory was refused, its events are the first of those.
+fn agrees(
+    rt: &impl Abort,
+    seen: Seen,
+    events: &[Event],
+    answer: Result<(), TraceError>,
+) -> Result<(), Fail> {
+    if seen.answer == Err(TraceError::OutOfMemory) {
+        assert!(rt; events.starts_with(seen.events.as_slice()));
+        seen.answer?;
+    }
+    assert_eq!(rt; seen.answer, answer);
+    assert_eq!(rt; seen.events.as_slice(), events);
+    Ok(())
+}
+
+#[test]
+fn accesses_in_pieces(rt: HostRuntime) -> Result<(), Fail> {
+    let events = [
+        Event::Malloc { v: 1, n: 100 },
+        Event::Malloc { v: 2, n: 1 },
+        Event::Malloc { v: 3, n: 1009 },
+        Event::Malloc { v: 4, n: 16369 },
+        load(1, 96, 16),
+        load(1, 104, 16),
+        load(2, 0, 1),
+        load(1, -16, 1),
+        load(1, -17, 1),
+        load(1, 1008, 1),
+    ];
+    gives(&rt, rt.alloc(), ACCESSES, &events, Ok(()))
+}
+
+#[test]
+fn every_kind_of_event(rt: HostRuntime) -> Result<(), Fail> {
+    let text = b"malloc 0 0\ncalloc 1023 2147483647\nrealloc 7 32\nfree 1023\n\
+load 1 -1048576 64\nstore 2 1048576 1 a0\naddg 6 5 63 15\nsubg 3 3 0 0\n";
+    let events = [
+        Event::Malloc { v: 0, n: 0 },
+        Event::Calloc {
+            v: 1023,
+            n: 2_147_483_647,
+        },
+        Event::Realloc { v: 7, n: 32 },
+        Event::Free { v: 1023 },
+        load(1, -1_048_576, 64),
+        Event::Store {
+            v: 2,
+            off: 1_048_576,
+            len: 1,
+            byte: 0xa0,
+        },
+        Event::Addg {
+            v: 6,
+            w: 5,
+            u6: 63,
+            u4: 15,
+        },
+        Event::Subg {
+            v: 3,
+            w: 3,
+            u6: 0,
+            u4: 0,
+        },
+    ];
+    gives(&rt, rt.alloc(), text, &events, Ok(()))
+}
+
+#[test]
+fn first_faults_in_pieces(rt: HostRuntime) -> Result<(), Fail> {
+    let event = [Event::Malloc { v: 1, n: 16 }];
+    let cases: [(&[u8], &[Event], u32, TraceFault, &str); 12] = [
+        (
+            b"load 1 0",
+            &[],
+            1,
+            TraceFault::BadWord,
+            "70 BadWord line 1",
+        ),
+        (
+            b"malloc 01 1",
+            &[],
+            1,
+            TraceFault::BadNumber,
+            "71 BadNumber line 1",
+        ),
+        (
+            b"load 1 -0 1",
+            &[],
+            1,
+            TraceFault::BadNumber,
+            "71 BadNumber line 1",
+        ),
+        (
+            b"malloc 1024 1",
+            &[],
+            1,
+            TraceFault::OutOfRange,
+            "72 OutOfRange line 1",
+        ),
+        (
+            LETTERS,
+            &[],
+            1,
+            TraceFault::LineTooLong,
+            "73 LineTooLong line 1",
+        ),
+        (
+            b"malloc 1 16\nstore 1 16 1",
+            &event,
+            2,
+            TraceFault::BadWord,
+            "70 BadWord line 2",
+        ),
+        (
+            b"malloc 1 16\nstore 1 16 1 a",
+            &event,
+            2,
+            TraceFault::BadNumber,
+            "71 BadNumber line 2",
+        ),
+        (
+            b"malloc 1 16\n\nfree 1024\n",
+            &event,
+            2,
+            TraceFault::BadWord,
+            "70 BadWord line 2",
+        ),
+        (
+            b"malloc 01 \n",
+            &[],
+            1,
+            TraceFault::BadWord,
+            "70 BadWord line 1",
+        ),
+        (
+            b"load 1 0 65\nfree 1",
+            &[],
+            1,
+            TraceFault::OutOfRange,
+            "72 OutOfRange line 1",
+        ),
+        (
+            b"store 1 0 1 A0",
+            &[],
+            1,
+            TraceFault::BadNumber,
+            "71 BadNumber line 1",
+        ),
+        (
+            b"malloc 1 16\r\n",
+            &[],
+            1,
+            TraceFault::BadNumber,
+            "71 BadNumber line 1",
+        ),
+    ];
+    for (text, events, line, fault, shown) in cases {
+        let error = TraceError::Line(line, fault);
+        gives(&rt, rt.alloc(), text, events, Err(error))?;
+        let told = format!(in rt.alloc(); "{error}")?;
+        assert_eq!(rt; told.as_str(), shown);
+    }
+    let told = format!(in rt.alloc(); "{}", TraceError::OutOfMemory)?;
+    assert_eq!(rt; told.as_str(), "1 OutOfMemory");
+    Ok(())
+}
+
+#[test]
+fn eighty_first_byte_is_a_fault_at_once(rt: HostRuntime) -> Result<(), Fail> {
+    let mut reader = TraceReader::new(rt.alloc());
+    reader.feed(&LETTERS[..80])?;
+    assert_eq!(rt;
+        reader.feed(b"a"),
+        Err(TraceError::Line(1, TraceFault::LineTooLong))
+    );
+    Ok(())
+}
+
+#[test]
+fn no_more_than_a_million_events(rt: HostRuntime) -> Result<(), Fail> {
+    let mut reader = TraceReader::new(rt.alloc());
+    for _ in 0..1_000_000 {
+        assert!(rt; !reader.is_finished());
+        reader.feed(b"free 0\n")?;
+        assert_eq!(rt; reader.next_event(), Some(Event::Free { v: 0 }));
+    }
+    assert!(rt; !reader.is_finished());
+    let too_many = TraceError::Line(1_000_001, TraceFault::TooManyEvents);
+    assert_eq!(rt; reader.feed(b"free 0\n"), Err(too_many));
+    let told = format!(in rt.alloc(); "{too_many}")?;
+    assert_eq!(rt; told.as_str(), "74 TooManyEvents line 1000001");
+    assert_eq!(rt; reader.next_event(), None);
+    Ok(())
+}

@@ -1,0 +1,77 @@
+//! The words of a line, and what each spells as a number of a range.
+ghost use Rattle.std.specs.Prelude.{◌≡◌, ◌<◌, ◌≤◌, ◌^◌, false, Err, IfOk, IfSome, IfNone, ℤ, nat_abs, map};
+ghost use Rattle.std.specs.List.{list_any};
+ghost use Rattle.line_text.specs.Lines.{words};
+ghost use Rattle.trace_reader.specs.declared.fault.TraceFault.TheVariants.{BadWord};
+ghost use Rattle.trace_reader.specs.TraceLine.{byte_of, event_of_words, is_empty_word, number_from, offset_of};
+
+use crate::fault::TraceFault;
+use arrayvec::ArrayVec;
+use line_text::{Number, SignedNumber, hex_byte_in, number_in, signed_in, words_in};
+
+// the most words that an event's line has
+pub(crate) const MOST_WORDS: usize = 5;
+
+// the most bytes that an access may be away from a variable's address
+const FARTHEST: u64 = 1_048_576;
+
+// the words of a line, where they are at most five and none is empty; every other line has a bad word.
+pub(crate) fn full_words_in(line: &[u8]) -> Option<ArrayVec<&[u8], MOST_WORDS>>
+    ensures words { IfSome result (λ all. map (λ w. w.now) all.items ≡ words line.now) }
+    ensures full { IfSome result (λ all. list_any is_empty_word (words line.now) ≡ false) }
+    ensures bad { IfNone result (event_of_words (words line.now) ≡ Err BadWord) }
+{
+    let mut all = ArrayVec::new();
+    for word in words_in(line) {
+        if word.is_empty() || all.is_full() {
+            return None;
+        }
+        all.push(word);
+    }
+    Some(all)
+}
+
+// the number from `low` to `high` that a word spells.
+pub(crate) fn number_from(low: u32, high: u32, word: &[u8]) -> Result<u32, TraceFault>
+    ensures number { result ≡ number_from low high word.now }
+    ensures most { IfOk result (λ n. n ≤ high) }
+{
+    match number_in(word) {
+        Number::NoNumber => Err(TraceFault::BadNumber),
+        Number::TooLarge => Err(TraceFault::OutOfRange),
+        Number::Value(n) => {
+            if u64::from(low) <= n && n <= u64::from(high) {
+                Ok(n as u32)
+            } else {
+                Err(TraceFault::OutOfRange)
+            }
+        }
+    }
+}
+
+// the offset of an access that a word spells.
+pub(crate) fn offset_in(word: &[u8]) -> Result<i32, TraceFault>
+    ensures { result ≡ offset_of word.now }
+{
+    match signed_in(word) {
+        SignedNumber::NoNumber => Err(TraceFault::BadNumber),
+        SignedNumber::TooLarge => Err(TraceFault::OutOfRange),
+        SignedNumber::Value(z) => {
+            if z.unsigned_abs() <= FARTHEST {
+                Ok(z as i32)
+            } else {
+                Err(TraceFault::OutOfRange)
+            }
+        }
+    }
+}
+
+// the byte that a word spells.
+pub(crate) fn byte_in(word: &[u8]) -> Result<u8, TraceFault>
+    ensures { result ≡ byte_of word.now }
+{
+    match hex_byte_in(word) {
+        Some(byte) => Ok(byte),
+        None => Err(TraceFault::BadNumber),
+    }
+}
