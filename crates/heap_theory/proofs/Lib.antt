@@ -1,3 +1,4 @@
+pub mod AccessAnswers
 pub mod Answered
 pub mod Booking
 pub mod CallsKept
@@ -5,13 +6,16 @@ pub mod Choices
 pub mod FirstHeap
 pub mod Front
 pub mod Found
+pub mod GranuleKinds
 pub mod GranuleTags
 pub mod Hardened
 pub mod HeaderWords
 pub mod HeapKept
 pub mod Held
+pub mod LayoutStays
 pub mod Linked
 pub mod Lives
+pub mod Losses
 pub mod Marks
 pub mod Pointers
 pub mod ReallocExamples

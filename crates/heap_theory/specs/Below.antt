@@ -1,7 +1,8 @@
 -- What the proofs of this crate want of the laws below it, in one record.
-use Rattle.std.specs.Prelude.{◌≡◌, ◌≢◌, ◌⊎◌, ℕ, ◌+◌, ◌*◌, ◌%◌, ◌^◌, ◌<◌, ◌≤◌, ℤ, nat_abs, List, ◌++◌, All, length, bit_or, None, IsSome}
+use Rattle.std.specs.Prelude.{◌≡◌, ◌≢◌, ◌⊎◌, ◌↔◌, ℕ, ◌+◌, ◌*◌, ◌%◌, ◌^◌, ◌<◌, ◌≤◌, ℤ, nat_abs, List, ◌++◌, All, length, bit_or, Some, None, IsSome, IsTrue}
 use Rattle.std.specs.Int.{w64, to_le_bytes}
-use Rattle.machine_theory.specs.Access.{IsMapped, access_fault}
+use Rattle.machine_theory.specs.Access.{IsMapped, IsTagFault, access_fault, is_mapped}
+use Rattle.machine_theory.specs.declared.fault.Fault.TheVariants.{TagCheck}
 use Rattle.machine_theory.specs.Address.{Holds, Touches, logical_tag, moved_by, place_of, region_start, with_tag}
 use Rattle.machine_theory.specs.Instructions.{addg, drawn_tag, subg}
 use Rattle.machine_theory.specs.Memory.{Granule, IsMemory, bytes_at, each_granule, granule_at, tag_at, tagged, word_at, written}
@@ -52,6 +53,9 @@ pub record LawsBelow : Type 0 where
   pub memory_written : (i : ℕ) (new : List ℕ) (memory : List Granule) → All (λ b. b < 256) new → IsMemory memory →
       IsMemory (written i new memory)
   -- accesses
+  pub mapped_test : (granules address len : ℕ) → IsTrue (is_mapped granules address len) ↔ IsMapped granules address len
+  pub tag_fault_names : (memory : List Granule) (address len g memory_tag pointer_tag : ℕ) → 0 < len →
+      (access_fault memory address len ≡ Some (TagCheck g memory_tag pointer_tag)) ↔ IsTagFault memory address len g memory_tag pointer_tag
   pub other_tag_faults : (memory : List Granule) (address len g : ℕ) → Touches address len g → tag_at memory g ≢ logical_tag address →
       IsSome (access_fault memory address len)
   pub same_tags_succeed : (memory : List Granule) (address len : ℕ) → 0 < len → IsMapped (length memory) address len →

@@ -1,3 +1,4 @@
+pub mod AccessLaws
 pub mod Below
 pub mod Booked
 pub mod Calls
@@ -7,8 +8,10 @@ pub mod Hardening
 pub mod Header
 pub mod HeaderLaws
 pub mod Kept
+pub mod KindLaws
 pub mod Laws
 pub mod Links
+pub mod Losses
 pub mod Places
 pub mod Ranges
 pub mod Report

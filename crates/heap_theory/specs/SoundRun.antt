@@ -1,5 +1,5 @@
 -- What is true of every run: where the variables' addresses come from.
-use Rattle.std.specs.Prelude.{◌≡◌, ◌≢◌, ◌⊎◌, ℕ, suc, ◌<◌, ◌≤◌, false, List, length, slice_index, Option, Some, None, ⊤}
+use Rattle.std.specs.Prelude.{◌≡◌, ◌≢◌, ◌⊎◌, ℕ, suc, ◌≤◌, false, List, length, slice_index, Option, Some, None, ⊤}
 use Rattle.machine_theory.specs.Address.{logical_tag, with_tag}
 use Rattle.class_table.specs.Layout.{slot_count}
 use Rattle.heap_theory.specs.Generations.{Run, Generation, generation_of}

@@ -6,11 +6,12 @@ pub mod booking;
 pub mod hardening;
 pub mod headers;
 pub mod heap;
+pub mod losses;
 pub mod run;
 
 use class_table::laws::law_class_for;
 use class_table::layout_laws::{law_layout, law_slot_over};
-use machine_theory::laws::access::law_access;
+use machine_theory::laws::access::{law_access, law_mapped};
 use machine_theory::laws::addresses::{law_addresses, law_granules, law_moved};
 use machine_theory::laws::instructions::law_never_zero;
 use machine_theory::laws::memory::{law_changes, law_each_granule, law_memory, law_reads};
@@ -29,6 +30,7 @@ fn laws_below()
     law_memory();
     law_changes();
     law_reads();
+    law_mapped();
     law_access();
     law_class_for();
     law_layout();

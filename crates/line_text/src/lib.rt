@@ -1,6 +1,7 @@
 //! Lines of a text, words of a line, and the numbers that words spell: what all text formats of the tool share.
 #![tactic(auto)]
 
+mod cutting;
 mod hexadecimal;
 pub mod laws;
 mod lines;
@@ -11,6 +12,7 @@ mod signed;
 mod tests;
 mod words;
 
+pub use cutting::first_line;
 pub use hexadecimal::{hex_byte_in, hex_digits};
 pub use lines::{Lines, lines_in};
 pub use number::{Number, capped_number_in, number_in};

@@ -12,11 +12,11 @@ use Rattle.profile_count.proofs.Zeros.{counts-zeros, get_or-zeros}
 
 -- ---- the counts of the sizes below a bound
 
-length-requests_below : (n : ℕ) (sizes : List ℕ) → length (requests_below n sizes) ≡ n
+pub length-requests_below : (n : ℕ) (sizes : List ℕ) → length (requests_below n sizes) ≡ n
 unfolding requests_below
 length-requests_below n sizes = length-map-range_with_len (requests_of sizes) 0 n
 
-get_or-requests_below : (n : ℕ) (sizes : List ℕ) (k : ℕ) → k < n → get_or (requests_below n sizes) k 0 ≡ requests_of sizes k
+pub get_or-requests_below : (n : ℕ) (sizes : List ℕ) (k : ℕ) → k < n → get_or (requests_below n sizes) k 0 ≡ requests_of sizes k
 unfolding requests_below
 get_or-requests_below n sizes k within = get_or-map-range_with_len (requests_of sizes) 0 n k k 0 within (omega arith)
 

@@ -5,6 +5,7 @@ pub mod FirstServing
 pub mod LineByLine
 pub mod OpenReading
 pub mod ReadIsSpelled
+pub mod RequestLosses
 pub mod SizeLines
 pub mod SpelledIsRead
 pub mod Unserved

@@ -2,4 +2,5 @@ pub mod Appended
 pub mod Counts
 pub mod Laws
 pub mod ProfileText
+pub mod RequestLosses
 pub mod Requests

@@ -1,5 +1,6 @@
 //! What is true of every profile's text and of every list of requests; each law is the contract of a function that does nothing.
 ghost use Rattle.profile_count.specs.Laws.{AddedRequestsAreCounted, CountsAreFew, OneMoreIsCounted, ProfileCountsRequests, ProfileIsSpelled, SpelledProfileIsRead};
+ghost use Rattle.profile_count.specs.RequestLosses.{ProfileOfSizesIsOne, ServesEachRequest, WasteIsTheSumOfLosses};
 
 use line_text::laws::law_text;
 
@@ -18,4 +19,13 @@ pub fn law_profile_of_sizes()
     ensures added { AddedRequestsAreCounted }
     ensures one_more { OneMoreIsCounted }
     ensures few { CountsAreFew }
+{}
+
+/// The waste of a table on the profile of requests is the sum, over all counted requests, of the bytes that each loses
+/// in its class; the table serves that profile exactly where each of them has a class. The profile of at most
+/// 1,000,000,000 requests is one that a `Profile` may hold.
+pub fn law_waste_of_sizes()
+    ensures waste { WasteIsTheSumOfLosses }
+    ensures serves { ServesEachRequest }
+    ensures is_profile { ProfileOfSizesIsOne }
 {}

@@ -1,5 +1,4 @@
 pub mod Accesses
-pub mod LayoutStays
 pub mod Losses
 pub mod Reached
 pub mod StoredMore

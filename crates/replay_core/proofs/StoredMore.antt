@@ -8,7 +8,7 @@ use Rattle.heap_theory.specs.Run.{Replay, Answer, answer_of, first_replay, answe
 use Rattle.heap_theory.specs.Totals.{totals_of, totals_after}
 use Rattle.replay_core.specs.Below.{LawsBelow}
 use Rattle.replay_core.specs.Stored.{first_stored, lines_of, stored_after, stored_of}
-use Rattle.replay_core.proofs.LayoutStays.{layout_of_run}
+use Rattle.heap_theory.proofs.LayoutStays.{layout_of_run}
 
 stored_replay : (layout : Partition) (seed quarantine : ℕ) (events : List Event) → replay_of (first_replay layout seed quarantine) events ≡ (stored_of layout seed quarantine events).replay
 unfolding stored_of

@@ -138,8 +138,8 @@ fn append_total(text: &mut ArrayVec<u8, TOTALS_BYTES>, name: &[u8], total: u64)
     text.push(b'\n');
 }
 
-// the bytes that an event requests, if it is a request
-fn request_size(event: &Event) -> Option<u32>
+/// The bytes that an event requests, if it is a request: a malloc, a calloc or a realloc.
+pub fn request_size(event: &Event) -> Option<u32>
     ensures { result ≡ request_size event.now }
 {
     match *event {

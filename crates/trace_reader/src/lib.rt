@@ -1,7 +1,6 @@
 //! Traces: the events that the lines of a text spell, read from the text in pieces of any size.
 #![tactic(auto)]
 
-mod cut;
 mod fault;
 pub mod laws;
 mod line;

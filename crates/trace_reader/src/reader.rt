@@ -1,4 +1,4 @@
-ghost use Rattle.std.specs.Prelude.{◌≡◌, ◌≢◌, ◌++◌, ◌∷◌, [], List, drop, slice_get, false, true, Err, IfSome, Result, is_ok};
+ghost use Rattle.std.specs.Prelude.{◌≡◌, ◌≢◌, ◌++◌, ◌∷◌, [], List, drop, slice_get, false, true, All, Err, IfSome, Result, is_ok};
 ghost use Rattle.line_text.specs.Lines.{IsLine};
 ghost use Rattle.heap_theory.specs.declared.event.Event.{Event as EventView};
 ghost use Rattle.trace_reader.specs.declared.fault.TraceError.TheVariants.{OutOfMemory};
@@ -8,12 +8,12 @@ ghost use Rattle.trace_reader.specs.Reached.{HasReached, IsFrontOf, answer_of};
 ghost use Rattle.trace_reader.specs.Reading.State.{Failed};
 ghost use Rattle.trace_reader.specs.Reading.{fed, finished, is_finished, nothing_read, IsJudgementIn, is_open, line_ended, with_judged};
 
-use crate::cut::first_line;
 use crate::fault::{TraceError, TraceFault};
 use crate::line::{LONGEST_LINE, event_in};
 use crate::status::Status;
 use arrayvec::ArrayVec;
 use heap_theory::Event;
+use line_text::first_line;
 use std::alloc::Global;
 use std::collections::VecDeque;
 use std::marker::Model;
@@ -113,6 +113,14 @@ impl TraceReader {
         ensures range { IfSome result IsInRange }
     {
         self.events.pop_front()
+    }
+
+    /// The events that were read and not yet taken out, in their order.
+    pub fn events(&self) -> &VecDeque<Event>
+        ensures events { result.now.items ≡ self.now.events }
+        ensures range { All IsInRange result.now.items }
+    {
+        &self.events
     }
 
     // ends the unfinished line by these bytes and a newline.

@@ -1,3 +1,4 @@
+ghost use Rattle.heap_theory.specs.KindLaws.{GranuleIsOfItsKind};
 ghost use Rattle.heap_theory.specs.Laws.{
   EachCallKeepsSound,
   FirstHeapIsSound,
@@ -50,3 +51,11 @@ pub fn law_lowest_fresh()
     ensures first { LowestFreshIsFirst }
     ensures none { NoneIsFresh }
 {}
+
+/// Each granule of a sound heap is of the kind that its place in the layout and the state of its slot say: slack, a header, a granule of a
+/// live chunk or of a freed one, or a tail.
+pub fn law_kinds()
+    ensures { GranuleIsOfItsKind }
+{
+    laws_below();
+}

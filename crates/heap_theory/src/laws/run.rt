@@ -1,3 +1,4 @@
+ghost use Rattle.heap_theory.specs.AccessLaws.{AllAccessesAreAnswered, LoadIsAnswered, StoreIsAnswered, StoreIsDone};
 ghost use Rattle.heap_theory.specs.Laws.{
   AfterEveryRun,
   AsManyAnswersAsEvents,
@@ -36,6 +37,18 @@ pub fn law_run()
 pub fn law_faults()
     ensures { FaultsAreAnswered }
 {}
+
+/// A load or a store of one byte or more is answered by its access: unmapped exactly where the access is not mapped, a tag fault exactly
+/// where it is mapped and touches a granule whose tag differs from the pointer's, naming the lowest such granule, both tags and its kind;
+/// else it succeeds.
+pub fn law_accesses()
+    ensures load { LoadIsAnswered }
+    ensures store { StoreIsAnswered }
+    ensures done { StoreIsDone }
+    ensures trace { AllAccessesAreAnswered }
+{
+    laws_below();
+}
 
 /// Totals that are kept event by event are the counts and sums over all events.
 pub fn law_totals()

@@ -9,7 +9,7 @@ use Rattle.heap_theory.specs.State.{Heap}
 use Rattle.replay_core.specs.Inside.{stored}
 use Rattle.replay_core.specs.Shown.{AreNullOrTagged, over, shown, totals_in}
 use Rattle.replay_core.specs.Stored.{Stored, IsStored, stored_after}
-use Rattle.replay_core.proofs.LayoutStays.{layout_after}
+use Rattle.heap_theory.proofs.LayoutStays.{layout_after}
 use Rattle.replay_core.proofs.Reached.{null_or_tagged, IsStored-after, stored_in_parts, run_goes_on}
 use Rattle.replay_core.proofs.replay.Replay.step.Goals as goal
 

@@ -1,11 +1,10 @@
-//! The first whole line of a text.
 ghost use Rattle.std.specs.Prelude.{◌≡◌, ◌++◌, ◌∷◌, IfSome, IfNone};
 ghost use Rattle.line_text.specs.Lines.{IsLine};
 
 use memchr::memchr;
 
-// the bytes before the first newline and those behind it; none where there is no newline
-pub(crate) fn first_line(text: &[u8]) -> Option<(&[u8], &[u8])>
+/// The bytes before the first newline of a text and those after it; none where it has no newline.
+pub fn first_line(text: &[u8]) -> Option<(&[u8], &[u8])>
     ensures cut { IfSome result (λ pair. text.now ≡ pair.0.now ++ 10 ∷ pair.1.now) }
     ensures line { IfSome result (λ pair. IsLine pair.0.now) }
     ensures unfinished { IfNone result (IsLine text.now) }

@@ -1,0 +1,73 @@
+-- When each answer of an access is given, exactly.
+use Rattle.std.specs.Prelude.{◌≡◌, ◌≢◌, ◌↔◌, ℕ, ◌<◌, ℤ, List, ◌∷◌, ◌++◌, length, replicate, slice_get, Some, IsTrue}
+use Rattle.machine_theory.specs.Access.{IsMapped, IsTagFault, loaded, stored}
+use Rattle.machine_theory.specs.Address.{logical_tag, moved_by, Touches}
+use Rattle.machine_theory.specs.Memory.{tag_at}
+use Rattle.heap_theory.specs.declared.event.Event.{Event}
+use Rattle.heap_theory.specs.declared.event.Event.TheVariants.{Load, Store}
+use Rattle.heap_theory.specs.declared.place.PlaceKind.{PlaceKind}
+use Rattle.heap_theory.specs.Places.{place_kind}
+use Rattle.heap_theory.specs.Run.{Replay, Answer, variable, heap_after, answer_of, answers, replay_of}
+use Rattle.heap_theory.specs.Run.Answer.{Silent, Loaded, NotMapped, TagFault}
+use Rattle.heap_theory.specs.State.{Heap}
+use Rattle.heap_theory.specs.Totals.{is_tag_fault}
+
+-- The answer to an access of `len` bytes at an address: unmapped, a tag fault, or `done`, the answer where it succeeds.
+pub record IsAnswerTo (heap : Heap) (address len : ℕ) (done answer : Answer) : Type 0 where
+  -- It is unmapped exactly where the access is not mapped,
+  pub unmapped : (answer ≡ NotMapped) ↔ (IsMapped (length heap.memory) address len → ⊥)
+  -- and a tag fault exactly where it is mapped and touches a granule whose tag differs from the pointer's.
+  pub tag_fault : IsTrue (is_tag_fault answer) ↔
+      (IsMapped (length heap.memory) address len
+      × ((g : ℕ) × Touches address len g × (tag_at heap.memory g ≢ logical_tag address)))
+  -- A tag fault names the lowest such granule, both tags, and what that granule is to the heap.
+  pub names : (granule memory_tag pointer_tag : ℕ) (kind : PlaceKind) →
+      (answer ≡ TagFault granule memory_tag pointer_tag kind) ↔
+      (IsTagFault heap.memory address len granule memory_tag pointer_tag × (kind ≡ place_kind heap granule))
+  -- The access succeeds exactly where it is mapped and each granule that it touches has the pointer's tag.
+  pub succeeds : (answer ≡ done) ↔
+      (IsMapped (length heap.memory) address len
+      × ((g : ℕ) → Touches address len g → tag_at heap.memory g ≡ logical_tag address))
+
+-- ---- one event
+
+-- A load that succeeds answers the bytes that stand there,
+abbrev pub LoadIsAnswered : Type 0
+LoadIsAnswered =
+    (replay : Replay) (v : ℕ) (off : ℤ) (len : ℕ) → 0 < len → let address = moved_by (variable replay v) off in
+    let done = Loaded (loaded replay.heap.memory address len) in
+    IsAnswerTo replay.heap address len done (answer_of replay (Load v off len))
+
+-- and a store that succeeds is silent.
+abbrev pub StoreIsAnswered : Type 0
+StoreIsAnswered =
+    (replay : Replay) (v : ℕ) (off : ℤ) (len byte : ℕ) → 0 < len →
+    IsAnswerTo replay.heap (moved_by (variable replay v) off) len Silent (answer_of replay (Store v off len byte))
+
+-- A store leaves its bytes where it succeeds, and changes nothing where it does not.
+abbrev pub StoreIsDone : Type 0
+StoreIsDone =
+    (replay : Replay) (v : ℕ) (off : ℤ) (len byte : ℕ) →
+    let address = moved_by (variable replay v) off in
+    let answer = answer_of replay (Store v off len byte) in
+    let after = heap_after replay (Store v off len byte) in
+    (answer ≡ Silent → after ≡ record replay.heap { memory = stored replay.heap.memory address (replicate len byte) })
+    × (answer ≢ Silent → after ≡ replay.heap)
+
+-- ---- whole traces
+
+-- Each load and store among the events of a trace is answered so, by the replay that the events before it left.
+pub record AccessesAreAnswered (first : Replay) (events : List Event) : Type 0 where
+  pub loads : (before after : List Event) (v : ℕ) (off : ℤ) (len : ℕ) →
+      events ≡ before ++ Load v off len ∷ after → 0 < len →
+      let replay = replay_of first before in let address = moved_by (variable replay v) off in
+      (answer : Answer) × (slice_get (answers first events) (length before) ≡ Some answer)
+      × IsAnswerTo replay.heap address len (Loaded (loaded replay.heap.memory address len)) answer
+  pub stores : (before after : List Event) (v : ℕ) (off : ℤ) (len byte : ℕ) →
+      events ≡ before ++ Store v off len byte ∷ after → 0 < len →
+      let replay = replay_of first before in
+      (answer : Answer) × (slice_get (answers first events) (length before) ≡ Some answer)
+      × IsAnswerTo replay.heap (moved_by (variable replay v) off) len Silent answer
+
+abbrev pub AllAccessesAreAnswered : Type 0
+AllAccessesAreAnswered = (first : Replay) (events : List Event) → AccessesAreAnswered first events

@@ -1,0 +1,46 @@
+-- What a run loses by rounding requests up to their classes, against what its trace requests.
+use Rattle.std.specs.Prelude.{◌≡◌, ℕ, ◌≤◌, ◌&&◌, nat_le, List, count_by, sum_by, filter, filter_map, zip, All, IsSome}
+use Rattle.class_table.specs.Layout.{Partition}
+use Rattle.class_table.specs.Sizes.{largest_counted}
+use Rattle.class_table.specs.Tables.{class_for}
+use Rattle.heap_theory.specs.declared.event.Event.{Event}
+use Rattle.heap_theory.specs.Run.{Answer, answers, first_replay}
+use Rattle.heap_theory.specs.Totals.{request_size, is_request, is_refused, loss_of_size, totals_of}
+
+-- ---- what a trace requests
+
+-- The sizes that the events request, in bytes,
+abbrev pub requested_sizes : List Event → List ℕ
+requested_sizes events = filter_map request_size events
+
+-- and those of them that a class may serve.
+abbrev pub counted_sizes : List Event → List ℕ
+counted_sizes events = filter (λ n. nat_le n largest_counted) (requested_sizes events)
+
+-- The bytes lost by rounding requests of these sizes up to their classes.
+abbrev pub rounding_loss : List ℕ → List ℕ → ℕ
+rounding_loss classes sizes = sum_by (loss_of_size classes) sizes
+
+-- Each counted request has a class.
+abbrev pub ServesEach : List ℕ → List Event → Type 0
+ServesEach classes events = All (λ n. IsSome (class_for classes n)) (counted_sizes events)
+
+-- ---- what its run loses
+
+-- How many reallocs were refused for their pointer.
+abbrev pub refused_reallocs : List (Event × Answer) → ℕ
+refused_reallocs happened = count_by (λ p. is_request p.0 && is_refused p.1) happened
+
+-- No request is refused for want of a class. The bytes lost are at most those that rounding loses over the counted
+-- requests, and exactly those where no request was exhausted and no realloc was refused for its pointer.
+pub record LosesAtMostItsWaste (classes : List ℕ) (events : List Event) (happened : List (Event × Answer)) : Type 0 where
+  pub no_class : (totals_of classes happened).null_no_class ≡ 0
+  pub loss : (totals_of classes happened).loss ≤ rounding_loss classes (counted_sizes events)
+  pub all_loss : (totals_of classes happened).null_exhausted ≡ 0 → refused_reallocs happened ≡ 0 →
+      (totals_of classes happened).loss ≡ rounding_loss classes (counted_sizes events)
+
+-- So it is in every run over a new heap whose classes serve each counted request.
+abbrev pub ServedRunLosesItsWaste : Type 0
+ServedRunLosesItsWaste =
+    (layout : Partition) (seed quarantine : ℕ) (events : List Event) → ServesEach layout.classes events →
+    LosesAtMostItsWaste layout.classes events (zip events (answers (first_replay layout seed quarantine) events))

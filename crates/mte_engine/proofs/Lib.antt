@@ -1,0 +1,4 @@
+pub mod Answering
+pub mod Moves
+pub mod SheetAndProfile
+pub mod TableAndProfile

@@ -1,0 +1,26 @@
+use Rattle.std.proofs.Common.{◌≡◌, ◌≤◌, ◌++◌, length, take, arith}
+use Rattle.std.proofs.lemmas.List.{length-take, length-append}
+use Rattle.mte_engine.proofs.Moves.{consumes_more, piece_of}
+use Rattle.mte_engine.proofs.moving.read_all.Goals as goal
+
+pub loop-turn-preserved : goal.loop-turn-preserved
+loop-turn-preserved g c =
+    let inv = c.loop-turn.invariant.1 in
+    let bytes = c.loop-turn.invariant.0 in
+    let n = c.in-Ok.n in
+    let buffer = c.read.new.buf in
+    let piece = c.deref.result.now in
+    let same : take n piece ≡ take n buffer = piece_of n _ buffer _ piece (omega arith) c.deref.ensures.value in
+    let fits : n ≤ length buffer = c.in-Ok.ensures.bound in (
+      bytes ++ take n piece,
+      record {
+        taken = c.in_ok-take.ensures bytes inv.taken;
+        count = rw same (simp (length-append, length-take) (omega (arith, inv.count)));
+        short = omega (arith, inv.short);
+        read = rw same (consumes_more _ _ _ bytes (take n buffer) inv.read c.in-Ok.ensures.bytes.0);
+        failed = omega (arith, inv.failed, c.in-Ok.ensures.failed);
+        reads = λ few. omega (arith, inv.reads few, c.in-Ok.ensures.counted);
+        turns = omega (arith, inv.turns);
+        room = inv.room;
+      },
+    )

@@ -1,0 +1,26 @@
+use Rattle.std.proofs.Common.{◌≡◌, ◌≤◌, ◌<◌, ◌++◌, length, take, drop, ◌∙◌, arith}
+use Rattle.std.proofs.lemmas.List.{length-append, length-drop}
+use Rattle.mte_engine.specs.declared.streams.Failure.{Failure}
+use Rattle.mte_engine.proofs.Moves.{appends_more, first_ready, no_failure, written_more}
+use Rattle.mte_engine.proofs.moving.write_all.Goals as goal
+
+pub loop-sink-preserved : goal.loop-sink-preserved
+loop-sink-preserved g c =
+    let inv = c.loop-sink.invariant.1 in
+    let written = c.loop-sink.invariant.0 in
+    let ready = g.O.Output.ready c.loop-sink.output in
+    let rest = g.O.Output.rest c.loop-sink.output in
+    let n = c.in_ok-n.n in
+    let handed = c.piece-in-loop-sink.ensures.ready in
+    let first = c.piece-in-loop-sink.ensures.first in
+    let bound : n ≤ length ready = rw handed at c.in_ok-n.ensures.bound in
+    let some : 0 < n = omega arith in
+    let same : take n ready ≡ take n rest = first_ready rest ready first.0 n first.1 bound in
+    let bytes = rw (handed, same) at c.in_ok-n.ensures.bytes in (
+      written ++ take n rest,
+      record {
+        parts = written_more _ written rest _ n inv.parts c.advance.ensures;
+        taken = appends_more _ _ _ written (take n rest) inv.taken bytes;
+        failed = rw handed at c.in_ok-n.ensures.failed ∙ rw (no_failure Failure n (length ready) some bound, inv.failed) (omega arith);
+      },
+    )

@@ -1,0 +1,29 @@
+use Rattle.std.proofs.Common.{sym, ◌∙◌, ap, Ok}
+use Rattle.std.proofs.lemmas.Result.{err_from_is_err_and}
+use Rattle.mte_engine.proofs.TableAndProfile.{first_is_line, no_line, table_refused, profile_refused, both_read}
+use Rattle.mte_engine.proofs.scoring.score_of_text.Goals as goal
+
+pub returns-in_default : goal.returns-in_default
+returns-in_default c = no_line c.args.text.now (sym c.lines_in-lines.ensures ∙ c.in_default.ensures.steps.0)
+
+pub read_table-requires : goal.read_table-requires
+read_table-requires c = first_is_line c.law_lines.ensures.lines c.args.text.now _ _ (sym c.lines_in-lines.ensures ∙ c.in-Some.ensures.steps)
+
+pub returns-in_err-table : goal.returns-in_err-table
+returns-in_err-table c =
+    let p = err_from_is_err_and c.from_residual.result c.from_residual.ensures.1 in
+    let parts = sym c.lines_in-lines.ensures ∙ c.in-Some.ensures.steps in
+    rw (p.1, p.2) (table_refused c.args.text.now c.in-Some.line.now c.next.new.self c.in_err-table.field-0.0 parts c.in_err-table.ensures)
+
+pub returns-in_err-profile : goal.returns-in_err-profile
+returns-in_err-profile c =
+    let p = err_from_is_err_and c.from_residual-in_err-profile.result c.from_residual-in_err-profile.ensures.1 in
+    let parts = sym c.lines_in-lines.ensures ∙ c.in-Some.ensures.steps in
+    rw (p.1, p.2) (profile_refused c.args.text.now c.in-Some.line.now c.in_ok-table.table c.rest.result.now c.next.new.self c.in_err-profile.field-0.0
+    parts c.in_ok-table.ensures c.rest.ensures c.in_err-profile.ensures)
+
+pub returns : goal.returns
+returns c =
+    let parts = sym c.lines_in-lines.ensures ∙ c.in-Some.ensures.steps in
+    both_read c.args.text.now c.in-Some.line.now c.in_ok-table.table c.rest.result.now c.next.new.self c.in_ok-profile.profile
+    parts c.in_ok-table.ensures c.rest.ensures c.in_ok-profile.ensures ∙ ap Ok (sym c.in_ok-score_of_profile.ensures)

@@ -1,0 +1,41 @@
+-- What `check` answers: the verdict on the sheet in front of its input, for the profile behind it.
+use Rattle.std.specs.Prelude.{◌≡◌, ℕ, List, ◌++◌, codes, length, Result, Ok, Err}
+use Rattle.line_text.specs.Lines.{lines, ended}
+use Rattle.potential_check.specs.Leading.{leading_lines, lines_behind}
+use Rattle.potential_check.specs.SheetText.{sheet_of_lines}
+use Rattle.profile_count.specs.ProfileText.{profile_of_lines}
+use Rattle.tuner_theory.specs.Best.{IsBest}
+use Rattle.tuner_theory.specs.Sheets.{IsVerdict, Sheet}
+use Rattle.tuner_theory.specs.Shown.{shown_refusal}
+use Rattle.tuner_theory.specs.Waste.{Profile as Counted}
+use Rattle.tuner_theory.specs.declared.verdict.Verdict.{Verdict}
+use Rattle.tuner_theory.specs.declared.verdict.Verdict.TheVariants.{Optimal, Refused}
+use Rattle.mte_engine.specs.Outcome.{Answer}
+use Rattle.mte_engine.specs.Parts.{◌>>=◌, profile_part, sheet_part}
+use Rattle.mte_engine.specs.declared.engine.Status.TheVariants.{Done, No}
+use Rattle.mte_engine.specs.declared.fault.InputFault.{InputFault}
+
+-- `optimal`, or `refused CODE NAME` with the status of a no.
+abbrev pub verdict_text : Verdict → Answer
+verdict_text Optimal = record { text = ended (codes "optimal"); status = Done }
+verdict_text (Refused refusal) = record { text = ended (codes "refused " ++ shown_refusal refusal); status = No }
+
+-- The sheet that stands in front of these lines, and the profile behind it.
+unfoldable pub sheet_and_profile : List (List ℕ) → Result (Sheet × Counted) InputFault
+sheet_and_profile ls = do
+  sheet ← sheet_part (sheet_of_lines (leading_lines ls))
+  profile ← profile_part (length (leading_lines ls)) (profile_of_lines (lines_behind ls))
+  Ok (sheet, profile)
+
+-- The verdict on a sheet for a profile. `optimal` is written only where the sheet's table is a best one.
+pub record IsChecked (sheet : Sheet) (profile : Counted) (answer : Answer) : Type 0 where
+  pub verdict : Verdict
+  pub is_verdict : IsVerdict profile.counts sheet verdict
+  pub best : verdict ≡ Optimal → IsBest profile.counts sheet.step sheet.limit sheet.table
+  pub written : answer ≡ verdict_text verdict
+
+-- A sheet and then a profile; what is answered is the verdict, or the first fault of the two.
+abbrev pub CheckAnswers : List ℕ → Result Answer InputFault → Type 0
+CheckAnswers text (Ok answer) =
+    (parts : Sheet × Counted) × (sheet_and_profile (lines text) ≡ Ok parts) × IsChecked parts.0 parts.1 answer
+CheckAnswers text (Err fault) = sheet_and_profile (lines text) ≡ Err fault

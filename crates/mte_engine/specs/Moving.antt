@@ -1,0 +1,33 @@
+-- What the two loops of an engine have done: reading a whole input, and writing a whole text.
+use Rattle.std.specs.Prelude.{◌≡◌, ℕ, ◌+◌, ◌<◌, ◌≤◌, ◌^◌, List, ◌++◌, length, IfSome, Result, Ok, Err}
+use Rattle.std.specs.Io.KnownBytes.{Appends, Consumes, IsAtEnd}
+use Rattle.mte_engine.specs.Streams.{SinkState, SourceState}
+use Rattle.mte_engine.specs.declared.fault.ReadError.{ReadError}
+use Rattle.mte_engine.specs.declared.fault.ReadError.TheVariants.{OutOfMemory, TooLong, Failed}
+use Rattle.mte_engine.specs.declared.streams.Failure.{Failure}
+
+-- The most bytes of an input.
+abbrev pub most_input : ℕ
+most_input = 67108864
+
+-- How often a source is read at most: each read but the last two takes at least one byte.
+abbrev pub most_reads : ℕ
+most_reads = 67108866
+
+-- The source was read at most so often.
+abbrev pub IsReadFewTimes : SourceState → SourceState → Type 0
+IsReadFewTimes old new = old.reads < 2 ^ 62 → new.reads ≤ old.reads + most_reads
+
+-- All bytes that were to come were read, and taken by the input; or there are too many; or a read failed; or memory ran out.
+abbrev pub HasRead : (List ℕ → Type 0) → SourceState → SourceState → Result (Unit {0}) ReadError → Type 0
+HasRead has_taken old new (Ok done) =
+    (bytes : List ℕ) × has_taken bytes × (length bytes ≤ most_input) × Consumes old.remaining new.remaining bytes × IsAtEnd new.remaining × (new.failed ≡ old.failed)
+HasRead has_taken old new (Err OutOfMemory) = new.failed ≡ old.failed
+HasRead has_taken old new (Err TooLong) = IfSome old.remaining (λ all. most_input < length all) × (new.failed ≡ old.failed)
+HasRead has_taken old new (Err Failed) = new.failed ≡ old.failed + 1
+
+-- The sink took the whole text; or a prefix of it, and then a write failed.
+abbrev pub HasWritten : List ℕ → SinkState → SinkState → Result (Unit {0}) Failure → Type 0
+HasWritten text old new (Ok done) = Appends old.taken new.taken text × (new.failed ≡ old.failed)
+HasWritten text old new (Err failure) =
+    (written rest : List ℕ) × (text ≡ written ++ rest) × Appends old.taken new.taken written × (new.failed ≡ old.failed + 1)

@@ -1,0 +1,37 @@
+-- The parts of an input, each fault with its line in the input, which are counted from 1.
+use Rattle.std.specs.Prelude.{◌≡◌, ℕ, ◌+◌, List, Result, Ok, Err, ⊤}
+use Rattle.class_table.specs.declared.fault.TableError.{TableError}
+use Rattle.profile_count.specs.declared.fault.ProfileFault.{ProfileFault}
+use Rattle.tuner_theory.specs.Sheets.{Sheet}
+use Rattle.tuner_theory.specs.Waste.{Profile as Counted}
+use Rattle.mte_engine.specs.declared.fault.InputFault.{InputFault}
+use Rattle.mte_engine.specs.declared.fault.InputFault.TheVariants.{Table, BadSheet, Profile}
+use Rattle.mte_engine.specs.declared.fault.AnswerError.{AnswerError}
+use Rattle.mte_engine.specs.declared.fault.AnswerError.TheVariants.{OutOfMemory, Input}
+
+-- One part after the other: the first fault is the fault of the whole.
+infixl 10 ◌>>=◌
+abbrev pub ◌>>=◌ : {A B : Type 0} → Result A InputFault → (A → Result B InputFault) → Result B InputFault
+(Ok part) >>= rest = rest part
+(Err fault) >>= rest = Err fault
+
+-- A class line, which is the first line of its input.
+abbrev pub table_part : Result (List ℕ) TableError → Result (List ℕ) InputFault
+table_part (Ok table) = Ok table
+table_part (Err fault) = Err (Table fault)
+
+-- A sheet, which begins with the first line of its input.
+abbrev pub sheet_part : Result Sheet ℕ → Result Sheet InputFault
+sheet_part (Ok s) = Ok s
+sheet_part (Err number) = Err (BadSheet number)
+
+-- A profile that comes after so many lines of its input.
+abbrev pub profile_part : ℕ → Result Counted (ℕ × ProfileFault) → Result Counted InputFault
+profile_part lines (Ok profile) = Ok profile
+profile_part lines (Err fault) = Err (Profile (lines + fault.0) fault.1)
+
+-- What the code read is this part, unless memory ran out.
+abbrev pub GivesPart : {A : Type 0} → Result A AnswerError → Result A InputFault → Type 0
+GivesPart (Ok x) part = part ≡ Ok x
+GivesPart (Err OutOfMemory) part = ⊤
+GivesPart (Err (Input fault)) part = part ≡ Err fault

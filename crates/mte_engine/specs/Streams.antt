@@ -1,0 +1,23 @@
+-- What a source and a sink show of themselves, and which of their calls count as failed.
+use Rattle.std.specs.Prelude.{ℕ, zero, suc, List, Option, Result, Ok, Err}
+
+pub record SourceState : Type 0 where
+  pub remaining : Option (List ℕ)  -- the bytes that are still to come, where they are known
+  pub reads : ℕ  -- how often it was read, counted up to 2^63
+  pub failed : ℕ  -- how many reads failed
+
+pub record SinkState : Type 0 where
+  pub taken : Option (List ℕ)  -- the bytes taken so far, where they are known
+  pub failed : ℕ  -- how many writes failed
+
+-- How many calls a read adds to those that failed,
+abbrev pub failed_reads : {E : Type 0} → Result ℕ E → ℕ
+failed_reads (Ok n) = 0
+failed_reads (Err e) = 1
+
+-- and a write of so many bytes, which fails also where it takes none of them.
+abbrev pub failed_writes : {E : Type 0} → Result ℕ E → ℕ → ℕ
+failed_writes (Ok n) zero = 0
+failed_writes (Ok zero) (suc len) = 1
+failed_writes (Ok (suc n)) (suc len) = 0
+failed_writes (Err e) len = 1

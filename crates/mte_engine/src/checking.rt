@@ -1,0 +1,72 @@
+//! `check`: the verdict on a sheet, whoever wrote it.
+ghost use Rattle.std.specs.Prelude.{◌≡◌, Err, IfOk};
+ghost use Rattle.mte_engine.specs.Check.{CheckAnswers, verdict_text};
+ghost use Rattle.mte_engine.specs.Outcome.{GivesAnswer, IsReady, Runs};
+
+use crate::engine::{Engine, Status, run_engine};
+use crate::fault::{AnswerError, ToolFault};
+use crate::input::WholeText;
+use crate::output::Text;
+use crate::parts::{read_leading, read_profile};
+use crate::streams::{ByteSink, ByteSource};
+use potential_check::{Verdict, check as verdict_on};
+use std::alloc::{AllocError, Global};
+
+/// Reads a sheet and then a profile, and writes `optimal`, or `refused CODE NAME` with the status of a no: the first refusal (39 to 47) that the
+/// sheet gets for the profile. Where it writes `optimal`, no table of at most the sheet's limit of classes that fit its step wastes less.
+/// The sheet is the first three lines, or four where the third begins with `step`, and all directly behind them whose first word is `row`.
+/// Faults: an input that is too long, then the sheet's, then the profile's (`Input`); a read that fails (`ReadFault`);
+/// memory that is refused (`OutOfMemory`): after these no call of the sink was made. A write that fails or takes nothing (`WriteFault`):
+/// then the sink took a front of the text.
+pub fn check<R: ByteSource, W: ByteSink>(
+    alloc: Global,
+    source: &mut R,
+    sink: &mut W,
+) -> Result<Status, ToolFault>
+    requires { IsReady (R.state source.old) (W.state sink.old) }
+    ensures { Runs CheckAnswers (R.state source.old) (R.state source.new) W.state sink.old sink.new result }
+{
+    run_engine(alloc, &CheckEngine, source, sink)
+}
+
+struct CheckEngine;
+
+impl Engine for CheckEngine {
+    type Input = WholeText;
+
+    type Output = Text;
+
+    ghost answers = { λ _. CheckAnswers };
+
+    fn input(&self, alloc: Global) -> Result<WholeText, AllocError> {
+        Ok(WholeText::new(alloc))
+    }
+
+    fn answer(&self, alloc: Global, input: WholeText) -> Result<(Text, Status), AnswerError> {
+        let (text, status) = check_text(alloc, &input.text)?;
+        Ok((Text::new(text), status))
+    }
+}
+
+// the answer to a text
+fn check_text(alloc: Global, text: &[u8]) -> Result<(Vec<u8>, Status), AnswerError>
+    ensures { GivesAnswer (λ written. written.items) (CheckAnswers text.now) result }
+{
+    let leading = read_leading(alloc, text)?;
+    let profile = read_profile(alloc, leading.rest, leading.lines)?;
+    let verdict = verdict_on(alloc, &profile, &leading.sheet)?;
+    Ok(answer_for(alloc, verdict)?)
+}
+
+// what is written of a verdict
+fn answer_for(alloc: Global, verdict: Verdict) -> Result<(Vec<u8>, Status), AllocError>
+    ensures { IfOk result (λ answered. record { text = answered.0.items; status = answered.1 } ≡ verdict_text verdict) }
+{
+    match verdict {
+        Verdict::Optimal => Ok((Vec::from_slice(alloc, b"optimal\n")?, Status::Done)),
+        Verdict::Refused(refusal) => Ok((
+            format!(in alloc; "refused {refusal}\n")?.into_bytes(),
+            Status::No,
+        )),
+    }
+}

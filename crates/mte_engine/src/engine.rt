@@ -1,0 +1,60 @@
+//! An engine reads a whole input, answers it, and then writes the answer.
+ghost use Rattle.std.specs.Prelude.{[], IfOk, List, ℕ, Result};
+ghost use Rattle.mte_engine.specs.declared.fault.InputFault.{InputFault as Refusal};
+ghost use Rattle.mte_engine.specs.Outcome.{Answer, GivesAnswer, IsReady, Runs};
+
+use crate::fault::{AnswerError, ToolFault};
+use crate::input::Input;
+use crate::moving::{read_all, write_all};
+use crate::output::Output;
+use crate::streams::{ByteSink, ByteSource};
+use std::alloc::{AllocError, Global};
+
+/// How an engine ended that wrote its whole text.
+#[derive(Debug, Clone, Copy, PartialEq, Eq)]
+pub enum Status {
+    /// It is done.
+    Done,
+    /// It is done, and the verdict is no.
+    No,
+}
+
+/// The part of an engine between its source and its sink.
+pub trait Engine {
+    type Input: Input;
+
+    type Output: Output;
+
+    // What may be written for an input, with its status, or reported as its first fault.
+    ghost answers: { Self → List ℕ → Result Answer Refusal → Type 0 };
+
+    /// An input that has taken nothing yet.
+    fn input(&self, alloc: Global) -> Result<Self::Input, AllocError>
+        ensures { IfOk result (λ input. Self.Input.has_taken input []) };
+
+    /// The answer to the whole input, or its first fault. Nothing is allocated after this call.
+    fn answer(
+        &self,
+        alloc: Global,
+        input: Self::Input,
+    ) -> Result<(Self::Output, Status), AnswerError>
+        ensures { (bytes : List ℕ) → Self.Input.has_taken input bytes →
+            GivesAnswer Self.Output.rest (answers self.now bytes) result };
+}
+
+/// Reads the whole input, and writes the engine's answer to it and nothing else.
+pub fn run_engine<E: Engine, R: ByteSource, W: ByteSink>(
+    alloc: Global,
+    engine: &E,
+    source: &mut R,
+    sink: &mut W,
+) -> Result<Status, ToolFault>
+    requires { IsReady (R.state source.old) (W.state sink.old) }
+    ensures { Runs (E.answers engine.now) (R.state source.old) (R.state source.new) W.state sink.old sink.new result }
+{
+    let mut input = engine.input(alloc)?;
+    read_all(alloc, source, &mut input)?;
+    let (mut output, status) = engine.answer(alloc, input)?;
+    write_all(&mut output, sink)?;
+    Ok(status)
+}

@@ -1,0 +1,133 @@
+ghost use Rattle.std.specs.Prelude.{◌≡◌};
+ghost use Rattle.mte_engine.specs.Outcome.{fault_of_answer, fault_of_read};
+ghost use Rattle.mte_engine.specs.declared.fault.AnswerError.TheVariants.{OutOfMemory as NoMemoryToAnswer};
+ghost use Rattle.mte_engine.specs.declared.fault.ReadError.TheVariants.{OutOfMemory as NoMemoryToRead};
+ghost use Rattle.mte_engine.specs.declared.fault.ToolFault.TheVariants.{OutOfMemory, WriteFault};
+
+use crate::streams::Failure;
+use class_table::TableError;
+use profile_count::ProfileFault;
+use std::alloc::{AllocError, AllocFailed};
+use thiserror::Error;
+use trace_reader::TraceFault;
+
+/// What is wrong with the bytes of an input. Each is shown as its code and name, and its line where it has one; lines are counted from
+/// the input's first line, which is 1.
+#[derive(Debug, Clone, Copy, PartialEq, Eq, Error)]
+pub enum InputFault {
+    /// There are more than 67,108,864 bytes. It comes before every fault of the text.
+    #[error("80 InputTooLong")]
+    TooLong,
+    /// The class line, which is the first line, is faulty.
+    #[error("{0} line 1")]
+    Table(TableError),
+    /// A line of the sheet is faulty or missing.
+    #[error("48 BadSheet line {0}")]
+    BadSheet(u64),
+    /// A line of the profile is faulty.
+    #[error("{1} line {0}")]
+    Profile(u64, ProfileFault),
+    /// A line of the trace is faulty.
+    #[error("{1} line {0}")]
+    Trace(u64, TraceFault),
+}
+
+/// Why an engine did not finish. Each is shown as its code and name, and its line where it has one.
+#[derive(Debug, Clone, Copy, PartialEq, Eq, Error)]
+pub enum ToolFault {
+    /// The allocator refused memory.
+    #[error("1 OutOfMemory")]
+    OutOfMemory,
+    /// The input is refused.
+    #[error("{0}")]
+    Input(InputFault),
+    /// A read failed.
+    #[error("81 ReadFault")]
+    ReadFault,
+    /// A write failed, or took no byte.
+    #[error("82 WriteFault")]
+    WriteFault,
+}
+
+/// Why the reading loop did not come to the end of an input.
+#[derive(Debug, Clone, Copy, PartialEq, Eq)]
+pub enum ReadError {
+    /// The allocator refused memory.
+    OutOfMemory,
+    /// There are more bytes than an input may have.
+    TooLong,
+    /// A read failed.
+    Failed,
+}
+
+/// Why an input has no answer.
+#[derive(Debug, Clone, Copy, PartialEq, Eq)]
+pub enum AnswerError {
+    /// The allocator refused memory.
+    OutOfMemory,
+    /// The input is refused.
+    Input(InputFault),
+}
+
+impl From<AllocError> for ToolFault {
+    ghost from_gives = { λ _ fault. fault ≡ OutOfMemory };
+
+    fn from(_error: AllocError) -> ToolFault {
+        ToolFault::OutOfMemory
+    }
+}
+
+impl From<ReadError> for ToolFault {
+    ghost from_gives = { λ error fault. fault ≡ fault_of_read error };
+
+    fn from(error: ReadError) -> ToolFault {
+        match error {
+            ReadError::OutOfMemory => ToolFault::OutOfMemory,
+            ReadError::TooLong => ToolFault::Input(InputFault::TooLong),
+            ReadError::Failed => ToolFault::ReadFault,
+        }
+    }
+}
+
+impl From<AnswerError> for ToolFault {
+    ghost from_gives = { λ error fault. fault ≡ fault_of_answer error };
+
+    fn from(error: AnswerError) -> ToolFault {
+        match error {
+            AnswerError::OutOfMemory => ToolFault::OutOfMemory,
+            AnswerError::Input(fault) => ToolFault::Input(fault),
+        }
+    }
+}
+
+impl From<Failure> for ToolFault {
+    ghost from_gives = { λ _ fault. fault ≡ WriteFault };
+
+    fn from(_failure: Failure) -> ToolFault {
+        ToolFault::WriteFault
+    }
+}
+
+impl From<AllocError> for ReadError {
+    ghost from_gives = { λ _ error. error ≡ NoMemoryToRead };
+
+    fn from(_error: AllocError) -> ReadError {
+        ReadError::OutOfMemory
+    }
+}
+
+impl From<AllocError> for AnswerError {
+    ghost from_gives = { λ _ error. error ≡ NoMemoryToAnswer };
+
+    fn from(_error: AllocError) -> AnswerError {
+        AnswerError::OutOfMemory
+    }
+}
+
+impl<T: Drop> From<AllocFailed<T>> for AnswerError {
+    ghost from_gives = { λ _ error. error ≡ NoMemoryToAnswer };
+
+    fn from(_error: AllocFailed<T>) -> AnswerError {
+        AnswerError::OutOfMemory
+    }
+}

@@ -1,0 +1,67 @@
+//! The two loops of an engine: reading a whole input, and writing a whole text.
+ghost use Rattle.std.specs.Prelude.{◌≡◌, ◌^◌, ◌<◌, [], IfOk, vec_len};
+ghost use Rattle.mte_engine.specs.Moving.{HasRead, HasWritten, IsReadFewTimes};
+
+use crate::fault::ReadError;
+use crate::input::Input;
+use crate::output::Output;
+use crate::streams::{ByteSink, ByteSource, Failure};
+use std::alloc::{AllocError, Global};
+
+/// The most bytes of an input.
+pub const MOST_INPUT: usize = 67_108_864;
+
+// how many bytes a read is asked for
+const PIECE: usize = 65_536;
+
+/// Hands all bytes of the source to the input; there may be 67,108,864. Each turn takes at least one byte, ends or fails, so a source that
+/// never ends is refused too.
+pub fn read_all<R: ByteSource, I: Input>(
+    alloc: Global,
+    source: &mut R,
+    input: &mut I,
+) -> Result<(), ReadError>
+    requires source { (R.state source.old).failed < 2 ^ 63 }
+    requires input { I.has_taken input.old [] }
+    ensures read { HasRead (I.has_taken input.new) (R.state source.old) (R.state source.new) result }
+    ensures few { IsReadFewTimes (R.state source.old) (R.state source.new) }
+{
+    let mut piece = new_piece(alloc)?;
+    let mut taken = 0;
+    for _turn in 0..MOST_INPUT + 1 {
+        let Ok(n) = source.read(&mut piece) else {
+            return Err(ReadError::Failed);
+        };
+        if n == 0 {
+            return Ok(());
+        }
+        if n > MOST_INPUT - taken {
+            return Err(ReadError::TooLong);
+        }
+        input.take(&piece[..n])?;
+        taken += n;
+    }
+    Err(ReadError::TooLong)
+}
+
+// room for a piece of the input
+fn new_piece(alloc: Global) -> Result<Vec<u8>, AllocError>
+    ensures { IfOk result (λ piece. vec_len piece ≡ 65536) }
+{
+    vec![in alloc; 0u8; PIECE]
+}
+
+/// Writes all that the output hands out. It takes no memory.
+pub fn write_all<O: Output, W: ByteSink>(output: &mut O, sink: &mut W) -> Result<(), Failure>
+    requires { (W.state sink.old).failed < 2 ^ 63 }
+    ensures { HasWritten (O.rest output.old) (W.state sink.old) (W.state sink.new) result }
+{
+    while !output.piece().is_empty() {
+        let n = sink.write(output.piece())?;
+        if n == 0 {
+            return Err(Failure);
+        }
+        output.advance(n);
+    }
+    Ok(())
+}

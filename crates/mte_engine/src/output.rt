@@ -1,0 +1,53 @@
+//! What an engine writes, handed out in pieces.
+ghost use Rattle.std.specs.Prelude.{◌≡◌, ◌≤◌, ◌++◌, List, ℕ, [], drop, length};
+
+/// Hands out a text in pieces. It takes no memory.
+pub trait Output: Drop {
+    // All bytes that are still to come, and the first of them that are ready.
+    ghost rest: { Self → List ℕ };
+
+    ghost ready: { Self → List ℕ };
+
+    /// The bytes that are ready to be written, at least one where any are still to come.
+    fn piece(&self) -> &[u8]
+        ensures ready { result.now ≡ ready self.now }
+        ensures first { (later : List ℕ) × (rest self.now ≡ ready self.now ++ later) }
+        ensures some { ready self.now ≡ [] → rest self.now ≡ [] };
+
+    /// Leaves out the first `n` of the bytes that are ready: they were written.
+    fn advance(&mut self, n: usize)
+        requires { n ≤ length (ready self.old) }
+        ensures { rest self.new ≡ drop n (rest self.old) };
+}
+
+/// A text that stands in memory.
+#[derive(Debug, Drop)]
+pub struct Text {
+    text: Vec<u8>,
+    written: usize,
+    ghost in_text: { written ≤ length text.items },
+}
+
+impl Text {
+    /// The whole of this text.
+    pub fn new(text: Vec<u8>) -> Text
+        ensures text { result.text.items ≡ text.items }
+        ensures whole { result.written ≡ 0 }
+    {
+        Text { text, written: 0 }
+    }
+}
+
+impl Output for Text {
+    ghost rest = { λ output. drop output.written output.text.items };
+
+    ghost ready = { λ output. drop output.written output.text.items };
+
+    fn piece(&self) -> &[u8] {
+        &self.text[self.written..]
+    }
+
+    fn advance(&mut self, n: usize) {
+        self.written += n;
+    }
+}

@@ -1,0 +1,98 @@
+//! `score`: what a table wastes on a profile.
+ghost use Rattle.std.specs.Prelude.{◌≡◌, ◌++◌, ◌∷◌, [], Err, IfOk};
+ghost use Rattle.std.specs.Fmt.{decimal};
+ghost use Rattle.mte_engine.specs.Outcome.{GivesAnswer, IsReady, Runs};
+ghost use Rattle.mte_engine.specs.Score.{ScoreAnswers, scored};
+
+use crate::engine::{Engine, Status, run_engine};
+use crate::fault::{AnswerError, InputFault, ToolFault};
+use crate::input::WholeText;
+use crate::output::Text;
+use crate::parts::{read_profile, read_table};
+use crate::streams::{ByteSink, ByteSource};
+use class_table::{ClassTable, TableError};
+use itoa::Buffer;
+use line_text::laws::law_lines;
+use line_text::lines_in;
+use profile_count::Profile;
+use std::alloc::{AllocError, Global};
+
+/// Reads a class line and then a profile, and writes `waste W`, the bytes that the table loses by rounding the requests up,
+/// or `not serving N` with the status of a no, where N is the least counted size that has no class.
+/// Faults: an input that is too long, then the class line's, then the profile's (`Input`); a read that fails (`ReadFault`);
+/// memory that is refused (`OutOfMemory`): after these no call of the sink was made. A write that fails or takes nothing (`WriteFault`):
+/// then the sink took a front of the text.
+pub fn score<R: ByteSource, W: ByteSink>(
+    alloc: Global,
+    source: &mut R,
+    sink: &mut W,
+) -> Result<Status, ToolFault>
+    requires { IsReady (R.state source.old) (W.state sink.old) }
+    ensures { Runs ScoreAnswers (R.state source.old) (R.state source.new) W.state sink.old sink.new result }
+{
+    run_engine(alloc, &ScoreEngine, source, sink)
+}
+
+struct ScoreEngine;
+
+impl Engine for ScoreEngine {
+    type Input = WholeText;
+
+    type Output = Text;
+
+    ghost answers = { λ _. ScoreAnswers };
+
+    fn input(&self, alloc: Global) -> Result<WholeText, AllocError> {
+        Ok(WholeText::new(alloc))
+    }
+
+    fn answer(&self, alloc: Global, input: WholeText) -> Result<(Text, Status), AnswerError> {
+        let (text, status) = score_of_text(alloc, &input.text)?;
+        Ok((Text::new(text), status))
+    }
+}
+
+// the answer to a text
+fn score_of_text(alloc: Global, text: &[u8]) -> Result<(Vec<u8>, Status), AnswerError>
+    ensures { GivesAnswer (λ written. written.items) (ScoreAnswers text.now) result }
+{
+    law_lines();
+    let mut lines = lines_in(text);
+    let Some(line) = lines.next() else {
+        return Err(AnswerError::Input(InputFault::Table(TableError::BadLine)));
+    };
+    let table = read_table(line)?;
+    let profile = read_profile(alloc, lines.rest(), 1)?;
+    Ok(score_of_profile(alloc, &table, &profile)?)
+}
+
+// the answer to a table and a profile
+fn score_of_profile(
+    alloc: Global,
+    table: &ClassTable,
+    profile: &Profile,
+) -> Result<(Vec<u8>, Status), AllocError>
+    ensures { IfOk result (λ answered. record { text = answered.0.items; status = answered.1 } ≡ scored table.now profile.now) }
+{
+    match profile.unserved(table) {
+        Some(size) => Ok((
+            numbered_line(alloc, b"not serving ", u64::from(size))?,
+            Status::No,
+        )),
+        None => Ok((
+            numbered_line(alloc, b"waste ", profile.waste(table))?,
+            Status::Done,
+        )),
+    }
+}
+
+// the line of these words and a number, with its newline
+fn numbered_line(alloc: Global, words: &[u8], number: u64) -> Result<Vec<u8>, AllocError>
+    ensures { IfOk result (λ text. text.items ≡ words.now ++ decimal number ++ 10 ∷ []) }
+{
+    let mut buffer = Buffer::new();
+    let mut text = Vec::from_slice(alloc, words)?;
+    text.extend_from_slice(buffer.format(number).as_bytes())?;
+    text.push(b'\n')?;
+    Ok(text)
+}

@@ -1,0 +1,81 @@
+//! `tune`: the class table of least waste for a profile, with its certificate.
+ghost use Rattle.std.specs.Prelude.{◌≡◌, ◌≤◌, Err, IfOk};
+ghost use Rattle.class_table.specs.Steps.{IsStep};
+ghost use Rattle.mte_engine.specs.Outcome.{GivesAnswer, IsReady, Runs};
+ghost use Rattle.mte_engine.specs.Tune.{TuneAnswers};
+
+use crate::engine::{Engine, Status, run_engine};
+use crate::fault::{AnswerError, ToolFault};
+use crate::input::WholeText;
+use crate::output::Text;
+use crate::parts::read_profile;
+use crate::streams::{ByteSink, ByteSource};
+use class_tuner::tune as tuned;
+use potential_check::write_sheet;
+use std::alloc::{AllocError, Global};
+
+/// Reads a profile, and writes the sheet of its table of least waste: of the tables of at most `limit` (1 to 32) classes that are multiples of
+/// `step` (1, 2, 4 or 8 granules) and serve each counted size, the canonical best one, with the least rests as its certificate.
+/// Faults: an input that is too long, then the profile's (`Input`); a read that fails (`ReadFault`); memory that is refused (`OutOfMemory`):
+/// after these no call of the sink was made. A write that fails or takes nothing (`WriteFault`): then the sink took a front of the text.
+pub fn tune<R: ByteSource, W: ByteSink>(
+    alloc: Global,
+    limit: u8,
+    step: u8,
+    source: &mut R,
+    sink: &mut W,
+) -> Result<Status, ToolFault>
+    requires some { 1 ≤ limit }
+    requires few { limit ≤ 32 }
+    requires step { IsStep step }
+    requires ready { IsReady (R.state source.old) (W.state sink.old) }
+    ensures { Runs (TuneAnswers limit step) (R.state source.old) (R.state source.new) W.state sink.old sink.new result }
+{
+    run_engine(alloc, &TuneEngine { limit, step }, source, sink)
+}
+
+// the options of `tune`
+#[derive(Drop)]
+struct TuneEngine {
+    limit: u8,
+    step: u8,
+    ghost some: { 1 ≤ limit },
+    ghost few: { limit ≤ 32 },
+    ghost is_step: { IsStep step },
+}
+
+impl Engine for TuneEngine {
+    type Input = WholeText;
+
+    type Output = Text;
+
+    ghost answers = { λ e. TuneAnswers e.limit e.step };
+
+    fn input(&self, alloc: Global) -> Result<WholeText, AllocError> {
+        Ok(WholeText::new(alloc))
+    }
+
+    fn answer(&self, alloc: Global, input: WholeText) -> Result<(Text, Status), AnswerError> {
+        let (text, status) = tune_text(alloc, self.limit, self.step, &input.text)?;
+        Ok((Text::new(text), status))
+    }
+}
+
+// the answer to a text
+fn tune_text(
+    alloc: Global,
+    limit: u8,
+    step: u8,
+    text: &[u8],
+) -> Result<(Vec<u8>, Status), AnswerError>
+    requires some { 1 ≤ limit }
+    requires few { limit ≤ 32 }
+    requires step { IsStep step }
+    ensures { GivesAnswer (λ written. written.items) (TuneAnswers limit step text.now) result }
+{
+    let profile = read_profile(alloc, text, 0)?;
+    let tuned = tuned(alloc, &profile, limit, step)?;
+    let mut written = Vec::new(alloc);
+    write_sheet(tuned.sheet(), &mut written)?;
+    Ok((written, Status::Done))
+}

@@ -1,0 +1,152 @@
+-- What a class table wastes on the profile of requests is what the requests lose one by one.
+use Rattle.std.proofs.Common.{◌≡◌, ◌↔◌, ℕ, zero, suc, ◌+◌, ◌*◌, ◌<◌, ◌≤◌, Bool, true, false, List, [], ◌∷◌, length, get_or, cond, not, eqb, leb, ltb, Option, Some, None, refl, sym, ap, ◌∙◌, arith, inl, inr, ne_eqb}
+use Rattle.std.specs.Prelude.{All, IsSome, filter, sum_by, unwrap_or}
+use Rattle.std.specs.Option.{option_map_or}
+use Rattle.std.proofs.lemmas.Bool.{cases_eq, cases_lt, eq-eqb, leb-true, le-leb, le-ltb, lt-leb, lt-ltb, ltb-true, ltb-false}
+use Rattle.std.proofs.lemmas.List.Elements.{All-from_get_or, All-head, All-tail, filter_agree, filter_passes}
+use Rattle.std.proofs.lemmas.List.Filters.{sum_by-filter_both}
+use Rattle.std.proofs.lemmas.List.Sums.{count_by-le-length, get_or-le-sum_by, sum_by-cons}
+use Rattle.class_table.specs.Sizes.{largest_counted, loss_of}
+use Rattle.class_table.specs.Tables.{class_for}
+use Rattle.tuner_theory.specs.Waste.{IsProfile, Serves, most_counted, sum_below, waste_at, waste_of}
+use Rattle.tuner_theory.proofs.Sums.{sum_none, sum_same, sum_split}
+use Rattle.profile_count.specs.Requests.{profile_of_sizes, requests_below, requests_of}
+use Rattle.profile_count.specs.RequestLosses.{counted_requests, lost_on}
+use Rattle.profile_count.proofs.CountedRequests.{get_or-requests_below, length-requests_below}
+
+-- ---- a sum over sizes as a sum over requests
+
+-- 1 where a request of this size is one of n bytes, 0 elsewhere: the number that it adds to the requests of n bytes
+abbrev adds_to : ℕ → ℕ → ℕ
+adds_to n size = cond (eqb size n) 1 0
+
+-- f at the size of one request, and 0 at each other
+of_size : (ℕ → ℕ) → ℕ → ℕ → ℕ
+of_size f size n = adds_to n size * f n
+
+of_size-other : (f : ℕ → ℕ) (size k : ℕ) → k ≤ size → sum_below (of_size f size) k ≡ 0
+unfolding of_size
+of_size-other f size k past = sum_none (of_size f size) k (λ n below. rw (ne_eqb size n (λ same. omega arith)) (omega arith))
+
+of_size-same : (f : ℕ → ℕ) (size k : ℕ) → size < k → sum_below (of_size f size) k ≡ f size
+unfolding of_size sum_below
+of_size-same f size zero within = absurd (omega arith)
+of_size-same f size (suc k) within = elim (cases_lt size k) [
+  | inl below ↦ rw (of_size-same f size k below, ne_eqb size k (λ same. omega arith)) (omega arith)
+  | inr last ↦
+      let same : size ≡ k = omega arith in
+      rw (of_size-other f size k last, eq-eqb size k same, same) (omega arith)
+]
+
+-- one more request adds f at its size
+one_more_of : (f : ℕ → ℕ) (size : ℕ) (sizes : List ℕ) (n : ℕ)
+    → requests_of (size ∷ sizes) n * f n ≡ of_size f size n + requests_of sizes n * f n
+unfolding of_size
+one_more_of f size sizes n = rw (sum_by-cons (adds_to n) size sizes) (omega arith)
+
+-- The sum over the sizes below k, each as often as it was requested, is the sum over the requests below k.
+sum-requests_of : (f : ℕ → ℕ) (k : ℕ) (sizes : List ℕ)
+    → sum_below (λ n. requests_of sizes n * f n) k ≡ sum_by f (filter (λ n. ltb n k) sizes)
+sum-requests_of f k [] = sum_none (λ n. requests_of [] n * f n) k (λ n below. omega arith)
+sum-requests_of f k (size ∷ sizes) =
+    sum_split (λ n. requests_of (size ∷ sizes) n * f n) (of_size f size) (λ n. requests_of sizes n * f n) k
+    (λ n below. one_more_of f size sizes n)
+    ∙ go (ltb size k) refl (sum-requests_of f k sizes)
+  where
+    go : (b : Bool) → ltb size k ≡ b → sum_below (λ n. requests_of sizes n * f n) k ≡ sum_by f (filter (λ n. ltb n k) sizes)
+        → sum_below (of_size f size) k + sum_below (λ n. requests_of sizes n * f n) k ≡ sum_by f (filter (λ n. ltb n k) (size ∷ sizes))
+    go true e rest = rw (e, of_size-same f size k (ltb-true size k e), rest) (sym (sum_by-cons f size (filter (λ n. ltb n k) sizes)))
+    go false e rest = rw (e, of_size-other f size k (ltb-false size k e), rest) (omega arith)
+
+-- ---- the waste
+
+loss_in : (n : ℕ) (class : Option ℕ) → loss_of n (unwrap_or class 0) ≡ option_map_or (loss_of n) class 0
+loss_in n None = omega arith
+loss_in n (Some class) = refl
+
+ltb-suc : (n k : ℕ) → ltb n (k + 1) ≡ leb n k
+ltb-suc n k = elim (cases_lt n (k + 1)) [
+  | inl below ↦ lt-ltb n (k + 1) below ∙ sym (le-leb n k (omega arith))
+  | inr past ↦ le-ltb n (k + 1) past ∙ sym (lt-leb n k (omega arith))
+]
+
+waste_of-requests_below : (top : ℕ) (sizes classes : List ℕ)
+    → waste_of (requests_below (top + 1) sizes) classes ≡ sum_by (lost_on classes) (filter (λ n. leb n top) sizes)
+waste_of-requests_below top sizes classes =
+    let counts = requests_below (top + 1) sizes in
+    ap (sum_below (waste_at counts classes)) (length-requests_below (top + 1) sizes)
+    ∙ sum_same (waste_at counts classes) (λ n. requests_of sizes n * lost_on classes n) (top + 1)
+    (λ n below. rw (get_or-requests_below (top + 1) sizes n below, loss_in n (class_for classes n)) refl)
+    ∙ sum-requests_of (lost_on classes) (top + 1) sizes
+    ∙ ap (sum_by (lost_on classes)) (filter_agree (λ n. ltb n (top + 1)) (λ n. leb n top) (λ n. ltb-suc n top) sizes)
+
+-- The waste is the sum of what the counted requests lose.
+pub waste_of-profile_of_sizes : (sizes classes : List ℕ)
+    → waste_of (profile_of_sizes sizes).counts classes ≡ sum_by (lost_on classes) (counted_requests sizes)
+waste_of-profile_of_sizes = waste_of-requests_below largest_counted
+
+-- ---- serving
+
+-- each of the requests that pass a test has been requested
+requests_of-passing : (p : ℕ → Bool) (sizes : List ℕ) (i : ℕ)
+    → i < length (filter p sizes) → 0 < requests_of sizes (get_or (filter p sizes) i 0)
+requests_of-passing p sizes i within =
+    let size = get_or (filter p sizes) i 0 in
+    let here : adds_to size size ≡ 1 = rw (eq-eqb size size refl) refl in
+    let among = get_or-le-sum_by (adds_to size) (filter p sizes) i 0 within in
+    omega (arith, here, among, sum_by-filter_both p (λ s. not (p s)) (λ s. refl) (adds_to size) sizes)
+
+-- what holds of each request that passes a test holds of a size that passes it and has been requested
+holds_of-requested : (P : ℕ → Type 0) (p : ℕ → Bool) (sizes : List ℕ) (n : ℕ)
+    → p n ≡ true → 0 < requests_of sizes n → All P (filter p sizes) → P n
+holds_of-requested P p [] n passes some all = absurd (omega arith)
+holds_of-requested P p (size ∷ sizes) n passes some all = elim (cases_eq size n) [
+  | inl same ↦
+      let listed = rw (same, passes) at all in
+      All-head P n (filter p sizes) listed
+  | inr other ↦
+      let step = sum_by-cons (adds_to n) size sizes in
+      let fewer : requests_of (size ∷ sizes) n ≡ requests_of sizes n = rw (step, ne_eqb size n other) (omega arith) in
+      holds_of-requested P p sizes n passes (rw fewer at some) (rest (p size) refl)
+]
+  where
+    rest : (b : Bool) → p size ≡ b → All P (filter p sizes)
+    rest true e = let both = rw e at all in All-tail P size (filter p sizes) both
+    rest false e = rw e at all
+
+serves-requests_below : (top : ℕ) (sizes classes : List ℕ)
+    → Serves (requests_below (top + 1) sizes) classes ↔ All (λ n. IsSome (class_for classes n)) (filter (λ n. leb n top) sizes)
+serves-requests_below top sizes classes = (each, served)
+  where
+    each : Serves (requests_below (top + 1) sizes) classes → All (λ n. IsSome (class_for classes n)) (filter (λ n. leb n top) sizes)
+    each serves = All-from_get_or (λ n. IsSome (class_for classes n)) (filter (λ n. leb n top) sizes) 0 (λ i within.
+        let n = get_or (filter (λ n. leb n top) sizes) i 0 in
+        let small : n ≤ top = leb-true n top (filter_passes (λ n. leb n top) sizes i 0 within) in
+        let counted = get_or-requests_below (top + 1) sizes n (omega arith) in
+        let some : 0 < requests_of sizes n = requests_of-passing (λ n. leb n top) sizes i within in
+        serves n (omega (arith, length-requests_below (top + 1) sizes), omega arith))
+
+    served : All (λ n. IsSome (class_for classes n)) (filter (λ n. leb n top) sizes) → Serves (requests_below (top + 1) sizes) classes
+    served all n counted =
+        let below : n < top + 1 = omega (arith, counted.0, length-requests_below (top + 1) sizes) in
+        holds_of-requested (λ n. IsSome (class_for classes n)) (λ n. leb n top) sizes n (le-leb n top (omega arith))
+        (omega (arith, counted.1, get_or-requests_below (top + 1) sizes n below)) all
+
+-- A table serves the profile where each counted request has a class.
+pub serves-profile_of_sizes : (sizes classes : List ℕ)
+    → Serves (profile_of_sizes sizes).counts classes ↔ All (λ n. IsSome (class_for classes n)) (counted_requests sizes)
+serves-profile_of_sizes = serves-requests_below largest_counted
+
+-- ---- a profile
+
+few-requests_below : (n most : ℕ) (sizes : List ℕ) → length sizes ≤ most → All (λ count. count ≤ most) (requests_below n sizes)
+few-requests_below n most sizes few = All-from_get_or (λ count. count ≤ most) (requests_below n sizes) 0 (λ k within.
+    let counted = get_or-requests_below n sizes k (omega (arith, length-requests_below n sizes)) in
+    omega (arith, counted, count_by-le-length (λ size. eqb size k) sizes))
+
+-- No count of few requests is too high for a profile.
+pub profile_of_sizes-is_profile : (sizes : List ℕ) → length sizes ≤ most_counted → IsProfile (profile_of_sizes sizes)
+profile_of_sizes-is_profile sizes few = record {
+  counts = record { sizes = length-requests_below 16369 sizes; in_range = few-requests_below 16369 most_counted sizes few };
+  large = omega (arith, count_by-le-length (λ size. ltb largest_counted size) sizes);
+}
