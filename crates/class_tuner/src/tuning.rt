@@ -1,22 +1,18 @@
 ghost use Rattle.std.specs.Prelude.{◌≡◌, ◌<◌, ◌≤◌, IfOk};
 ghost use Rattle.class_tuner.specs.Filling.{most_calls};
-ghost use Rattle.class_tuner.specs.Tuned.{AreRests, IsTuned};
+ghost use Rattle.class_tuner.specs.Tuned.{IsTuned};
 ghost use Rattle.potential_check.specs.Lists.{lists_of};
 ghost use Rattle.potential_check.specs.Sheets.{sheet_of};
 ghost use Rattle.potential_check.specs.Spanned.{IsSpanned};
-ghost use Rattle.tuner_theory.specs.Best.{IsCanonical};
-ghost use Rattle.tuner_theory.specs.Potentials.{AreValidPotentials};
-ghost use Rattle.tuner_theory.specs.Rows.{HasShape, IsFilled, number_at};
-ghost use Rattle.tuner_theory.specs.Sheets.{IsVerdict};
+ghost use Rattle.tuner_theory.specs.Rows.{IsFilled};
 ghost use Rattle.tuner_theory.specs.Spans.{places, span_waste};
 ghost use Rattle.class_table.specs.Steps.{IsStep};
-ghost use Rattle.tuner_theory.specs.Waste.{waste_of};
 
 use crate::cost_source::CostSource;
 use crate::costs::Costs;
 use crate::filling::{Filled, fill_rows};
 use crate::table::table_of_ends;
-use potential_check::{Rows, Sheet, Spans, Verdict};
+use potential_check::{Rows, Sheet, Spans};
 use profile_count::Profile;
 use std::alloc::{AllocError, Global};
 use std::marker::Model;
@@ -60,20 +56,8 @@ pub fn tune(alloc: Global, profile: &Profile, limit: u8, step: u8) -> Result<Tun
     requires few { limit ≤ 32 }
     requires step { IsStep step }
 
-    // the table, and the waste of all others
-    ensures canonical { IfOk result (λ tuned. IsCanonical profile.now.counts step limit tuned.sheet.table) }
-    ensures limit { IfOk result (λ tuned. tuned.sheet.limit ≡ limit) }
-    ensures step { IfOk result (λ tuned. tuned.sheet.step ≡ step) }
-    ensures waste { IfOk result (λ tuned. tuned.sheet.waste ≡ waste_of profile.now.counts tuned.sheet.table) }
-
-    // its certificate
-    ensures shape { IfOk result (λ tuned. HasShape tuned.sheet.rows limit (places profile.now.counts step)) }
-    ensures rests { IfOk result (λ tuned. AreRests profile.now.counts step limit tuned.sheet.rows) }
-    ensures valid { IfOk result
-        (λ tuned. AreValidPotentials (span_waste profile.now.counts step) (places profile.now.counts step) limit (number_at tuned.sheet.rows)) }
-    ensures optimal { IfOk result (λ tuned. IsVerdict profile.now.counts (sheet_of tuned.sheet) Verdict.Optimal) }
-
-    // the work
+    // the canonical table, its waste, and the least rests as its certificate
+    ensures tuned { IfOk result (λ tuned. IsTuned profile.now.counts step limit (sheet_of tuned.sheet)) }
     ensures evaluations { IfOk result (λ tuned. tuned.evaluations ≤ most_calls limit (places profile.now.counts step)) }
 {
     let spans = Spans::new(alloc, profile, step)?;

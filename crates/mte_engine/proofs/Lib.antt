@@ -1,4 +1,10 @@
 pub mod Answering
+pub mod Counting
+pub mod Headline
+pub mod LineAndTrace
 pub mod Moves
+pub mod Reporting
 pub mod SheetAndProfile
 pub mod TableAndProfile
+pub mod TracePieces
+pub mod TracedRun

@@ -1,7 +1,14 @@
 pub mod Check
+pub mod Laws
 pub mod Moving
 pub mod Outcome
 pub mod Parts
+pub mod Profile
+pub mod Replay
+pub mod Report
+pub mod Reported
+pub mod Run
 pub mod Score
 pub mod Streams
+pub mod Traces
 pub mod Tune

@@ -1,4 +1,4 @@
-ghost use Rattle.std.specs.Prelude.{◌≡◌, ◌≢◌, ◌++◌, ◌∷◌, [], List, drop, slice_get, false, true, All, Err, IfSome, Result, is_ok};
+ghost use Rattle.std.specs.Prelude.{◌≡◌, ◌≢◌, ◌≤◌, ◌++◌, ◌∷◌, [], List, drop, length, slice_get, false, true, All, Err, IfSome, OnOk, Result, is_ok};
 ghost use Rattle.line_text.specs.Lines.{IsLine};
 ghost use Rattle.heap_theory.specs.declared.event.Event.{Event as EventView};
 ghost use Rattle.trace_reader.specs.declared.fault.TraceError.TheVariants.{OutOfMemory};
@@ -29,7 +29,7 @@ pub struct TraceReader {
 }
 
 impl Model for TraceReader {
-    ghost use Rattle.std.specs.Prelude.{◌≤◌, All};
+    ghost use Rattle.std.specs.Prelude.{◌≤◌, All, length};
     ghost use Rattle.heap_theory.specs.Ranges.{IsInRange};
     ghost use Rattle.trace_reader.specs.Reading.{Reading};
 
@@ -39,7 +39,7 @@ impl Model for TraceReader {
 
     ghost view = { λ r. record { events = r.events.items; state = state_of r.status r.lines r.rest.items } };
 
-    ghost invariant = { λ r. (r.lines ≤ 1000000) × All IsInRange r.events.items };
+    ghost invariant = { λ r. (r.lines ≤ 1000000) × (length r.events.items ≤ r.lines) × All IsInRange r.events.items };
 }
 
 impl TraceReader {
@@ -87,6 +87,7 @@ impl TraceReader {
         ensures kept { IsFrontOf self.old.events self.new.events }
         ensures front { IsFrontOf self.new.events (finished self.old).events }
         ensures finished { is_finished self.new ≡ is_ok result }
+        ensures few { OnOk result (length self.new.events ≤ 1000000) }
     {
         if let Status::Failed(error) = self.status {
             return Err(error);

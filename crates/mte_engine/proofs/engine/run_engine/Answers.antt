@@ -1,4 +1,4 @@
-use Rattle.std.proofs.Common.{rules, ◌++◌}
+use Rattle.std.proofs.Common.{rules}
 use Rattle.std.proofs.lemmas.Result.{err_from_is_err_and}
 use Rattle.mte_engine.proofs.Answering.{write_failed}
 use Rattle.mte_engine.proofs.engine.run_engine.Goals as goal

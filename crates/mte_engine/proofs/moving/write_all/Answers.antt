@@ -1,5 +1,4 @@
-use Rattle.std.proofs.Common.{◌≡◌, ◌≤◌, ◌<◌, ◌++◌, length, take, drop, ◌∙◌, arith}
-use Rattle.std.proofs.lemmas.List.{length-append, length-drop}
+use Rattle.std.proofs.Common.{◌≡◌, ◌≤◌, ◌<◌, ◌++◌, length, take, ◌∙◌, arith}
 use Rattle.mte_engine.specs.declared.streams.Failure.{Failure}
 use Rattle.mte_engine.proofs.Moves.{appends_more, first_ready, no_failure, written_more}
 use Rattle.mte_engine.proofs.moving.write_all.Goals as goal

@@ -1,4 +1,4 @@
-use Rattle.std.proofs.Common.{◌≡◌, ◌∙◌, Ok, sym, ap, true, eqb-true, length, rules, refl}
+use Rattle.std.proofs.Common.{◌≡◌, ◌∙◌, Ok, sym, ap, true, eqb-true, length, rules, refl, arith}
 use Rattle.std.proofs.lemmas.Result.{err_from_is_err_and}
 use Rattle.trace_reader.specs.Reached.{HasReached}
 use Rattle.trace_reader.specs.Reading.{Reading, finished, is_open}
@@ -24,7 +24,7 @@ returns-in_err-judge_rest c =
     let some = not_empty i.rest.items c.is_empty.result c.is_empty.ensures (search rules) in
     let p = err_from_is_err_and c.from_residual.result c.from_residual.ensures.1 in
     let r = finish_failed old c.judge_rest.new.self i.events.items i.lines i.rest.items i.status c.in_err-judge_rest.field-0.0 c.self.view_is open_now some c.in_err-judge_rest.ensures in
-    rw (p.1, p.2) (record { answer = r.answer; failed = unchanged_if_failed old c.judge_rest.new.self open_now; reading = r.reading; kept = r.kept; front = r.front; finished = finished_after old c.judge_rest.new.self c.in_err-judge_rest.field-0.0 r })
+    rw (p.1, p.2) (record { answer = r.answer; failed = unchanged_if_failed old c.judge_rest.new.self open_now; reading = r.reading; kept = r.kept; front = r.front; finished = finished_after old c.judge_rest.new.self c.in_err-judge_rest.field-0.0 r; few = tt })
 
 pub returns : goal.returns
 returns c =
@@ -36,4 +36,4 @@ returns c =
       | then-not-is_empty+in_ok-judge_rest w ↦ finish_line old w.judge_rest.new.self i.events.items i.lines i.rest.items i.status c.self-2.inside.events.items c.self.view_is open_now (not_empty i.rest.items c.is_empty.result c.is_empty.ensures (search rules)) w.in_ok-judge_rest.ensures (ap (λ (r : Reading). r.events) (c.self-2.view_is ∙ w.self-is))
       | else-not-is_empty w ↦ finish_empty old i.events.items i.lines i.rest.items i.status c.self-2.inside.events.items c.self.view_is open_now (eqb-true (length i.rest.items) 0 (sym c.is_empty.ensures ∙ search rules)) (ap (λ (r : Reading). r.events) (c.self-2.view_is ∙ w.self-is))
     ] in
-    record { answer = r.answer; failed = unchanged_if_failed old _ open_now; reading = r.reading; kept = r.kept; front = r.front; finished = refl }
+    record { answer = r.answer; failed = unchanged_if_failed old _ open_now; reading = r.reading; kept = r.kept; front = r.front; finished = refl; few = omega arith }

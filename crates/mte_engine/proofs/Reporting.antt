@@ -1,0 +1,69 @@
+-- The report that is still to come, as events are replayed and their lines are appended to a buffer.
+use Rattle.std.proofs.Common.{◌≡◌, ◌≤◌, ℕ, ◌+◌, List, [], ◌∷◌, ◌++◌, length, drop, refl, sym, ap, ◌∙◌, append_assoc, append-nil}
+use Rattle.std.proofs.lemmas.List.{drop-append-le, drop-drop}
+use Rattle.std.proofs.Math.Seq.{drop-length}
+use Rattle.heap_theory.specs.Report.{report, report_line, totals_text}
+use Rattle.heap_theory.specs.Run.{answer_of}
+use Rattle.heap_theory.specs.Totals.{totals_after}
+use Rattle.heap_theory.specs.declared.event.Event.{Event}
+use Rattle.replay_core.specs.Stored.{LinesOfNone, LinesOfOneMore, ReportIsLinesAndTotals, Stored, StoredOfNone, StoredOfOneMore, first_stored, lines_of, stored_after, stored_of}
+use Rattle.class_table.specs.Layout.{Partition}
+use Rattle.mte_engine.specs.Report.{report_from}
+
+-- one event was replayed, and its line appended
+pub reported_more : (before after line : List ℕ) (stored stored' : Stored) (events events' : List Event) (event : Event) → events ≡ event ∷ events'
+    → line ≡ report_line (stored.totals.events + 1) (answer_of stored.replay event) → stored' ≡ stored_after stored event → after ≡ before ++ line
+    → after ++ report_from stored' events' ≡ before ++ report_from stored events
+unfolding report_from
+reported_more before after line stored stored' events events' event es is_line is_stored is_after =
+    rw (es, is_after, is_stored, is_line) (append_assoc before (report_line (stored.totals.events + 1) (answer_of stored.replay event)) (report_from (stored_after stored event) events'))
+
+-- all events were replayed, and the totals appended
+pub reported_all : (before after : List ℕ) (stored : Stored) (events : List Event) → events ≡ [] → after ≡ before ++ totals_text stored.totals
+    → after ++ [] ≡ before ++ report_from stored events
+unfolding report_from
+reported_all before after stored events none is_after = append-nil after ∙ is_after ∙ ap (λ (t : List Event). before ++ report_from stored t) (sym none)
+
+-- nothing has been counted at first,
+pub first_events : (stored : Stored) (layout : Partition) (seed quarantine : ℕ) → stored ≡ first_stored layout seed quarantine → stored.totals.events ≡ 0
+unfolding first_stored
+first_events stored layout seed quarantine is = ap (λ (s : Stored). s.totals.events) is
+
+-- and one event more is counted by each step
+pub events_after : (stored : Stored) (event : Event) → (stored_after stored event).totals.events ≡ stored.totals.events + 1
+unfolding stored_after totals_after
+events_after stored event = refl
+
+-- From a new replay on, the lines and the totals are the report.
+module _ (none : StoredOfNone) (one_more : StoredOfOneMore) (no_lines : LinesOfNone) (line_more : LinesOfOneMore) (whole : ReportIsLinesAndTotals)
+    (layout : Partition) (seed quarantine : ℕ) where
+  report_goes_on : (before rest : List Event)
+      → lines_of layout seed quarantine before ++ report_from (stored_of layout seed quarantine before) rest ≡ report layout seed quarantine (before ++ rest)
+  unfolding report_from
+  report_goes_on before [] = sym (whole layout seed quarantine before) ∙ ap (report layout seed quarantine) (sym (append-nil before))
+  report_goes_on before (event ∷ rest) =
+      let stored = stored_of layout seed quarantine before in
+      let line = report_line (stored.totals.events + 1) (answer_of stored.replay event) in
+      sym (append_assoc (lines_of layout seed quarantine before) line (report_from (stored_after stored event) rest))
+      ∙ ap (λ (t : List ℕ). t ++ report_from (stored_after stored event) rest) (sym (line_more layout seed quarantine before event))
+      ∙ ap (λ (s : Stored). lines_of layout seed quarantine (before ++ event ∷ []) ++ report_from s rest) (sym (one_more layout seed quarantine before event))
+      ∙ report_goes_on (before ++ event ∷ []) rest
+      ∙ ap (report layout seed quarantine) (append_assoc before (event ∷ []) rest)
+
+  pub whole_report : (events : List Event) → report_from (first_stored layout seed quarantine) events ≡ report layout seed quarantine events
+  whole_report events =
+      ap (λ (s : Stored). report_from s events) (sym (none layout seed quarantine))
+      ∙ ap (λ (t : List ℕ). t ++ report_from (stored_of layout seed quarantine []) events) (sym (no_lines layout seed quarantine))
+      ∙ report_goes_on [] events
+
+-- what is left of the buffer and what comes after it, once some of it was written
+pub advanced : (items later : List ℕ) (written n : ℕ) → n ≤ length (drop written items) → drop (written + n) items ++ later ≡ drop n (drop written items ++ later)
+advanced items later written n fits =
+    sym (drop-append-le n (drop written items) later fits ∙ ap (λ (t : List ℕ). t ++ later) (drop-drop n written items))
+
+-- the buffer was written, and filled again
+pub filled_again : (items later items' later' : List ℕ) (written n : ℕ) → n ≤ length (drop written items) → written + n ≡ length items
+    → items' ++ later' ≡ later → drop 0 items' ++ later' ≡ drop n (drop written items ++ later)
+filled_again items later items' later' written n fits end is =
+    let none : drop (written + n) items ≡ [] = rw end (drop-length items) in
+    is ∙ sym (ap (λ (t : List ℕ). t ++ later) none) ∙ advanced items later written n fits

@@ -1,0 +1,135 @@
+-- What the engines over traces keep, piece by piece and at the end, from the laws of a trace in pieces.
+use Rattle.std.proofs.Common.{◌≡◌, ℕ, ◌+◌, ◌≤◌, List, [], ◌∷◌, ◌++◌, length, Option, Some, None, Ok, Err, refl, sym, ap, ◌∙◌, arith, append-nil}
+use Rattle.std.proofs.lemmas.List.{length-append}
+use Rattle.std.proofs.lemmas.List.Elements.{filter_map-append}
+use Rattle.heap_theory.specs.Losses.{requested_sizes}
+use Rattle.heap_theory.specs.Totals.{request_size}
+use Rattle.heap_theory.specs.declared.event.Event.{Event}
+use Rattle.profile_count.specs.Counts.{nothing_counted}
+use Rattle.profile_count.specs.Laws.{AddedRequestsAreCounted}
+use Rattle.profile_count.specs.ProfileText.{profile_text}
+use Rattle.profile_count.specs.Requests.{profile_of_sizes}
+use Rattle.trace_reader.specs.Laws.{EventsAreFew, FedBehindEvents, FinishedBehindEvents, PiecesAreJoined, PiecesAreTheText, PiecesHaveFewEvents}
+use Rattle.trace_reader.specs.Reading.{Reading, State, added, cut, ended_state, fed, finished, nothing_read, whole_reading}
+use Rattle.trace_reader.specs.Reading.State.{Failed, Finished}
+use Rattle.trace_reader.specs.TraceText.{Trace, trace_from, trace_of}
+use Rattle.trace_reader.specs.declared.fault.TraceError.TheVariants.{Line}
+use Rattle.trace_reader.specs.declared.fault.TraceFault.{TraceFault}
+use Rattle.tuner_theory.specs.Waste.{Profile as Counted}
+use Rattle.mte_engine.specs.Outcome.{GivesFault}
+use Rattle.mte_engine.specs.Profile.{ProfileAnswers, profile_answer}
+use Rattle.mte_engine.specs.Traces.{HasEnded, KeepsCounts, profile_of_events, trace_part}
+use Rattle.mte_engine.specs.declared.engine.Status.TheVariants.{Done}
+use Rattle.mte_engine.specs.declared.fault.AnswerError.{AnswerError}
+use Rattle.mte_engine.specs.declared.fault.AnswerError.TheVariants.{OutOfMemory, Input}
+use Rattle.mte_engine.specs.declared.fault.InputFault.{InputFault}
+use Rattle.mte_engine.proofs.Counting.{length-requested_sizes}
+
+-- nothing was taken yet
+pub nothing_fed : fed nothing_read [] ≡ nothing_read
+unfolding fed cut trace_from
+nothing_fed = refl
+
+pub nothing_counted_yet : AddedRequestsAreCounted → KeepsCounts nothing_read nothing_counted []
+nothing_counted_yet added = record {
+  state = ap (λ (r : Reading). record { events = []; state = r.state }) (sym nothing_fed);
+  counts = added [] ∙ ap (λ (r : Reading). profile_of_events r.events) (sym nothing_fed);
+}
+
+module _ (joined : PiecesAreJoined) (behind : FedBehindEvents) (few : PiecesHaveFewEvents) (bytes piece : List ℕ) where
+  abbrev before : Reading
+  before = fed nothing_read bytes
+
+  abbrev after : Reading
+  after = fed nothing_read (bytes ++ piece)
+
+  -- the reading without the events that were taken out
+  abbrev emptied : Reading
+  emptied = record { events = []; state = before.state }
+
+  split : after ≡ added before.events (fed emptied piece)
+  split =
+      let whole : before ≡ added before.events emptied = ap (λ (e : List Event). record { events = e; state = before.state }) (sym (append-nil before.events)) in
+      sym (joined nothing_read bytes piece) ∙ ap (λ (r : Reading). fed r piece) whole ∙ behind before.events emptied piece
+
+  -- one more piece was fed, and its events were counted and taken out
+  pub counts_more : (reader fed_reader : Reading) (profile profile' : Counted) → KeepsCounts reader profile bytes → fed_reader ≡ fed reader piece
+      → ((sizes : List ℕ) → length sizes + length fed_reader.events ≤ 1000000 → profile ≡ profile_of_sizes sizes
+      → profile' ≡ profile_of_sizes (sizes ++ requested_sizes fed_reader.events))
+      → KeepsCounts (record { events = []; state = fed_reader.state }) profile' (bytes ++ piece)
+  counts_more reader fed_reader profile profile' keeps is_fed counted =
+      let is : fed_reader ≡ fed emptied piece = is_fed ∙ ap (λ (r : Reading). fed r piece) keeps.state in
+      let all : after ≡ added before.events fed_reader = split ∙ ap (added before.events) (sym is) in
+      let events : after.events ≡ before.events ++ fed_reader.events = ap (λ (r : Reading). r.events) all in
+      let fits : length before.events + length fed_reader.events ≤ 1000000 =
+      omega (arith, few ((bytes ++ piece) ∷ []), ap length events, length-append before.events fed_reader.events) in
+      let room : length (requested_sizes before.events) + length fed_reader.events ≤ 1000000 = omega (arith, length-requested_sizes before.events) in
+      record {
+        state = ap (λ (s : State). record { events = []; state = s }) (sym (ap (λ (r : Reading). r.state) all));
+        counts = counted (requested_sizes before.events) room keeps.counts
+            ∙ ap profile_of_sizes (sym (filter_map-append request_size before.events fed_reader.events) ∙ ap requested_sizes (sym events));
+      }
+
+-- ---- the end of a trace
+
+no_fault : (fault : Option (ℕ × TraceFault)) → ended_state fault ≡ Finished → fault ≡ None
+no_fault None e = refl
+no_fault (Some (number, fault)) e = cc
+
+the_fault : (fault : Option (ℕ × TraceFault)) (number : ℕ) (found : TraceFault) → ended_state fault ≡ Failed (Line number found) → fault ≡ Some (number, found)
+the_fault None number found e = cc
+the_fault (Some (n, f)) number found e = cc
+
+-- a trace that ended without a fault is its events
+pub trace_ends : (lines : ℕ) (trace : Trace) (state : State) → state ≡ ended_state trace.fault → HasEnded lines state (Ok tt) → trace_part lines trace ≡ Ok trace.events
+trace_ends lines trace state is ended = rw (no_fault trace.fault (sym is ∙ ended)) refl
+
+-- and one that ended at a fault is that fault
+pub trace_refused : (lines : ℕ) (trace : Trace) (state : State) (refused : InputFault) → state ≡ ended_state trace.fault
+    → HasEnded lines state (Err (Input refused)) → trace_part lines trace ≡ Err refused
+trace_refused lines trace state refused is (number, fault, failed, same) = rw (the_fault trace.fault number fault (sym is ∙ failed), same) refl
+
+module _ (whole : PiecesAreTheText) (behind : FinishedBehindEvents) (bytes : List ℕ) where
+  -- all events wait
+  pub finished_whole : finished (fed nothing_read bytes) ≡ whole_reading (trace_of bytes)
+  finished_whole = whole (bytes ∷ []) ∙ ap (λ (t : List ℕ). whole_reading (trace_of t)) (append-nil bytes)
+
+  -- the events of the pieces were taken out
+  abbrev left : Reading
+  left = record { events = []; state = (fed nothing_read bytes).state }
+
+  pub finished_rest : added (fed nothing_read bytes).events (finished left) ≡ whole_reading (trace_of bytes)
+  finished_rest =
+      let read = fed nothing_read bytes in
+      let same : read ≡ added read.events left = ap (λ (e : List Event). record { events = e; state = read.state }) (sym (append-nil read.events)) in
+      sym (behind read.events left) ∙ ap finished (sym same) ∙ finished_whole
+
+  -- ---- the answer of `profile`
+
+  state_of_rest : (reader : Reading) (profile : Counted) → KeepsCounts reader profile bytes → (finished reader).state ≡ ended_state (trace_of bytes).fault
+  state_of_rest reader profile keeps = ap (λ (r : Reading). (finished r).state) keeps.state ∙ ap (λ (r : Reading). r.state) finished_rest
+
+  pub profile_refused : (reader : Reading) (profile : Counted) (error : AnswerError) → KeepsCounts reader profile bytes
+      → HasEnded 0 (finished reader).state (Err error) → GivesFault (ProfileAnswers bytes) error
+  unfolding profile_answer
+  profile_refused reader profile OutOfMemory keeps ended = tt
+  profile_refused reader profile (Input refused) keeps ended =
+      rw (trace_refused 0 (trace_of bytes) _ refused (state_of_rest reader profile keeps) ended) refl
+
+  pub profile_written : EventsAreFew → (reader : Reading) (profile profile' : Counted) (text : List ℕ) → KeepsCounts reader profile bytes
+      → HasEnded 0 (finished reader).state (Ok tt)
+      → ((sizes : List ℕ) → length sizes + length (finished reader).events ≤ 1000000 → profile ≡ profile_of_sizes sizes
+      → profile' ≡ profile_of_sizes (sizes ++ requested_sizes (finished reader).events))
+      → text ≡ profile_text profile' → ProfileAnswers bytes (Ok (record { text = text; status = Done }))
+  unfolding profile_answer
+  profile_written few reader profile profile' text keeps ended counted is =
+      let before = (fed nothing_read bytes).events in
+      let rest = (finished reader).events in
+      let events : before ++ rest ≡ (trace_of bytes).events =
+      ap (λ (r : Reading). before ++ (finished r).events) keeps.state ∙ ap (λ (r : Reading). r.events) finished_rest in
+      let fits : length before + length rest ≤ 1000000 = omega (arith, few bytes, ap length events, length-append before rest) in
+      let room : length (requested_sizes before) + length rest ≤ 1000000 = omega (arith, length-requested_sizes before) in
+      let all : profile' ≡ profile_of_events (trace_of bytes).events =
+      counted (requested_sizes before) room keeps.counts
+      ∙ ap profile_of_sizes (sym (filter_map-append request_size before rest) ∙ ap requested_sizes events) in
+      rw (trace_ends 0 (trace_of bytes) _ (state_of_rest reader profile keeps) ended, is, all) refl

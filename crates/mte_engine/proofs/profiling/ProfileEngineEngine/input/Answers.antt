@@ -1,0 +1,5 @@
+use Rattle.mte_engine.proofs.TracePieces.{nothing_counted_yet}
+use Rattle.mte_engine.proofs.profiling.ProfileEngineEngine.input.Goals as goal
+
+pub returns : goal.returns
+returns c = rw (c.new-2.ensures, c.in_ok-profile.ensures) (nothing_counted_yet c.law_profile_of_sizes.ensures.added)

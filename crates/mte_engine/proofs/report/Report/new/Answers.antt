@@ -1,0 +1,30 @@
+use Rattle.std.proofs.Common.{◌++◌, arith, ap, ◌∙◌, List, ℕ}
+use Rattle.replay_core.specs.Stored.{Stored}
+use Rattle.mte_engine.specs.Replay.{region_for}
+use Rattle.mte_engine.specs.Report.{report_from}
+use Rattle.mte_engine.proofs.Reporting.{first_events, whole_report}
+use Rattle.mte_engine.proofs.report.Report.new.Goals as goal
+
+pub fill-is_whole-requires-clause-few : goal.fill-is_whole-requires-clause-few
+fill-is_whole-requires-clause-few c = omega (arith, c.requires.few, first_events _ _ _ _ c.in_ok-replay.ensures)
+
+pub invariant_of-result : goal.invariant_of-result
+invariant_of-result c = record {
+  in_buffer = omega arith;
+  room = omega (arith, c.in_ok-reserve.ensures.ok, c.fill-is_whole.ensures.capacity);
+  few = c.fill-is_whole.ensures.few;
+  ready = λ empty. c.fill-is_whole.ensures.some (omega (arith, empty));
+}
+
+pub returns : goal.returns
+returns c =
+    let stored = c.law_stored.ensures in
+    let lines = c.law_report.ensures in
+    let report = whole_report stored.none stored.one_more lines.none lines.one_more lines.whole (region_for c.args.config c.args.table.now) c.args.config.seed c.args.config.quarantine
+    c.args.reader.events in
+    let text = c.args.text.items in
+    let events = c.args.reader.events in
+    c.fill-is_whole.ensures.report
+    ∙ ap (λ (t : List ℕ). t ++ report_from c.in_ok-replay.replay events) c.reserve.ensures.items
+    ∙ ap (λ (s : Stored). text ++ report_from s events) c.in_ok-replay.ensures
+    ∙ ap (λ (t : List ℕ). text ++ t) report

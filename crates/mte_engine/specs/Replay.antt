@@ -1,0 +1,45 @@
+-- What `replay` answers: the report on a trace, replayed on the heap over a class table.
+use Rattle.std.specs.Prelude.{◌≡◌, ◌≢◌, ℕ, ◌≤◌, List, [], ◌∷◌, Result, Ok, Err}
+use Rattle.line_text.specs.Lines.{lines}
+use Rattle.class_table.specs.ClassLine.{table_of_line}
+use Rattle.class_table.specs.Layout.{Partition}
+use Rattle.class_table.specs.declared.fault.TableError.TheVariants.{BadLine}
+use Rattle.heap_theory.specs.Report.{report}
+use Rattle.heap_theory.specs.declared.event.Event.{Event}
+use Rattle.tagged_heap.specs.declared.heap.Config.{Config}
+use Rattle.trace_reader.specs.TraceText.{trace_from}
+use Rattle.mte_engine.specs.Outcome.{Answer}
+use Rattle.mte_engine.specs.Parts.{◌>>=◌, table_part}
+use Rattle.mte_engine.specs.Traces.{trace_part}
+use Rattle.mte_engine.specs.declared.engine.Status.TheVariants.{Done}
+use Rattle.mte_engine.specs.declared.fault.InputFault.{InputFault}
+use Rattle.mte_engine.specs.declared.fault.InputFault.TheVariants.{Table}
+
+-- A heap can be set up so.
+pub record IsConfig (config : Config) : Type 0 where
+  pub granules : (64 ≤ config.granules) × (config.granules ≤ 262144)
+  pub seed : config.seed ≢ 0
+  pub quarantine : config.quarantine ≤ 4194304
+
+-- A region of so many granules for the classes of a table.
+abbrev pub region_for : Config → List ℕ → Partition
+region_for config table = record { classes = table; granules = config.granules }
+
+-- The report on the events of a trace, on the heap that is set up so for this table.
+abbrev pub report_on : Config → List ℕ → List Event → List ℕ
+report_on config table events = report (region_for config table) config.seed config.quarantine events
+
+-- A class line, and then a trace.
+abbrev pub replay_of_lines : Config → List (List ℕ) → Result Answer InputFault
+replay_of_lines config [] = Err (Table BadLine)
+replay_of_lines config (line ∷ ls) = do
+  table ← table_part (table_of_line line)
+  events ← trace_part 1 (trace_from 1 ls)
+  Ok (record { text = report_on config table events; status = Done })
+
+unfoldable pub replay_answer : Config → List ℕ → Result Answer InputFault
+replay_answer config input = replay_of_lines config (lines input)
+
+-- The one answer to a text.
+abbrev pub ReplayAnswers : Config → List ℕ → Result Answer InputFault → Type 0
+ReplayAnswers config text answer = replay_answer config text ≡ answer

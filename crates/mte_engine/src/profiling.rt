@@ -1,0 +1,95 @@
+//! `profile`: how often each size is requested in a trace.
+ghost use Rattle.mte_engine.specs.Outcome.{GivesAnswer, IsReady, Runs};
+ghost use Rattle.mte_engine.specs.Profile.{ProfileAnswers};
+ghost use Rattle.mte_engine.specs.Traces.{KeepsCounts};
+ghost use Rattle.std.specs.Prelude.{◌≡◌, List, ℕ, false};
+ghost use Rattle.trace_reader.specs.Reading.{is_finished};
+
+use crate::engine::{Engine, Status, run_engine};
+use crate::fault::{AnswerError, ToolFault};
+use crate::input::Input;
+use crate::output::Text;
+use crate::streams::{ByteSink, ByteSource};
+use crate::traces::{count_out, end, feed};
+use profile_count::Profile;
+use profile_count::laws::law_profile_of_sizes;
+use std::alloc::{AllocError, Global};
+use trace_reader::TraceReader;
+use trace_reader::laws::{law_pieces, law_trace_text};
+
+/// Reads a trace, and writes the profile of its requests: how often each size was requested by a malloc, a calloc or a realloc, whether a
+/// replay refuses it or not. It keeps neither the text nor the events, so its memory does not grow with the trace.
+///
+/// Faults: an input that is too long, then the first faulty line of the trace (`Input`); a failed read (`ReadFault`); out of memory
+/// (`OutOfMemory`): the sink took nothing then. A failed write (`WriteFault`): then the sink took a prefix of the text.
+pub fn profile<R: ByteSource, W: ByteSink>(
+    alloc: Global,
+    source: &mut R,
+    sink: &mut W,
+) -> Result<Status, ToolFault>
+    requires { IsReady (R.state source.old) (W.state sink.old) }
+    ensures { Runs ProfileAnswers (R.state source.old) (R.state source.new) W.state sink.old sink.new result }
+{
+    run_engine(alloc, &ProfileEngine, source, sink)
+}
+
+struct ProfileEngine;
+
+impl Engine for ProfileEngine {
+    type Input = CountedTrace;
+
+    type Output = Text;
+
+    ghost answers = { λ _. ProfileAnswers };
+
+    fn input(&self, alloc: Global) -> Result<CountedTrace, AllocError> {
+        law_profile_of_sizes();
+        let profile = Profile::new(alloc)?;
+        Ok(CountedTrace {
+            reader: TraceReader::new(alloc),
+            profile,
+        })
+    }
+
+    fn answer(&self, alloc: Global, input: CountedTrace) -> Result<(Text, Status), AnswerError> {
+        let (text, status) = profile_of_trace(alloc, input)?;
+        Ok((Text::new(text), status))
+    }
+}
+
+// a trace of which only the counts are kept
+#[derive(Drop)]
+struct CountedTrace {
+    reader: TraceReader,
+    profile: Profile,
+    ghost open: { is_finished reader ≡ false },
+}
+
+impl Input for CountedTrace {
+    ghost has_taken = { λ input bytes. KeepsCounts input.reader input.profile bytes };
+
+    fn take(&mut self, piece: &[u8]) -> Result<(), AllocError> {
+        law_pieces();
+        feed(&mut self.reader, piece)?;
+        count_out(&mut self.reader, &mut self.profile);
+        Ok(())
+    }
+}
+
+// the answer to a trace
+fn profile_of_trace(alloc: Global, input: CountedTrace) -> Result<(Vec<u8>, Status), AnswerError>
+    ensures { (bytes : List ℕ) → KeepsCounts input.reader input.profile bytes →
+        GivesAnswer (λ written. written.items) (ProfileAnswers bytes) result }
+{
+    law_pieces();
+    law_trace_text();
+    let CountedTrace {
+        mut reader,
+        mut profile,
+    } = input;
+    end(&mut reader, 0)?;
+    count_out(&mut reader, &mut profile);
+    let mut text = Vec::new(alloc);
+    profile.write(&mut text)?;
+    Ok((text, Status::Done))
+}

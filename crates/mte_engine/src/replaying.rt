@@ -1,0 +1,139 @@
+//! `replay`: the report on a trace, replayed on the tagged heap over a class table.
+ghost use Rattle.line_text.specs.Lines.{IsLine};
+ghost use Rattle.mte_engine.specs.Outcome.{GivesAnswer, IsReady, Runs};
+ghost use Rattle.mte_engine.specs.Replay.{IsConfig, ReplayAnswers};
+ghost use Rattle.mte_engine.specs.Reported.{text_left};
+ghost use Rattle.mte_engine.specs.Traces.{IsLineAndTrace, KeepsLineAndEvents};
+ghost use Rattle.std.specs.Prelude.{◌≡◌, List, ℕ, false};
+ghost use Rattle.trace_reader.specs.Reading.{is_finished};
+
+use crate::engine::{Engine, Status, run_engine};
+use crate::fault::{AnswerError, InputFault, ToolFault};
+use crate::input::Input;
+use crate::parts::read_table;
+use crate::report::Report;
+use crate::streams::{ByteSink, ByteSource};
+use crate::traces::{end, feed};
+use class_table::TableError;
+use line_text::first_line;
+use line_text::laws::law_lines;
+use replay_core::Config;
+use std::alloc::{AllocError, Global};
+use trace_reader::TraceReader;
+use trace_reader::laws::law_pieces;
+
+/// Reads a class line and then a trace, replays the trace on a new heap over that table, and writes the report: a line for each event that
+/// has one, and the totals. A fault in the replay is a line of the report, and the replay goes on.
+///
+/// `config` sets up the heap: 64 to 262,144 granules, a seed other than 0, a quarantine of 0 to 4,194,304 bytes.
+///
+/// Faults: an input that is too long, then the class line's, then the first faulty line of the trace, whose lines count from 2 (`Input`); a
+/// failed read (`ReadFault`); out of memory (`OutOfMemory`): the sink took nothing then. A failed write (`WriteFault`): then the sink took
+/// a prefix of the text.
+pub fn replay<R: ByteSource, W: ByteSink>(
+    alloc: Global,
+    config: Config,
+    source: &mut R,
+    sink: &mut W,
+) -> Result<Status, ToolFault>
+    requires config { IsConfig config }
+    requires ready { IsReady (R.state source.old) (W.state sink.old) }
+    ensures { Runs (ReplayAnswers config) (R.state source.old) (R.state source.new) W.state sink.old sink.new result }
+{
+    run_engine(alloc, &ReplayEngine { config }, source, sink)
+}
+
+// the options of `replay`
+#[derive(Drop)]
+struct ReplayEngine {
+    config: Config,
+    ghost is_config: { IsConfig config },
+}
+
+impl Engine for ReplayEngine {
+    type Input = LineAndTrace;
+
+    type Output = Report;
+
+    ghost answers = { λ e. ReplayAnswers e.config };
+
+    fn input(&self, alloc: Global) -> Result<LineAndTrace, AllocError> {
+        Ok(LineAndTrace {
+            line: Vec::new(alloc),
+            has_ended: false,
+            reader: TraceReader::new(alloc),
+        })
+    }
+
+    fn answer(&self, alloc: Global, input: LineAndTrace) -> Result<(Report, Status), AnswerError> {
+        answer_to(alloc, self.config, input)
+    }
+}
+
+// The first line of an input, and the events of the lines after it. A class line has no longest length, so its bytes are kept until its end.
+#[derive(Drop)]
+struct LineAndTrace {
+    line: Vec<u8>,
+    has_ended: bool,
+    reader: TraceReader,
+    ghost is_line: { IsLine line.items },
+    ghost open: { is_finished reader ≡ false },
+}
+
+impl Input for LineAndTrace {
+    ghost has_taken = { λ input bytes. KeepsLineAndEvents input.has_ended input.line.items input.reader bytes };
+
+    fn take(&mut self, piece: &[u8]) -> Result<(), AllocError> {
+        law_pieces();
+        if self.has_ended {
+            return feed(&mut self.reader, piece);
+        }
+        let Some((end, trace)) = first_line(piece) else {
+            return self.line.extend_from_slice(piece);
+        };
+        self.line.extend_from_slice(end)?;
+        self.has_ended = true;
+        feed(&mut self.reader, trace)
+    }
+}
+
+// the answer to an input
+fn answer_to(
+    alloc: Global,
+    config: Config,
+    input: LineAndTrace,
+) -> Result<(Report, Status), AnswerError>
+    requires { IsConfig config }
+    ensures { (bytes : List ℕ) → KeepsLineAndEvents input.has_ended input.line.items input.reader bytes →
+        GivesAnswer text_left (ReplayAnswers config bytes) result }
+{
+    law_lines();
+    let LineAndTrace {
+        line,
+        has_ended,
+        reader,
+    } = input;
+    if !has_ended && line.is_empty() {
+        return Err(AnswerError::Input(InputFault::Table(TableError::BadLine)));
+    }
+    answer_to_parts(alloc, config, &line, reader)
+}
+
+// the answer to a class line and the trace after it
+fn answer_to_parts(
+    alloc: Global,
+    config: Config,
+    line: &[u8],
+    mut reader: TraceReader,
+) -> Result<(Report, Status), AnswerError>
+    requires config { IsConfig config }
+    requires line { IsLine line.now }
+    requires open { is_finished reader ≡ false }
+    ensures { (bytes trace : List ℕ) → IsLineAndTrace bytes line.now trace reader → GivesAnswer text_left (ReplayAnswers config bytes) result }
+{
+    law_pieces();
+    let table = read_table(line)?;
+    end(&mut reader, 1)?;
+    let report = Report::new(alloc, &table, config, reader, Vec::new(alloc))?;
+    Ok((report, Status::Done))
+}

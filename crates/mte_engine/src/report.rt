@@ -1,0 +1,129 @@
+//! The report of a replay, as an engine writes it.
+ghost use Rattle.heap_theory.specs.Report.{totals_text};
+ghost use Rattle.mte_engine.specs.Replay.{IsConfig, report_on};
+ghost use Rattle.mte_engine.specs.Report.{report_from, report_unless};
+ghost use Rattle.std.specs.Prelude.{◌≡◌, ◌+◌, ◌^◌, ◌≤◌, ◌++◌, drop, length, vec_capacity, vec_len, true, IfOk};
+
+use crate::output::Output;
+use arrayvec::ArrayVec;
+use class_table::ClassTable;
+use replay_core::laws::{law_report, law_stored};
+use replay_core::{Config, LINE_BYTES, Replay, TOTALS_BYTES};
+use std::alloc::{AllocError, Global};
+use trace_reader::TraceReader;
+
+// how many bytes of the report stand ready at a time, at most
+const BUFFER: usize = 65_536;
+
+/// A text, and then the report on the events that wait in a reader: a line for each that has one, and the totals. The events are replayed
+/// as their lines are written.
+#[derive(Drop)]
+pub struct Report {
+    replay: Replay,
+    reader: TraceReader,
+    buffer: Vec<u8>,
+    written: usize,
+    is_whole: bool,
+    ghost in_buffer: { written ≤ vec_len buffer },
+    ghost room: { 65536 ≤ vec_capacity buffer },
+    ghost few: { replay.totals.events + length reader.events ≤ 2 ^ 40 },
+    ghost ready: { written ≡ vec_len buffer → is_whole ≡ true },
+}
+
+impl Report {
+    ghost use Rattle.mte_engine.specs.Reported.{text_left};
+
+    /// This text, and then the report on the events that wait in the reader, on a new heap over the table. It takes all memory that it
+    /// will want; the only error is that the allocator refuses it.
+    pub fn new(
+        alloc: Global,
+        table: &ClassTable,
+        config: Config,
+        mut reader: TraceReader,
+        text: Vec<u8>,
+    ) -> Result<Report, AllocError>
+        requires config { IsConfig config }
+        requires few { length reader.events ≤ 1000000 }
+        ensures { IfOk result (λ report. text_left report ≡ text.items ++ report_on config table.now reader.events) }
+    {
+        law_stored();
+        law_report();
+        let mut buffer = text;
+        buffer.reserve(BUFFER)?;
+        let mut replay = Replay::new(alloc, table, config)?;
+        let is_whole = fill(&mut replay, &mut reader, &mut buffer);
+        Ok(Report {
+            replay,
+            reader,
+            buffer,
+            written: 0,
+            is_whole,
+        })
+    }
+}
+
+impl Output for Report {
+    ghost use Rattle.mte_engine.specs.Reported.{text_left};
+
+    ghost rest = { text_left };
+
+    ghost ready = { λ r. drop r.written r.buffer.items };
+
+    fn piece(&self) -> &[u8] {
+        &self.buffer[self.written..]
+    }
+
+    fn advance(&mut self, n: usize) {
+        self.written += n;
+        if self.written == self.buffer.len() && !self.is_whole {
+            self.buffer.clear();
+            self.written = 0;
+            self.is_whole = fill(&mut self.replay, &mut self.reader, &mut self.buffer);
+        }
+    }
+}
+
+// Replays events and appends their lines to the buffer, until it is full or all are replayed. Then it appends the totals too, and the report
+// is whole. The room in the buffer is enough, so this takes no memory.
+fn fill(replay: &mut Replay, reader: &mut TraceReader, buffer: &mut Vec<u8>) -> bool
+    requires few { replay.old.totals.events + length reader.old.events ≤ 2 ^ 40 }
+    requires room { vec_len buffer.old + 65536 ≤ vec_capacity buffer.old }
+    ensures report { buffer.new.items ++ report_unless result replay.new reader.new.events
+        ≡ buffer.old.items ++ report_from replay.old reader.old.events }
+    ensures some { vec_len buffer.new ≤ vec_len buffer.old → result ≡ true }
+    ensures few { replay.new.totals.events + length reader.new.events ≤ 2 ^ 40 }
+    ensures capacity { vec_capacity buffer.old ≤ vec_capacity buffer.new }
+{
+    let full = buffer.len() + BUFFER - LINE_BYTES - TOTALS_BYTES;
+    let mut line = ArrayVec::new();
+    'lines: while buffer.len() < full {
+        let Some(event) = reader.next_event() else {
+            append_totals(replay, buffer);
+            return true;
+        };
+        replay.step(&event, &mut line);
+        append(buffer, &line);
+    }
+    false
+}
+
+// appends the totals, for which there is room
+fn append_totals(replay: &Replay, buffer: &mut Vec<u8>)
+    requires { vec_len buffer.old + 512 ≤ vec_capacity buffer.old }
+    ensures items { buffer.new.items ≡ buffer.old.items ++ totals_text replay.now.totals }
+    ensures capacity { vec_capacity buffer.old ≤ vec_capacity buffer.new }
+{
+    let mut totals = ArrayVec::new();
+    replay.totals().write(&mut totals);
+    append(buffer, &totals);
+}
+
+// appends bytes for which there is room
+fn append(buffer: &mut Vec<u8>, bytes: &[u8])
+    requires { vec_len buffer.old + length bytes.now ≤ vec_capacity buffer.old }
+    ensures items { buffer.new.items ≡ buffer.old.items ++ bytes.now }
+    ensures len { vec_len buffer.new ≡ vec_len buffer.old + length bytes.now }
+    ensures capacity { vec_capacity buffer.old ≤ vec_capacity buffer.new }
+{
+    let _ = buffer.extend_from_slice(bytes);
+}

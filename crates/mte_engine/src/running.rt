@@ -1,0 +1,128 @@
+//! `run`: the class table of least waste for a trace, and the replay of the trace on the tagged heap over that table.
+ghost use Rattle.class_table.specs.Steps.{IsStep};
+ghost use Rattle.mte_engine.specs.Outcome.{GivesAnswer, IsReady, Runs};
+ghost use Rattle.mte_engine.specs.Replay.{IsConfig};
+ghost use Rattle.mte_engine.specs.Reported.{text_left};
+ghost use Rattle.mte_engine.specs.Run.{RunAnswers};
+ghost use Rattle.mte_engine.specs.Traces.{KeepsEvents};
+ghost use Rattle.std.specs.Prelude.{◌≡◌, ◌≤◌, List, ℕ, false};
+ghost use Rattle.trace_reader.specs.Reading.{is_finished};
+
+use crate::engine::{Engine, Status, run_engine};
+use crate::fault::{AnswerError, ToolFault};
+use crate::input::Input;
+use crate::laws::law_headline;
+use crate::report::Report;
+use crate::streams::{ByteSink, ByteSource};
+use crate::traces::{count_all, end, feed};
+use class_tuner::tune;
+use potential_check::write_sheet;
+use replay_core::Config;
+use std::alloc::{AllocError, Global};
+use trace_reader::TraceReader;
+use trace_reader::laws::law_pieces;
+
+/// Reads a trace, and writes two things: the sheet that `tune` writes for the trace's profile, and then the report that `replay` writes on the
+/// trace with that sheet's table. So the table is legal for `step`, has at most `limit` classes and serves every counted request; its waste
+/// is the sum of the bytes lost by rounding; no such table wastes less; and the report is the tagged machine's.
+///
+/// `limit` is 1 to 32 classes, `step` is 1, 2, 4 or 8 granules. `config` sets up the heap: 64 to 262,144 granules, a seed other than 0, a
+/// quarantine of 0 to 4,194,304 bytes.
+///
+/// Faults: an input that is too long, then the first faulty line of the trace (`Input`); a failed read (`ReadFault`); out of memory
+/// (`OutOfMemory`): the sink took nothing then. A failed write (`WriteFault`): then the sink took a prefix of the text.
+pub fn run<R: ByteSource, W: ByteSink>(
+    alloc: Global,
+    limit: u8,
+    step: u8,
+    config: Config,
+    source: &mut R,
+    sink: &mut W,
+) -> Result<Status, ToolFault>
+    requires some { 1 ≤ limit }
+    requires few { limit ≤ 32 }
+    requires step { IsStep step }
+    requires config { IsConfig config }
+    requires ready { IsReady (R.state source.old) (W.state sink.old) }
+    ensures { Runs (RunAnswers limit step config) (R.state source.old) (R.state source.new) W.state sink.old sink.new result }
+{
+    let engine = RunEngine {
+        limit,
+        step,
+        config,
+    };
+    run_engine(alloc, &engine, source, sink)
+}
+
+// the options of `run`
+#[derive(Drop)]
+struct RunEngine {
+    limit: u8,
+    step: u8,
+    config: Config,
+    ghost some: { 1 ≤ limit },
+    ghost few: { limit ≤ 32 },
+    ghost is_step: { IsStep step },
+    ghost is_config: { IsConfig config },
+}
+
+impl Engine for RunEngine {
+    type Input = WholeTrace;
+
+    type Output = Report;
+
+    ghost answers = { λ e. RunAnswers e.limit e.step e.config };
+
+    fn input(&self, alloc: Global) -> Result<WholeTrace, AllocError> {
+        Ok(WholeTrace {
+            reader: TraceReader::new(alloc),
+        })
+    }
+
+    fn answer(&self, alloc: Global, input: WholeTrace) -> Result<(Report, Status), AnswerError> {
+        answer_to(alloc, self.limit, self.step, self.config, input.reader)
+    }
+}
+
+// the events of a trace
+#[derive(Drop)]
+struct WholeTrace {
+    reader: TraceReader,
+    ghost open: { is_finished reader ≡ false },
+}
+
+impl Input for WholeTrace {
+    ghost has_taken = { λ input bytes. KeepsEvents input.reader bytes };
+
+    fn take(&mut self, piece: &[u8]) -> Result<(), AllocError> {
+        law_pieces();
+        feed(&mut self.reader, piece)
+    }
+}
+
+// the answer to a trace
+fn answer_to(
+    alloc: Global,
+    limit: u8,
+    step: u8,
+    config: Config,
+    mut reader: TraceReader,
+) -> Result<(Report, Status), AnswerError>
+    requires some { 1 ≤ limit }
+    requires few { limit ≤ 32 }
+    requires step { IsStep step }
+    requires config { IsConfig config }
+    requires open { is_finished reader ≡ false }
+    ensures { (bytes : List ℕ) → KeepsEvents reader bytes → GivesAnswer text_left (RunAnswers limit step config bytes) result }
+{
+    law_pieces();
+    law_headline();
+    end(&mut reader, 0)?;
+    let profile = count_all(alloc, reader.events())?;
+    let tuned = tune(alloc, &profile, limit, step)?;
+    let sheet = tuned.sheet();
+    let mut text = Vec::new(alloc);
+    write_sheet(sheet, &mut text)?;
+    let report = Report::new(alloc, &sheet.table, config, reader, text)?;
+    Ok((report, Status::Done))
+}
