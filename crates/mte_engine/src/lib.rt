@@ -19,6 +19,8 @@ mod running;
 mod scoring;
 mod standard;
 mod streams;
+#[cfg(test)]
+mod tests;
 mod traces;
 mod tuning;
 
