@@ -1,18 +1,32 @@
-use thiserror::Error;
+ghost use Rattle.std.specs.Prelude.{Some};
+ghost use Rattle.class_table.specs.Shown.{shown_table_error};
 
-/// What is wrong with a table or with its line, in the order in which faults are looked for; each is shown as its code and name.
-#[derive(Debug, Clone, Copy, PartialEq, Eq, Error)]
+use std::fmt;
+
+/// What is wrong with a table or with its line, in the order in which faults are looked for. Each is shown as its code and name.
+#[derive(Debug, Clone, Copy, PartialEq, Eq)]
 pub enum TableError {
     /// The line does not begin with the word `classes`, another of its words is no number, or there is not just one line.
-    #[error("23 BadLine")]
     BadLine,
     /// There are more than 32 numbers.
-    #[error("20 TooMany")]
     TooMany,
     /// The first faulty class is not from 2 to 1024.
-    #[error("21 OutOfRange")]
     OutOfRange,
     /// The first faulty class is not above the one before it.
-    #[error("22 NotAscending")]
     NotAscending,
 }
+
+impl fmt::Display for TableError {
+    ghost output = { λ fault. Some (shown_table_error fault) };
+
+    fn fmt<W: fmt::Write>(&self, f: &mut fmt::Formatter<W>) -> fmt::Result {
+        f.write_str(match self {
+            TableError::BadLine => "23 BadLine",
+            TableError::TooMany => "20 TooMany",
+            TableError::OutOfRange => "21 OutOfRange",
+            TableError::NotAscending => "22 NotAscending",
+        })
+    }
+}
+
+impl std::error::Error for TableError {}

@@ -9,6 +9,7 @@ pub mod Report
 pub mod Reported
 pub mod Run
 pub mod Score
+pub mod Shown
 pub mod Streams
 pub mod Traces
 pub mod Tune

@@ -1,5 +1,7 @@
-ghost use Rattle.std.specs.Prelude.{◌≡◌};
+//! What can go wrong in an engine, and how it is shown.
+ghost use Rattle.std.specs.Prelude.{◌≡◌, Some};
 ghost use Rattle.mte_engine.specs.Outcome.{fault_of_answer, fault_of_read};
+ghost use Rattle.mte_engine.specs.Shown.{shown_fault, shown_input_fault};
 ghost use Rattle.mte_engine.specs.declared.fault.AnswerError.TheVariants.{OutOfMemory as NoMemoryToAnswer};
 ghost use Rattle.mte_engine.specs.declared.fault.ReadError.TheVariants.{OutOfMemory as NoMemoryToRead};
 ghost use Rattle.mte_engine.specs.declared.fault.ToolFault.TheVariants.{OutOfMemory, WriteFault};
@@ -8,46 +10,68 @@ use crate::streams::Failure;
 use class_table::TableError;
 use profile_count::ProfileFault;
 use std::alloc::{AllocError, AllocFailed};
-use thiserror::Error;
+use std::fmt;
 use trace_reader::TraceFault;
 
 /// What is wrong with the bytes of an input. Each is shown as its code and name, and its line where it has one; lines are counted from
 /// the input's first line, which is 1.
-#[derive(Debug, Clone, Copy, PartialEq, Eq, Error)]
+#[derive(Debug, Clone, Copy, PartialEq, Eq)]
 pub enum InputFault {
     /// There are more than 67,108,864 bytes. It comes before every fault of the text.
-    #[error("80 InputTooLong")]
     TooLong,
     /// The class line, which is the first line, is faulty.
-    #[error("{0} line 1")]
     Table(TableError),
     /// A line of the sheet is faulty or missing.
-    #[error("48 BadSheet line {0}")]
     BadSheet(u64),
     /// A line of the profile is faulty.
-    #[error("{1} line {0}")]
     Profile(u64, ProfileFault),
     /// A line of the trace is faulty.
-    #[error("{1} line {0}")]
     Trace(u64, TraceFault),
 }
 
+impl fmt::Display for InputFault {
+    ghost output = { λ fault. Some (shown_input_fault fault) };
+
+    fn fmt<W: fmt::Write>(&self, f: &mut fmt::Formatter<W>) -> fmt::Result {
+        match self {
+            InputFault::TooLong => f.write_str("80 InputTooLong"),
+            InputFault::Table(fault) => write!(f, "{fault} line 1"),
+            InputFault::BadSheet(line) => write!(f, "48 BadSheet line {line}"),
+            InputFault::Profile(line, fault) => write!(f, "{fault} line {line}"),
+            InputFault::Trace(line, fault) => write!(f, "{fault} line {line}"),
+        }
+    }
+}
+
+impl std::error::Error for InputFault {}
+
 /// Why an engine did not finish. Each is shown as its code and name, and its line where it has one.
-#[derive(Debug, Clone, Copy, PartialEq, Eq, Error)]
+#[derive(Debug, Clone, Copy, PartialEq, Eq)]
 pub enum ToolFault {
     /// The allocator refused memory.
-    #[error("1 OutOfMemory")]
     OutOfMemory,
     /// The input is refused.
-    #[error("{0}")]
     Input(InputFault),
     /// A read failed.
-    #[error("81 ReadFault")]
     ReadFault,
     /// A write failed, or took no byte.
-    #[error("82 WriteFault")]
     WriteFault,
 }
+
+impl fmt::Display for ToolFault {
+    ghost output = { λ fault. Some (shown_fault fault) };
+
+    fn fmt<W: fmt::Write>(&self, f: &mut fmt::Formatter<W>) -> fmt::Result {
+        match self {
+            ToolFault::OutOfMemory => f.write_str("1 OutOfMemory"),
+            ToolFault::Input(fault) => write!(f, "{fault}"),
+            ToolFault::ReadFault => f.write_str("81 ReadFault"),
+            ToolFault::WriteFault => f.write_str("82 WriteFault"),
+        }
+    }
+}
+
+impl std::error::Error for ToolFault {}
 
 /// Why the reading loop did not come to the end of an input.
 #[derive(Debug, Clone, Copy, PartialEq, Eq)]

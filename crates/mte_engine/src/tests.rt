@@ -1,8 +1,15 @@
-//! What no contract says: worked values, the texts of faults, and calls that fail in the middle of an input or an output.
+//! What no contract says: worked values, and calls that fail in the middle of an input or an output.
+mod check_texts;
+mod counts;
 mod long_traces;
 mod pieces;
 mod profile_texts;
+mod real_profiles;
 mod replay_texts;
 mod run_texts;
+mod score_texts;
+mod streams_failing;
 mod support;
 mod trace_faults;
+mod tune_texts;
+mod verdicts;

@@ -1,4 +1,3 @@
-pub mod Answering
-pub mod Checking
-pub mod Moves
-pub mod Scoring
+pub mod Calls
+pub mod Numbers
+pub mod PlainWords

@@ -1,8 +1,4 @@
-pub mod Check
+pub mod Calls
 pub mod Exit
-pub mod Moving
-pub mod Outcome
-pub mod Parts
-pub mod Score
-pub mod Streams
-pub mod Tune
+pub mod Program
+pub mod Words

@@ -1,23 +1,19 @@
-//! `mte_tool`: size-class tables and the bytes that they waste on real allocation profiles. Engines from a source of bytes to a sink of bytes, and the program.
+//! `mte_tool`: size-class tables, and a heap with memory tags, on what a program really allocates. The program over the engines of
+//! `mte_engine`: its words, the standard streams, and its exit status.
 #![tactic(auto)]
 
-mod check;
-mod engine;
-mod fault;
-mod memory;
-mod moving;
-mod parts;
+mod call;
+mod commands;
+mod end;
+mod options;
 mod program;
-mod score;
-mod standard;
-mod streams;
+mod refusal;
 #[cfg(test)]
 mod tests;
-mod tune;
 mod words;
 
-use std::process::ExitCode;
+use end::End;
 
-fn main(rt: HostRuntime) -> ExitCode {
-    ExitCode::from(program::run(&rt))
+fn main(rt: HostRuntime) -> End {
+    program::run(&rt)
 }

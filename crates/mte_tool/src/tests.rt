@@ -1,9 +1,5 @@
-//! What no contract says: worked values, the texts of faults, and calls that fail in the middle of an input or an output.
-mod check_texts;
-mod counts;
-mod real_profiles;
-mod score_texts;
-mod streams_failing;
-mod support;
-mod tune_texts;
-mod verdicts;
+//! What no contract says: what is printed, and that each word reaches its command. The whole program is run, on words and an input
+//! in memory.
+mod helps;
+mod runs;
+mod world;

@@ -1,22 +1,35 @@
-ghost use Rattle.std.specs.Prelude.{◌≡◌};
+ghost use Rattle.std.specs.Prelude.{◌≡◌, Some};
+ghost use Rattle.profile_count.specs.Shown.{shown_profile_fault};
 ghost use Rattle.profile_count.specs.declared.fault.ProfileError.TheVariants.{OutOfMemory};
 
 use std::alloc::AllocError;
+use std::fmt;
 use thiserror::Error;
 
-/// What is wrong with a line of a profile, in the order in which faults are looked for; each is shown as its code and name.
-#[derive(Debug, Clone, Copy, PartialEq, Eq, Error)]
+/// What is wrong with a line of a profile, in the order in which faults are looked for. Each is shown as its code and name.
+#[derive(Debug, Clone, Copy, PartialEq, Eq)]
 pub enum ProfileFault {
     /// The line is not two words, of which the first is a number up to 16,368 or `large` and the second a number, or it stands behind a `large` line.
-    #[error("30 BadLine")]
     BadLine,
     /// The size is not above the one of the line before.
-    #[error("31 NotAscending")]
     NotAscending,
     /// The count is not from 1 to 1,000,000,000.
-    #[error("32 CountOutOfRange")]
     CountOutOfRange,
 }
+
+impl fmt::Display for ProfileFault {
+    ghost output = { λ fault. Some (shown_profile_fault fault) };
+
+    fn fmt<W: fmt::Write>(&self, f: &mut fmt::Formatter<W>) -> fmt::Result {
+        f.write_str(match self {
+            ProfileFault::BadLine => "30 BadLine",
+            ProfileFault::NotAscending => "31 NotAscending",
+            ProfileFault::CountOutOfRange => "32 CountOutOfRange",
+        })
+    }
+}
+
+impl std::error::Error for ProfileFault {}
 
 /// Why no profile was read.
 #[derive(Debug, Clone, Copy, PartialEq, Eq, Error)]

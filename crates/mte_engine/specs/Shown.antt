@@ -1,0 +1,27 @@
+-- How a fault is shown: by its code and its name, and by its line where it has one.
+use Rattle.std.specs.Prelude.{ℕ, List, ◌++◌, codes}
+use Rattle.std.specs.Fmt.{decimal}
+use Rattle.class_table.specs.Shown.{shown_table_error}
+use Rattle.profile_count.specs.Shown.{shown_profile_fault}
+use Rattle.trace_reader.specs.Shown.{shown_trace_fault}
+use Rattle.mte_engine.specs.declared.fault.InputFault.{InputFault}
+use Rattle.mte_engine.specs.declared.fault.InputFault.TheVariants.{TooLong, Table, BadSheet, Profile, Trace}
+use Rattle.mte_engine.specs.declared.fault.ToolFault.{ToolFault}
+use Rattle.mte_engine.specs.declared.fault.ToolFault.TheVariants.{OutOfMemory, Input, ReadFault, WriteFault}
+
+-- A fault in a line of the input.
+abbrev pub in_line : List ℕ → ℕ → List ℕ
+in_line fault line = fault ++ codes " line " ++ decimal line
+
+abbrev pub shown_input_fault : InputFault → List ℕ
+shown_input_fault TooLong = codes "80 InputTooLong"
+shown_input_fault (Table fault) = shown_table_error fault ++ codes " line 1"
+shown_input_fault (BadSheet line) = in_line (codes "48 BadSheet") line
+shown_input_fault (Profile line fault) = in_line (shown_profile_fault fault) line
+shown_input_fault (Trace line fault) = in_line (shown_trace_fault fault) line
+
+abbrev pub shown_fault : ToolFault → List ℕ
+shown_fault OutOfMemory = codes "1 OutOfMemory"
+shown_fault (Input fault) = shown_input_fault fault
+shown_fault ReadFault = codes "81 ReadFault"
+shown_fault WriteFault = codes "82 WriteFault"

@@ -1,0 +1,7 @@
+//! The commands: the words and the help of each, beside the call of its engine.
+pub mod check;
+pub mod profile;
+pub mod replay;
+pub mod run;
+pub mod score;
+pub mod tune;
