@@ -59,7 +59,7 @@ const AFTER: &str = "\
 Example:
   printf 'malloc 1 16\\nfree 1\\nload 1 0 1\\n' | mte_tool run --limit 1 --granules 64
 writes the lines `classes 2`, `limit 1`, `waste 0` and `row 0`, then
-`3 fault tag granule 1 memory M pointer P in dead`, since the chunk was freed, and the totals.
+`3 fault tag granule 1 memory 3 pointer 1 in dead`, since the chunk was freed, and the totals.
 
 Refused, exit status 2:
   83 BadOption         the step is not 1, 2, 4 or 8; nothing is read then
