@@ -1,3 +1,4 @@
 pub mod Codes
-pub mod Rewrites
+pub mod LinkSet
 pub mod Links
+pub mod Rewrites

@@ -9,7 +9,7 @@ mod words;
 
 pub use granule::{is_header, read, write};
 pub use header::{Header, State};
-pub use slot_links::{link, set_link};
+pub use slot_links::{link, set_link, unlink};
 
 #[cfg(test)]
 mod tests;

@@ -1,6 +1,6 @@
 //! The links of a layout's slots, in the headers of a memory.
 ghost use Rattle.chunk_header.specs.Links.{SetsLink};
-ghost use Rattle.class_table.specs.Layout.{slot_count};
+ghost use Rattle.class_table.specs.Layout.{slot_count, slot_of};
 ghost use Rattle.heap_theory.specs.Links.{next_in};
 ghost use Rattle.std.specs.Prelude.{◌≡◌, ◌<◌, length};
 
@@ -29,4 +29,23 @@ pub fn set_link(memory: &mut Memory, layout: &Layout, slot: u32, link: u32)
     law_links_in_headers();
     prove!(memory.granules() == layout.granules());
     set_next(memory, layout.start(slot), link);
+}
+
+/// Sets the link of a slot of the layout, which was made for the memory, to 0, and returns what it was. Nothing else changes. The
+/// slot's header granule is `start`, as `Layout::slot` tells.
+pub fn unlink(memory: &mut Memory, layout: &Layout, slot: u32, start: u32) -> u32
+    requires region { length memory.old ≡ layout.now.granules }
+    requires slot { slot < slot_count layout.now }
+    requires start { start ≡ (slot_of layout.now slot).start }
+    ensures was { result ≡ next_in layout.now memory.old slot }
+    ensures link { SetsLink layout.now memory.old memory.new slot 0 }
+    ensures region { length memory.new ≡ layout.now.granules }
+{
+    law_links();
+    law_links_in_headers();
+    prove!(memory.granules() == layout.granules());
+    prove!(start == layout.start(slot));
+    let link = next(memory, start);
+    set_next(memory, start, 0);
+    link
 }

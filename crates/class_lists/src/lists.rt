@@ -7,7 +7,7 @@ ghost use Rattle.machine_theory.specs.Memory.{IsMemory, Granule};
 ghost use Rattle.std.specs.Prelude.{◌≡◌, ◌+◌, ◌*◌, ◌<◌, ◌≤◌, ℕ, List, [], ◌∷◌, length, drop, replicate, slice_get, slice_index, slice_set, Contains, IfNone, IfSome};
 
 use arrayvec::ArrayVec;
-use chunk_header::{link, set_link};
+use chunk_header::{set_link, unlink};
 use class_table::{Layout, MOST_CLASSES};
 use granule_memory::Memory;
 use heap_theory::laws::headers::law_links;
@@ -93,8 +93,8 @@ impl ClassLists {
             return None;
         }
         let slot = front - 1;
-        self.set_front(class, link(memory, layout, slot));
-        set_link(memory, layout, slot, 0);
+        let next = unlink(memory, layout, slot, layout.start(slot));
+        self.set_front(class, next);
         Some(slot)
     }
 

@@ -1,9 +1,9 @@
 -- The class of a slot, by the first slots of all classes.
-use Rattle.std.proofs.Common.{◌≡◌, ℕ, ◌+◌, ◌-◌, ◌*◌, ◌/◌, ◌<◌, ◌≤◌, true, false, List, length, map, take, get_or, leb, sym, ◌∙◌, ap, subst, arith, zero-add, inl, inr}
+use Rattle.std.proofs.Common.{◌≡◌, ℕ, ◌+◌, ◌-◌, ◌*◌, ◌/◌, ◌<◌, ◌≤◌, List, length, map, take, get_or, sym, ◌∙◌, ap, subst, arith, zero-add, inl, inr}
 use Rattle.std.specs.Prelude.{slice_get, Some, sum_by}
 use Rattle.std.specs.List.{range_with_len}
-use Rattle.std.specs.List.Sorted.{IsNonDecreasingBy, IsPartitionPoint}
-use Rattle.std.proofs.lemmas.Bool.{cases_lt, leb-true, leb-false}
+use Rattle.std.specs.List.Sorted.{IsNonDecreasingBy}
+use Rattle.std.proofs.lemmas.Bool.{cases_lt}
 use Rattle.std.proofs.lemmas.List.{take-take}
 use Rattle.std.proofs.lemmas.List.FromFn.{length-map-range_with_len, get_or-map-range_with_len}
 use Rattle.std.proofs.lemmas.List.Sums.{sum_by-take-le}
@@ -39,31 +39,31 @@ pub record IsClassOf (region : Partition) (slot number : ℕ) : Type 0 where
   pub to : slot < first_slot region (number + 1)
 
 pub class_of_point : (region : Partition) (slot point : ℕ) → slot < slot_count region → point ≤ length (firsts_of region) →
-    IsPartitionPoint (λ first. leb first slot ≡ true) (λ first. leb first slot ≡ false) (firsts_of region) point → (1 ≤ point) × IsClassOf region slot (point - 1)
-class_of_point region slot point within bound is =
+    ((k d : ℕ) → k < length (firsts_of region) → k < point → get_or (firsts_of region) k d ≤ slot) →
+    ((k d : ℕ) → point ≤ k → k < length (firsts_of region) → slot < get_or (firsts_of region) k d) → (1 ≤ point) × IsClassOf region slot (point - 1)
+class_of_point region slot point within bound below above =
     let long = length-firsts_of region in
     let all = slot_count-classes region in
     let some : 1 ≤ point = elim (cases_lt 0 point) [
       | inl some ↦ some
       | inr none ↦
-          let first : slot < first_slot region 0 =
-          subst (λ n. slot < n) (get_or-firsts_of region 0 0 (omega arith)) (leb-false _ _ (is.1 0 0 none (omega arith))) in
+          let first : slot < first_slot region 0 = subst (λ n. slot < n) (get_or-firsts_of region 0 0 (omega arith)) (above 0 0 none (omega arith)) in
           absurd (omega arith)
     ] in
     let not_all : point ≤ length region.classes = elim (cases_lt (length region.classes) point) [
       | inr most ↦ most
       | inl past ↦
           let last : first_slot region (length region.classes) ≤ slot =
-          subst (λ n. n ≤ slot) (get_or-firsts_of region (length region.classes) 0 (omega arith)) (leb-true _ _ (is.0 (length region.classes) 0 (omega arith) past)) in
+          subst (λ n. n ≤ slot) (get_or-firsts_of region (length region.classes) 0 (omega arith)) (below (length region.classes) 0 (omega arith) past) in
           absurd (omega arith)
     ] in
     let same : point - 1 + 1 ≡ point = omega arith in (
       some,
       record {
         within = omega arith;
-        from = subst (λ n. n ≤ slot) (get_or-firsts_of region (point - 1) 0 (omega arith)) (leb-true _ _ (is.0 (point - 1) 0 (omega arith) (omega arith)));
+        from = subst (λ n. n ≤ slot) (get_or-firsts_of region (point - 1) 0 (omega arith)) (below (point - 1) 0 (omega arith) (omega arith));
         to = subst (λ n. slot < first_slot region n) (sym same)
-            (subst (λ n. slot < n) (get_or-firsts_of region point 0 not_all) (leb-false _ _ (is.1 point 0 (omega arith) (omega arith))));
+            (subst (λ n. slot < n) (get_or-firsts_of region point 0 not_all) (above point 0 (omega arith) (omega arith)));
       },
     )
 

@@ -2,7 +2,11 @@
 use Rattle.std.proofs.Common.{◌≡◌, ℕ, ◌<◌, ◌≤◌, Bool, true, false, List, [], ◌∷◌, length, slice_index, get_or, ltb, Option, Some, None, arith, refl, sym, ap, ◌∙◌, inl, inr, subst}
 use Rattle.std.specs.Prelude.{IfSome, IfNone, slice_get, option_and_then, All, ◌↔◌}
 use Rattle.std.specs.List.{position_or_len}
-use Rattle.std.proofs.lemmas.Bool.{cases_order, cases_lt, both_ways, lt-ltb, le-ltb, leb-true, le-leb}
+use Rattle.std.proofs.lemmas.Bool.{cases_order, cases_lt, both_ways, lt-ltb, le-ltb, leb-true, le-leb, lt-leb}
+use Rattle.std.proofs.lemmas.Grind.{div_ceil_times}
+use Rattle.std.proofs.lemmas.List.Sums.{position_or_len_is}
+use Rattle.std.specs.Int.{div_ceil}
+use Rattle.std.specs.List.Sorted.{IsNonDecreasingBy, IsStrictlyIncreasing}
 use Rattle.std.proofs.lemmas.List.Elements.{All-nil, All-cons}
 use Rattle.std.proofs.lemmas.List.Folds.{find_at}
 use Rattle.std.proofs.lemmas.Option.{get_or_from_slice_get, slice_get_past}
@@ -79,3 +83,36 @@ serving-need n class two = (
 pub none_of : (classes : List ℕ) (n : ℕ) (number : Option ℕ) → number ≡ class_number_for classes n → IfNone number (All (λ class. serves n class ≡ false) classes)
 none_of classes n None none = none_serving n classes (class_at_number n classes ∙ ap (option_and_then (slice_get classes)) (sym none))
 none_of classes n (Some number) found = tt
+
+-- ---- the number of a size's class is how many classes are too small
+
+-- a class is too small where it is at most the granules of the bytes
+too_small : (n class : ℕ) → 2 ≤ class → class ≤ div_ceil n 16 → serves n class ≡ false
+too_small n class two small = lt-leb n _ (omega (arith, div_ceil_times n 16 (omega arith)))
+
+large_enough : (n class : ℕ) → div_ceil n 16 < class → serves n class ≡ true
+large_enough n class large = le-leb n _ (omega (arith, div_ceil_times n 16 (omega arith)))
+
+pub ascending_classes : (classes : List ℕ) → IsStrictlyIncreasing classes → IsNonDecreasingBy (λ class. class) classes
+ascending_classes classes ascending i j d le within = elim (cases_lt i j) [
+  | inl less ↦ let larger = AllPairs-from_increasing classes ascending i j d less within in omega (arith, larger)
+  | inr not_less ↦ let same : i ≡ j = omega arith in rw same (omega arith)
+]
+
+pub counted_place : (step : ℕ) (classes : List ℕ) (n number : ℕ) → IsLegalTable step classes → number ≤ length classes →
+    ((k d : ℕ) → k < length classes → k < number → get_or classes k d ≤ div_ceil n 16) → ((k d : ℕ) → number ≤ k → k < length classes → div_ceil n 16 < get_or classes k d) →
+    position_or_len (serves n) classes ≡ number
+counted_place step classes n number legal bound below above =
+    position_or_len_is (serves n) classes number 0 bound
+    (λ k less. too_small n (get_or classes k 0) (legal.in_range k 0 (omega arith)).0 (below k 0 (omega arith) less))
+    (λ within. large_enough n (get_or classes number 0) (above number 0 (omega arith) within))
+
+pub number_counted : (n : ℕ) (classes : List ℕ) (number : ℕ) → position_or_len (serves n) classes ≡ number → number < length classes → Some number ≡ class_number_for classes n
+number_counted n classes number place within =
+    let test : ltb (position_or_len (serves n) classes) (length classes) ≡ true = lt-ltb _ _ (subst (λ k. k < length classes) (sym place) within) in
+    rw test (ap Some (sym place))
+
+pub none_counted : (n : ℕ) (classes : List ℕ) (number : ℕ) → position_or_len (serves n) classes ≡ number → length classes ≤ number → None ≡ class_number_for classes n
+none_counted n classes number place past =
+    let test : ltb (position_or_len (serves n) classes) (length classes) ≡ false = le-ltb _ _ (subst (λ k. length classes ≤ k) (sym place) past) in
+    rw test refl

@@ -68,6 +68,18 @@ none_behind_slots region granule is within past = none_over region granule is (�
     subst (λ n. place.k ≡ granule % share_of region / get_or region.classes n 0) where_is.number_is where_is.k_is in
     omega arith)
 
+-- a place is a slot's exactly where its number is below the next class's first slot
+module _ (region : Partition) (share number class k first next : ℕ) (share_is : share ≡ share_of region) (class_is : class ≡ get_or region.classes number 0) (within : number < length region.classes)
+    (first_is : first ≡ first_slot region number) (next_is : next ≡ first_slot region (number + 1)) where
+  counted : next ≡ first + share / class
+  counted = next_is ∙ first_slot-suc region number within ∙ (λ i. sym first_is i + sym share_is i / sym class_is i)
+
+  pub place_fits : first + k < next → k < share / class
+  place_fits below = omega (arith, counted, below)
+
+  pub place_behind : next ≤ first + k → share / class ≤ k
+  place_behind past = omega (arith, counted, past)
+
 -- and else it is the slot at that place
 pub some_in_share : (region : Partition) (granule s : ℕ) → IsPartition region → granule / share_of region < length region.classes →
     granule % share_of region / get_or region.classes (granule / share_of region) 0 < share_of region / get_or region.classes (granule / share_of region) 0 →
@@ -87,3 +99,18 @@ some_in_share region granule s is within fits place =
     let less : granule % share % class < class = mod_below (granule % share) class (omega arith) in
     let inside : s < slot_count region = omega (arith, first_slot-suc region number within, first_slot-most region (number + 1)) in
     sym ((slot_over-covers 1 region granule s is.table).1 (inside, record { from = omega arith; to = omega arith }))
+
+-- which begins so many granules before
+pub place_in_share : (region : Partition) (granule : ℕ) → granule / share_of region < length region.classes →
+    granule % share_of region / get_or region.classes (granule / share_of region) 0 < share_of region / get_or region.classes (granule / share_of region) 0 →
+    (slot_of region (first_slot region (granule / share_of region) + granule % share_of region / get_or region.classes (granule / share_of region) 0)).start
+    + granule % share_of region % get_or region.classes (granule / share_of region) 0 ≡ granule
+place_in_share region granule within fits =
+    let share = share_of region in
+    let number = granule / share in
+    let class = get_or region.classes number 0 in
+    let k = granule % share / class in
+    let start : (slot_of region (first_slot region number + k)).start ≡ share * number + class * k = ap (λ (slot : Slot). slot.start) (slot_of-class region number k within fits) in
+    let whole : number * share + granule % share ≡ granule = div-add-mod' granule share in
+    let inner : k * class + granule % share % class ≡ granule % share = div-add-mod' (granule % share) class in
+    omega (arith, start, whole, inner)

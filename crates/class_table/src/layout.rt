@@ -1,9 +1,12 @@
-ghost use Rattle.std.specs.Prelude.{◌≡◌, ◌+◌, ◌/◌, ◌<◌, ◌≤◌, length, slice_get, slice_index, IfSome, Some};
+ghost use Rattle.std.specs.Prelude.{◌≡◌, ◌+◌, ◌/◌, ◌<◌, ◌≤◌, length, slice_get, slice_index, slice_index_or, ℕ, IfNone, IfSome, None, Some};
 ghost use Rattle.class_table.specs.Layout.{IsPartition, block_bytes, first_slot, share_of, slot_count, slot_of, slot_over};
-ghost use Rattle.class_table.specs.Tables.{class_number_for};
+ghost use Rattle.class_table.specs.Sizes.{loss_of};
+ghost use Rattle.class_table.specs.Tables.{class_for, class_number_for};
+ghost use Rattle.std.specs.List.Sorted.{IsNonDecreasingBy};
+ghost use Rattle.std.specs.Option.{option_map_or};
 
 use crate::sizes::GRANULE_BYTES;
-use crate::table::{ClassTable, MOST_CLASSES, number_for};
+use crate::table::{ClassTable, MOST_CLASSES};
 use arrayvec::ArrayVec;
 use std::marker::Model;
 
@@ -16,11 +19,20 @@ pub const MOST_GRANULES: u32 = 262_144;
 // the first slots of all classes, and the number of slots behind them
 const MOST_FIRSTS: usize = 33;
 
+/// Where a slot lies: its first granule, which is its header, and its class, which is the number of its granules.
+#[derive(Clone, Copy, Debug, PartialEq, Eq)]
+pub struct Slot {
+    /// Its first granule.
+    pub start: u32,
+    /// Its granules, 2 to 1024.
+    pub class: u32,
+}
+
 /// Where the slots of a region lie: each class of a table has an equal share of its granules, and as many slots in it as fit.
 /// Slots are numbered from 0 in address order; a slot's first granule is its header. It takes no memory.
 #[derive(Debug, Drop)]
 pub struct Layout {
-    classes: ArrayVec<u16, MOST_CLASSES>,
+    classes: ArrayVec<u32, MOST_CLASSES>,
     firsts: ArrayVec<u32, MOST_FIRSTS>,
     share: u32,
     granules: u32,
@@ -49,10 +61,10 @@ impl Layout {
         let mut firsts = ArrayVec::new();
         let mut slots = 0;
         for number in 0..table.len() {
-            let class = table.class(number);
+            let class = u32::from(table.class(number));
             classes.push(class);
             firsts.push(slots);
-            slots += share / u32::from(class);
+            slots += share / class;
         }
         firsts.push(slots);
         Layout {
@@ -84,7 +96,12 @@ impl Layout {
         ensures number { result ≡ class_number_for self.now.classes n }
         ensures within { IfSome result (λ number. number < length self.now.classes) }
     {
-        number_for(&self.classes, n)
+        let number = count_up_to(&self.classes, n.div_ceil(GRANULE_BYTES)) as usize;
+        if number < self.classes.len() {
+            Some(number)
+        } else {
+            None
+        }
     }
 
     /// How many slots the region has.
@@ -112,7 +129,24 @@ impl Layout {
         ensures from { first_slot self.now result ≤ slot }
         ensures to { slot < first_slot self.now (result + 1) }
     {
-        self.firsts.partition_point(|first| *first <= slot) - 1
+        count_up_to(&self.firsts, slot) as usize - 1
+    }
+
+    /// Where the slot of this number lies, which is below `slots()`. One call serves where both its granule and its class are wanted.
+    pub fn slot(&self, slot: u32) -> Slot
+        requires { slot < slot_count self.now }
+        ensures start { result.start ≡ (slot_of self.now slot).start }
+        ensures class { result.class ≡ (slot_of self.now slot).class }
+        ensures inside { result.start + result.class ≤ self.now.granules }
+        ensures in_range { (2 ≤ result.class) × (result.class ≤ 1024) }
+    {
+        let number = self.class_of(slot);
+        let place = slot - self.first_slot(number);
+        let class = self.class(number);
+        Slot {
+            start: self.share() * number as u32 + class * place,
+            class,
+        }
     }
 
     /// The header granule of a slot.
@@ -121,9 +155,7 @@ impl Layout {
         ensures start { result ≡ (slot_of self.now slot).start }
         ensures inside { result < self.now.granules }
     {
-        let number = self.class_of(slot);
-        let place = slot - self.first_slot(number);
-        self.share() * number as u32 + self.class(number) * place
+        self.slot(slot).start
     }
 
     /// The bytes of a slot's block, its header among them: 16 times its class.
@@ -139,6 +171,17 @@ impl Layout {
     pub fn slot_at(&self, granule: u32) -> Option<u32>
         ensures { result ≡ slot_over self.now granule }
     {
+        let (slot, _) = self.place_at(granule)?;
+        Some(slot)
+    }
+
+    /// The slot that covers a granule, and how many of its granules lie before that one; none where the granule is slack or past
+    /// the region.
+    pub fn place_at(&self, granule: u32) -> Option<(u32, u32)>
+        ensures none { IfNone result (slot_over self.now granule ≡ None) }
+        ensures some { IfSome result (λ place. slot_over self.now granule ≡ Some place.0) }
+        ensures place { IfSome result (λ place. (slot_of self.now place.0).start + place.1 ≡ granule) }
+    {
         let share = self.share();
         if share == 0 {
             return None;
@@ -148,11 +191,23 @@ impl Layout {
             return None;
         }
         let class = self.class(number);
-        let place = granule % share / class;
-        if place < share / class {
-            Some(self.first_slot(number) + place)
+        let inner = granule % share;
+        let slot = self.first_slot(number) + inner / class;
+        if slot < self.first_slot(number + 1) {
+            Some((slot, inner % class))
         } else {
             None
+        }
+    }
+
+    /// The bytes that a request of `n` bytes leaves unused in a block of its class; 0 where no class serves it.
+    pub fn loss(&self, n: u32) -> u32
+        ensures loss { result ≡ option_map_or (loss_of n) (class_for self.now.classes n) 0 }
+        ensures small { result ≤ 16368 }
+    {
+        match self.find(n) {
+            Some(number) => GRANULE_BYTES * self.classes[number] - GRANULE_BYTES - n,
+            None => 0,
         }
     }
 
@@ -170,7 +225,7 @@ impl Layout {
         ensures class { result ≡ slice_index self.now.classes number }
         ensures in_range { (2 ≤ result) × (result ≤ 1024) }
     {
-        u32::from(self.classes[number])
+        self.classes[number]
     }
 }
 
@@ -180,4 +235,20 @@ fn share_of_each(classes: usize, granules: u32) -> u32
     ensures { result ≡ granules / classes }
 {
     granules.checked_div(classes as u32).unwrap_or(0)
+}
+
+// How many of some ascending numbers are at most n. It looks at all of them: a search that stops early is slower, since a processor
+// can't predict where it stops.
+fn count_up_to(numbers: &[u32], n: u32) -> u32
+    requires few { length numbers.now ≤ MOST_FIRSTS }
+    requires ascending { IsNonDecreasingBy (λ number. number) numbers.now }
+    ensures bound { result ≤ length numbers.now }
+    ensures below { (k d : ℕ) → k < length numbers.now → k < result → slice_index_or numbers.now k d ≤ n }
+    ensures above { (k d : ℕ) → result ≤ k → k < length numbers.now → n < slice_index_or numbers.now k d }
+{
+    let mut count = 0;
+    for number in numbers {
+        count += u32::from(*number <= n);
+    }
+    count
 }

@@ -11,7 +11,7 @@ mod table;
 
 pub use class_line::LINE_BYTES;
 pub use fault::TableError;
-pub use layout::{FEWEST_GRANULES, Layout, MOST_GRANULES};
+pub use layout::{FEWEST_GRANULES, Layout, MOST_GRANULES, Slot};
 pub use sizes::{
     GRANULE_BYTES, LARGEST_CLASS, LARGEST_COUNTED, SMALLEST_CLASS, loss, need, round_up, serves,
 };

@@ -90,7 +90,7 @@ impl ClassTable {
 }
 
 // the number of the first class that serves n
-pub(crate) fn number_for(classes: &[u16], n: u32) -> Option<usize>
+fn number_for(classes: &[u16], n: u32) -> Option<usize>
     ensures { result ≡ class_number_for classes.now n }
 {
     classes.iter().position(|class| serves(n, *class))

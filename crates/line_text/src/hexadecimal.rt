@@ -3,6 +3,9 @@ ghost use Rattle.std.specs.Prelude.{◌≡◌, ◌<◌, Some, None, if◌then◌
 ghost use Rattle.std.specs.Char.{digit_char, digit_value};
 ghost use Rattle.line_text.specs.Hexadecimal.{hex_of, hex, is_hex_digit};
 
+// the digits, by their values
+const DIGITS: [u8; 16] = *b"0123456789abcdef";
+
 /// The byte that a word of exactly two digits from `0` to `9` and `a` to `f` spells, the high one first; none for any
 /// other word.
 #[tactic(auto, unfolding(crate::specs::Hexadecimal::hex_of))]
@@ -36,9 +39,5 @@ fn hex_digit(value: u8) -> u8
     requires { value < 16 }
     ensures { result ≡ digit_char value }
 {
-    if value < 10 {
-        b'0' + value
-    } else {
-        b'a' + (value - 10)
-    }
+    DIGITS[usize::from(value)]
 }

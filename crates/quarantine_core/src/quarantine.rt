@@ -12,8 +12,8 @@ ghost use Rattle.quarantine_core.specs.Queue.{
 ghost use Rattle.std.specs.Prelude.{◌≡◌, ◌≢◌, ◌↔◌, ◌+◌, ◌<◌, [], ◌∷◌, ◌++◌, drop, length, suc, Contains, IfNone, IfSome, IsSome, List, ℕ};
 
 use crate::bounds::blocks_are_few;
-use chunk_header::{link, set_link};
-use class_table::Layout;
+use chunk_header::{set_link, unlink};
+use class_table::{GRANULE_BYTES, Layout};
 use granule_memory::Memory;
 use heap_theory::laws::headers::law_links;
 use std::marker::Model;
@@ -139,12 +139,13 @@ impl Quarantine {
     {
         law_links();
         let slot = self.front - 1;
-        self.held -= u64::from(layout.bytes(slot));
-        self.front = link(memory, layout, slot);
-        if self.front == 0 {
+        let place = layout.slot(slot);
+        self.held -= u64::from(GRANULE_BYTES * place.class);
+        let next = unlink(memory, layout, slot, place.start);
+        if next == 0 {
             self.back = 0;
         }
-        set_link(memory, layout, slot, 0);
+        self.front = next;
         slot
     }
 }

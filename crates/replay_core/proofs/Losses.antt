@@ -1,5 +1,5 @@
 -- What is lost on a request, and how large totals become.
-use Rattle.std.proofs.Common.{◌≡◌, ℕ, suc, ◌+◌, ◌*◌, ◌^◌, ◌<◌, ◌≤◌, Bool, true, false, cond, List, [], ◌∷◌, length, get_or, drop, drop-cons, add-one, refl, ap, ◌∙◌, arith, Option, Some, None}
+use Rattle.std.proofs.Common.{◌≡◌, ℕ, suc, ◌+◌, ◌*◌, ◌^◌, ◌<◌, ◌≤◌, Bool, true, false, cond, List, [], ◌∷◌, ap, ◌∙◌, arith, Option, Some, None}
 use Rattle.std.specs.Prelude.{All, is_some}
 use Rattle.std.specs.Option.{option_map_or}
 use Rattle.class_table.specs.Sizes.{loss_of, serves}
@@ -9,11 +9,6 @@ use Rattle.heap_theory.specs.Run.{Answer}
 use Rattle.heap_theory.specs.Totals.{Totals, is_request, request_size, is_large, is_no_class, is_exhausted, is_tag_fault, is_unmapped, is_refused, is_silent, loss_of_size, loss_of_request, loss_of_event, one_if, totals_after}
 use Rattle.replay_core.specs.Bounds.{AreBounded}
 use Rattle.replay_core.specs.Counted.{with_answer, with_request}
-
--- the class of a request, looked for class by class
-pub class_for-drop : (classes : List ℕ) (n i : ℕ) → i < length classes →
-    class_for (drop i classes) n ≡ cond (serves n (get_or classes i 0)) (Some (get_or classes i 0)) (class_for (drop (i + 1) classes) n)
-class_for-drop classes n i within = rw (add-one, drop-cons classes i 0) refl
 
 loss_of_size-le : (classes : List ℕ) (n : ℕ) → All (λ class. (2 ≤ class) × (class ≤ 1024)) classes → loss_of_size classes n ≤ 16368
 loss_of_size-le [] n legal = omega arith

@@ -9,11 +9,10 @@ use Rattle.replay_core.specs.Stored.{Stored, IsStored}
 abbrev pub stored : Inside → Stored
 stored replay = record { replay = over replay.heap.state replay.variables.items; totals = totals_in replay.totals }
 
--- It is stored of some run, whose totals are bounded; its classes are the heap's, and it has freed no more chunks than there were events.
+-- It is stored of some run, whose totals are bounded; its classes are legal, and it has freed no more chunks than there were events.
 pub record IsKept (replay : Inside) : Type 0 where
   pub reached : IsStored (stored replay)
   pub bounded : AreBounded (totals_in replay.totals)
   pub long : length replay.variables.items ≡ 1024
-  pub legal : IsLegalTable 1 replay.classes.items
-  pub classes : replay.classes.items ≡ replay.heap.state.layout.classes
+  pub legal : IsLegalTable 1 replay.heap.state.layout.classes
   pub few : replay.heap.frees ≤ replay.totals.events

@@ -1,4 +1,3 @@
-ghost use Rattle.class_table.specs.Tables.{IsLegalTable};
 ghost use Rattle.heap_theory.specs.Generations.{Run, run_after};
 ghost use Rattle.heap_theory.specs.Ranges.{IsInRange};
 ghost use Rattle.heap_theory.specs.Report.{report_line};
@@ -12,7 +11,7 @@ use crate::line::write_line;
 use crate::perform::perform;
 use crate::totals::Totals;
 use arrayvec::ArrayVec;
-use class_table::{ClassTable, MOST_CLASSES};
+use class_table::ClassTable;
 use heap_theory::Event;
 use std::alloc::{AllocError, Global};
 use std::marker::Model;
@@ -31,7 +30,6 @@ pub(crate) const VARIABLES: usize = 1024;
 pub struct Replay {
     pub(crate) heap: Heap,
     pub(crate) variables: Vec<u64>,
-    pub(crate) classes: ArrayVec<u16, MOST_CLASSES>,
     pub(crate) totals: Totals,
 }
 
@@ -58,13 +56,12 @@ impl Replay {
             replay ≡ first_stored (record { classes = table.now; granules = config.granules }) config.seed config.quarantine) }
     {
         laws_below();
-        let classes = classes_of(table);
+        table.len();
         let variables = vec![in alloc; 0; VARIABLES]?;
         let heap = Heap::new(alloc, table, config)?;
         Ok(Replay {
             heap,
             variables,
-            classes,
             totals: Totals::NONE,
         })
     }
@@ -81,7 +78,7 @@ impl Replay {
         laws_below();
         let mut bytes = [0; MOST_BYTES];
         let answer = perform(&mut self.heap, &mut self.variables, event, &mut bytes);
-        self.totals.count(&self.classes, event, &answer);
+        self.totals.count(&self.heap, event, &answer);
         write_line(line, self.totals.events, &answer, &bytes);
     }
 
@@ -91,16 +88,4 @@ impl Replay {
     {
         self.totals.events
     }
-}
-
-// the classes of a table
-fn classes_of(table: &ClassTable) -> ArrayVec<u16, MOST_CLASSES>
-    ensures classes { result.items ≡ table.now }
-    ensures legal { IsLegalTable 1 result.items }
-{
-    let mut classes = ArrayVec::new();
-    for number in 0..table.len() {
-        classes.push(table.class(number));
-    }
-    classes
 }

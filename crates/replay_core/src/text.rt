@@ -33,6 +33,8 @@ pub(crate) fn append_hex<const N: usize>(text: &mut ArrayVec<u8, N>, bytes: &[u8
     ensures len { length text.new.items ≡ length text.old.items + 2 * length bytes.now }
 {
     for byte in bytes {
-        append(text, &hex_digits(*byte));
+        let [high, low] = hex_digits(*byte);
+        text.push(high);
+        text.push(low);
     }
 }

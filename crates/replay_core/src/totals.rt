@@ -1,6 +1,6 @@
 ghost use Rattle.class_table.specs.Tables.{IsLegalTable};
 ghost use Rattle.heap_theory.specs.Report.{total_line, totals_text};
-ghost use Rattle.heap_theory.specs.Totals.{loss_of_size, request_size, totals_after};
+ghost use Rattle.heap_theory.specs.Totals.{request_size, totals_after};
 ghost use Rattle.line_text.specs.Lines.{ended};
 ghost use Rattle.replay_core.specs.Bounds.{AreBounded};
 ghost use Rattle.replay_core.specs.Counted.{with_answer, with_request};
@@ -11,8 +11,8 @@ use crate::answer::Answer;
 use crate::replay::Replay;
 use crate::text::{append, append_number};
 use arrayvec::ArrayVec;
-use class_table::{loss, serves};
 use heap_theory::{Event, NullCause};
+use tagged_heap::Heap;
 
 /// The most bytes of the lines of totals.
 pub const TOTALS_BYTES: usize = 512;
@@ -69,17 +69,17 @@ impl Totals {
         append_total(text, b"loss", self.loss);
     }
 
-    // Counts one event more, with its answer.
-    pub(crate) fn count(&mut self, classes: &[u16], event: &Event, answer: &Answer)
+    // Counts one event more on a heap, with its answer.
+    pub(crate) fn count(&mut self, heap: &Heap, event: &Event, answer: &Answer)
         requires few { self.old.events < 2 ^ 40 }
         requires bounded { AreBounded (totals_in self.old) }
-        requires legal { IsLegalTable 1 classes.now }
+        requires legal { IsLegalTable 1 heap.now.state.layout.classes }
         ensures counted { (bytes : List ℕ) →
-            totals_in self.new ≡ totals_after classes.now (totals_in self.old) (event.now, shown bytes answer.now) }
+            totals_in self.new ≡ totals_after heap.now.state.layout.classes (totals_in self.old) (event.now, shown bytes answer.now) }
         ensures bounded { AreBounded (totals_in self.new) }
     {
         self.count_answer(answer);
-        self.count_request(classes, request_size(event), answer);
+        self.count_request(heap, request_size(event), answer);
         self.events += 1;
     }
 
@@ -100,19 +100,18 @@ impl Totals {
     }
 
     // Counts a request of this size, if there was one, and what is lost on it where it was not refused.
-    fn count_request(&mut self, classes: &[u16], size: Option<u32>, answer: &Answer)
+    fn count_request(&mut self, heap: &Heap, size: Option<u32>, answer: &Answer)
         requires few { self.old.requests ≤ 2 ^ 40 }
         requires small { self.old.loss ≤ 16368 * 2 ^ 40 }
-        requires legal { IsLegalTable 1 classes.now }
         ensures { (bytes : List ℕ) →
-            totals_in self.new ≡ with_request classes.now (totals_in self.old) size (shown bytes answer.now) }
+            totals_in self.new ≡ with_request heap.now.state.layout.classes (totals_in self.old) size (shown bytes answer.now) }
     {
         let Some(n) = size else {
             return;
         };
         self.requests += 1;
         if let Answer::Silent = answer {
-            self.loss += u64::from(loss_in(classes, n));
+            self.loss += u64::from(heap.loss(n));
         }
     }
 }
@@ -150,18 +149,4 @@ pub fn request_size(event: &Event) -> Option<u32>
         | Event::Addg { .. }
         | Event::Subg { .. } => None,
     }
-}
-
-// the bytes that a request leaves unused in a block of its class; 0 where it has none
-fn loss_in(classes: &[u16], n: u32) -> u32
-    requires { IsLegalTable 1 classes.now }
-    ensures loss { result ≡ loss_of_size classes.now n }
-    ensures small { result ≤ 16368 }
-{
-    for class in classes {
-        if serves(n, *class) {
-            return loss(n, *class);
-        }
-    }
-    0
 }

@@ -1,6 +1,8 @@
 -- A slot is taken and given out, in the parts of a heap.
 use Rattle.std.proofs.Common.{◌≡◌, ℕ, ◌+◌, ◌<◌, ◌≤◌, List, [], ◌∷◌, length, refl, sym, ap, ◌∙◌, subst, inl, inr, arith, Some, None, Err}
 use Rattle.std.specs.Prelude.{Contains, slice_index, slice_set}
+use Rattle.std.proofs.lemmas.List.{get_or-set_same}
+use Rattle.machine_theory.specs.Address.{with_tag}
 use Rattle.machine_theory.specs.Machine.{Machine}
 use Rattle.machine_theory.specs.Memory.{Granule, IsMemory}
 use Rattle.machine_theory.specs.Seed.{next_seed}
@@ -11,6 +13,8 @@ use Rattle.heap_theory.specs.Calls.{chunk_tagged, given_out, next_tag}
 use Rattle.heap_theory.specs.Choice.{slot_for_request}
 use Rattle.heap_theory.specs.Header.{Header, with_header}
 use Rattle.heap_theory.specs.Links.{IsLinked, next_in, list_of}
+use Rattle.heap_theory.specs.State.{last_tag, payload_place, pointer_to, state_at}
+use Rattle.heap_theory.specs.State.State.{Fresh, Live}
 use Rattle.tagged_heap.specs.Below.{LawsBelow}
 use Rattle.tagged_heap.specs.Chunks.{given_header, tag_for, HasRoom, HasClass, Takes}
 use Rattle.tagged_heap.specs.Inside.{state_of, IsHeld}
@@ -112,3 +116,14 @@ module _ (laws : LawsBelow) (i : Inside) (held : IsHeld i) (m1 : List Granule) (
       let drawn : machine.tag ≡ next_tag (state_of i) s = ap (λ (x : Machine). x.tag) given ∙ tag in
       (λ k. shown_heap i.layout i.quarantine.limit machine.memory i.total (seed k) (drawn k))
       ∙ shown_is laws (given_out (state_of i) s n) machine.memory i.quarantine.front fronts after.queue after.lists after.kept
+
+  -- the address of the payload, under the tag that was drawn
+  pub given_address : (address : ℕ) → address ≡ with_tag (payload_place (slot_of i.layout s)) (tag_for i.layout (record i.machine { memory = m1 }) s) → address ≡ pointer_to (given_out (state_of i) s n) s
+  unfolding shown_heap given_out
+  given_address address is =
+      let h = state_of i in
+      let drawn : tag_for i.layout (record i.machine { memory = m1 }) s ≡ next_tag h s =
+      tag_drawn laws h i.machine.memory m1 s n held.kept.sound t.given.reusable.in_range t.given.room held.fits t.before t.memory_is in
+      let last : last_tag (state_at (given_out h s n) s) ≡ next_tag h s =
+      ap last_tag (get_or-set_same h.states s (Live n (next_tag h s)) Fresh (subst (λ k. s < k) (sym held.kept.sound.states) t.given.reusable.in_range)) in
+      is ∙ ap (with_tag (payload_place (slot_of i.layout s))) (drawn ∙ sym last)

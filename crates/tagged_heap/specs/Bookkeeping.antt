@@ -6,7 +6,6 @@ use Rattle.heap_theory.specs.Choice.{is_dead}
 use Rattle.heap_theory.specs.Hardening.{IsChunkGranule}
 use Rattle.heap_theory.specs.Header.{header_for}
 use Rattle.heap_theory.specs.Links.{IsLinked, next_in, list_of}
-use Rattle.heap_theory.specs.Sound.{IsSoundHeap}
 use Rattle.heap_theory.specs.State.{Heap, state_at, without_headers, IsSlot}
 use Rattle.tagged_heap.specs.Keeping.{header_in}
 

@@ -80,7 +80,7 @@ impl Heap {
         if granule == start {
             return PlaceKind::Header;
         }
-        let header = header(self.machine.memory(), &self.layout, slot);
+        let header = header(self.machine.memory(), &self.layout, slot, start);
         if granule - start > chunk_granules(u32::from(header.size)) {
             return PlaceKind::Tail;
         }

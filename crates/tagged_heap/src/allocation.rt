@@ -4,14 +4,13 @@ ghost use Rattle.class_table.specs.Tables.{class_number_for};
 ghost use Rattle.heap_theory.specs.Choice.{slot_for_request};
 ghost use Rattle.heap_theory.specs.State.{chunk_granules, pointer_to, slot_in, IsSlot};
 ghost use Rattle.tagged_heap.specs.Chunks.{IsCauseFor};
+ghost use Rattle.std.specs.Result.{result_map_both};
 ghost use Rattle.std.specs.Prelude.{◌≡◌, ◌↔◌, ◌*◌, ◌<◌, ◌≤◌, length, replicate, IfErr, IfOk, OnErr};
 
 use crate::bytes::zero;
 use crate::chunks::give_out;
-use crate::headers::header;
 use crate::heap::Heap;
 use crate::laws_below::laws_below;
-use crate::pointers::payload_address;
 use crate::tags::chunk_granules;
 use crate::taking::take_slot;
 use class_table::{LARGEST_COUNTED, Layout};
@@ -29,6 +28,13 @@ pub(crate) fn class_for(layout: &Layout, n: u32) -> Result<usize, NullCause>
     layout.find(n).ok_or(NullCause::NoClass)
 }
 
+/// A chunk that was given out: its slot, and its address.
+#[derive(Clone, Copy)]
+pub(crate) struct Given {
+    pub(crate) slot: u32,
+    pub(crate) address: u64,
+}
+
 impl Heap {
     /// Gives out a chunk of `n` bytes: the answer is the address of its first byte, with the chunk's tag. Its bytes are as they were.
     ///
@@ -40,8 +46,8 @@ impl Heap {
         ensures frees { self.new.frees ≡ self.old.frees }
         ensures refused { OnErr result (self.new ≡ self.old) }
     {
-        let slot = self.allocate(n)?;
-        Ok(self.pointer(slot))
+        let given = self.allocate(n)?;
+        Ok(given.address)
     }
 
     /// As `malloc`, and all bytes of the chunk's granules are 0.
@@ -53,17 +59,18 @@ impl Heap {
     {
         laws_below();
         self.law_sound();
-        let slot = self.allocate(n)?;
-        self.zero_chunk(slot, n);
-        Ok(self.pointer(slot))
+        let given = self.allocate(n)?;
+        self.zero_chunk(given.slot, n);
+        Ok(given.address)
     }
 
     // Gives out the slot for a request of n bytes, or says why there is none.
-    pub(crate) fn allocate(&mut self, n: u32) -> Result<u32, NullCause>
-        ensures slot { result ≡ slot_for_request self.old.state n }
-        ensures given { IfOk result (λ s. self.new ≡ record self.old { state = given_out self.old.state s n }) }
+    pub(crate) fn allocate(&mut self, n: u32) -> Result<Given, NullCause>
+        ensures slot { result_map_both (λ given. given.slot) (λ cause. cause) result ≡ slot_for_request self.old.state n }
+        ensures address { IfOk result (λ given. given.address ≡ pointer_to (given_out self.old.state given.slot n) given.slot) }
+        ensures given { IfOk result (λ given. self.new ≡ record self.old { state = given_out self.old.state given.slot n }) }
         ensures refused { OnErr result (self.new ≡ self.old) }
-        ensures in_range { IfOk result (λ s. IsSlot self.old.state s) }
+        ensures in_range { IfOk result (λ given. IsSlot self.old.state given.slot) }
     {
         laws_below();
         let class = class_for(&self.layout, n)?;
@@ -76,8 +83,8 @@ impl Heap {
             class,
         )
         .ok_or(NullCause::Exhausted)?;
-        give_out(&mut self.machine, &self.layout, slot, n);
-        Ok(slot)
+        let address = give_out(&mut self.machine, &self.layout, slot, n);
+        Ok(Given { slot, address })
     }
 
     // Makes all bytes of the chunk granules for n bytes in a slot 0.
@@ -90,15 +97,5 @@ impl Heap {
         laws_below();
         let first = self.layout.start(slot) + 1;
         zero(self.machine.memory_mut(), first, chunk_granules(n));
-    }
-
-    // The address of a slot's payload, under the tag that the slot was last given out with.
-    pub(crate) fn pointer(&self, slot: u32) -> u64
-        requires { IsSlot self.now.state slot }
-        ensures { result ≡ pointer_to self.now.state slot }
-    {
-        laws_below();
-        let tag = header(self.machine.memory(), &self.layout, slot).tag;
-        payload_address(&self.layout, slot, tag)
     }
 }

@@ -3,7 +3,8 @@ ghost use Rattle.class_table.specs.Layout.{end_of, slot_count, slot_of};
 ghost use Rattle.heap_theory.specs.Calls.{chunk_tagged, parity_exclude};
 ghost use Rattle.heap_theory.specs.Header.{header_at, with_header};
 ghost use Rattle.heap_theory.specs.Header.Standing.{Live, Quarantined};
-ghost use Rattle.heap_theory.specs.State.{chunk_granules, payload_start};
+ghost use Rattle.heap_theory.specs.State.{chunk_granules, payload_place, payload_start};
+ghost use Rattle.machine_theory.specs.Address.{with_tag};
 ghost use Rattle.machine_theory.specs.Instructions.{drawn_tag};
 ghost use Rattle.machine_theory.specs.Memory.{tagged, IsMemory};
 ghost use Rattle.machine_theory.specs.Seed.{next_seed};
@@ -12,15 +13,18 @@ ghost use Rattle.tagged_heap.specs.Chunks.{HasRoom, given_header, retired_header
 ghost use Rattle.tagged_heap.specs.Keeping.{header_in};
 
 use crate::headers::header;
+use crate::pointers::payload_address;
 use crate::tags::{chunk_granules, draw, exclude, tag_chunk};
 use chunk_header::{Header, State, write};
 use class_table::Layout;
 use machine_theory::laws::memory::law_memory;
 use tag_machine::Machine;
 
-/// Gives a slot out for `n` bytes, at most 16,368, which it has room for: draws a tag, writes the header and tags the chunk.
-pub(crate) fn give_out(machine: &mut Machine, layout: &Layout, slot: u32, n: u32)
+/// Gives a slot out for `n` bytes, at most 16,368, which it has room for: draws a tag, writes the header and tags the chunk. The
+/// answer is the address of its payload under that tag.
+pub(crate) fn give_out(machine: &mut Machine, layout: &Layout, slot: u32, n: u32) -> u64
     requires { HasRoom layout.now machine.old.memory slot n }
+    ensures address { result ≡ with_tag (payload_place (slot_of layout.now slot)) (tag_for layout.now machine.old slot) }
     ensures machine { let tag = tag_for layout.now machine.old slot in
         let header = given_header (header_in layout.now machine.old.memory slot) n tag in
         let place = slot_of layout.now slot in
@@ -31,7 +35,8 @@ pub(crate) fn give_out(machine: &mut Machine, layout: &Layout, slot: u32, n: u32
         } }
     ensures memory { IsMemory machine.new.memory }
 {
-    let before = header(machine.memory(), layout, slot);
+    let place = layout.slot(slot);
+    let before = header(machine.memory(), layout, slot, place.start);
     let tag = draw(machine, exclude(slot, before.tag));
     let after = Header {
         state: State::Live,
@@ -41,8 +46,9 @@ pub(crate) fn give_out(machine: &mut Machine, layout: &Layout, slot: u32, n: u32
         next: 0,
         mark: 0,
     };
-    write(machine.memory_mut(), layout.start(slot), &after);
-    tag_chunk(machine, layout, slot, n, tag);
+    write(machine.memory_mut(), place.start, &after);
+    tag_chunk(machine, place, n, tag);
+    payload_address(place.start, tag)
 }
 
 /// Gives the chunk of a live slot `n` bytes under the tag that it has, where its slot has room for them.
@@ -55,18 +61,21 @@ pub(crate) fn resize(machine: &mut Machine, layout: &Layout, slot: u32, n: u32)
         } }
     ensures memory { IsMemory machine.new.memory }
 {
-    let before = header(machine.memory(), layout, slot);
+    let place = layout.slot(slot);
+    let before = header(machine.memory(), layout, slot, place.start);
     let after = Header {
         size: n as u16,
         ..before
     };
-    write(machine.memory_mut(), layout.start(slot), &after);
-    tag_chunk(machine, layout, slot, n, before.tag);
+    write(machine.memory_mut(), place.start, &after);
+    tag_chunk(machine, place, n, before.tag);
 }
 
-/// Takes the chunk of a live slot back, with this mark: draws a tag, writes the header and gives the chunk the tag.
-pub(crate) fn retire(machine: &mut Machine, layout: &Layout, slot: u32, mark: u64)
-    requires { HasRoom layout.now machine.old.memory slot (header_in layout.now machine.old.memory slot).size }
+/// Takes the chunk of a live slot, which begins at granule `start`, back, with this mark: draws a tag, writes the header and gives
+/// the chunk the tag.
+pub(crate) fn retire(machine: &mut Machine, layout: &Layout, slot: u32, start: u32, mark: u64)
+    requires room { HasRoom layout.now machine.old.memory slot (header_in layout.now machine.old.memory slot).size }
+    requires start { start ≡ (slot_of layout.now slot).start }
     ensures machine { let before = header_in layout.now machine.old.memory slot in
         let tag = tag_for layout.now machine.old slot in
         let place = slot_of layout.now slot in
@@ -79,7 +88,7 @@ pub(crate) fn retire(machine: &mut Machine, layout: &Layout, slot: u32, mark: u6
     ensures memory { IsMemory machine.new.memory }
 {
     law_memory();
-    let before = header(machine.memory(), layout, slot);
+    let before = header(machine.memory(), layout, slot, start);
     let other = draw(machine, exclude(slot, before.tag));
     let after = Header {
         state: State::Quarantined,
@@ -87,7 +96,6 @@ pub(crate) fn retire(machine: &mut Machine, layout: &Layout, slot: u32, mark: u6
         mark,
         ..before
     };
-    let start = layout.start(slot);
     let memory = machine.memory_mut();
     write(memory, start, &after);
     memory.set_tags(start + 1, chunk_granules(u32::from(before.size)), other);

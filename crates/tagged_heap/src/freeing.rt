@@ -14,10 +14,10 @@ use crate::chunks::retire;
 use crate::headers::header;
 use crate::heap::Heap;
 use crate::laws_below::laws_below;
-use crate::pointers::slot_of_pointer;
+use crate::pointers::{slot_of_pointer, start_at};
 use chunk_header::{Header, State, write};
 use class_lists::ClassLists;
-use class_table::Layout;
+use class_table::{GRANULE_BYTES, Layout};
 use granule_memory::Memory;
 use heap_theory::FreeError;
 use quarantine_core::Quarantine;
@@ -59,7 +59,8 @@ impl Heap {
     {
         laws_below();
         let slot = slot_of_pointer(&self.layout, p).ok_or(FreeError::Misplaced)?;
-        let header = header(self.machine.memory(), &self.layout, slot);
+        let start = start_at(&self.layout, slot, p);
+        let header = header(self.machine.memory(), &self.layout, slot, start);
         match header.state {
             State::Live => {}
             State::Fresh | State::Quarantined | State::Freed => return Err(FreeError::NotLive),
@@ -82,8 +83,15 @@ impl Heap {
             self.new ≡ record { state = freed self.old.state slot n; frees = self.old.frees + 1 } }
     {
         laws_below();
-        let bytes = self.layout.bytes(slot);
-        retire(&mut self.machine, &self.layout, slot, self.total);
+        let place = self.layout.slot(slot);
+        let bytes = GRANULE_BYTES * place.class;
+        retire(
+            &mut self.machine,
+            &self.layout,
+            slot,
+            place.start,
+            self.total,
+        );
         let memory = self.machine.memory_mut();
         self.quarantine.put(memory, &self.layout, slot, bytes);
         let_go(memory, &self.layout, &mut self.quarantine, &mut self.lists);
@@ -121,11 +129,12 @@ fn list_freed(memory: &mut Memory, layout: &Layout, lists: &mut ClassLists, slot
     ensures memory { IsMemory memory.new }
 {
     laws_below();
-    let before = header(memory, layout, slot);
+    let start = layout.start(slot);
+    let before = header(memory, layout, slot, start);
     let after = Header {
         state: State::Freed,
         ..before
     };
-    write(memory, layout.start(slot), &after);
+    write(memory, start, &after);
     lists.push(memory, layout, usize::from(before.class), slot);
 }

@@ -5,20 +5,24 @@ ghost use Rattle.class_table.specs.Layout.{slot_count, slot_of};
 ghost use Rattle.heap_theory.specs.Header.{FitsWords};
 ghost use Rattle.std.specs.Prelude.{◌≡◌, ◌<◌, ◌^◌, length};
 
+use crate::laws_below::laws_below;
 use chunk_header::{Header, read};
 use class_table::Layout;
 use granule_memory::Memory;
 
-/// The header of a slot.
-pub(crate) fn header(memory: &Memory, layout: &Layout, slot: u32) -> Header
-    requires slot { slot < slot_count layout.now }
+/// The header of a slot, which begins at this granule.
+pub(crate) fn header(memory: &Memory, layout: &Layout, _slot: u32, start: u32) -> Header
+    requires slot { _slot < slot_count layout.now }
+    requires start { start ≡ (slot_of layout.now _slot).start }
     requires region { length memory.now ≡ layout.now.granules }
-    requires class { (header_in layout.now memory.now slot).class < 32 }
-    ensures header { seen result ≡ header_in layout.now memory.now slot }
+    requires class { (header_in layout.now memory.now _slot).class < 32 }
+    ensures header { seen result ≡ header_in layout.now memory.now _slot }
     ensures fits { FitsWords (seen result) }
     ensures size { result.size < 2 ^ 14 }
     ensures tag { result.tag < 16 }
     ensures class { result.class < 32 }
 {
-    read(memory, layout.start(slot))
+    laws_below();
+    layout.granules();
+    read(memory, start)
 }

@@ -1,4 +1,5 @@
 ghost use Rattle.heap_theory.specs.State.{first_heap};
+ghost use Rattle.heap_theory.specs.Totals.{loss_of_size};
 ghost use Rattle.machine_theory.specs.Instructions.{addg, subg};
 ghost use Rattle.std.specs.Prelude.{◌≡◌, ◌≢◌, ◌≤◌, IfOk};
 
@@ -85,6 +86,14 @@ impl Heap {
         ensures { result ≡ self.now.frees }
     {
         self.frees
+    }
+
+    /// The bytes that a request of `n` bytes leaves unused in a block of its class, 0 to 16,368; 0 where no class serves it.
+    pub fn loss(&self, n: u32) -> u32
+        ensures loss { result ≡ loss_of_size self.now.state.layout.classes n }
+        ensures small { result ≤ 16368 }
+    {
+        self.layout.loss(n)
     }
 
     /// ADDG: the address `u6` granules (0 to 63) further up modulo 2^64, with the tag that the offset `u4` (0 to 15) chooses from its own on.

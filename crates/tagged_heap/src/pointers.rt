@@ -1,21 +1,19 @@
 //! Pointers and the slots that they name.
 ghost use Rattle.class_table.specs.Layout.{slot_count, slot_of};
 ghost use Rattle.heap_theory.specs.State.{payload_place};
-ghost use Rattle.machine_theory.specs.Address.{place_of, with_tag};
-ghost use Rattle.std.specs.Prelude.{◌≡◌, ◌^◌, ◌<◌, MatchOption, ℕ};
+ghost use Rattle.machine_theory.specs.Address.{place_of, region_start, with_tag};
+ghost use Rattle.std.specs.Prelude.{◌≡◌, ◌+◌, ◌*◌, ◌^◌, ◌<◌, MatchOption, ℕ};
 
 use crate::laws_below::laws_below;
 use class_table::Layout;
 use tag_machine::{GRANULE_BYTES, REGION_START, place_of, with_tag};
 
-/// The address of a slot's payload, under this tag.
-pub(crate) fn payload_address(layout: &Layout, slot: u32, tag: u8) -> u64
-    requires slot { slot < slot_count layout.now }
+/// The address of the payload of a slot, which begins at this granule, under this tag.
+pub(crate) fn payload_address(start: u32, tag: u8) -> u64
     requires tag { tag < 16 }
-    ensures { result ≡ with_tag (payload_place (slot_of layout.now slot)) tag }
+    ensures { result ≡ with_tag (region_start + 16 * (start + 1)) tag }
 {
-    let granule = u64::from(layout.start(slot)) + 1;
-    with_tag(REGION_START + GRANULE_BYTES * granule, tag)
+    with_tag(REGION_START + GRANULE_BYTES * (u64::from(start) + 1), tag)
 }
 
 /// The slot whose payload begins at the pointer's place, or none where there is no such slot or bits 63 to 60 of the pointer are
@@ -35,10 +33,17 @@ pub(crate) fn slot_of_pointer(layout: &Layout, p: u64) -> Option<u32>
         return None;
     }
     let granule = granule as u32;
-    let slot = layout.slot_at(granule)?;
-    if layout.start(slot) + 1 == granule {
-        Some(slot)
-    } else {
-        None
-    }
+    let (slot, before) = layout.place_at(granule)?;
+    if before == 1 { Some(slot) } else { None }
+}
+
+/// The header granule of the slot whose payload begins at the pointer's place.
+pub(crate) fn start_at(layout: &Layout, slot: u32, p: u64) -> u32
+    requires slot { slot < slot_count layout.now }
+    requires place { place_of p ≡ payload_place (slot_of layout.now slot) }
+    ensures { result ≡ (slot_of layout.now slot).start }
+{
+    laws_below();
+    layout.granules();
+    ((place_of(p) - REGION_START) / GRANULE_BYTES) as u32 - 1
 }

@@ -58,11 +58,10 @@ impl Heap {
         laws_below();
         law_reads();
         self.law_sound();
-        let slot = self.allocate(n)?;
-        let moved_to = self.pointer(slot);
-        self.copy_payload(chunk.slot, slot, chunk.size.min(n));
+        let given = self.allocate(n)?;
+        self.copy_payload(chunk.slot, given.slot, chunk.size.min(n));
         self.release(chunk.slot);
-        Ok(moved_to)
+        Ok(given.address)
     }
 
     // Whether n bytes are of the class that a slot has.

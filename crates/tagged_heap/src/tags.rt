@@ -1,5 +1,4 @@
 //! The tags of chunks: how one is drawn, and the granules that get it.
-ghost use Rattle.class_table.specs.Layout.{end_of, slot_count, slot_of};
 ghost use Rattle.heap_theory.specs.Calls.{chunk_tagged, parity_exclude};
 ghost use Rattle.heap_theory.specs.State.{chunk_granules};
 ghost use Rattle.machine_theory.specs.Instructions.{drawn_tag};
@@ -7,7 +6,7 @@ ghost use Rattle.machine_theory.specs.Memory.{tagged, IsMemory};
 ghost use Rattle.machine_theory.specs.Seed.{next_seed};
 ghost use Rattle.std.specs.Prelude.{◌≡◌, ◌+◌, ◌^◌, ◌<◌, ◌≤◌, bit_or, length};
 
-use class_table::{GRANULE_BYTES, Layout};
+use class_table::{GRANULE_BYTES, Slot};
 use tag_machine::Machine;
 
 /// The granules of the chunk for a request of `n` bytes, at most 16,368.
@@ -42,22 +41,20 @@ pub(crate) fn draw(machine: &mut Machine, exclude: u16) -> u8
 }
 
 /// Gives the chunk for a request of `n` bytes the tag, and the rest of the slot's payload tag 0.
-pub(crate) fn tag_chunk(machine: &mut Machine, layout: &Layout, slot: u32, n: u32, tag: u8)
-    requires in_range { slot < slot_count layout.now }
-    requires inside { end_of (slot_of layout.now slot) ≤ length machine.old.memory }
+pub(crate) fn tag_chunk(machine: &mut Machine, slot: Slot, n: u32, tag: u8)
+    requires inside { slot.start + slot.class ≤ length machine.old.memory }
     requires memory { IsMemory machine.old.memory }
     requires size { n ≤ 16368 }
-    requires room { chunk_granules n < (slot_of layout.now slot).class }
+    requires room { chunk_granules n < slot.class }
     requires tag { tag < 16 }
     ensures tagged { machine.new ≡ record machine.old {
-      memory = chunk_tagged (slot_of layout.now slot) n tag machine.old.memory;
+      memory = chunk_tagged (record { start = slot.start; class = slot.class }) n tag machine.old.memory;
     } }
     ensures memory { IsMemory machine.new.memory }
 {
-    let first = layout.start(slot) + 1;
+    let first = slot.start + 1;
     let chunk = chunk_granules(n);
-    let payload = layout.bytes(slot) / GRANULE_BYTES - 1;
     let memory = machine.memory_mut();
     memory.set_tags(first, chunk, tag);
-    memory.set_tags(first + chunk, payload - chunk, 0);
+    memory.set_tags(first + chunk, slot.class - 1 - chunk, 0);
 }

@@ -1,4 +1,4 @@
-use Rattle.std.proofs.Common.{◌≡◌, ◌+◌, ◌-◌, ◌/◌, sym, ap, ◌∙◌, arith, Some, None}
+use Rattle.std.proofs.Common.{◌≡◌, ◌+◌, ◌-◌, ◌/◌, refl, sym, ap, ◌∙◌, arith, Some, None}
 use Rattle.machine_theory.specs.Address.{region_start}
 use Rattle.class_table.specs.Layout.{slot_of}
 use Rattle.tagged_heap.proofs.PointerSlots.{payload_granule, payload_inside, payload_covered, covered_within, payload_begins}
@@ -13,28 +13,28 @@ pub returns-in_err-slot : goal.returns-in_err-slot
 returns-in_err-slot c =
     rw c.from_residual.ensures
     (λ s within plain at.
-    let some : None ≡ Some s = c.in_err-slot.ensures ∙ payload_covered c.laws_below.ensures c.args.layout.now c.granules.ensures.partition s c.place_of-place.result within (c.place_of-place.ensures ∙ at) in
+    let some : None ≡ Some s = sym c.in_err-slot.ensures.none ∙ payload_covered c.laws_below.ensures c.args.layout.now c.granules.ensures.partition s c.place_of-place.result within (c.place_of-place.ensures ∙ at) in
     cc)
 
-pub start-requires : goal.start-requires
-start-requires c = covered_within c.laws_below.ensures c.args.layout.now c.granules.ensures.partition _ c.in_ok-slot.slot c.slot_at.result c.slot_at.ensures c.in_ok-slot.was
-
-pub returns-then-start-granule : goal.returns-then-start-granule
-returns-then-start-granule c =
-    let within = covered_within c.laws_below.ensures c.args.layout.now c.granules.ensures.partition _ c.in_ok-slot.slot c.slot_at.result c.slot_at.ensures c.in_ok-slot.was in
-    let begins : (slot_of c.args.layout.now c.in_ok-slot.slot).start + 1 ≡ (c.place_of-place.result - region_start) / 16 = ap (λ n. n + 1) (sym c.start.ensures.start) ∙ c.if-start-granule.true in (
+pub returns-then-before-eq1 : goal.returns-then-before-eq1
+returns-then-before-eq1 c =
+    let is = c.granules.ensures.partition in
+    let granule = (c.place_of-place.result - region_start) / 16 in
+    let within = covered_within c.laws_below.ensures c.args.layout.now is granule c.in_ok-slot.slot (Some c.in_ok-slot.slot) (sym c.in_ok-slot.ensures.some) refl in
+    let begins : (slot_of c.args.layout.now c.in_ok-slot.slot).start + 1 ≡ granule = omega (arith, c.in_ok-slot.ensures.place, c.if-before-eq1.true) in (
       within,
       omega (arith, c.if-p-ne0.false),
       sym c.place_of-place.ensures
-          ∙ payload_begins c.laws_below.ensures c.args.layout.now c.granules.ensures.partition c.in_ok-slot.slot c.place_of-place.result c.if-place-lt-REGION_START.false c.if-place-ne0.false begins,
+          ∙ payload_begins c.laws_below.ensures c.args.layout.now is c.in_ok-slot.slot c.place_of-place.result c.if-place-lt-REGION_START.false c.if-place-ne0.false begins,
     )
 
-pub returns-else-start-granule : goal.returns-else-start-granule
-returns-else-start-granule c s within plain at =
+pub returns-else-before-eq1 : goal.returns-else-before-eq1
+returns-else-before-eq1 c s within plain at =
+    let is = c.granules.ensures.partition in
     let place = c.place_of-place.ensures ∙ at in
-    let covered = payload_covered c.laws_below.ensures c.args.layout.now c.granules.ensures.partition s c.place_of-place.result within place in
-    let found : Some c.in_ok-slot.slot ≡ Some s = sym c.in_ok-slot.was ∙ c.slot_at.ensures ∙ covered in
+    let covered = payload_covered c.laws_below.ensures c.args.layout.now is s c.place_of-place.result within place in
+    let found : Some c.in_ok-slot.slot ≡ Some s = sym c.in_ok-slot.ensures.some ∙ covered in
     let same : c.in_ok-slot.slot ≡ s = cc in
-    c.if-start-granule.false
-    (ap (λ n. n + 1) (c.start.ensures.start ∙ ap (λ q. (slot_of c.args.layout.now q).start) same)
-    ∙ sym (payload_granule c.laws_below.ensures c.args.layout.now c.granules.ensures.partition s c.place_of-place.result within place))
+    let start = ap (λ q. (slot_of c.args.layout.now q).start) same in
+    let granule = payload_granule c.laws_below.ensures c.args.layout.now is s c.place_of-place.result within place in
+    c.if-before-eq1.false (omega (arith, start, granule, c.in_ok-slot.ensures.place))

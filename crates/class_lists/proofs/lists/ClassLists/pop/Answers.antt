@@ -19,13 +19,13 @@ returns-clause-first c = λ list shown.
 
 pub returns-clause-others : goal.returns-clause-others
 returns-clause-others c = λ front list shown apart.
-    record { linked = c.set_link.ensures.link.lists front list shown.slots apart shown.linked; slots = shown.slots }
+    record { linked = c.unlink-next.ensures.link.lists front list shown.slots apart shown.linked; slots = shown.slots }
 
 pub returns-clause-rest : goal.returns-clause-rest
 returns-clause-rest c = λ list shown.
     let layout = c.args.layout.now in
     let old = c.args.memory.now in
-    let new = c.set_link.new.memory in
+    let new = c.unlink-next.new.memory in
     let front = slice_index c.args.self.now c.args.class in
     let slot = c.front-front.result - 1 in
     let rest = drop 1 list in
@@ -36,6 +36,6 @@ returns-clause-rest c = λ list shown.
     returns-clause-others c (next_in layout old slot) rest (shown_rest layout old slot rest whole) (first_not_in_rest c.law_links.ensures.once layout old slot rest whole) in
     let front_is : slice_index c.set_front.new.self c.args.class ≡ next_in layout old slot =
     ap (λ (fronts : List ℕ). slice_index fronts c.args.class) c.set_front.ensures
-    ∙ get_or-set_same c.args.self.now c.args.class c.link.result 0 c.requires.class
-    ∙ c.link.ensures in
+    ∙ get_or-set_same c.args.self.now c.args.class c.unlink-next.result 0 c.requires.class
+    ∙ c.unlink-next.ensures.was in
     subst (λ n. ShowsList layout new n rest) (sym front_is) kept

@@ -13,8 +13,8 @@ push-requires-in-loop-number c =
 
 pub loop-number-preserved : goal.loop-number-preserved
 loop-number-preserved c =
-    let class : get_or c.args.table.now c.loop-number.number 0 ≡ c.class-class.result = get_or_from_slice_get c.args.table.now c.loop-number.number c.class-class.result 0 c.class-class.ensures.class in
-    rw (c.push.ensures.items, c.push-in-loop-number.ensures.items, c.from.ensures, ← class, c.share_of_each-share.ensures, c.len.ensures.len)
+    let class : get_or c.args.table.now c.loop-number.number 0 ≡ c.class.result = get_or_from_slice_get c.args.table.now c.loop-number.number c.class.result 0 c.class.ensures.class in
+    rw (c.push.ensures.items, c.push-in-loop-number.ensures.items, c.from-class.ensures, ← class, c.share_of_each-share.ensures, c.len.ensures.len)
     (IsFilled-more _ _ _ _ _ c.loop-number.invariant (omega (arith, c.len-number-end.ensures.len)))
 
 pub overflow_add-slots : goal.overflow_add-slots

@@ -1,55 +1,55 @@
-use Rattle.std.proofs.Common.{◌∷◌, drop, sym, subst, ◌≡◌, ◌-◌, ◌≤◌, arith, ap, ◌∙◌}
+use Rattle.std.proofs.Common.{◌∷◌, drop, sym, subst, ◌≡◌, ◌-◌, ◌*◌, ◌≤◌, arith, ap, ◌∙◌}
 use Rattle.class_table.specs.Layout.{block_bytes, slot_of}
 use Rattle.quarantine_core.specs.Queue.{AreQueued}
 use Rattle.quarantine_core.proofs.Queued.{first_within, oldest_held, some_held, take_oldest}
 use Rattle.quarantine_core.proofs.quarantine.Quarantine.take_oldest.Goals as goal
-use Rattle.quarantine_core.proofs.quarantine.Quarantine.take_oldest.Goals.{then-self-eq0, else-self-eq0}
+use Rattle.quarantine_core.proofs.quarantine.Quarantine.take_oldest.Goals.{then-next-eq0, else-next-eq0}
 
 pub overflow_sub-slot : goal.overflow_sub-slot
 overflow_sub-slot c =
     let first = first_within c.args.self.now c.args.layout.now c.args.memory.now c.requires.linked.0 c.requires.linked.1 c.requires.some in
     omega (arith, first.0, ap (λ q. q.front) c.self.view_is)
 
-pub bytes-requires : goal.bytes-requires
-bytes-requires c =
+pub slot-place-requires : goal.slot-place-requires
+slot-place-requires c =
     let first = first_within c.args.self.now c.args.layout.now c.args.memory.now c.requires.linked.0 c.requires.linked.1 c.requires.some in
     omega (arith, first.1, ap (λ q. q.front) c.self.view_is)
 
 pub overflow_sub-self : goal.overflow_sub-self
 overflow_sub-self c =
     oldest_held c.args.self.now c.args.layout.now c.args.memory.now c.requires.linked.0 c.self.inside.front c.from.result c.self.inside.held
-    c.requires.linked.1 c.requires.some (ap (λ q. q.front) c.self.view_is) (c.from.ensures ∙ c.bytes.ensures.bytes) (ap (λ q. q.held) c.self.view_is)
+    c.requires.linked.1 c.requires.some (ap (λ q. q.front) c.self.view_is) (c.from.ensures ∙ ap (λ n. 16 * n) c.slot-place.ensures.class) (ap (λ q. q.held) c.self.view_is)
 
 pub returns-clause-held : goal.returns-clause-held
 returns-clause-held c =
-    let block : c.from.result ≡ block_bytes (slot_of c.args.layout.now (c.self.inside.front - 1)) = c.from.ensures ∙ c.bytes.ensures.bytes in
+    let block : c.from.result ≡ block_bytes (slot_of c.args.layout.now (c.self.inside.front - 1)) = c.from.ensures ∙ ap (λ n. 16 * n) c.slot-place.ensures.class in
     let all : c.self.inside.held ≡ c.args.self.now.held = ap (λ q. q.held) c.self.view_is in
     let within : c.from.result ≤ c.self.inside.held =
     oldest_held c.args.self.now c.args.layout.now c.args.memory.now c.requires.linked.0 c.self.inside.front c.from.result c.self.inside.held
     c.requires.linked.1 c.requires.some (ap (λ q. q.front) c.self.view_is) block all in
-    elim c.if-self-eq0.branch [
-      | then-self-eq0 w ↦ rw w.self-is (omega arith)
-      | else-self-eq0 w ↦ rw w.self-is (omega arith)
+    elim c.if-next-eq0.branch [
+      | then-next-eq0 w ↦ rw w.self-inside-is (omega arith)
+      | else-next-eq0 w ↦ rw w.self-inside-is (omega arith)
     ]
 
 pub returns-clause-queued : goal.returns-clause-queued
 returns-clause-queued c = λ queue old.
-    let block : c.from.result ≡ block_bytes (slot_of c.args.layout.now (c.self.inside.front - 1)) = c.from.ensures ∙ c.bytes.ensures.bytes in
+    let block : c.from.result ≡ block_bytes (slot_of c.args.layout.now (c.self.inside.front - 1)) = c.from.ensures ∙ ap (λ n. 16 * n) c.slot-place.ensures.class in
     let all : c.self.inside.held ≡ c.args.self.now.held = ap (λ q. q.held) c.self.view_is in
     let within : c.from.result ≤ c.self.inside.held =
     oldest_held c.args.self.now c.args.layout.now c.args.memory.now c.requires.linked.0 c.self.inside.front c.from.result c.self.inside.held
     c.requires.linked.1 c.requires.some (ap (λ q. q.front) c.self.view_is) block all in
-    elim c.if-self-eq0.branch [
-      | then-self-eq0 w ↦
-          rw w.self-is
-          (take_oldest c.law_links.ensures.once c.law_links.ensures.stay c.args.self.now _ c.args.layout.now c.args.memory.now c.set_link.new.memory
-          (c.self.inside.front - 1) c.link-self-inside.result queue old c.set_link.ensures.link c.link-self-inside.ensures
-          (omega arith) (λ zero. omega arith) (λ other. absurd (other w.if-self-eq0.true)) (omega arith))
-      | else-self-eq0 w ↦
-          rw w.self-is
-          (take_oldest c.law_links.ensures.once c.law_links.ensures.stay c.args.self.now _ c.args.layout.now c.args.memory.now c.set_link.new.memory
-          (c.self.inside.front - 1) c.link-self-inside.result queue old c.set_link.ensures.link c.link-self-inside.ensures
-          (omega arith) (λ zero. absurd (w.if-self-eq0.false zero)) (λ other. ap (λ q. q.back) c.self.view_is) (omega arith))
+    elim c.if-next-eq0.branch [
+      | then-next-eq0 w ↦
+          rw w.self-inside-is
+          (take_oldest c.law_links.ensures.once c.law_links.ensures.stay c.args.self.now _ c.args.layout.now c.args.memory.now c.unlink-next.new.memory
+          (c.self.inside.front - 1) c.unlink-next.result queue old c.unlink-next.ensures.link c.unlink-next.ensures.was
+          (omega arith) (λ zero. omega arith) (λ other. absurd (other w.if-next-eq0.true)) (omega arith))
+      | else-next-eq0 w ↦
+          rw w.self-inside-is
+          (take_oldest c.law_links.ensures.once c.law_links.ensures.stay c.args.self.now _ c.args.layout.now c.args.memory.now c.unlink-next.new.memory
+          (c.self.inside.front - 1) c.unlink-next.result queue old c.unlink-next.ensures.link c.unlink-next.ensures.was
+          (omega arith) (λ zero. absurd (w.if-next-eq0.false zero)) (λ other. ap (λ q. q.back) c.self.view_is) (omega arith))
     ]
 
 pub returns-clause-linked : goal.returns-clause-linked

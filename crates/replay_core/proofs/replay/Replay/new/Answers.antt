@@ -24,7 +24,7 @@ invariant_of-result c = record {
     quarantine = c.args.config.quarantine;
     events = [];
     region = record {
-      table = subst (IsLegalTable 1) c.classes_of-classes.ensures.classes c.classes_of-classes.ensures.legal;
+      table = c.len.ensures.legal;
       least = c.requires.granules.0;
       most = c.requires.granules.1;
     };
@@ -42,7 +42,6 @@ invariant_of-result c = record {
     loss = omega arith;
   };
   long = ap length (c.in_ok-variables.ensures.items_if_clones_equal (λ y is. is)) ∙ length-replicate {A = ℕ} 1024 0;
-  legal = c.classes_of-classes.ensures.legal;
-  classes = c.classes_of-classes.ensures.classes ∙ sym (ap (λ (h : Heap). h.layout.classes) c.in_ok-heap.ensures.state);
+  legal = subst (IsLegalTable 1) (sym (ap (λ (h : Heap). h.layout.classes) c.in_ok-heap.ensures.state)) c.len.ensures.legal;
   few = omega (arith, c.in_ok-heap.ensures.frees);
 }

@@ -2,8 +2,10 @@ use Rattle.std.proofs.Common.{◌≡◌, ◌+◌, length, sym, ap, ◌∙◌, su
 use Rattle.std.proofs.lemmas.List.{with_items_is}
 use Rattle.std.specs.Vec.{with_items}
 use Rattle.class_table.specs.Layout.{Partition}
+use Rattle.class_table.specs.Tables.{IsLegalTable}
 use Rattle.heap_theory.specs.Report.{report_line}
-use Rattle.heap_theory.specs.Run.{heap_after, variables_after, answer_of}
+use Rattle.heap_theory.specs.declared.event.Event.{Event}
+use Rattle.heap_theory.specs.Run.{Replay, heap_after, variables_after, answer_of}
 use Rattle.heap_theory.specs.Totals.{Totals, totals_after}
 use Rattle.heap_theory.specs.State.{Heap}
 use Rattle.replay_core.specs.Inside.{stored}
@@ -17,6 +19,15 @@ pub perform-answer-requires-clause-tagged : goal.perform-answer-requires-clause-
 perform-answer-requires-clause-tagged c =
     subst AreNullOrTagged (sym c.deref_mut.ensures.value) (null_or_tagged c.laws_below.ensures (stored c.self.inside) c.self.invariant.reached)
 
+-- no event changes the classes
+classes_stay : (replay : Replay) (event : Event) (after : Heap) → after ≡ heap_after replay event → after.layout.classes ≡ replay.heap.layout.classes
+classes_stay replay event after is = ap (λ (h : Heap). h.layout.classes) is ∙ ap (λ (l : Partition). l.classes) (layout_after replay event)
+
+pub count-requires-clause-legal : goal.count-requires-clause-legal
+count-requires-clause-legal c =
+    let heap_is = c.perform-answer.ensures.state ∙ ap (λ vs. heap_after (over c.self.inside.heap.state vs) c.args.event.now) c.deref_mut.ensures.value in
+    subst (IsLegalTable 1) (sym (classes_stay (stored c.self.inside).replay c.args.event.now c.perform-answer.new.heap.state heap_is)) c.self.invariant.legal
+
 -- ---- the parts, after the event
 
 module _ (c : goal.After-write_line) where
@@ -26,19 +37,22 @@ module _ (c : goal.After-write_line) where
   heap_is : c.perform-answer.new.heap.state ≡ heap_after (stored c.self.inside).replay c.args.event.now
   heap_is = c.perform-answer.ensures.state ∙ ap (λ vs. heap_after (over c.self.inside.heap.state vs) c.args.event.now) c.deref_mut.ensures.value
 
+  classes_are : c.perform-answer.new.heap.state.layout.classes ≡ c.self.inside.heap.state.layout.classes
+  classes_are = classes_stay (stored c.self.inside).replay c.args.event.now c.perform-answer.new.heap.state heap_is
+
   answer_is : shown c.perform-answer.new.bytes c.perform-answer.result ≡ answer_of (stored c.self.inside).replay c.args.event.now
   answer_is = c.perform-answer.ensures.answer ∙ ap (λ vs. answer_of (over c.self.inside.heap.state vs) c.args.event.now) c.deref_mut.ensures.value
 
   items_are : (with_items c.self.inside.variables c.perform-answer.new.variables).items ≡ c.perform-answer.new.variables
   items_are = with_items_is c.self.inside.variables c.perform-answer.new.variables (c.perform-answer.auto.variables ∙ c.deref_mut.ensures.len)
 
-  counted : totals_in c.count.new.self ≡ totals_after c.self.inside.classes.items (stored c.self.inside).totals (c.args.event.now, shown c.perform-answer.new.bytes c.perform-answer.result)
-  counted = c.count.ensures.counted c.perform-answer.new.bytes ∙ ap (λ classes. totals_after classes (stored c.self.inside).totals (c.args.event.now, shown c.perform-answer.new.bytes c.perform-answer.result)) c.deref.ensures.0
+  counted : totals_in c.count.new.self ≡ totals_after c.perform-answer.new.heap.state.layout.classes (stored c.self.inside).totals (c.args.event.now, shown c.perform-answer.new.bytes c.perform-answer.result)
+  counted = c.count.ensures.counted c.perform-answer.new.bytes
 
   stored_is : record { replay = over c.perform-answer.new.heap.state (with_items c.self.inside.variables c.perform-answer.new.variables).items; totals = totals_in c.count.new.self } ≡ stored_after (stored c.self.inside) c.args.event.now
   stored_is =
-      stored_in_parts (stored c.self.inside) c.args.event.now c.perform-answer.new.heap.state _ (totals_in c.count.new.self) c.self.inside.classes.items (shown c.perform-answer.new.bytes c.perform-answer.result)
-      heap_is (items_are ∙ variables_are) answer_is c.self.invariant.classes counted
+      stored_in_parts (stored c.self.inside) c.args.event.now c.perform-answer.new.heap.state _ (totals_in c.count.new.self) c.perform-answer.new.heap.state.layout.classes (shown c.perform-answer.new.bytes c.perform-answer.result)
+      heap_is (items_are ∙ variables_are) answer_is classes_are counted
 
   events_are : c.count.new.self.events ≡ c.self.inside.totals.events + 1
   unfolding totals_after
@@ -58,8 +72,7 @@ invariant_of-self c = record {
   reached = subst IsStored (sym (stored_is c)) (IsStored-after c.laws_below.ensures (stored c.self.inside) c.args.event.now c.self.invariant.reached);
   bounded = c.count.ensures.bounded;
   long = ap length (items_are c) ∙ c.perform-answer.auto.variables ∙ ap length c.deref_mut.ensures.value ∙ c.self.invariant.long;
-  legal = c.self.invariant.legal;
-  classes = c.self.invariant.classes ∙ sym (ap (λ (h : Heap). h.layout.classes) (heap_is c) ∙ ap (λ (l : Partition). l.classes) (layout_after (stored c.self.inside).replay c.args.event.now));
+  legal = subst (IsLegalTable 1) (sym (classes_are c)) c.self.invariant.legal;
   few = omega (arith, c.perform-answer.ensures.frees, c.self.invariant.few, events_are c);
 }
 

@@ -16,11 +16,11 @@ overflow_add-self c = omega (arith, ap (λ (t : Totals). t.events) (c.count_requ
 
 pub returns-clause-counted : goal.returns-clause-counted
 returns-clause-counted c bytes =
-    counted_in_parts c.args.classes.now (totals_in c.args.self.now) (totals_in c.count_answer.new.self) (totals_in c.count_request.new.self) c.request_size.result c.args.event.now (shown bytes c.args.answer.now)
+    counted_in_parts c.args.heap.now.state.layout.classes (totals_in c.args.self.now) (totals_in c.count_answer.new.self) (totals_in c.count_request.new.self) c.request_size.result c.args.event.now (shown bytes c.args.answer.now)
     (c.count_answer.ensures bytes) c.request_size.ensures (c.count_request.ensures bytes)
 
 pub returns-clause-bounded : goal.returns-clause-bounded
 returns-clause-bounded c =
-    let counted = counted_in_parts c.args.classes.now (totals_in c.args.self.now) (totals_in c.count_answer.new.self) (totals_in c.count_request.new.self) c.request_size.result c.args.event.now (shown [] c.args.answer.now)
+    let counted = counted_in_parts c.args.heap.now.state.layout.classes (totals_in c.args.self.now) (totals_in c.count_answer.new.self) (totals_in c.count_request.new.self) c.request_size.result c.args.event.now (shown [] c.args.answer.now)
     (c.count_answer.ensures []) c.request_size.ensures (c.count_request.ensures []) in
-    subst AreBounded (sym counted) (AreBounded-after c.args.classes.now (totals_in c.args.self.now) (c.args.event.now, shown [] c.args.answer.now) c.requires.legal c.requires.bounded c.requires.few)
+    subst AreBounded (sym counted) (AreBounded-after c.args.heap.now.state.layout.classes (totals_in c.args.self.now) (c.args.event.now, shown [] c.args.answer.now) c.requires.legal c.requires.bounded c.requires.few)

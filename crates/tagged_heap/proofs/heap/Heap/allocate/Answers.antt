@@ -7,17 +7,17 @@ use Rattle.heap_theory.specs.declared.fault.NullCause.{NullCause}
 use Rattle.heap_theory.specs.declared.fault.NullCause.TheVariants.{Exhausted}
 use Rattle.heap_theory.specs.Calls.{given_out}
 use Rattle.heap_theory.specs.Choice.{slot_for_request}
-use Rattle.heap_theory.specs.State.{IsSlot}
+use Rattle.heap_theory.specs.State.{IsSlot, pointer_to}
 use Rattle.tagged_heap.specs.Below.{LawsBelow}
 use Rattle.tagged_heap.specs.Chunks.{HasClass, Takes}
 use Rattle.tagged_heap.specs.Inside.{state_of, IsHeld}
 use Rattle.tagged_heap.specs.View.{Counted, shown_heap, IsHeldIn}
 use Rattle.tagged_heap.specs.declared.heap.Heap.TheInside.{Inside}
-use Rattle.tagged_heap.proofs.Allocating.{has_class, taken, exhausted, taken_room, given_held, given_shown}
+use Rattle.tagged_heap.proofs.Allocating.{has_class, taken, exhausted, taken_room, given_held, given_shown, given_address}
 use Rattle.tagged_heap.proofs.Giving.{IsTaken, request_refused}
 use Rattle.tagged_heap.proofs.Opened.{state_seen}
 use Rattle.tagged_heap.proofs.heap.Heap.allocate.Goals as goal
-use Rattle.tagged_heap.proofs.heap.Heap.allocate.Goals.{After-give_out}
+use Rattle.tagged_heap.proofs.heap.Heap.allocate.Goals.{After-give_out-address}
 
 pub returns-in_err-class-clause-slot : goal.returns-in_err-class-clause-slot
 unfolding shown_heap
@@ -55,32 +55,38 @@ took_slot : LawsBelow → (i : Inside) (held : IsHeld i) (n number : ℕ) → (n
 took_slot laws i held n number ok within lent m1 fronts firsts result s lent_is is t memory =
     taken laws i held n number ok.0 ok.1 within m1 fronts firsts s (took i lent m1 fronts firsts number result (Some s) lent_is is t) memory
 
-pub give_out-requires : goal.give_out-requires
-give_out-requires c =
+pub give_out-address-requires : goal.give_out-address-requires
+give_out-address-requires c =
     let i = c.self.inside in
     taken_room c.laws_below.ensures i c.self.invariant c.take_slot.new.memory c.take_slot.new.lists c.take_slot.new.firsts.items c.in_ok-slot.slot c.args.n
     (took_slot c.laws_below.ensures i c.self.invariant c.args.n c.in_ok-class.class c.in_ok-class.ensures.ok c.in_ok-class.ensures.within c.memory_mut-memory.result.now c.take_slot.new.memory
     c.take_slot.new.lists c.take_slot.new.firsts.items c.take_slot.result c.in_ok-slot.slot c.memory_mut-memory.ensures.value c.in_ok-slot.ensures.ok_part c.take_slot.ensures.takes c.take_slot.ensures.memory)
     c.in_ok-class.ensures.ok.0
 
-slot_of_call : (c : After-give_out) →
+slot_of_call : (c : After-give_out-address) →
     IsTaken (state_of c.self.inside) c.self.inside.machine.memory c.take_slot.new.memory c.self.inside.quarantine.front c.self.invariant.queue c.take_slot.new.lists c.take_slot.new.firsts.items c.in_ok-slot.slot c.args.n
 slot_of_call c =
     took_slot c.laws_below.ensures c.self.inside c.self.invariant c.args.n c.in_ok-class.class c.in_ok-class.ensures.ok c.in_ok-class.ensures.within c.memory_mut-memory.result.now c.take_slot.new.memory
     c.take_slot.new.lists c.take_slot.new.firsts.items c.take_slot.result c.in_ok-slot.slot c.memory_mut-memory.ensures.value c.in_ok-slot.ensures.ok_part c.take_slot.ensures.takes c.take_slot.ensures.memory
 
-shown : (c : After-give_out) →
-    shown_heap c.self.inside.layout c.self.inside.quarantine.limit c.give_out.new.machine.memory c.self.inside.total c.give_out.new.machine.seed c.give_out.new.machine.tag
+shown : (c : After-give_out-address) →
+    shown_heap c.self.inside.layout c.self.inside.quarantine.limit c.give_out-address.new.machine.memory c.self.inside.total c.give_out-address.new.machine.seed c.give_out-address.new.machine.tag
     ≡ given_out (state_of c.self.inside) c.in_ok-slot.slot c.args.n
 shown c =
     given_shown c.laws_below.ensures c.self.inside c.self.invariant c.take_slot.new.memory c.take_slot.new.lists c.take_slot.new.firsts.items c.in_ok-slot.slot c.args.n (slot_of_call c)
-    c.give_out.new.machine c.give_out.ensures.machine c.give_out.ensures.memory
+    c.give_out-address.new.machine c.give_out-address.ensures.machine c.give_out-address.ensures.memory
 
 pub invariant_of-self-2 : goal.invariant_of-self-2
 invariant_of-self-2 c =
-    subst (λ h. IsHeldIn h c.self.inside.frees c.give_out.new.machine.memory c.self.inside.quarantine c.take_slot.new.lists c.take_slot.new.firsts.items) (sym (shown c))
+    subst (λ h. IsHeldIn h c.self.inside.frees c.give_out-address.new.machine.memory c.self.inside.quarantine c.take_slot.new.lists c.take_slot.new.firsts.items) (sym (shown c))
     (given_held c.laws_below.ensures c.self.inside c.self.invariant c.take_slot.new.memory c.take_slot.new.lists c.take_slot.new.firsts.items c.in_ok-slot.slot c.args.n (slot_of_call c)
-    c.give_out.new.machine c.give_out.ensures.machine c.give_out.ensures.memory)
+    c.give_out-address.new.machine c.give_out-address.ensures.machine c.give_out-address.ensures.memory)
+
+pub returns-clause-address : goal.returns-clause-address
+returns-clause-address c =
+    given_address c.laws_below.ensures c.self.inside c.self.invariant c.take_slot.new.memory c.take_slot.new.lists c.take_slot.new.firsts.items c.in_ok-slot.slot c.args.n (slot_of_call c)
+    c.give_out-address.result c.give_out-address.ensures.address
+    ∙ ap (λ h. pointer_to (given_out h c.in_ok-slot.slot c.args.n) c.in_ok-slot.slot) (state_seen c.self.inside c.args.self.now c.self.view_is)
 
 pub returns-clause-slot : goal.returns-clause-slot
 returns-clause-slot c = sym (slot_of_call c).request ∙ ap (λ h. slot_for_request h c.args.n) (state_seen c.self.inside c.args.self.now c.self.view_is)

@@ -6,11 +6,11 @@ use Rattle.tagged_heap.proofs.Opened.{slot_within, state_seen}
 use Rattle.tagged_heap.proofs.Retiring.{room_for, lent_region, lent_linked, lent_outside, lent_unlinked, put_letting_go, retired_held, retired_shown}
 use Rattle.tagged_heap.proofs.heap.Heap.release.Goals as goal
 
-pub bytes-bytes-requires : goal.bytes-bytes-requires
-bytes-bytes-requires c = slot_within c.self.inside c.args.self.now c.args.slot c.self.view_is c.requires.slot
+pub slot-place-requires : goal.slot-place-requires
+slot-place-requires c = slot_within c.self.inside c.args.self.now c.args.slot c.self.view_is c.requires.slot
 
-pub retire-requires : goal.retire-requires
-retire-requires c =
+pub retire-requires-clause-room : goal.retire-requires-clause-room
+retire-requires-clause-room c =
     room_for c.laws_below.ensures c.self.inside c.args.self.now c.self.view_is c.self.invariant c.args.slot c.requires.live.0 c.requires.live.1 c.requires.slot c.requires.live.2
 
 pub put-requires-clause-region : goal.put-requires-clause-region
@@ -39,7 +39,7 @@ let_go-requires c =
     let letting =
     put_letting_go c.laws_below.ensures c.self.inside c.args.self.now c.self.view_is c.self.invariant c.args.slot c.requires.live.0 c.requires.live.1 c.requires.slot c.requires.live.2
     c.requires.few c.retire.new.machine c.retire.ensures.machine c.retire.ensures.memory c.memory_mut-memory.result.now c.memory_mut-memory.ensures.value
-    c.put.new.memory c.put.new.self c.bytes-bytes.result c.put.ensures.queued c.put.ensures.value c.put.ensures.first c.put.ensures.behind in
+    c.put.new.memory c.put.new.self (16 * c.slot-place.result.class) c.put.ensures.queued c.put.ensures.value c.put.ensures.first c.put.ensures.behind in
     record { kept = (freed (state_of c.self.inside) c.args.slot c.requires.live.0, refl, letting) }
 
 pub overflow_add-self : goal.overflow_add-self
@@ -47,7 +47,7 @@ unfolding shown_heap
 overflow_add-self c =
     let before : c.self.inside.total ≤ 16384 * c.self.inside.frees = c.self.invariant.total in
     let same : c.self.inside.frees ≡ c.args.self.now.frees = ap (λ (v : Counted). v.frees) c.self.view_is in
-    omega (arith, before, same, c.requires.few, c.from.ensures, c.bytes-bytes.ensures.in_range)
+    omega (arith, before, same, c.requires.few, c.from.ensures, c.slot-place.ensures.in_range)
 
 pub invariant_of-self : goal.invariant_of-self
 unfolding shown_heap freed
@@ -56,10 +56,10 @@ invariant_of-self c =
     c.let_go.ensures.kept (freed (state_of c.self.inside) c.args.slot c.requires.live.0) refl
     (put_letting_go c.laws_below.ensures c.self.inside c.args.self.now c.self.view_is c.self.invariant c.args.slot c.requires.live.0 c.requires.live.1 c.requires.slot c.requires.live.2
     c.requires.few c.retire.new.machine c.retire.ensures.machine c.retire.ensures.memory c.memory_mut-memory.result.now c.memory_mut-memory.ensures.value
-    c.put.new.memory c.put.new.self c.bytes-bytes.result c.put.ensures.queued c.put.ensures.value c.put.ensures.first c.put.ensures.behind) in
+    c.put.new.memory c.put.new.self (16 * c.slot-place.result.class) c.put.ensures.queued c.put.ensures.value c.put.ensures.first c.put.ensures.behind) in
     let shown =
     ap (λ b. shown_heap c.self.inside.layout c.let_go.new.quarantine.limit c.let_go.new.memory (c.self.inside.total + b) c.retire.new.machine.seed c.retire.new.machine.tag)
-    (c.from.ensures ∙ c.bytes-bytes.ensures.bytes)
+    (c.from.ensures ∙ ap (λ n. 16 * n) c.slot-place.ensures.class)
     ∙ retired_shown c.laws_below.ensures c.self.inside c.args.self.now c.self.view_is c.self.invariant c.args.slot c.requires.live.0 c.requires.live.1 c.requires.slot c.requires.live.2
     c.requires.few c.retire.new.machine c.retire.ensures.machine c.retire.ensures.memory c.let_go.new.memory c.let_go.new.quarantine c.let_go.new.lists letting c.let_go.ensures.held in
     subst (λ h. IsHeldIn h (c.self.inside.frees + 1) c.let_go.new.memory c.let_go.new.quarantine c.let_go.new.lists c.self.inside.firsts.items) (sym shown)
@@ -73,10 +73,10 @@ returns c n tag live =
     c.let_go.ensures.kept (freed (state_of c.self.inside) c.args.slot n) refl
     (put_letting_go c.laws_below.ensures c.self.inside c.args.self.now c.self.view_is c.self.invariant c.args.slot n tag c.requires.slot live
     c.requires.few c.retire.new.machine c.retire.ensures.machine c.retire.ensures.memory c.memory_mut-memory.result.now c.memory_mut-memory.ensures.value
-    c.put.new.memory c.put.new.self c.bytes-bytes.result c.put.ensures.queued c.put.ensures.value c.put.ensures.first c.put.ensures.behind) in
+    c.put.new.memory c.put.new.self (16 * c.slot-place.result.class) c.put.ensures.queued c.put.ensures.value c.put.ensures.first c.put.ensures.behind) in
     let shown =
     ap (λ b. shown_heap c.self.inside.layout c.let_go.new.quarantine.limit c.let_go.new.memory (c.self.inside.total + b) c.retire.new.machine.seed c.retire.new.machine.tag)
-    (c.from.ensures ∙ c.bytes-bytes.ensures.bytes)
+    (c.from.ensures ∙ ap (λ n. 16 * n) c.slot-place.ensures.class)
     ∙ retired_shown c.laws_below.ensures c.self.inside c.args.self.now c.self.view_is c.self.invariant c.args.slot n tag c.requires.slot live
     c.requires.few c.retire.new.machine c.retire.ensures.machine c.retire.ensures.memory c.let_go.new.memory c.let_go.new.quarantine c.let_go.new.lists letting c.let_go.ensures.held in
     (λ k. record {
