@@ -56,6 +56,7 @@ impl Replay {
             replay ≡ first_stored (record { classes = table.now; granules = config.granules }) config.seed config.quarantine) }
     {
         laws_below();
+        // Its contract says that the table is legal.
         table.len();
         let variables = vec![in alloc; 0; VARIABLES]?;
         let heap = Heap::new(alloc, table, config)?;
