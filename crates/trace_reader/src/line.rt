@@ -5,7 +5,8 @@ ghost use Rattle.heap_theory.specs.Ranges.{IsInRange};
 ghost use Rattle.trace_reader.specs.TraceLine.{made, event_named, event_of_line, free_of, load_of, move_of, request_of, store_of, variable_of, len_of};
 
 use crate::fault::TraceFault;
-use crate::words::{byte_in, full_words_in, number_from, offset_in};
+use crate::words::{are_full_words, byte_in, number_from, offset_in};
+use arrayvec::ArrayVec;
 use heap_theory::Event;
 use line_text::laws::law_hex;
 
@@ -63,9 +64,10 @@ fn judged_line(number: u32, line: &[u8]) -> Result<Event, TraceFault>
     if number > MOST_EVENTS {
         return Err(TraceFault::TooManyEvents);
     }
-    let Some(words) = full_words_in(line) else {
+    let mut words = ArrayVec::new();
+    if !are_full_words(line, &mut words) {
         return Err(TraceFault::BadWord);
-    };
+    }
     let [name, arguments @ ..] = words.as_slice() else {
         return Err(TraceFault::BadWord);
     };

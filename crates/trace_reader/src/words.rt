@@ -1,5 +1,5 @@
 //! The words of a line, and what each spells as a number of a range.
-ghost use Rattle.std.specs.Prelude.{◌≡◌, ◌<◌, ◌≤◌, ◌^◌, false, Err, IfOk, IfSome, IfNone, ℤ, nat_abs, map};
+ghost use Rattle.std.specs.Prelude.{◌≡◌, ◌<◌, ◌≤◌, ◌^◌, [], false, Err, IfOk, IsTrue, ℤ, nat_abs, map};
 ghost use Rattle.std.specs.List.{list_any};
 ghost use Rattle.line_text.specs.Lines.{words};
 ghost use Rattle.trace_reader.specs.declared.fault.TraceFault.TheVariants.{BadWord};
@@ -15,20 +15,20 @@ pub(crate) const MOST_WORDS: usize = 5;
 // the most bytes that an access may be away from a variable's address
 const FARTHEST: u64 = 1_048_576;
 
-// the words of a line, where they are at most five and none is empty; every other line has a bad word.
-pub(crate) fn full_words_in(line: &[u8]) -> Option<ArrayVec<&[u8], MOST_WORDS>>
-    ensures words { IfSome result (λ all. map (λ w. w.now) all.items ≡ words line.now) }
-    ensures full { IfSome result (λ all. list_any is_empty_word (words line.now) ≡ false) }
-    ensures bad { IfNone result (event_of_words (words line.now) ≡ Err BadWord) }
+// puts the words of a line behind none, and says whether they are at most five and none is empty; every other line has a bad word.
+pub(crate) fn are_full_words<'a>(line: &'a [u8], all: &mut ArrayVec<&'a [u8], MOST_WORDS>) -> bool
+    requires { all.old.items ≡ [] }
+    ensures words { IsTrue result → map (λ w. w.now) all.new.items ≡ words line.now }
+    ensures full { IsTrue result → list_any is_empty_word (words line.now) ≡ false }
+    ensures bad { result ≡ false → event_of_words (words line.now) ≡ Err BadWord }
 {
-    let mut all = ArrayVec::new();
     for word in words_in(line) {
         if word.is_empty() || all.is_full() {
-            return None;
+            return false;
         }
         all.push(word);
     }
-    Some(all)
+    true
 }
 
 // the number from `low` to `high` that a word spells.

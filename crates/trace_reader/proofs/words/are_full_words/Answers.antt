@@ -2,8 +2,8 @@ use Rattle.std.proofs.Common.{◌≡◌, ◌∙◌, ◌++◌, ◌∷◌, length,
 use Rattle.std.proofs.lemmas.List.{length-append, length-map}
 use Rattle.line_text.specs.Lines.{words}
 use Rattle.trace_reader.proofs.BadWords.{empty_word, many_words}
-use Rattle.trace_reader.proofs.words.full_words_in.Goals as goal
-use Rattle.trace_reader.proofs.words.full_words_in.Goals.{then-is_empty-via-then-is_empty, then-is_empty-via-else-is_empty+then-is_full}
+use Rattle.trace_reader.proofs.words.are_full_words.Goals as goal
+use Rattle.trace_reader.proofs.words.are_full_words.Goals.{then-is_empty-via-then-is_empty, then-is_empty-via-else-is_empty+then-is_full}
 
 pub returns-then-is_empty-clause-bad : goal.returns-then-is_empty-clause-bad
 returns-then-is_empty-clause-bad c =
@@ -11,7 +11,7 @@ returns-then-is_empty-clause-bad c =
     let word = c.in-Some.word.now in
     let front = map (λ w. w.now) c.loop-word.all.items in
     let parts : all ≡ front ++ word ∷ c.next.new.self = rw c.in-Some.ensures.steps at c.loop-word.invariant.words in
-    elim c.then-is_empty.branch [
+    λ _. elim c.then-is_empty.branch [
       | then-is_empty-via-then-is_empty w ↦ empty_word front word c.next.new.self all parts (eqb-true (length word) 0 (sym w.if-is_empty.ensures))
       | then-is_empty-via-else-is_empty+then-is_full w ↦
           let full : length c.loop-word.all.items ≡ 5 = eqb-true (length c.loop-word.all.items) 5 (sym w.is_full.ensures.value ∙ w.if-is_full.true) in

@@ -2,7 +2,7 @@ use Rattle.std.proofs.Common.{◌≡◌, ◌++◌, map, false}
 use Rattle.std.specs.List.{list_any}
 use Rattle.line_text.specs.Lines.{words}
 use Rattle.trace_reader.specs.TraceLine.{is_empty_word}
-use Rattle.trace_reader.proofs.words.full_words_in.Given as goal
+use Rattle.trace_reader.proofs.words.are_full_words.Given as goal
 
 abbrev pub invariant-loop-word : goal.invariant-loop-word
 invariant-loop-word l = record {
