@@ -14,10 +14,10 @@ use std::alloc::{AllocError, Global};
 
 /// Reads a sheet and then a profile, and writes `optimal`, or `refused CODE NAME` with the status of a no: the first refusal (39 to 47) that the
 /// sheet gets for the profile. Where it writes `optimal`, no table of at most the sheet's limit of classes that fit its step wastes less.
-/// The sheet is the first three lines, or four where the third begins with `step`, and all directly behind them whose first word is `row`.
-/// Faults: an input that is too long, then the sheet's, then the profile's (`Input`); a read that fails (`ReadFault`);
-/// memory that is refused (`OutOfMemory`): after these no call of the sink was made. A write that fails or takes nothing (`WriteFault`):
-/// then the sink took a front of the text.
+/// The sheet is the first three lines, or four where the third begins with `step`, and all directly after them whose first word is `row`.
+///
+/// Faults: an input that is too long, then the sheet's, then the profile's (`Input`); a failed read (`ReadFault`); out of memory
+/// (`OutOfMemory`): the sink took nothing then. A failed write (`WriteFault`): then the sink took a prefix of the text.
 pub fn check<R: ByteSource, W: ByteSink>(
     alloc: Global,
     source: &mut R,

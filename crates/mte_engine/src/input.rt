@@ -1,6 +1,5 @@
 //! What an engine keeps of its input while that is read.
-ghost use Rattle.std.specs.Prelude.{◌≡◌, ◌++◌, List, ℕ, OnOk};
-ghost use Rattle.std.specs.Prelude.{[]};
+ghost use Rattle.std.specs.Prelude.{◌≡◌, ◌++◌, [], List, ℕ, OnOk};
 
 use std::alloc::{AllocError, Global};
 

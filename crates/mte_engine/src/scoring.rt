@@ -19,9 +19,9 @@ use std::alloc::{AllocError, Global};
 
 /// Reads a class line and then a profile, and writes `waste W`, the bytes that the table loses by rounding the requests up,
 /// or `not serving N` with the status of a no, where N is the least counted size that has no class.
-/// Faults: an input that is too long, then the class line's, then the profile's (`Input`); a read that fails (`ReadFault`);
-/// memory that is refused (`OutOfMemory`): after these no call of the sink was made. A write that fails or takes nothing (`WriteFault`):
-/// then the sink took a front of the text.
+///
+/// Faults: an input that is too long, then the class line's, then the profile's (`Input`); a failed read (`ReadFault`); out of memory
+/// (`OutOfMemory`): the sink took nothing then. A failed write (`WriteFault`): then the sink took a prefix of the text.
 pub fn score<R: ByteSource, W: ByteSink>(
     alloc: Global,
     source: &mut R,

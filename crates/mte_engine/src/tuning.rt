@@ -16,8 +16,9 @@ use std::alloc::{AllocError, Global};
 
 /// Reads a profile, and writes the sheet of its table of least waste: of the tables of at most `limit` (1 to 32) classes that are multiples of
 /// `step` (1, 2, 4 or 8 granules) and serve each counted size, the canonical best one, with the least rests as its certificate.
-/// Faults: an input that is too long, then the profile's (`Input`); a read that fails (`ReadFault`); memory that is refused (`OutOfMemory`):
-/// after these no call of the sink was made. A write that fails or takes nothing (`WriteFault`): then the sink took a front of the text.
+///
+/// Faults: an input that is too long, then the profile's (`Input`); a failed read (`ReadFault`); out of memory (`OutOfMemory`): the sink took
+/// nothing then. A failed write (`WriteFault`): then the sink took a prefix of the text.
 pub fn tune<R: ByteSource, W: ByteSink>(
     alloc: Global,
     limit: u8,
