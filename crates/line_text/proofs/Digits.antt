@@ -39,8 +39,8 @@ digits_more digits i lt digit so_far = list_all_more is_ascii_digit digits i 0 l
 pub own : IsNumeralModel (λ ds. list_all is_ascii_digit ds ≡ true) (digits_value 10)
 own = numerals_by_value _ (search rules)
 
--- it stays in 64 bits where there are at most 19 digits
-pub room_for_one : (word : List ℕ) (i : ℕ) → i < length word → length word ≤ 19 → is_ascii_digit (get_or word i 0) ≡ true
+-- it stays in 64 bits up to 19 digits
+pub room_for_one : (word : List ℕ) (i : ℕ) → i < length word → i < 19 → is_ascii_digit (get_or word i 0) ≡ true
     → list_all is_ascii_digit (take i word) ≡ true → digits_value 10 (take i word) * 10 + (get_or word i 0 - 48) < 2 ^ 64
 room_for_one word i lt few digit so_far =
     let digits = digits_more word i lt digit so_far in

@@ -1,7 +1,7 @@
 -- How a number is spelled, and how a word is read as one.
-use Rattle.std.specs.Prelude.{ℕ, ◌^◌, Bool, ◌&&◌, ◌||◌, not, List, length, slice_index, Option, Some, None, ◌==◌, nat_lt, if◌then◌else◌}
+use Rattle.std.specs.Prelude.{ℕ, ◌^◌, Bool, ◌&&◌, ◌||◌, not, List, length, slice_index, Option, Some, None, ◌==◌, nat_lt, nat_le, if◌then◌else◌}
 use Rattle.std.specs.Char.{is_ascii_digit}
-use Rattle.std.specs.List.{list_all}
+use Rattle.std.specs.List.{list_all, take_while}
 use Rattle.std.specs.Str.Parse.{digits_value}
 use Rattle.line_text.specs.declared.number.Number.{Number}
 use Rattle.line_text.specs.declared.number.Number.TheVariants.{NoNumber, TooLarge, Value}
@@ -18,3 +18,15 @@ number_of word = if is_numeral word then Some (digits_value 10 word) else None
 abbrev pub classified : Option ℕ → Number
 classified None = NoNumber
 classified (Some n) = if nat_lt n (2 ^ 64) then Value n else TooLarge
+
+-- The number that a word of at most 19 digits spells; none where it spells none, or is longer.
+abbrev pub short_number_of : List ℕ → Option ℕ
+short_number_of word = if nat_le (length word) 19 then number_of word else None
+
+-- The digits in front of a text, up to its first byte that is none.
+abbrev pub leading_digits : List ℕ → List ℕ
+leading_digits text = take_while is_ascii_digit text
+
+-- The number that they spell, where they are at most 19.
+abbrev pub leading_number_of : List ℕ → Option ℕ
+leading_number_of text = short_number_of (leading_digits text)

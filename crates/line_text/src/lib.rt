@@ -4,6 +4,7 @@
 mod cutting;
 mod hexadecimal;
 pub mod laws;
+mod leading;
 mod lines;
 mod number;
 mod search;

@@ -90,6 +90,35 @@ fn numbers(rt: HostRuntime) {
 }
 
 #[test]
+fn next_numbers(rt: HostRuntime) {
+    let cases: [(&str, Option<u64>, Option<&str>); 10] = [
+        ("7", Some(7), None),
+        ("7 08", Some(7), Some("08")),
+        ("0 ", Some(0), Some("")),
+        (
+            "9999999999999999999 a",
+            Some(9_999_999_999_999_999_999),
+            Some("a"),
+        ),
+        ("", None, Some("")),
+        (" 7", None, Some("")),
+        ("08 7", None, Some("08")),
+        ("7a 8", None, Some("7a")),
+        ("-7", None, Some("-7")),
+        ("10000000000000000000", None, Some("10000000000000000000")),
+    ];
+    for (line, number, after) in cases {
+        let mut words = words_in(line.as_bytes());
+        assert_eq!(rt; words.next_number(), number, "number in front of {line:?}");
+        assert_eq!(rt;
+            words.next(),
+            after.map(|word| word.as_bytes()),
+            "word after it in {line:?}"
+        );
+    }
+}
+
+#[test]
 fn signed_numbers(rt: HostRuntime) {
     let cases: [(&str, SignedNumber); 13] = [
         ("0", SignedNumber::Value(0)),

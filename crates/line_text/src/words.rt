@@ -1,9 +1,11 @@
 //! Words of a line.
-ghost use Rattle.std.specs.Prelude.{◌≡◌, List, ℕ};
+ghost use Rattle.std.specs.Prelude.{◌≡◌, List, ℕ, IfSome, IfNone, drop, option_and_then, slice_get};
 ghost use Rattle.std.specs.Iterator.{YieldsFirstBy, item_count};
 ghost use Rattle.std.specs.Option.{option_map};
 ghost use Rattle.line_text.specs.Lines.{words, words_left};
+ghost use Rattle.line_text.specs.Numbers.{short_number_of};
 
+use crate::leading::leading_number;
 use crate::search::first_place;
 use std::marker::Model;
 
@@ -25,6 +27,28 @@ pub fn words_in(line: &[u8]) -> Words<'_>
     ensures { result ≡ words line.now }
 {
     Words { rest: Some(line) }
+}
+
+impl<'a> Words<'a> {
+    /// Takes the next word as a number, in one pass over its bytes: the number that it spells. None where no word is left, or the next one
+    /// spells no number or has more than 19 digits; then no word is taken.
+    #[inline]
+    pub fn next_number(&mut self) -> Option<u64>
+        ensures number { result ≡ option_and_then short_number_of (slice_get self.old 0) }
+        ensures taken { IfSome result (λ _. self.new ≡ drop 1 self.old) }
+        ensures kept { IfNone result (self.new ≡ self.old) }
+    {
+        let (value, behind) = leading_number(self.rest?)?;
+        if behind.is_empty() {
+            self.rest = None;
+            return Some(value);
+        }
+        if behind[0] != b' ' {
+            return None;
+        }
+        self.rest = Some(&behind[1..]);
+        Some(value)
+    }
 }
 
 impl<'a> Iterator for Words<'a> {

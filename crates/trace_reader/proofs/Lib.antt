@@ -8,6 +8,7 @@ pub mod Offsets
 pub mod Pieces
 pub mod Reaching
 pub mod SpelledLines
+pub mod SpelledWords
 pub mod TraceSpelling
 pub mod Traces
 pub mod WorkedExamples

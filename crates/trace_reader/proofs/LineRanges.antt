@@ -37,7 +37,7 @@ IfOk-number_from : (low high : ℕ) (word : List ℕ) → IfOk (number_from low 
 IfOk-number_from low high word =
     IfOk-ranged (λ n. (low ≤ n) × (n ≤ high)) (λ n. leb low n && leb n high) (λ n e. let p = both_pass (leb low n) (leb n high) e in (leb-true low n p.0, leb-true n high p.1)) (number_of word)
 
-IfOk-offset_of : (word : List ℕ) → IfOk (offset_of word) (λ z. nat_abs z ≤ 1048576)
+pub IfOk-offset_of : (word : List ℕ) → IfOk (offset_of word) (λ z. nat_abs z ≤ 1048576)
 IfOk-offset_of word = IfOk-ranged (λ z. nat_abs z ≤ 1048576) (λ z. leb (nat_abs z) 1048576) (λ z e. leb-true (nat_abs z) 1048576 e) (signed_of word)
 
 -- ---- one value behind another

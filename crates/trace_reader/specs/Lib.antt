@@ -3,6 +3,7 @@ pub mod Laws
 pub mod Reached
 pub mod Reading
 pub mod Shown
+pub mod Spelled
 pub mod Status
 pub mod TraceLine
 pub mod TraceText

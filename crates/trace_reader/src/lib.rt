@@ -5,6 +5,7 @@ mod fault;
 pub mod laws;
 mod line;
 mod reader;
+mod spelled;
 mod status;
 #[cfg(test)]
 mod tests;

@@ -2,9 +2,11 @@
 ghost use Rattle.std.specs.Prelude.{◌≡◌, ◌<◌, ◌≤◌, ◌^◌, ℕ, Result, Ok, Err, IfOk, List, map};
 ghost use Rattle.heap_theory.specs.declared.event.Event.{Event as EventView};
 ghost use Rattle.heap_theory.specs.Ranges.{IsInRange};
-ghost use Rattle.trace_reader.specs.TraceLine.{made, event_named, event_of_line, free_of, load_of, move_of, request_of, store_of, variable_of, len_of};
+ghost use Rattle.line_text.specs.Lines.{words};
+ghost use Rattle.trace_reader.specs.TraceLine.{made, event_named, event_of_line, event_of_words, free_of, load_of, move_of, request_of, store_of, variable_of, len_of};
 
 use crate::fault::TraceFault;
+use crate::spelled::spelled_event;
 use crate::words::{are_full_words, byte_in, number_from, offset_in};
 use arrayvec::ArrayVec;
 use heap_theory::Event;
@@ -34,15 +36,15 @@ const ADDG: &[u8] = b"addg";
 const SUBG: &[u8] = b"subg";
 
 // the greatest numbers of each kind; a request's is in bytes, and so is an access's
-const LAST_VARIABLE: u32 = 1023;
+pub(crate) const LAST_VARIABLE: u32 = 1023;
 
-const LARGEST_REQUEST: u32 = 2_147_483_647;
+pub(crate) const LARGEST_REQUEST: u32 = 2_147_483_647;
 
-const LONGEST_ACCESS: u32 = 64;
+pub(crate) const LONGEST_ACCESS: u32 = 64;
 
-const MOST_GRANULES: u32 = 63;
+pub(crate) const MOST_GRANULES: u32 = 63;
 
-const MOST_TAGS: u32 = 15;
+pub(crate) const MOST_TAGS: u32 = 15;
 
 // the event that the line of this number spells, counted from 1, or the line's fault
 pub(crate) fn event_in(number: u32, line: &[u8]) -> Result<Event, TraceFault>
@@ -54,7 +56,7 @@ pub(crate) fn event_in(number: u32, line: &[u8]) -> Result<Event, TraceFault>
     judged_line(number, line)
 }
 
-#[tactic(auto, unfolding(crate::specs::TraceLine::event_of_line, crate::specs::TraceLine::event_of_words))]
+#[tactic(auto, unfolding(crate::specs::TraceLine::event_of_line))]
 fn judged_line(number: u32, line: &[u8]) -> Result<Event, TraceFault>
     ensures { result ≡ event_of_line number line.now }
 {
@@ -64,6 +66,18 @@ fn judged_line(number: u32, line: &[u8]) -> Result<Event, TraceFault>
     if number > MOST_EVENTS {
         return Err(TraceFault::TooManyEvents);
     }
+    match spelled_event(line) {
+        Some(event) => Ok(event),
+        None => judged_words(line),
+    }
+}
+
+// the event that a line spells, or its fault, by all its words
+#[tactic(auto, unfolding(crate::specs::TraceLine::event_of_words))]
+#[inline(never)]
+fn judged_words(line: &[u8]) -> Result<Event, TraceFault>
+    ensures { result ≡ event_of_words (words line.now) }
+{
     let mut words = ArrayVec::new();
     if !are_full_words(line, &mut words) {
         return Err(TraceFault::BadWord);

@@ -13,7 +13,7 @@ use line_text::{Number, SignedNumber, hex_byte_in, number_in, signed_in, words_i
 pub(crate) const MOST_WORDS: usize = 5;
 
 // the most bytes that an access may be away from a variable's address
-const FARTHEST: u64 = 1_048_576;
+pub(crate) const FARTHEST: u64 = 1_048_576;
 
 // puts the words of a line behind none, and says whether they are at most five and none is empty; every other line has a bad word.
 pub(crate) fn are_full_words<'a>(line: &'a [u8], all: &mut ArrayVec<&'a [u8], MOST_WORDS>) -> bool

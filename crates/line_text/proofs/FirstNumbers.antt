@@ -1,0 +1,99 @@
+-- The number that the first word of a line spells, and the number in front of the line.
+use Rattle.std.proofs.Common.{◌≡◌, ◌≢◌, ℕ, ◌∙◌, List, [], ◌∷◌, ◌++◌, append-nil, length, drop, take, refl, sym, ap, arith, true, false, Option, Some, None, get_or, ◌<◌, option_and_then, slice_get, inl, inr, ◌⊎◌}
+use Rattle.std.specs.Char.{is_ascii_digit}
+use Rattle.std.specs.List.{list_all, prefix_len}
+use Rattle.std.proofs.Math.Seq.{take-append_seam}
+use Rattle.std.proofs.lemmas.Bool.{cases_Bool}
+use Rattle.std.proofs.lemmas.Bool.Decides.{nat_tests}
+use Rattle.std.proofs.lemmas.List.{append_cancel_left}
+use Rattle.std.proofs.lemmas.List.Elements.{All-from_get_or}
+use Rattle.std.proofs.lemmas.List.Folds.{prefix_len-append}
+use Rattle.std.proofs.lemmas.List.Splits.{slice_split_none, slice_split_at}
+use Rattle.line_text.specs.Lines.{words, line_of, is_space, IsWord}
+use Rattle.line_text.specs.Numbers.{number_of, short_number_of, leading_digits, leading_number_of}
+use Rattle.line_text.proofs.Cuts.{line_of-words}
+use Rattle.line_text.proofs.Digits.{digit_at, other_byte}
+use Rattle.line_text.proofs.LeadingDigits.{are_digits, all_digits_lead}
+
+not_digits : (word : List ℕ) → list_all is_ascii_digit word ≡ false → short_number_of word ≡ None
+unfolding number_of
+not_digits word other = rw other (grind (arith, nat_tests))
+
+-- digits that end before a byte which is none are those in front
+digits_before : (word behind : List ℕ) → list_all is_ascii_digit word ≡ true → prefix_len is_ascii_digit behind ≡ 0
+    → leading_digits (word ++ behind) ≡ word
+digits_before word behind all none =
+    ap (λ n. take n (word ++ behind)) (prefix_len-append is_ascii_digit word behind ∙ rw (all_digits_lead word all, none) (grind (arith, nat_tests)))
+    ∙ take-append_seam word behind
+
+-- a first word of digits is the digits in front of the line, and the end of the line or a space is behind them
+record IsFirstOf (word line : List ℕ) : Type 0 where
+  pub behind : List ℕ
+  pub line_is : line ≡ word ++ behind
+  pub ends : (behind ≡ []) ⊎ (slice_get behind 0 ≡ Some 32)
+
+first_of : (line word : List ℕ) (ws : List (List ℕ)) → words line ≡ word ∷ ws → IsFirstOf word line
+first_of line word [] parts = record { behind = []; line_is = sym (line_of-words line) ∙ ap line_of parts ∙ sym (append-nil word); ends = inl refl }
+first_of line word (w ∷ ws) parts = record { behind = 32 ∷ line_of (w ∷ ws); line_is = sym (line_of-words line) ∙ ap line_of parts; ends = inr refl }
+
+no_digit_first : (behind : List ℕ) → (behind ≡ []) ⊎ (slice_get behind 0 ≡ Some 32) → prefix_len is_ascii_digit behind ≡ 0
+no_digit_first [] ends = refl
+no_digit_first (b ∷ behind) (inl e) = absurd cc
+no_digit_first (b ∷ behind) (inr e) = let space : b ≡ 32 = cc in rw space refl
+
+first_digits : (line word : List ℕ) (ws : List (List ℕ)) → words line ≡ word ∷ ws → list_all is_ascii_digit word ≡ true → leading_digits line ≡ word
+first_digits line word ws parts all =
+    let first = first_of line word ws parts in
+    ap leading_digits first.line_is ∙ digits_before word first.behind all (no_digit_first first.behind first.ends)
+
+abbrev pub first_number_of : List ℕ → Option ℕ
+first_number_of line = option_and_then short_number_of (slice_get (words line) 0)
+
+-- where no number is in front of the line, its first word spells none,
+pub no_first_number : (line : List ℕ) → leading_number_of line ≡ None → first_number_of line ≡ None
+no_first_number line none = go (words line) refl
+  where
+    go : (ws : List (List ℕ)) → words line ≡ ws → option_and_then short_number_of (slice_get ws 0) ≡ None
+    go [] parts = refl
+    go (word ∷ ws) parts = elim (cases_Bool (list_all is_ascii_digit word)) [
+      | inl all ↦ ap short_number_of (sym (first_digits line word ws parts all)) ∙ none
+      | inr other ↦ not_digits word other
+    ]
+
+no_space : (rest : List ℕ) → 0 < length rest → get_or rest 0 0 ≢ 32 → (rest ≡ []) ⊎ (slice_get rest 0 ≡ Some 32) → ⊥
+no_space [] some other ends = absurd (omega (arith, some))
+no_space (b ∷ rest) some other (inl e) = absurd cc
+no_space (b ∷ rest) some other (inr e) = let space : b ≡ 32 = cc in other space
+
+-- nor where a byte other than a space is behind it;
+pub no_word_end : (line behind : List ℕ) → line ≡ leading_digits line ++ behind → 0 < length behind → get_or behind 0 0 ≢ 32 → first_number_of line ≡ None
+no_word_end line behind cut some other = go (words line) refl
+  where
+    go : (ws : List (List ℕ)) → words line ≡ ws → option_and_then short_number_of (slice_get ws 0) ≡ None
+    go [] parts = refl
+    go (word ∷ ws) parts = elim (cases_Bool (list_all is_ascii_digit word)) [
+      | inl all ↦
+          let first = first_of line word ws parts in
+          let digits = first_digits line word ws parts all in
+          let same : first.behind ≡ behind = append_cancel_left word first.behind behind (sym first.line_is ∙ cut ∙ ap (λ ds. ds ++ behind) digits) in
+          absurd (no_space behind some other (rw same at first.ends))
+      | inr none ↦ not_digits word none
+    ]
+
+-- else its digits are the first word.
+are_a_word : (line : List ℕ) → IsWord (leading_digits line)
+are_a_word line = All-from_get_or (λ b. is_space b ≡ false) (leading_digits line) 0
+    (λ i lt. other_byte (get_or (leading_digits line) i 0) 32 (digit_at (leading_digits line) i (are_digits line) lt) (omega arith))
+
+pub only_word : (line behind : List ℕ) → line ≡ leading_digits line ++ behind → length behind ≡ 0 → words line ≡ leading_digits line ∷ []
+unfolding words
+only_word line [] cut none =
+    ap words (cut ∙ append-nil (leading_digits line)) ∙ slice_split_none is_space (leading_digits line) (are_a_word line)
+only_word line (b ∷ behind) cut none = absurd (omega (arith, none))
+
+pub word_before : (line behind : List ℕ) → line ≡ leading_digits line ++ behind → 0 < length behind → get_or behind 0 0 ≡ 32
+    → words line ≡ leading_digits line ∷ words (drop 1 behind)
+unfolding words
+word_before line [] cut some space = absurd (omega (arith, some))
+word_before line (b ∷ behind) cut some space =
+    ap words cut ∙ slice_split_at is_space (leading_digits line) b behind (are_a_word line) (rw space refl)

@@ -1,0 +1,27 @@
+use Rattle.std.proofs.Common.{◌<◌, ◌∙◌, refl, sym, ap, inl, inr, Some, arith, ne_eqb}
+use Rattle.std.proofs.lemmas.List.Sums.{prefix_len-le-length}
+use Rattle.std.specs.Char.{is_ascii_digit}
+use Rattle.std.specs.List.{prefix_len}
+use Rattle.line_text.proofs.LeadingDigits.{are_digits, no_number, a_number}
+use Rattle.line_text.proofs.leading.number_up_to.Goals as goal
+use Rattle.line_text.proofs.leading.number_up_to.Goals.{then-end-eq0-via-then-end-eq0, then-end-eq0-via-else-end-eq0+then-end-gt1}
+
+pub returns-then-end-eq0-clause-number : goal.returns-then-end-eq0-clause-number
+returns-then-end-eq0-clause-number c =
+    let text = c.args.text.now in
+    let inside = prefix_len-le-length is_ascii_digit text in
+    sym (no_number text c.args.end (omega (arith, inside, c.requires.end)) c.requires.few (sym c.requires.end) (elim c.then-end-eq0.branch [
+      | then-end-eq0-via-then-end-eq0 w ↦ inl w.if-end-eq0.true
+      | then-end-eq0-via-else-end-eq0+then-end-gt1 w ↦ inr w.if-end-gt1.true
+    ]))
+
+pub returns-clause-number : goal.returns-clause-number
+returns-clause-number c =
+    let text = c.args.text.now in
+    let end = prefix_len is_ascii_digit text in
+    let some : 0 < end = omega (arith, c.requires.end, c.if-end-eq0.false) in
+    ap Some c.requires.value
+    ∙ sym (a_number text end (prefix_len-le-length is_ascii_digit text) (omega (arith, c.requires.end, c.requires.few)) refl (are_digits text) some (elim c.if-end-gt1.either [
+      | inl one ↦ inl (omega (arith, one.1, some, c.requires.end))
+      | inr other ↦ inr (ne_eqb _ _ other)
+    ]))

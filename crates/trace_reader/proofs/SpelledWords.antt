@@ -1,0 +1,146 @@
+-- What the words of an event spell, read one after the other.
+use Rattle.std.proofs.Common.{◌≡◌, ℕ, ℤ, List, [], ◌∷◌, refl, false, Ok, arith, length, ne_eqb, codes, nat_abs, ◌≤◌, Some, pos, sym, drop, slice_get, option_and_then, eqb, eqb-true, inl, inr, leb, to_z}
+use Rattle.line_text.specs.Lines.{words}
+use Rattle.line_text.specs.Numbers.{number_of, short_number_of}
+use Rattle.std.proofs.lemmas.Bool.{cases_Bool}
+use Rattle.std.proofs.Math.Facts.{to_z_pos}
+use Rattle.std.proofs.lemmas.Bool.Decides.{nat_tests}
+use Rattle.line_text.specs.Signed.{signed_of}
+use Rattle.line_text.specs.Hexadecimal.{hex_of}
+use Rattle.heap_theory.specs.declared.event.Event.{Event}
+use Rattle.heap_theory.specs.declared.event.Event.TheVariants.{Malloc, Calloc, Realloc, Free, Load, Store, Addg, Subg}
+use Rattle.std.specs.Int.{w32}
+use Rattle.std.specs.Prelude.{FitsSigned, IfOk}
+use Rattle.trace_reader.proofs.LineRanges.{IfOk-offset_of}
+use Rattle.trace_reader.proofs.Offsets.{fits_narrow}
+use Rattle.trace_reader.specs.Spelled.{AreAfter, AreRead, IsRead}
+use Rattle.trace_reader.specs.TraceLine.{byte_of, event_of_words, free_of, is_empty_word, load_of, move_of, number_from, offset_of, request_of, store_of}
+
+-- ---- a word that spells something is not empty
+
+full_number : (low high : ℕ) (word : List ℕ) (n : ℕ) → number_from low high word ≡ Ok n → is_empty_word word ≡ false
+unfolding number_of
+full_number low high [] n e = absurd cc
+full_number low high (b ∷ word) n e = ne_eqb (length (b ∷ word)) 0 (omega arith)
+
+full_offset : (word : List ℕ) (z : ℤ) → offset_of word ≡ Ok z → is_empty_word word ≡ false
+unfolding signed_of
+full_offset [] z e = absurd cc
+full_offset (b ∷ word) z e = ne_eqb (length (b ∷ word)) 0 (omega arith)
+
+full_byte : (word : List ℕ) (n : ℕ) → byte_of word ≡ Ok n → is_empty_word word ≡ false
+unfolding hex_of
+full_byte [] n e = absurd cc
+full_byte (b ∷ word) n e = ne_eqb (length (b ∷ word)) 0 (omega arith)
+
+-- ---- the numbers of each kind of event
+
+pub request_read : (ws more left : List (List ℕ)) (v n : ℕ) (event : ℕ → ℕ → Event)
+    → IsRead (number_from 0 1023) ws more v → IsRead (number_from 0 2147483647) more left n → left ≡ [] → AreRead (request_of event) ws (event v n)
+request_read ws more left v n event a b none = record {
+  is = rw (a.words, b.words, none) (rw (a.is, b.is) refl);
+  full = rw (a.words, b.words, none) (rw (full_number 0 1023 a.word v a.is, full_number 0 2147483647 b.word n b.is) refl);
+}
+
+pub free_read : (ws left : List (List ℕ)) (v : ℕ) → IsRead (number_from 0 1023) ws left v → left ≡ [] → AreRead free_of ws (Free v)
+free_read ws left v a none = record { is = rw (a.words, none) (rw a.is refl); full = rw (a.words, none) (rw (full_number 0 1023 a.word v a.is) refl) }
+
+-- an offset without a sign is a number
+signed_is_number : (word : List ℕ) (n : ℕ) → number_of word ≡ Some n → signed_of word ≡ Some (pos n)
+unfolding number_of signed_of
+signed_is_number [] n e = absurd cc
+signed_is_number (b ∷ word) n e = elim (cases_Bool (eqb b 45)) [
+  | inl minus ↦ let h = rw (eqb-true b 45 minus) at e in absurd cc
+  | inr other ↦ rw (other, e) refl
+]
+
+short_is_number : (word : List ℕ) (n : ℕ) → Some n ≡ short_number_of word → number_of word ≡ Some n
+short_is_number word n e = elim (cases_Bool (leb (length word) 19)) [
+  | inl short ↦ sym (rw short at e)
+  | inr long ↦ let h = rw long at e in absurd cc
+]
+
+pub offset_without_sign : (ws left : List (List ℕ)) (n : ℕ) → Some n ≡ option_and_then short_number_of (slice_get ws 0) → left ≡ drop 1 ws → n ≤ 1048576
+    → IsRead offset_of ws left (to_z w32 n)
+offset_without_sign [] left n e rest near = absurd cc
+offset_without_sign (word ∷ ws) left n e rest near =
+    let signed = signed_is_number word n (short_is_number word n e) in
+    let whole : to_z w32 n ≡ pos n = to_z_pos w32 (omega (arith, near)) in
+    record { word = word; words = rw rest refl; is = rw (signed, whole) (grind (arith, nat_tests, near)) }
+
+-- an offset that is read fits 32 bits
+pub offset_fits : (ws left : List (List ℕ)) (off : ℤ) → IsRead offset_of ws left off → FitsSigned w32 off
+offset_fits ws left off read =
+    let range : IfOk (offset_of read.word) (λ z. nat_abs z ≤ 1048576) = IfOk-offset_of read.word in
+    let near : nat_abs off ≤ 1048576 = rw read.is at range in
+    fits_narrow off near
+
+pub load_read : (ws more behind left : List (List ℕ)) (v len : ℕ) (off : ℤ)
+    → IsRead (number_from 0 1023) ws more v → IsRead offset_of more behind off → IsRead (number_from 1 64) behind left len → left ≡ []
+    → AreRead load_of ws (Load v off len)
+load_read ws more behind left v len off a o b none = record {
+  is = rw (a.words, o.words, b.words, none) (rw (a.is, o.is, b.is) refl);
+  full = rw (a.words, o.words, b.words, none) (rw (full_number 0 1023 a.word v a.is, full_offset o.word off o.is, full_number 1 64 b.word len b.is) refl);
+}
+
+pub store_read : (ws more behind last_one left : List (List ℕ)) (v len byte : ℕ) (off : ℤ)
+    → IsRead (number_from 0 1023) ws more v → IsRead offset_of more behind off → IsRead (number_from 1 64) behind last_one len
+    → IsRead byte_of last_one left byte → left ≡ []
+    → AreRead store_of ws (Store v off len byte)
+store_read ws more behind last_one left v len byte off a o b h none = record {
+  is = rw (a.words, o.words, b.words, h.words, none) (rw (a.is, o.is, b.is, h.is) refl);
+  full = rw (a.words, o.words, b.words, h.words, none)
+      (rw (full_number 0 1023 a.word v a.is, full_offset o.word off o.is, full_number 1 64 b.word len b.is, full_byte h.word byte h.is) refl);
+}
+
+pub move_read : (ws more behind last_one left : List (List ℕ)) (v w u6 u4 : ℕ) (event : ℕ → ℕ → ℕ → ℕ → Event)
+    → IsRead (number_from 0 1023) ws more v → IsRead (number_from 0 1023) more behind w → IsRead (number_from 0 63) behind last_one u6
+    → IsRead (number_from 0 15) last_one left u4 → left ≡ []
+    → AreRead (move_of event) ws (event v w u6 u4)
+move_read ws more behind last_one left v w u6 u4 event a b c d none = record {
+  is = rw (a.words, b.words, c.words, d.words, none) (rw (a.is, b.is, c.is, d.is) refl);
+  full = rw (a.words, b.words, c.words, d.words, none)
+      (rw (full_number 0 1023 a.word v a.is, full_number 0 1023 b.word w b.is, full_number 0 63 c.word u6 c.is, full_number 0 15 d.word u4 d.is) refl);
+}
+
+-- ---- the name in front of them
+
+pub malloc_line : (line : List ℕ) (left : List (List ℕ)) (event : Event) → AreAfter (codes "malloc ") line left → AreRead (request_of Malloc) left event
+    → event_of_words (words line) ≡ Ok event
+unfolding words event_of_words
+malloc_line line left event after read = rw after.line_is (rw (sym after.are, read.full) read.is)
+
+pub calloc_line : (line : List ℕ) (left : List (List ℕ)) (event : Event) → AreAfter (codes "calloc ") line left → AreRead (request_of Calloc) left event
+    → event_of_words (words line) ≡ Ok event
+unfolding words event_of_words
+calloc_line line left event after read = rw after.line_is (rw (sym after.are, read.full) read.is)
+
+pub realloc_line : (line : List ℕ) (left : List (List ℕ)) (event : Event) → AreAfter (codes "realloc ") line left → AreRead (request_of Realloc) left event
+    → event_of_words (words line) ≡ Ok event
+unfolding words event_of_words
+realloc_line line left event after read = rw after.line_is (rw (sym after.are, read.full) read.is)
+
+pub free_line : (line : List ℕ) (left : List (List ℕ)) (event : Event) → AreAfter (codes "free ") line left → AreRead free_of left event
+    → event_of_words (words line) ≡ Ok event
+unfolding words event_of_words
+free_line line left event after read = rw after.line_is (rw (sym after.are, read.full) read.is)
+
+pub load_line : (line : List ℕ) (left : List (List ℕ)) (event : Event) → AreAfter (codes "load ") line left → AreRead load_of left event
+    → event_of_words (words line) ≡ Ok event
+unfolding words event_of_words
+load_line line left event after read = rw after.line_is (rw (sym after.are, read.full) read.is)
+
+pub store_line : (line : List ℕ) (left : List (List ℕ)) (event : Event) → AreAfter (codes "store ") line left → AreRead store_of left event
+    → event_of_words (words line) ≡ Ok event
+unfolding words event_of_words
+store_line line left event after read = rw after.line_is (rw (sym after.are, read.full) read.is)
+
+pub addg_line : (line : List ℕ) (left : List (List ℕ)) (event : Event) → AreAfter (codes "addg ") line left → AreRead (move_of Addg) left event
+    → event_of_words (words line) ≡ Ok event
+unfolding words event_of_words
+addg_line line left event after read = rw after.line_is (rw (sym after.are, read.full) read.is)
+
+pub subg_line : (line : List ℕ) (left : List (List ℕ)) (event : Event) → AreAfter (codes "subg ") line left → AreRead (move_of Subg) left event
+    → event_of_words (words line) ≡ Ok event
+unfolding words event_of_words
+subg_line line left event after read = rw after.line_is (rw (sym after.are, read.full) read.is)
