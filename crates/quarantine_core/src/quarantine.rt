@@ -19,8 +19,8 @@ use heap_theory::laws::headers::law_links;
 use std::marker::Model;
 
 /// Freed slots that are held back, oldest first, with the bytes of their blocks. Their queue stands in the slots' own headers: each
-/// one's link names the slot that was put in after it, and the last one's is 0. It takes no memory, and each call takes the same time
-/// however many slots there are.
+/// one's link names the slot that was put in after it, and the last one's is 0. It takes no memory, and no call walks the
+/// queue.
 ///
 /// Each call wants the memory and the layout whose headers the links stand in; the layout was made for the memory's granules.
 #[derive(Debug, Drop)]
