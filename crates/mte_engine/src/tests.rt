@@ -1,4 +1,5 @@
 //! What no contract says: worked values, and calls that fail in the middle of an input or an output.
+mod calls;
 mod check_texts;
 mod counts;
 mod long_traces;

@@ -71,7 +71,6 @@ fn the_most_input_and_one_byte_more(rt: HostRuntime) -> Result<(), Fail> {
             "error 80 InputTooLong",
             "error 80 InputTooLong",
         ),
-        (None, "error 80 InputTooLong", "error 80 InputTooLong"),
     ];
     for (left, replayed, profiled) in cases {
         let mut to = sink(rt.alloc())?;
@@ -88,7 +87,7 @@ fn the_most_input_and_one_byte_more(rt: HostRuntime) -> Result<(), Fail> {
     Ok(())
 }
 
-// so many bytes `a`, or bytes without end
+// so many bytes `a`
 fn endless(left: Option<usize>) -> Repeated {
     Repeated {
         left,

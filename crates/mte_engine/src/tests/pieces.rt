@@ -1,30 +1,11 @@
 //! A runner for the engines over traces: each input is read whole, in two pieces cut at each place, and a byte at a time.
-ghost use Rattle.mte_engine.specs.Replay.{IsConfig};
 ghost use Rattle.std.specs.Prelude.{Some};
 
+use super::calls::{Call, call_on};
 use super::support::{ended, sink_with_room};
-use crate::engine::Status;
-use crate::fault::ToolFault;
-use crate::memory::MemorySink;
 use crate::streams::{ByteSource, Failure};
-use crate::{profile, replay, run};
-use replay_core::Config;
 use std::process::Abort;
 use std::test::Fail;
-
-/// An engine over a trace with its options; the region has 64 granules, and the seed is 1.
-#[derive(Debug, Clone, Copy)]
-pub enum Call {
-    Profile,
-    Replay {
-        quarantine: u32,
-    },
-    Run {
-        limit: u8,
-        step: u8,
-        quarantine: u32,
-    },
-}
 
 /// What an engine writes for an input, and how it ends. The totals are written after the lines, where there are any.
 #[derive(Clone, Copy)]
@@ -82,14 +63,24 @@ pub fn check(rt: &(impl Abort + AllocGlobal), call: Call, cases: &[Case]) -> Res
 // the text that a case writes
 fn expected(rt: &impl AllocGlobal, case: &Case) -> Result<String, Fail> {
     let mut text = String::from_str(rt.alloc(), case.lines)?;
-    if let Some(totals) = case.totals {
+    append_totals(rt, case.totals, &mut text)?;
+    Ok(text)
+}
+
+/// Appends the lines of totals, where there are any.
+pub fn append_totals(
+    rt: &impl AllocGlobal,
+    totals: Option<[u64; 9]>,
+    text: &mut String,
+) -> Result<(), Fail> {
+    if let Some(totals) = totals {
         for place in 0..9 {
             let (name, total) = (TOTALS[place], totals[place]);
             let line = format!(in rt.alloc(); "{name} {total}\n")?;
             text.push_str(line.as_str())?;
         }
     }
-    Ok(text)
+    Ok(())
 }
 
 // Runs the engine on one input: `first` bytes in the first read, at most `most` in each one after it.
@@ -122,48 +113,6 @@ fn check_cut(
         "what {call:?} writes at {input}, cut at {first}"
     );
     Ok(())
-}
-
-// calls the engine
-fn call_on(
-    rt: &(impl Abort + AllocGlobal),
-    call: Call,
-    source: &mut Cut<'_>,
-    sink: &mut MemorySink,
-) -> Result<Status, ToolFault> {
-    assert!(rt; sink.failed == 0);
-    match call {
-        Call::Profile => profile(rt.alloc(), source, sink),
-        Call::Replay { quarantine } => replay(rt.alloc(), config(rt, quarantine), source, sink),
-        Call::Run {
-            limit,
-            step,
-            quarantine,
-        } => {
-            assert!(rt; limit >= 1 && limit <= 32);
-            assert!(rt; step == 1 || step == 2 || step == 4 || step == 8);
-            run(
-                rt.alloc(),
-                limit,
-                step,
-                config(rt, quarantine),
-                source,
-                sink,
-            )
-        }
-    }
-}
-
-// a region of 64 granules, the seed 1, and this quarantine
-fn config(rt: &impl Abort, quarantine: u32) -> Config
-    ensures { IsConfig result }
-{
-    assert!(rt; quarantine <= 4_194_304);
-    Config {
-        granules: 64,
-        seed: 1,
-        quarantine,
-    }
 }
 
 /// Gives the bytes of a text: `next` of them in the next read, at most `most` in each one after it; 0 stands for 1.

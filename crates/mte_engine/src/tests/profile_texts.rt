@@ -1,5 +1,6 @@
 //! `profile` from text to text.
-use super::pieces::{Call, check, text};
+use super::calls::Call;
+use super::pieces::{check, text};
 use std::test::Fail;
 
 #[test]

@@ -1,5 +1,6 @@
 //! `replay` from text to text.
-use super::pieces::{Call, check, report, text};
+use super::calls::Call;
+use super::pieces::{check, report, text};
 use std::test::Fail;
 
 #[test]

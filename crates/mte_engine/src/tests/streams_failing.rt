@@ -1,4 +1,5 @@
 //! Reads and writes that fail, or move a byte at a time, or never end.
+use super::calls::{Call, call_on};
 use super::support::{Repeated, ended, sink, source};
 use crate::moving::MOST_INPUT;
 use crate::scoring::score;
@@ -9,70 +10,137 @@ use std::test::Fail;
 
 const INPUT: &[u8] = b"classes 4\n16 3\n40 1\n";
 
-const OUTPUT: &[u8] = b"waste 104\n";
+// an engine, an input, and what it writes for it
+#[derive(Clone, Copy)]
+struct Case(Call, &'static str, &'static str);
 
+const SHEET: &str = "classes 2 4\nlimit 2\nwaste 8\nrow 104 8\nrow 8 8\n16 3\n40 1\n";
+
+const CASES: [Case; 6] = [
+    Case(Call::Score, "classes 4\n16 3\n40 1\n", "waste 104\n"),
+    Case(
+        Call::Tune { limit: 2, step: 1 },
+        "16 3\n40 1\n",
+        "classes 2 4\nlimit 2\nwaste 8\nrow 104 8\nrow 8 8\n",
+    ),
+    Case(Call::Check, SHEET, "optimal\n"),
+    Case(
+        Call::Profile,
+        "malloc 1 16368\ncalloc 2 16369\n",
+        "16368 1\nlarge 1\n",
+    ),
+    Case(
+        Call::Replay { quarantine: 0 },
+        "classes\nmalloc 1 16\n",
+        "1 null no-class\nevents 1\nrequests 1\nnull large 0\nnull no-class 1\nnull exhausted 0\nfaults tag 0\nfaults unmapped 0\n\
+         refused frees 0\nloss 0\n",
+    ),
+    Case(
+        Call::Run {
+            limit: 2,
+            step: 1,
+            quarantine: 64,
+        },
+        "malloc 1 16\nstore 1 16 1 aa\nmalloc 2 0\n",
+        "classes 2\nlimit 2\nwaste 16\nrow 16\nrow 16\n2 fault tag granule 2 memory 0 pointer 1 in header\nevents 3\nrequests 2\n\
+         null large 0\nnull no-class 0\nnull exhausted 0\nfaults tag 1\nfaults unmapped 0\nrefused frees 0\nloss 16\n",
+    ),
+];
+
+// Each read fails in turn, of a byte each. A call of the sink would fail too.
 #[test]
 fn each_read_fails_in_turn(rt: HostRuntime) -> Result<(), Fail> {
-    for calls in 0..=INPUT.len() as u64 {
-        let mut from = source(INPUT);
-        from.most = 1;
-        from.until_failure = Some(calls);
-        let mut to = sink(rt.alloc())?;
-        let end = score(rt.alloc(), &mut from, &mut to);
-        let ends = ended(rt.alloc(), end)?;
-        assert_eq!(rt; ends.as_str(), "error 81 ReadFault", "after {calls} reads");
-        assert_eq!(rt; from.failures(), 1, "after {calls} reads");
-        assert!(rt; to.text.is_empty(), "after {calls} reads");
+    for Case(call, input, _) in CASES {
+        for calls in 0..=input.len() as u64 {
+            let mut from = source(input.as_bytes());
+            from.most = 1;
+            from.until_failure = Some(calls);
+            let mut to = sink(rt.alloc())?;
+            to.until_failure = Some(0);
+            let end = call_on(&rt, call, &mut from, &mut to);
+            let ends = ended(rt.alloc(), end)?;
+            assert_eq!(rt;
+                ends.as_str(),
+                "error 81 ReadFault",
+                "{call:?} after {calls} reads"
+            );
+            assert_eq!(rt; from.failures(), 1, "{call:?} after {calls} reads");
+            assert_eq!(rt; to.failures(), 0, "{call:?} after {calls} reads");
+        }
     }
     Ok(())
 }
 
+// Each write fails in turn, of a byte each.
 #[test]
 fn each_write_fails_in_turn(rt: HostRuntime) -> Result<(), Fail> {
-    for calls in 0..OUTPUT.len() {
-        let mut from = source(INPUT);
-        let mut to = sink(rt.alloc())?;
-        to.most = 1;
-        to.until_failure = Some(calls as u64);
-        let end = score(rt.alloc(), &mut from, &mut to);
-        let ends = ended(rt.alloc(), end)?;
-        assert_eq!(rt;
-            ends.as_str(),
-            "error 82 WriteFault",
-            "after {calls} writes"
-        );
-        assert_eq!(rt; to.failures(), 1, "after {calls} writes");
-        assert_eq!(rt;
-            to.text.as_slice(),
-            &OUTPUT[..calls],
-            "after {calls} writes"
-        );
+    for Case(call, input, written) in CASES {
+        for calls in 0..written.len() {
+            let mut from = source(input.as_bytes());
+            let mut to = sink(rt.alloc())?;
+            to.most = 1;
+            to.until_failure = Some(calls as u64);
+            let end = call_on(&rt, call, &mut from, &mut to);
+            let ends = ended(rt.alloc(), end)?;
+            assert_eq!(rt;
+                ends.as_str(),
+                "error 82 WriteFault",
+                "{call:?} after {calls} writes"
+            );
+            assert_eq!(rt; to.failures(), 1, "{call:?} after {calls} writes");
+            assert_eq!(rt;
+                to.text.as_slice(),
+                &written.as_bytes()[..calls],
+                "{call:?} after {calls} writes"
+            );
+        }
     }
     Ok(())
 }
 
 #[test]
 fn a_write_that_takes_nothing_fails(rt: HostRuntime) -> Result<(), Fail> {
-    let mut from = source(INPUT);
-    let mut to = sink(rt.alloc())?;
-    to.most = 0;
-    let end = score(rt.alloc(), &mut from, &mut to);
-    let ends = ended(rt.alloc(), end)?;
-    assert_eq!(rt; ends.as_str(), "error 82 WriteFault");
-    assert_eq!(rt; to.failures(), 1);
+    for Case(call, input, _) in CASES {
+        let mut from = source(input.as_bytes());
+        let mut to = sink(rt.alloc())?;
+        to.most = 0;
+        let end = call_on(&rt, call, &mut from, &mut to);
+        let ends = ended(rt.alloc(), end)?;
+        assert_eq!(rt; ends.as_str(), "error 82 WriteFault", "{call:?}");
+        assert_eq!(rt; to.failures(), 1, "{call:?}");
+    }
     Ok(())
 }
 
 #[test]
 fn a_byte_at_a_time(rt: HostRuntime) -> Result<(), Fail> {
-    let mut from = source(INPUT);
-    from.most = 1;
-    let mut to = sink(rt.alloc())?;
-    to.most = 1;
-    let end = score(rt.alloc(), &mut from, &mut to);
-    let ends = ended(rt.alloc(), end)?;
-    assert_eq!(rt; ends.as_str(), "done");
-    assert_eq!(rt; to.text.as_slice(), OUTPUT);
+    for Case(call, input, written) in CASES {
+        let mut from = source(input.as_bytes());
+        from.most = 1;
+        let mut to = sink(rt.alloc())?;
+        to.most = 1;
+        let end = call_on(&rt, call, &mut from, &mut to);
+        let ends = ended(rt.alloc(), end)?;
+        assert_eq!(rt; ends.as_str(), "done", "{call:?}");
+        assert_eq!(rt; to.text.as_slice(), written.as_bytes(), "{call:?}");
+    }
+    Ok(())
+}
+
+#[test]
+fn a_source_that_never_ends(rt: HostRuntime) -> Result<(), Fail> {
+    for Case(call, _, _) in CASES {
+        let mut from = Repeated {
+            left: None,
+            most: usize::MAX,
+            reads: 0,
+        };
+        let mut to = sink(rt.alloc())?;
+        let end = call_on(&rt, call, &mut from, &mut to);
+        let ends = ended(rt.alloc(), end)?;
+        assert_eq!(rt; ends.as_str(), "error 80 InputTooLong", "{call:?}");
+        assert!(rt; to.text.is_empty(), "{call:?}");
+    }
     Ok(())
 }
 
@@ -83,7 +151,6 @@ fn the_most_input_and_one_byte_more(rt: HostRuntime) -> Result<(), Fail> {
         (Some(MOST_INPUT), 1, "error 23 BadLine line 1"),
         (Some(MOST_INPUT + 1), usize::MAX, "error 80 InputTooLong"),
         (Some(MOST_INPUT + 1), 1, "error 80 InputTooLong"),
-        (None, 65_535, "error 80 InputTooLong"),
     ];
     for (left, most, wanted) in cases {
         let mut from = Repeated {

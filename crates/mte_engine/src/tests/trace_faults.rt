@@ -1,5 +1,6 @@
 //! Faulty traces, through each engine that reads one.
-use super::pieces::{Call, Case, check, text};
+use super::calls::Call;
+use super::pieces::{Case, check, text};
 use std::test::Fail;
 
 // each fault of a trace alone, in its order within a line, and in two lines
