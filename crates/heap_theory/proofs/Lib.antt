@@ -10,6 +10,7 @@ pub mod GranuleKinds
 pub mod GranuleTags
 pub mod Hardened
 pub mod HeaderWords
+pub mod HeadersTold
 pub mod HeapKept
 pub mod Held
 pub mod LayoutStays

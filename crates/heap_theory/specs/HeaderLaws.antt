@@ -6,6 +6,7 @@ use Rattle.machine_theory.specs.Address.{logical_tag, Touches}
 use Rattle.machine_theory.specs.Memory.{Granule, IsMemory, new_granule, granule_at, tag_at, tagged, written}
 use Rattle.class_table.specs.Layout.{Partition, IsPartition, slot_count, slot_of}
 use Rattle.heap_theory.specs.Header.{Header, FitsWords, first_word, second_word, header_of, header_at, with_header, shown_state, class_number, header_for}
+use Rattle.heap_theory.specs.Kept.{HaveSameSlots, HeaderWordsStay}
 use Rattle.heap_theory.specs.Links.{IsLinked, last_link, next_in}
 use Rattle.heap_theory.specs.Sound.{IsSoundHeap}
 use Rattle.heap_theory.specs.State.{Heap, state_at, is_header, without_headers, first_memory, IsSlot}
@@ -75,6 +76,10 @@ ClassIsAtItsNumber =
 abbrev pub SlotHeaderFits : Type 0
 SlotHeaderFits =
     (heap : Heap) (s next : ℕ) → IsSoundHeap heap → IsSlot heap s → next < 2 ^ 32 → heap.total < 2 ^ 64 → FitsWords (header_for heap s next)
+
+-- Layout, slots, total and limit tell every word of every header: its link too, since they tell each list and its order.
+abbrev pub SlotsTellHeaderWords : Type 0
+SlotsTellHeaderWords = (heap other : Heap) → HaveSameSlots heap other → HeaderWordsStay heap other
 
 -- ---- links
 

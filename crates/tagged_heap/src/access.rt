@@ -1,9 +1,9 @@
 //! The calls that read and write the region, and that look at it.
+ghost use Rattle.heap_theory.specs.Kept.{HeaderWordsStay, IsKeptIn};
 ghost use Rattle.heap_theory.specs.Places.{place_kind};
 ghost use Rattle.machine_theory.specs.Access.{IsMapped, access_fault, is_mapped, loaded, ok_unless, stored};
 ghost use Rattle.machine_theory.specs.Address.{logical_tag};
 ghost use Rattle.std.specs.Prelude.{◌≡◌, ◌≢◌, ◌↔◌, ◌⊎◌, ◌≤◌, IsFalse, IsTrue, OnErr, OnOk, length};
-ghost use Rattle.tagged_heap.specs.Bookkeeping.{IsKeptIn};
 
 use crate::headers::header;
 use crate::heap::Heap;
@@ -12,11 +12,12 @@ use crate::tags::chunk_granules;
 use chunk_header::State;
 use granule_memory::Memory;
 use heap_theory::PlaceKind;
+use heap_theory::laws::headers::law_header_words;
 use tag_machine::Fault;
 
 impl Heap {
     /// Reads as many bytes as `buf` has, 1 to 64, from the address on. The address has another tag than 0, or the access is not mapped: so
-    /// no header is read.
+    /// no header is read. Whatever it returns, the words of each slot's header in the region that `memory` lends stay as they were.
     ///
     /// `Unmapped` where one of the bytes lies outside the region or bits 63 to 60 of the address are not 0; else `TagCheck` with the
     /// lowest granule that holds one of them and has another tag than the address; then `buf` stays as it was.
@@ -27,13 +28,16 @@ impl Heap {
         ensures answer { result ≡ ok_unless (access_fault self.now.state.memory address (length buf.old)) }
         ensures ok { OnOk result (buf.new ≡ loaded self.now.state.memory address (length buf.old)) }
         ensures err { OnErr result (buf.new ≡ buf.old) }
+        ensures headers { HeaderWordsStay self.now.state self.now.state }
     {
         laws_below();
+        law_header_words();
         self.machine.load(address, buf)
     }
 
     /// Writes these bytes, 1 to 64 of them, from the address on. Its faults are those of `load`, and then nothing changes; and as
-    /// there the address has another tag than 0, or the access is not mapped: so no header is written.
+    /// there the address has another tag than 0, or the access is not mapped: so no header is written. Whatever it returns, the words of
+    /// each slot's header in the region that `memory` lends are those that it lent before.
     pub fn store(&mut self, address: u64, bytes: &[u8]) -> Result<(), Fault>
         requires len { (1 ≤ length bytes.now) × (length bytes.now ≤ 64) }
         requires tagged { (logical_tag address ≢ 0)
@@ -43,8 +47,10 @@ impl Heap {
           state = record self.old.state { memory = stored self.old.state.memory address bytes.now };
         }) }
         ensures err { OnErr result (self.new ≡ self.old) }
+        ensures headers { HeaderWordsStay self.old.state self.new.state }
     {
         laws_below();
+        law_header_words();
         self.machine.store(address, bytes)
     }
 
@@ -61,6 +67,7 @@ impl Heap {
     /// The memory of the region as it stands, headers and links included, to be looked at: each header decodes and agrees with the
     /// heap's state; from the quarantine's front the links visit each quarantined slot once in ascending mark, from each class's
     /// front each of its released slots once in descending mark; no slot is in two of these, and no fresh or live one in any.
+    /// So its header words depend on the heap's layout, slots, total and limit alone (`law_header_words`).
     pub fn memory(&self) -> &Memory
         ensures { IsKeptIn self.now.state result.now }
     {

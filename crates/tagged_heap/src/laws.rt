@@ -8,6 +8,7 @@ use crate::laws_below::laws_below;
 pub use heap_theory::laws::hardening::{
     law_bookkeeping, law_chunk_tags, law_delay, law_freed, law_inside, law_life, law_neighbours,
 };
+pub use heap_theory::laws::headers::law_header_words;
 
 /// An access that succeeds under another tag than 0 touches no header: so no load reads and no store changes a header's words.
 pub fn law_headers_spared()

@@ -24,6 +24,7 @@ ghost use Rattle.heap_theory.specs.HeaderLaws.{
   PutInFront,
   ReadHeaderFits,
   SlotHeaderFits,
+  SlotsTellHeaderWords,
   TagsAreSeen,
   TagsKeepHeaders,
   WordsAreOfHeader,
@@ -55,6 +56,14 @@ pub fn law_slot_header()
     ensures state { HeaderShowsState }
     ensures class { ClassIsAtItsNumber }
     ensures fits { SlotHeaderFits }
+{
+    laws_below();
+}
+
+/// Two memories that keep heaps with the same layout, slots, total and limit have the same words in every slot's header: both words, all
+/// 128 bits. So whatever leaves these four as they were leaves every header word as it was.
+pub fn law_header_words()
+    ensures { SlotsTellHeaderWords }
 {
     laws_below();
 }

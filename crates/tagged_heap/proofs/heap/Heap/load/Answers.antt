@@ -1,5 +1,5 @@
 -- An access that succeeds touches no header, so it reads what is seen.
-use Rattle.std.proofs.Common.{◌≡◌, length, sym, ap, ◌∙◌, subst, inl, inr}
+use Rattle.std.proofs.Common.{◌≡◌, length, refl, sym, ap, ◌∙◌, subst, inl, inr}
 use Rattle.std.specs.Prelude.{OnOk}
 use Rattle.machine_theory.specs.Access.{access_fault, ok_unless, loaded}
 use Rattle.tagged_heap.specs.View.{Counted}
@@ -20,3 +20,7 @@ returns-clause-ok c =
       | inr some ↦
           subst (λ r. OnOk r (c.load.new.buf ≡ loaded c.args.self.now.state.memory c.args.address len)) (sym (c.load.ensures.answer ∙ ap ok_unless some.1)) tt
     ]
+
+pub returns-clause-headers : goal.returns-clause-headers
+returns-clause-headers c =
+    c.law_header_words.ensures c.args.self.now.state c.args.self.now.state (record { layout = refl; states = refl; total = refl; quarantine = refl })

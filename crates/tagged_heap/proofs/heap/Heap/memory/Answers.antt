@@ -1,5 +1,5 @@
 use Rattle.std.proofs.Common.{subst}
-use Rattle.tagged_heap.specs.Bookkeeping.{IsKeptIn}
+use Rattle.heap_theory.specs.Kept.{IsKeptIn}
 use Rattle.tagged_heap.specs.Inside.{state_of}
 use Rattle.tagged_heap.proofs.Bookkept.{kept_said}
 use Rattle.tagged_heap.proofs.Opened.{state_seen}
