@@ -117,7 +117,7 @@ pub record IsKept (h new : Heap) (given : Option ℕ) : Type 0 where
 pub IsKept-refl : (h : Heap) → IsSoundHeap h → IsKept h h None
 IsKept-refl h sound = record { sound = sound; change = KeepsGiven-refl h }
 
-state_at-with_payload : (h : Heap) (s r : ℕ) (bytes : List ℕ) → state_at (with_payload h s bytes) r ≡ state_at h r
+pub state_at-with_payload : (h : Heap) (s r : ℕ) (bytes : List ℕ) → state_at (with_payload h s bytes) r ≡ state_at h r
 unfolding with_payload
 state_at-with_payload h s r bytes = refl
 
@@ -184,7 +184,7 @@ module _ (laws : LawsBelow) where
         (KeepsGiven-with_payload (given_out h s n) s (payload_bytes h chunk.slot (min chunk.size n)))
         (KeepsGiven-freed copied chunk.slot chunk.size (logical_tag p) (in_states copied chunk.slot sound_copied in_range_copied) live_copied)
 
-    live_moved : state_at (moved h chunk s n) s ≡ Live n (next_tag h s)
+    pub live_moved : state_at (moved h chunk s n) s ≡ Live n (next_tag h s)
     unfolding moved copied freed
     live_moved =
         get_or-set_other copied.states chunk.slot s _ Fresh (λ is. another (sym is))

@@ -18,6 +18,7 @@ pub mod Linked
 pub mod Lives
 pub mod Losses
 pub mod Marks
+pub mod OwnPointers
 pub mod Pointers
 pub mod ReallocExamples
 pub mod Releasing

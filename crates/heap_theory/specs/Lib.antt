@@ -12,6 +12,7 @@ pub mod KindLaws
 pub mod Laws
 pub mod Links
 pub mod Losses
+pub mod OwnPointers
 pub mod Places
 pub mod Ranges
 pub mod Report

@@ -7,6 +7,7 @@ use crate::heap::Heap;
 use crate::laws_below::laws_below;
 pub use heap_theory::laws::hardening::{
     law_bookkeeping, law_chunk_tags, law_delay, law_freed, law_inside, law_life, law_neighbours,
+    law_own_pointer,
 };
 pub use heap_theory::laws::headers::law_header_words;
 

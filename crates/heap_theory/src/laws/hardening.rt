@@ -10,7 +10,15 @@ ghost use Rattle.heap_theory.specs.Hardening.{
   NullOrTagged,
   ReuseIsDelayed,
 };
-ghost use Rattle.heap_theory.specs.Laws.{AfterEveryRun, AtEveryEvent};
+ghost use Rattle.heap_theory.specs.Laws.{AfterEveryRun, AtEveryEvent, OwnPointerNamesChunk};
+ghost use Rattle.heap_theory.specs.OwnPointers.{
+  FreeAcceptsOwnPointers,
+  LiveVariablesAreAccepted,
+  OwnPointerFreesChunk,
+  OwnPointersAreGiven,
+  OwnPointersStay,
+  ReallocAcceptsOwnPointers,
+};
 
 use super::laws_below;
 
@@ -33,6 +41,21 @@ pub fn law_bookkeeping()
 /// Through a variable whose generation is live, an access of bytes of its chunk succeeds.
 pub fn law_inside()
     ensures { AfterEveryRun InsideSucceeds }
+{
+    laws_below();
+}
+
+/// The pointer that was given out for a live chunk is accepted by `free` and by `realloc`, and what it frees is that chunk. No other
+/// pointer is accepted but null. What malloc, calloc and realloc give out is such a pointer, and each call but a free or a realloc of it
+/// leaves it one. So a variable whose generation is live has one.
+pub fn law_own_pointer()
+    ensures free { FreeAcceptsOwnPointers }
+    ensures realloc { ReallocAcceptsOwnPointers }
+    ensures named { OwnPointerNamesChunk }
+    ensures freed { OwnPointerFreesChunk }
+    ensures given { OwnPointersAreGiven }
+    ensures stays { OwnPointersStay }
+    ensures variables { AfterEveryRun LiveVariablesAreAccepted }
 {
     laws_below();
 }

@@ -8,7 +8,6 @@ ghost use Rattle.heap_theory.specs.Laws.{
   MovingKeepsSound,
   NamedChunkIsLive,
   NoneIsFresh,
-  OwnPointerNamesChunk,
   PointerIsOfSlot,
   RequestIsGiven,
   ResizingKeepsSound,
@@ -40,7 +39,6 @@ pub fn law_calls()
 pub fn law_choices()
     ensures request { RequestIsGiven }
     ensures chunk { NamedChunkIsLive }
-    ensures own_pointer { OwnPointerNamesChunk }
     ensures pointer { PointerIsOfSlot }
 {
     laws_below();

@@ -1,0 +1,388 @@
+-- The pointer that was given out for a live chunk is accepted by `free` and by `realloc`, and of the others only null is.
+use Rattle.std.proofs.Common.{◌≡◌, ◌≢◌, ℕ, ◌*◌, ◌^◌, ◌<◌, Bool, cond, length, List, refl, sym, ap, ◌∙◌, subst, inl, inr, arith, Option, Some, None, Result, Ok, Err}
+use Rattle.std.specs.Prelude.{◌↔◌, ◌==◌, min, replicate}
+use Rattle.std.proofs.lemmas.Bool.{cases_eq, cond-true, cond-false, cond_both, eq-eqb, eqb-true, false_from_ne_true}
+use Rattle.std.proofs.lemmas.List.{get_or-set_same, get_or-set_other}
+use Rattle.machine_theory.specs.Address.{logical_tag, place_of, with_tag}
+use Rattle.machine_theory.specs.declared.fault.Fault.{Fault}
+use Rattle.machine_theory.specs.Access.{access_fault}
+use Rattle.class_table.specs.Layout.{Partition, slot_count, slot_of}
+use Rattle.heap_theory.specs.declared.fault.FreeError.{FreeError}
+use Rattle.heap_theory.specs.declared.fault.NullCause.{NullCause}
+use Rattle.heap_theory.specs.declared.fault.ReallocError.{ReallocError}
+use Rattle.heap_theory.specs.Below.{LawsBelow}
+use Rattle.heap_theory.specs.Calls.{Step, given_out, freed, resized, with_payload, payload_bytes, moved, malloc_with, malloc_step, calloc_with, calloc_step, free_with, free_step, stays_in_class, move_with, realloc_with, as_realloc, realloc_step}
+use Rattle.heap_theory.specs.Choice.{Chunk, IsReusable, IsGiven, IsLiveChunk, slot_for_request, chunk_at}
+use Rattle.heap_theory.specs.Generations.{Run}
+use Rattle.heap_theory.specs.Hardening.{IsLive}
+use Rattle.heap_theory.specs.OwnPointers.{IsOwnPointer, IsNullOrOwn, FreeAccepts, IsNotRefused, ReallocAccepts, GivesOwnPointers, StaysOwnPointer, LiveVariablesAreAccepted}
+use Rattle.heap_theory.specs.Run.{variable, store_with, store_step}
+use Rattle.heap_theory.specs.Sound.{IsSoundHeap}
+use Rattle.heap_theory.specs.SoundRun.{IsAddressOf, IsSoundRun, ForGeneration}
+use Rattle.heap_theory.specs.State.{State, Heap, slot_in, state_at, last_tag, chunk_granules, payload_place, pointer_to}
+use Rattle.heap_theory.specs.State.State.{Fresh, Live, Dead}
+use Rattle.heap_theory.proofs.CallsKept.{KeepsGiven, KeepsGiven-refl, KeepsGiven-with_payload, KeepsGiven-resized, KeepsGiven-moved, HeapChange, IsKept-malloc, IsKept-calloc, IsKept-free, IsKept-realloc, IsKept-store, state_at-with_payload, state_at-given_out, state_at-given_out_other, live_moved, layout-given_out, not_reusable}
+use Rattle.heap_theory.proofs.Choices.{slot_for_request-is, chunk_at-is}
+use Rattle.heap_theory.proofs.HeapKept.{in_states}
+use Rattle.heap_theory.proofs.Pointers.{chunk_at-pointer_to}
+
+-- ---- own pointers and named chunks
+
+live_is : (x : State) → IsLive x → (n : ℕ) × (t : ℕ) × (x ≡ Live n t)
+live_is Fresh l = absurd l
+live_is (Live n t) l = (n, t, refl)
+live_is (Dead n t m) l = absurd l
+
+-- the own pointer of a chunk names it
+names : LawsBelow → (h : Heap) (s p : ℕ) → IsSoundHeap h → IsOwnPointer h s p → (chunk : Chunk) × (chunk_at h p ≡ Ok chunk)
+names laws h s p sound own =
+    let l = live_is (state_at h s) own.live in
+    (record { slot = s; size = l.0 }, ap (chunk_at h) own.address ∙ chunk_at-pointer_to laws h s l.0 l.1 sound own.in_range l.2)
+
+parts : (p : ℕ) → p < 2 ^ 60 → p ≡ with_tag (place_of p) (logical_tag p)
+parts p plain = omega arith
+
+-- what names a chunk is its own pointer
+own_of : (h : Heap) (p : ℕ) (chunk : Chunk) → chunk_at h p ≡ Ok chunk → IsOwnPointer h chunk.slot p
+own_of h p chunk named =
+    let c = chunk_at-is h p chunk named in
+    record {
+      in_range = c.in_range;
+      live = subst IsLive (sym c.live) tt;
+      address = parts p c.plain ∙ (λ i. with_tag (c.place i) (sym (ap last_tag c.live) i));
+    }
+
+-- ---- free
+
+abbrev answer_of_free : Step (Result (Unit {0}) FreeError) → Result (Unit {0}) FreeError
+answer_of_free step = step.answer
+
+free_null : (h : Heap) (p : ℕ) → p ≡ 0 → FreeAccepts h p
+unfolding free_step
+free_null h p null =
+    ap (λ (b : Bool). (cond b (record { heap = h; answer = Ok tt }) (free_with h (chunk_at h p))).answer) (eq-eqb p 0 null)
+
+free_some : (h : Heap) (p : ℕ) (r : Result Chunk FreeError) → p ≢ 0 → chunk_at h p ≡ r → free_step h p ≡ free_with h r
+unfolding free_step
+free_some h p r some named = cond-false (p == 0) _ _ (false_from_ne_true _ (λ null. some (eqb-true _ _ null))) ∙ ap (free_with h) named
+
+pub free_accepts : LawsBelow → (h : Heap) (p : ℕ) → IsSoundHeap h → FreeAccepts h p ↔ IsNullOrOwn h p
+free_accepts laws h p sound = (
+  λ accepts. elim (cases_eq p 0) [
+    | inl null ↦ inl null
+    | inr some ↦ by_chunk some accepts (chunk_at h p) refl
+  ],
+  λ own. elim (cases_eq p 0) [
+    | inl null ↦ free_null h p null
+    | inr some ↦ elim own [
+      | inl null ↦ absurd (some null)
+      | inr is ↦ let named = names laws h is.0 p sound is.1 in ap answer_of_free (free_some h p (Ok named.0) some named.1)
+    ]
+  ],
+)
+  where
+    by_chunk : p ≢ 0 → FreeAccepts h p → (r : Result Chunk FreeError) → chunk_at h p ≡ r → IsNullOrOwn h p
+    by_chunk some accepts (Ok chunk) was = inr (chunk.slot, own_of h p chunk was)
+    by_chunk some accepts (Err error) was =
+        let refused : ◌≡◌ {A = Result (Unit {0}) FreeError} (Ok tt) (Err error) =
+        sym accepts ∙ ap answer_of_free (free_some h p (Err error) some was) in
+        absurd cc
+
+-- an own pointer is not null
+not_null : (h : Heap) (s : ℕ) → IsSoundHeap h → s < slot_count h.layout → pointer_to h s ≢ 0
+not_null h s sound within null =
+    let inside = sound.slots.inside s within in
+    let wide = sound.slots.wide s within in
+    let most = sound.region.most in
+    let place : payload_place (slot_in h s) < 2 ^ 56 = omega arith in
+    omega (arith, null)
+
+pub frees_chunk : LawsBelow → (h : Heap) (s n t : ℕ) → IsSoundHeap h → s < slot_count h.layout → state_at h s ≡ Live n t →
+    free_step h (pointer_to h s) ≡ record { heap = freed h s n; answer = Ok tt }
+frees_chunk laws h s n t sound within live =
+    free_some h (pointer_to h s) (Ok (record { slot = s; size = n })) (not_null h s sound within)
+    (chunk_at-pointer_to laws h s n t sound within live)
+
+-- ---- realloc
+
+abbrev Accepted : Step (Result ℕ ReallocError) → Type 0
+Accepted step = IsNotRefused step.answer
+
+realloc_null : (h : Heap) (p n : ℕ) → p ≡ 0 → ReallocAccepts h p n
+unfolding realloc_step
+realloc_null h p n null = subst Accepted (sym (cond-true (p == 0) _ _ (eq-eqb p 0 null))) (by (malloc_step h n))
+  where
+    by_answer : (new : Heap) (r : Result ℕ NullCause) → Accepted (as_realloc (record { heap = new; answer = r }))
+    by_answer new (Ok q) = tt
+    by_answer new (Err cause) = tt
+
+    by : (step : Step (Result ℕ NullCause)) → Accepted (as_realloc step)
+    by step = by_answer step.heap step.answer
+
+realloc_some : (h : Heap) (p n : ℕ) (r : Result Chunk FreeError) → p ≢ 0 → chunk_at h p ≡ r → realloc_step h p n ≡ realloc_with h p n r
+unfolding realloc_step
+realloc_some h p n r some named =
+    cond-false (p == 0) _ _ (false_from_ne_true _ (λ null. some (eqb-true _ _ null))) ∙ ap (realloc_with h p n) named
+
+not_refused : (h : Heap) (p n : ℕ) (chunk : Chunk) → Accepted (realloc_with h p n (Ok chunk))
+not_refused h p n chunk = cond_both (stays_in_class h chunk n) _ _ Accepted (λ _. tt) (λ _. by_slot (slot_for_request h n))
+  where
+    by_slot : (r : Result ℕ NullCause) → Accepted (move_with h chunk n r)
+    by_slot (Ok s) = tt
+    by_slot (Err cause) = tt
+
+pub realloc_accepts : LawsBelow → (h : Heap) (p n : ℕ) → IsSoundHeap h → ReallocAccepts h p n ↔ IsNullOrOwn h p
+realloc_accepts laws h p n sound = (
+  λ accepts. elim (cases_eq p 0) [
+    | inl null ↦ inl null
+    | inr some ↦ by_chunk some accepts (chunk_at h p) refl
+  ],
+  λ own. elim (cases_eq p 0) [
+    | inl null ↦ realloc_null h p n null
+    | inr some ↦ elim own [
+      | inl null ↦ absurd (some null)
+      | inr is ↦
+          let named = names laws h is.0 p sound is.1 in
+          subst Accepted (sym (realloc_some h p n (Ok named.0) some named.1)) (not_refused h p n named.0)
+    ]
+  ],
+)
+  where
+    by_chunk : p ≢ 0 → ReallocAccepts h p n → (r : Result Chunk FreeError) → chunk_at h p ≡ r → IsNullOrOwn h p
+    by_chunk some accepts (Ok chunk) was = inr (chunk.slot, own_of h p chunk was)
+    by_chunk some accepts (Err error) was = absurd (subst Accepted (realloc_some h p n (Err error) some was) accepts)
+
+-- ---- own pointers are given out
+
+kept_pointer : (h new : Heap) (s : ℕ) → KeepsGiven h new → pointer_to new s ≡ pointer_to h s
+kept_pointer h new s kept = λ i. with_tag (payload_place (slot_of (kept.layout i) s)) (kept.last s i)
+
+same_layout : (h new : Heap) (s : ℕ) → new.layout ≡ h.layout → s < slot_count h.layout → s < slot_count new.layout
+same_layout h new s same within = subst (λ (layout : Partition). s < slot_count layout) (sym same) within
+
+own_new : (h new : Heap) (s n : ℕ) → IsGiven h n s → KeepsGiven (given_out h s n) new → IsLive (state_at new s) →
+    IsOwnPointer new s (pointer_to (given_out h s n) s)
+own_new h new s n given kept live = record {
+  in_range = same_layout h new s (kept.layout ∙ layout-given_out h s n) given.reusable.in_range;
+  live = live;
+  address = sym (kept_pointer (given_out h s n) new s kept);
+}
+
+-- the slot of an own pointer is not given out
+not_given : (h : Heap) (s p n r : ℕ) → IsOwnPointer h s p → IsGiven h n r → s ≢ r
+not_given h s p n r own given is =
+    let l = live_is (state_at h s) own.live in
+    not_reusable h s l.0 l.1 (subst (IsReusable h) (sym is) given.reusable) l.2
+
+-- an own pointer stays one where nothing is given out, and another slot is none that is live
+own_kept : (h new : Heap) (s p : ℕ) → KeepsGiven h new → IsOwnPointer h s p → IsLive (state_at new s) → IsOwnPointer new s p
+own_kept h new s p kept own live = record {
+  in_range = same_layout h new s kept.layout own.in_range;
+  live = live;
+  address = own.address ∙ sym (kept_pointer h new s kept);
+}
+
+own_stays : (h new : Heap) (given : Option ℕ) (s p : ℕ) → HeapChange h new given → IsOwnPointer h s p → IsLive (state_at new s) →
+    IsOwnPointer new s p
+own_stays h new None s p change own live = own_kept h new s p change own live
+own_stays h new (Some r) s p change own live =
+    let another : s ≢ r = not_given h s p change.n r own change.given in
+    let state = state_at-given_out_other h r change.n s another in
+    let before : IsOwnPointer (given_out h r change.n) s p = record {
+      in_range = same_layout h (given_out h r change.n) s (layout-given_out h r change.n) own.in_range;
+      live = subst IsLive (sym state) own.live;
+      address = own.address ∙ sym (λ i. with_tag (payload_place (slot_of (layout-given_out h r change.n i) s)) (last_tag (state i)));
+    } in
+    own_kept (given_out h r change.n) new s p change.kept before live
+
+-- no pointer but its own names the slot
+not_named : (h : Heap) (s p q : ℕ) (chunk : Chunk) → IsOwnPointer h s p → q ≢ p → chunk_at h q ≡ Ok chunk → s ≢ chunk.slot
+not_named h s p q chunk own another named is =
+    another ((own_of h q chunk named).address ∙ sym (ap (pointer_to h) is) ∙ sym own.address)
+
+state_at-freed_other : (h : Heap) (s n r : ℕ) → r ≢ s → state_at (freed h s n) r ≡ state_at h r
+unfolding freed
+state_at-freed_other h s n r another = get_or-set_other h.states s r (Dead n (last_tag (state_at h s)) h.total) Fresh another
+
+state_at-resized_other : (h : Heap) (s n r : ℕ) → r ≢ s → state_at (resized h s n) r ≡ state_at h r
+unfolding resized
+state_at-resized_other h s n r another = get_or-set_other h.states s r (Live n (last_tag (state_at h s))) Fresh another
+
+-- so each call but its own leaves its state as it is
+module _ (h : Heap) (s p : ℕ) (sound : IsSoundHeap h) (own : IsOwnPointer h s p) where
+  state_after_malloc : (n : ℕ) → state_at (malloc_step h n).heap s ≡ state_at h s
+  unfolding malloc_step
+  state_after_malloc n = by_slot (slot_for_request h n) refl
+    where
+      by_slot : (r : Result ℕ NullCause) → slot_for_request h n ≡ r → state_at (malloc_with h n r).heap s ≡ state_at h s
+      by_slot (Err cause) was = refl
+      by_slot (Ok r) was = state_at-given_out_other h r n s (not_given h s p n r own (slot_for_request-is h n r sound was))
+
+  state_after_calloc : (n : ℕ) → state_at (calloc_step h n).heap s ≡ state_at h s
+  unfolding calloc_step
+  state_after_calloc n = by_slot (slot_for_request h n) refl
+    where
+      by_slot : (r : Result ℕ NullCause) → slot_for_request h n ≡ r → state_at (calloc_with h n r).heap s ≡ state_at h s
+      by_slot (Err cause) was = refl
+      by_slot (Ok r) was =
+          state_at-with_payload (given_out h r n) r s (replicate (16 * chunk_granules n) 0)
+          ∙ state_at-given_out_other h r n s (not_given h s p n r own (slot_for_request-is h n r sound was))
+
+  state_after_free : (q : ℕ) → q ≢ p → state_at (free_step h q).heap s ≡ state_at h s
+  unfolding free_step
+  state_after_free q another =
+      cond_both (q == 0) _ _ (λ (step : Step (Result (Unit {0}) FreeError)). state_at step.heap s ≡ state_at h s) (λ _. refl) (λ _. by_chunk (chunk_at h q) refl)
+    where
+      by_chunk : (r : Result Chunk FreeError) → chunk_at h q ≡ r → state_at (free_with h r).heap s ≡ state_at h s
+      by_chunk (Err error) was = refl
+      by_chunk (Ok chunk) was = state_at-freed_other h chunk.slot chunk.size s (not_named h s p q chunk own another was)
+
+  state_after_realloc : (q n : ℕ) → q ≢ p → state_at (realloc_step h q n).heap s ≡ state_at h s
+  unfolding realloc_step moved
+  state_after_realloc q n another = cond_both (q == 0) _ _ Keeps (λ _. state_after_malloc n) (λ _. by_chunk (chunk_at h q) refl)
+    where
+      Keeps : Step (Result ℕ ReallocError) → Type 0
+      Keeps step = state_at step.heap s ≡ state_at h s
+
+      by_slot : (chunk : Chunk) → s ≢ chunk.slot → (r : Result ℕ NullCause) → slot_for_request h n ≡ r → Keeps (move_with h chunk n r)
+      by_slot chunk other (Err cause) was = refl
+      by_slot chunk other (Ok r) was =
+          state_at-freed_other _ chunk.slot chunk.size s other
+          ∙ state_at-with_payload (given_out h r n) r s (payload_bytes h chunk.slot (min chunk.size n))
+          ∙ state_at-given_out_other h r n s (not_given h s p n r own (slot_for_request-is h n r sound was))
+
+      by_chunk : (r : Result Chunk FreeError) → chunk_at h q ≡ r → Keeps (realloc_with h q n r)
+      by_chunk (Err error) was = refl
+      by_chunk (Ok chunk) was =
+          let other = not_named h s p q chunk own another was in
+          cond_both (stays_in_class h chunk n) _ _ Keeps (λ _. state_at-resized_other h chunk.slot n s other)
+          (λ _. by_slot chunk other (slot_for_request h n) refl)
+
+  state_after_store : (address : ℕ) (bytes : List ℕ) → state_at (store_step h address bytes) s ≡ state_at h s
+  unfolding store_step
+  state_after_store address bytes = by_fault (access_fault h.memory address (length bytes))
+    where
+      by_fault : (o : Option Fault) → state_at (store_with h address bytes o) s ≡ state_at h s
+      by_fault None = refl
+      by_fault (Some fault) = refl
+
+pub stays_own : LawsBelow → (h : Heap) (s p : ℕ) → IsSoundHeap h → IsOwnPointer h s p → StaysOwnPointer h s p
+stays_own laws h s p sound own = record {
+  malloc = λ n. own_stays h _ _ s p (IsKept-malloc laws h n sound).change own (live (state_after_malloc h s p sound own n));
+  calloc = λ n. own_stays h _ _ s p (IsKept-calloc laws h n sound).change own (live (state_after_calloc h s p sound own n));
+  free = λ q another. own_stays h _ None s p (IsKept-free laws h q sound).change own (live (state_after_free h s p sound own q another));
+  realloc = λ q n another. own_stays h _ _ s p (IsKept-realloc laws h q n sound).change own (live (state_after_realloc h s p sound own q n another));
+  store = λ address bytes. own_stays h _ None s p (IsKept-store laws h address bytes sound).change own (live (state_after_store h s p sound own address bytes));
+}
+  where
+    live : {x : State} → x ≡ state_at h s → IsLive x
+    live same = subst IsLive (sym same) own.live
+
+own_given : (h : Heap) (n s : ℕ) → IsSoundHeap h → IsGiven h n s → IsOwnPointer (given_out h s n) s (pointer_to (given_out h s n) s)
+own_given h n s sound given =
+    own_new h (given_out h s n) s n given (KeepsGiven-refl (given_out h s n))
+    (subst IsLive (sym (state_at-given_out h s n (in_states h s sound given.reusable.in_range))) tt)
+
+malloc_gives : (h : Heap) (n p : ℕ) → IsSoundHeap h → (r : Result ℕ NullCause) → slot_for_request h n ≡ r →
+    (malloc_with h n r).answer ≡ Ok p → (s : ℕ) × IsOwnPointer (malloc_with h n r).heap s p
+malloc_gives h n p sound (Err cause) was is = absurd cc
+malloc_gives h n p sound (Ok s) was is =
+    let same : pointer_to (given_out h s n) s ≡ p = cc in
+    (s, subst (IsOwnPointer (given_out h s n) s) same (own_given h n s sound (slot_for_request-is h n s sound was)))
+
+calloc_gives : (h : Heap) (n p : ℕ) → IsSoundHeap h → (r : Result ℕ NullCause) → slot_for_request h n ≡ r →
+    (calloc_with h n r).answer ≡ Ok p → (s : ℕ) × IsOwnPointer (calloc_with h n r).heap s p
+calloc_gives h n p sound (Err cause) was is = absurd cc
+calloc_gives h n p sound (Ok s) was is =
+    let same : pointer_to (given_out h s n) s ≡ p = cc in
+    let zeroes = replicate (16 * chunk_granules n) 0 in
+    let before = own_given h n s sound (slot_for_request-is h n s sound was) in
+    let live = subst IsLive (sym (state_at-with_payload (given_out h s n) s s zeroes)) before.live in
+    let kept = KeepsGiven-with_payload (given_out h s n) s zeroes in
+    let own = own_kept (given_out h s n) (with_payload (given_out h s n) s zeroes) s _ kept before live in
+    (s, subst (IsOwnPointer (with_payload (given_out h s n) s zeroes) s) same own)
+
+move_gives : LawsBelow → (h : Heap) (q n p : ℕ) (chunk : Chunk) → IsSoundHeap h → IsLiveChunk h q chunk →
+    (r : Result ℕ NullCause) → slot_for_request h n ≡ r →
+    (move_with h chunk n r).answer ≡ Ok p → (s : ℕ) × IsOwnPointer (move_with h chunk n r).heap s p
+move_gives laws h q n p chunk sound c (Err cause) was is = absurd cc
+move_gives laws h q n p chunk sound c (Ok s) was is =
+    let same : pointer_to (given_out h s n) s ≡ p = cc in
+    let given = slot_for_request-is h n s sound was in
+    let live = subst IsLive (sym (live_moved laws h q chunk s n sound c given)) tt in
+    let own = own_new h (moved h chunk s n) s n given (KeepsGiven-moved laws h q chunk s n sound c given) live in
+    (s, subst (IsOwnPointer (moved h chunk s n) s) same own)
+
+state_at-resized : (h : Heap) (s n : ℕ) → IsSoundHeap h → s < slot_count h.layout →
+    state_at (resized h s n) s ≡ Live n (last_tag (state_at h s))
+unfolding resized
+state_at-resized h s n sound within = get_or-set_same h.states s (Live n (last_tag (state_at h s))) Fresh (in_states h s sound within)
+
+-- a step whose answer is this pointer leaves a heap in which it is an own one
+abbrev GivesOwn : Step (Result ℕ ReallocError) → ℕ → Type 0
+GivesOwn step p = step.answer ≡ Ok p → (s : ℕ) × IsOwnPointer step.heap s p
+
+resize_gives : (h : Heap) (q n p : ℕ) (chunk : Chunk) → IsSoundHeap h → chunk_at h q ≡ Ok chunk →
+    GivesOwn (record { heap = resized h chunk.slot n; answer = Ok q }) p
+resize_gives h q n p chunk sound named is =
+    let same : q ≡ p = cc in
+    let c = chunk_at-is h q chunk named in
+    let kept = KeepsGiven-resized h chunk.slot n chunk.size (logical_tag q) (in_states h chunk.slot sound c.in_range) c.live in
+    let live = subst IsLive (sym (state_at-resized h chunk.slot n sound c.in_range)) tt in
+    let own = own_kept h (resized h chunk.slot n) chunk.slot q kept (own_of h q chunk named) live in
+    (chunk.slot, subst (IsOwnPointer (resized h chunk.slot n) chunk.slot) same own)
+
+chunk_gives : LawsBelow → (h : Heap) (q n p : ℕ) → IsSoundHeap h → (r : Result Chunk FreeError) → chunk_at h q ≡ r →
+    GivesOwn (realloc_with h q n r) p
+chunk_gives laws h q n p sound (Err error) was is = absurd cc
+chunk_gives laws h q n p sound (Ok chunk) was is =
+    cond_both (stays_in_class h chunk n) _ _ (λ (step : Step (Result ℕ ReallocError)). GivesOwn step p)
+    (λ _. resize_gives h q n p chunk sound was)
+    (λ _. move_gives laws h q n p chunk sound (chunk_at-is h q chunk was) (slot_for_request h n) refl) is
+
+malloc_own : (h : Heap) (n p : ℕ) → IsSoundHeap h → (malloc_step h n).answer ≡ Ok p → (s : ℕ) × IsOwnPointer (malloc_step h n).heap s p
+unfolding malloc_step
+malloc_own h n p sound = malloc_gives h n p sound (slot_for_request h n) refl
+
+calloc_own : (h : Heap) (n p : ℕ) → IsSoundHeap h → (calloc_step h n).answer ≡ Ok p → (s : ℕ) × IsOwnPointer (calloc_step h n).heap s p
+unfolding calloc_step
+calloc_own h n p sound = calloc_gives h n p sound (slot_for_request h n) refl
+
+null_gives : (h : Heap) (n p : ℕ) → IsSoundHeap h → GivesOwn (as_realloc (malloc_step h n)) p
+null_gives h n p sound is = malloc_own h n p sound (by (malloc_step h n).answer is)
+  where
+    by : (r : Result ℕ NullCause) → (as_realloc (record { heap = h; answer = r })).answer ≡ Ok p → r ≡ Ok p
+    by (Ok q) is = let same : q ≡ p = cc in ap Ok same
+    by (Err cause) is = absurd cc
+
+realloc_own : LawsBelow → (h : Heap) (q n p : ℕ) → IsSoundHeap h → GivesOwn (realloc_step h q n) p
+unfolding realloc_step
+realloc_own laws h q n p sound =
+    cond_both (q == 0) _ _ (λ (step : Step (Result ℕ ReallocError)). GivesOwn step p) (λ _. null_gives h n p sound)
+    (λ _. chunk_gives laws h q n p sound (chunk_at h q) refl)
+
+pub gives_own : LawsBelow → (h : Heap) → IsSoundHeap h → GivesOwnPointers h
+gives_own laws h sound = record {
+  malloc = λ n p. malloc_own h n p sound;
+  calloc = λ n p. calloc_own h n p sound;
+  realloc = λ q n p. realloc_own laws h q n p sound;
+}
+
+-- ---- the variables of a run
+
+pub live_variables : LawsBelow → (w : Run) → IsSoundRun w → LiveVariablesAreAccepted w
+live_variables laws w sound v s time generation live =
+    let h = w.replay.heap in
+    let p = variable w.replay v in
+    let i : IsAddressOf h w.times p s time =
+    subst (λ g. ForGeneration g (λ s time. IsAddressOf h w.times p s time)) generation (sound.variables v).follows in
+    let own : IsOwnPointer h s p = record {
+      in_range = i.in_range;
+      live = live.live;
+      address = i.address_is ∙ ap (with_tag (payload_place (slot_in h s))) (i.last (sym live.times)).0;
+    } in
+    record {
+      own = own;
+      by_free = (free_accepts laws h p sound.heap).1 (inr (s, own));
+      by_realloc = λ n. (realloc_accepts laws h p n sound.heap).1 (inr (s, own));
+    }
