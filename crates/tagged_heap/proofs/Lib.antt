@@ -1,3 +1,4 @@
+pub mod Accepted
 pub mod BytesInParts
 pub mod HeaderPlaces
 pub mod Slots

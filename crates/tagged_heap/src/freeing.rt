@@ -3,10 +3,11 @@ ghost use Rattle.class_table.specs.Layout.{slot_count, AreInOrder};
 ghost use Rattle.heap_theory.specs.Calls.{free_step, freed};
 ghost use Rattle.heap_theory.specs.Choice.{chunk_at};
 ghost use Rattle.heap_theory.specs.Header.Standing.{Freed};
+ghost use Rattle.heap_theory.specs.OwnPointers.{IsNullOrOwn};
 ghost use Rattle.heap_theory.specs.State.{state_at, without_headers, Heap as TheHeap, IsSlot};
 ghost use Rattle.heap_theory.specs.State.State.{Live};
 ghost use Rattle.machine_theory.specs.Memory.{IsMemory};
-ghost use Rattle.std.specs.Prelude.{◌≡◌, ◌≢◌, ◌+◌, ◌^◌, ◌<◌, ◌≤◌, length, slice_index, slice_set, IfErr, IfOk, OnErr, OnOk, ℕ};
+ghost use Rattle.std.specs.Prelude.{◌≡◌, ◌≢◌, ◌↔◌, ◌+◌, ◌^◌, ◌<◌, ◌≤◌, length, slice_index, slice_set, IfErr, IfOk, Ok, OnErr, OnOk, ℕ};
 ghost use Rattle.tagged_heap.specs.Keeping.{header_in, IsRewritten};
 ghost use Rattle.tagged_heap.specs.View.{AreLettingGo, IsLettingGo};
 
@@ -20,6 +21,7 @@ use class_lists::ClassLists;
 use class_table::{GRANULE_BYTES, Layout};
 use granule_memory::Memory;
 use heap_theory::FreeError;
+use heap_theory::laws::hardening::law_own_pointer;
 use quarantine_core::Quarantine;
 use tag_machine::logical_tag;
 
@@ -34,7 +36,8 @@ impl Heap {
     /// Takes the chunk at p back: its granules get another tag, and its slot goes into the quarantine. Nothing happens at null, 0.
     ///
     /// `Misplaced` where p is not the address of a slot's first payload byte, else `NotLive` where the slot is not given out, else
-    /// `WrongTag` where it is given out under another tag than p's; then nothing changes.
+    /// `WrongTag` where it is given out under another tag than p's; then nothing changes. So p is accepted exactly where it is null or the
+    /// pointer that was given out for a live chunk.
     pub fn free(&mut self, p: u64) -> Result<(), FreeError>
         requires few { self.old.frees < 2 ^ 48 }
         ensures answer { result ≡ (free_step self.old.state p).answer }
@@ -42,11 +45,14 @@ impl Heap {
         ensures null { p ≡ 0 → self.new ≡ self.old }
         ensures counted { OnOk result (p ≢ 0 → self.new.frees ≡ self.old.frees + 1) }
         ensures refused { OnErr result (self.new ≡ self.old) }
+        ensures accepted { (result ≡ Ok tt) ↔ IsNullOrOwn self.old.state p }
     {
+        laws_below();
+        law_own_pointer();
+        self.law_sound();
         if p == 0 {
             return Ok(());
         }
-        laws_below();
         let chunk = self.chunk(p)?;
         self.release(chunk.slot);
         Ok(())

@@ -1,9 +1,10 @@
 //! The call that resizes a chunk.
 ghost use Rattle.heap_theory.specs.Calls.{given_out, is_class_of, moved, payload_bytes, realloc_step, resized, with_payload};
 ghost use Rattle.heap_theory.specs.Choice.{class_for_request, slot_for_request};
+ghost use Rattle.heap_theory.specs.OwnPointers.{IsNotRefused, IsNullOrOwn};
 ghost use Rattle.heap_theory.specs.State.{chunk_granules, pointer_to, slot_in, state_at, IsSlot};
 ghost use Rattle.heap_theory.specs.State.State.{Live};
-ghost use Rattle.std.specs.Prelude.{◌≡◌, ◌+◌, ◌*◌, ◌^◌, ◌<◌, ◌≤◌, ◌≢◌, IfErr, IfOk, IsTrue, OnErr, ℕ};
+ghost use Rattle.std.specs.Prelude.{◌≡◌, ◌↔◌, ◌+◌, ◌*◌, ◌^◌, ◌<◌, ◌≤◌, ◌≢◌, IfErr, IfOk, IsTrue, OnErr, ℕ};
 ghost use Rattle.tagged_heap.specs.Frees.{frees_of_realloc};
 
 use crate::allocation::class_for;
@@ -13,6 +14,7 @@ use crate::freeing::Chunk;
 use crate::heap::Heap;
 use crate::laws_below::laws_below;
 use class_table::GRANULE_BYTES;
+use heap_theory::laws::hardening::law_own_pointer;
 use heap_theory::{NullCause, ReallocError};
 use machine_theory::laws::memory::law_reads;
 
@@ -20,7 +22,8 @@ impl Heap {
     /// Gives the chunk at p `n` bytes: in place and under its tag where n is of its class, else in another slot, to which as many bytes as
     /// both sizes have are copied; the answer is its address then. At null, 0, it is `malloc`.
     ///
-    /// `Refused` where `free` would refuse p, else `Null` where `malloc` would refuse n; then nothing changes.
+    /// `Refused` where `free` would refuse p, else `Null` where `malloc` would refuse n; then nothing changes. So p is accepted exactly where
+    /// it is null or the pointer that was given out for a live chunk.
     pub fn realloc(&mut self, p: u64, n: u32) -> Result<u64, ReallocError>
         requires few { self.old.frees < 2 ^ 48 }
         ensures answer { result ≡ (realloc_step self.old.state p n).answer }
@@ -28,11 +31,14 @@ impl Heap {
         ensures counted { self.new.frees ≡ self.old.frees + frees_of_realloc self.old.state p n }
         ensures at_most_one { self.new.frees ≤ self.old.frees + 1 }
         ensures refused { OnErr result (self.new ≡ self.old) }
+        ensures accepted { IsNotRefused result ↔ IsNullOrOwn self.old.state p }
     {
+        laws_below();
+        law_own_pointer();
+        self.law_sound();
         if p == 0 {
             return self.malloc(n).map_err(ReallocError::Null);
         }
-        laws_below();
         let chunk = self.chunk(p).map_err(ReallocError::Refused)?;
         if self.stays_in_class(chunk.slot, n) {
             self.resize(chunk.slot, n);

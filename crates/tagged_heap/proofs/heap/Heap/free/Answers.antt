@@ -2,6 +2,7 @@
 use Rattle.std.proofs.Common.{◌∙◌, ap}
 use Rattle.std.proofs.lemmas.Result.{err_from_is_err_and}
 use Rattle.tagged_heap.specs.View.{Counted}
+use Rattle.tagged_heap.proofs.Accepted.{free_accepted}
 use Rattle.tagged_heap.proofs.CallSteps.{free_null, free_chunk, free_refused}
 use Rattle.tagged_heap.proofs.heap.Heap.free.Goals as goal
 
@@ -35,3 +36,15 @@ returns-clause-state c =
 
 pub returns-clause-counted : goal.returns-clause-counted
 returns-clause-counted c = λ _. ap (λ (x : Counted). x.frees) (c.release.ensures _ _ (c.laws_below.ensures.chunk _ _ _ c.in_ok-chunk.ensures.ok).live)
+
+-- what is answered is the definition's answer, of which the law speaks
+pub returns-then-p-eq0-clause-accepted : goal.returns-then-p-eq0-clause-accepted
+returns-then-p-eq0-clause-accepted c =
+    free_accepted c.law_own_pointer.ensures.free c.args.self.now.state c.args.p _ c.law_sound.ensures (returns-then-p-eq0-clause-answer c)
+
+pub returns-in_err-chunk-clause-accepted : goal.returns-in_err-chunk-clause-accepted
+returns-in_err-chunk-clause-accepted c =
+    free_accepted c.law_own_pointer.ensures.free c.args.self.now.state c.args.p _ c.law_sound.ensures (returns-in_err-chunk-clause-answer c)
+
+pub returns-clause-accepted : goal.returns-clause-accepted
+returns-clause-accepted c = free_accepted c.law_own_pointer.ensures.free c.args.self.now.state c.args.p _ c.law_sound.ensures (returns-clause-answer c)

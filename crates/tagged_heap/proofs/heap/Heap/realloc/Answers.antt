@@ -7,6 +7,7 @@ use Rattle.heap_theory.specs.declared.fault.ReallocError.TheVariants.{Null, Refu
 use Rattle.heap_theory.specs.Choice.{chunk_at}
 use Rattle.tagged_heap.specs.declared.freeing.Chunk.{Chunk as Found}
 use Rattle.tagged_heap.specs.View.{Counted}
+use Rattle.tagged_heap.proofs.Accepted.{realloc_accepted}
 use Rattle.tagged_heap.proofs.ReallocSteps.{err_named, ok_named, all_named, realloc_null, realloc_refused, realloc_stays, realloc_moves, frees_at_null, frees_refused, frees_in_place, frees_moved, move_answer, move_state, move_frees}
 use Rattle.tagged_heap.proofs.heap.Heap.realloc.Goals as goal
 use Rattle.tagged_heap.proofs.heap.Heap.realloc.Goals.{In_ok-chunk, In_err-chunk}
@@ -102,3 +103,20 @@ pub returns-clause-counted : goal.returns-clause-counted
 returns-clause-counted c =
     move_frees c.args.self.now c.move_chunk.new.self _ c.args.n c.move_chunk.result c.move_chunk.ensures.ok c.move_chunk.ensures.err c.move_chunk.ensures.refused
     ∙ ap (λ k. c.args.self.now.frees + k) (sym (frees_moved c.args.self.now.state c.args.p c.args.n _ c.if-p-eq0.false (found (goal.at.returns-clause-counted c).In_ok-chunk) c.if-stays_in_class.ensures.test))
+
+-- what is answered is the definition's answer, of which the law speaks
+pub returns-then-p-eq0-clause-accepted : goal.returns-then-p-eq0-clause-accepted
+returns-then-p-eq0-clause-accepted c =
+    realloc_accepted c.law_own_pointer.ensures.realloc c.args.self.now.state c.args.p c.args.n _ c.law_sound.ensures (returns-then-p-eq0-clause-answer c)
+
+pub returns-in_err-chunk-clause-accepted : goal.returns-in_err-chunk-clause-accepted
+returns-in_err-chunk-clause-accepted c =
+    realloc_accepted c.law_own_pointer.ensures.realloc c.args.self.now.state c.args.p c.args.n _ c.law_sound.ensures (returns-in_err-chunk-clause-answer c)
+
+pub returns-then-stays_in_class-clause-accepted : goal.returns-then-stays_in_class-clause-accepted
+returns-then-stays_in_class-clause-accepted c =
+    realloc_accepted c.law_own_pointer.ensures.realloc c.args.self.now.state c.args.p c.args.n _ c.law_sound.ensures (returns-then-stays_in_class-clause-answer c)
+
+pub returns-clause-accepted : goal.returns-clause-accepted
+returns-clause-accepted c =
+    realloc_accepted c.law_own_pointer.ensures.realloc c.args.self.now.state c.args.p c.args.n _ c.law_sound.ensures (returns-clause-answer c)
