@@ -2,7 +2,9 @@ pub mod Asked
 pub mod Digits
 pub mod Halves
 pub mod LeastEnds
+pub mod OneCount
 pub mod OneSheet
 pub mod ReadOff
 pub mod Rows
+pub mod Tried
 pub mod Tunings

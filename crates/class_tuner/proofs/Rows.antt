@@ -12,10 +12,12 @@ use Rattle.tuner_theory.specs.Rows.{HasShape, IsFilled, IsLeastEnd, number_at}
 
 -- ---- numbers in rows
 
-number_at-old : (rows : List (List ℕ)) (row : List ℕ) (k i : ℕ) → 1 ≤ k → k ≤ length rows → number_at (rows ++ row ∷ []) k i ≡ number_at rows k i
+pub number_at-old : (rows : List (List ℕ)) (row : List ℕ) (k i : ℕ) → 1 ≤ k → k ≤ length rows
+    → number_at (rows ++ row ∷ []) k i ≡ number_at rows k i
 number_at-old rows row k i one le = ap (λ (r : List ℕ). slice_index r i) (get_or_append_left rows (row ∷ []) [] (k - 1) (omega arith))
 
-number_at-new : (rows : List (List ℕ)) (row : List ℕ) (k i : ℕ) → length rows ≡ k → number_at (rows ++ row ∷ []) (suc k) i ≡ slice_index row i
+pub number_at-new : (rows : List (List ℕ)) (row : List ℕ) (k i : ℕ) → length rows ≡ k
+    → number_at (rows ++ row ∷ []) (suc k) i ≡ slice_index row i
 number_at-new rows row k i size =
     let last : suc k - 1 ≡ length rows = omega arith in
     ap (λ m. slice_index (get_or (rows ++ row ∷ []) m []) i) last ∙ ap (λ (r : List ℕ). slice_index r i) (get_or-append_seam rows row [] [])

@@ -1,10 +1,11 @@
 -- What a tuner answers.
 use Rattle.std.specs.Prelude.{◌≡◌, ℕ, ◌<◌, ◌≤◌, List}
+use Rattle.class_tuner.specs.Filling.{calls_of}
 use Rattle.potential_check.specs.declared.sheet.Sheet.{Sheet as Written}
 use Rattle.tuner_theory.specs.Best.{IsCanonical}
 use Rattle.tuner_theory.specs.Potentials.{AreValidPotentials}
 use Rattle.tuner_theory.specs.Rests.{IsRest}
-use Rattle.tuner_theory.specs.Rows.{HasShape, number_at}
+use Rattle.tuner_theory.specs.Rows.{HasShape, IsFilled, number_at}
 use Rattle.tuner_theory.specs.Sheets.{IsVerdict, Sheet}
 use Rattle.tuner_theory.specs.Spans.{places, span_waste}
 use Rattle.tuner_theory.specs.Waste.{waste_of}
@@ -29,3 +30,9 @@ pub record IsTuned (counts : List ℕ) (step limit : ℕ) (sheet : Sheet) : Type
   pub rests : AreRests counts step limit sheet.rows
   pub valid : AreValidPotentials (span_waste counts step) (places counts step) limit (number_at sheet.rows)
   pub optimal : IsVerdict counts sheet Optimal
+
+-- How often a source of the span wastes is asked for them to fill these rows. The rows' own least ends determine it.
+pub record AreEvaluations (counts : List ℕ) (step limit : ℕ) (rows : List (List ℕ)) (evaluations : ℕ) : Type 0 where
+  pub ends : List (List ℕ)
+  pub filled : IsFilled (span_waste counts step) (places counts step) limit rows ends
+  pub asked : evaluations ≡ calls_of (number_at ends) (places counts step) limit

@@ -1,7 +1,7 @@
 ghost use Rattle.std.specs.Prelude.{◌≡◌, ℕ, ◌+◌, ◌-◌, ◌*◌, ◌^◌, ◌<◌, ◌≤◌, [], ◌∷◌, ◌++◌, length, slice_index, IfOk, OnOk};
-ghost use Rattle.class_tuner.specs.Filling.{IsFilledWithin, bits, most_calls};
+ghost use Rattle.class_tuner.specs.Filling.{IsFilledWithin, bits, calls_of, most_calls, tried_in_row};
 ghost use Rattle.potential_check.specs.Lists.{lists_of};
-ghost use Rattle.tuner_theory.specs.Rows.{IsFilled};
+ghost use Rattle.tuner_theory.specs.Rows.{IsFilled, number_at};
 
 use crate::cost_source::{CostSource, ask};
 use crate::halving::{Part, fill_part};
@@ -38,7 +38,8 @@ impl Filled {
 
 /// The first `limit` (1 to 32) rows of least costs over a source of at most 1,023 places that was asked fewer than 2^62 times.
 /// Over D places, at least one, the source is asked at most `limit * ((D - 1) * bits(D) + D)` times, `bits(D)` being the number of binary digits of D;
-/// over none it is not asked. An error only where memory was refused; nothing but the count of calls changes then too.
+/// over none it is not asked. The ends of the rows determine how often it is asked (`calls_of`).
+/// An error only where memory was refused; nothing but the count of calls changes then too.
 pub fn fill_rows<C: CostSource>(
     alloc: Global,
     costs: &mut C,
@@ -51,6 +52,8 @@ pub fn fill_rows<C: CostSource>(
     ensures filled { IfOk result
         (λ f. IsFilled (C.cost costs.old) (C.place_count costs.old) limit (lists_of f.rows.items) (lists_of f.ends.items)) }
     ensures counted { C.call_count costs.new ≤ C.call_count costs.old + most_calls limit (C.place_count costs.old) }
+    ensures exact { let d = C.place_count costs.old in let before = C.call_count costs.old in
+        IfOk result (λ f. C.call_count costs.new ≡ before + calls_of (number_at (lists_of f.ends.items)) d limit) }
     ensures kept { costs.new ≡ C.with_calls costs.old (C.call_count costs.new) }
 {
     let mut filled = Filled {
@@ -75,6 +78,7 @@ fn first_row<C: CostSource>(alloc: Global, costs: &mut C) -> Result<Row, AllocEr
     ensures costs_length { IfOk result (λ r. length r.costs.items ≡ C.place_count costs.old) }
     ensures ends_length { IfOk result (λ r. length r.ends.items ≡ C.place_count costs.old) }
     ensures counted { C.call_count costs.new ≤ C.call_count costs.old + C.place_count costs.old }
+    ensures exact { IfOk result (λ r. C.call_count costs.new ≡ C.call_count costs.old + C.place_count costs.old) }
     ensures kept { costs.new ≡ C.with_calls costs.old (C.call_count costs.new) }
     ensures same_cost { C.cost costs.new ≡ C.cost costs.old }
     ensures same_places { C.place_count costs.new ≡ C.place_count costs.old }
@@ -99,6 +103,8 @@ fn next_row<C: CostSource>(alloc: Global, costs: &mut C, before: &[u64]) -> Resu
     ensures costs_length { IfOk result (λ r. length r.costs.items ≡ C.place_count costs.old) }
     ensures ends_length { IfOk result (λ r. length r.ends.items ≡ C.place_count costs.old) }
     ensures counted { let d = C.place_count costs.old in C.call_count costs.new ≤ C.call_count costs.old + ((d - 1) * bits d + d) }
+    ensures exact { let d = C.place_count costs.old in
+        IfOk result (λ r. C.call_count costs.new ≡ C.call_count costs.old + tried_in_row (slice_index r.ends.items) d) }
     ensures kept { costs.new ≡ C.with_calls costs.old (C.call_count costs.new) }
     ensures same_cost { C.cost costs.new ≡ C.cost costs.old }
     ensures same_places { C.place_count costs.new ≡ C.place_count costs.old }

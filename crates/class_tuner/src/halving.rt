@@ -1,7 +1,7 @@
 //! One row by halving: the middle place first, and then the places on either side of it, each with ends on their side of its least end.
 //! Where spans cross, a later place has no earlier least end, so no end is tried in vain on both sides.
 ghost use Rattle.std.specs.Prelude.{◌≡◌, ℕ, ◌+◌, ◌-◌, ◌*◌, ◌^◌, ◌<◌, ◌≤◌, length, slice_index};
-ghost use Rattle.class_tuner.specs.Filling.{AreEndsBetween, IsFilledWithin, IsKeptOutside, end_cost};
+ghost use Rattle.class_tuner.specs.Filling.{AreEndsBetween, IsFilledWithin, IsKeptOutside, end_cost, tried_within};
 ghost use Rattle.tuner_theory.specs.Rows.{IsLeastEnd};
 
 use crate::cost_source::{CostSource, ask};
@@ -40,6 +40,8 @@ pub(crate) fn fill_part<C: CostSource>(
     ensures ends_kept { IsKeptOutside ends.old ends.new part.start part.stop }
     ensures counted { (b : ℕ) → part.stop - part.start < 2 ^ b
         → C.call_count costs.new ≤ C.call_count costs.old + (part.high - part.low) * b + (part.stop - part.start) }
+    ensures exact { (b : ℕ) → part.stop - part.start < 2 ^ b → C.call_count costs.new
+        ≡ C.call_count costs.old + tried_within (slice_index ends.new) b part.start part.stop part.low part.high }
     ensures room { C.call_count costs.new ≤ C.call_count costs.old + 1024 * (part.stop - part.start) }
     ensures kept { costs.new ≡ C.with_calls costs.old (C.call_count costs.new) }
     ensures same_cost { C.cost costs.new ≡ C.cost costs.old }

@@ -1,6 +1,6 @@
 ghost use Rattle.std.specs.Prelude.{◌≡◌, ◌<◌, ◌≤◌, IfOk};
 ghost use Rattle.class_tuner.specs.Filling.{most_calls};
-ghost use Rattle.class_tuner.specs.Tuned.{IsTuned};
+ghost use Rattle.class_tuner.specs.Tuned.{AreEvaluations, IsTuned};
 ghost use Rattle.potential_check.specs.Lists.{lists_of};
 ghost use Rattle.potential_check.specs.Sheets.{sheet_of};
 ghost use Rattle.potential_check.specs.Spanned.{IsSpanned};
@@ -58,6 +58,9 @@ pub fn tune(alloc: Global, profile: &Profile, limit: u8, step: u8) -> Result<Tun
 
     // the canonical table, its waste, and the least rests as its certificate
     ensures tuned { IfOk result (λ tuned. IsTuned profile.now.counts step limit (sheet_of tuned.sheet)) }
+    // how often the span wastes were asked for, and the most that it can be
+    ensures counted { IfOk result
+        (λ tuned. AreEvaluations profile.now.counts step limit tuned.sheet.rows tuned.evaluations) }
     ensures evaluations { IfOk result (λ tuned. tuned.evaluations ≤ most_calls limit (places profile.now.counts step)) }
 {
     let spans = Spans::new(alloc, profile, step)?;
@@ -75,7 +78,8 @@ fn sheet_of_rows(spans: &Spans<'_>, filled: Filled, limit: u8) -> Sheet
     requires few { limit ≤ 32 }
     requires filled { let d = places spans.now.counts spans.now.step in
         IsFilled (span_waste spans.now.counts spans.now.step) d limit (lists_of filled.rows.items) (lists_of filled.ends.items) }
-    ensures { IsTuned spans.now.counts spans.now.step limit (sheet_of result) }
+    ensures tuned { IsTuned spans.now.counts spans.now.step limit (sheet_of result) }
+    ensures rows { result.rows ≡ lists_of filled.rows.items }
 {
     law_least_rows();
     law_rests();

@@ -1,6 +1,8 @@
-use Rattle.std.proofs.Common.{rules, ℕ, zero, suc, ◌+◌, ◌-◌, ◌*◌, ◌^◌, ◌/◌, ◌<◌, ◌≤◌, add-one, arith}
-use Rattle.class_tuner.specs.Filling.{AreEndsBetween}
+use Rattle.std.proofs.Common.{rules, ◌≡◌, ℕ, zero, suc, ◌+◌, ◌-◌, ◌*◌, ◌^◌, ◌/◌, ◌<◌, ◌≤◌, slice_index, add-one, arith, sym, ◌∙◌, inl, inr}
+use Rattle.std.proofs.lemmas.List.{get_or-set_same}
+use Rattle.class_tuner.specs.Filling.{AreEndsBetween, tried_within}
 use Rattle.class_tuner.proofs.Halves.{between-left, between-right, count-halves, half-digits}
+use Rattle.class_tuner.proofs.Tried.{tried-none, tried-part}
 use Rattle.class_tuner.proofs.halving.+fill_part.Goals as goal
 
 pub least_end-cost-requires-clause-ends : goal.least_end-cost-requires-clause-ends
@@ -53,3 +55,29 @@ returns-then-part-clause-counted g t c = counted
         (part.high - c.max-first.result + 1) _ _ (omega arith) (omega arith) (omega arith)
         (omega (arith, c.fill_part.ensures.counted b (omega arith), c.least_end-cost.ensures.counted))
         (c.fill_part-then-part.ensures.counted b (omega arith))
+
+pub returns-then-part-clause-exact : goal.returns-then-part-clause-exact
+returns-then-part-clause-exact g t c = exact
+  where
+    exact : (b : ℕ) → c.args.part.stop - c.args.part.start < 2 ^ b
+        → g.C.CostSource.call_count c.fill_part-then-part.new.costs
+        ≡ g.C.CostSource.call_count c.args.costs.now
+        + tried_within (slice_index c.fill_part-then-part.new.ends) b c.args.part.start c.args.part.stop c.args.part.low c.args.part.high
+    exact zero lt = absurd (omega arith)
+    exact (suc b) lt =
+        let part = c.args.part in
+        let middle : ℕ = part.start + (part.stop - part.start) / 2 in
+        let end = c.least_end-cost.result.1 in
+        let kept = c.fill_part-then-part.ensures.ends_kept in
+        let is : slice_index c.fill_part-then-part.new.ends middle ≡ end =
+        kept middle (inl (omega arith))
+        ∙ (c.fill_part.ensures.ends_kept middle (inr (omega arith)) ∙ get_or-set_same c.args.ends.now middle end 0 (omega arith)) in
+        tried-part (slice_index c.fill_part.new.ends) (slice_index c.fill_part-then-part.new.ends) b part.start part.stop part.low part.high
+        c.max-first.result end (g.C.CostSource.call_count c.args.costs.now) _ _ _ (omega arith) (omega arith) (omega arith) is
+        (λ i from below. sym (kept i (inl (omega arith)))) c.least_end-cost.ensures.counted
+        (c.fill_part.ensures.exact b (omega arith)) (c.fill_part-then-part.ensures.exact b (omega arith))
+
+pub returns-else-part-clause-exact : goal.returns-else-part-clause-exact
+returns-else-part-clause-exact g t c = λ b lt.
+    let part = c.args.part in
+    omega (arith, tried-none (slice_index c.args.ends.now) b part.start part.stop part.low part.high (omega arith))

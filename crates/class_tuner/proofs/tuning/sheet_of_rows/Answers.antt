@@ -12,8 +12,8 @@ table_of_ends-table-requires-clause-legal c =
     (tuned-legal c.args.spans.now c.args.limit _ (lists_of c.args.filled.ends.items) c.requires.spans c.requires.some c.requires.few c.requires.filled
     c.law_tuned_table.ensures.canonical)
 
-pub returns : goal.returns
-returns c =
+pub returns-clause-tuned : goal.returns-clause-tuned
+returns-clause-tuned c =
     rw (c.step.ensures, c.new-rows.ensures)
     (tuned-sheet c.args.spans.now c.args.limit (lists_of c.args.filled.rows.items) (lists_of c.args.filled.ends.items) c.requires.spans c.requires.some c.requires.few c.requires.filled
     c.law_tuned_table.ensures.canonical c.law_tuned_table.ensures.wastes c.law_tuned_table.ensures.optimal c.law_rests.ensures.rows c.law_least_rows.ensures.valid
