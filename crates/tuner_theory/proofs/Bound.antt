@@ -1,12 +1,10 @@
 -- Valid potentials bound the waste of every table from below.
 use Rattle.std.proofs.Common.{◌≡◌, ℕ, zero, suc, ◌+◌, ◌<◌, ◌≤◌, List, [], ◌∷◌, length, arith, ap, inl, inr}
 use Rattle.std.proofs.lemmas.Bool.{cases_lt}
-use Rattle.tuner_theory.specs.Best.{IsCandidate}
 use Rattle.tuner_theory.specs.Potentials.{AreValidPotentials}
 use Rattle.tuner_theory.specs.Spans.{places, span_waste}
-use Rattle.tuner_theory.specs.Waste.{waste_of}
-use Rattle.tuner_theory.proofs.Needs.{Reaches, reach, reach-one}
-use Rattle.tuner_theory.proofs.Tables.{AreClassesAbove, ServesAbove, ServesAbove-later, classes-from_legal, nothing-left, span-least, waste_above, waste_above-all, waste_above-cons}
+use Rattle.tuner_theory.proofs.Needs.{Reaches, reach}
+use Rattle.tuner_theory.proofs.Tables.{AreClassesAbove, ServesAbove, ServesAbove-later, nothing-left, span-least, waste_above, waste_above-cons}
 
 module _ (cost : ℕ → ℕ → ℕ) (d limit : ℕ) (potential : ℕ → ℕ → ℕ) (valid : AreValidPotentials cost d limit potential) where
   -- one class more, in numbers: the class reaches from place i to place j, and the classes after it cost at least the rest
@@ -58,12 +56,3 @@ module _ (counts : List ℕ) (step : ℕ) (pos : 0 < step) (limit : ℕ) (potent
               ap (span_waste counts step i) (nothing-left counts step pos c j.0 cs (omega arith) j.1 later),
             ))
       ]
-
-  pub potentials-bound : (classes : List ℕ) → IsCandidate counts step limit classes → potential limit 0 ≤ waste_of counts classes
-  potentials-bound classes candidate =
-      omega (
-        arith,
-        waste_above-all counts step pos classes,
-        bound classes limit 1 0 (omega arith) (reach-one counts step pos) (classes-from_legal step classes candidate.legal) candidate.few (omega arith)
-            (λ n counted above. candidate.serving n counted),
-      )

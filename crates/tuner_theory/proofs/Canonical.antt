@@ -10,7 +10,8 @@ use Rattle.tuner_theory.specs.Tuned.{AreTunedRows, tuned_table}
 use Rattle.tuner_theory.specs.Rows.{AreLeastRows, table_of_ends}
 use Rattle.tuner_theory.specs.Spans.{need_at, places, rounded_need, span_waste}
 use Rattle.tuner_theory.specs.Waste.{IsCounted, waste_of}
-use Rattle.tuner_theory.proofs.Bound.{bound, potentials-bound}
+use Rattle.tuner_theory.proofs.Bound.{bound}
+use Rattle.tuner_theory.proofs.BoundRests.{potentials-bound}
 use Rattle.tuner_theory.proofs.LeastRows.{ends-later, rows-valid}
 use Rattle.tuner_theory.proofs.Needs.{Reaches, need_at-from, needs_ascend, reach, reach-at, reach-covers, reach-one}
 use Rattle.tuner_theory.proofs.Rounding.{rounded-positive, step-positive}

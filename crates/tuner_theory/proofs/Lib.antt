@@ -1,4 +1,5 @@
 pub mod Bound
+pub mod BoundRests
 pub mod Canonical
 pub mod ExampleProfiles
 pub mod ExampleSheets

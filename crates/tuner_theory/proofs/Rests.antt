@@ -1,125 +1,15 @@
 -- The numbers of least rows are the least rests.
-use Rattle.std.proofs.Common.{◌≡◌, ℕ, zero, suc, ◌+◌, ◌*◌, ◌<◌, ◌≤◌, ◌%◌, max, List, [], ◌∷◌, length, slice_index, cond, ltb, leb, Option, unwrap_or, arith, refl, ap, sym, subst, ◌∙◌, inl, inr}
-use Rattle.std.specs.Prelude.{IsSome}
-use Rattle.std.proofs.lemmas.Bool.{cases_lt, cond_both, cond-true, cond-false, le-leb, le-ltb, lt-leb, lt-ltb}
-use Rattle.class_table.specs.Sizes.{loss_of}
-use Rattle.tuner_theory.specs.Rests.{IsRest, counts_above, counts_above_from}
+use Rattle.std.proofs.Common.{ℕ, zero, suc, ◌<◌, ◌≤◌, max, List, length, arith, ◌∙◌}
+use Rattle.tuner_theory.specs.Rests.{IsRest}
 use Rattle.tuner_theory.specs.Rows.{AreLeastRows, table_of_ends}
 use Rattle.tuner_theory.specs.Spans.{need_at, places, rounded_need, span_waste}
 use Rattle.class_table.specs.Steps.{IsStep}
-use Rattle.tuner_theory.specs.Waste.{IsCounted, sum_below, waste_at, waste_of}
-use Rattle.tuner_theory.proofs.Bound.{bound}
+use Rattle.tuner_theory.proofs.BoundRests.{counted-above, reach-low, rests-bound, waste-above}
 use Rattle.tuner_theory.proofs.LeastRows.{rows-valid}
-use Rattle.tuner_theory.proofs.Needs.{Reaches, need_at-from, needs_ascend}
+use Rattle.tuner_theory.proofs.Needs.{Reaches}
 use Rattle.tuner_theory.proofs.Rounding.{rounded-positive, step-positive}
-use Rattle.tuner_theory.proofs.Sums.{sum_same}
-use Rattle.tuner_theory.proofs.Tables.{AreClassesAbove, ServesAbove, class_for-later, classes-from_legal, legal-from_classes, lower_above, waste_above}
+use Rattle.tuner_theory.proofs.Tables.{legal-from_classes, lower_above}
 use Rattle.tuner_theory.proofs.TunedTable.{IsTableFor, table-tuned}
-
--- ---- the counts above a need
-
-length-above : (m : ℕ) (counts : List ℕ) (step low : ℕ) → length (counts_above_from m counts step low) ≡ length counts
-length-above m [] step low = refl
-length-above m (count ∷ counts) step low = omega (arith, length-above (suc m) counts step low)
-
-index-above : (m n : ℕ) (counts : List ℕ) (step low : ℕ)
-    → slice_index (counts_above_from m counts step low) n ≡ cond (leb (rounded_need step (m + n)) low) 0 (slice_index counts n)
-index-above m n [] step low = cond_both (leb (rounded_need step (m + n)) low) 0 0 (λ v. 0 ≡ v) (λ e. refl) (λ e. refl)
-index-above m zero (count ∷ counts) step low =
-    let here : m ≡ m + 0 = omega arith in ap (λ k. cond (leb (rounded_need step k) low) 0 count) here
-index-above m (suc n) (count ∷ counts) step low =
-    let next : suc m + n ≡ m + suc n = omega arith in
-    index-above (suc m) n counts step low ∙ ap (λ k. cond (leb (rounded_need step k) low) 0 (slice_index counts n)) next
-
-kept : (x low v w : ℕ) → w ≡ cond (leb x low) 0 v → 0 < w → (low < x) × (0 < v)
-kept x low v w e some =
-    elim (cases_lt low x) [
-      | inl above ↦ (above, omega (arith, e ∙ cond-false _ _ _ (lt-leb x low above)))
-      | inr below ↦ absurd (omega (arith, e ∙ cond-true _ _ _ (le-leb x low below)))
-    ]
-
-masked : (x low w v l : ℕ) → 2 ≤ x → w ≡ cond (leb x low) 0 v → w * l ≡ cond (ltb (max 1 low) x) (v * l) 0
-masked x low w v l two e =
-    elim (cases_lt low x) [
-      | inl above ↦ ap (λ z. z * l) (e ∙ cond-false _ _ _ (lt-leb x low above)) ∙ sym (cond-true _ _ _ (lt-ltb (max 1 low) x (omega arith)))
-      | inr below ↦ (let none : w ≡ 0 = e ∙ cond-true _ _ _ (le-leb x low below) in
-          let zeros : w * l ≡ 0 = rw none (omega arith) in
-          zeros ∙ sym (cond-false _ _ _ (le-ltb (max 1 low) x (omega arith))))
-    ]
-
-module _ (counts : List ℕ) (step i : ℕ) where
-  at-above : (n : ℕ) → slice_index (counts_above counts step i) n ≡ cond (leb (rounded_need step n) (need_at counts step i)) 0 (slice_index counts n)
-  at-above n =
-      let first : 0 + n ≡ n = omega arith in
-      index-above 0 n counts step (need_at counts step i) ∙ ap (λ k. cond (leb (rounded_need step k) (need_at counts step i)) 0 (slice_index counts n)) first
-
-  counted-above : (n : ℕ) → IsCounted (counts_above counts step i) n → IsCounted counts n × (need_at counts step i < rounded_need step n)
-  counted-above n counted =
-      let both = kept (rounded_need step n) (need_at counts step i) (slice_index counts n) _ (at-above n) counted.1 in
-      ((omega (arith, counted.0, length-above 0 counts step (need_at counts step i)), both.1), both.0)
-
-  counted-to : (n : ℕ) → IsCounted counts n → need_at counts step i < rounded_need step n → IsCounted (counts_above counts step i) n
-  counted-to n counted above = (
-    omega (arith, counted.0, length-above 0 counts step (need_at counts step i)),
-    omega (arith, counted.1, at-above n ∙ cond-false _ _ _ (lt-leb (rounded_need step n) (need_at counts step i) above)),
-  )
-
-module _ (counts : List ℕ) (step : ℕ) (pos : 0 < step) (i : ℕ) where
-  waste-above : (classes : List ℕ) → waste_of (counts_above counts step i) classes ≡ waste_above counts step (max 1 (need_at counts step i)) classes
-  waste-above classes =
-      ap (sum_below _) (length-above 0 counts step (need_at counts step i))
-      ∙ sum_same _ _ (length counts)
-      (λ n lt. masked (rounded_need step n) (need_at counts step i) _ (slice_index counts n) _ (rounded-positive step pos n) (at-above counts step i n))
-
-  reach-low : i ≤ places counts step → Reaches counts step (max 1 (need_at counts step i)) (places counts step) i
-  reach-low le = record {
-    within = le;
-    reached = omega arith;
-    last = λ j within below. elim (cases_lt i j) [
-      | inr not ↦ not
-      | inl lt ↦ (let at = need_at-from counts step j (omega arith) within in
-          absurd (omega (arith, needs_ascend counts step pos i j lt within, at.2, rounded-positive step pos at.0)))
-    ];
-  }
-
--- ---- a table without the classes up to low: they serve no request above low
-
-record Dropped (counts : List ℕ) (step low : ℕ) (classes : List ℕ) : Type 0 where
-  table : List ℕ
-  above : AreClassesAbove step low table
-  few : length table ≤ length classes
-  wasted : waste_above counts step low table ≡ waste_above counts step low classes
-  served : ServesAbove counts step low table
-
-module _ (counts : List ℕ) (step : ℕ) (pos : 0 < step) (low : ℕ) where
-  same-waste : (c n : ℕ) (cs : List ℕ) → c ≤ low → 2 ≤ c → c % step ≡ 0
-      → cond (ltb low (rounded_need step n)) (waste_at counts cs n) 0 ≡ cond (ltb low (rounded_need step n)) (waste_at counts (c ∷ cs) n) 0
-  same-waste c n cs le two multiple =
-      elim (cases_lt low (rounded_need step n)) [
-        | inl over ↦ ap (λ (class : Option ℕ). cond (ltb low (rounded_need step n)) (slice_index counts n * loss_of n (unwrap_or class 0)) 0)
-            (sym (class_for-later step pos n c cs two multiple (omega arith)))
-        | inr under ↦ cond-false _ _ _ (le-ltb low (rounded_need step n) under) ∙ sym (cond-false _ _ _ (le-ltb low (rounded_need step n) under))
-      ]
-
-  drop-low : (base : ℕ) (classes : List ℕ) → 1 ≤ base → AreClassesAbove step base classes → ServesAbove counts step low classes
-      → Dropped counts step low classes
-  drop-low base [] one above served = record { table = []; above = tt; few = omega arith; wasted = refl; served = served }
-  drop-low base (c ∷ cs) one above served =
-      let two : 2 ≤ c = omega (arith, above.0) in
-      elim (cases_lt low c) [
-        | inl over ↦ record { table = c ∷ cs; above = (over, above.1, above.2, above.3); few = omega arith; wasted = refl; served = served }
-        | inr under ↦ (let later = drop-low c cs (omega arith) above.3 (λ n counted lt.
-            subst (λ (class : Option ℕ). IsSome class) (class_for-later step pos n c cs two above.2 (omega arith)) (served n counted lt)) in
-            record {
-              table = later.table;
-              above = later.above;
-              few = omega (arith, later.few);
-              served = later.served;
-              wasted = later.wasted ∙ sum_same _ _ (length counts) (λ n lt. same-waste c n cs under two above.2);
-            })
-      ]
-
--- ---- the rows
 
 module _ (counts : List ℕ) (step : ℕ) (is_step : IsStep step) (small : length counts ≤ 16369) (limit : ℕ) (few : limit ≤ 32) (rows ends : ℕ → ℕ → ℕ)
     (least : AreLeastRows (span_waste counts step) (places counts step) limit rows ends) where
@@ -133,16 +23,11 @@ module _ (counts : List ℕ) (step : ℕ) (is_step : IsStep step) (small : lengt
         serving = λ n counted. let c = counted-above counts step i n counted in is.served n c.0 (over n c.1);
       };
       least = λ other candidate.
-          let served : ServesAbove counts step low other = (λ n counted above. candidate.serving n (counted-to counts step i n counted (omega arith))) in
-          let dropped = drop-low counts step pos low 1 other (omega arith) (classes-from_legal step other candidate.legal) served in
           omega (
             arith,
             waste-above counts step pos i table,
             is.wasted,
-            waste-above counts step pos i other,
-            dropped.wasted,
-            bound counts step pos limit rows (rows-valid _ _ _ rows ends least) dropped.table (suc k) low i (omega arith) r dropped.above
-                (omega (arith, dropped.few, candidate.few)) le dropped.served,
+            rests-bound counts step pos limit rows (rows-valid _ _ _ rows ends least) (suc k) i other le (omega arith) candidate,
           );
     };
     wasted = waste-above counts step pos i table ∙ is.wasted;

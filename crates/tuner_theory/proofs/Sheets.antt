@@ -13,7 +13,7 @@ use Rattle.tuner_theory.specs.Waste.{waste_of}
 use Rattle.tuner_theory.specs.declared.verdict.Refusal.{Refusal}
 use Rattle.tuner_theory.specs.declared.verdict.Refusal.TheVariants.{OffStep, OverLimit, NotServing, WasteWrong, Shape, LastClass, StageDrop, Edge, NotTight}
 use Rattle.tuner_theory.specs.declared.verdict.Verdict.TheVariants.{Optimal}
-use Rattle.tuner_theory.proofs.Bound.{potentials-bound}
+use Rattle.tuner_theory.proofs.BoundRests.{potentials-bound}
 use Rattle.tuner_theory.proofs.Canonical.{tuned-canonical}
 use Rattle.tuner_theory.proofs.LeastRows.{rows-valid}
 use Rattle.tuner_theory.proofs.Rounding.{step-positive}

@@ -3,7 +3,7 @@ use Rattle.std.specs.Prelude.{◌≡◌, ℕ, ◌+◌, ◌-◌, ◌*◌, ◌%◌
 use Rattle.class_table.specs.Tables.{IsLegalTable}
 use Rattle.tuner_theory.specs.Best.{IsBest, IsCandidate, IsCanonical}
 use Rattle.tuner_theory.specs.Potentials.{AreValidPotentials}
-use Rattle.tuner_theory.specs.Rests.{IsRest}
+use Rattle.tuner_theory.specs.Rests.{IsRest, counts_above}
 use Rattle.tuner_theory.specs.Rows.{AreLeastRows, HasShape, IsLeastEnd, number_at}
 use Rattle.tuner_theory.specs.Sheets.{IsVerdict, Sheet}
 use Rattle.tuner_theory.specs.Spans.{IsCrossing, bytes_up_to, counted_up_to, need_at, places, rounded_need, span_waste, waste_between}
@@ -109,6 +109,14 @@ PotentialsBound =
     (counts : List ℕ) (step limit : ℕ) (potential : ℕ → ℕ → ℕ) (classes : List ℕ) → IsStep step
     → AreValidPotentials (span_waste counts step) (places counts step) limit potential
     → IsCandidate counts step limit classes → potential limit 0 ≤ waste_of counts classes
+
+-- And so does every number for what is left at its place: at most k classes waste at least the number of row k at place i on the requests
+-- whose rounded need is above the one at that place.
+abbrev pub PotentialsBoundRests : Type 0
+PotentialsBoundRests =
+    (counts : List ℕ) (step limit : ℕ) (potential : ℕ → ℕ → ℕ) (k i : ℕ) (classes : List ℕ) → IsStep step
+    → AreValidPotentials (span_waste counts step) (places counts step) limit potential → k ≤ limit → i ≤ places counts step
+    → IsCandidate (counts_above counts step i) step k classes → potential k i ≤ waste_of (counts_above counts step i) classes
 
 -- A sheet that meets all that is looked at has a best table, whoever wrote it.
 abbrev pub OptimalIsBest : Type 0

@@ -19,6 +19,7 @@ ghost use Rattle.tuner_theory.specs.Laws.{
   PlacesAscend,
   PlacesCross,
   PotentialsBound,
+  PotentialsBoundRests,
   RoundingFits,
   RoundingIsLeast,
   SpansFit,
@@ -75,9 +76,11 @@ pub fn law_prefix_sums()
     ensures fit { SumsFit }
 {}
 
-/// Valid potentials bound the waste of every table in question from below.
+/// Valid potentials bound the waste of every table in question from below: row `limit` at place 0 for all requests, and row k at any place
+/// for the requests above it with at most k classes.
 pub fn law_potentials_bound()
-    ensures { PotentialsBound }
+    ensures bound { PotentialsBound }
+    ensures everywhere { PotentialsBoundRests }
 {}
 
 /// A sheet that meets all that a checker looks at has a best table, whoever wrote it.
