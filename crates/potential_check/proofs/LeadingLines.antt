@@ -115,7 +115,7 @@ data Heading (ls : List (List ℕ)) : Type 0 where
   Found : (head : Head) (behind : List (List ℕ)) → head_of_lines ls ≡ Ok (head, behind) → HeadIsFound ls head behind → Heading ls
 
 -- a step that is written is not 1
-written_not_one : (o : Option ℕ) (step : ℕ) → passing is_written_step o ≡ Some step → waste_number step ≡ 4
+pub written_not_one : (o : Option ℕ) (step : ℕ) → passing is_written_step o ≡ Some step → waste_number step ≡ 4
 written_not_one o step e = elim (cases_eq step 1) [
   | inl one ↦ let passed = (passing-some is_written_step o step e).1 in let no = rw one at passed in absurd cc
   | inr other ↦ rw (ne_eqb step 1 other) refl

@@ -2,12 +2,14 @@ pub mod Appended
 pub mod Building
 pub mod Certified
 pub mod Crossing
+pub mod FirstFaults
 pub mod HeadLines
 pub mod LeadingLines
 pub mod NamedLines
 pub mod ReadIsSpelled
 pub mod RowLines
 pub mod RowNumbers
+pub mod SheetFaults
 pub mod SheetLines
 pub mod SpelledIsRead
 pub mod Told

@@ -1,5 +1,5 @@
 //! What is true of every profile and its spans, and of every sheet's text; each law is the contract of a function that does nothing.
-ghost use Rattle.potential_check.specs.Laws.{SheetIsSpelled, SpelledSheetIsRead};
+ghost use Rattle.potential_check.specs.Laws.{FaultIsFirst, FirstFaultIsTold, SheetIsSpelled, SpelledSheetIsRead};
 
 use class_table::laws::law_class_line;
 use line_text::laws::law_text;
@@ -9,6 +9,16 @@ pub use tuner_theory::laws::{law_crossing_spans, law_optimal_is_best, law_potent
 pub fn law_sheet_text()
     ensures read { SheetIsSpelled }
     ensures written { SpelledSheetIsRead }
+{
+    law_text();
+    law_class_line();
+}
+
+/// A fault is told by the number of the first faulty line: the lines before it begin some text that spells a sheet, and no text with the
+/// same lines up to it spells one. A line that is missing has the number after the last line.
+pub fn law_sheet_fault()
+    ensures first { FaultIsFirst }
+    ensures told { FirstFaultIsTold }
 {
     law_text();
     law_class_line();
