@@ -1,3 +1,4 @@
+pub mod FirstFault
 pub mod Hexadecimal
 pub mod Laws
 pub mod Lines

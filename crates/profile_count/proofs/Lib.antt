@@ -1,6 +1,7 @@
 pub mod Appended
 pub mod CountedRequests
 pub mod EntryLines
+pub mod FirstFaults
 pub mod FirstServing
 pub mod LineByLine
 pub mod OpenReading

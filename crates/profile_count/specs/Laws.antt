@@ -1,9 +1,12 @@
 -- The laws of a profile's text, as a crate that reads or writes profiles wants them, and of the profile of requests.
-use Rattle.std.specs.Prelude.{◌≡◌, ◌≤◌, List, [], ◌∷◌, ◌++◌, length, ℕ, Ok}
+use Rattle.std.specs.Prelude.{◌≡◌, ◌↔◌, ◌≤◌, ◌-◌, List, [], ◌∷◌, ◌++◌, length, take, ℕ, Ok, Err}
+use Rattle.line_text.specs.FirstFault.{IsFirstFault}
+use Rattle.line_text.specs.Lines.{lines, text_of}
 use Rattle.tuner_theory.specs.Waste.{Profile}
 use Rattle.profile_count.specs.Counts.{count_for, nothing_counted, with_one_more}
 use Rattle.profile_count.specs.ProfileText.{SpellsProfile, profile_of}
 use Rattle.profile_count.specs.Requests.{CountsRequests, profile_of_sizes, with_more}
+use Rattle.profile_count.specs.declared.fault.ProfileFault.{ProfileFault}
 
 -- ---- the text
 
@@ -14,6 +17,24 @@ ProfileIsSpelled = (text : List ℕ) (p : Profile) → profile_of text ≡ Ok p 
 -- The text of a profile, its last line with its newline or without, is read as that profile.
 abbrev pub SpelledProfileIsRead : Type 0
 SpelledProfileIsRead = (text : List ℕ) (p : Profile) → SpellsProfile text p → profile_of text ≡ Ok p
+
+-- ---- the first fault of a text
+
+abbrev pub IsRefusedAt : ℕ → List ℕ → Type 0
+IsRefusedAt n text = (fault : ProfileFault) × (profile_of text ≡ Err (n, fault))
+
+-- A text is refused at a line exactly where that is its first fault.
+abbrev pub FirstFaultIsRefused : Type 0
+FirstFaultIsRefused = (text : List ℕ) (n : ℕ) → IsRefusedAt n text ↔ IsFirstFault SpellsProfile n text
+
+-- The line is there, since a profile misses none.
+abbrev pub RefusedLineIsThere : Type 0
+RefusedLineIsThere = (text : List ℕ) (n : ℕ) → IsRefusedAt n text → n ≤ length (lines text)
+
+-- The lines before it alone spell a profile.
+abbrev pub LinesBeforeItSpell : Type 0
+LinesBeforeItSpell =
+    (text : List ℕ) (n : ℕ) → IsRefusedAt n text → (p : Profile) × SpellsProfile (text_of (take (n - 1) (lines text))) p
 
 -- ---- requests
 

@@ -1,5 +1,6 @@
 //! What is true of every profile's text and of every list of requests; each law is the contract of a function that does nothing.
 ghost use Rattle.profile_count.specs.Laws.{AddedRequestsAreCounted, CountsAreFew, OneMoreIsCounted, ProfileCountsRequests, ProfileIsSpelled, SpelledProfileIsRead};
+ghost use Rattle.profile_count.specs.Laws.{FirstFaultIsRefused, LinesBeforeItSpell, RefusedLineIsThere};
 ghost use Rattle.profile_count.specs.RequestLosses.{ProfileOfSizesIsOne, ServesEachRequest, WasteIsTheSumOfLosses};
 
 use line_text::laws::law_text;
@@ -8,6 +9,16 @@ use line_text::laws::law_text;
 pub fn law_profile_text()
     ensures read { ProfileIsSpelled }
     ensures written { SpelledProfileIsRead }
+{
+    law_text();
+}
+
+/// A text is refused as a profile exactly at its first fault: the lines before it alone spell a profile, and no text that begins with
+/// the lines up to it spells one. That line is one of the text, since a profile misses no line.
+pub fn law_profile_fault()
+    ensures first { FirstFaultIsRefused }
+    ensures line { RefusedLineIsThere }
+    ensures before { LinesBeforeItSpell }
 {
     law_text();
 }
