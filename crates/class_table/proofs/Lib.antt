@@ -1,6 +1,7 @@
 pub mod ClassOf
 pub mod Covering
 pub mod Filling
+pub mod FirstFaults
 pub mod Firsts
 pub mod LayoutExamples
 pub mod Least

@@ -54,14 +54,26 @@ one_line laws text line is_line some spelled =
       | inr whole ↦ inl (whole ∙ sym (text_of-one line))
     ])
 
-pub table_of-spelled : TextLaws → (text table : List ℕ) → SpellsTable text table → table_of text ≡ Ok table
-unfolding table_of table_of_line
-table_of-spelled laws text table spells =
+-- A text that spells a table has one line, which is the table's.
+pub lines-spelled : TextLaws → (text table : List ℕ) → SpellsTable text table → lines text ≡ class_line table ∷ []
+lines-spelled laws text table spells =
     let above = classes-from_legal table spells.legal in
     let is_line = laws.makes_line (codes "classes" ∷ map decimal table) (All-cons IsLine (codes "classes") (map decimal table) name_is_line (lines_all laws table 0 above)) in
+    one_line laws text (class_line table) is_line (some_bytes table) spells.line
+
+-- The line of a table is read as that table,
+pub table_of_line-legal : TextLaws → (table : List ℕ) → IsLegalTable 1 table → table_of_line (class_line table) ≡ Ok table
+unfolding table_of_line
+table_of_line-legal laws table legal =
+    let above = classes-from_legal table legal in
     let parts = laws.written_words (codes "classes") (map decimal table) (All-cons IsWord (codes "classes") (map decimal table) name_is_word (words_all laws table 0 above)) in
-    let few : ltb 32 (length table) ≡ false = le-ltb 32 (length table) spells.legal.few in
-    rw (one_line laws text (class_line table) is_line (some_bytes table) spells.line, parts, numbers_of-decimals laws table 0 above, few, no_fault-from_classes 0 table above) refl
+    let few : ltb 32 (length table) ≡ false = le-ltb 32 (length table) legal.few in
+    rw (parts, numbers_of-decimals laws table 0 above, few, no_fault-from_classes 0 table above) refl
+
+-- and so is a text of that line.
+pub table_of-spelled : TextLaws → (text table : List ℕ) → SpellsTable text table → table_of text ≡ Ok table
+unfolding table_of
+table_of-spelled laws text table spells = rw (lines-spelled laws text table spells) (table_of_line-legal laws table spells.legal)
 
 -- ---- what is read is spelled so
 
@@ -141,21 +153,27 @@ of_words laws (w ∷ ws) table e = go (bytes_eq w (codes "classes")) refl
 same_ended : (a b : List ℕ) → ended a ≡ ended b → a ≡ b
 same_ended a b e = append_cancel_right a b (10 ∷ []) e
 
-of_lines : TextLaws → (text : List ℕ) (ls : List (List ℕ)) (table : List ℕ) → (text_of ls ≡ text) ⊎ (text_of ls ≡ ended text) → table_of_lines ls ≡ Ok table → SpellsTable text table
+-- What is read as a table is its line,
+pub line-table_of_line : TextLaws → (line table : List ℕ) → table_of_line line ≡ Ok table → (line ≡ class_line table) × IsLegalTable 1 table
 unfolding table_of_line
+line-table_of_line laws line table e =
+    let parts = of_words laws (words line) table e in
+    (sym (laws.line line) ∙ ap line_of parts.0, parts.1)
+
+of_lines : TextLaws → (text : List ℕ) (ls : List (List ℕ)) (table : List ℕ) → (text_of ls ≡ text) ⊎ (text_of ls ≡ ended text) → table_of_lines ls ≡ Ok table → SpellsTable text table
 of_lines laws text [] table same e = absurd cc
 of_lines laws text (line ∷ other ∷ ls) table same e = absurd cc
 of_lines laws text (line ∷ []) table same e =
-    let parts = of_words laws (words line) table e in
-    let line_is : line ≡ class_line table = sym (laws.line line) ∙ ap line_of parts.0 in
+    let read = line-table_of_line laws line table e in
     record {
-      legal = parts.1;
+      legal = read.1;
       line = elim same [
-        | inl whole ↦ inr (sym whole ∙ text_of-one line ∙ ap ended line_is)
-        | inr cut ↦ inl (same_ended text (class_line table) (sym cut ∙ text_of-one line ∙ ap ended line_is))
+        | inl whole ↦ inr (sym whole ∙ text_of-one line ∙ ap ended read.0)
+        | inr cut ↦ inl (same_ended text (class_line table) (sym cut ∙ text_of-one line ∙ ap ended read.0))
       ];
     }
 
+-- and a text that is read as one spells it.
 pub spelled-table_of : TextLaws → (text table : List ℕ) → table_of text ≡ Ok table → SpellsTable text table
 unfolding table_of
 spelled-table_of laws text table e = of_lines laws text (lines text) table (laws.text text) e

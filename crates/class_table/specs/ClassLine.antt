@@ -1,5 +1,5 @@
 -- The spelling of a table as a line, and how a line is read, with its first fault.
-use Rattle.std.specs.Prelude.{◌≡◌, ℕ, ◌⊎◌, List, [], ◌∷◌, map, codes, Option, Some, None, option_and_then, Result, Err, if◌then◌else◌}
+use Rattle.std.specs.Prelude.{◌≡◌, ℕ, ◌⊎◌, List, [], ◌∷◌, map, take, codes, Option, Some, None, option_and_then, Result, Err, if◌then◌else◌}
 use Rattle.std.specs.Option.{option_map}
 use Rattle.std.specs.Fmt.{decimal}
 use Rattle.std.specs.Str.{bytes_eq}
@@ -18,6 +18,11 @@ class_line classes = line_of (codes "classes" ∷ map decimal classes)
 pub record SpellsTable (text classes : List ℕ) : Type 0 where
   pub legal : IsLegalTable 1 classes
   pub line : (text ≡ class_line classes) ⊎ (text ≡ ended (class_line classes))
+
+-- The first line of the text is that of this table, whatever follows it.
+pub record BeginsWithTable (text classes : List ℕ) : Type 0 where
+  pub legal : IsLegalTable 1 classes
+  pub line : take 1 (lines text) ≡ class_line classes ∷ []
 
 -- The numbers that words spell; none where a word spells none.
 unfoldable pub numbers_of : List (List ℕ) → Option (List ℕ)

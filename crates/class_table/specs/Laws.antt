@@ -1,10 +1,13 @@
 -- The laws of sizes, tables and class lines, as a crate that builds on them wants them.
-use Rattle.std.specs.Prelude.{◌≡◌, ◌↔◌, ◌≤◌, ℕ, List, slice_get, Some, None, Ok, option_and_then, All, IsTrue, IsFalse}
-use Rattle.class_table.specs.ClassLine.{SpellsTable, table_of, table_of_line}
+use Rattle.std.specs.Prelude.{◌≡◌, ◌↔◌, ◌≤◌, ◌⊎◌, ℕ, List, [], ◌∷◌, take, slice_get, Some, None, Ok, Err, IsErr, option_and_then, All, IsTrue, IsFalse}
+use Rattle.class_table.specs.ClassLine.{BeginsWithTable, SpellsTable, table_of, table_of_line}
 use Rattle.class_table.specs.Faults.{table_of_classes}
 use Rattle.class_table.specs.Sizes.{need_of, serves}
 use Rattle.class_table.specs.Tables.{IsLegalTable, IsLeastServing, class_for, class_number_for}
-use Rattle.line_text.specs.Lines.{IsLine}
+use Rattle.class_table.specs.declared.fault.TableError.{TableError}
+use Rattle.class_table.specs.declared.fault.TableError.TheVariants.{BadLine}
+use Rattle.line_text.specs.FirstFault.{IsFirstFault}
+use Rattle.line_text.specs.Lines.{IsLine, lines}
 
 -- ---- sizes
 
@@ -49,3 +52,25 @@ SpelledTableIsRead = (text table : List ℕ) → SpellsTable text table → tabl
 -- A line alone is read as it is in a longer text.
 abbrev pub LineAloneIsRead : Type 0
 LineAloneIsRead = (line : List ℕ) → IsLine line → table_of line ≡ table_of_line line
+
+-- ---- the first fault of a text
+
+-- The first line of a text is refused exactly where no text with that first line begins with a table.
+abbrev pub FirstFaultIsRefused : Type 0
+FirstFaultIsRefused =
+    (text line : List ℕ) → take 1 (lines text) ≡ line ∷ [] →
+    IsErr (table_of_line line) ↔ IsFirstFault BeginsWithTable 1 text
+
+-- A text without lines has its first fault there too: the line is missing.
+abbrev pub MissingLineIsFirstFault : Type 0
+MissingLineIsFirstFault = (text : List ℕ) → lines text ≡ [] → IsFirstFault BeginsWithTable 1 text
+
+-- A text that is refused as a class line has its first fault at line 1; or at line 2, since no line follows the class line.
+abbrev pub RefusedTextHasFirstFault : Type 0
+RefusedTextHasFirstFault =
+    (text : List ℕ) (fault : TableError) → table_of text ≡ Err fault →
+    IsFirstFault SpellsTable 1 text ⊎ ((fault ≡ BadLine) × IsFirstFault SpellsTable 2 text)
+
+-- A text with a first fault is refused.
+abbrev pub FaultyTextIsRefused : Type 0
+FaultyTextIsRefused = (text : List ℕ) (n : ℕ) → IsFirstFault SpellsTable n text → IsErr (table_of text)

@@ -2,11 +2,15 @@
 //! A crate above uses a law by calling its function: the call costs nothing, and its `ensures` are facts from there on.
 ghost use Rattle.class_table.specs.Laws.{
   FaultlessIsLegal,
+  FaultyTextIsRefused,
+  FirstFaultIsRefused,
   FirstIsLeast,
   LegalIsFaultless,
   LineAloneIsRead,
+  MissingLineIsFirstFault,
   NoClassServes,
   NumberTellsClass,
+  RefusedTextHasFirstFault,
   ServingIsNeed,
   SpelledTableIsRead,
   TableIsSpelled,
@@ -37,6 +41,17 @@ pub fn law_class_line()
     ensures read { TableIsSpelled }
     ensures written { SpelledTableIsRead }
     ensures line { LineAloneIsRead }
+{
+    law_text();
+}
+
+/// The first line of a text is refused exactly where no text with that first line begins with a table, whatever follows; a missing one
+/// is a fault too. A text of a class line alone is refused at that line, or at a line that follows it.
+pub fn law_class_line_fault()
+    ensures first { FirstFaultIsRefused }
+    ensures missing { MissingLineIsFirstFault }
+    ensures text { RefusedTextHasFirstFault }
+    ensures refused { FaultyTextIsRefused }
 {
     law_text();
 }

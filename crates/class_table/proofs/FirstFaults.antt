@@ -1,0 +1,138 @@
+-- The line at which a text is refused as a class line is its first fault.
+use Rattle.std.proofs.Common.{◌≡◌, ℕ, List, [], ◌∷◌, length, take, Result, Ok, Err, refl, sym, ap, ◌∙◌, arith, ◌⊎◌, inl, inr}
+use Rattle.std.specs.Prelude.{IsErr}
+use Rattle.line_text.specs.FirstFault.{BeginAlike, IsFirstFault}
+use Rattle.line_text.specs.Laws.{TextLaws}
+use Rattle.line_text.specs.Lines.{lines}
+use Rattle.class_table.specs.ClassLine.{BeginsWithTable, SpellsTable, class_line, table_of_lines, table_of_line, table_of}
+use Rattle.class_table.specs.Tables.{IsLegalTable}
+use Rattle.class_table.specs.declared.fault.TableError.{TableError}
+use Rattle.class_table.specs.declared.fault.TableError.TheVariants.{BadLine}
+use Rattle.class_table.proofs.Legal.{legal-from_classes}
+use Rattle.class_table.proofs.Spelled.{lines-spelled, line-table_of_line, spelled-table_of, table_of_line-legal}
+
+-- what is read is not refused
+read_or_refused : (read : Result (List ℕ) TableError) (table : List ℕ) → IsErr read → read ≡ Ok table → ⊥
+read_or_refused (Ok other) table refused e = absurd cc
+read_or_refused (Err fault) table refused e = absurd cc
+
+-- ---- texts that spell a table, and texts that begin with one
+
+no_classes : IsLegalTable 1 []
+no_classes = legal-from_classes [] (omega arith) tt
+
+-- the line of a table alone spells it
+spells-class_line : (table : List ℕ) → IsLegalTable 1 table → SpellsTable (class_line table) table
+spells-class_line table legal = record { legal = legal; line = inl refl }
+
+-- what spells a table begins with it
+begins-spelled : TextLaws → (text table : List ℕ) → SpellsTable text table → BeginsWithTable text table
+begins-spelled laws text table spells =
+    record { legal = spells.legal; line = ap (take 1) (lines-spelled laws text table spells) }
+
+-- lists of one line
+same_line : (x y : List ℕ) → x ∷ [] ≡ y ∷ [] → x ≡ y
+same_line x y e = cc
+
+-- the first line of what begins with a table is read as that table
+read-begins : TextLaws → (text line table : List ℕ) → take 1 (lines text) ≡ line ∷ [] → BeginsWithTable text table
+    → table_of_line line ≡ Ok table
+read-begins laws text line table first begins =
+    let same = same_line line (class_line table) (sym first ∙ begins.line) in
+    ap table_of_line same ∙ table_of_line-legal laws table begins.legal
+
+-- ---- line 1
+
+-- where nothing that begins with a table begins as the text does, its first fault is line 1
+first_line_fault : TextLaws → (text : List ℕ)
+    → ((other table : List ℕ) → BeginAlike 1 text other → BeginsWithTable other table → ⊥) → IsFirstFault BeginsWithTable 1 text
+first_line_fault laws text none = record {
+  number = (omega arith, omega arith);
+  before = (class_line [], [], refl, begins-spelled laws (class_line []) [] (spells-class_line [] no_classes));
+  none = none;
+}
+
+-- A missing line is a fault.
+pub first_fault-missing : TextLaws → (text : List ℕ) → lines text ≡ [] → IsFirstFault BeginsWithTable 1 text
+first_fault-missing laws text missing = first_line_fault laws text none
+  where
+    none : (other table : List ℕ) → BeginAlike 1 text other → BeginsWithTable other table → ⊥
+    none other table alike begins =
+        let no_line : [] ≡ class_line table ∷ [] = sym (ap (take 1) missing) ∙ alike ∙ begins.line in
+        absurd cc
+
+-- A line that is refused is one,
+pub first_fault-refused : TextLaws → (text line : List ℕ) → take 1 (lines text) ≡ line ∷ [] → IsErr (table_of_line line)
+    → IsFirstFault BeginsWithTable 1 text
+first_fault-refused laws text line first refused = first_line_fault laws text none
+  where
+    none : (other table : List ℕ) → BeginAlike 1 text other → BeginsWithTable other table → ⊥
+    none other table alike begins =
+        read_or_refused (table_of_line line) table refused (read-begins laws other line table (sym alike ∙ first) begins)
+
+-- and only such a one.
+pub refused-first_fault : TextLaws → (text line : List ℕ) → take 1 (lines text) ≡ line ∷ [] → IsFirstFault BeginsWithTable 1 text
+    → IsErr (table_of_line line)
+refused-first_fault laws text line first is_first = go (table_of_line line) refl
+  where
+    go : (read : Result (List ℕ) TableError) → table_of_line line ≡ read → IsErr read
+    go (Err fault) is = refl
+    go (Ok table) is =
+        let spelled = line-table_of_line laws line table is in
+        let begins = first ∙ ap (λ line. line ∷ []) spelled.0 in
+        absurd (is_first.none text table refl (record { legal = spelled.1; line = begins }))
+
+-- ---- a text of one line
+
+-- a fault of what begins with a table is one of what spells one
+alone : TextLaws → (text : List ℕ) → IsFirstFault BeginsWithTable 1 text → IsFirstFault SpellsTable 1 text
+alone laws text first = record {
+  number = first.number;
+  before = (class_line [], [], refl, spells-class_line [] no_classes);
+  none = λ other table alike spells. first.none other table alike (begins-spelled laws other table spells);
+}
+
+-- no line follows the class line
+second_line_fault : TextLaws → (text line second table : List ℕ) (ls : List (List ℕ)) → lines text ≡ line ∷ second ∷ ls
+    → table_of_line line ≡ Ok table → IsFirstFault SpellsTable 2 text
+second_line_fault laws text line second table ls is read =
+    let spelled = line-table_of_line laws line table read in
+    let spells = spells-class_line table spelled.1 in
+    record {
+      number = (omega arith, omega (arith, ap length is));
+      before = (class_line table, table, rw (is, lines-spelled laws (class_line table) table spells, spelled.0) refl, spells);
+      none = λ other value alike spells_other.
+          let two = sym (ap (take 2) is) ∙ alike in
+          let too_long : line ∷ second ∷ [] ≡ class_line value ∷ [] = two ∙ ap (take 2) (lines-spelled laws other value spells_other) in
+          absurd cc;
+    }
+
+abbrev IsFaulty : List ℕ → TableError → Type 0
+IsFaulty text fault = IsFirstFault SpellsTable 1 text ⊎ ((fault ≡ BadLine) × IsFirstFault SpellsTable 2 text)
+
+-- A text that is refused has its first fault at line 1 or at line 2.
+pub first_fault-refused_text : TextLaws → (text : List ℕ) (fault : TableError) → table_of text ≡ Err fault → IsFaulty text fault
+unfolding table_of
+first_fault-refused_text laws text fault refused = go (lines text) refl refused
+  where
+    bad_line : (line second : List ℕ) (ls : List (List ℕ)) → table_of_lines (line ∷ second ∷ ls) ≡ Err fault → fault ≡ BadLine
+    bad_line line second ls e = cc
+
+    two_lines : (line second : List ℕ) (ls : List (List ℕ)) → lines text ≡ line ∷ second ∷ ls → fault ≡ BadLine
+        → (read : Result (List ℕ) TableError) → table_of_line line ≡ read → IsFaulty text fault
+    two_lines line second ls is bad (Ok table) read = inr (bad, second_line_fault laws text line second table ls is read)
+    two_lines line second ls is bad (Err other) read =
+        inl (alone laws text (first_fault-refused laws text line (ap (take 1) is) (rw read refl)))
+
+    go : (ls : List (List ℕ)) → lines text ≡ ls → table_of_lines ls ≡ Err fault → IsFaulty text fault
+    go [] is e = inl (alone laws text (first_fault-missing laws text is))
+    go (line ∷ []) is e = inl (alone laws text (first_fault-refused laws text line (ap (take 1) is) (rw e refl)))
+    go (line ∷ second ∷ ls) is e = two_lines line second ls is (bad_line line second ls e) (table_of_line line) refl
+
+-- A text with a first fault is refused.
+pub refused_text-first_fault : TextLaws → (text : List ℕ) (n : ℕ) → IsFirstFault SpellsTable n text → IsErr (table_of text)
+refused_text-first_fault laws text n first = go (table_of text) refl
+  where
+    go : (read : Result (List ℕ) TableError) → table_of text ≡ read → IsErr read
+    go (Err fault) is = refl
+    go (Ok table) is = absurd (first.none text table refl (spelled-table_of laws text table is))
