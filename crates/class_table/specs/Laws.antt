@@ -1,6 +1,6 @@
 -- The laws of sizes, tables and class lines, as a crate that builds on them wants them.
 use Rattle.std.specs.Prelude.{◌≡◌, ◌↔◌, ◌≤◌, ◌⊎◌, ℕ, List, [], ◌∷◌, take, slice_get, Some, None, Ok, Err, IsErr, option_and_then, All, IsTrue, IsFalse}
-use Rattle.class_table.specs.ClassLine.{BeginsWithTable, SpellsTable, table_of, table_of_line}
+use Rattle.class_table.specs.ClassLine.{BeginsWithTable, SpellsTable, class_line, table_of, table_of_line}
 use Rattle.class_table.specs.Faults.{table_of_classes}
 use Rattle.class_table.specs.Sizes.{need_of, serves}
 use Rattle.class_table.specs.Tables.{IsLegalTable, IsLeastServing, class_for, class_number_for}
@@ -52,6 +52,11 @@ SpelledTableIsRead = (text table : List ℕ) → SpellsTable text table → tabl
 -- A line alone is read as it is in a longer text.
 abbrev pub LineAloneIsRead : Type 0
 LineAloneIsRead = (line : List ℕ) → IsLine line → table_of line ≡ table_of_line line
+
+-- A line that is read as a table is its line, whatever follows it.
+abbrev pub ReadLineIsSpelled : Type 0
+ReadLineIsSpelled =
+    (line table : List ℕ) → table_of_line line ≡ Ok table → (line ≡ class_line table) × IsLegalTable 1 table
 
 -- ---- the first fault of a text
 

@@ -10,6 +10,7 @@ ghost use Rattle.class_table.specs.Laws.{
   MissingLineIsFirstFault,
   NoClassServes,
   NumberTellsClass,
+  ReadLineIsSpelled,
   RefusedTextHasFirstFault,
   ServingIsNeed,
   SpelledTableIsRead,
@@ -41,6 +42,7 @@ pub fn law_class_line()
     ensures read { TableIsSpelled }
     ensures written { SpelledTableIsRead }
     ensures line { LineAloneIsRead }
+    ensures spelled { ReadLineIsSpelled }
 {
     law_text();
 }

@@ -1,5 +1,6 @@
 pub mod Answering
 pub mod Counting
+pub mod FaultLines
 pub mod Headline
 pub mod LineAndTrace
 pub mod Moves

@@ -1,17 +1,24 @@
 -- The laws of the engines' answers.
-use Rattle.std.specs.Prelude.{◌≡◌, ℕ, List, ◌++◌, Result}
+use Rattle.std.specs.Prelude.{◌≡◌, ℕ, List, ◌++◌, Some, Result, Err}
+use Rattle.class_table.specs.ClassLine.{BeginsWithTable}
+use Rattle.class_table.specs.declared.fault.TableError.{TableError}
 use Rattle.class_tuner.specs.Tuned.{IsTuned}
 use Rattle.heap_theory.specs.declared.event.Event.{Event}
 use Rattle.potential_check.specs.SheetText.{sheet_text}
+use Rattle.profile_count.specs.ProfileText.{SpellsProfile}
 use Rattle.tagged_heap.specs.declared.heap.Config.{Config}
 use Rattle.tuner_theory.specs.Sheets.{Sheet}
+use Rattle.mte_engine.specs.FaultLines.{IsAtFirstFault, SpellsTableAndProfile, line_of_fault}
 use Rattle.mte_engine.specs.Outcome.{Answer}
-use Rattle.mte_engine.specs.Replay.{report_on}
+use Rattle.mte_engine.specs.Replay.{ReplayAnswers, report_on}
 use Rattle.mte_engine.specs.Run.{IsTunedRun, RunAnswers}
+use Rattle.mte_engine.specs.Score.{ScoreAnswers}
+use Rattle.mte_engine.specs.Shown.{in_line, shown_input_fault}
 use Rattle.mte_engine.specs.Traces.{profile_of_events}
 use Rattle.mte_engine.specs.Tune.{TuneAnswers}
 use Rattle.mte_engine.specs.declared.engine.Status.TheVariants.{Done}
 use Rattle.mte_engine.specs.declared.fault.InputFault.{InputFault}
+use Rattle.mte_engine.specs.declared.fault.InputFault.TheVariants.{Table}
 
 -- The sheet that is tuned for the profile of a trace, and then the report on that sheet's table, are the headline.
 abbrev pub TunedRunIsHeadline : Type 0
@@ -29,3 +36,29 @@ abbrev pub RunHasOneAnswer : Type 0
 RunHasOneAnswer =
     (limit step : ℕ) (config : Config) (text : List ℕ) (a b : Result Answer InputFault) → RunAnswers limit step config text a →
     RunAnswers limit step config text b → a ≡ b
+
+-- ---- the lines of faults
+
+-- A fault that has a line is shown with it.
+abbrev pub FaultIsShownWithItsLine : Type 0
+FaultIsShownWithItsLine =
+    (fault : InputFault) (n : ℕ) → line_of_fault fault ≡ Some n →
+    (name : List ℕ) × (shown_input_fault fault ≡ in_line name n)
+
+-- An input of `score` is refused in the line of its first fault, be that in the table or in the profile,
+abbrev pub ScoreRefusesAtTheFirstFault : Type 0
+ScoreRefusesAtTheFirstFault =
+    (text : List ℕ) (fault : InputFault) → ScoreAnswers text (Err fault) →
+    IsAtFirstFault SpellsTableAndProfile text fault
+
+-- an input of `tune` in the line of the first fault of its profile,
+abbrev pub TuneRefusesAtTheFirstFault : Type 0
+TuneRefusesAtTheFirstFault =
+    (limit step : ℕ) (text : List ℕ) (fault : InputFault) → TuneAnswers limit step text (Err fault) →
+    IsAtFirstFault SpellsProfile text fault
+
+-- and an input of `replay` for its table in the line of the first fault of that.
+abbrev pub ReplayRefusesTheFirstLine : Type 0
+ReplayRefusesTheFirstLine =
+    (config : Config) (text : List ℕ) (fault : TableError) → ReplayAnswers config text (Err (Table fault)) →
+    IsAtFirstFault BeginsWithTable text (Table fault)

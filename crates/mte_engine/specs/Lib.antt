@@ -1,4 +1,5 @@
 pub mod Check
+pub mod FaultLines
 pub mod Laws
 pub mod Moving
 pub mod Outcome

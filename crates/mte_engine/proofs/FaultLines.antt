@@ -1,0 +1,224 @@
+-- An input that is refused for its table or for its profile has its first fault in the line of the refusal.
+use Rattle.std.proofs.Common.{◌≡◌, ℕ, suc, ◌+◌, ◌-◌, Bool, List, [], ◌∷◌, ◌++◌, take, drop, codes, Option, Some, None, Result, Ok, Err}
+use Rattle.std.proofs.Common.{refl, sym, ap, ◌∙◌, append_assoc, arith}
+use Rattle.std.specs.Prelude.{All, length}
+use Rattle.std.specs.Fmt.{decimal}
+use Rattle.std.proofs.lemmas.Fmt.{decimal_digit}
+use Rattle.std.proofs.lemmas.List.Elements.{All-drop, All-from_recursion, All-head, All-tail}
+use Rattle.line_text.specs.FirstFault.{IsFirstFault}
+use Rattle.line_text.specs.Laws.{LineInFrontIsRead, LinesAreLines, WrittenLinesAreRead}
+use Rattle.line_text.specs.Lines.{lines, text_of, words, is_newline, IsLine}
+use Rattle.class_table.specs.ClassLine.{BeginsWithTable, numbers_of, table_of_line}
+use Rattle.class_table.specs.Faults.{fault_from}
+use Rattle.class_table.specs.Laws.{FirstFaultIsRefused as TableFaultIsRefused, MissingLineIsFirstFault, ReadLineIsSpelled}
+use Rattle.class_table.specs.declared.fault.TableError.{TableError}
+use Rattle.class_table.specs.declared.fault.TableError.TheVariants.{BadLine}
+use Rattle.profile_count.specs.Counts.{nothing_counted}
+use Rattle.profile_count.specs.Laws.{FirstFaultIsRefused as ProfileFaultIsRefused, ProfileIsSpelled, SpelledProfileIsRead}
+use Rattle.profile_count.specs.ProfileText.{SpellsProfile, profile_from, profile_of, profile_of_lines}
+use Rattle.profile_count.specs.declared.fault.ProfileFault.{ProfileFault}
+use Rattle.heap_theory.specs.declared.event.Event.{Event}
+use Rattle.tagged_heap.specs.declared.heap.Config.{Config}
+use Rattle.trace_reader.specs.TraceText.{trace_from}
+use Rattle.trace_reader.specs.declared.fault.TraceFault.{TraceFault}
+use Rattle.tuner_theory.specs.Waste.{Profile as Counted}
+use Rattle.mte_engine.specs.FaultLines.{IsAtFirstFault, SpellsTableAndProfile, line_of_fault}
+use Rattle.mte_engine.specs.Outcome.{Answer}
+use Rattle.mte_engine.specs.Parts.{◌>>=◌, profile_part}
+use Rattle.mte_engine.specs.Replay.{replay_answer, replay_of_lines, report_on}
+use Rattle.mte_engine.specs.Score.{score_of, score_of_lines}
+use Rattle.mte_engine.specs.Shown.{in_line, shown_input_fault}
+use Rattle.mte_engine.specs.Traces.{events_unless}
+use Rattle.mte_engine.specs.declared.engine.Status.TheVariants.{Done}
+use Rattle.mte_engine.specs.declared.fault.InputFault.{InputFault}
+use Rattle.mte_engine.specs.declared.fault.InputFault.TheVariants.{TooLong, Table, BadSheet, Profile, Trace}
+use Rattle.class_table.specs.Shown.{shown_table_error}
+use Rattle.profile_count.specs.Shown.{shown_profile_fault}
+use Rattle.trace_reader.specs.Shown.{shown_trace_fault}
+
+-- What is known of texts, tables and profiles.
+pub record PartLaws : Type 0 where
+  pub lines : LinesAreLines
+  pub written_lines : WrittenLinesAreRead
+  pub front : LineInFrontIsRead
+  pub table_line : ReadLineIsSpelled
+  pub table_fault : TableFaultIsRefused
+  pub missing : MissingLineIsFirstFault
+  pub profile_spelled : ProfileIsSpelled
+  pub profile_read : SpelledProfileIsRead
+  pub profile_fault : ProfileFaultIsRefused
+
+-- ---- how a fault is shown
+
+same_line : (m n : ℕ) → Some m ≡ Some n → m ≡ n
+same_line m n e = cc
+
+pub shown_with_line : (fault : InputFault) (n : ℕ) → line_of_fault fault ≡ Some n
+    → (name : List ℕ) × (shown_input_fault fault ≡ in_line name n)
+shown_with_line TooLong n e = absurd cc
+shown_with_line (Table fault) n e =
+    let one : codes " line 1" ≡ codes " line " ++ decimal 1 = rw (decimal_digit 1 (omega arith)) refl in
+    let name = shown_table_error fault in
+    let first = ap (λ (end : List ℕ). name ++ end) one ∙ sym (append_assoc name (codes " line ") (decimal 1)) in
+    (name, first ∙ ap (in_line name) (same_line 1 n e))
+shown_with_line (BadSheet line) n e = (codes "48 BadSheet", ap (in_line (codes "48 BadSheet")) (same_line line n e))
+shown_with_line (Profile line fault) n e = (shown_profile_fault fault, ap (in_line (shown_profile_fault fault)) (same_line line n e))
+shown_with_line (Trace line fault) n e = (shown_trace_fault fault, ap (in_line (shown_trace_fault fault)) (same_line line n e))
+
+-- ---- lines
+
+-- what is alike with one line in front is alike without it
+alike_behind : (m : ℕ) (line : List ℕ) (ls rest : List (List ℕ)) → take (suc m) (line ∷ ls) ≡ take (suc m) rest
+    → take m ls ≡ take m (drop 1 rest)
+alike_behind m line ls [] e = absurd cc
+alike_behind m line ls (other ∷ rest) e = cc
+
+module _ (laws : PartLaws) where
+  -- ---- a table in front of a profile
+
+  -- a profile is spelled by its lines, each with its newline
+  whole_lines : (text : List ℕ) (p : Counted) → SpellsProfile text p → SpellsProfile (text_of (lines text)) p
+  whole_lines text p spells =
+      let same = laws.written_lines (lines text) (laws.lines text) in
+      laws.profile_spelled (text_of (lines text)) p (ap profile_of_lines same ∙ laws.profile_read text p spells)
+
+  -- the line of a table in front of a profile
+  in_front : (line table text : List ℕ) (p : Counted) → IsLine line → table_of_line line ≡ Ok table → SpellsProfile text p
+      → SpellsTableAndProfile (line ++ 10 ∷ text) (table, p)
+  in_front line table text p is_line read spells =
+      let parts : lines (line ++ 10 ∷ text) ≡ line ∷ lines text = laws.front line text is_line in
+      let spelled = laws.table_line line table read in
+      let behind : drop 1 (lines (line ++ 10 ∷ text)) ≡ lines text = ap (drop 1) parts in
+      record {
+        table = record { legal = spelled.1; line = ap (take 1) parts ∙ ap (λ (l : List ℕ). l ∷ []) spelled.0 };
+        profile = rw behind (whole_lines text p spells);
+      }
+
+  -- ---- the fault of the table
+
+  no_classes_line : IsLine (codes "classes")
+  no_classes_line =
+      All-from_recursion (λ b. is_newline b ≡ Bool.false) (codes "classes") (refl, (refl, (refl, (refl, (refl, (refl, (refl, tt)))))))
+
+  no_classes_read : table_of_line (codes "classes") ≡ Ok []
+  unfolding table_of_line words numbers_of fault_from
+  no_classes_read = refl
+
+  nothing_spelled : SpellsProfile [] nothing_counted
+  unfolding lines profile_from
+  nothing_spelled = laws.profile_spelled [] nothing_counted refl
+
+  -- an input with a fault in its table has its first fault there
+  first_line : (text : List ℕ) → IsFirstFault BeginsWithTable 1 text → IsFirstFault SpellsTableAndProfile 1 text
+  first_line text first = record {
+    number = first.number;
+    before = (
+      codes "classes" ++ 10 ∷ [],
+      ([], nothing_counted),
+      refl,
+      in_front (codes "classes") [] [] nothing_counted no_classes_line no_classes_read nothing_spelled,
+    );
+    none = λ other parts alike spells. first.none other parts.0 alike spells.table;
+  }
+
+  -- the table of a text is refused at line 1
+  table_refused : (text line : List ℕ) (ls : List (List ℕ)) (fault : TableError) → lines text ≡ line ∷ ls
+      → table_of_line line ≡ Err fault → IsFirstFault BeginsWithTable 1 text
+  table_refused text line ls fault parts read = (laws.table_fault text line (ap (take 1) parts)).0 (rw read refl)
+
+  -- ---- the fault of the profile
+
+  -- the first fault of the lines behind a table is that of the input, one line later
+  later_line : (text line table : List ℕ) (ls : List (List ℕ)) (m : ℕ) → lines text ≡ line ∷ ls
+      → table_of_line line ≡ Ok table → IsFirstFault SpellsProfile m (text_of ls) → IsFirstFault SpellsTableAndProfile (suc m) text
+  later_line text line table ls m parts read first =
+      let all : All IsLine (line ∷ ls) = rw parts at (laws.lines text) in
+      let same : lines (text_of ls) ≡ ls = laws.written_lines ls (All-tail IsLine line ls all) in
+      let other = first.before.0 in
+      let is_line = All-head IsLine line ls all in
+      let before : suc m - 1 ≡ suc (m - 1) = omega (arith, first.number) in
+      let alike : take (m - 1) ls ≡ take (m - 1) (lines other) = rw same at first.before.2 in
+      record {
+        number = (omega arith, omega (arith, first.number, ap length same, ap length parts));
+        before = (
+          line ++ 10 ∷ other,
+          (table, first.before.1),
+          rw (before, parts, laws.front line other is_line) (ap (λ (front : List (List ℕ)). line ∷ front) alike),
+          in_front line table other first.before.1 is_line read first.before.3,
+        );
+        none = λ next spelled alike_next spells.
+            let rest = drop 1 (lines next) in
+            let rest_lines = laws.written_lines rest (All-drop IsLine 1 (lines next) (laws.lines next)) in
+            let behind : take m ls ≡ take m rest = alike_behind m line ls (lines next) (rw parts at alike_next) in
+            first.none (text_of rest) spelled.1 (rw (same, rest_lines) behind) spells.profile;
+      }
+
+  -- ---- what is refused
+
+  pub score_at_first : (text : List ℕ) (fault : InputFault) → score_of text ≡ Err fault
+      → IsAtFirstFault SpellsTableAndProfile text fault
+  unfolding score_of
+  score_at_first text fault e = go (lines text) refl e
+    where
+      behind : (line table : List ℕ) (ls : List (List ℕ)) (read : Result Counted (ℕ × ProfileFault)) → lines text ≡ line ∷ ls
+          → table_of_line line ≡ Ok table → profile_of_lines ls ≡ read → score_of_lines (line ∷ ls) ≡ Err fault
+          → IsAtFirstFault SpellsTableAndProfile text fault
+      behind line table ls (Ok p) parts is_table is_profile e = let none = rw (is_table, is_profile) at e in absurd cc
+      behind line table ls (Err refused) parts is_table is_profile e =
+          let is_fault : fault ≡ Profile (1 + refused.0) refused.1 = (let same = rw (is_table, is_profile) at e in cc) in
+          let all : All IsLine (line ∷ ls) = rw parts at (laws.lines text) in
+          let same : lines (text_of ls) ≡ ls = laws.written_lines ls (All-tail IsLine line ls all) in
+          let refused_text : profile_of (text_of ls) ≡ Err (refused.0, refused.1) = ap profile_of_lines same ∙ is_profile in
+          let first = (laws.profile_fault (text_of ls) refused.0).0 (refused.1, refused_text) in
+          let number : 1 + refused.0 ≡ suc refused.0 = omega arith in
+          let later = later_line text line table ls refused.0 parts is_table first in
+          (suc refused.0, rw is_fault (ap (λ (n : ℕ). Some n) number), later)
+
+      with_line : (line : List ℕ) (ls : List (List ℕ)) (read : Result (List ℕ) TableError) → lines text ≡ line ∷ ls
+          → table_of_line line ≡ read → score_of_lines (line ∷ ls) ≡ Err fault → IsAtFirstFault SpellsTableAndProfile text fault
+      with_line line ls (Ok table) parts is e = behind line table ls (profile_of_lines ls) parts is refl e
+      with_line line ls (Err refused) parts is e =
+          let is_fault : fault ≡ Table refused = (let same = rw is at e in cc) in
+          (1, rw is_fault refl, first_line text (table_refused text line ls refused parts is))
+
+      go : (ls : List (List ℕ)) → lines text ≡ ls → score_of_lines ls ≡ Err fault → IsAtFirstFault SpellsTableAndProfile text fault
+      go [] parts e =
+          let is_fault : fault ≡ Table BadLine = cc in
+          (1, rw is_fault refl, first_line text (laws.missing text parts))
+      go (line ∷ ls) parts e = with_line line ls (table_of_line line) parts refl e
+
+  pub tune_at_first : (text : List ℕ) (fault : InputFault) → profile_part 0 (profile_of text) ≡ Err fault
+      → IsAtFirstFault SpellsProfile text fault
+  tune_at_first text fault e = go (profile_of text) refl e
+    where
+      go : (read : Result Counted (ℕ × ProfileFault)) → profile_of text ≡ read → profile_part 0 read ≡ Err fault
+          → IsAtFirstFault SpellsProfile text fault
+      go (Ok p) is e = absurd cc
+      go (Err refused) is e =
+          let is_fault : fault ≡ Profile (0 + refused.0) refused.1 = cc in
+          let number : 0 + refused.0 ≡ refused.0 = omega arith in
+          (refused.0, rw is_fault (ap (λ (n : ℕ). Some n) number), (laws.profile_fault text refused.0).0 (refused.1, is))
+
+  pub replay_at_first : (config : Config) (text : List ℕ) (fault : TableError) → replay_answer config text ≡ Err (Table fault)
+      → IsAtFirstFault BeginsWithTable text (Table fault)
+  unfolding replay_answer
+  replay_at_first config text fault e = go (lines text) refl e
+    where
+      reported : List ℕ → List Event → Result Answer InputFault
+      reported table events = Ok (record { text = report_on config table events; status = Done })
+
+      no_table : (table : List ℕ) (events : List Event) (trace : Option (ℕ × TraceFault))
+          → (events_unless 1 events trace >>= reported table) ≡ Err (Table fault) → ⊥
+      no_table table events None e = absurd cc
+      no_table table events (Some refused) e = absurd cc
+
+      with_line : (line : List ℕ) (ls : List (List ℕ)) (read : Result (List ℕ) TableError) → lines text ≡ line ∷ ls
+          → table_of_line line ≡ read → replay_of_lines config (line ∷ ls) ≡ Err (Table fault) → IsFirstFault BeginsWithTable 1 text
+      with_line line ls (Ok table) parts is e =
+          absurd (no_table table (trace_from 1 ls).events (trace_from 1 ls).fault (rw is at e))
+      with_line line ls (Err refused) parts is e = table_refused text line ls refused parts is
+
+      go : (ls : List (List ℕ)) → lines text ≡ ls → replay_of_lines config ls ≡ Err (Table fault)
+          → IsAtFirstFault BeginsWithTable text (Table fault)
+      go [] parts e = (1, refl, laws.missing text parts)
+      go (line ∷ ls) parts e = (1, refl, with_line line ls (table_of_line line) parts refl e)

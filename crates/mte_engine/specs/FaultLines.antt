@@ -1,0 +1,26 @@
+-- In which line of an input a fault is. Lines are counted from 1.
+use Rattle.std.specs.Prelude.{◌≡◌, ℕ, List, Option, Some, None, drop}
+use Rattle.line_text.specs.FirstFault.{IsFirstFault}
+use Rattle.line_text.specs.Lines.{lines, text_of}
+use Rattle.class_table.specs.ClassLine.{BeginsWithTable}
+use Rattle.profile_count.specs.ProfileText.{SpellsProfile}
+use Rattle.tuner_theory.specs.Waste.{Profile as Counted}
+use Rattle.mte_engine.specs.declared.fault.InputFault.{InputFault}
+use Rattle.mte_engine.specs.declared.fault.InputFault.TheVariants.{TooLong, Table, BadSheet, Profile, Trace}
+
+-- The line of a fault; none where the input is too long, which no line is to blame for.
+abbrev pub line_of_fault : InputFault → Option ℕ
+line_of_fault TooLong = None
+line_of_fault (Table fault) = Some 1
+line_of_fault (BadSheet line) = Some line
+line_of_fault (Profile line fault) = Some line
+line_of_fault (Trace line fault) = Some line
+
+-- The fault is in the line of the first fault of the text.
+abbrev pub IsAtFirstFault : {A : Type 0} → (List ℕ → A → Type 0) → List ℕ → InputFault → Type 0
+IsAtFirstFault Spells text fault = (n : ℕ) × (line_of_fault fault ≡ Some n) × IsFirstFault Spells n text
+
+-- The text spells a table in its first line, and a profile in those after it.
+pub record SpellsTableAndProfile (text : List ℕ) (parts : List ℕ × Counted) : Type 0 where
+  pub table : BeginsWithTable text parts.0
+  pub profile : SpellsProfile (text_of (drop 1 (lines text))) parts.1
