@@ -1,10 +1,11 @@
 -- An input that is refused for its table or for its profile has its first fault in the line of the refusal.
-use Rattle.std.proofs.Common.{◌≡◌, ℕ, suc, ◌+◌, ◌-◌, Bool, List, [], ◌∷◌, ◌++◌, take, drop, codes, Option, Some, None, Result, Ok, Err}
-use Rattle.std.proofs.Common.{refl, sym, ap, ◌∙◌, append_assoc, arith}
+use Rattle.std.proofs.Common.{◌≡◌, ℕ, suc, ◌+◌, ◌-◌, ◌<◌, ◌≤◌, Bool, List, [], ◌∷◌, ◌++◌, take, drop, codes}
+use Rattle.std.proofs.Common.{Option, Some, None, Result, Ok, Err, refl, sym, ap, ◌∙◌, append_assoc, arith}
 use Rattle.std.specs.Prelude.{All, length}
 use Rattle.std.specs.Fmt.{decimal}
 use Rattle.std.proofs.lemmas.Fmt.{decimal_digit}
-use Rattle.std.proofs.lemmas.List.Elements.{All-drop, All-from_recursion, All-head, All-tail}
+use Rattle.std.proofs.lemmas.List.{drop-take, length-drop}
+use Rattle.std.proofs.lemmas.List.Elements.{All-take, All-drop, All-from_recursion, All-head, All-tail}
 use Rattle.line_text.specs.FirstFault.{IsFirstFault}
 use Rattle.line_text.specs.Laws.{LineInFrontIsRead, LinesAreLines, WrittenLinesAreRead}
 use Rattle.line_text.specs.Lines.{lines, text_of, words, is_newline, IsLine}
@@ -14,15 +15,21 @@ use Rattle.class_table.specs.Laws.{FirstFaultIsRefused as TableFaultIsRefused, M
 use Rattle.class_table.specs.declared.fault.TableError.{TableError}
 use Rattle.class_table.specs.declared.fault.TableError.TheVariants.{BadLine}
 use Rattle.profile_count.specs.Counts.{nothing_counted}
-use Rattle.profile_count.specs.Laws.{FirstFaultIsRefused as ProfileFaultIsRefused, ProfileIsSpelled, SpelledProfileIsRead}
+use Rattle.profile_count.specs.Laws.{FirstFaultIsRefused as ProfileFaultIsRefused, IsRefusedAt, LinesBeforeItSpell}
+use Rattle.profile_count.specs.Laws.{ProfileIsSpelled, RefusedLineIsThere, SpelledProfileIsRead}
 use Rattle.profile_count.specs.ProfileText.{SpellsProfile, profile_from, profile_of, profile_of_lines}
 use Rattle.profile_count.specs.declared.fault.ProfileFault.{ProfileFault}
+use Rattle.potential_check.specs.Laws.{SheetIsSpelled}
+use Rattle.potential_check.specs.Leading.{leading_lines, lines_behind}
+use Rattle.potential_check.specs.SheetText.{SpellsSheet, sheet_of_lines}
 use Rattle.heap_theory.specs.declared.event.Event.{Event}
 use Rattle.tagged_heap.specs.declared.heap.Config.{Config}
 use Rattle.trace_reader.specs.TraceText.{trace_from}
 use Rattle.trace_reader.specs.declared.fault.TraceFault.{TraceFault}
+use Rattle.tuner_theory.specs.Sheets.{Sheet}
 use Rattle.tuner_theory.specs.Waste.{Profile as Counted}
-use Rattle.mte_engine.specs.FaultLines.{IsAtFirstFault, SpellsTableAndProfile, line_of_fault}
+use Rattle.mte_engine.specs.Check.{sheet_and_profile}
+use Rattle.mte_engine.specs.FaultLines.{IsAtFirstFault, SpellsSheetAndProfile, SpellsTableAndProfile, line_of_fault}
 use Rattle.mte_engine.specs.Outcome.{Answer}
 use Rattle.mte_engine.specs.Parts.{◌>>=◌, profile_part}
 use Rattle.mte_engine.specs.Replay.{replay_answer, replay_of_lines, report_on}
@@ -35,8 +42,9 @@ use Rattle.mte_engine.specs.declared.fault.InputFault.TheVariants.{TooLong, Tabl
 use Rattle.class_table.specs.Shown.{shown_table_error}
 use Rattle.profile_count.specs.Shown.{shown_profile_fault}
 use Rattle.trace_reader.specs.Shown.{shown_trace_fault}
+use Rattle.mte_engine.proofs.LeadingSettled.{behind_alike, leading_lines-cut, leading_lines-lines, leading_lines-settled, take_twice}
 
--- What is known of texts, tables and profiles.
+-- What is known of texts, tables, profiles and sheets.
 pub record PartLaws : Type 0 where
   pub lines : LinesAreLines
   pub written_lines : WrittenLinesAreRead
@@ -47,6 +55,9 @@ pub record PartLaws : Type 0 where
   pub profile_spelled : ProfileIsSpelled
   pub profile_read : SpelledProfileIsRead
   pub profile_fault : ProfileFaultIsRefused
+  pub profile_line : RefusedLineIsThere
+  pub profile_before : LinesBeforeItSpell
+  pub sheet_spelled : SheetIsSpelled
 
 -- ---- how a fault is shown
 
@@ -198,6 +209,71 @@ module _ (laws : PartLaws) where
           let is_fault : fault ≡ Profile (0 + refused.0) refused.1 = cc in
           let number : 0 + refused.0 ≡ refused.0 = omega arith in
           (refused.0, rw is_fault (ap (λ (n : ℕ). Some n) number), (laws.profile_fault text refused.0).0 (refused.1, is))
+
+  -- the first fault of the lines behind a sheet is that of the input, so many lines later
+  behind_sheet : (text : List ℕ) (sheet : Sheet) (m : ℕ) → sheet_of_lines (leading_lines (lines text)) ≡ Ok sheet
+      → IsRefusedAt m (text_of (lines_behind (lines text)))
+      → IsFirstFault SpellsSheetAndProfile (length (leading_lines (lines text)) + m) text
+  unfolding lines_behind
+  behind_sheet text sheet m read refused =
+      let ls = lines text in
+      let front = leading_lines ls in
+      let k = length front in
+      let rest = drop k ls in
+      let all = laws.lines text in
+      let rest_lines : lines (text_of rest) ≡ rest = laws.written_lines rest (All-drop IsLine k ls all) in
+      let front_lines : lines (text_of front) ≡ front = laws.written_lines front (leading_lines-lines ls all) in
+      let first = (laws.profile_fault (text_of rest) m).0 refused in
+      let there : m ≤ length rest = rw rest_lines at (laws.profile_line (text_of rest) m refused) in
+      let within : k + m ≤ length ls = omega (arith, there, length-drop k ls, first.number) in
+      let number : k + m - 1 ≡ k + (m - 1) = omega (arith, first.number) in
+      let before = laws.profile_before (text_of rest) m refused in
+      let kept = take (k + (m - 1)) ls in
+      let other = text_of kept in
+      let kept_lines : lines other ≡ kept = laws.written_lines kept (All-take IsLine (k + (m - 1)) ls all) in
+      let same_front : leading_lines kept ≡ front =
+      leading_lines-cut (k + (m - 1)) ls (omega arith) (omega (arith, within, first.number)) in
+      let same_rest : drop k kept ≡ take (m - 1) rest = drop-take k (m - 1) ls in
+      let is_sheet : SpellsSheet (text_of front) sheet = laws.sheet_spelled (text_of front) sheet (ap sheet_of_lines front_lines ∙ read) in
+      let is_profile : SpellsProfile (text_of (take (m - 1) rest)) before.0 = rw rest_lines at before.1 in
+      record {
+        number = (omega (arith, first.number), omega (arith, within));
+        before = (
+          other,
+          (sheet, before.0),
+          rw (number, kept_lines) (sym (take_twice (k + (m - 1)) ls)),
+          record { sheet = rw (kept_lines, same_front) is_sheet; profile = rw (kept_lines, same_front, same_rest) is_profile },
+        );
+        none = λ next spelled alike spells.
+            let others = lines next in
+            let more : k < k + m = omega (arith, first.number) in
+            let settled : leading_lines others ≡ front = leading_lines-settled (k + m) ls others more within alike in
+            let behind = drop k others in
+            let behind_lines : lines (text_of behind) ≡ behind = laws.written_lines behind (All-drop IsLine k others (laws.lines next)) in
+            let is_next : SpellsProfile (text_of behind) spelled.1 = rw settled at spells.profile in
+            first.none (text_of behind) spelled.1 (rw (rest_lines, behind_lines) (behind_alike k m ls others alike)) is_next;
+      }
+
+  pub check_profile_at_first : (text : List ℕ) (n : ℕ) (fault : ProfileFault) → sheet_and_profile (lines text) ≡ Err (Profile n fault)
+      → IsFirstFault SpellsSheetAndProfile n text
+  unfolding sheet_and_profile lines_behind
+  check_profile_at_first text n fault e = go (sheet_of_lines (leading_lines (lines text))) refl
+    where
+      with_sheet : (sheet : Sheet) (read : Result Counted (ℕ × ProfileFault)) → sheet_of_lines (leading_lines (lines text)) ≡ Ok sheet
+          → profile_of_lines (lines_behind (lines text)) ≡ read → IsFirstFault SpellsSheetAndProfile n text
+      with_sheet sheet (Ok profile) is_sheet is_profile = let none = rw (is_sheet, is_profile) at e in absurd cc
+      with_sheet sheet (Err refused) is_sheet is_profile =
+          let ls = lines text in
+          let rest = lines_behind ls in
+          let is_n : length (leading_lines ls) + refused.0 ≡ n = (let same = rw (is_sheet, is_profile) at e in cc) in
+          let rest_lines : lines (text_of rest) ≡ rest =
+          laws.written_lines rest (All-drop IsLine (length (leading_lines ls)) ls (laws.lines text)) in
+          let refused_text : profile_of (text_of rest) ≡ Err (refused.0, refused.1) = ap profile_of_lines rest_lines ∙ is_profile in
+          rw (← is_n) (behind_sheet text sheet refused.0 is_sheet (refused.1, refused_text))
+
+      go : (read : Result Sheet ℕ) → sheet_of_lines (leading_lines (lines text)) ≡ read → IsFirstFault SpellsSheetAndProfile n text
+      go (Ok sheet) is = with_sheet sheet (profile_of_lines (lines_behind (lines text))) is refl
+      go (Err number) is = let none = rw is at e in absurd cc
 
   pub replay_at_first : (config : Config) (text : List ℕ) (fault : TableError) → replay_answer config text ≡ Err (Table fault)
       → IsAtFirstFault BeginsWithTable text (Table fault)

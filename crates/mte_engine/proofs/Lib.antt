@@ -2,6 +2,7 @@ pub mod Answering
 pub mod Counting
 pub mod FaultLines
 pub mod Headline
+pub mod LeadingSettled
 pub mod LineAndTrace
 pub mod Moves
 pub mod Reporting

@@ -3,7 +3,10 @@ use Rattle.std.specs.Prelude.{◌≡◌, ℕ, List, Option, Some, None, drop}
 use Rattle.line_text.specs.FirstFault.{IsFirstFault}
 use Rattle.line_text.specs.Lines.{lines, text_of}
 use Rattle.class_table.specs.ClassLine.{BeginsWithTable}
+use Rattle.potential_check.specs.Leading.{leading_lines, lines_behind}
+use Rattle.potential_check.specs.SheetText.{SpellsSheet}
 use Rattle.profile_count.specs.ProfileText.{SpellsProfile}
+use Rattle.tuner_theory.specs.Sheets.{Sheet}
 use Rattle.tuner_theory.specs.Waste.{Profile as Counted}
 use Rattle.mte_engine.specs.declared.fault.InputFault.{InputFault}
 use Rattle.mte_engine.specs.declared.fault.InputFault.TheVariants.{TooLong, Table, BadSheet, Profile, Trace}
@@ -24,3 +27,8 @@ IsAtFirstFault Spells text fault = (n : ℕ) × (line_of_fault fault ≡ Some n)
 pub record SpellsTableAndProfile (text : List ℕ) (parts : List ℕ × Counted) : Type 0 where
   pub table : BeginsWithTable text parts.0
   pub profile : SpellsProfile (text_of (drop 1 (lines text))) parts.1
+
+-- The text spells a sheet in its leading lines, and a profile in those after them.
+pub record SpellsSheetAndProfile (text : List ℕ) (parts : Sheet × Counted) : Type 0 where
+  pub sheet : SpellsSheet (text_of (leading_lines (lines text))) parts.0
+  pub profile : SpellsProfile (text_of (lines_behind (lines text))) parts.1

@@ -4,11 +4,14 @@ use Rattle.class_table.specs.ClassLine.{BeginsWithTable}
 use Rattle.class_table.specs.declared.fault.TableError.{TableError}
 use Rattle.class_tuner.specs.Tuned.{IsTuned}
 use Rattle.heap_theory.specs.declared.event.Event.{Event}
+use Rattle.line_text.specs.FirstFault.{IsFirstFault}
 use Rattle.potential_check.specs.SheetText.{sheet_text}
 use Rattle.profile_count.specs.ProfileText.{SpellsProfile}
+use Rattle.profile_count.specs.declared.fault.ProfileFault.{ProfileFault}
 use Rattle.tagged_heap.specs.declared.heap.Config.{Config}
 use Rattle.tuner_theory.specs.Sheets.{Sheet}
-use Rattle.mte_engine.specs.FaultLines.{IsAtFirstFault, SpellsTableAndProfile, line_of_fault}
+use Rattle.mte_engine.specs.Check.{CheckAnswers}
+use Rattle.mte_engine.specs.FaultLines.{IsAtFirstFault, SpellsSheetAndProfile, SpellsTableAndProfile, line_of_fault}
 use Rattle.mte_engine.specs.Outcome.{Answer}
 use Rattle.mte_engine.specs.Replay.{ReplayAnswers, report_on}
 use Rattle.mte_engine.specs.Run.{IsTunedRun, RunAnswers}
@@ -18,7 +21,7 @@ use Rattle.mte_engine.specs.Traces.{profile_of_events}
 use Rattle.mte_engine.specs.Tune.{TuneAnswers}
 use Rattle.mte_engine.specs.declared.engine.Status.TheVariants.{Done}
 use Rattle.mte_engine.specs.declared.fault.InputFault.{InputFault}
-use Rattle.mte_engine.specs.declared.fault.InputFault.TheVariants.{Table}
+use Rattle.mte_engine.specs.declared.fault.InputFault.TheVariants.{Profile, Table}
 
 -- The sheet that is tuned for the profile of a trace, and then the report on that sheet's table, are the headline.
 abbrev pub TunedRunIsHeadline : Type 0
@@ -45,19 +48,25 @@ FaultIsShownWithItsLine =
     (fault : InputFault) (n : ℕ) → line_of_fault fault ≡ Some n →
     (name : List ℕ) × (shown_input_fault fault ≡ in_line name n)
 
--- An input of `score` is refused in the line of its first fault, be that in the table or in the profile,
+-- Where `score` refuses an input, for its table or for its profile, the fault is in the line of the input's first fault,
 abbrev pub ScoreRefusesAtTheFirstFault : Type 0
 ScoreRefusesAtTheFirstFault =
     (text : List ℕ) (fault : InputFault) → ScoreAnswers text (Err fault) →
     IsAtFirstFault SpellsTableAndProfile text fault
 
--- an input of `tune` in the line of the first fault of its profile,
+-- where `tune` does, too,
 abbrev pub TuneRefusesAtTheFirstFault : Type 0
 TuneRefusesAtTheFirstFault =
     (limit step : ℕ) (text : List ℕ) (fault : InputFault) → TuneAnswers limit step text (Err fault) →
     IsAtFirstFault SpellsProfile text fault
 
--- and an input of `replay` for its table in the line of the first fault of that.
+-- where `check` does for the profile,
+abbrev pub CheckRefusesTheProfileAtItsFirstFault : Type 0
+CheckRefusesTheProfileAtItsFirstFault =
+    (text : List ℕ) (n : ℕ) (fault : ProfileFault) → CheckAnswers text (Err (Profile n fault)) →
+    IsFirstFault SpellsSheetAndProfile n text
+
+-- and where `replay` does for the table.
 abbrev pub ReplayRefusesTheFirstLine : Type 0
 ReplayRefusesTheFirstLine =
     (config : Config) (text : List ℕ) (fault : TableError) → ReplayAnswers config text (Err (Table fault)) →

@@ -1,12 +1,14 @@
 //! What is true of every answer of an engine; each law is the contract of a function that does nothing.
 ghost use Rattle.mte_engine.specs.Laws.{RunHasOneAnswer, TuneHasOneAnswer, TunedRunIsHeadline};
-ghost use Rattle.mte_engine.specs.Laws.{FaultIsShownWithItsLine, ReplayRefusesTheFirstLine, ScoreRefusesAtTheFirstFault, TuneRefusesAtTheFirstFault};
+ghost use Rattle.mte_engine.specs.Laws.{CheckRefusesTheProfileAtItsFirstFault, FaultIsShownWithItsLine};
+ghost use Rattle.mte_engine.specs.Laws.{ReplayRefusesTheFirstLine, ScoreRefusesAtTheFirstFault, TuneRefusesAtTheFirstFault};
 
 use class_table::laws::{law_class_line, law_class_line_fault};
 use class_tuner::laws::law_one_sheet;
 use heap_theory::laws::losses::law_losses;
 use heap_theory::laws::run::law_accesses;
 use line_text::laws::law_lines;
+use potential_check::laws::law_sheet_text;
 use profile_count::laws::{law_profile_fault, law_profile_text, law_waste_of_sizes};
 
 /// A sheet that is tuned for the profile of a trace, and then the report on the replay over that sheet's table, are what the headline says.
@@ -26,15 +28,17 @@ pub fn law_one_answer()
     law_one_sheet();
 }
 
-/// A fault in a class line, or in a profile that is an input or comes after a class line, is shown with the line of the first fault:
-/// the lines before it are the beginning of some text of that kind, and no such text begins with the lines up to it.
+/// A fault in a class line is shown with the line of the input's first fault, and so is one in a profile, which is the whole input or
+/// comes after a class line or a sheet. Some input of that kind begins with the lines before it, and none with the lines up to it.
 pub fn law_fault_lines()
     ensures shown { FaultIsShownWithItsLine }
     ensures score { ScoreRefusesAtTheFirstFault }
     ensures tune { TuneRefusesAtTheFirstFault }
+    ensures check { CheckRefusesTheProfileAtItsFirstFault }
     ensures replay { ReplayRefusesTheFirstLine }
 {
     law_lines();
+    law_sheet_text();
     law_class_line();
     law_class_line_fault();
     law_profile_text();

@@ -1,4 +1,4 @@
-use Rattle.mte_engine.proofs.FaultLines.{PartLaws, replay_at_first, score_at_first, shown_with_line, tune_at_first}
+use Rattle.mte_engine.proofs.FaultLines.{PartLaws, check_profile_at_first, replay_at_first, score_at_first, shown_with_line, tune_at_first}
 use Rattle.mte_engine.proofs.laws.law_fault_lines.Goals as goal
 
 part_laws : goal.After-law_profile_fault → PartLaws
@@ -12,6 +12,9 @@ part_laws c = record {
   profile_spelled = c.law_profile_text.ensures.read;
   profile_read = c.law_profile_text.ensures.written;
   profile_fault = c.law_profile_fault.ensures.first;
+  profile_line = c.law_profile_fault.ensures.line;
+  profile_before = c.law_profile_fault.ensures.before;
+  sheet_spelled = c.law_sheet_text.ensures.read;
 }
 
 pub returns-clause-shown : goal.returns-clause-shown
@@ -25,3 +28,6 @@ returns-clause-tune c = λ limit step. tune_at_first (part_laws c)
 
 pub returns-clause-replay : goal.returns-clause-replay
 returns-clause-replay c = replay_at_first (part_laws c)
+
+pub returns-clause-check : goal.returns-clause-check
+returns-clause-check c = check_profile_at_first (part_laws c)

@@ -1,0 +1,157 @@
+-- The sheet in front of a text is settled by its lines and the one after them.
+use Rattle.std.proofs.Common.{◌≡◌, ℕ, zero, suc, ◌+◌, ◌-◌, ◌<◌, ◌≤◌, Bool, true, false}
+use Rattle.std.proofs.Common.{List, [], ◌∷◌, ◌++◌, length, take, drop, get_or, codes}
+use Rattle.std.proofs.Common.{refl, sym, ap, ◌∙◌, arith, length-append}
+use Rattle.std.specs.List.{prefix_len, take_while}
+use Rattle.std.specs.Prelude.{All}
+use Rattle.std.proofs.lemmas.List.{drop-take, get_or-take, length-drop, length-take}
+use Rattle.std.proofs.lemmas.List.Elements.{All-append, All-drop, All-take}
+use Rattle.std.proofs.lemmas.List.Sums.{take_while-cons}
+use Rattle.line_text.specs.Lines.{IsLine}
+use Rattle.potential_check.specs.Leading.{head_size, is_row_line, leading_lines}
+use Rattle.potential_check.specs.SheetText.{is_named}
+
+-- ---- lists that begin alike
+
+cons_head : {A : Type 0} (x y : A) (xs ys : List A) → x ∷ xs ≡ y ∷ ys → x ≡ y
+cons_head x y xs ys e = cc
+
+cons_tail : {A : Type 0} (x y : A) (xs ys : List A) → x ∷ xs ≡ y ∷ ys → xs ≡ ys
+cons_tail x y xs ys e = cc
+
+take_fewer : {A : Type 0} (m n : ℕ) (xs ys : List A) → m ≤ n → take n xs ≡ take n ys → take m xs ≡ take m ys
+take_fewer zero n xs ys few e = refl
+take_fewer (suc m) zero xs ys few e = absurd (omega (arith, few))
+take_fewer (suc m) (suc n) [] [] few e = refl
+take_fewer (suc m) (suc n) [] (y ∷ ys) few e = absurd cc
+take_fewer (suc m) (suc n) (x ∷ xs) [] few e = absurd cc
+take_fewer (suc m) (suc n) (x ∷ xs) (y ∷ ys) few e =
+    let first = cons_head x y (take n xs) (take n ys) e in
+    let others = take_fewer m n xs ys (omega (arith, few)) (cons_tail x y (take n xs) (take n ys) e) in
+    rw (first, others) refl
+
+pub take_twice : {A : Type 0} (n : ℕ) (xs : List A) → take n (take n xs) ≡ take n xs
+take_twice zero xs = refl
+take_twice (suc n) [] = refl
+take_twice (suc n) (x ∷ xs) = ap (λ xs. x ∷ xs) (take_twice n xs)
+
+-- what is alike behind lines that are alike
+pub behind_alike : {A : Type 0} (n m : ℕ) (xs ys : List A) → take (n + m) xs ≡ take (n + m) ys → take m (drop n xs) ≡ take m (drop n ys)
+behind_alike n m xs ys e = sym (drop-take n m xs) ∙ ap (drop n) e ∙ drop-take n m ys
+
+-- ---- elements that pass a test
+
+-- are settled by the one behind them,
+passing_settled : {A : Type 0} (p : A → Bool) (n : ℕ) (xs ys : List A) → length (take_while p xs) < n → n ≤ length xs
+    → take n xs ≡ take n ys → take_while p ys ≡ take_while p xs
+passing_settled p zero xs ys few there e = absurd (omega (arith, few))
+passing_settled p (suc n) [] ys few there e = absurd (omega (arith, there))
+passing_settled p (suc n) (x ∷ xs) [] few there e = absurd cc
+passing_settled p (suc n) (x ∷ xs) (y ∷ ys) few there e =
+    let first = cons_head x y (take n xs) (take n ys) e in
+    rw (← first) (go (passing_settled p n xs ys) (p x) refl)
+  where
+    go : (length (take_while p xs) < n → n ≤ length xs → take n xs ≡ take n ys → take_while p ys ≡ take_while p xs)
+        → (passes : Bool) → p x ≡ passes → take_while p (x ∷ ys) ≡ take_while p (x ∷ xs)
+    go others true is =
+        let fewer = rw (take_while-cons p x xs, is) at few in
+        let same = others (omega (arith, fewer)) (omega (arith, there)) (cons_tail x y (take n xs) (take n ys) e) in
+        rw (take_while-cons p x ys, take_while-cons p x xs, is, same) refl
+    go others false is = rw (take_while-cons p x ys, take_while-cons p x xs, is) refl
+
+-- and all of them are there where only others are cut off.
+passing_cut : {A : Type 0} (p : A → Bool) (n : ℕ) (xs : List A) → length (take_while p xs) ≤ n → take_while p (take n xs) ≡ take_while p xs
+passing_cut p zero [] few = refl
+passing_cut p (suc n) [] few = refl
+passing_cut p zero (x ∷ xs) few = go (p x) refl
+  where
+    go : (passes : Bool) → p x ≡ passes → take_while p [] ≡ take_while p (x ∷ xs)
+    go true is = let none = rw (take_while-cons p x xs, is) at few in absurd (omega (arith, none))
+    go false is = rw (take_while-cons p x xs, is) refl
+passing_cut p (suc n) (x ∷ xs) few = go (passing_cut p n xs) (p x) refl
+  where
+    go : (length (take_while p xs) ≤ n → take_while p (take n xs) ≡ take_while p xs)
+        → (passes : Bool) → p x ≡ passes → take_while p (x ∷ take n xs) ≡ take_while p (x ∷ xs)
+    go others true is =
+        let fewer = rw (take_while-cons p x xs, is) at few in
+        rw (take_while-cons p x (take n xs), take_while-cons p x xs, is, others (omega (arith, fewer))) refl
+    go others false is = rw (take_while-cons p x (take n xs), take_while-cons p x xs, is) refl
+
+-- ---- so many elements, and those behind them that pass a test
+
+abbrev leading : {A : Type 0} → (A → Bool) → ℕ → List A → List A
+leading p h xs = take h xs ++ take_while p (drop h xs)
+
+-- where they are not all
+leading-size : {A : Type 0} (p : A → Bool) (h : ℕ) (xs : List A) → length (leading p h xs) < length xs
+    → (length (leading p h xs) ≡ h + length (take_while p (drop h xs))) × (h < length xs)
+leading-size p h xs short =
+    let both = length-append (take h xs) (take_while p (drop h xs)) in
+    let within : h < length xs = omega (arith, short, both, length-take h xs) in
+    (omega (arith, both, length-take h xs, within), within)
+
+leading-settled : {A : Type 0} (p : A → Bool) (h n : ℕ) (xs ys : List A) → length (leading p h xs) < n → n ≤ length xs
+    → take n xs ≡ take n ys → leading p h ys ≡ leading p h xs
+leading-settled p h n xs ys few there e =
+    let size = leading-size p h xs (omega (arith, few, there)) in
+    let parts : n ≡ h + (n - h) = omega (arith, few, size.0) in
+    let head = take_fewer h n xs ys (omega (arith, few, size.0)) e in
+    let behind = behind_alike h (n - h) xs ys (rw parts at e) in
+    let fewer : length (take_while p (drop h xs)) < n - h = omega (arith, few, size.0) in
+    let there_behind : n - h ≤ length (drop h xs) = omega (arith, there, length-drop h xs) in
+    rw (← head, passing_settled p (n - h) (drop h xs) (drop h ys) fewer there_behind behind) refl
+
+leading-cut : {A : Type 0} (p : A → Bool) (h n : ℕ) (xs : List A) → length (leading p h xs) ≤ n → length (leading p h xs) < length xs
+    → leading p h (take n xs) ≡ leading p h xs
+leading-cut p h n xs few short =
+    let size = leading-size p h xs short in
+    let parts : n ≡ h + (n - h) = omega (arith, few, size.0) in
+    let head : take h (take n xs) ≡ take h xs = take_fewer h n (take n xs) xs (omega (arith, few, size.0)) (take_twice n xs) in
+    let behind : drop h (take n xs) ≡ take (n - h) (drop h xs) = ap (λ (n : ℕ). drop h (take n xs)) parts ∙ drop-take h (n - h) xs in
+    let rows = passing_cut p (n - h) (drop h xs) (omega (arith, few, size.0)) in
+    rw (head, behind, rows) refl
+
+-- ---- the lines of a sheet
+
+-- its head has three lines or four,
+head_size-few : (ls : List (List ℕ)) → 3 ≤ head_size ls
+head_size-few ls = go (is_named (codes "step") (get_or ls 2 [])) refl
+  where
+    go : (named : Bool) → is_named (codes "step") (get_or ls 2 []) ≡ named → 3 ≤ head_size ls
+    go true is = rw is (omega arith)
+    go false is = rw is (omega arith)
+
+-- and the first three settle it
+head_size-alike : (n : ℕ) (ls other : List (List ℕ)) → 3 ≤ n → take n ls ≡ take n other → head_size other ≡ head_size ls
+head_size-alike n ls other few e =
+    let of_other = get_or-take n other 2 [] (omega (arith, few)) in
+    let of_this = get_or-take n ls 2 [] (omega (arith, few)) in
+    let third : get_or other 2 [] ≡ get_or ls 2 [] = sym of_other ∙ ap (λ (front : List (List ℕ)). get_or front 2 []) (sym e) ∙ of_this in
+    rw third refl
+
+-- The lines of a sheet, where one is behind them, are those of each text that begins with them and that one,
+pub leading_lines-settled : (n : ℕ) (ls other : List (List ℕ)) → length (leading_lines ls) < n → n ≤ length ls → take n ls ≡ take n other
+    → leading_lines other ≡ leading_lines ls
+unfolding leading_lines
+leading_lines-settled n ls other few there e =
+    let size = leading-size is_row_line (head_size ls) ls (omega (arith, few, there)) in
+    let head = head_size-alike n ls other (omega (arith, head_size-few ls, few, size.0)) e in
+    ap (λ (h : ℕ). leading is_row_line h other) head ∙ leading-settled is_row_line (head_size ls) n ls other few there e
+
+-- and of the lines that are left where only lines behind them are cut off.
+pub leading_lines-cut : (n : ℕ) (ls : List (List ℕ)) → length (leading_lines ls) ≤ n → length (leading_lines ls) < length ls
+    → leading_lines (take n ls) ≡ leading_lines ls
+unfolding leading_lines
+leading_lines-cut n ls few short =
+    let size = leading-size is_row_line (head_size ls) ls short in
+    let same = sym (take_twice n ls) in
+    let head = head_size-alike n ls (take n ls) (omega (arith, head_size-few ls, few, size.0)) same in
+    ap (λ (h : ℕ). leading is_row_line h (take n ls)) head ∙ leading-cut is_row_line (head_size ls) n ls few short
+
+-- They are lines.
+pub leading_lines-lines : (ls : List (List ℕ)) → All IsLine ls → All IsLine (leading_lines ls)
+unfolding leading_lines
+leading_lines-lines ls all =
+    let rest = drop (head_size ls) ls in
+    let rows = All-take IsLine (prefix_len is_row_line rest) rest (All-drop IsLine (head_size ls) ls all) in
+    All-append IsLine (take (head_size ls) ls) (take_while is_row_line rest) (All-take IsLine (head_size ls) ls all) rows
