@@ -1,7 +1,7 @@
 -- The line at which a text is refused as a class line is its first fault.
 use Rattle.std.proofs.Common.{◌≡◌, ℕ, List, [], ◌∷◌, length, take, Result, Ok, Err, refl, sym, ap, ◌∙◌, arith, ◌⊎◌, inl, inr}
 use Rattle.std.specs.Prelude.{IsErr}
-use Rattle.line_text.specs.FirstFault.{BeginAlike, IsFirstFault}
+use Rattle.line_text.specs.FirstFault.{IsFirstFault}
 use Rattle.line_text.specs.Laws.{TextLaws}
 use Rattle.line_text.specs.Lines.{lines}
 use Rattle.class_table.specs.ClassLine.{BeginsWithTable, SpellsTable, class_line, table_of_lines, table_of_line, table_of}
@@ -45,33 +45,35 @@ read-begins laws text line table first begins =
 
 -- where nothing that begins with a table begins as the text does, its first fault is line 1
 first_line_fault : TextLaws → (text : List ℕ)
-    → ((other table : List ℕ) → BeginAlike 1 text other → BeginsWithTable other table → ⊥) → IsFirstFault BeginsWithTable 1 text
+    → ((other table : List ℕ) → BeginsWithTable other table → take 1 (lines other) ≡ take 1 (lines text) → ⊥)
+    → IsFirstFault BeginsWithTable text 1
 first_line_fault laws text none = record {
-  number = (omega arith, omega arith);
-  before = (class_line [], [], refl, begins-spelled laws (class_line []) [] (spells-class_line [] no_classes));
+  some = omega arith;
+  within = omega arith;
+  before = (class_line [], [], begins-spelled laws (class_line []) [] (spells-class_line [] no_classes), refl);
   none = none;
 }
 
 -- A missing line is a fault.
-pub first_fault-missing : TextLaws → (text : List ℕ) → lines text ≡ [] → IsFirstFault BeginsWithTable 1 text
+pub first_fault-missing : TextLaws → (text : List ℕ) → lines text ≡ [] → IsFirstFault BeginsWithTable text 1
 first_fault-missing laws text missing = first_line_fault laws text none
   where
-    none : (other table : List ℕ) → BeginAlike 1 text other → BeginsWithTable other table → ⊥
-    none other table alike begins =
-        let no_line : [] ≡ class_line table ∷ [] = sym (ap (take 1) missing) ∙ alike ∙ begins.line in
+    none : (other table : List ℕ) → BeginsWithTable other table → take 1 (lines other) ≡ take 1 (lines text) → ⊥
+    none other table begins alike =
+        let no_line : [] ≡ class_line table ∷ [] = sym (ap (take 1) missing) ∙ sym alike ∙ begins.line in
         absurd cc
 
 -- A line that is refused is one,
 pub first_fault-refused : TextLaws → (text line : List ℕ) → take 1 (lines text) ≡ line ∷ [] → IsErr (table_of_line line)
-    → IsFirstFault BeginsWithTable 1 text
+    → IsFirstFault BeginsWithTable text 1
 first_fault-refused laws text line first refused = first_line_fault laws text none
   where
-    none : (other table : List ℕ) → BeginAlike 1 text other → BeginsWithTable other table → ⊥
-    none other table alike begins =
-        read_or_refused (table_of_line line) table refused (read-begins laws other line table (sym alike ∙ first) begins)
+    none : (other table : List ℕ) → BeginsWithTable other table → take 1 (lines other) ≡ take 1 (lines text) → ⊥
+    none other table begins alike =
+        read_or_refused (table_of_line line) table refused (read-begins laws other line table (alike ∙ first) begins)
 
 -- and only such a one.
-pub refused-first_fault : TextLaws → (text line : List ℕ) → take 1 (lines text) ≡ line ∷ [] → IsFirstFault BeginsWithTable 1 text
+pub refused-first_fault : TextLaws → (text line : List ℕ) → take 1 (lines text) ≡ line ∷ [] → IsFirstFault BeginsWithTable text 1
     → IsErr (table_of_line line)
 refused-first_fault laws text line first is_first = go (table_of_line line) refl
   where
@@ -80,35 +82,37 @@ refused-first_fault laws text line first is_first = go (table_of_line line) refl
     go (Ok table) is =
         let spelled = line-table_of_line laws line table is in
         let begins = first ∙ ap (λ line. line ∷ []) spelled.0 in
-        absurd (is_first.none text table refl (record { legal = spelled.1; line = begins }))
+        absurd (is_first.none text table (record { legal = spelled.1; line = begins }) refl)
 
 -- ---- a text of one line
 
 -- a fault of what begins with a table is one of what spells one
-alone : TextLaws → (text : List ℕ) → IsFirstFault BeginsWithTable 1 text → IsFirstFault SpellsTable 1 text
+alone : TextLaws → (text : List ℕ) → IsFirstFault BeginsWithTable text 1 → IsFirstFault SpellsTable text 1
 alone laws text first = record {
-  number = first.number;
-  before = (class_line [], [], refl, spells-class_line [] no_classes);
-  none = λ other table alike spells. first.none other table alike (begins-spelled laws other table spells);
+  some = first.some;
+  within = first.within;
+  before = (class_line [], [], spells-class_line [] no_classes, refl);
+  none = λ other table spells alike. first.none other table (begins-spelled laws other table spells) alike;
 }
 
 -- no line follows the class line
 second_line_fault : TextLaws → (text line second table : List ℕ) (ls : List (List ℕ)) → lines text ≡ line ∷ second ∷ ls
-    → table_of_line line ≡ Ok table → IsFirstFault SpellsTable 2 text
+    → table_of_line line ≡ Ok table → IsFirstFault SpellsTable text 2
 second_line_fault laws text line second table ls is read =
     let spelled = line-table_of_line laws line table read in
     let spells = spells-class_line table spelled.1 in
     record {
-      number = (omega arith, omega (arith, ap length is));
-      before = (class_line table, table, rw (is, lines-spelled laws (class_line table) table spells, spelled.0) refl, spells);
-      none = λ other value alike spells_other.
-          let two = sym (ap (take 2) is) ∙ alike in
+      some = omega arith;
+      within = omega (arith, ap length is);
+      before = (class_line table, table, spells, rw (is, lines-spelled laws (class_line table) table spells, spelled.0) refl);
+      none = λ other value spells_other alike.
+          let two = sym (ap (take 2) is) ∙ sym alike in
           let too_long : line ∷ second ∷ [] ≡ class_line value ∷ [] = two ∙ ap (take 2) (lines-spelled laws other value spells_other) in
           absurd cc;
     }
 
 abbrev IsFaulty : List ℕ → TableError → Type 0
-IsFaulty text fault = IsFirstFault SpellsTable 1 text ⊎ ((fault ≡ BadLine) × IsFirstFault SpellsTable 2 text)
+IsFaulty text fault = IsFirstFault SpellsTable text 1 ⊎ ((fault ≡ BadLine) × IsFirstFault SpellsTable text 2)
 
 -- A text that is refused has its first fault at line 1 or at line 2.
 pub first_fault-refused_text : TextLaws → (text : List ℕ) (fault : TableError) → table_of text ≡ Err fault → IsFaulty text fault
@@ -130,9 +134,9 @@ first_fault-refused_text laws text fault refused = go (lines text) refl refused
     go (line ∷ second ∷ ls) is e = two_lines line second ls is (bad_line line second ls e) (table_of_line line) refl
 
 -- A text with a first fault is refused.
-pub refused_text-first_fault : TextLaws → (text : List ℕ) (n : ℕ) → IsFirstFault SpellsTable n text → IsErr (table_of text)
+pub refused_text-first_fault : TextLaws → (text : List ℕ) (n : ℕ) → IsFirstFault SpellsTable text n → IsErr (table_of text)
 refused_text-first_fault laws text n first = go (table_of text) refl
   where
     go : (read : Result (List ℕ) TableError) → table_of text ≡ read → IsErr read
     go (Err fault) is = refl
-    go (Ok table) is = absurd (first.none text table refl (spelled-table_of laws text table is))
+    go (Ok table) is = absurd (first.none text table (spelled-table_of laws text table is) refl)

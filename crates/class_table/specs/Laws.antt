@@ -64,18 +64,18 @@ ReadLineIsSpelled =
 abbrev pub FirstFaultIsRefused : Type 0
 FirstFaultIsRefused =
     (text line : List ℕ) → take 1 (lines text) ≡ line ∷ [] →
-    IsErr (table_of_line line) ↔ IsFirstFault BeginsWithTable 1 text
+    IsErr (table_of_line line) ↔ IsFirstFault BeginsWithTable text 1
 
 -- A text without lines has its first fault there too: the line is missing.
 abbrev pub MissingLineIsFirstFault : Type 0
-MissingLineIsFirstFault = (text : List ℕ) → lines text ≡ [] → IsFirstFault BeginsWithTable 1 text
+MissingLineIsFirstFault = (text : List ℕ) → lines text ≡ [] → IsFirstFault BeginsWithTable text 1
 
--- A text that is refused as a class line has its first fault at line 1; or at line 2, since no line follows the class line.
+-- A text that is refused as a class line has its first fault at line 1, or at line 2, as no line follows the class line.
 abbrev pub RefusedTextHasFirstFault : Type 0
 RefusedTextHasFirstFault =
     (text : List ℕ) (fault : TableError) → table_of text ≡ Err fault →
-    IsFirstFault SpellsTable 1 text ⊎ ((fault ≡ BadLine) × IsFirstFault SpellsTable 2 text)
+    IsFirstFault SpellsTable text 1 ⊎ ((fault ≡ BadLine) × IsFirstFault SpellsTable text 2)
 
 -- A text with a first fault is refused.
 abbrev pub FaultyTextIsRefused : Type 0
-FaultyTextIsRefused = (text : List ℕ) (n : ℕ) → IsFirstFault SpellsTable n text → IsErr (table_of text)
+FaultyTextIsRefused = (text : List ℕ) (n : ℕ) → IsFirstFault SpellsTable text n → IsErr (table_of text)

@@ -120,48 +120,50 @@ module _ (laws : PartLaws) where
   nothing_spelled = laws.profile_spelled [] nothing_counted refl
 
   -- an input with a fault in its table has its first fault there
-  first_line : (text : List ℕ) → IsFirstFault BeginsWithTable 1 text → IsFirstFault SpellsTableAndProfile 1 text
+  first_line : (text : List ℕ) → IsFirstFault BeginsWithTable text 1 → IsFirstFault SpellsTableAndProfile text 1
   first_line text first = record {
-    number = first.number;
+    some = first.some;
+    within = first.within;
     before = (
       codes "classes" ++ 10 ∷ [],
       ([], nothing_counted),
-      refl,
       in_front (codes "classes") [] [] nothing_counted no_classes_line no_classes_read nothing_spelled,
+      refl,
     );
-    none = λ other parts alike spells. first.none other parts.0 alike spells.table;
+    none = λ other parts spells alike. first.none other parts.0 spells.table alike;
   }
 
   -- the table of a text is refused at line 1
   table_refused : (text line : List ℕ) (ls : List (List ℕ)) (fault : TableError) → lines text ≡ line ∷ ls
-      → table_of_line line ≡ Err fault → IsFirstFault BeginsWithTable 1 text
+      → table_of_line line ≡ Err fault → IsFirstFault BeginsWithTable text 1
   table_refused text line ls fault parts read = (laws.table_fault text line (ap (take 1) parts)).0 (rw read refl)
 
   -- ---- the fault of the profile
 
   -- the first fault of the lines behind a table is that of the input, one line later
   later_line : (text line table : List ℕ) (ls : List (List ℕ)) (m : ℕ) → lines text ≡ line ∷ ls
-      → table_of_line line ≡ Ok table → IsFirstFault SpellsProfile m (text_of ls) → IsFirstFault SpellsTableAndProfile (suc m) text
+      → table_of_line line ≡ Ok table → IsFirstFault SpellsProfile (text_of ls) m → IsFirstFault SpellsTableAndProfile text (suc m)
   later_line text line table ls m parts read first =
       let all : All IsLine (line ∷ ls) = rw parts at (laws.lines text) in
       let same : lines (text_of ls) ≡ ls = laws.written_lines ls (All-tail IsLine line ls all) in
       let other = first.before.0 in
       let is_line = All-head IsLine line ls all in
-      let before : suc m - 1 ≡ suc (m - 1) = omega (arith, first.number) in
-      let alike : take (m - 1) ls ≡ take (m - 1) (lines other) = rw same at first.before.2 in
+      let before : suc m - 1 ≡ suc (m - 1) = omega (arith, first.some) in
+      let alike : take (m - 1) (lines other) ≡ take (m - 1) ls = rw same at first.before.3 in
       record {
-        number = (omega arith, omega (arith, first.number, ap length same, ap length parts));
+        some = omega arith;
+        within = omega (arith, first.within, ap length same, ap length parts);
         before = (
           line ++ 10 ∷ other,
           (table, first.before.1),
+          in_front line table other first.before.1 is_line read first.before.2,
           rw (before, parts, laws.front line other is_line) (ap (λ (front : List (List ℕ)). line ∷ front) alike),
-          in_front line table other first.before.1 is_line read first.before.3,
         );
-        none = λ next spelled alike_next spells.
+        none = λ next spelled spells alike_next.
             let rest = drop 1 (lines next) in
             let rest_lines = laws.written_lines rest (All-drop IsLine 1 (lines next) (laws.lines next)) in
-            let behind : take m ls ≡ take m rest = alike_behind m line ls (lines next) (rw parts at alike_next) in
-            first.none (text_of rest) spelled.1 (rw (same, rest_lines) behind) spells.profile;
+            let behind : take m ls ≡ take m rest = alike_behind m line ls (lines next) (rw parts at (sym alike_next)) in
+            first.none (text_of rest) spelled.1 spells.profile (rw (same, rest_lines) (sym behind));
       }
 
   -- ---- what is refused
@@ -213,7 +215,7 @@ module _ (laws : PartLaws) where
   -- the first fault of the lines behind a sheet is that of the input, so many lines later
   behind_sheet : (text : List ℕ) (sheet : Sheet) (m : ℕ) → sheet_of_lines (leading_lines (lines text)) ≡ Ok sheet
       → IsRefusedAt m (text_of (lines_behind (lines text)))
-      → IsFirstFault SpellsSheetAndProfile (length (leading_lines (lines text)) + m) text
+      → IsFirstFault SpellsSheetAndProfile text (length (leading_lines (lines text)) + m)
   unfolding lines_behind
   behind_sheet text sheet m read refused =
       let ls = lines text in
@@ -225,42 +227,43 @@ module _ (laws : PartLaws) where
       let front_lines : lines (text_of front) ≡ front = laws.written_lines front (leading_lines-lines ls all) in
       let first = (laws.profile_fault (text_of rest) m).0 refused in
       let there : m ≤ length rest = rw rest_lines at (laws.profile_line (text_of rest) m refused) in
-      let within : k + m ≤ length ls = omega (arith, there, length-drop k ls, first.number) in
-      let number : k + m - 1 ≡ k + (m - 1) = omega (arith, first.number) in
+      let within : k + m ≤ length ls = omega (arith, there, length-drop k ls, first.some) in
+      let number : k + m - 1 ≡ k + (m - 1) = omega (arith, first.some) in
       let before = laws.profile_before (text_of rest) m refused in
       let kept = take (k + (m - 1)) ls in
       let other = text_of kept in
       let kept_lines : lines other ≡ kept = laws.written_lines kept (All-take IsLine (k + (m - 1)) ls all) in
       let same_front : leading_lines kept ≡ front =
-      leading_lines-cut (k + (m - 1)) ls (omega arith) (omega (arith, within, first.number)) in
+      leading_lines-cut (k + (m - 1)) ls (omega arith) (omega (arith, within, first.some)) in
       let same_rest : drop k kept ≡ take (m - 1) rest = drop-take k (m - 1) ls in
       let is_sheet : SpellsSheet (text_of front) sheet = laws.sheet_spelled (text_of front) sheet (ap sheet_of_lines front_lines ∙ read) in
       let is_profile : SpellsProfile (text_of (take (m - 1) rest)) before.0 = rw rest_lines at before.1 in
       record {
-        number = (omega (arith, first.number), omega (arith, within));
+        some = omega (arith, first.some);
+        within = omega (arith, within);
         before = (
           other,
           (sheet, before.0),
-          rw (number, kept_lines) (sym (take_twice (k + (m - 1)) ls)),
           record { sheet = rw (kept_lines, same_front) is_sheet; profile = rw (kept_lines, same_front, same_rest) is_profile },
+          rw (number, kept_lines) (take_twice (k + (m - 1)) ls),
         );
-        none = λ next spelled alike spells.
+        none = λ next spelled spells alike.
             let others = lines next in
-            let more : k < k + m = omega (arith, first.number) in
-            let settled : leading_lines others ≡ front = leading_lines-settled (k + m) ls others more within alike in
+            let more : k < k + m = omega (arith, first.some) in
+            let settled : leading_lines others ≡ front = leading_lines-settled (k + m) ls others more within (sym alike) in
             let behind = drop k others in
             let behind_lines : lines (text_of behind) ≡ behind = laws.written_lines behind (All-drop IsLine k others (laws.lines next)) in
             let is_next : SpellsProfile (text_of behind) spelled.1 = rw settled at spells.profile in
-            first.none (text_of behind) spelled.1 (rw (rest_lines, behind_lines) (behind_alike k m ls others alike)) is_next;
+            first.none (text_of behind) spelled.1 is_next (rw (rest_lines, behind_lines) (behind_alike k m others ls alike));
       }
 
   pub check_profile_at_first : (text : List ℕ) (n : ℕ) (fault : ProfileFault) → sheet_and_profile (lines text) ≡ Err (Profile n fault)
-      → IsFirstFault SpellsSheetAndProfile n text
+      → IsFirstFault SpellsSheetAndProfile text n
   unfolding sheet_and_profile lines_behind
   check_profile_at_first text n fault e = go (sheet_of_lines (leading_lines (lines text))) refl
     where
       with_sheet : (sheet : Sheet) (read : Result Counted (ℕ × ProfileFault)) → sheet_of_lines (leading_lines (lines text)) ≡ Ok sheet
-          → profile_of_lines (lines_behind (lines text)) ≡ read → IsFirstFault SpellsSheetAndProfile n text
+          → profile_of_lines (lines_behind (lines text)) ≡ read → IsFirstFault SpellsSheetAndProfile text n
       with_sheet sheet (Ok profile) is_sheet is_profile = let none = rw (is_sheet, is_profile) at e in absurd cc
       with_sheet sheet (Err refused) is_sheet is_profile =
           let ls = lines text in
@@ -271,7 +274,7 @@ module _ (laws : PartLaws) where
           let refused_text : profile_of (text_of rest) ≡ Err (refused.0, refused.1) = ap profile_of_lines rest_lines ∙ is_profile in
           rw (← is_n) (behind_sheet text sheet refused.0 is_sheet (refused.1, refused_text))
 
-      go : (read : Result Sheet ℕ) → sheet_of_lines (leading_lines (lines text)) ≡ read → IsFirstFault SpellsSheetAndProfile n text
+      go : (read : Result Sheet ℕ) → sheet_of_lines (leading_lines (lines text)) ≡ read → IsFirstFault SpellsSheetAndProfile text n
       go (Ok sheet) is = with_sheet sheet (profile_of_lines (lines_behind (lines text))) is refl
       go (Err number) is = let none = rw is at e in absurd cc
 
@@ -289,7 +292,7 @@ module _ (laws : PartLaws) where
       no_table table events (Some refused) e = absurd cc
 
       with_line : (line : List ℕ) (ls : List (List ℕ)) (read : Result (List ℕ) TableError) → lines text ≡ line ∷ ls
-          → table_of_line line ≡ read → replay_of_lines config (line ∷ ls) ≡ Err (Table fault) → IsFirstFault BeginsWithTable 1 text
+          → table_of_line line ≡ read → replay_of_lines config (line ∷ ls) ≡ Err (Table fault) → IsFirstFault BeginsWithTable text 1
       with_line line ls (Ok table) parts is e =
           absurd (no_table table (trace_from 1 ls).events (trace_from 1 ls).fault (rw is at e))
       with_line line ls (Err refused) parts is e = table_refused text line ls refused parts is

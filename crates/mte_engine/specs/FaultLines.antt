@@ -21,7 +21,7 @@ line_of_fault (Trace line fault) = Some line
 
 -- The fault is in the line of the first fault of the text.
 abbrev pub IsAtFirstFault : {A : Type 0} → (List ℕ → A → Type 0) → List ℕ → InputFault → Type 0
-IsAtFirstFault Spells text fault = (n : ℕ) × (line_of_fault fault ≡ Some n) × IsFirstFault Spells n text
+IsAtFirstFault Spells text fault = (n : ℕ) × (line_of_fault fault ≡ Some n) × IsFirstFault Spells text n
 
 -- The text spells a table in its first line, and a profile in those after it.
 pub record SpellsTableAndProfile (text : List ℕ) (parts : List ℕ × Counted) : Type 0 where

@@ -64,7 +64,7 @@ TuneRefusesAtTheFirstFault =
 abbrev pub CheckRefusesTheProfileAtItsFirstFault : Type 0
 CheckRefusesTheProfileAtItsFirstFault =
     (text : List ℕ) (n : ℕ) (fault : ProfileFault) → CheckAnswers text (Err (Profile n fault)) →
-    IsFirstFault SpellsSheetAndProfile n text
+    IsFirstFault SpellsSheetAndProfile text n
 
 -- and where `replay` does for the table.
 abbrev pub ReplayRefusesTheFirstLine : Type 0

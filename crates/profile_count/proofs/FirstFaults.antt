@@ -124,11 +124,11 @@ read_or_refused : (p : Profile) (fault : ℕ × ProfileFault) → Ok p ≡ refus
 read_or_refused p fault e = absurd cc
 
 -- a text has one first fault at most: none is behind another
-not_after : (m n : ℕ) (text : List ℕ) → IsFirstFault SpellsProfile m text → IsFirstFault SpellsProfile n text → m ≤ n
+not_after : (m n : ℕ) (text : List ℕ) → IsFirstFault SpellsProfile text m → IsFirstFault SpellsProfile text n → m ≤ n
 not_after m n text first second = elim (cases_lt n m) [
   | inl less ↦
       let other = first.before in
-      absurd (second.none other.0 other.1 (take_fewer n (m - 1) (lines text) (lines other.0) (omega (arith, less)) other.2) other.3)
+      absurd (second.none other.0 other.1 other.2 (take_fewer n (m - 1) (lines other.0) (lines text) (omega (arith, less)) other.3))
   | inr more ↦ omega (arith, more)
 ]
 
@@ -153,28 +153,29 @@ front-refused laws text n refused =
     (at.2.read.0, rw before (spelled-profile_of laws (text_of (take k (lines text))) at.2.read.0 read))
 
 -- and it is the first fault of the text.
-pub first_fault-refused : TextLaws → (text : List ℕ) (n : ℕ) → IsRefusedAt n text → IsFirstFault SpellsProfile n text
+pub first_fault-refused : TextLaws → (text : List ℕ) (n : ℕ) → IsRefusedAt n text → IsFirstFault SpellsProfile text n
 first_fault-refused laws text n refused =
     let at = fault_at (lines text) 1 nothing_read n refused.0 refused.1 in
     let place : n ≡ suc at.0 = omega (arith, at.1) in
     let front = front-refused laws text n refused in
     let before = text_of (take (n - 1) (lines text)) in
-    let alike_before : take (n - 1) (lines text) ≡ take (n - 1) (lines before) =
-    rw (front_lines laws (n - 1) text) (sym (take_twice (n - 1) (lines text))) in
+    let alike_before : take (n - 1) (lines before) ≡ take (n - 1) (lines text) =
+    rw (front_lines laws (n - 1) text) (take_twice (n - 1) (lines text)) in
     record {
-      number = (omega (arith, place), omega (arith, place, at.2.within));
-      before = (before, front.0, alike_before, front.1);
-      none = λ other value alike spells.
-          let is_refused = at.2.whatever_follows (lines other) (rw place at alike) in
+      some = omega (arith, place);
+      within = omega (arith, place, at.2.within);
+      before = (before, front.0, front.1, alike_before);
+      none = λ other value spells alike.
+          let is_refused = at.2.whatever_follows (lines other) (rw place at (sym alike)) in
           read_or_refused value (1 + at.0, refused.0) (sym (profile_of-spelled laws other value spells) ∙ is_refused);
     }
 
 -- The first fault of a text is refused.
-pub refused-first_fault : TextLaws → (text : List ℕ) (n : ℕ) → IsFirstFault SpellsProfile n text → IsRefusedAt n text
+pub refused-first_fault : TextLaws → (text : List ℕ) (n : ℕ) → IsFirstFault SpellsProfile text n → IsRefusedAt n text
 refused-first_fault laws text n first = go (profile_of text) refl
   where
     go : (read : Result Profile (ℕ × ProfileFault)) → profile_of text ≡ read → IsRefusedAt n text
-    go (Ok p) is = absurd (first.none text p refl (spelled-profile_of laws text p is))
+    go (Ok p) is = absurd (first.none text p (spelled-profile_of laws text p is) refl)
     go (Err fault) is =
         let here = first_fault-refused laws text fault.0 (fault.1, is) in
         let same : fault.0 ≡ n = omega (arith, not_after fault.0 n text here first, not_after n fault.0 text first here) in

@@ -25,7 +25,7 @@ IsRefusedAt n text = (fault : ProfileFault) × (profile_of text ≡ Err (n, faul
 
 -- A text is refused at a line exactly where that is its first fault.
 abbrev pub FirstFaultIsRefused : Type 0
-FirstFaultIsRefused = (text : List ℕ) (n : ℕ) → IsRefusedAt n text ↔ IsFirstFault SpellsProfile n text
+FirstFaultIsRefused = (text : List ℕ) (n : ℕ) → IsRefusedAt n text ↔ IsFirstFault SpellsProfile text n
 
 -- The line is there, since a profile misses none.
 abbrev pub RefusedLineIsThere : Type 0
