@@ -7,8 +7,9 @@ use Rattle.class_table.specs.ClassLine.{class_line}
 use Rattle.class_table.specs.Tables.{IsLegalTable}
 use Rattle.line_text.specs.Laws.{TextLaws}
 use Rattle.line_text.specs.Lines.{IsLine, lines, text_of}
-use Rattle.potential_check.specs.Laws.{FaultIsFirst, FirstFaultIsTold, IsFirstFault}
-use Rattle.potential_check.specs.SheetText.{◌>>=◌, head_of_lines, is_named, line_at, limit_in, named_line, rows_from, sheet_in, sheet_of_lines, step_at, table_in, waste_in, waste_number, with_rows}
+use Rattle.line_text.specs.FirstFault.{IsFirstFault}
+use Rattle.potential_check.specs.Laws.{FaultIsFirst, FirstFaultIsTold}
+use Rattle.potential_check.specs.SheetText.{SpellsSheet, ◌>>=◌, head_of_lines, is_named, line_at, limit_in, named_line, rows_from, sheet_in, sheet_of_lines, step_at, table_in, waste_in, waste_number, with_rows}
 use Rattle.potential_check.specs.declared.reading.Head.{Head}
 use Rattle.potential_check.proofs.FirstFaults.{Lines, Tells, rows-tell, tells-as, tells-line, tells-step}
 use Rattle.potential_check.proofs.NamedLines.{IsName, named_line-is_line, words-named_line}
@@ -98,7 +99,7 @@ module _ (laws : SheetLaws) where
       })
 
   -- two first faults are one
-  earlier : (text : List ℕ) (m n : ℕ) → IsFirstFault text m → IsFirstFault text n → m < n → ⊥
+  earlier : (text : List ℕ) (m n : ℕ) → IsFirstFault SpellsSheet text m → IsFirstFault SpellsSheet text n → m < n → ⊥
   earlier text m n of_m of_n lt =
       let b = of_n.before in
       let le : m ≤ n - 1 = omega arith in
