@@ -1,8 +1,9 @@
 //! With ample memory nothing is refused: at each limit and step, at sizes about each power of two, at each number of rows, at each line.
-use super::support::profile;
+use super::support::{profile as worked_profile, sink, source};
 use class_table::ClassTable;
 use class_tuner::tune;
 use granule_memory::Memory;
+use mte_engine::{ToolFault, profile, run, score};
 use potential_check::{SheetError, Verdict, check, read_sheet, write_sheet};
 use profile_count::Profile;
 use raw_region::RawRegion;
@@ -12,7 +13,7 @@ use trace_reader::TraceReader;
 
 #[test]
 fn each_limit_and_step(rt: HostRuntime) -> Result<(), Fail> {
-    let profile = profile(&rt)?;
+    let profile = worked_profile(&rt)?;
     for limit in 1..=32 {
         for step in [1, 2, 4, 8] {
             assert!(rt; limit >= 1 && limit <= 32);
@@ -86,6 +87,40 @@ fn a_trace_of_a_million_lines(rt: HostRuntime) -> Result<(), Fail> {
     assert!(rt; !reader.is_finished());
     assert!(rt; reader.finish().is_ok());
     assert_eq!(rt; reader.events().len(), 1_000_000);
+    Ok(())
+}
+
+// Inputs of as many lines, or bytes, as each power of two, of one fewer and of one more.
+#[test]
+fn engines_about_each_power_of_two(rt: HostRuntime) -> Result<(), Fail> {
+    let config = Config {
+        granules: 64,
+        seed: 1,
+        quarantine: 0,
+    };
+    let mut power: usize = 1;
+    for _digits in 0..20 {
+        for lines in [power.saturating_sub(1), power, power.saturating_add(1)] {
+            let text = "free 0\n".as_bytes().repeat(rt.alloc(), lines)?;
+            let mut to = sink(&rt)?;
+            assert!(rt;
+                profile(rt.alloc(), &mut source(&text), &mut to).is_ok(),
+                "profile of {lines} lines"
+            );
+            let mut to = sink(&rt)?;
+            assert!(rt;
+                run(rt.alloc(), 1, 1, config, &mut source(&text), &mut to).is_ok(),
+                "run of {lines} lines"
+            );
+            let mut to = sink(&rt)?;
+            let end = score(rt.alloc(), &mut source(&text), &mut to);
+            assert!(rt;
+                matches!(end, Err(ToolFault::Input(_))),
+                "score of {lines} lines"
+            );
+        }
+        power = power.saturating_mul(2);
+    }
     Ok(())
 }
 

@@ -1,10 +1,6 @@
 //! The six engines: where a growth is refused, the sink is as it was.
-ghost use Rattle.std.specs.Prelude.{◌≡◌, IfOk};
-
-use super::support::{PROFILE, SHEET, refused_twice};
-use mte_engine::{
-    MemorySink, MemorySource, Status, ToolFault, check, profile, replay, run, score, tune,
-};
+use super::support::{PROFILE, SHEET, refused_twice, sink, source};
+use mte_engine::{MemorySink, Status, ToolFault, check, profile, replay, run, score, tune};
 use replay_core::Config;
 use std::process::Abort;
 use std::test::Fail;
@@ -25,7 +21,7 @@ const REPORT: &str =
 fn scoring(rt: HostRuntime) -> Result<(), Fail> {
     for _attempt in 0..2 {
         let mut to = sink(&rt)?;
-        let end = score(rt.alloc(), &mut source("classes 4\n16 3\n40 1\n"), &mut to);
+        let end = score(rt.alloc(), &mut source(b"classes 4\n16 3\n40 1\n"), &mut to);
         if answered(&rt, end, &to, "waste 104\n") {
             return Ok(());
         }
@@ -37,7 +33,7 @@ fn scoring(rt: HostRuntime) -> Result<(), Fail> {
 fn tuning(rt: HostRuntime) -> Result<(), Fail> {
     for _attempt in 0..2 {
         let mut to = sink(&rt)?;
-        let end = tune(rt.alloc(), 2, 1, &mut source(PROFILE), &mut to);
+        let end = tune(rt.alloc(), 2, 1, &mut source(PROFILE.as_bytes()), &mut to);
         if answered(&rt, end, &to, SHEET) {
             return Ok(());
         }
@@ -51,7 +47,7 @@ fn checking(rt: HostRuntime) -> Result<(), Fail> {
     input.push_str(PROFILE)?;
     for _attempt in 0..2 {
         let mut to = sink(&rt)?;
-        let end = check(rt.alloc(), &mut source(&input), &mut to);
+        let end = check(rt.alloc(), &mut source(input.as_bytes()), &mut to);
         if answered(&rt, end, &to, "optimal\n") {
             return Ok(());
         }
@@ -63,7 +59,7 @@ fn checking(rt: HostRuntime) -> Result<(), Fail> {
 fn profiling(rt: HostRuntime) -> Result<(), Fail> {
     for _attempt in 0..2 {
         let mut to = sink(&rt)?;
-        let end = profile(rt.alloc(), &mut source(TRACE), &mut to);
+        let end = profile(rt.alloc(), &mut source(TRACE.as_bytes()), &mut to);
         if answered(&rt, end, &to, "0 1\n16 1\n") {
             return Ok(());
         }
@@ -77,7 +73,7 @@ fn replaying(rt: HostRuntime) -> Result<(), Fail> {
     input.push_str(TRACE)?;
     for _attempt in 0..2 {
         let mut to = sink(&rt)?;
-        let end = replay(rt.alloc(), CONFIG, &mut source(&input), &mut to);
+        let end = replay(rt.alloc(), CONFIG, &mut source(input.as_bytes()), &mut to);
         if answered(&rt, end, &to, REPORT) {
             return Ok(());
         }
@@ -91,36 +87,19 @@ fn running(rt: HostRuntime) -> Result<(), Fail> {
     written.push_str(REPORT)?;
     for _attempt in 0..2 {
         let mut to = sink(&rt)?;
-        let end = run(rt.alloc(), 1, 1, CONFIG, &mut source(TRACE), &mut to);
+        let end = run(
+            rt.alloc(),
+            1,
+            1,
+            CONFIG,
+            &mut source(TRACE.as_bytes()),
+            &mut to,
+        );
         if answered(&rt, end, &to, &written) {
             return Ok(());
         }
     }
     refused_twice(&rt)
-}
-
-fn source(input: &str) -> MemorySource<'_>
-    ensures { result.failed ≡ 0 }
-{
-    MemorySource {
-        rest: input.as_bytes(),
-        most: usize::MAX,
-        until_failure: None,
-        reads: 0,
-        failed: 0,
-    }
-}
-
-// a sink with room for every text here, so that it takes no memory later
-fn sink(rt: &impl AllocGlobal) -> Result<MemorySink, Fail>
-    ensures { IfOk result (λ sink. sink.failed ≡ 0) }
-{
-    Ok(MemorySink {
-        text: Vec::with_capacity(rt.alloc(), 4096)?,
-        most: usize::MAX,
-        until_failure: None,
-        failed: 0,
-    })
 }
 
 // whether the engine answered and wrote this; where it was refused memory, nothing was written
