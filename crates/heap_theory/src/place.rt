@@ -5,7 +5,7 @@ pub enum PlaceKind {
     Slack,
     /// It is the first granule of a slot.
     Header,
-    /// It is in a slot, behind the granules of its chunk.
+    /// It is in a slot, after the granules of its chunk, or after the header of a slot that was never given out.
     Tail,
     /// It is a granule of a freed chunk.
     Dead,

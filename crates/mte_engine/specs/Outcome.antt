@@ -84,5 +84,5 @@ pub record Runs (answers : List ℕ → Result Answer InputFault → Type 0) (so
   pub consumed : IfOk result (λ _. IsAtEnd source'.remaining)
   -- nothing was written before a fault other than that of a write
   pub quiet : IsQuiet sink sink' result
-  -- the work is bounded
+  -- how often the source is read is bounded
   pub few_reads : IsReadFewTimes source source'

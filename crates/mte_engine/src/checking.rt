@@ -13,7 +13,8 @@ use potential_check::{Verdict, check as verdict_on};
 use std::alloc::{AllocError, Global};
 
 /// Reads a sheet and then a profile, and writes `optimal`, or `refused CODE NAME` with the status of a no: the first refusal (39 to 47) that the
-/// sheet gets for the profile. Where it writes `optimal`, no table of at most the sheet's limit of classes that fit its step wastes less.
+/// sheet gets for the profile. Where it writes `optimal`, no table of at most the sheet's limit of classes that fit its step, and that serves each
+/// counted size, wastes less.
 /// The sheet is the first three lines, or four where the third begins with `step`, and all directly after them whose first word is `row`.
 ///
 /// Faults: an input that is too long, then the sheet's, then the profile's (`Input`); a failed read (`ReadFault`); out of memory

@@ -32,7 +32,7 @@ pub trait Engine {
     fn input(&self, alloc: Global) -> Result<Self::Input, AllocError>
         ensures { IfOk result (λ input. Self.Input.has_taken input []) };
 
-    /// The answer to the whole input, or its first fault. Nothing is allocated after this call.
+    /// The answer to the whole input, or its first fault. What comes after this call can't run out of memory.
     fn answer(
         &self,
         alloc: Global,

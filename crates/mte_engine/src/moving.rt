@@ -14,8 +14,8 @@ pub const MOST_INPUT: usize = 67_108_864;
 // how many bytes a read is asked for
 const PIECE: usize = 65_536;
 
-/// Hands all bytes of the source to the input; there may be 67,108,864. Each turn takes at least one byte, ends or fails, so a source that
-/// never ends is refused too.
+/// Hands all bytes of the source to the input; there may be 67,108,864. Each turn takes at least one byte, ends or fails, so it returns
+/// for a source that never ends too.
 pub fn read_all<R: ByteSource, I: Input>(
     alloc: Global,
     source: &mut R,

@@ -20,7 +20,7 @@ const FAILED: u8 = 3;
 pub enum End {
     /// It printed help or its version.
     Shown,
-    /// It refused its words, and nothing was read.
+    /// It refused its words.
     Refused,
     /// A command ended so, or failed before it began.
     Ended(Result<Status, ToolFault>),

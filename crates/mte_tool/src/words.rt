@@ -59,8 +59,8 @@ pub fn read_call(alloc: Global, words: &[String]) -> Result<Call, Refusal>
     Ok(call_of(&matches)?)
 }
 
-/// Runs the call that these words mean, of which the first is the program's name. The error is why there is no such call; then nothing
-/// was read or written.
+/// Runs the call that these words mean, of which the first is the program's name. The error is why no call is run: the
+/// words mean none, or memory was refused; then source and sink are the values that they were.
 pub fn run_words<R: ByteSource, W: ByteSink>(
     alloc: Global,
     words: &[String],

@@ -6,11 +6,11 @@ use class_table::ClassTable;
 pub struct Sheet {
     /// The classes, in granules.
     pub table: ClassTable,
-    /// The most classes that the table may have, 1 to 32.
+    /// The most classes that the table may have; in a sheet that was read 1 to 32.
     pub limit: u8,
-    /// Each class is a multiple of it, in granules: 1, 2, 4 or 8.
+    /// What each class is said to be a multiple of, in granules; in a sheet that was read 1, 2, 4 or 8.
     pub step: u8,
-    /// What the table wastes on the profile, in bytes.
+    /// What the table is said to waste on the profile, in bytes.
     pub waste: u64,
     /// The certificate: one row for each number of classes up to the limit, one number for each distinct need.
     pub rows: Rows,

@@ -8,7 +8,7 @@ use crate::zeros::write_zeros;
 use std::alloc::{AllocError, Allocator, Global};
 use std::marker::Model;
 
-/// A block of 1 to 2^30 bytes, seen as their list. It has the block from its allocator, and gives it back when it is dropped.
+/// A block of 1 to 2^30 bytes, seen as their list. It has the block from its allocator. Dropping it gives the block back, at most once.
 pub struct RawRegion {
     ptr: *mut u8,
     len: usize,

@@ -22,21 +22,21 @@ pub const TOTALS_BYTES: usize = 512;
 pub struct Totals {
     /// All events.
     pub events: u64,
-    /// The requests, null or not.
+    /// The requests, whatever they are answered.
     pub requests: u64,
-    /// The requests of more than 16,368 bytes.
+    /// The requests that were given null since they are of more than 16,368 bytes.
     pub null_large: u64,
-    /// The requests that no class serves.
+    /// The requests that were given null since no class serves them.
     pub null_no_class: u64,
-    /// The requests whose class had no slot left.
+    /// The requests that were given null since their class had no slot left.
     pub null_exhausted: u64,
-    /// The accesses that touched a granule with another tag than their pointer.
+    /// The mapped accesses that touched a granule with another tag than their pointer.
     pub faults_tag: u64,
     /// The accesses that were not mapped.
     pub faults_unmapped: u64,
-    /// The frees and reallocs of a pointer that names no live chunk.
+    /// The frees and reallocs of a pointer that is not null and names no live chunk.
     pub refused_frees: u64,
-    /// The bytes that the requests which were not refused leave unused in blocks of their classes.
+    /// The bytes that the requests which were given or kept a chunk leave unused in blocks of their classes.
     pub loss: u64,
 }
 

@@ -18,8 +18,8 @@ const EXCLUDE: u16 = 1;
 
 /// The machine: a memory with tags, and the register `RGSR_EL1` with its fields SEED and TAG.
 ///
-/// Each instruction does what the Arm Architecture Reference Manual (Arm DDI 0487) says of it in the Memory Tagging Extension,
-/// with this project's own choice of tags, random bits and order of faults (docs/MACHINE.md). A fault changes nothing.
+/// Each instruction is its definition in `machine_theory`. They are made after the Arm Architecture Reference Manual (Arm DDI 0487), Memory
+/// Tagging Extension, with this project's own choice of tags, random bits and order of faults (docs/MACHINE.md). A fault changes nothing.
 #[derive(Drop)]
 pub struct Machine {
     memory: Memory,

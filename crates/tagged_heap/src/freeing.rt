@@ -33,11 +33,12 @@ pub(crate) struct Chunk {
 }
 
 impl Heap {
-    /// Takes the chunk at p back: its granules get another tag, and its slot goes into the quarantine. Nothing happens at null, 0.
+    /// Takes the chunk at p back: its granules get another tag, and its slot is dead. The slot is held back until more bytes than the
+    /// quarantine's limit were freed from this free on, its own among them: not at all where its own block has more. Nothing happens at null, 0.
     ///
     /// `Misplaced` where p is not the address of a slot's first payload byte, else `NotLive` where the slot is not given out, else
     /// `WrongTag` where it is given out under another tag than p's; then nothing changes. So p is accepted exactly where it is null or the
-    /// pointer that was given out for a live chunk.
+    /// pointer that was given out for a live chunk. Fewer than 2^48 chunks were freed before, as `frees` reports.
     pub fn free(&mut self, p: u64) -> Result<(), FreeError>
         requires few { self.old.frees < 2 ^ 48 }
         ensures answer { result ≡ (free_step self.old.state p).answer }

@@ -11,7 +11,8 @@ pub use heap_theory::laws::hardening::{
 };
 pub use heap_theory::laws::headers::law_header_words;
 
-/// An access that succeeds under another tag than 0 touches no header: so no load reads and no store changes a header's words.
+/// An access that succeeds under another tag than 0 touches no header: so under such a tag no load reads and no store changes a header's
+/// words.
 pub fn law_headers_spared()
     ensures { HeadersAreSpared }
 {

@@ -22,8 +22,10 @@ impl Heap {
     /// Gives the chunk at p `n` bytes: in place and under its tag where n is of its class, else in another slot, to which as many bytes as
     /// both sizes have are copied; the answer is its address then. At null, 0, it is `malloc`.
     ///
-    /// `Refused` where `free` would refuse p, else `Null` where `malloc` would refuse n; then nothing changes. So p is accepted exactly where
-    /// it is null or the pointer that was given out for a live chunk.
+    /// `Refused` where `free` would refuse p; else `Null` with `Large` or `NoClass` where n has no class; else, where the chunk has to move,
+    /// `Null` with `Exhausted` where the other class has no slot left; then nothing changes. At null its refusals are those of `malloc`. So p
+    /// is accepted exactly where it is null or the pointer that was given out for a live chunk. Fewer than 2^48 chunks were freed before, as
+    /// `frees` reports.
     pub fn realloc(&mut self, p: u64, n: u32) -> Result<u64, ReallocError>
         requires few { self.old.frees < 2 ^ 48 }
         ensures answer { result ≡ (realloc_step self.old.state p n).answer }

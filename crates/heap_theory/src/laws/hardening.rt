@@ -1,4 +1,4 @@
-//! The hardening laws, over every run of events.
+//! The hardening laws, over every run of events. An access is of 1 to 64 bytes, at most 2^20 bytes before or after a variable (`IsAccess`).
 ghost use Rattle.heap_theory.specs.Hardening.{
   BookkeepingOutOfReach,
   ChunkTagsDiffer,
@@ -45,9 +45,9 @@ pub fn law_inside()
     laws_below();
 }
 
-/// The pointer that was given out for a live chunk is accepted by `free` and by `realloc`, and what it frees is that chunk. No other
-/// pointer is accepted but null. What malloc, calloc and realloc give out is such a pointer, and each call but a free or a realloc of it
-/// leaves it one. So a variable whose generation is live has one.
+/// The pointer that was given out for a live chunk is accepted by `free` and never refused for itself by `realloc`, and what it frees is that
+/// chunk. No other pointer is accepted but null. What malloc, calloc and realloc give out is such a pointer, and each call but a free or a
+/// realloc of it leaves it one. So a variable whose generation is live has one.
 pub fn law_own_pointer()
     ensures free { FreeAcceptsOwnPointers }
     ensures realloc { ReallocAcceptsOwnPointers }
@@ -81,7 +81,8 @@ pub fn law_delay()
     laws_below();
 }
 
-/// In an event each slot stays as it is, or is freed, or is given out once more.
+/// In an event each slot stays fresh, stays dead with its size, tag and mark, or stays live (a realloc in place may change its size); or it is
+/// freed; or it is given out once more.
 pub fn law_life()
     ensures { AtEveryEvent (λ quarantine. LivesOn) }
 {

@@ -48,7 +48,7 @@ loaded, faulted or was refused:
   E null large          null was returned: more than 16368 bytes were requested,
   E null no-class       no class serves the size,
   E null exhausted      or no slot of its class is left
-  E refused misplaced   a free or realloc was refused: its pointer leads to no slot's payload,
+  E refused misplaced   a free or realloc was refused: its pointer is no slot's first payload byte,
   E refused not-live    its slot is not in use,
   E refused wrong-tag   or its tag is not the slot's
 

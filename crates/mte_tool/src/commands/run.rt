@@ -41,8 +41,10 @@ has the meaning of each event. The output is the sheet that `tune` writes for th
   classes C1 C2 ..   the table
   limit K            the most classes that it was allowed
   step S             each class is a multiple of it; no such line for 1
-  waste W            the bytes that all requests together leave unused in their blocks
-  row N1 N2 ..       K rows, which prove that no table of at most K classes wastes less
+  waste W            the bytes that all requests of up to 16368 bytes together leave unused in their
+                     blocks
+  row N1 N2 ..       K rows, which prove that no table of at most K classes that are multiples of S,
+                     and that serves each counted size, wastes less
 
 and then what `replay` writes with that table: a line for each event that loaded, faulted or was
 refused,
@@ -100,7 +102,7 @@ pub struct Run {
 }
 
 impl Run {
-    /// The options that clap found. The error is `BadOption` where the step is not 1, 2, 4 or 8.
+    /// The options that clap found. The error is `BadOption` where the step is not 1, 2, 4 or 8, or another number is not in its range.
     pub fn of_options(options: &ArgMatches<'_>) -> Result<Run, OptionFault>
         ensures { MatchResult result
             (λ o. Names (codes "run") (rows_of (found_of options.now)) (RunCall o))

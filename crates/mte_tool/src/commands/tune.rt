@@ -36,12 +36,13 @@ The output is a sheet:
   limit K            the most classes that it was allowed
   step S             each class is a multiple of it; no such line for 1
   waste W            the bytes that all requests together leave unused in their blocks; no table of
-                     at most K classes wastes less
+                     at most K classes that are multiples of S, and that serves each counted size,
+                     wastes less
   row N1 N2 ..       K rows: row k, number i is the least that at most k classes waste on the
                      requests without those of the i-1 smallest distinct needs
 
-The first numbers of the rows are the least wastes for 1, 2, .. K classes. The rows prove that the
-waste is the least: `check` tests them.";
+The first numbers of the rows are the least wastes for at most 1, 2, .. K classes. The rows prove
+that the waste is the least: `check` tests them.";
 
 const AFTER: &str = "\
 Example:
@@ -79,7 +80,7 @@ pub struct Tune {
 }
 
 impl Tune {
-    /// The options that clap found. The error is `BadOption` where the step is not 1, 2, 4 or 8.
+    /// The options that clap found. The error is `BadOption` where the step is not 1, 2, 4 or 8, or another number is not in its range.
     pub fn of_options(options: &ArgMatches<'_>) -> Result<Tune, OptionFault>
         ensures { MatchResult result
             (λ o. Names (codes "tune") (rows_of (found_of options.now)) (TuneCall o))
