@@ -13,7 +13,8 @@ mod tests;
 mod words;
 
 use end::End;
+use std::io::IsTerminal;
 
 fn main(rt: HostRuntime) -> End {
-    program::run(&rt)
+    program::run(&rt, rt.stdin().is_terminal())
 }

@@ -5,7 +5,7 @@ ghost use Rattle.mte_tool.specs.declared.end.End.TheVariants.{Ended};
 
 use crate::end::End;
 use crate::refusal::Refusal;
-use crate::words::{command, run_words};
+use crate::words::{command, read_call, run_words};
 use clap::error::ErrorKind;
 use mte_engine::{Status, StreamSink, StreamSource, ToolFault};
 use std::io;
@@ -14,13 +14,21 @@ use std::rt::Env;
 
 const NOT_TEXT: &str = "a word of the command line is not UTF-8";
 
+const WAITS: &str =
+    "mte_tool: reading standard input; Ctrl-D ends it, and `--help` after the command says what it takes";
+
+const TIP: &str = "tip: the input is standard input, and no file is named: mte_tool COMMAND < FILE";
+
 /// Runs the program on the words of its command line, from standard input to standard output, and prints why it does not finish on
-/// standard error.
-pub fn run<R: Env + AllocGlobal + Input + Print + Eprint>(rt: &R) -> End {
+/// standard error. Before it reads standard input from a terminal it says there that it waits.
+pub fn run<R: Env + AllocGlobal + Input + Print + Eprint>(rt: &R, at_terminal: bool) -> End {
     let words = match words(rt) {
         Ok(words) => words,
         Err(refusal) => return refuse(rt, &refusal),
     };
+    if at_terminal && read_call(rt.alloc(), words.as_slice()).is_ok() {
+        let _ = eprintln!(rt; "{WAITS}");
+    }
     let mut source = StreamSource::new(rt.reader());
     let mut sink = StreamSink::new(writer(rt));
     match run_words(rt.alloc(), words.as_slice(), &mut source, &mut sink) {
@@ -63,6 +71,9 @@ fn refuse<R: Print + Eprint>(rt: &R, refusal: &Refusal) -> End
         }
         Refusal::Words(error) if error.use_stderr() => {
             let _ = error.print(rt);
+            if error.kind() == ErrorKind::UnknownArgument {
+                let _ = eprintln!(rt; "\n{TIP}");
+            }
             End::Refused
         }
         Refusal::Words(error) => match error.print(rt) {

@@ -12,9 +12,10 @@ pub const NAME: &str = "check";
 
 const ABOUT: &str = "Check whether a sheet proves that its class table wastes least on a profile";
 
-const LONG: &str = "\
-Check whether a sheet proves that its class table wastes least on a profile, whoever wrote it.
+const LONG: &str =
+    "Check whether a sheet proves that its class table wastes least on a profile, whoever wrote it.";
 
+const AFTER: &str = "\
 Standard input is a sheet, and then a profile:
 
   classes C1 C2 ..   the table: up to 32 block sizes in granules of 16 bytes, from 2 to 1024,
@@ -46,9 +47,8 @@ A table may be a best one and its sheet refused: the rows must prove it. The con
   45 StageDrop         no number is above the one at its place in the row before
   46 Edge              no number is above what one class up to a later need wastes, plus the number
                        of the row before there
-  47 NotTight          the first number of row K is the waste";
+  47 NotTight          the first number of row K is the waste
 
-const AFTER: &str = "\
 Example:
   (mte_tool tune --limit 8 < app.profile; cat app.profile) | mte_tool check
 writes `optimal`: a sheet of `tune` proves that its table wastes least. docs/CERTIFICATES.md in the

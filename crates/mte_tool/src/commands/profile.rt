@@ -12,9 +12,9 @@ pub const NAME: &str = "profile";
 
 const ABOUT: &str = "Count how often a trace requests each size";
 
-const LONG: &str = "\
-Count how often a trace requests each size.
+const LONG: &str = "Count how often a trace requests each size.";
 
+const AFTER: &str = "\
 Standard input is a trace, a line for each event:
 
   malloc V N            calloc V N            realloc V N           free V
@@ -32,9 +32,8 @@ has the meaning of each event. The output is a profile, the input of `tune`:
 
   SIZE COUNT         a size of malloc, calloc and realloc, 0 to 16368, and how often it was
                      requested, also where the heap would refuse it; sizes ascend
-  large COUNT        how often more than 16368 bytes were requested, if they were";
+  large COUNT        how often more than 16368 bytes were requested, if they were
 
-const AFTER: &str = "\
 Example:
   printf 'malloc 1 16\\nmalloc 2 40\\nfree 1\\ncalloc 1 16\\n' | mte_tool profile
 writes the lines `16 2` and `40 1`.

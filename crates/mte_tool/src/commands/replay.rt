@@ -19,9 +19,9 @@ pub const NAME: &str = "replay";
 
 const ABOUT: &str = "Run a trace on the heap with memory tags, with a given class table";
 
-const LONG: &str = "\
-Run a trace on the heap with memory tags, with a given class table.
+const LONG: &str = "Run a trace on the heap with memory tags, with a given class table.";
 
+const AFTER: &str = "\
 Standard input is a class line, and then a trace, a line for each event:
 
   classes C1 C2 ..   up to 32 block sizes in granules of 16 bytes, from 2 to 1024, ascending
@@ -54,9 +54,8 @@ loaded, faulted or was refused:
 
 and then nine totals: `events`, `requests`, `null large`, `null no-class`, `null exhausted`,
 `faults tag`, `faults unmapped`, `refused frees`, and `loss`, the bytes of the served requests'
-payloads beyond what they asked for.";
+payloads beyond what they asked for.
 
-const AFTER: &str = "\
 Example:
   printf 'classes 2\\nmalloc 1 5\\nfree 1\\nload 1 0 1\\n' | mte_tool replay --granules 64
 writes a line `3 fault tag granule 1 memory M pointer P in dead`, since the chunk was freed, and

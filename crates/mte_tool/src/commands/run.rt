@@ -21,8 +21,9 @@ const ABOUT: &str = "Find the best class table for a trace, and run the trace wi
 
 const LONG: &str = "\
 Find the class table that wastes least on the sizes that a trace requests, and run the trace on the
-heap with memory tags, with that table.
+heap with memory tags, with that table.";
 
+const AFTER: &str = "\
 Standard input is a trace, a line for each event:
 
   malloc V N            calloc V N            realloc V N           free V
@@ -55,9 +56,8 @@ refused,
   E null large        or no-class, exhausted
   E refused misplaced or not-live, wrong-tag
 
-and nine totals, `events` to `loss`. `mte_tool replay --help` explains these lines.";
+and nine totals, `events` to `loss`. `mte_tool replay --help` explains these lines.
 
-const AFTER: &str = "\
 Example:
   printf 'malloc 1 16\\nfree 1\\nload 1 0 1\\n' | mte_tool run --limit 1 --granules 64
 writes the lines `classes 2`, `limit 1`, `waste 0` and `row 0`, then

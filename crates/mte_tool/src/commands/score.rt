@@ -12,9 +12,9 @@ pub const NAME: &str = "score";
 
 const ABOUT: &str = "Report how many bytes a class table wastes on a profile";
 
-const LONG: &str = "\
-Report how many bytes a class table wastes on a profile.
+const LONG: &str = "Report how many bytes a class table wastes on a profile.";
 
+const AFTER: &str = "\
 Standard input is a class line, and then a profile:
 
   classes C1 C2 ..   up to 32 block sizes in granules of 16 bytes, from 2 to 1024, ascending
@@ -27,9 +27,8 @@ One space parts words, and a number has no leading 0. The first granule of a blo
 A request takes the smallest block whose other granules hold it. The output is one line:
 
   waste W            the bytes that all requests together leave unused in their blocks
-  not serving N      no class serves N bytes, the smallest such size; the exit status is 1";
+  not serving N      no class serves N bytes, the smallest such size; the exit status is 1
 
-const AFTER: &str = "\
 Example:
   printf 'classes 4\\n16 3\\n40 1\\n' | mte_tool score
 writes `waste 104`: a block of 4 granules has 48 bytes beside its header, so each of three requests

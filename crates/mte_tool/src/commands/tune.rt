@@ -19,9 +19,9 @@ pub const NAME: &str = "tune";
 
 const ABOUT: &str = "Find the class table that wastes least on a profile, with a certificate";
 
-const LONG: &str = "\
-Find the class table that wastes least on a profile, with a certificate.
+const LONG: &str = "Find the class table that wastes least on a profile, with a certificate.";
 
+const AFTER: &str = "\
 Standard input is a profile:
 
   SIZE COUNT         a size in bytes, 0 to 16368, and how often it was requested, 1 to 1000000000;
@@ -42,9 +42,8 @@ The output is a sheet:
                      requests without those of the i-1 smallest distinct needs
 
 The first numbers of the rows are the least wastes for at most 1, 2, .. K classes. The rows prove
-that the waste is the least: `check` tests them.";
+that the waste is the least: `check` tests them.
 
-const AFTER: &str = "\
 Example:
   printf '16 3\\n40 1\\n' | mte_tool tune --limit 2
 writes the lines `classes 2 4`, `limit 2`, `waste 8`, `row 104 8` and `row 8 8`: one class would

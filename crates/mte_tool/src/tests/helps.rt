@@ -66,6 +66,7 @@ fn helps(rt: HostRuntime) -> Result<(), Fail> {
             words,
             input: "",
             reads_fail: false,
+            at_terminal: false,
             writes_fail: false,
         };
         let ran = run(rt.alloc(), given)?;
@@ -74,6 +75,14 @@ fn helps(rt: HostRuntime) -> Result<(), Fail> {
         assert!(rt;
             ran.out.starts_with(first),
             "the output of {words}: {}",
+            ran.out
+        );
+        assert!(rt;
+            words.len() < 5
+                || words.starts_with("help")
+                || words.starts_with("--")
+                || ran.out.contains("\nStandard input is a "),
+            "the input in the output of {words}: {}",
             ran.out
         );
         for line in ran.out.lines() {

@@ -57,6 +57,7 @@ fn given(words: &'static str, input: &'static str) -> Given {
         words,
         input,
         reads_fail: false,
+        at_terminal: false,
         writes_fail: false,
     }
 }
@@ -369,5 +370,41 @@ fn failing_streams(rt: HostRuntime) -> Result<(), Fail> {
         given.writes_fail = true;
         fails(&rt, given, "error 82 WriteFault\n")?;
     }
+    Ok(())
+}
+
+#[test]
+fn a_terminal_is_told_what_is_waited_for(rt: HostRuntime) -> Result<(), Fail> {
+    let cases = [
+        ("score", 0, "mte_tool: reading standard input; "),
+        ("score --help", 0, ""),
+        ("--version", 0, ""),
+        ("tune --step 3 --limit 2", 2, "error 83 BadOption\n"),
+    ];
+    for (words, status, err) in cases {
+        let mut given = given(words, SCORED);
+        given.at_terminal = true;
+        let ran = run(rt.alloc(), given)?;
+        assert_eq!(rt; ran.status, status, "the status of {words}");
+        assert!(rt;
+            begins_with(&ran.err, err),
+            "the error of {words}: {}",
+            ran.err
+        );
+    }
+    Ok(())
+}
+
+#[test]
+fn a_named_file_is_refused_with_a_tip(rt: HostRuntime) -> Result<(), Fail> {
+    let ran = run(rt.alloc(), given("tune --limit 8 app.profile", PROFILE))?;
+    assert_eq!(rt; ran.status, 2);
+    assert_eq!(rt; ran.reads, 0);
+    assert!(rt; ran.err.contains("app.profile"), "{}", ran.err);
+    assert!(rt;
+        ran.err.contains("\ntip: the input is standard input"),
+        "{}",
+        ran.err
+    );
     Ok(())
 }

@@ -32,6 +32,8 @@ pub struct Given {
     pub input: &'static str,
     /// Whether each read fails.
     pub reads_fail: bool,
+    /// Whether standard input is a terminal.
+    pub at_terminal: bool,
     /// Whether each write on standard output fails.
     pub writes_fail: bool,
 }
@@ -46,7 +48,7 @@ pub fn run(alloc: Global, given: Given) -> Result<Ran, AllocError> {
         out: RefCell::new(Vec::new(alloc)),
         err: RefCell::new(Vec::new(alloc)),
     };
-    let status = program::run(&world).status();
+    let status = program::run(&world, given.at_terminal).status();
     Ok(Ran {
         status,
         out: text_in(alloc, &world.out)?,
