@@ -6,10 +6,9 @@ ghost use Rattle.std.specs.Option.{option_map};
 ghost use Rattle.std.specs.Str.Parse.{digits_value};
 ghost use Rattle.line_text.specs.Numbers.{leading_digits, leading_number_of};
 
-// Every number of so many digits is below 2^64.
-const MOST_DIGITS: usize = 19;
+use crate::number::SHORT;
 
-// the number that the digits in front of a text spell, and the text behind them; none where they spell none, and where they are more than 19.
+// the number that the digits in front of a text spell, and the text after them; none where they spell none, and where they are more than 19
 pub(crate) fn leading_number(text: &[u8]) -> Option<(u64, &[u8])>
     ensures number { option_map (λ pair. pair.0) result ≡ leading_number_of text.now }
     ensures behind { IfSome result (λ pair. text.now ≡ leading_digits text.now ++ pair.1.now) }
@@ -20,7 +19,7 @@ pub(crate) fn leading_number(text: &[u8]) -> Option<(u64, &[u8])>
         if !byte.is_ascii_digit() {
             break;
         }
-        if end == MOST_DIGITS {
+        if end == SHORT {
             return None;
         }
         value = value * 10 + u64::from(*byte - b'0');
@@ -29,10 +28,10 @@ pub(crate) fn leading_number(text: &[u8]) -> Option<(u64, &[u8])>
     number_up_to(text, end, value)
 }
 
-// the number of the digits in front, which end here and have this value, and the text behind them.
+// the number of the digits in front, which end here and have this value, and the text after them
 fn number_up_to(text: &[u8], end: usize, value: u64) -> Option<(u64, &[u8])>
     requires end { end ≡ prefix_len is_ascii_digit text.now }
-    requires few { end ≤ MOST_DIGITS }
+    requires few { end ≤ SHORT }
     requires value { value ≡ digits_value 10 (leading_digits text.now) }
     ensures number { option_map (λ pair. pair.0) result ≡ leading_number_of text.now }
     ensures behind { IfSome result (λ pair. text.now ≡ leading_digits text.now ++ pair.1.now) }

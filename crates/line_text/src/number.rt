@@ -18,7 +18,7 @@ pub enum Number {
 }
 
 // Every number of so many digits is below 2^64.
-const SHORT: usize = 19;
+pub(crate) const SHORT: usize = 19;
 
 /// The number that a word of any length spells. Each number has one spelling: its decimal digits, with no 0 in front
 /// but in `0` itself.

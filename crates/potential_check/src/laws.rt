@@ -14,8 +14,8 @@ pub fn law_sheet_text()
     law_class_line();
 }
 
-/// A fault is told by the number of the first faulty line: the lines before it begin some text that spells a sheet, and no text with the
-/// same lines up to it spells one. A line that is missing has the number after the last line.
+/// A fault has the number of the first faulty line. The lines before it are a prefix of some text that spells a sheet, and no text with the
+/// same lines up to it spells one. A missing line has the number after the last line.
 pub fn law_sheet_fault()
     ensures first { FaultIsFirst }
     ensures told { FirstFaultIsTold }

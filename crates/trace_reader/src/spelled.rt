@@ -57,7 +57,8 @@ fn words_after<'a>(first: &[u8], line: &'a [u8]) -> Option<Words<'a>>
 
 // the variable and the size of a request
 fn request(mut words: Words<'_>) -> Option<(u16, u32)>
-    ensures { (event : ℕ → ℕ → EventView) → IfSome result (λ x. AreRead (request_of event) words.entry (event x.0 x.1)) }
+    ensures { (event : ℕ → ℕ → EventView)
+        → IfSome result (λ x. AreRead (request_of event) words.entry (event x.0 x.1)) }
 {
     let v = variable(&mut words)?;
     let n = number(0, LARGEST_REQUEST, &mut words)?;

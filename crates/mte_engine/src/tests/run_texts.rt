@@ -68,7 +68,7 @@ const OTHER: &str = "4 fault tag granule 3 memory 2 pointer 1 in other\n";
 
 const DEAD: &str = "6 fault tag granule 1 memory 3 pointer 1 in dead\n";
 
-// From this length on a front of the trace has this sheet, lines of these accesses, these totals and this end; worked out by hand.
+// From this length on a prefix of the trace has this sheet, lines of these accesses, these totals and this end; worked out by hand.
 #[derive(Clone, Copy)]
 struct Front {
     from: usize,

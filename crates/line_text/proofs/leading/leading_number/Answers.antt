@@ -5,17 +5,17 @@ use Rattle.line_text.proofs.LeadingDigits.{ends_at, too_many}
 use Rattle.line_text.proofs.leading.leading_number.Goals as goal
 use Rattle.line_text.proofs.leading.leading_number.Goals.{else-loop-byte-test, then-loop-byte-test+then-not-is_ascii_digit}
 
-pub returns-then-end-eq-MOST_DIGITS-clause-number : goal.returns-then-end-eq-MOST_DIGITS-clause-number
-returns-then-end-eq-MOST_DIGITS-clause-number c =
+pub returns-then-end-eq-SHORT-clause-number : goal.returns-then-end-eq-SHORT-clause-number
+returns-then-end-eq-SHORT-clause-number c =
     let text = c.args.text.now in
     let i = c.loop-byte.byte-index in
     let digit = sym c.is_ascii_digit.ensures.value ∙ c.if-not-is_ascii_digit.false in
-    sym (too_many text (i + 1) (omega arith) (omega (arith, c.if-end-eq-MOST_DIGITS.true)) (digits_more text i (omega arith) digit c.loop-byte.invariant.digits))
+    sym (too_many text (i + 1) (omega arith) (omega (arith, c.if-end-eq-SHORT.true)) (digits_more text i (omega arith) digit c.loop-byte.invariant.digits))
 
 pub overflow_mul-value : goal.overflow_mul-value
 overflow_mul-value c =
     let digit = sym c.is_ascii_digit.ensures.value ∙ c.if-not-is_ascii_digit.false in
-    omega (arith, room_for_one c.args.text.now c.loop-byte.byte-index (omega arith) (omega (arith, c.if-end-eq-MOST_DIGITS.false, c.loop-byte.invariant.end, c.loop-byte.invariant.few)) digit c.loop-byte.invariant.digits)
+    omega (arith, room_for_one c.args.text.now c.loop-byte.byte-index (omega arith) (omega (arith, c.if-end-eq-SHORT.false, c.loop-byte.invariant.end, c.loop-byte.invariant.few)) digit c.loop-byte.invariant.digits)
 
 pub overflow_add-value : goal.overflow_add-value
 overflow_add-value c =
@@ -29,7 +29,7 @@ loop-byte-preserved c =
     let digit = sym c.is_ascii_digit.ensures.value ∙ c.if-not-is_ascii_digit.false in
     record {
       end = omega (arith, c.loop-byte.invariant.end);
-      few = omega (arith, c.if-end-eq-MOST_DIGITS.false, c.loop-byte.invariant.end, c.loop-byte.invariant.few);
+      few = omega (arith, c.if-end-eq-SHORT.false, c.loop-byte.invariant.end, c.loop-byte.invariant.few);
       digits = digits_more text i (omega arith) digit c.loop-byte.invariant.digits;
       value = omega (arith, one_more text i (omega arith) digit, c.from.ensures);
     }
