@@ -11,7 +11,7 @@ use class_table::MOST_CLASSES;
 use granule_memory::Memory;
 use heap_theory::laws::headers::law_header;
 
-/// Whether the bytes of a granule, which is below `granules()`, spell a header: the class is below 32, and so bits 25 to 31 of the
+/// Whether the bytes of a granule, which must be below `granules()`, spell a header: the class is below 32, and so bits 25 to 31 of the
 /// first word are 0.
 #[tactic(auto, unfolding(heap_theory::specs::Header::header_at))]
 pub fn is_header(memory: &Memory, granule: u32) -> bool
@@ -21,7 +21,7 @@ pub fn is_header(memory: &Memory, granule: u32) -> bool
     class_of(memory.word(granule, 0)) < MOST_CLASSES as u64
 }
 
-/// The header in a granule, which is below `granules()` and has one, as `is_header` tells.
+/// The header in a granule, which must be below `granules()` and hold a header (`is_header`).
 #[tactic(auto, unfolding(heap_theory::specs::Header::header_at))]
 pub fn read(memory: &Memory, granule: u32) -> Header
     requires granule { granule < length memory.now }
@@ -34,8 +34,8 @@ pub fn read(memory: &Memory, granule: u32) -> Header
     header_of(memory.word(granule, 0), memory.word(granule, 1))
 }
 
-/// Writes a header to a granule, which is below `granules()`: it is read there from then on. Its size is below 2^14, its tag
-/// below 16 and its class below 32. All tags and all other granules stay.
+/// Writes a header to a granule, which must be below `granules()`. The size must be below 2^14, the tag below 16 and the class below 32.
+/// All tags and all other granules stay the same.
 pub fn write(memory: &mut Memory, granule: u32, header: &Header)
     requires granule { granule < length memory.old }
     requires size { header.now.size < 2 ^ 14 }
@@ -52,7 +52,7 @@ pub fn write(memory: &mut Memory, granule: u32, header: &Header)
     memory.set_word(granule, 1, header.mark);
 }
 
-/// The link of the header in a granule, which is below `granules()`: a slot's number plus one, or 0.
+/// The link of the header in a granule, which must be below `granules()`: a slot's number plus one, or 0.
 #[tactic(auto, unfolding(heap_theory::specs::Header::header_at))]
 pub(crate) fn next(memory: &Memory, granule: u32) -> u32
     requires { granule < length memory.now }
@@ -61,8 +61,8 @@ pub(crate) fn next(memory: &Memory, granule: u32) -> u32
     next_of(memory.word(granule, 0))
 }
 
-/// Puts this link in place of the one of the header in a granule, which is below `granules()`. The header's other fields,
-/// all tags and all other granules stay.
+/// Sets the link of the header in a granule, which must be below `granules()`. The header's other fields, all tags and all other granules
+/// stay the same.
 pub(crate) fn set_next(memory: &mut Memory, granule: u32, next: u32)
     requires { granule < length memory.old }
     ensures written { memory.new ≡ with_next memory.old granule next }

@@ -1,5 +1,5 @@
-//! The headers of slots: how a slot stands, and its size, tag, class, link and mark, as two words in its first granule.
-//! A body that begins with the call of a law cites that law in its proof; the call does nothing.
+//! The headers of slots: a slot's state, size, tag, class, link and mark, as two words in its first granule.
+//! A body that begins with a call of a law cites that law in its proof; the call does nothing.
 #![tactic(auto)]
 
 mod granule;

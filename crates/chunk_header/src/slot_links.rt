@@ -9,7 +9,7 @@ use class_table::Layout;
 use granule_memory::Memory;
 use heap_theory::laws::headers::{law_links, law_links_in_headers};
 
-/// The link of a slot of the layout, which was made for the memory: a slot's number plus one, or 0.
+/// The link of a slot of the layout: a slot's number plus one, or 0. The layout must be the memory's.
 pub fn link(memory: &Memory, layout: &Layout, slot: u32) -> u32
     requires region { length memory.now ≡ layout.now.granules }
     requires slot { slot < slot_count layout.now }
@@ -18,7 +18,7 @@ pub fn link(memory: &Memory, layout: &Layout, slot: u32) -> u32
     next(memory, layout.start(slot))
 }
 
-/// Sets the link of a slot of the layout, which was made for the memory: to a slot's number plus one, or 0. Nothing else changes.
+/// Sets the link of a slot of the layout to a slot's number plus one, or 0. The layout must be the memory's. Nothing else changes.
 pub fn set_link(memory: &mut Memory, layout: &Layout, slot: u32, link: u32)
     requires region { length memory.old ≡ layout.now.granules }
     requires slot { slot < slot_count layout.now }
@@ -31,8 +31,8 @@ pub fn set_link(memory: &mut Memory, layout: &Layout, slot: u32, link: u32)
     set_next(memory, layout.start(slot), link);
 }
 
-/// Sets the link of a slot of the layout, which was made for the memory, to 0, and returns what it was. Nothing else changes. The
-/// slot's header granule is `start`, as `Layout::slot` tells.
+/// Sets the link of a slot of the layout to 0, and returns the link that it had. The layout must be the memory's, and `start` the slot's
+/// header granule (`Layout::slot`). Nothing else changes.
 pub fn unlink(memory: &mut Memory, layout: &Layout, slot: u32, start: u32) -> u32
     requires region { length memory.old ≡ layout.now.granules }
     requires slot { slot < slot_count layout.now }

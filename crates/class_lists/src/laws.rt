@@ -14,7 +14,7 @@ ghost use Rattle.class_lists.specs.Laws.{
 
 use heap_theory::laws::headers::{law_header, law_links, law_links_in_headers};
 
-/// From a front at most one list is shown, which has each of its slots once, and it stays under each change that leaves the
+/// From a front the links show at most one list. It has each of its slots once, and it stays the same under each change that keeps the
 /// links of its slots.
 pub fn law_lists()
     ensures empty { EndIsEmptyList }

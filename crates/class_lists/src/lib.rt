@@ -1,5 +1,5 @@
 //! The lists of freed slots, one for each class, linked through the headers of their slots: the slot freed last is first.
-//! A body that begins with the call of a law cites that law in its proof; the call does nothing.
+//! A body that begins with a call of a law cites that law in its proof; the call does nothing.
 #![tactic(auto)]
 
 pub mod laws;

@@ -13,9 +13,9 @@ use granule_memory::Memory;
 use heap_theory::laws::headers::law_links;
 use std::marker::Model;
 
-/// A list of freed slots for each class of a layout. It is seen as its fronts, by the classes' numbers: a front is the number
-/// of the list's first slot plus one, or 0 where the list is empty. Each slot's header has the link to the next one, so the
-/// lists take no memory of their own, and each call wants the memory and the layout that they belong to.
+/// A list of freed slots for each class of a layout. Contracts see it as the fronts of the lists, by the classes' numbers: a front is the
+/// number of the list's first slot plus one, or 0 if the list is empty. Each slot's header has the link to the next slot. So the lists
+/// take no memory of their own, and each call needs the memory and the layout that they belong to.
 #[derive(Debug, Drop)]
 pub struct ClassLists {
     fronts: ArrayVec<u32, MOST_CLASSES>,
@@ -42,9 +42,9 @@ impl ClassLists {
         ClassLists { fronts }
     }
 
-    /// Puts a slot in front of the list of a class, given by its number, so that it is the next one to be popped.
-    /// It is a slot of the layout that is in no list yet; that it is of that class is for the caller to know.
-    /// Its link changes, and nothing else of the memory.
+    /// Puts a slot of the layout in front of the list of a class, given by its number, so that it is the next to be popped.
+    /// The slot must be in no list. The caller has to know that it is of that class.
+    /// Of the memory only the slot's link changes.
     pub fn push(&mut self, memory: &mut Memory, layout: &Layout, class: usize, slot: u32)
         requires class { class < length self.old }
         requires slot { slot < slot_count layout.now }
@@ -65,8 +65,8 @@ impl ClassLists {
         self.set_front(class, slot + 1);
     }
 
-    /// Takes the first slot off the list of a class, given by its number, or answers `None` where the list is empty.
-    /// The link of the slot that is taken off becomes 0, and nothing else of the memory changes.
+    /// Takes the first slot off the list of a class, given by its number. `None` if the list is empty.
+    /// The slot's link becomes 0, and nothing else of the memory changes.
     pub fn pop(&mut self, memory: &mut Memory, layout: &Layout, class: usize) -> Option<u32>
         requires class { class < length self.old }
         requires front { slice_index self.old class ≤ slot_count layout.now }

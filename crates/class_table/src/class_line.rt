@@ -16,13 +16,13 @@ pub const LINE_BYTES: usize = 168;
 // the first word of a class line
 const NAME: &[u8] = b"classes";
 
-// a number that is no class, and stands for all above it
+// a number that is no class, and stands for all larger ones
 const NO_CLASS: u32 = 65_535;
 
 impl ClassTable {
     /// The table that a class line spells: `classes`, then each class in granules, with or without the newline at the end.
-    /// Refused by the first of: the first word is another, a further word is no number, or the text is not just one line (`BadLine`),
-    /// then as `from_classes` refuses the numbers.
+    /// Errors, in the order of the tests: `BadLine` if the first word is another, a further word is no number, or the text is not just one
+    /// line; then those of `from_classes` for the numbers.
     pub fn read_line(text: &[u8]) -> Result<ClassTable, TableError>
         ensures exact { Gives result (table_of text.now) }
         ensures legal { IfOk result (λ table. IsLegalTable 1 table) }
@@ -37,7 +37,7 @@ impl ClassTable {
         table_in(line)
     }
 
-    /// Writes the class line with its newline, in place of what `line` holds; `read_line` gives the table back.
+    /// Replaces what `line` holds by the class line with its newline. `read_line` reads the same table back.
     pub fn write_line(&self, line: &mut ArrayVec<u8, LINE_BYTES>)
         ensures { line.new.items ≡ ended (class_line self.now) }
     {
@@ -48,7 +48,7 @@ impl ClassTable {
     }
 }
 
-// appends bytes for which there is room
+// appends bytes, for which there must be room
 fn append(line: &mut ArrayVec<u8, LINE_BYTES>, bytes: &[u8])
     requires { length line.old.items + length bytes.now ≤ LINE_BYTES }
     ensures { line.new.items ≡ line.old.items ++ bytes.now }
@@ -103,7 +103,7 @@ fn table_of_words(words: Words<'_>) -> Result<ClassTable, TableError>
     ClassTable::from_classes(&numbers)
 }
 
-// keeps the number, or says that there is no room for it
+// appends the number, or reports that there is no room for it
 fn is_left_out(numbers: &mut ArrayVec<u16, MOST_CLASSES>, number: u16) -> bool
     ensures room { length numbers.old.items < MOST_CLASSES → (result ≡ false) × (numbers.new.items ≡ numbers.old.items ++ number ∷ []) }
     ensures full { MOST_CLASSES ≤ length numbers.old.items → (result ≡ true) × (numbers.new.items ≡ numbers.old.items) }

@@ -3,7 +3,7 @@ ghost use Rattle.class_table.specs.Shown.{shown_table_error};
 
 use std::fmt;
 
-/// What is wrong with a table or with its line, in the order in which faults are looked for. Each is shown as its code and name.
+/// What is wrong with a table or with its line, in the order of the tests. Each is shown as its code and name.
 #[derive(Debug, Clone, Copy, PartialEq, Eq)]
 pub enum TableError {
     /// The line does not begin with the word `classes`, another of its words is no number, or there is not just one line.

@@ -1,5 +1,5 @@
-//! What is true of every size, table and class line; each law is the contract of a function that does nothing.
-//! A crate above uses a law by calling its function: the call costs nothing, and its `ensures` are facts from there on.
+//! What holds for every size, table and class line. Each law is the contract of a function that does nothing.
+//! A crate above uses a law by calling its function. The call costs nothing, and its `ensures` are facts from there on.
 ghost use Rattle.class_table.specs.Laws.{
   FaultlessIsLegal,
   FaultyTextIsRefused,
@@ -19,7 +19,7 @@ ghost use Rattle.class_table.specs.Laws.{
 
 use line_text::laws::law_text;
 
-/// A class serves a request exactly where it has the granules that the request needs.
+/// A class serves a request exactly if it has the granules that the request needs.
 pub fn law_need()
     ensures { ServingIsNeed }
 {}
@@ -31,13 +31,13 @@ pub fn law_class_for()
     ensures number { NumberTellsClass }
 {}
 
-/// Classes have no fault exactly where they are a legal table.
+/// Classes have no fault exactly if they are a legal table.
 pub fn law_faults()
     ensures legal { FaultlessIsLegal }
     ensures faultless { LegalIsFaultless }
 {}
 
-/// What is read as a table is its line, and its line is read as that table.
+/// A text that is read as a table is that table's line, and the line is read as the table.
 pub fn law_class_line()
     ensures read { TableIsSpelled }
     ensures written { SpelledTableIsRead }
@@ -47,8 +47,8 @@ pub fn law_class_line()
     law_text();
 }
 
-/// The first line of a text is refused exactly where no text with that first line begins with a table, whatever follows; a missing one
-/// is a fault too. A text of a class line alone is refused at that line, or at a line that follows it.
+/// The first line of a text is refused exactly if no text with that first line begins with a table, whatever follows. A missing first
+/// line is a fault too. A text that should be one class line is refused at that line, or at the line after it.
 pub fn law_class_line_fault()
     ensures first { FirstFaultIsRefused }
     ensures missing { MissingLineIsFirstFault }

@@ -16,10 +16,10 @@ pub const FEWEST_GRANULES: u32 = 64;
 /// The most granules of a region.
 pub const MOST_GRANULES: u32 = 262_144;
 
-// the first slots of all classes, and the number of slots behind them
+// the first slots of all classes, and after them the number of slots
 const MOST_FIRSTS: usize = 33;
 
-/// Where a slot lies: its first granule, which is its header, and its class, which is the number of its granules.
+/// Where a slot lies: its first granule, which is its header, and its class, the number of its granules.
 #[derive(Clone, Copy, Debug, PartialEq, Eq)]
 pub struct Slot {
     /// Its first granule.
@@ -28,8 +28,8 @@ pub struct Slot {
     pub class: u32,
 }
 
-/// Where the slots of a region lie: each class of a table has an equal share of its granules, and as many slots in it as fit.
-/// Slots are numbered from 0 in address order; a slot's first granule is its header. It takes no memory.
+/// Where the slots of a region lie. Each class of a table has an equal share of the region's granules, and as many slots as fit there.
+/// Slots are numbered from 0 in address order. A slot's first granule is its header. A layout takes no memory.
 #[derive(Debug, Drop)]
 pub struct Layout {
     classes: ArrayVec<u32, MOST_CLASSES>,
@@ -91,7 +91,7 @@ impl Layout {
         self.classes.len()
     }
 
-    /// The number of the least class that serves a request of `n` bytes, counted from 0, or none where no class does.
+    /// The number of the least class that serves a request of `n` bytes, counted from 0. `None` if no class serves it.
     pub fn find(&self, n: u32) -> Option<usize>
         ensures number { result ≡ class_number_for self.now.classes n }
         ensures within { IfSome result (λ number. number < length self.now.classes) }
@@ -112,8 +112,8 @@ impl Layout {
         self.first_slot(self.classes())
     }
 
-    /// The number of the first slot of a class, which is given by its own number, counted from 0;
-    /// for the number of classes itself, the number of slots.
+    /// The number of the first slot of a class, given by the class's number, counted from 0. For the number of classes it is the number of
+    /// slots.
     pub fn first_slot(&self, number: usize) -> u32
         requires { number ≤ length self.now.classes }
         ensures first { result ≡ first_slot self.now number }
@@ -132,7 +132,7 @@ impl Layout {
         count_up_to(&self.firsts, slot) as usize - 1
     }
 
-    /// Where the slot of this number lies, which is below `slots()`. One call serves where both its granule and its class are wanted.
+    /// The granule and the class of the slot of this number, which must be below `slots()`.
     pub fn slot(&self, slot: u32) -> Slot
         requires { slot < slot_count self.now }
         ensures start { result.start ≡ (slot_of self.now slot).start }
@@ -158,7 +158,7 @@ impl Layout {
         self.slot(slot).start
     }
 
-    /// The bytes of a slot's block, its header among them: 16 times its class.
+    /// The bytes of a slot's block, including its header: 16 times its class.
     pub fn bytes(&self, slot: u32) -> u32
         requires { slot < slot_count self.now }
         ensures bytes { result ≡ block_bytes (slot_of self.now slot) }
@@ -167,7 +167,7 @@ impl Layout {
         GRANULE_BYTES * self.class(self.class_of(slot))
     }
 
-    /// The slot that covers a granule, or none where the granule is slack or past the region.
+    /// The slot that covers a granule. `None` if the granule is slack or past the region.
     pub fn slot_at(&self, granule: u32) -> Option<u32>
         ensures { result ≡ slot_over self.now granule }
     {
@@ -175,8 +175,7 @@ impl Layout {
         Some(slot)
     }
 
-    /// The slot that covers a granule, and how many of its granules lie before that one; none where the granule is slack or past
-    /// the region.
+    /// The slot that covers a granule, and how many of its granules lie before that one. `None` if the granule is slack or past the region.
     pub fn place_at(&self, granule: u32) -> Option<(u32, u32)>
         ensures none { IfNone result (slot_over self.now granule ≡ None) }
         ensures some { IfSome result (λ place. slot_over self.now granule ≡ Some place.0) }
@@ -200,7 +199,7 @@ impl Layout {
         }
     }
 
-    /// The bytes that a request of `n` bytes leaves unused in a block of its class; 0 where no class serves it.
+    /// The bytes that a request of `n` bytes leaves unused in a block of its class; 0 if no class serves it.
     pub fn loss(&self, n: u32) -> u32
         ensures loss { result ≡ option_map_or (loss_of n) (class_for self.now.classes n) 0 }
         ensures small { result ≤ 16368 }
@@ -229,7 +228,7 @@ impl Layout {
     }
 }
 
-// the granules of each of so many classes, which share a region
+// the granules of each class, where this many classes share a region
 fn share_of_each(classes: usize, granules: u32) -> u32
     requires { classes ≤ MOST_CLASSES }
     ensures { result ≡ granules / classes }
@@ -237,8 +236,8 @@ fn share_of_each(classes: usize, granules: u32) -> u32
     granules.checked_div(classes as u32).unwrap_or(0)
 }
 
-// How many of some ascending numbers are at most n. It looks at all of them: a search that stops early is slower, since a processor
-// can't predict where it stops.
+// How many of these ascending numbers are at most n. The loop looks at all of them: a search that stops early is slower, since a
+// processor can't predict where it stops.
 fn count_up_to(numbers: &[u32], n: u32) -> u32
     requires few { length numbers.now ≤ MOST_FIRSTS }
     requires ascending { IsNonDecreasingBy (λ number. number) numbers.now }

@@ -1,4 +1,4 @@
-//! What is true of every layout, as `laws` has it of tables: each law is the contract of a function that does nothing.
+//! What holds for every layout. Each law is the contract of a function that does nothing, as in `laws`.
 ghost use Rattle.class_table.specs.LayoutLaws.{
   LegalSlotsAreInOrder,
   OneSlotCovers,

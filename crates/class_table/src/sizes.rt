@@ -11,10 +11,10 @@ pub const SMALLEST_CLASS: u16 = 2;
 /// The largest class, in granules.
 pub const LARGEST_CLASS: u16 = 1024;
 
-/// The largest request that is counted, in bytes: what the largest class serves. A larger one is called large.
+/// The largest request that is counted, in bytes: the most that the largest class serves. A larger request is called large.
 pub const LARGEST_COUNTED: u32 = 16_368;
 
-/// The granules that a request of `n` bytes (0 to 16,368) needs, its header's among them: 2 to 1024.
+/// The granules that a request of `n` bytes (0 to 16,368) needs, including its header's: 2 to 1024.
 pub fn need(n: u32) -> u32
     requires { n ≤ LARGEST_COUNTED }
     ensures need { result ≡ need_of n }
@@ -23,14 +23,14 @@ pub fn need(n: u32) -> u32
     1 + n.div_ceil(GRANULE_BYTES).max(1)
 }
 
-/// Whether a block of a class (in granules) holds `n` bytes beside its header.
+/// Whether a block of a class (in granules) holds `n` bytes after its header.
 pub fn serves(n: u32, class: u16) -> bool
     ensures { result ≡ serves n class }
 {
     n <= (GRANULE_BYTES * u32::from(class)).saturating_sub(GRANULE_BYTES)
 }
 
-/// The bytes that a request of `n` bytes leaves unused in a block of a class (in granules) that serves it, as `serves` tells.
+/// The bytes that a request of `n` bytes leaves unused in a block of a class (in granules). The class must serve it (`serves`).
 pub fn loss(n: u32, class: u16) -> u32
     requires { IsTrue (serves n class) }
     ensures { result ≡ loss_of n class }
@@ -38,7 +38,7 @@ pub fn loss(n: u32, class: u16) -> u32
     (GRANULE_BYTES * u32::from(class)).saturating_sub(GRANULE_BYTES) - n
 }
 
-/// A need in granules (2 to 1024), rounded up to the least multiple of the step (1, 2, 4 or 8) that is not below it: at most 1024 too.
+/// A need in granules (2 to 1024), rounded up to a multiple of the step (1, 2, 4 or 8). It is at most 1024 too.
 pub fn round_up(need: u32, step: u8) -> u32
     requires need { (2 ≤ need) × (need ≤ 1024) }
     requires step { IsStep step }

@@ -28,8 +28,8 @@ impl Model for ClassTable {
 
 impl ClassTable {
     /// The table of these classes, in granules.
-    /// Refused by the first of: more than 32 of them (`TooMany`), then at the first faulty one
-    /// not from 2 to 1024 (`OutOfRange`), not above the one before it (`NotAscending`). Never `BadLine`.
+    /// Errors, in the order of the tests: `TooMany` if there are more than 32; then for the first faulty class `OutOfRange` if it is not
+    /// from 2 to 1024, otherwise `NotAscending`, since it is not above the class before it. Never `BadLine`.
     pub fn from_classes(classes: &[u16]) -> Result<ClassTable, TableError>
         ensures exact { Gives result (table_of_classes classes.now) }
         ensures legal { IfOk result (λ table. IsLegalTable 1 table) }
@@ -71,7 +71,7 @@ impl ClassTable {
         self.classes[number]
     }
 
-    /// Whether each class is a multiple of the step (1, 2, 4 or 8): whether the table is legal for blocks that come in such multiples.
+    /// Whether each class is a multiple of the step (1, 2, 4 or 8), as blocks that come in such multiples need it.
     pub fn fits(&self, step: u8) -> bool
         requires { IsStep step }
         ensures { IsTrue result ↔ FitsStep step self.now }
@@ -79,7 +79,7 @@ impl ClassTable {
         are_multiples(&self.classes, u16::from(step))
     }
 
-    /// The number of the least class that serves a request of `n` bytes, counted from 0, or none where no class does.
+    /// The number of the least class that serves a request of `n` bytes, counted from 0. `None` if no class serves it.
     pub fn find(&self, n: u32) -> Option<usize>
         ensures number { result ≡ class_number_for self.now n }
         ensures least { IfSome result (λ number. (number < length self.now) × IsLeastServing self.now n (slice_index self.now number)) }
@@ -104,7 +104,7 @@ fn are_multiples(classes: &[u16], step: u16) -> bool
     classes.iter().all(|class| class % step == 0)
 }
 
-// whether the number is no class
+// whether no class has this size
 fn is_out_of_range(class: u16) -> bool
     ensures { result ≡ is_out_of_range class }
 {

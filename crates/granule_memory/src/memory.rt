@@ -10,8 +10,8 @@ use std::marker::Model;
 // The bytes of a granule.
 const GRANULE: usize = 16;
 
-/// 64 to 262,144 granules of sixteen bytes, each with an Allocation Tag from 0 to 15, seen as their list.
-/// One region holds 17 bytes for each: the bytes of all granules, so that words are aligned, and then the tags.
+/// 64 to 262,144 granules of sixteen bytes, each with an Allocation Tag from 0 to 15. Contracts see it as the list of its granules.
+/// One region holds 17 bytes for each granule: first the bytes of all granules, so that words are aligned, then the tags.
 #[derive(Drop)]
 pub struct Memory {
     region: RawRegion,
@@ -31,8 +31,8 @@ impl Model for Memory {
 }
 
 impl Memory {
-    /// A memory of so many granules, 64 to 262,144, with all tags and bytes 0.
-    /// The only error is that the allocator has no block of 17 bytes for each.
+    /// A memory of `granules` granules, 64 to 262,144, with all tags and bytes 0.
+    /// The only error is that the allocator refuses the block of 17 bytes for each granule.
     #[tactic(auto, using(crate::proofs::Granules::granules_counted, crate::proofs::Granules::granules_fit, crate::proofs::Writes::new_is, crate::proofs::Writes::new_fits))]
     pub fn new(alloc: Global, granules: u32) -> Result<Memory, AllocError>
         requires { (64 ≤ granules) × (granules ≤ 262144) }
@@ -49,13 +49,13 @@ impl Memory {
     pub fn granules(&self) -> u32
         ensures granules { result ≡ length self.now }
 
-        // What any memory is known to be.
+        // What holds for every memory.
         ensures memory { IsMemory self.now }
     {
         self.granules
     }
 
-    /// The Allocation Tag, 0 to 15, of granule g, which is below `granules()`.
+    /// The Allocation Tag, 0 to 15, of granule `g`, which must be below `granules()`.
     #[tactic(auto, using(crate::proofs::Granules::granules_counted, crate::proofs::Granules::tag_is))]
     pub fn tag(&self, g: u32) -> u8
         requires { g < length self.now }
@@ -65,7 +65,7 @@ impl Memory {
         self.region.byte(self.place_of_tag(g))
     }
 
-    /// Gives granule g, which is below `granules()`, the Allocation Tag t, which is below 16. No byte changes.
+    /// Gives granule `g`, which must be below `granules()`, the Allocation Tag `t`, which must be below 16. No byte changes.
     pub fn set_tag(&mut self, g: u32, t: u8)
         requires granule { g < length self.old }
         requires tag { t < 16 }
@@ -77,7 +77,7 @@ impl Memory {
         self.set_tags(g, 1, t);
     }
 
-    /// Gives `count` granules from `first` on, which end at most at `granules()`, the Allocation Tag `tag`, which is below 16.
+    /// Gives `count` granules from `first` on the Allocation Tag `tag`, which must be below 16. They must end at `granules()` or before.
     /// No byte changes.
     #[tactic(auto, using(crate::proofs::Granules::granules_counted, crate::proofs::Writes::tagged_is))]
     pub fn set_tags(&mut self, first: u32, count: u32, tag: u8)
@@ -92,7 +92,7 @@ impl Memory {
         self.region.fill(place, place + count as usize, tag);
     }
 
-    /// Byte i, 0 to 15, of granule g, which is below `granules()`.
+    /// Byte `i`, 0 to 15, of granule `g`, which must be below `granules()`.
     #[tactic(auto, using(crate::proofs::Granules::granules_counted, crate::proofs::Granules::byte_is))]
     pub fn byte(&self, g: u32, i: usize) -> u8
         requires granule { g < length self.now }
@@ -102,7 +102,7 @@ impl Memory {
         self.region.byte(place_of(g) + i)
     }
 
-    /// Writes b to byte i, 0 to 15, of granule g, which is below `granules()`. No tag changes.
+    /// Writes `b` to byte `i`, 0 to 15, of granule `g`, which must be below `granules()`. No tag changes.
     #[tactic(auto, using(crate::proofs::Granules::byte_read))]
     pub fn set_byte(&mut self, g: u32, i: usize, b: u8)
         requires granule { g < length self.old }
@@ -115,7 +115,7 @@ impl Memory {
         self.write_bytes(place_of(g) + i, &[b]);
     }
 
-    /// Word i, 0 or 1, of granule g, which is below `granules()`: its bytes 8 i to 8 i + 7, the lowest first.
+    /// Word `i`, 0 or 1, of granule `g`, which must be below `granules()`: its bytes 8 i to 8 i + 7, the lowest first.
     #[tactic(auto, using(crate::proofs::Granules::granules_counted, crate::proofs::Granules::word_is))]
     pub fn word(&self, g: u32, i: usize) -> u64
         requires granule { g < length self.now }
@@ -125,7 +125,7 @@ impl Memory {
         self.region.word(place_of(g) + 8 * i)
     }
 
-    /// Writes w to word i, 0 or 1, of granule g, which is below `granules()`: its bytes 8 i to 8 i + 7, the lowest first.
+    /// Writes `w` to word `i`, 0 or 1, of granule `g`, which must be below `granules()`: its bytes 8 i to 8 i + 7, the lowest first.
     /// No tag changes.
     #[tactic(auto, using(crate::proofs::Granules::word_read))]
     pub fn set_word(&mut self, g: u32, i: usize, w: u64)
@@ -139,7 +139,7 @@ impl Memory {
         self.write_bytes(place_of(g) + 8 * i, &w.to_le_bytes());
     }
 
-    /// Writes 0 to the sixteen bytes of granule g, which is below `granules()`. No tag changes.
+    /// Sets the sixteen bytes of granule `g`, which must be below `granules()`, to 0. No tag changes.
     pub fn zero_granule(&mut self, g: u32)
         requires { g < length self.old }
         ensures written { self.new ≡ written (16 * g) (replicate 16 0) self.old }
@@ -149,8 +149,8 @@ impl Memory {
         self.write_bytes(place_of(g), &[0; GRANULE]);
     }
 
-    /// Copies the bytes from byte i of the memory on into `to`, as many as it has; granule g begins at byte 16 g.
-    /// It is for loads: a run over any number of granules is one copy. No tag is looked at: the caller has checked them.
+    /// Fills `to` with the bytes from byte `i` of the memory on; granule g begins at byte 16 g.
+    /// It serves loads: any number of granules is one copy. It checks no tag; the caller has checked them.
     #[tactic(auto, using(crate::proofs::Granules::granules_counted, crate::proofs::Granules::bytes_are))]
     pub fn read_bytes(&self, i: usize, to: &mut [u8])
         requires { i + length to.old ≤ 16 * length self.now }
@@ -159,8 +159,8 @@ impl Memory {
         self.region.read_bytes(i, to);
     }
 
-    /// Copies `bytes` to byte i of the memory on; granule g begins at byte 16 g. No tag changes.
-    /// It is for stores: a run over any number of granules is one copy. No tag is looked at: the caller has checked them.
+    /// Copies `bytes` to the bytes from byte `i` of the memory on; granule g begins at byte 16 g. No tag changes.
+    /// It serves stores: any number of granules is one copy. It checks no tag; the caller has checked them.
     #[tactic(auto, using(crate::proofs::Granules::granules_counted, crate::proofs::Writes::written_is, crate::proofs::Writes::written_reads))]
     pub fn write_bytes(&mut self, i: usize, bytes: &[u8])
         requires { i + length bytes.now ≤ 16 * length self.old }
@@ -172,7 +172,7 @@ impl Memory {
         self.region.write_bytes(i, bytes);
     }
 
-    // Where the tag of granule g lies, or past the last one the end.
+    // The place of granule g's tag in the region; for g past the last granule the end.
     #[tactic(auto, using(crate::proofs::Granules::granules_counted))]
     fn place_of_tag(&self, g: u32) -> usize
         requires { g ≤ length self.now }
@@ -182,7 +182,7 @@ impl Memory {
     }
 }
 
-// Where the bytes of granule g begin.
+// The place in the region where the bytes of granule g begin.
 fn place_of(g: u32) -> usize
     ensures { result ≡ 16 * g }
 {

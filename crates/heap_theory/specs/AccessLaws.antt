@@ -31,7 +31,7 @@ pub record IsAnswerTo (heap : Heap) (address len : ℕ) (done answer : Answer) :
 
 -- ---- one event
 
--- A load that succeeds answers the bytes that stand there,
+-- A load that succeeds gives the bytes that stand there,
 abbrev pub LoadIsAnswered : Type 0
 LoadIsAnswered =
     (replay : Replay) (v : ℕ) (off : ℤ) (len : ℕ) → 0 < len → let address = moved_by (variable replay v) off in

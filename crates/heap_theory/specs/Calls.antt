@@ -1,4 +1,4 @@
--- The calls of the heap: what each makes of it, and what it answers.
+-- The calls of the heap: how each changes it, and what each returns.
 use Rattle.std.specs.Prelude.{ℕ, ◌+◌, ◌-◌, ◌*◌, ◌^◌, ◌%◌, min, Bool, false, ◌==◌, if◌then◌else◌, List, replicate, bit_or, slice_set, Result, Ok, Err}
 use Rattle.std.specs.Result.{result_map_both}
 use Rattle.machine_theory.specs.Instructions.{drawn_tag}
@@ -75,7 +75,7 @@ moved heap chunk s n = freed (with_payload (given_out heap s n) s (payload_bytes
 
 -- ---- the calls
 
--- what a call leaves, and what it answers
+-- the heap after a call, and the call's result
 pub record Step (A : Type 0) : Type 0 where
   pub heap : Heap
   pub answer : A
@@ -88,7 +88,7 @@ abbrev pub malloc_with : Heap → ℕ → Result ℕ NullCause → Step (Result 
 malloc_with heap n (Ok s) = record { heap = given_out heap s n; answer = Ok (pointer_to (given_out heap s n) s) }
 malloc_with heap n (Err cause) = refusal heap cause
 
--- A chunk of n bytes; its bytes are as they were.
+-- A chunk of n bytes; its bytes keep their values.
 unfoldable pub malloc_step : Heap → ℕ → Step (Result ℕ NullCause)
 malloc_step heap n = malloc_with heap n (slot_for_request heap n)
 

@@ -77,7 +77,7 @@ abbrev pub SlotHeaderFits : Type 0
 SlotHeaderFits =
     (heap : Heap) (s next : ℕ) → IsSoundHeap heap → IsSlot heap s → next < 2 ^ 32 → heap.total < 2 ^ 64 → FitsWords (header_for heap s next)
 
--- Layout, slots, total and limit tell every word of every header: its link too, since they tell each list and its order.
+-- Layout, slots, total and limit determine every word of every header: its link too, since they determine each list and its order.
 abbrev pub SlotsTellHeaderWords : Type 0
 SlotsTellHeaderWords = (heap other : Heap) → HaveSameSlots heap other → HeaderWordsStay heap other
 
@@ -119,7 +119,7 @@ LastSlotEnds =
 abbrev pub PutInFront : Type 0
 PutInFront = (next : ℕ → ℕ) (front s : ℕ) (list : List ℕ) → next s ≡ front → IsLinked next front list → IsLinked next (suc s) (s ∷ list)
 
--- and behind a list by the link of the last slot.
+-- and at the end of a list by the link of the last slot.
 abbrev pub PutBehind : Type 0
 PutBehind =
     (next new : ℕ → ℕ) (front last s : ℕ) (list : List ℕ) → IsLinked next front list → last_link list ≡ suc last →

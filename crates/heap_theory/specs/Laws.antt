@@ -48,7 +48,7 @@ abbrev pub WritingKeepsSound : Type 0
 WritingKeepsSound =
     (heap : Heap) (i : ℕ) (bytes : List ℕ) → IsSoundHeap heap → IsSoundHeap (record heap { memory = written i bytes heap.memory })
 
--- So does each call, whatever it answers.
+-- So does each call, whatever its result.
 pub record CallsKeepSound (heap : Heap) : Type 0 where
   pub malloc : (n : ℕ) → IsSoundHeap (malloc_step heap n).heap
   pub calloc : (n : ℕ) → IsSoundHeap (calloc_step heap n).heap
@@ -181,7 +181,7 @@ QueueHasNoListedSlot =
 
 -- ---- events and answers
 
--- A load or a store whose access is a fault answers it, and the store changes nothing.
+-- A load or a store whose access faults reports that fault, and the store changes nothing.
 abbrev pub FaultsAreAnswered : Type 0
 FaultsAreAnswered =
     (replay : Replay) (v : ℕ) (off : ℤ) (len byte : ℕ) → IsSome (access_fault replay.heap.memory (moved_by (variable replay v) off) len) →

@@ -33,7 +33,7 @@ error_word Misplaced = codes "misplaced"
 error_word NotLive = codes "not-live"
 error_word WrongTag = codes "wrong-tag"
 
--- the words behind an event's number; none where it has no line
+-- the words after an event's number; none if it has no line
 abbrev pub answer_words : Answer → List (List ℕ)
 answer_words Silent = []
 answer_words (Loaded bytes) = codes "data" ∷ flat_map hex bytes ∷ []

@@ -1,4 +1,4 @@
--- The run of a trace over 1,024 variables: what each event does, and what it answers.
+-- The run of a trace over 1,024 variables: what each event does, and its result.
 use Rattle.std.specs.Prelude.{ℕ, List, [], ◌∷◌, length, replicate, fold, slice_set, slice_index, Option, Some, None, Result, Ok, Err}
 use Rattle.std.specs.Result.{result_unwrap_or}
 use Rattle.machine_theory.specs.declared.fault.Fault.{Fault}
@@ -23,7 +23,7 @@ pub record Replay : Type 0 where
   pub heap : Heap
   pub variables : List ℕ
 
--- what an event answers; nothing is shown of a silent one
+-- the result of an event; a silent one has no line in the report
 pub data Answer : Type 0 where
   Silent : Answer
   Loaded : List ℕ → Answer
@@ -69,7 +69,7 @@ variables_after replay (Subg v w u6 u4) = slice_set replay.variables v (subg (va
 unfoldable pub replay_after : Replay → Event → Replay
 replay_after replay event = record { heap = heap_after replay event; variables = variables_after replay event }
 
--- ---- what it answers
+-- ---- its result
 
 -- an access meets no Alignment fault
 abbrev pub fault_answer : Heap → Fault → Answer
@@ -116,7 +116,7 @@ answer_of replay (Subg v w u6 u4) = Silent
 unfoldable pub first_replay : Partition → ℕ → ℕ → Replay
 first_replay layout seed quarantine = record { heap = first_heap layout seed quarantine; variables = replicate 1024 0 }
 
--- The answers of events, one after the other.
+-- The results of events, one after the other.
 unfoldable pub answers : Replay → List Event → List Answer
 answers replay [] = []
 answers replay (event ∷ events) = answer_of replay event ∷ answers (replay_after replay event) events

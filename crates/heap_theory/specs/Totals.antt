@@ -90,7 +90,7 @@ loss_of_event classes p = if is_silent p.1 then loss_of_request classes (request
 
 -- ---- counts and sums
 
--- Over the events and their answers.
+-- Over the events and their results.
 unfoldable pub totals_of : List ℕ → List (Event × Answer) → Totals
 totals_of classes happened = record {
   events = length happened;

@@ -1,6 +1,6 @@
 use thiserror::Error;
 
-/// Why a request is given no slot, in the order in which that is looked for; each is shown as its code and name.
+/// Why a request gets no slot, in the order of the tests. Each is shown as its code and name.
 #[derive(Debug, Clone, Copy, PartialEq, Eq, Error)]
 pub enum NullCause {
     /// The request is larger than 16,368 bytes.
@@ -9,12 +9,12 @@ pub enum NullCause {
     /// No class of the table serves the request.
     #[error("61 NoClass")]
     NoClass,
-    /// The class has no fresh slot, and no freed one that the quarantine has let go.
+    /// The class has no fresh slot, and no freed slot outside the quarantine.
     #[error("62 Exhausted")]
     Exhausted,
 }
 
-/// Why a pointer is not freed, in the order in which that is looked for; each is shown as its code and name.
+/// Why a pointer is not freed, in the order of the tests. Each is shown as its code and name.
 #[derive(Debug, Clone, Copy, PartialEq, Eq, Error)]
 pub enum FreeError {
     /// Bits 63 to 60 of the pointer are not 0, or its place is not the first payload byte of a slot.
@@ -23,18 +23,18 @@ pub enum FreeError {
     /// The slot is not live.
     #[error("64 NotLive")]
     NotLive,
-    /// The pointer's tag is not the tag that the slot was last given out with.
+    /// The pointer's tag is not that of the slot's chunk.
     #[error("65 WrongTag")]
     WrongTag,
 }
 
-/// Why a chunk is not resized; each is shown as its code and name.
+/// Why a chunk is not resized. Each is shown as its code and name.
 #[derive(Debug, Clone, Copy, PartialEq, Eq, Error)]
 pub enum ReallocError {
     /// The pointer names no live chunk.
     #[error(transparent)]
     Refused(FreeError),
-    /// The new size is given no slot.
+    /// The new size gets no slot.
     #[error(transparent)]
     Null(NullCause),
 }

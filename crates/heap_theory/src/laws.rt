@@ -1,5 +1,5 @@
-//! What is true of the heap's definitions, each law the contract of a function that does nothing.
-//! A crate above uses a law by calling its function: the call costs nothing, and its `ensures` are facts from there on.
+//! What holds for the heap's definitions. Each law is the contract of a function that does nothing.
+//! A crate above uses a law by calling its function. The call costs nothing, and its `ensures` are facts from there on.
 ghost use Rattle.heap_theory.specs.Below.{LawsBelow};
 
 pub mod booking;

@@ -1,5 +1,5 @@
 //! The theory of the hardened heap: its state and calls, the run of a trace with its report, header words and the lists linked
-//! through them (in `specs/`), and their laws. Its types are the events of a trace and the heap's answers; it computes nothing.
+//! through them (in `specs/`), and their laws. Its types are the events of a trace and the heap's results. It computes nothing.
 #![tactic(auto)]
 
 mod event;

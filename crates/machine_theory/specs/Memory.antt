@@ -59,7 +59,7 @@ each_granule change memory = map (λ g. change g (granule_at memory g)) (range_w
 abbrev pub is_among : ℕ → ℕ → ℕ → Bool
 is_among first count n = nat_le first n && nat_lt n (first + count)
 
--- the memory in which `count` granules from `first` on have the tag, and all else is as it was
+-- the memory in which `count` granules from `first` on have the tag, and all else is the same
 unfoldable pub tagged : ℕ → ℕ → ℕ → List Granule → List Granule
 tagged first count tag memory = each_granule (λ g granule. if is_among first count g then record granule { tag = tag } else granule) memory
 
@@ -71,6 +71,6 @@ byte_after i new j old = if is_among i (length new) j then slice_index new (j - 
 abbrev pub bytes_after : ℕ → List ℕ → ℕ → List ℕ → List ℕ
 bytes_after i new g bytes = map (λ k. byte_after i new (16 * g + k) (slice_index bytes k)) (range_with_len 0 (length bytes))
 
--- the memory in which `new` stands from byte i on, and all else is as it was
+-- the memory in which `new` stands from byte i on, and all else is the same
 unfoldable pub written : ℕ → List ℕ → List Granule → List Granule
 written i new memory = each_granule (λ g granule. record granule { bytes = bytes_after i new g granule.bytes }) memory

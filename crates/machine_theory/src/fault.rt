@@ -1,6 +1,6 @@
 use thiserror::Error;
 
-/// Why an access or a tag instruction is refused; each is shown as its code and name.
+/// Why an access or a tag instruction faults. Each is shown as its code and name.
 #[derive(Debug, Clone, Copy, PartialEq, Eq, Error)]
 pub enum Fault {
     /// Part of the access lies outside the region, or bits 63 to 60 of its address are not 0.

@@ -1,4 +1,4 @@
-//! What is true of the machine's definitions, each law the contract of a function that does nothing.
+//! What holds for the machine's definitions. Each law is the contract of a function that does nothing.
 
 pub mod access;
 pub mod addresses;

@@ -12,10 +12,10 @@ use crate::streams::{ByteSink, ByteSource};
 use potential_check::{Verdict, check as verdict_on};
 use std::alloc::{AllocError, Global};
 
-/// Reads a sheet and then a profile, and writes `optimal`, or `refused CODE NAME` with the status of a no: the first refusal (39 to 47) that the
-/// sheet gets for the profile. Where it writes `optimal`, no table of at most the sheet's limit of classes that fit its step, and that serves each
-/// counted size, wastes less.
-/// The sheet is the first three lines, or four where the third begins with `step`, and all directly after them whose first word is `row`.
+/// Reads a sheet and then a profile. It writes `optimal`, or `refused CODE NAME` with the status of a no: the first refusal (39 to 47) of the
+/// sheet for the profile. `optimal` means that no table wastes less, of all tables that have at most the sheet's limit of classes, all of
+/// them multiples of its step, and that serve each counted size.
+/// The sheet is the first three lines, or four if the third begins with `step`, and all lines directly after them whose first word is `row`.
 ///
 /// Faults: an input that is too long, then the sheet's, then the profile's (`Input`); a failed read (`ReadFault`); out of memory
 /// (`OutOfMemory`): the sink took nothing then. A failed write (`WriteFault`): then the sink took a prefix of the text.
@@ -59,7 +59,7 @@ fn check_text(alloc: Global, text: &[u8]) -> Result<(Vec<u8>, Status), AnswerErr
     Ok(answer_for(alloc, verdict)?)
 }
 
-// what is written of a verdict
+// the text and the status of a verdict
 fn answer_for(alloc: Global, verdict: Verdict) -> Result<(Vec<u8>, Status), AllocError>
     ensures { IfOk result (λ answered. record { text = answered.0.items; status = answered.1 } ≡ verdict_text verdict) }
 {

@@ -1,4 +1,4 @@
-//! An engine reads a whole input, answers it, and then writes the answer.
+//! An engine reads a whole input, works out its answer, and then writes the answer.
 ghost use Rattle.std.specs.Prelude.{[], IfOk, List, ℕ, Result};
 ghost use Rattle.mte_engine.specs.declared.fault.InputFault.{InputFault as Refusal};
 ghost use Rattle.mte_engine.specs.Outcome.{Answer, GivesAnswer, IsReady, Runs};
@@ -10,12 +10,12 @@ use crate::output::Output;
 use crate::streams::{ByteSink, ByteSource};
 use std::alloc::{AllocError, Global};
 
-/// How an engine ended that wrote its whole text.
+/// How an engine ended after it wrote its whole text.
 #[derive(Debug, Clone, Copy, PartialEq, Eq)]
 pub enum Status {
-    /// It is done.
+    /// Done.
     Done,
-    /// It is done, and the verdict is no.
+    /// Done, and the verdict is no.
     No,
 }
 
@@ -28,11 +28,11 @@ pub trait Engine {
     // What may be written for an input, with its status, or reported as its first fault.
     ghost answers: { Self → List ℕ → Result Answer Refusal → Type 0 };
 
-    /// An input that has taken nothing yet.
+    /// An input that has taken no bytes.
     fn input(&self, alloc: Global) -> Result<Self::Input, AllocError>
         ensures { IfOk result (λ input. Self.Input.has_taken input []) };
 
-    /// The answer to the whole input, or its first fault. What comes after this call can't run out of memory.
+    /// The answer to the whole input, or its first fault. After this call the engine takes no more memory.
     fn answer(
         &self,
         alloc: Global,
@@ -42,7 +42,7 @@ pub trait Engine {
             GivesAnswer Self.Output.rest (answers self.now bytes) result };
 }
 
-/// Reads the whole input, and writes the engine's answer to it and nothing else.
+/// Reads the whole input, and writes the engine's answer to it.
 pub fn run_engine<E: Engine, R: ByteSource, W: ByteSink>(
     alloc: Global,
     engine: &E,

@@ -13,11 +13,11 @@ use std::alloc::{AllocError, AllocFailed};
 use std::fmt;
 use trace_reader::TraceFault;
 
-/// What is wrong with the bytes of an input. Each is shown as its code and name, and its line where it has one; lines are counted from
-/// the input's first line, which is 1.
+/// What is wrong with the bytes of an input. Each is shown as its code, its name and, if it has one, its line. The input's first line is
+/// line 1.
 #[derive(Debug, Clone, Copy, PartialEq, Eq)]
 pub enum InputFault {
-    /// There are more than 67,108,864 bytes. It comes before every fault of the text.
+    /// The input has more than 67,108,864 bytes. This comes before every fault of the text.
     TooLong,
     /// The class line, which is the first line, is faulty.
     Table(TableError),
@@ -45,7 +45,7 @@ impl fmt::Display for InputFault {
 
 impl std::error::Error for InputFault {}
 
-/// Why an engine did not finish. Each is shown as its code and name, and its line where it has one.
+/// Why an engine did not finish. Each is shown as its code, its name and, if it has one, its line.
 #[derive(Debug, Clone, Copy, PartialEq, Eq)]
 pub enum ToolFault {
     /// The allocator refused memory.
@@ -73,7 +73,7 @@ impl fmt::Display for ToolFault {
 
 impl std::error::Error for ToolFault {}
 
-/// Why the reading loop did not come to the end of an input.
+/// Why the reading loop did not reach the end of an input.
 #[derive(Debug, Clone, Copy, PartialEq, Eq)]
 pub enum ReadError {
     /// The allocator refused memory.

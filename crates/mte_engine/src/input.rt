@@ -1,9 +1,9 @@
-//! What an engine keeps of its input while that is read.
+//! What an engine keeps of its input while it reads.
 ghost use Rattle.std.specs.Prelude.{◌≡◌, ◌++◌, [], List, ℕ, OnOk};
 
 use std::alloc::{AllocError, Global};
 
-/// Takes the bytes of an input, in pieces of any size. A fault of the text is kept until the whole input was taken.
+/// Takes the bytes of an input, in pieces of any size. It keeps a fault of the text until it has taken the whole input.
 pub trait Input: Drop {
     // These are the bytes that it took so far, in whatever pieces.
     ghost has_taken: { Self → List ℕ → Type 0 };

@@ -1,4 +1,4 @@
-//! What is true of every answer of an engine; each law is the contract of a function that does nothing.
+//! What holds for every answer of an engine. Each law is the contract of a function that does nothing.
 ghost use Rattle.mte_engine.specs.Laws.{RunHasOneAnswer, TuneHasOneAnswer, TunedRunIsHeadline};
 ghost use Rattle.mte_engine.specs.Laws.{CheckRefusesTheProfileAtItsFirstFault, FaultIsShownWithItsLine};
 ghost use Rattle.mte_engine.specs.Laws.{ReplayRefusesTheFirstLine, ScoreRefusesAtTheFirstFault, TuneRefusesAtTheFirstFault};
@@ -11,7 +11,7 @@ use line_text::laws::law_lines;
 use potential_check::laws::law_sheet_text;
 use profile_count::laws::{law_profile_fault, law_profile_text, law_waste_of_sizes};
 
-/// A sheet that is tuned for the profile of a trace, and then the report on the replay over that sheet's table, are what the headline says.
+/// The headline holds for a sheet that is tuned for the profile of a trace, followed by the report on the replay over that sheet's table.
 pub fn law_headline()
     ensures { TunedRunIsHeadline }
 {
@@ -28,8 +28,8 @@ pub fn law_one_answer()
     law_one_sheet();
 }
 
-/// A fault in a class line is shown with the line of the input's first fault, and so is one in a profile, which is the whole input or
-/// comes after a class line or a sheet. Some input of that kind begins with the lines before it, and none with the lines up to it.
+/// A fault in a class line or in a profile is shown with the line of the input's first fault. The profile is the whole input, or follows a
+/// class line or a sheet. Some input of that kind begins with the lines before that line, and none with the lines up to it.
 pub fn law_fault_lines()
     ensures shown { FaultIsShownWithItsLine }
     ensures score { ScoreRefusesAtTheFirstFault }

@@ -1,9 +1,9 @@
-//! A source and a sink over memory. Either can be told to fail at a call, and to move few bytes at a time.
+//! A source and a sink over memory. Either can be set to fail at a call, and to move few bytes at a time.
 ghost use Rattle.std.specs.Prelude.{◌≡◌, ◌↔◌, ◌+◌, ℕ, Some, None, IsTrue};
 
 use crate::streams::{ByteSink, ByteSource, Failure};
 
-/// Gives the bytes of a slice.
+/// The source over a slice.
 #[derive(Drop)]
 pub struct MemorySource<'a> {
     /// The bytes that are still to come.
@@ -39,7 +39,7 @@ impl<'a> ByteSource for MemorySource<'a> {
     }
 }
 
-/// Keeps the bytes that it takes in a vector.
+/// The sink into a vector.
 #[derive(Drop)]
 pub struct MemorySink {
     /// What was taken.

@@ -11,11 +11,11 @@ use std::alloc::{AllocError, Global};
 /// The most bytes of an input.
 pub const MOST_INPUT: usize = 67_108_864;
 
-// how many bytes a read is asked for
+// the bytes that one read may give
 const PIECE: usize = 65_536;
 
-/// Hands all bytes of the source to the input; there may be 67,108,864. Each turn takes at least one byte, ends or fails, so it returns
-/// for a source that never ends too.
+/// Passes all bytes of the source to the input, at most 67,108,864. Each turn takes at least one byte, ends or fails; so the call returns
+/// even for a source that never ends.
 pub fn read_all<R: ByteSource, I: Input>(
     alloc: Global,
     source: &mut R,
@@ -51,7 +51,7 @@ fn new_piece(alloc: Global) -> Result<Vec<u8>, AllocError>
     vec![in alloc; 0u8; PIECE]
 }
 
-/// Writes all that the output hands out. It takes no memory.
+/// Writes all pieces of the output. It takes no memory.
 pub fn write_all<O: Output, W: ByteSink>(output: &mut O, sink: &mut W) -> Result<(), Failure>
     requires { (W.state sink.old).failed < 2 ^ 63 }
     ensures { HasWritten (O.rest output.old) (W.state sink.old) (W.state sink.new) result }

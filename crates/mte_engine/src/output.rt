@@ -1,26 +1,26 @@
-//! What an engine writes, handed out in pieces.
+//! What an engine writes, piece by piece.
 ghost use Rattle.std.specs.Prelude.{◌≡◌, ◌≤◌, ◌++◌, List, ℕ, [], drop, length};
 
-/// Hands out a text in pieces. It takes no memory.
+/// A text in pieces. It takes no memory.
 pub trait Output: Drop {
     // All bytes that are still to come, and the first of them that are ready.
     ghost rest: { Self → List ℕ };
 
     ghost ready: { Self → List ℕ };
 
-    /// The bytes that are ready to be written, at least one where any are still to come.
+    /// The bytes that are ready to be written. There is at least one unless the text has ended.
     fn piece(&self) -> &[u8]
         ensures ready { result.now ≡ ready self.now }
         ensures first { (later : List ℕ) × (rest self.now ≡ ready self.now ++ later) }
         ensures some { ready self.now ≡ [] → rest self.now ≡ [] };
 
-    /// Leaves out the first `n` of the bytes that are ready: they were written.
+    /// Drops the first `n` of the bytes that are ready, after they were written.
     fn advance(&mut self, n: usize)
         requires { n ≤ length (ready self.old) }
         ensures { rest self.new ≡ drop n (rest self.old) };
 }
 
-/// A text that stands in memory.
+/// A text in memory.
 #[derive(Debug, Drop)]
 pub struct Text {
     text: Vec<u8>,

@@ -1,4 +1,4 @@
-//! The parts that inputs are made of, read with the input's line numbers.
+//! The parts of inputs, read with the input's line numbers.
 ghost use Rattle.std.specs.Prelude.{◌≡◌, ◌^◌, ◌<◌, length, Ok, Err, IfOk, MatchResult};
 ghost use Rattle.line_text.specs.Lines.{IsLine, lines};
 ghost use Rattle.class_table.specs.ClassLine.{table_of_line};
@@ -16,7 +16,7 @@ use potential_check::{LeadingSheet, SheetError, read_leading_sheet};
 use profile_count::{Profile, ProfileError};
 use std::alloc::Global;
 
-/// The table that the first line of an input spells; the line is handed in without its newline.
+/// The table that the first line of an input spells. `line` is that line without its newline.
 pub fn read_table(line: &[u8]) -> Result<ClassTable, AnswerError>
     requires { IsLine line.now }
     ensures { GivesPart result (table_part (table_of_line line.now)) }
@@ -28,7 +28,7 @@ pub fn read_table(line: &[u8]) -> Result<ClassTable, AnswerError>
     }
 }
 
-/// The sheet with which an input begins, and the text after it.
+/// The sheet at the start of an input, and the text after it.
 pub fn read_leading(alloc: Global, text: &[u8]) -> Result<LeadingSheet<'_>, AnswerError>
     ensures sheet { MatchResult result
         (λ leading. sheet_part (sheet_of_lines (leading_lines (lines text.now))) ≡ Ok (sheet_of leading.sheet))
@@ -43,7 +43,7 @@ pub fn read_leading(alloc: Global, text: &[u8]) -> Result<LeadingSheet<'_>, Answ
     }
 }
 
-/// The profile that a text spells. The text comes after so many lines of the input.
+/// The profile that a text spells. The text follows this many lines of the input.
 pub fn read_profile(alloc: Global, text: &[u8], lines: u64) -> Result<Profile, AnswerError>
     requires { lines < 2 ^ 63 }
     ensures { GivesPart result (profile_part lines (profile_of text.now)) }

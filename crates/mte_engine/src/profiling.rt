@@ -17,8 +17,8 @@ use std::alloc::{AllocError, Global};
 use trace_reader::TraceReader;
 use trace_reader::laws::{law_pieces, law_trace_text};
 
-/// Reads a trace, and writes the profile of its requests: how often each size was requested by a malloc, a calloc or a realloc, whether a
-/// replay refuses it or not. It keeps no more of the trace than the events of one piece and the unfinished line.
+/// Reads a trace, and writes the profile of its requests: how often each size was requested by a malloc, a calloc or a realloc, also where
+/// a replay would refuse it. Of the trace it keeps no more than the events of one piece and the unfinished line.
 ///
 /// Faults: an input that is too long, then the first faulty line of the trace (`Input`); a failed read (`ReadFault`); out of memory
 /// (`OutOfMemory`): the sink took nothing then. A failed write (`WriteFault`): then the sink took a prefix of the text.

@@ -12,11 +12,11 @@ use replay_core::{Config, LINE_BYTES, Replay, TOTALS_BYTES};
 use std::alloc::{AllocError, Global};
 use trace_reader::TraceReader;
 
-// how many bytes of the report stand ready at a time, at most
+// the most bytes of the report that are ready at a time
 const BUFFER: usize = 65_536;
 
-/// A text, and then the report on the events that wait in a reader: a line for each that has one, and the totals. The events are replayed
-/// as their lines are written.
+/// A text, and then the report on the events in a reader: a line for each event that has one, and the totals. It replays the events as
+/// their lines are written.
 #[derive(Drop)]
 pub struct Report {
     replay: Replay,
@@ -33,8 +33,8 @@ pub struct Report {
 impl Report {
     ghost use Rattle.mte_engine.specs.Reported.{text_left};
 
-    /// This text, and then the report on the events that wait in the reader, on a new heap over the table. It takes all memory that it
-    /// will want; the only error is that the allocator refuses it.
+    /// This text, and then the report on the events in the reader, on a new heap over the table. The call takes all memory that the report
+    /// will need; the only error is that the allocator refuses it.
     pub fn new(
         alloc: Global,
         table: &ClassTable,
@@ -83,8 +83,8 @@ impl Output for Report {
     }
 }
 
-// Replays events and appends their lines to the buffer, until it is full or all are replayed. Then it appends the totals too, and the report
-// is whole. The room in the buffer is enough, so this takes no memory.
+// Replays events and appends their lines to the buffer, until the buffer is full or all events are replayed. After the last event it
+// appends the totals. The buffer has room for all of this, so the call takes no memory.
 fn fill(replay: &mut Replay, reader: &mut TraceReader, buffer: &mut Vec<u8>) -> bool
     requires few { replay.old.totals.events + length reader.old.events ≤ 2 ^ 40 }
     requires room { vec_len buffer.old + 65536 ≤ vec_capacity buffer.old }
@@ -107,7 +107,7 @@ fn fill(replay: &mut Replay, reader: &mut TraceReader, buffer: &mut Vec<u8>) -> 
     false
 }
 
-// appends the totals, for which there is room
+// appends the totals, for which there must be room
 fn append_totals(replay: &Replay, buffer: &mut Vec<u8>)
     requires { vec_len buffer.old + 512 ≤ vec_capacity buffer.old }
     ensures items { buffer.new.items ≡ buffer.old.items ++ totals_text replay.now.totals }
@@ -118,7 +118,7 @@ fn append_totals(replay: &Replay, buffer: &mut Vec<u8>)
     append(buffer, &totals);
 }
 
-// appends bytes for which there is room
+// appends bytes, for which there must be room
 fn append(buffer: &mut Vec<u8>, bytes: &[u8])
     requires { vec_len buffer.old + length bytes.now ≤ vec_capacity buffer.old }
     ensures items { buffer.new.items ≡ buffer.old.items ++ bytes.now }

@@ -22,9 +22,9 @@ use std::alloc::{AllocError, Global};
 use trace_reader::TraceReader;
 use trace_reader::laws::law_pieces;
 
-/// Reads a trace, and writes two things: the sheet that `tune` writes for the trace's profile, and then the report that `replay` writes on the
-/// trace with that sheet's table. So the table is legal for `step`, has at most `limit` classes and serves every counted request; its waste
-/// is the sum of the bytes lost by rounding; no such table wastes less; and the report is the tagged machine's.
+/// Reads a trace, and writes two things: the sheet that `tune` writes for the trace's profile, and then the report that `replay` writes on
+/// the trace with that sheet's table. So the table is legal for `step`, has at most `limit` classes and serves every counted request. Its
+/// waste is the sum of the bytes lost by rounding, and no such table wastes less. The report is the tagged machine's.
 ///
 /// `limit` is 1 to 32 classes, `step` is 1, 2, 4 or 8 granules. `config` sets up the heap: 64 to 262,144 granules, a seed other than 0, a
 /// quarantine of 0 to 4,194,304 bytes.

@@ -5,7 +5,7 @@ ghost use Rattle.std.specs.Prelude.{◌≡◌};
 use crate::streams::{ByteSink, ByteSource, Failure};
 use std::io::{Read, Write};
 
-/// Gives what a reader gives.
+/// The source over a reader.
 #[derive(Drop)]
 pub struct StreamSource<R> {
     reader: R,
@@ -14,7 +14,7 @@ pub struct StreamSource<R> {
 }
 
 impl<R> StreamSource<R> {
-    /// A source that was not read yet.
+    /// A source that nobody has read.
     pub fn new(reader: R) -> StreamSource<R>
         ensures reads { result.reads ≡ 0 }
         ensures failed { result.failed ≡ 0 }
@@ -47,7 +47,7 @@ impl<R: Read> ByteSource for StreamSource<R> {
     }
 }
 
-/// Hands on what it takes to a writer.
+/// The sink over a writer.
 #[derive(Drop)]
 pub struct StreamSink<W> {
     writer: W,

@@ -1,4 +1,4 @@
-//! Where bytes come from and where they go.
+//! Sources and sinks of bytes.
 ghost use Rattle.std.specs.Prelude.{◌≡◌, ◌+◌, ◌^◌, ◌<◌, ◌≤◌, length, IfOk};
 ghost use Rattle.std.specs.Io.KnownBytes.{ReadConsumes, WriteAppends};
 ghost use Rattle.mte_engine.specs.Streams.{SinkState, SourceState, failed_reads, failed_writes};
@@ -7,7 +7,7 @@ ghost use Rattle.mte_engine.specs.Streams.{SinkState, SourceState, failed_reads,
 #[derive(Debug, Clone, Copy, PartialEq, Eq)]
 pub struct Failure;
 
-/// Gives bytes, and counts its calls.
+/// A source of bytes, which counts its calls.
 pub trait ByteSource {
     // The bytes that are still to come, where the source knows them, how often it was read, and how many reads failed.
     ghost state: { Self → SourceState };
@@ -16,7 +16,7 @@ pub trait ByteSource {
     fn failures(&self) -> u64
         ensures { result ≡ (state self.now).failed };
 
-    /// Puts bytes at the start of `buf`, and returns how many: 0 at the end. A failed read gives no bytes.
+    /// Fills the first bytes of `buf`, and returns how many: 0 at the end. A failed read gives no bytes.
     fn read(&mut self, buf: &mut [u8]) -> Result<usize, Failure>
         requires { (state self.old).failed < 2 ^ 63 }
         ensures bound { IfOk result (λ n. n ≤ length buf.new) }
@@ -25,7 +25,7 @@ pub trait ByteSource {
         ensures counted { (state self.old).reads < 2 ^ 63 → (state self.new).reads ≡ (state self.old).reads + 1 };
 }
 
-/// Takes bytes, and counts its failed calls.
+/// A sink of bytes, which counts its failed calls.
 pub trait ByteSink {
     // The bytes taken so far, where the sink knows them, and how many writes failed.
     ghost state: { Self → SinkState };
@@ -34,8 +34,8 @@ pub trait ByteSink {
     fn failures(&self) -> u64
         ensures { result ≡ (state self.now).failed };
 
-    /// Takes bytes from the start of `bytes`, and returns how many. A failed write takes none. One that takes none of at least one byte
-    /// counts as failed.
+    /// Takes the first bytes of `bytes`, and returns how many. A failed write takes none. A write that takes none of at least one byte has
+    /// failed.
     fn write(&mut self, bytes: &[u8]) -> Result<usize, Failure>
         requires { (state self.old).failed < 2 ^ 63 }
         ensures bound { IfOk result (λ n. n ≤ length bytes.now) }

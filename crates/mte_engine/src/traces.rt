@@ -25,7 +25,7 @@ pub fn feed(reader: &mut TraceReader, piece: &[u8]) -> Result<(), AllocError>
     }
 }
 
-/// Takes the end of a trace that comes after so many lines of its input.
+/// Ends a trace that follows this many lines of its input.
 pub fn end(reader: &mut TraceReader, lines: u64) -> Result<(), AnswerError>
     requires open { is_finished reader.old ≡ false }
     requires few { lines < 2 ^ 63 }
@@ -43,7 +43,7 @@ pub fn end(reader: &mut TraceReader, lines: u64) -> Result<(), AnswerError>
     }
 }
 
-/// Takes the events that wait out of the reader, and counts what they request.
+/// Takes all events out of the reader, and counts what they request.
 pub fn count_out(reader: &mut TraceReader, profile: &mut Profile)
     ensures state { reader.new ≡ record { events = []; state = reader.old.state } }
     ensures counted { (sizes : List ℕ) → length sizes + length reader.old.events ≤ 1000000 → profile.old ≡ profile_of_sizes sizes →
@@ -54,7 +54,7 @@ pub fn count_out(reader: &mut TraceReader, profile: &mut Profile)
     }
 }
 
-/// The profile of what these events request, of which there are few enough for any count.
+/// The profile of what these events request. There must be few enough of them for any count.
 pub fn count_all(alloc: Global, events: &VecDeque<Event>) -> Result<Profile, AllocError>
     requires { length events.now.items ≤ 1000000 }
     ensures { IfOk result (λ profile. profile ≡ profile_of_events events.now.items) }

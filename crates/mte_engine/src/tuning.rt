@@ -14,8 +14,9 @@ use class_tuner::tune as tuned;
 use potential_check::write_sheet;
 use std::alloc::{AllocError, Global};
 
-/// Reads a profile, and writes the sheet of its table of least waste: of the tables of at most `limit` (1 to 32) classes that are multiples of
-/// `step` (1, 2, 4 or 8 granules) and serve each counted size, the canonical best one, with the least rests as its certificate.
+/// Reads a profile, and writes the sheet of its table of least waste. Of all tables that have at most `limit` (1 to 32) classes, all of them
+/// multiples of `step` (1, 2, 4 or 8 granules), and that serve each counted size, it is the canonical best one. The sheet's certificate is
+/// the least rests.
 ///
 /// Faults: an input that is too long, then the profile's (`Input`); a failed read (`ReadFault`); out of memory (`OutOfMemory`): the sink took
 /// nothing then. A failed write (`WriteFault`): then the sink took a prefix of the text.

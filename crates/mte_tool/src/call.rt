@@ -24,7 +24,7 @@ pub enum Call {
     Run(Run),
 }
 
-/// The call that is meant by what clap found in the words. The error is `BadOption`, where no command takes these options.
+/// The call that clap's matches mean. `BadOption` if the command refuses the options.
 pub fn call_of(matches: &ArgMatches<'_>) -> Result<Call, OptionFault>
     ensures { MatchResult result
         (IsCall (subcommand_rows_of matches.now))

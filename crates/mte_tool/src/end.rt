@@ -22,12 +22,12 @@ pub enum End {
     Shown,
     /// It refused its words.
     Refused,
-    /// A command ended so, or failed before it began.
+    /// A command ended like this, or failed before it began.
     Ended(Result<Status, ToolFault>),
 }
 
 impl End {
-    /// The exit status: 0 done, 1 a verdict of no, 2 refused words or input, 3 no memory or a failed read or write.
+    /// The exit status: 0 done, 1 a verdict of no, 2 refused words or input, 3 out of memory or a failed read or write.
     pub fn status(self) -> u8
         ensures { result ≡ status_of self }
     {

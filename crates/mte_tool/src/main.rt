@@ -1,5 +1,5 @@
-//! `mte_tool`: size-class tables, and a heap with memory tags, on what a program really allocates. The program over the engines of
-//! `mte_engine`: its words, the standard streams, and its exit status.
+//! `mte_tool`: size-class tables, and a heap with memory tags, on what a program really allocates. This crate is the program over the
+//! engines of `mte_engine`: its words, the standard streams, and its exit status.
 #![tactic(auto)]
 
 mod call;

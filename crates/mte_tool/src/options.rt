@@ -18,13 +18,13 @@ const STEP: &str = "step";
 // the granules of the heap's region
 const GRANULES: &str = "granules";
 
-// what the random tags begin with
+// the seed of the random tags
 const SEED: &str = "seed";
 
-// the bytes of freed blocks that are held back from reuse
+// the limit of the quarantine, in bytes
 const QUARANTINE: &str = "quarantine";
 
-/// The option for the most classes, 1 to 32. It may not be left out.
+/// The option for the most classes, 1 to 32. It is required.
 pub fn limit<'a>(alloc: Global) -> Arg<'a>
     ensures { IsOption result limit_rule }
 {
@@ -36,7 +36,7 @@ pub fn limit<'a>(alloc: Global) -> Arg<'a>
         .help("The most classes that the table may have, 1 to 32")
 }
 
-/// The option for the step, 1 to 8. It is 1 where it is left out.
+/// The option for the step, 1 to 8. The default is 1.
 pub fn step<'a>(alloc: Global) -> Arg<'a>
     ensures { IsOption result step_rule }
 {
@@ -48,7 +48,7 @@ pub fn step<'a>(alloc: Global) -> Arg<'a>
         .help("Each class is a multiple of so many granules: 1, 2, 4 or 8")
 }
 
-/// The option for the heap's size in granules, 64 to 262144. It is 65536 where it is left out.
+/// The option for the heap's size in granules, 64 to 262144. The default is 65536.
 pub fn granules<'a>(alloc: Global) -> Arg<'a>
     ensures { IsOption result granules_rule }
 {
@@ -60,7 +60,7 @@ pub fn granules<'a>(alloc: Global) -> Arg<'a>
         .help("The granules of the heap's region, 64 to 262144")
 }
 
-/// The option for the seed of the random tags, 1 to 65535. It is 1 where it is left out.
+/// The option for the seed of the random tags, 1 to 65535. The default is 1.
 pub fn seed<'a>(alloc: Global) -> Arg<'a>
     ensures { IsOption result seed_rule }
 {
@@ -72,7 +72,7 @@ pub fn seed<'a>(alloc: Global) -> Arg<'a>
         .help("What the random tags begin with, 1 to 65535")
 }
 
-/// The option for the bytes of the quarantine, 0 to 4194304. It is 65536 where it is left out.
+/// The option for the limit of the quarantine in bytes, 0 to 4194304. The default is 65536.
 pub fn quarantine<'a>(alloc: Global) -> Arg<'a>
     ensures { IsOption result quarantine_rule }
 {
@@ -84,7 +84,7 @@ pub fn quarantine<'a>(alloc: Global) -> Arg<'a>
         .help("Bytes of freed blocks held back from reuse, 0 to 4194304")
 }
 
-/// The most classes that the options allow. The error is `BadOption`, where there is no such number from 1 to 32.
+/// The most classes that the options allow. `BadOption` if they name no number from 1 to 32.
 pub fn limit_of(options: &ArgMatches<'_>) -> Result<u8, OptionFault>
     ensures { IsRead (HasLimit (rows_of (found_of options.now))) result }
 {
@@ -94,7 +94,7 @@ pub fn limit_of(options: &ArgMatches<'_>) -> Result<u8, OptionFault>
     }
 }
 
-/// The step of the options. The error is `BadOption`, where it is not 1, 2, 4 or 8.
+/// The step of the options. `BadOption` if it is not 1, 2, 4 or 8.
 pub fn step_of(options: &ArgMatches<'_>) -> Result<u8, OptionFault>
     ensures { IsRead (HasStep (rows_of (found_of options.now))) result }
 {
@@ -105,7 +105,7 @@ pub fn step_of(options: &ArgMatches<'_>) -> Result<u8, OptionFault>
     }
 }
 
-/// How the options set the heap up. The error is `BadOption`, where one of them is not in its range.
+/// The heap's configuration by the options. `BadOption` if one of them is outside its range.
 pub fn config_of(options: &ArgMatches<'_>) -> Result<Config, OptionFault>
     ensures { MatchResult result
         (HasConfig (rows_of (found_of options.now)))
@@ -127,7 +127,7 @@ fn seed_of(options: &ArgMatches<'_>) -> Result<u16, OptionFault>
     }
 }
 
-// the number of an option, which has to be within these bounds
+// the number of an option, which must be within these bounds
 fn number_in(
     options: &ArgMatches<'_>,
     name: &str,

@@ -19,8 +19,8 @@ const WAITS: &str =
 
 const TIP: &str = "tip: the input is standard input, and no file is named: mte_tool COMMAND < FILE";
 
-/// Runs the program on the words of its command line, from standard input to standard output, and prints why it does not finish on
-/// standard error. Before it reads standard input from a terminal it says there that it waits.
+/// Runs the program on the words of its command line, from standard input to standard output. If it does not finish, it prints why on
+/// standard error. Before it reads standard input from a terminal, it says on standard error that it waits.
 pub fn run<R: Env + AllocGlobal + Input + Print + Eprint>(rt: &R, at_terminal: bool) -> End {
     let words = match words(rt) {
         Ok(words) => words,
@@ -59,7 +59,7 @@ fn finish<R: Eprint>(rt: &R, end: Result<Status, ToolFault>) -> End
     End::Ended(end)
 }
 
-// prints why no command is run, or the help that was asked for
+// prints why no command runs, or the help that was asked for
 fn refuse<R: Print + Eprint>(rt: &R, refusal: &Refusal) -> End
     ensures { IsRefusedEnd refusal.now result }
 {

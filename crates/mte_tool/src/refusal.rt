@@ -1,4 +1,4 @@
-//! Why nothing is run.
+//! Why the program runs no command.
 ghost use Rattle.std.specs.Prelude.{◌≡◌, Some};
 ghost use Rattle.mte_tool.specs.Words.{IsFromClap, shown_option_fault};
 ghost use Rattle.mte_tool.specs.declared.refusal.Refusal.TheVariants.{OutOfMemory, Options};
@@ -7,7 +7,7 @@ use clap::error::ErrorKind;
 use std::alloc::AllocError;
 use std::fmt;
 
-/// What is wrong with options that each by themselves are in their range. It is shown as its code and name.
+/// What is wrong with options that are each in their range. It is shown as its code and name.
 #[derive(Debug, Clone, Copy, PartialEq, Eq)]
 pub enum OptionFault {
     /// A step that is not 1, 2, 4 or 8.
@@ -26,14 +26,14 @@ impl fmt::Display for OptionFault {
 
 impl std::error::Error for OptionFault {}
 
-/// Why the words of the command line are run by no command.
+/// Why no command runs the words of the command line.
 #[derive(Debug, Drop)]
 pub enum Refusal {
     /// The allocator refused memory.
     OutOfMemory,
-    /// They are not the program's words, or they ask for help or the version.
+    /// The words are not the program's, or they ask for help or the version.
     Words(clap::Error),
-    /// They are the program's words, but no command takes its options together.
+    /// The words are the program's, but the command refuses the options together.
     Options(OptionFault),
 }
 

@@ -51,7 +51,7 @@ pub fn command<'a>(alloc: Global) -> Result<Command<'a>, AllocError>
         .subcommand(run::words(alloc)?)
 }
 
-/// The call that these words mean, of which the first is the program's name.
+/// The call that these words mean. The first word is the program's name.
 pub fn read_call(alloc: Global, words: &[String]) -> Result<Call, Refusal>
     ensures { MatchResult result (Mean (map string_bytes words.now)) (AreRefused (map string_bytes words.now)) }
 {
@@ -59,8 +59,8 @@ pub fn read_call(alloc: Global, words: &[String]) -> Result<Call, Refusal>
     Ok(call_of(&matches)?)
 }
 
-/// Runs the call that these words mean, of which the first is the program's name. The error is why no call is run: the
-/// words mean none, or memory was refused; then source and sink are the values that they were.
+/// Runs the call that these words mean. The first word is the program's name. The error says why no call ran: the words mean none, or the
+/// allocator refused memory. After an error source and sink are unchanged.
 pub fn run_words<R: ByteSource, W: ByteSink>(
     alloc: Global,
     words: &[String],

@@ -1,4 +1,4 @@
-//! What is known of the slots of any layout.
+//! What holds for the slots of every layout.
 ghost use Rattle.class_table.specs.Layout.{slot_count};
 ghost use Rattle.quarantine_core.specs.Queue.{bytes_of};
 ghost use Rattle.std.specs.Prelude.{◌≢◌, ◌<◌, ◌≤◌, ◌^◌, AllPairs, Contains, List, ℕ};
@@ -6,7 +6,7 @@ ghost use Rattle.std.specs.Prelude.{◌≢◌, ◌<◌, ◌≤◌, ◌^◌, AllP
 use class_table::Layout;
 use class_table::layout_laws::law_layout;
 
-/// What is known of any layout: it has few slots, and their blocks have no more than 2^31 bytes together.
+/// Every layout has few slots, and their blocks have at most 2^31 bytes together.
 pub(crate) fn blocks_are_few(layout: &Layout)
     ensures slots { slot_count layout.now ≤ 131072 }
     ensures bytes { (slots : List ℕ) → ((s : ℕ) → Contains slots s → s < slot_count layout.now) → AllPairs (λ s r. s ≢ r) slots → bytes_of layout.now slots ≤ 2 ^ 31 }

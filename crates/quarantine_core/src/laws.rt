@@ -1,5 +1,5 @@
-//! What is true of the quarantine's queue, each law the contract of a function that does nothing.
-//! A crate above uses a law by calling its function: the call costs nothing, and its `ensures` are facts from there on.
+//! What holds for the quarantine's queue. Each law is the contract of a function that does nothing.
+//! A crate above uses a law by calling its function. The call costs nothing, and its `ensures` are facts from there on.
 ghost use Rattle.quarantine_core.specs.QueueLaws.{
   NothingIsQueued,
   OneQueueIsShown,
@@ -13,7 +13,7 @@ ghost use Rattle.quarantine_core.specs.QueueLaws.{
 
 use heap_theory::laws::headers::{law_header, law_links, law_links_in_headers};
 
-/// The links show one queue, which ends, and it stays under each change that leaves the links of its slots.
+/// The links show one queue, and it ends. It stays the same under each change that keeps the links of its slots.
 pub fn law_queue()
     ensures empty { NothingIsQueued }
     ensures one { OneQueueIsShown }

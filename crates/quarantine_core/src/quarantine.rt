@@ -18,11 +18,11 @@ use granule_memory::Memory;
 use heap_theory::laws::headers::law_links;
 use std::marker::Model;
 
-/// Freed slots that are held back, oldest first, with the bytes of their blocks. Their queue stands in the slots' own headers: each
-/// one's link names the slot that was put in after it, and the last one's is 0. It takes no memory, and no call walks the
-/// queue.
+/// Freed slots that are held back, oldest first, and the bytes of their blocks. The queue stands in the slots' own headers: each slot's
+/// link names the slot that was put in next, and the last slot's link is 0. The quarantine takes no memory of its own, and no call walks
+/// the queue.
 ///
-/// Each call wants the memory and the layout whose headers the links stand in; the layout was made for the memory's granules.
+/// Each call needs the memory whose headers hold the links, and its layout.
 #[derive(Debug, Drop)]
 pub struct Quarantine {
     front: u32,
@@ -40,7 +40,7 @@ impl Model for Quarantine {
 }
 
 impl Quarantine {
-    /// A quarantine of no slots of a layout, which lets go of none while the blocks in it have at most `limit` bytes.
+    /// An empty quarantine. It releases nothing until its blocks exceed `limit` bytes.
     pub fn new(_layout: &Layout, limit: u32) -> Quarantine
         ensures value { result ≡ record { front = 0; back = 0; held = 0; limit = limit } }
         ensures queued { (memory : List Granule) → AreQueued result _layout.now memory [] }
@@ -60,8 +60,8 @@ impl Quarantine {
         self.held
     }
 
-    /// Puts a slot of the layout in, behind all others; its block has so many bytes. It is not in it yet, and its link is 0.
-    /// Of the memory only the link of the slot that was put in before it changes.
+    /// Puts a slot of the layout in, after all others. Its block has `bytes` bytes. The slot must not be in the quarantine, and its link must
+    /// be 0. Of the memory only the link of the slot that was put in before it changes.
     pub fn put(&mut self, memory: &mut Memory, layout: &Layout, slot: u32, bytes: u32)
         requires region { length memory.old ≡ layout.now.granules }
         requires linked { LinksStand self.old layout.now memory.old }
@@ -73,7 +73,7 @@ impl Quarantine {
         ensures linked { LinksStand self.new layout.now memory.new }
         ensures value { self.new ≡ with_newest self.old slot bytes }
 
-        // what changes of the memory
+        // what changes in the memory
         ensures first { self.old.back ≡ 0 → memory.new ≡ memory.old }
         ensures behind { (last : ℕ) → self.old.back ≡ suc last → SetsLink layout.now memory.old memory.new last (suc slot) }
         ensures lists { (front : ℕ) (list : List ℕ) → ((s : ℕ) → Contains list s → s < slot_count layout.now) → ((s : ℕ) → Contains list s → self.old.back ≢ suc s) →
@@ -91,19 +91,19 @@ impl Quarantine {
         self.held += u64::from(bytes);
     }
 
-    /// Takes the slot off that was put in first, exactly where the blocks have more bytes than the limit; else it gives none and changes
-    /// nothing. Of the memory only the slot's own link changes: it is 0 from then on.
+    /// Takes off the slot that was put in first, if the blocks exceed the limit. Otherwise it returns `None` and changes nothing. Of the
+    /// memory only the slot's own link changes: it becomes 0.
     pub fn next_out(&mut self, memory: &mut Memory, layout: &Layout) -> Option<u32>
         requires region { length memory.old ≡ layout.now.granules }
         requires linked { LinksStand self.old layout.now memory.old }
         ensures over { IsSome result ↔ (self.old.limit < self.old.held) }
         ensures linked { LinksStand self.new layout.now memory.new }
 
-        // nothing is let go
+        // no slot leaves
         ensures same { IfNone result (self.new ≡ self.old) }
         ensures untouched { IfNone result (memory.new ≡ memory.old) }
 
-        // the oldest is
+        // the oldest slot leaves
         ensures slot { IfSome result (λ slot. slot < slot_count layout.now) }
         ensures oldest { IfSome result (λ slot. (queue : List ℕ) → AreQueued self.old layout.now memory.old queue → queue ≡ slot ∷ drop 1 queue) }
         ensures queued { IfSome
@@ -123,7 +123,7 @@ impl Quarantine {
         Some(self.take_oldest(memory, layout))
     }
 
-    // takes the slot off that was put in first, where some bytes are held
+    // takes off the slot that was put in first, if the quarantine holds any bytes
     fn take_oldest(&mut self, memory: &mut Memory, layout: &Layout) -> u32
         requires region { length memory.old ≡ layout.now.granules }
         requires linked { LinksStand self.old layout.now memory.old }

@@ -1,4 +1,4 @@
-//! Bytes behind one raw pointer: a block of memory that its owner reads and writes as a list of bytes.
+//! One block of memory, reached through one raw pointer, that its owner reads and writes as a list of bytes.
 #![tactic(auto)]
 
 mod region;

@@ -8,7 +8,7 @@ use crate::zeros::write_zeros;
 use std::alloc::{AllocError, Allocator, Global};
 use std::marker::Model;
 
-/// A block of 1 to 2^30 bytes, seen as their list. It has the block from its allocator. Dropping it gives the block back, at most once.
+/// A block of 1 to 2^30 bytes from the allocator. Contracts see it as the list of its bytes. Dropping it frees the block, at most once.
 pub struct RawRegion {
     ptr: *mut u8,
     len: usize,
@@ -28,8 +28,8 @@ impl Model for RawRegion {
     ghost also_shares = { λ r _ κ. region_lends r.ptr r.len r.bytes κ };
 }
 
-// It is proved that the block is freed at most once, and not touched afterwards. That it is freed at all rests on this body:
-// a derived `Drop`, which lets the block go, would be proved too.
+// The proof says that the block is freed at most once and not touched afterwards. That it is freed at all rests on this body:
+// a derived `Drop`, which never frees the block, would be proved too.
 impl Drop for RawRegion {
     fn drop(self) {
         let RawRegion { ptr, len, alloc } = self;
@@ -40,7 +40,7 @@ impl Drop for RawRegion {
 impl RawRegion {
     ghost use Rattle.raw_region.specs.Lending.{LendsBytes};
 
-    /// A region of `len` bytes, 1 to 2^30, which are all 0. The only error is that the allocator has no such block.
+    /// A region of `len` bytes, 1 to 2^30, all of them 0. The only error is that the allocator refuses the block.
     pub fn new(alloc: Global, len: usize) -> Result<RawRegion, AllocError>
         requires { (1 ≤ len) × (len ≤ 2 ^ 30) }
         ensures len { IfOk result (λ region. length region ≡ len) }
@@ -60,13 +60,13 @@ impl RawRegion {
         ensures len { result ≡ length self.now }
         ensures range { (1 ≤ result) × (result ≤ 2 ^ 30) }
 
-        // What any region is known to be: its bytes are bytes.
+        // What holds for every region: its bytes are bytes.
         ensures bytes { All (λ byte. byte < 2 ^ 8) self.now }
     {
         self.as_slice().len()
     }
 
-    /// The byte at place i, which is below the length.
+    /// The byte at place `i`, which must be below the length.
     pub fn byte(&self, i: usize) -> u8
         requires { i < length self.now }
         ensures { result ≡ slice_index self.now i }
@@ -74,7 +74,7 @@ impl RawRegion {
         self.as_slice()[i]
     }
 
-    /// Writes b to place i, which is below the length.
+    /// Writes `b` to place `i`, which must be below the length.
     pub fn set_byte(&mut self, i: usize, b: u8)
         requires { i < length self.old }
         ensures { self.new ≡ slice_set self.old i b }
@@ -82,7 +82,7 @@ impl RawRegion {
         self.as_mut_slice()[i] = b;
     }
 
-    /// The word at place i: the eight bytes from there on, the lowest first. It may lie at any place that has eight bytes.
+    /// The word at place `i`: the eight bytes from there on, the lowest first. The word needs no alignment, but must end within the length.
     #[tactic(auto, unfolding(crate::specs::Bytes::word_at))]
     pub fn word(&self, i: usize) -> u64
         requires { i + 8 ≤ length self.now }
@@ -102,7 +102,7 @@ impl RawRegion {
         ])
     }
 
-    /// Writes w to place i: the eight bytes from there on, the lowest first. It may lie at any place that has eight bytes.
+    /// Writes the word `w` to place `i`: eight bytes, the lowest first. The word needs no alignment, but must end within the length.
     #[tactic(auto, unfolding(crate::specs::Bytes::word_at))]
     pub fn set_word(&mut self, i: usize, w: u64)
         requires { i + 8 ≤ length self.old }
@@ -113,7 +113,7 @@ impl RawRegion {
         self.write_bytes(i, &w.to_le_bytes());
     }
 
-    /// Writes b to each place from `from` on and below `to`, which is at most the length.
+    /// Writes `b` to each place from `from` to `to - 1`. `to` must be at most the length.
     pub fn fill(&mut self, from: usize, to: usize, b: u8)
         requires { (from ≤ to) × (to ≤ length self.old) }
         ensures bytes { self.new ≡ with_bytes self.old from (replicate (to - from) b) }
@@ -122,7 +122,7 @@ impl RawRegion {
         self.as_mut_slice()[from..to].fill(b);
     }
 
-    /// Copies the bytes from place i on into `to`, as many as it has: a run in one copy.
+    /// Fills `to` with the bytes from place `i` on, in one copy.
     pub fn read_bytes(&self, i: usize, to: &mut [u8])
         requires { i + length to.old ≤ length self.now }
         ensures { to.new ≡ slice_range self.now i (i + length to.old) }
@@ -130,7 +130,7 @@ impl RawRegion {
         to.copy_from_slice(&self.as_slice()[i..i + to.len()]);
     }
 
-    /// Copies `bytes` to place i on: a run in one copy.
+    /// Copies `bytes` to the places from `i` on, in one copy.
     pub fn write_bytes(&mut self, i: usize, bytes: &[u8])
         requires { i + length bytes.now ≤ length self.old }
         ensures bytes { self.new ≡ with_bytes self.old i bytes.now }

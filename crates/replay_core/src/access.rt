@@ -14,14 +14,14 @@ use tagged_heap::Heap;
 /// The most bytes of an access.
 pub(crate) const MOST_BYTES: usize = 64;
 
-// The address so many bytes behind another one, modulo 2^64.
+// The address `off` bytes after another one, modulo 2^64.
 pub(crate) fn moved_by(address: u64, off: i32) -> u64
     ensures { result ≡ moved_by address off }
 {
     address.wrapping_add_signed(i64::from(off))
 }
 
-// Loads `len` bytes into the front of `bytes`; the address is tagged, or the access not mapped.
+// Loads `len` bytes into the first bytes of `bytes`. The address must have a tag, or the access must not be mapped.
 pub(crate) fn load(heap: &Heap, address: u64, len: u8, bytes: &mut [u8; MOST_BYTES]) -> Answer
     requires len { (1 ≤ len) × (len ≤ 64) }
     requires tagged { (logical_tag address ≢ 0) ⊎ IsFalse (is_mapped (length heap.now.state.memory) address len) }
@@ -35,7 +35,7 @@ pub(crate) fn load(heap: &Heap, address: u64, len: u8, bytes: &mut [u8; MOST_BYT
     }
 }
 
-// Stores `len` bytes of this value; the address is tagged, or the access not mapped.
+// Stores `len` bytes of this value. The address must have a tag, or the access must not be mapped.
 #[tactic(auto, unfolding(heap_theory::specs::Run::store_step))]
 pub(crate) fn store(heap: &mut Heap, address: u64, len: u8, byte: u8) -> Answer
     requires len { (1 ≤ len) × (len ≤ 64) }
@@ -52,7 +52,7 @@ pub(crate) fn store(heap: &mut Heap, address: u64, len: u8, byte: u8) -> Answer
     }
 }
 
-// What a fault answers; an access meets no Alignment fault.
+// The answer of a fault. An access meets no Alignment fault.
 fn fault_answer(heap: &Heap, fault: Fault) -> Answer
     ensures answer { (bytes : List ℕ) → shown bytes result ≡ fault_answer heap.now.state fault }
     ensures filled { IsFilled result }

@@ -1,9 +1,9 @@
 use heap_theory::{FreeError, NullCause, PlaceKind};
 
-/// What an event answers. The bytes of a load stand in a buffer beside it.
+/// The result of an event. A buffer beside it holds the bytes of a load.
 #[derive(Clone, Copy)]
 pub(crate) enum Answer {
-    /// Nothing is shown of the event.
+    /// The report has no line for the event.
     Silent,
     /// The first `len` bytes of the buffer were loaded.
     Loaded {
@@ -11,15 +11,15 @@ pub(crate) enum Answer {
     },
     /// An access was not mapped.
     NotMapped,
-    /// An access touches a granule with another tag than its pointer.
+    /// An access touches a granule whose tag differs from its pointer's.
     TagFault {
         granule: u32,
         memory_tag: u8,
         pointer_tag: u8,
         kind: PlaceKind,
     },
-    /// A request was given null.
+    /// A request got null.
     NoPointer(NullCause),
-    /// A pointer names no live chunk.
+    /// A free or a realloc was refused: its pointer names no live chunk.
     NotFreed(FreeError),
 }

@@ -1,5 +1,5 @@
-//! What is true of every replay, each law the contract of a call that does nothing; and the laws of whole runs, from `heap_theory`.
-//! A `Replay` is what is stored of some run (`law_reached`), so these hold of it.
+//! What holds for every replay. Each law is the contract of a call that does nothing. The laws of whole runs come from `heap_theory`. A
+//! `Replay` is what is stored of some run (`law_reached`), so they hold for it.
 ghost use Rattle.replay_core.specs.Stored.{IsStored, LinesOfNone, LinesOfOneMore, ReportIsLinesAndTotals, StepsAreEvents, StoredOfNone, StoredOfOneMore};
 
 use crate::laws_below::laws_below;
@@ -10,8 +10,8 @@ pub use heap_theory::laws::hardening::{
 };
 pub use heap_theory::laws::run::{law_faults, law_run, law_states, law_totals};
 
-/// What is stored of the run of no events, and of one event more than before: so steps from a new replay on give what is stored of the run of
-/// all their events.
+/// What is stored of the run of no events, and of a run with one more event. So steps from a new replay on give what is stored of the run
+/// of all their events.
 pub fn law_stored()
     ensures none { StoredOfNone }
     ensures one_more { StoredOfOneMore }
@@ -20,8 +20,8 @@ pub fn law_stored()
     laws_below();
 }
 
-/// What is stored before an event tells its line of the report, and what is stored of all events the lines of totals: so the lines that steps
-/// from a new replay on write, and then its totals, are the report.
+/// What is stored before an event determines its line of the report, and what is stored after all events determines the lines of totals.
+/// So the lines that steps from a new replay on write, and then its totals, are the report.
 pub fn law_report()
     ensures none { LinesOfNone }
     ensures one_more { LinesOfOneMore }

@@ -13,8 +13,8 @@ use crate::text::{append, append_hex, append_number};
 use arrayvec::ArrayVec;
 use heap_theory::{FreeError, NullCause, PlaceKind};
 
-// Writes the line of the event of this number with its newline, or nothing where it has none, in place of what `line` holds. What was
-// loaded stands in `bytes`.
+// Replaces what `line` holds by the line of the event of this number with its newline, or by nothing if the event has no line. `bytes`
+// holds what was loaded.
 #[tactic(auto, unfolding(heap_theory::specs::Report::report_line))]
 pub(crate) fn write_line(
     line: &mut ArrayVec<u8, LINE_BYTES>,

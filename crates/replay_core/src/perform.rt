@@ -12,7 +12,7 @@ use crate::laws_below::laws_below;
 use heap_theory::{Event, NullCause, ReallocError};
 use tagged_heap::Heap;
 
-// Lets the event happen. What is loaded stands at the front of `bytes`.
+// Performs the event. A load fills the first bytes of `bytes`.
 #[tactic(auto, unfolding(heap_theory::specs::Run::heap_after, heap_theory::specs::Run::variables_after, heap_theory::specs::Run::answer_of))]
 pub(crate) fn perform(
     heap: &mut Heap,
@@ -54,7 +54,7 @@ pub(crate) fn perform(
     }
 }
 
-// Sets a variable to the pointer that it was given, or to null.
+// Sets a variable to the pointer that the request got, or to null.
 fn give(variables: &mut [u64], v: u16, given: Result<u64, NullCause>) -> Answer
     requires { v < length variables.old }
     ensures variables { variables.new ≡ slice_set variables.old v (result_unwrap_or given 0) }
@@ -73,7 +73,7 @@ fn give(variables: &mut [u64], v: u16, given: Result<u64, NullCause>) -> Answer
     }
 }
 
-// Resizes the chunk at a variable, and sets the variable to its new address; it stays where that is refused.
+// Resizes the chunk at a variable, and sets the variable to its new address. If the heap refuses, the variable keeps its value.
 fn reallocate(heap: &mut Heap, variables: &mut [u64], v: u16, n: u32) -> Answer
     requires variable { v < length variables.old }
     requires few { heap.old.frees < 2 ^ 48 }

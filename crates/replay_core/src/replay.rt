@@ -25,7 +25,7 @@ pub(crate) const VARIABLES: usize = 1024;
 
 /// The replay of a trace: a heap, and the 1,024 variables that the events of the trace set and use.
 ///
-/// It is seen as what is stored of a run of the definitions: heap state, variables and totals.
+/// Contracts see it as what is stored of a run of the definitions: heap state, variables and totals.
 #[derive(Drop)]
 pub struct Replay {
     pub(crate) heap: Heap,
@@ -46,8 +46,8 @@ impl Model for Replay {
 }
 
 impl Replay {
-    /// A replay in which nothing has happened yet: a new heap over the classes of a table, and all variables null, which is 0. The only error
-    /// is that the allocator has no block for the heap or for the variables. No other call takes memory.
+    /// A replay before its first event: a new heap over the classes of a table, with all variables null, which is 0. The only error is that
+    /// the allocator refuses the block for the heap or the one for the variables. No other call takes memory.
     pub fn new(alloc: Global, table: &ClassTable, config: Config) -> Result<Replay, AllocError>
         requires granules { (64 ≤ config.granules) × (config.granules ≤ 262144) }
         requires seed { config.seed ≢ 0 }
@@ -67,8 +67,8 @@ impl Replay {
         })
     }
 
-    /// Lets the event happen, and writes its report line with its newline in place of what `line` holds, or nothing where it has none. The
-    /// event's numbers are in their ranges, and there were fewer than 2^40 steps so far, as `steps` tells.
+    /// Performs the event, and replaces what `line` holds by its report line with its newline, or by nothing if it has none. The event's
+    /// numbers must be in their ranges (`Event`), and there must have been fewer than 2^40 steps (`steps`).
     pub fn step(&mut self, event: &Event, line: &mut ArrayVec<u8, LINE_BYTES>)
         requires few { self.old.totals.events < 2 ^ 40 }
         requires in_range { IsInRange event.now }
@@ -83,7 +83,7 @@ impl Replay {
         write_line(line, self.totals.events, &answer, &bytes);
     }
 
-    /// How many events have happened.
+    /// How many events were performed.
     pub fn steps(&self) -> u64
         ensures { result ≡ self.now.totals.events }
     {

@@ -22,21 +22,21 @@ pub const TOTALS_BYTES: usize = 512;
 pub struct Totals {
     /// All events.
     pub events: u64,
-    /// The requests, whatever they are answered.
+    /// The requests, whatever their results.
     pub requests: u64,
-    /// The requests that were given null since they are of more than 16,368 bytes.
+    /// The requests that got null since they are of more than 16,368 bytes.
     pub null_large: u64,
-    /// The requests that were given null since no class serves them.
+    /// The requests that got null since no class serves them.
     pub null_no_class: u64,
-    /// The requests that were given null since their class had no slot left.
+    /// The requests that got null since their class had no slot left.
     pub null_exhausted: u64,
-    /// The mapped accesses that touched a granule with another tag than their pointer.
+    /// The mapped accesses that touched a granule whose tag differs from their pointer's.
     pub faults_tag: u64,
     /// The accesses that were not mapped.
     pub faults_unmapped: u64,
     /// The frees and reallocs of a pointer that is not null and names no live chunk.
     pub refused_frees: u64,
-    /// The bytes that the requests which were given or kept a chunk leave unused in blocks of their classes.
+    /// The bytes that requests left unused in blocks of their classes, over all requests that got or kept a chunk.
     pub loss: u64,
 }
 
@@ -53,7 +53,7 @@ impl Totals {
         loss: 0,
     };
 
-    /// Writes the nine lines of totals, in place of what `text` holds: each the name of a field, in words, and its number.
+    /// Replaces what `text` holds by the nine lines of totals: each the name of a field, in words, and its number.
     pub fn write(&self, text: &mut ArrayVec<u8, TOTALS_BYTES>)
         ensures { text.new.items ≡ totals_text (totals_in self.now) }
     {
@@ -69,7 +69,7 @@ impl Totals {
         append_total(text, b"loss", self.loss);
     }
 
-    // Counts one event more on a heap, with its answer.
+    // Counts one more event on a heap, by its answer.
     pub(crate) fn count(&mut self, heap: &Heap, event: &Event, answer: &Answer)
         requires few { self.old.events < 2 ^ 40 }
         requires bounded { AreBounded (totals_in self.old) }
@@ -99,7 +99,7 @@ impl Totals {
         }
     }
 
-    // Counts a request of this size, if there was one, and what is lost on it where it was not refused.
+    // Counts a request of this size, if there was one, and what it loses if it was not refused.
     fn count_request(&mut self, heap: &Heap, size: Option<u32>, answer: &Answer)
         requires few { self.old.requests ≤ 2 ^ 40 }
         requires small { self.old.loss ≤ 16368 * 2 ^ 40 }
@@ -117,7 +117,7 @@ impl Totals {
 }
 
 impl Replay {
-    /// What was counted over the events that have happened.
+    /// The counts over the events so far.
     pub fn totals(&self) -> Totals
         ensures { totals_in result ≡ self.now.totals }
     {

@@ -2,10 +2,10 @@
 ghost use Rattle.machine_theory.specs.Address.{aligned, byte_of, granule_of, logical_tag, place_of, region_start, with_tag};
 ghost use Rattle.std.specs.Prelude.{◌≡◌, ◌+◌, ◌-◌, ◌*◌, ◌<◌, ◌≤◌};
 
-/// The place at which the region begins: granule 0 lies there.
+/// The place where the region, and with it granule 0, begins.
 pub const REGION_START: u64 = 1 << 36;
 
-/// How far the tag lies above bit 0 of an address.
+/// The lowest bit of the tag in an address.
 const TAG_SHIFT: u32 = 56;
 
 /// The bytes of a granule.
@@ -26,7 +26,7 @@ pub fn place_of(address: u64) -> u64
     address & ((1 << TAG_SHIFT) - 1)
 }
 
-/// The address with this tag, 0 to 15, in place of its own; its other bits stay.
+/// The address with this tag, 0 to 15, in place of its own. Its other bits stay the same.
 pub fn with_tag(address: u64, tag: u8) -> u64
     requires { tag < 16 }
     ensures { result ≡ with_tag address tag }

@@ -1,4 +1,4 @@
-//! Which accesses and which tag stores are refused.
+//! Which accesses and which tag stores fault.
 ghost use Rattle.machine_theory.specs.Access.{IsMapped, access_fault, is_mapped, ok_unless};
 ghost use Rattle.machine_theory.specs.Instructions.{tag_store_fault};
 ghost use Rattle.machine_theory.specs.Memory.{IsMemory};
@@ -9,7 +9,7 @@ use granule_memory::Memory;
 use machine_theory::Fault;
 use machine_theory::laws::access::law_access;
 
-/// Whether each of the `len` bytes, 1 to 64, lies in the region, and bits 63 to 60 of the address are 0.
+/// Whether all `len` bytes, 1 to 64, lie in the region, and bits 63 to 60 of the address are 0.
 pub(crate) fn is_mapped(memory: &Memory, address: u64, len: u64) -> bool
     requires { (1 ≤ len) × (len ≤ 64) }
     ensures test { result ≡ is_mapped (length memory.now) address len }
@@ -21,8 +21,8 @@ pub(crate) fn is_mapped(memory: &Memory, address: u64, len: u64) -> bool
     address >> 60 == 0 && place >= REGION_START && place + len <= end
 }
 
-/// The fault of an access of `len` bytes, 1 to 64, whose granules' tags are checked: where it is not mapped, else at the
-/// lowest granule whose tag is not the address's.
+/// The fault of a checked access of `len` bytes, 1 to 64: `Unmapped` if it is not mapped, otherwise that of the lowest granule whose tag
+/// differs from the address's.
 pub(crate) fn check_access(memory: &Memory, address: u64, len: u64) -> Result<(), Fault>
     requires { (1 ≤ len) × (len ≤ 64) }
     ensures fault { result ≡ ok_unless (access_fault memory.now address len) }
@@ -48,7 +48,7 @@ pub(crate) fn check_access(memory: &Memory, address: u64, len: u64) -> Result<()
     Ok(())
 }
 
-/// The fault of a store of tags to `count` granules, 1 or 2, from the address on, if there is one: its alignment first.
+/// The fault of a store of tags to `count` granules, 1 or 2, from the address on, if there is one. Alignment comes first.
 #[tactic(auto, unfolding(machine_theory::specs::Instructions::tag_store_fault))]
 pub(crate) fn check_tag_store(memory: &Memory, count: u64, address: u64) -> Result<(), Fault>
     requires { (1 ≤ count) × (count ≤ 2) }

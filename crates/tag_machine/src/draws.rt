@@ -6,7 +6,7 @@ ghost use Rattle.tag_machine.specs.SetBits.{set_bits};
 
 use crate::set_bits::nth_set_bit;
 
-/// The random tag that a draw takes from the seed: its four new bits, the first one lowest.
+/// The random tag that a draw takes from the seed: four new bits, the first one lowest.
 #[tactic(auto, using(crate::proofs::DrawLaws::new_bits))]
 pub(crate) fn next_offset(seed: u16) -> u8
     ensures offset { result ≡ next_offset seed }
@@ -15,7 +15,7 @@ pub(crate) fn next_offset(seed: u16) -> u8
     ((seed ^ (seed >> 2) ^ (seed >> 3) ^ (seed >> 5)) & 0xf) as u8
 }
 
-/// The seed that this draw leaves: its four new bits stand highest.
+/// The seed after this draw, with the four new bits highest.
 #[tactic(auto, unfolding(machine_theory::specs::Seed::next_seed))]
 pub(crate) fn next_seed(seed: u16) -> u16
     ensures { result ≡ next_seed seed }
@@ -31,7 +31,7 @@ fn is_excluded(exclude: u16, tag: u8) -> bool
     (exclude >> tag) & 1 == 1
 }
 
-/// The allowed tags as a mask, whose bit k stands for the tag k + 1 steps above `tag`.
+/// The allowed tags as a mask. Its bit k stands for the tag k + 1 steps above `tag`.
 fn allowed_above(tag: u8, exclude: u16) -> u16
     requires { tag < 16 }
     ensures { allowed_after tag exclude ≡ map (λ k. (tag + (1 + k)) % 16) (set_bits result) }
@@ -39,7 +39,7 @@ fn allowed_above(tag: u8, exclude: u16) -> u16
     (!exclude).rotate_right(u32::from(tag) + 1)
 }
 
-/// The tag `offset` allowed ones on from `tag`; for offset 0 the tag itself, or the next allowed one; 0 where all are excluded.
+/// The tag that is `offset` allowed tags after `tag`. For offset 0 it is `tag` itself, or the next allowed tag; 0 if all are excluded.
 pub(crate) fn choose_tag(tag: u8, offset: u8, exclude: u16) -> u8
     requires { tag < 16 }
     ensures chosen { result ≡ choose_tag tag offset exclude }

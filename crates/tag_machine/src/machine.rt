@@ -18,8 +18,9 @@ const EXCLUDE: u16 = 1;
 
 /// The machine: a memory with tags, and the register `RGSR_EL1` with its fields SEED and TAG.
 ///
-/// Each instruction is its definition in `machine_theory`. They are made after the Arm Architecture Reference Manual (Arm DDI 0487), Memory
-/// Tagging Extension, with this project's own choice of tags, random bits and order of faults (docs/MACHINE.md). A fault changes nothing.
+/// Each instruction does what its definition in `machine_theory` says. The definitions follow the Arm Architecture Reference Manual (Arm
+/// DDI 0487), Memory Tagging Extension; the choice of tags, the random bits and the order of faults are this project's own
+/// (docs/MACHINE.md). A fault changes nothing.
 #[derive(Drop)]
 pub struct Machine {
     memory: Memory,
@@ -41,7 +42,7 @@ impl Model for Machine {
 impl Machine {
     ghost use Rattle.tag_machine.specs.Lending.{LendsMemory};
 
-    /// The machine over this memory, with SEED `seed`, which is not 0, and TAG 0.
+    /// The machine over this memory, with SEED `seed`, which must not be 0, and TAG 0.
     pub fn new(memory: Memory, seed: u16) -> Machine
         requires { seed ≢ 0 }
         ensures { result ≡ record { memory = memory; seed = seed; tag = 0 } }
@@ -53,7 +54,7 @@ impl Machine {
         }
     }
 
-    /// IRG: Xn with a random tag, one that is neither 0 nor excluded by the low sixteen bits of Xm (0 where all tags are excluded).
+    /// IRG: Xn with a random tag that is neither 0 nor excluded by the low sixteen bits of Xm; tag 0 if all tags are excluded.
     /// TAG becomes that tag, and SEED moves on by four bits.
     #[tactic(auto, unfolding(machine_theory::specs::Instructions::drawn_tag))]
     pub fn irg(&mut self, xn: u64, xm: u64) -> u64
@@ -67,7 +68,7 @@ impl Machine {
         with_tag(xn, self.tag)
     }
 
-    /// ADDG: Xn, `u6` granules (0 to 63) further up modulo 2^64, with the tag that the offset `u4` (0 to 15) chooses from its own on.
+    /// ADDG: Xn, `u6` granules (0 to 63) further up, modulo 2^64. The offset `u4` (0 to 15) chooses its tag, counted upwards from Xn's.
     #[tactic(auto, unfolding(machine_theory::specs::Instructions::addg))]
     pub fn addg(&self, xn: u64, u6: u8, u4: u8) -> u64
         requires granules { u6 ≤ 63 }
@@ -78,8 +79,7 @@ impl Machine {
         with_tag(up, choose_tag(logical_tag(xn), u4, EXCLUDE))
     }
 
-    /// SUBG: Xn, `u6` granules (0 to 63) further down modulo 2^64, with the tag that the offset `u4` (0 to 15) chooses from its own
-    /// on: upwards, as ADDG.
+    /// SUBG: Xn, `u6` granules (0 to 63) further down, modulo 2^64. The offset `u4` (0 to 15) chooses its tag as for ADDG: upwards.
     #[tactic(auto, unfolding(machine_theory::specs::Instructions::subg))]
     pub fn subg(&self, xn: u64, u6: u8, u4: u8) -> u64
         requires granules { u6 ≤ 63 }
@@ -90,7 +90,7 @@ impl Machine {
         with_tag(down, choose_tag(logical_tag(xn), u4, EXCLUDE))
     }
 
-    /// GMI: the mask Xm with the bit set that Xn's tag numbers.
+    /// GMI: the mask Xm with the bit of Xn's tag set.
     #[tactic(auto, unfolding(machine_theory::specs::Instructions::gmi))]
     pub fn gmi(&self, xn: u64, xm: u64) -> u64
         ensures { result ≡ gmi xn xm }
@@ -98,7 +98,7 @@ impl Machine {
         xm | 1 << logical_tag(xn)
     }
 
-    /// LDG: Xt with the tag of the granule that holds Xn. `Unmapped` where that granule lies outside the region. No tag is checked.
+    /// LDG: Xt with the tag of the granule that holds Xn. `Unmapped` if that granule lies outside the region. It checks no tag.
     #[tactic(auto, unfolding(machine_theory::specs::Instructions::ldg))]
     pub fn ldg(&self, xt: u64, xn: u64) -> Result<u64, Fault>
         ensures { result ≡ ldg self.now.memory xt xn }
@@ -109,8 +109,8 @@ impl Machine {
         Ok(with_tag(xt, self.memory.tag(granule_of(xn))))
     }
 
-    /// STG: gives the granule at Xn the tag of Xt. No tag is checked.
-    /// `Alignment` where Xn is no multiple of 16, else `Unmapped` where the granule lies outside the region.
+    /// STG: gives the granule at Xn the tag of Xt. It checks no tag.
+    /// `Alignment` if Xn is no multiple of 16; otherwise `Unmapped` if the granule lies outside the region.
     pub fn stg(&mut self, xt: u64, xn: u64) -> Result<(), Fault>
         ensures answer { result ≡ ok_unless (tag_store_fault self.old.memory 1 xn) }
         ensures ok { OnOk result (self.new ≡ record self.old { memory = stg self.old.memory xt xn }) }
@@ -121,7 +121,7 @@ impl Machine {
         Ok(())
     }
 
-    /// ST2G: gives the two granules from Xn on the tag of Xt; its faults are those of STG, for both granules.
+    /// ST2G: gives the two granules from Xn on the tag of Xt. Its faults are those of STG, for both granules.
     pub fn st2g(&mut self, xt: u64, xn: u64) -> Result<(), Fault>
         ensures answer { result ≡ ok_unless (tag_store_fault self.old.memory 2 xn) }
         ensures ok { OnOk result (self.new ≡ record self.old { memory = st2g self.old.memory xt xn }) }
@@ -136,7 +136,7 @@ impl Machine {
         Ok(())
     }
 
-    /// STZG: as STG, and makes the granule's sixteen bytes 0.
+    /// STZG: as STG, and sets the granule's sixteen bytes to 0.
     pub fn stzg(&mut self, xt: u64, xn: u64) -> Result<(), Fault>
         ensures answer { result ≡ ok_unless (tag_store_fault self.old.memory 1 xn) }
         ensures ok { OnOk result (self.new ≡ record self.old { memory = stzg self.old.memory xt xn }) }
@@ -149,9 +149,9 @@ impl Machine {
         Ok(())
     }
 
-    /// Reads as many bytes as `buf` has, 1 to 64, from the address on.
-    /// `Unmapped` where one of them lies outside the region or bits 63 to 60 of the address are not 0; else `TagCheck` with the
-    /// lowest granule that holds one of them and has another tag than the address; then `buf` stays as it was.
+    /// Reads `buf.len()` bytes, 1 to 64, from `address` on.
+    /// Errors, after which `buf` is unchanged: `Unmapped` if a byte lies outside the region or bits 63 to 60 of the address are not 0;
+    /// otherwise `TagCheck` with the lowest granule that the access touches and whose tag differs from the address's.
     pub fn load(&self, address: u64, buf: &mut [u8]) -> Result<(), Fault>
         requires { (1 ≤ length buf.old) × (length buf.old ≤ 64) }
         ensures answer { result ≡ ok_unless (access_fault self.now.memory address (length buf.old)) }
@@ -163,7 +163,7 @@ impl Machine {
         Ok(())
     }
 
-    /// Writes these bytes, 1 to 64 of them, from the address on. Its faults are those of `load`.
+    /// Writes these bytes, 1 to 64 of them, from `address` on. Its errors are those of `load`.
     pub fn store(&mut self, address: u64, bytes: &[u8]) -> Result<(), Fault>
         requires { (1 ≤ length bytes.now) × (length bytes.now ≤ 64) }
         ensures answer { result ≡ ok_unless (access_fault self.old.memory address (length bytes.now)) }
@@ -175,7 +175,7 @@ impl Machine {
         Ok(())
     }
 
-    /// Whether all of the `len` bytes (1 to 64) from the address on lie in the region, and bits 63 to 60 of the address are 0.
+    /// Whether all `len` bytes (1 to 64) from `address` on lie in the region, and bits 63 to 60 of the address are 0.
     pub fn mapped(&self, address: u64, len: usize) -> bool
         requires { (1 ≤ len) × (len ≤ 64) }
         ensures test { result ≡ is_mapped (length self.now.memory) address len }
@@ -200,7 +200,7 @@ impl Machine {
         &self.memory
     }
 
-    /// The memory, to be changed: what is written there stands in the machine, and the register stays.
+    /// The memory, for changes. The machine has what is written there; the register stays the same.
     pub fn memory_mut(&mut self) -> &mut Memory
         ensures* lends { sem 𝓛 (LendsMemory self.entry result) }
         ensures value { result.now ≡ self.old.memory }

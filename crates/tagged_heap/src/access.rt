@@ -16,11 +16,11 @@ use heap_theory::laws::headers::law_header_words;
 use tag_machine::Fault;
 
 impl Heap {
-    /// Reads as many bytes as `buf` has, 1 to 64, from the address on. The address has another tag than 0, or the access is not mapped: so
-    /// no header is read. Whatever it returns, the words of each slot's header in the region that `memory` lends stay as they were.
+    /// Reads `buf.len()` bytes, 1 to 64, from `address` on. The address must have a tag other than 0, or the access must not be mapped: so
+    /// it reads no header. The header words of all slots stay the same.
     ///
-    /// `Unmapped` where one of the bytes lies outside the region or bits 63 to 60 of the address are not 0; else `TagCheck` with the
-    /// lowest granule that holds one of them and has another tag than the address; then `buf` stays as it was.
+    /// Errors, after which `buf` is unchanged: `Unmapped` if a byte lies outside the region or bits 63 to 60 of the address are not 0;
+    /// otherwise `TagCheck` with the lowest granule that the access touches and whose tag differs from the address's.
     pub fn load(&self, address: u64, buf: &mut [u8]) -> Result<(), Fault>
         requires len { (1 ≤ length buf.old) × (length buf.old ≤ 64) }
         requires tagged { (logical_tag address ≢ 0)
@@ -35,9 +35,10 @@ impl Heap {
         self.machine.load(address, buf)
     }
 
-    /// Writes these bytes, 1 to 64 of them, from the address on. Its faults are those of `load`, and then nothing changes; and as
-    /// there the address has another tag than 0, or the access is not mapped: so no header is written. Whatever it returns, the words of
-    /// each slot's header in the region that `memory` lends are those that it lent before.
+    /// Writes these bytes, 1 to 64 of them, from `address` on. The address must have a tag other than 0, or the access must not be mapped:
+    /// so it writes no header. The header words of all slots stay the same.
+    ///
+    /// Its errors are those of `load`. After an error nothing has changed.
     pub fn store(&mut self, address: u64, bytes: &[u8]) -> Result<(), Fault>
         requires len { (1 ≤ length bytes.now) × (length bytes.now ≤ 64) }
         requires tagged { (logical_tag address ≢ 0)
@@ -54,7 +55,7 @@ impl Heap {
         self.machine.store(address, bytes)
     }
 
-    /// Whether each of the `len` bytes (1 to 64) from the address on lies in the region, and bits 63 to 60 of the address are 0.
+    /// Whether all `len` bytes (1 to 64) from `address` on lie in the region, and bits 63 to 60 of the address are 0.
     pub fn mapped(&self, address: u64, len: usize) -> bool
         requires { (1 ≤ len) × (len ≤ 64) }
         ensures test { result ≡ is_mapped (length self.now.state.memory) address len }
@@ -64,10 +65,10 @@ impl Heap {
         self.machine.mapped(address, len)
     }
 
-    /// The memory of the region as it stands, headers and links included, to be looked at: each header decodes and agrees with the
-    /// heap's state; from the quarantine's front the links visit each quarantined slot once in ascending mark, from each class's
-    /// front each of its released slots once in descending mark; no slot is in two of these, and no fresh or live one in any.
-    /// So its header words depend on the heap's layout, slots, total and limit alone (`law_header_words`).
+    /// The memory of the region, headers and links included, for inspection. Each header decodes and agrees with the heap's state. From the
+    /// quarantine's front the links visit each quarantined slot once, in ascending mark. From each class's front they visit each of its
+    /// released slots once, in descending mark. No slot is in two of these lists, and no fresh or live slot is in one. So the header words
+    /// depend on the heap's layout, slots, total and limit alone (`law_header_words`).
     pub fn memory(&self) -> &Memory
         ensures { IsKeptIn self.now.state result.now }
     {
@@ -75,7 +76,7 @@ impl Heap {
         self.machine.memory()
     }
 
-    /// What a granule is to the heap; past the region it is slack.
+    /// What a granule is to the heap. A granule past the region is slack.
     pub fn place_kind(&self, granule: u32) -> PlaceKind
         ensures { result ≡ place_kind self.now.state granule }
     {

@@ -16,7 +16,7 @@ use crate::taking::take_slot;
 use class_table::{LARGEST_COUNTED, Layout};
 use heap_theory::NullCause;
 
-/// The number of the class of a request of `n` bytes, or why it has none.
+/// The number of the class that serves a request of `n` bytes, or why none does.
 pub(crate) fn class_for(layout: &Layout, n: u32) -> Result<usize, NullCause>
     ensures ok { IfOk result (λ number. (n ≤ 16368) × (class_number_for layout.now.classes n ≡ Some number)) }
     ensures within { IfOk result (λ number. number < length layout.now.classes) }
@@ -28,7 +28,7 @@ pub(crate) fn class_for(layout: &Layout, n: u32) -> Result<usize, NullCause>
     layout.find(n).ok_or(NullCause::NoClass)
 }
 
-/// A chunk that was given out: its slot, and its address.
+/// A chunk that was given out: its slot and its address.
 #[derive(Clone, Copy)]
 pub(crate) struct Given {
     pub(crate) slot: u32,
@@ -36,10 +36,10 @@ pub(crate) struct Given {
 }
 
 impl Heap {
-    /// Gives out a chunk of `n` bytes: the answer is the address of its first byte, with the chunk's tag. Its bytes are as they were.
+    /// Gives out a chunk of `n` bytes. Returns the address of its first byte, with the chunk's tag. The bytes of the chunk keep their values.
     ///
-    /// `Large` where n is over 16,368, else `NoClass` where no class serves it, else `Exhausted` where the class has no slot left;
-    /// then nothing changes.
+    /// Errors, after which nothing has changed: `Large` if `n` is above 16,368; otherwise `NoClass` if no class serves it; otherwise
+    /// `Exhausted` if its class has no slot left.
     pub fn malloc(&mut self, n: u32) -> Result<u64, NullCause>
         ensures answer { result ≡ (malloc_step self.old.state n).answer }
         ensures state { self.new.state ≡ (malloc_step self.old.state n).heap }
@@ -50,7 +50,7 @@ impl Heap {
         Ok(given.address)
     }
 
-    /// As `malloc`, and all bytes of the chunk's granules are 0.
+    /// As `malloc`, with all bytes of the chunk's granules set to 0.
     pub fn calloc(&mut self, n: u32) -> Result<u64, NullCause>
         ensures answer { result ≡ (calloc_step self.old.state n).answer }
         ensures state { self.new.state ≡ (calloc_step self.old.state n).heap }
@@ -87,7 +87,7 @@ impl Heap {
         Ok(Given { slot, address })
     }
 
-    // Makes all bytes of the chunk granules for n bytes in a slot 0.
+    // Sets all bytes of the chunk granules for n bytes in a slot to 0.
     fn zero_chunk(&mut self, slot: u32, n: u32)
         requires slot { IsSlot self.old.state slot }
         requires size { n ≤ 16368 }

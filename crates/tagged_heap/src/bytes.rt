@@ -8,7 +8,7 @@ use machine_theory::laws::memory::{law_changes, law_memory, law_reads};
 // the bytes that are copied at once
 const PIECE: usize = 256;
 
-/// Writes 0 to all bytes of `count` granules from `first` on.
+/// Sets all bytes of `count` granules from `first` on to 0.
 pub(crate) fn zero(memory: &mut Memory, first: u32, count: u32)
     requires granules { first + count ≤ length memory.old }
     requires few { length memory.old ≤ 262144 }
@@ -21,7 +21,7 @@ pub(crate) fn zero(memory: &mut Memory, first: u32, count: u32)
     }
 }
 
-/// Copies `count` bytes from byte `from` on to byte `to` on, where the two runs do not meet.
+/// Copies `count` bytes from byte `from` on to byte `to` on. The two runs must not overlap.
 pub(crate) fn copy(memory: &mut Memory, from: usize, to: usize, count: usize)
     requires few { length memory.old ≤ 262144 }
     requires source { from + count ≤ 16 * length memory.old }

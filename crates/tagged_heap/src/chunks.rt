@@ -20,8 +20,8 @@ use class_table::Layout;
 use machine_theory::laws::memory::law_memory;
 use tag_machine::Machine;
 
-/// Gives a slot out for `n` bytes, at most 16,368, which it has room for: draws a tag, writes the header and tags the chunk. The
-/// answer is the address of its payload under that tag.
+/// Gives a slot out for `n` bytes, at most 16,368, which it must have room for: draws a tag, writes the header and tags the chunk.
+/// Returns the address of its payload under that tag.
 pub(crate) fn give_out(machine: &mut Machine, layout: &Layout, slot: u32, n: u32) -> u64
     requires { HasRoom layout.now machine.old.memory slot n }
     ensures address { result ≡ with_tag (payload_place (slot_of layout.now slot)) (tag_for layout.now machine.old slot) }
@@ -51,7 +51,7 @@ pub(crate) fn give_out(machine: &mut Machine, layout: &Layout, slot: u32, n: u32
     payload_address(place.start, tag)
 }
 
-/// Gives the chunk of a live slot `n` bytes under the tag that it has, where its slot has room for them.
+/// Gives the chunk of a live slot `n` bytes under the tag that it has. The slot must have room for them.
 pub(crate) fn resize(machine: &mut Machine, layout: &Layout, slot: u32, n: u32)
     requires { HasRoom layout.now machine.old.memory slot n }
     ensures machine { let before = header_in layout.now machine.old.memory slot in
@@ -71,8 +71,8 @@ pub(crate) fn resize(machine: &mut Machine, layout: &Layout, slot: u32, n: u32)
     tag_chunk(machine, place, n, before.tag);
 }
 
-/// Takes the chunk of a live slot, which begins at granule `start`, back, with this mark: draws a tag, writes the header and gives
-/// the chunk the tag.
+/// Takes back the chunk of a live slot, which begins at granule `start`, with this mark: draws a tag, writes the header and tags the
+/// chunk.
 pub(crate) fn retire(machine: &mut Machine, layout: &Layout, slot: u32, start: u32, mark: u64)
     requires room { HasRoom layout.now machine.old.memory slot (header_in layout.now machine.old.memory slot).size }
     requires start { start ≡ (slot_of layout.now slot).start }

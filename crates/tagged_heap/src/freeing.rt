@@ -25,7 +25,7 @@ use heap_theory::laws::hardening::law_own_pointer;
 use quarantine_core::Quarantine;
 use tag_machine::logical_tag;
 
-/// A live chunk: its slot, and the bytes that were requested.
+/// A live chunk: its slot, and the number of bytes that were requested.
 #[derive(Clone, Copy)]
 pub(crate) struct Chunk {
     pub(crate) slot: u32,
@@ -33,12 +33,13 @@ pub(crate) struct Chunk {
 }
 
 impl Heap {
-    /// Takes the chunk at p back: its granules get another tag, and its slot is dead. The slot is held back until more bytes than the
-    /// quarantine's limit were freed from this free on, its own among them: not at all where its own block has more. Nothing happens at null, 0.
+    /// Frees the chunk at `p`. Its granules get another tag, and its slot is dead. The slot stays in quarantine until the bytes freed from
+    /// this free on, those of its own block included, exceed the quarantine's limit; a block above the limit does not stay at all. At null,
+    /// 0, nothing happens. Fewer than 2^48 chunks must have been freed before (`frees`).
     ///
-    /// `Misplaced` where p is not the address of a slot's first payload byte, else `NotLive` where the slot is not given out, else
-    /// `WrongTag` where it is given out under another tag than p's; then nothing changes. So p is accepted exactly where it is null or the
-    /// pointer that was given out for a live chunk. Fewer than 2^48 chunks were freed before, as `frees` reports.
+    /// Errors, after which nothing has changed: `Misplaced` if `p` is not the address of a slot's first payload byte; otherwise `NotLive`
+    /// if no chunk is live in the slot; otherwise `WrongTag` if the live chunk has another tag than `p`. So `free` accepts exactly null and
+    /// the pointers that were given out for live chunks.
     pub fn free(&mut self, p: u64) -> Result<(), FreeError>
         requires few { self.old.frees < 2 ^ 48 }
         ensures answer { result ≡ (free_step self.old.state p).answer }

@@ -13,7 +13,7 @@ use chunk_header::{Header, State, write};
 use class_table::{Layout, MOST_CLASSES};
 use granule_memory::Memory;
 
-/// Writes to each slot the header of a slot that was never given out.
+/// Writes into each slot the header of a slot that was never given out.
 pub(crate) fn write_fresh_headers(memory: &mut Memory, layout: &Layout)
     requires region { length memory.old ≡ layout.now.granules }
     requires memory { IsMemory memory.old }

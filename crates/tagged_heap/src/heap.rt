@@ -19,16 +19,16 @@ use tag_machine::Machine;
 pub struct Config {
     /// The granules of its region, 64 to 262,144.
     pub granules: u32,
-    /// What the random tags begin with; not 0.
+    /// The seed of the random tags; not 0.
     pub seed: u16,
-    /// The bytes of freed blocks that are held back from reuse, 0 to 4,194,304.
+    /// The limit of the quarantine, 0 to 4,194,304: the most bytes of freed blocks that it holds back from reuse.
     pub quarantine: u32,
 }
 
-/// A heap over one region of tagged memory: it gives out chunks under random tags, and holds freed ones back for a while.
+/// A heap over one region of tagged memory. It gives out chunks under random tags, and holds freed chunks in quarantine.
 ///
-/// It is seen as the heap state of the definitions, in which the bytes of headers do not stand, and the number of its frees. What stands in
-/// the headers, and how they are linked, is told by `memory`.
+/// Contracts see it as the heap state of the definitions, without the bytes of headers, and the number of its frees. The contract of
+/// `memory` says what stands in the headers and how they are linked.
 #[derive(Drop)]
 pub struct Heap {
     pub(crate) machine: Machine,
@@ -53,8 +53,8 @@ impl Model for Heap {
 }
 
 impl Heap {
-    /// A heap in which nothing was given out yet, over the classes of a table. The only error is that the allocator has no block of
-    /// 17 bytes for each granule. No other call takes memory.
+    /// An empty heap over the classes of a table. It takes one block of 17 bytes for each granule from the allocator. The only error is
+    /// that the allocator refuses this block. No other call takes memory.
     pub fn new(alloc: Global, table: &ClassTable, config: Config) -> Result<Heap, AllocError>
         requires granules { (64 ≤ config.granules) × (config.granules ≤ 262144) }
         requires seed { config.seed ≢ 0 }
@@ -81,14 +81,14 @@ impl Heap {
         })
     }
 
-    /// How many chunks were freed so far, those that `realloc` moved among them; null is not counted.
+    /// How many chunks were freed so far, including those that `realloc` moved. Freeing null does not count.
     pub fn frees(&self) -> u64
         ensures { result ≡ self.now.frees }
     {
         self.frees
     }
 
-    /// The bytes that a request of `n` bytes leaves unused in a block of its class, 0 to 16,368; 0 where no class serves it.
+    /// The bytes that a request of `n` bytes leaves unused in a block of its class, 0 to 16,368; 0 if no class serves it.
     pub fn loss(&self, n: u32) -> u32
         ensures loss { result ≡ loss_of_size self.now.state.layout.classes n }
         ensures small { result ≤ 16368 }
@@ -96,7 +96,8 @@ impl Heap {
         self.layout.loss(n)
     }
 
-    /// ADDG: the address `u6` granules (0 to 63) further up modulo 2^64, with the tag that the offset `u4` (0 to 15) chooses from its own on.
+    /// ADDG: the address `u6` granules (0 to 63) further up, modulo 2^64. The offset `u4` (0 to 15) chooses its tag, counted upwards from
+    /// the tag of `address`.
     pub fn addg(&self, address: u64, u6: u8, u4: u8) -> u64
         requires granules { u6 ≤ 63 }
         requires steps { u4 ≤ 15 }
@@ -105,8 +106,8 @@ impl Heap {
         self.machine.addg(address, u6, u4)
     }
 
-    /// SUBG: the address `u6` granules (0 to 63) further down modulo 2^64, with the tag that the offset `u4` (0 to 15) chooses from its own
-    /// on: upwards, as `addg`.
+    /// SUBG: the address `u6` granules (0 to 63) further down, modulo 2^64. The offset `u4` (0 to 15) chooses its tag as for `addg`:
+    /// upwards.
     pub fn subg(&self, address: u64, u6: u8, u4: u8) -> u64
         requires granules { u6 ≤ 63 }
         requires steps { u4 ≤ 15 }

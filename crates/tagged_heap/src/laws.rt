@@ -1,4 +1,4 @@
-//! What is true of every heap, each law the contract of a call that does nothing; and the laws of whole runs, from `heap_theory`.
+//! What holds for every heap. Each law is the contract of a call that does nothing. The laws of whole runs come from `heap_theory`.
 ghost use Rattle.heap_theory.specs.HeaderLaws.{HeadersAreSpared};
 ghost use Rattle.heap_theory.specs.Sound.{IsSoundHeap};
 ghost use Rattle.tagged_heap.specs.Bookkeeping.{ChunksAreTagged, ParitiesDiffer};
@@ -11,8 +11,8 @@ pub use heap_theory::laws::hardening::{
 };
 pub use heap_theory::laws::headers::law_header_words;
 
-/// An access that succeeds under another tag than 0 touches no header: so under such a tag no load reads and no store changes a header's
-/// words.
+/// An access that succeeds under a tag other than 0 touches no header. So under such a tag no load reads a header's words, and no store
+/// changes them.
 pub fn law_headers_spared()
     ensures { HeadersAreSpared }
 {
@@ -20,15 +20,15 @@ pub fn law_headers_spared()
 }
 
 impl Heap {
-    /// Headers, slack and tails have tag 0; the chunk granules of a slot share one tag, which is the slot's while it is live, and
-    /// another one that it may take once it is freed.
+    /// Headers, slack and tails have tag 0. The chunk granules of a slot share one tag: the slot's tag while it is live, and after its free
+    /// another tag that the slot may take.
     pub fn law_sound(&self)
         ensures { IsSoundHeap self.now.state }
     {
         let _ = &self.layout;
     }
 
-    /// No granule of a chunk has tag 0, and chunks of slots with an even and an odd number never have the same tag.
+    /// No granule of a chunk has tag 0. A chunk of a slot with an even number and one of a slot with an odd number never have the same tag.
     pub fn law_tags(&self)
         ensures tagged { ChunksAreTagged self.now.state }
         ensures differ { ParitiesDiffer self.now.state }

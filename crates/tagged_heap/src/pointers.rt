@@ -16,8 +16,7 @@ pub(crate) fn payload_address(start: u32, tag: u8) -> u64
     with_tag(REGION_START + GRANULE_BYTES * (u64::from(start) + 1), tag)
 }
 
-/// The slot whose payload begins at the pointer's place, or none where there is no such slot or bits 63 to 60 of the pointer are
-/// not 0.
+/// The slot whose payload begins at the pointer's place. `None` if there is no such slot or bits 63 to 60 of the pointer are not 0.
 pub(crate) fn slot_of_pointer(layout: &Layout, p: u64) -> Option<u32>
     ensures { MatchOption result
         ((s : ℕ) → s < slot_count layout.now → p < 2 ^ 60 → place_of p ≡ payload_place (slot_of layout.now s) → ⊥)

@@ -19,13 +19,13 @@ use heap_theory::{NullCause, ReallocError};
 use machine_theory::laws::memory::law_reads;
 
 impl Heap {
-    /// Gives the chunk at p `n` bytes: in place and under its tag where n is of its class, else in another slot, to which as many bytes as
-    /// both sizes have are copied; the answer is its address then. At null, 0, it is `malloc`.
+    /// Changes the size of the chunk at `p` to `n` bytes, and returns the chunk's address. The chunk stays in place, under its tag, if `n`
+    /// is of its class. Otherwise it moves: `realloc` copies as many bytes as both sizes have to a new slot, and frees the old one. At null,
+    /// 0, it is `malloc`. Fewer than 2^48 chunks must have been freed before (`frees`).
     ///
-    /// `Refused` where `free` would refuse p; else `Null` with `Large` or `NoClass` where n has no class; else, where the chunk has to move,
-    /// `Null` with `Exhausted` where the other class has no slot left; then nothing changes. At null its refusals are those of `malloc`. So p
-    /// is accepted exactly where it is null or the pointer that was given out for a live chunk. Fewer than 2^48 chunks were freed before, as
-    /// `frees` reports.
+    /// Errors, after which nothing has changed: `Refused` if `free` would refuse `p`; otherwise `Null` with `Large` or `NoClass` if `n` has
+    /// no class; otherwise `Null` with `Exhausted` if the chunk has to move and the other class has no slot left. So `realloc` accepts
+    /// exactly null and the pointers that were given out for live chunks.
     pub fn realloc(&mut self, p: u64, n: u32) -> Result<u64, ReallocError>
         requires few { self.old.frees < 2 ^ 48 }
         ensures answer { result ≡ (realloc_step self.old.state p n).answer }

@@ -19,8 +19,7 @@ pub(crate) fn chunk_granules(n: u32) -> u32
     if n == 0 { 1 } else { n.div_ceil(GRANULE_BYTES) }
 }
 
-/// The tags that a slot of this number does not take where `last` is the tag that it has or had last: those of the other parity,
-/// and that one.
+/// The tags that a slot of this number may not take, where `last` is its present or last tag: those of the other parity, and `last`.
 pub(crate) fn exclude(slot: u32, last: u8) -> u16
     requires { last < 16 }
     ensures { result ≡ bit_or (parity_exclude slot) (2 ^ last) }
@@ -40,7 +39,7 @@ pub(crate) fn draw(machine: &mut Machine, exclude: u16) -> u8
     machine.rgsr().0
 }
 
-/// Gives the chunk for a request of `n` bytes the tag, and the rest of the slot's payload tag 0.
+/// Gives the granules of the chunk for a request of `n` bytes this tag, and the rest of the slot's payload tag 0.
 pub(crate) fn tag_chunk(machine: &mut Machine, slot: Slot, n: u32, tag: u8)
     requires inside { slot.start + slot.class ≤ length machine.old.memory }
     requires memory { IsMemory machine.old.memory }

@@ -9,7 +9,7 @@ use class_lists::ClassLists;
 use class_table::{Layout, MOST_CLASSES};
 use granule_memory::Memory;
 
-/// Takes the first slot of a class's list off it, or the class's next fresh slot where the list is empty, or none where there is none.
+/// Takes the first slot off a class's list, or the class's next fresh slot if the list is empty. `None` if there is neither.
 pub(crate) fn take_slot(
     memory: &mut Memory,
     layout: &Layout,

@@ -4,19 +4,19 @@ ghost use Rattle.trace_reader.specs.Shown.{shown_trace_fault};
 use std::fmt;
 use thiserror::Error;
 
-/// What is wrong with a line of a trace; each is shown as its code and name. A line that is too long is told before all else, then a
-/// line too many, then a word too many or too few, and then the fault of the leftmost faulty word.
+/// What is wrong with a line of a trace. Each is shown as its code and name. Where a line has several faults, `LineTooLong` comes first,
+/// then `TooManyEvents`, then `BadWord`, then the fault of the leftmost faulty word.
 #[derive(Debug, Clone, Copy, PartialEq, Eq)]
 pub enum TraceFault {
-    /// The first word names no event, or the words are not as many as that event has, or one of them is empty.
+    /// The first word names no event, the line has another number of words than that event, or a word is empty.
     BadWord,
-    /// A word is no number of its kind, or not in that number's one spelling.
+    /// A word is no number of its kind, or not the one spelling of its number.
     BadNumber,
-    /// A number is not in its range.
+    /// A number is outside its range.
     OutOfRange,
-    /// The line has more than 80 bytes without its newline.
+    /// The line has more than 80 bytes, not counting its newline.
     LineTooLong,
-    /// It is the line behind 1,000,000 events.
+    /// The line follows 1,000,000 events.
     TooManyEvents,
 }
 
@@ -36,13 +36,13 @@ impl fmt::Display for TraceFault {
 
 impl std::error::Error for TraceFault {}
 
-/// Why no more of a trace is read.
+/// Why the reader stopped.
 #[derive(Debug, Clone, Copy, PartialEq, Eq, Error)]
 pub enum TraceError {
-    /// A growth was refused.
+    /// The allocator refused memory.
     #[error("1 OutOfMemory")]
     OutOfMemory,
-    /// The line of this number, 1 to 1,000,001, is the first faulty one.
+    /// The first faulty line has this number, 1 to 1,000,001.
     #[error("{1} line {0}")]
     Line(u32, TraceFault),
 }

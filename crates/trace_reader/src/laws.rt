@@ -1,12 +1,12 @@
-//! What is true of every trace's text, and of every text that comes in pieces; each law is the contract of a function that does nothing.
+//! What holds for every trace's text, and for every text that comes in pieces. Each law is the contract of a function that does nothing.
 ghost use Rattle.trace_reader.specs.Below.{SpellingLaws};
 ghost use Rattle.trace_reader.specs.Laws.{TraceIsSpelled, SpelledTraceIsRead, TextSpellsOneTrace, FaultIsBehindItsEvents, EventsAreFew, EventsAreInRange};
 ghost use Rattle.trace_reader.specs.Laws.{TextIsItsCut, PiecesAreJoined, PiecesAreTheText, FedAddsEvents, FinishedAddsEvents, PiecesHaveFewEvents, FedBehindEvents, FinishedBehindEvents};
 
 use line_text::laws::{law_hex, law_signed, law_text};
 
-/// However a text is cut into pieces, its events and its fault are those of the whole text, and events that were taken out on the way
-/// have no part in what comes behind them.
+/// However a text is cut into pieces, its events and its fault are those of the whole text. Events that were taken out on the way do not
+/// change what comes after them.
 pub fn law_pieces()
     ensures cut { TextIsItsCut }
     ensures joined { PiecesAreJoined }
@@ -18,8 +18,8 @@ pub fn law_pieces()
     ensures end_behind { FinishedBehindEvents }
 {}
 
-/// A text that is read as a trace without a fault is that trace's spelling, and the spelling is read: so no text spells two traces.
-/// Where there is a fault, it is in the line behind those of the events.
+/// A text that is read as a trace without a fault is that trace's spelling, and the spelling is read as the trace. So no text spells two
+/// traces. A fault is in the line after those of the events.
 pub fn law_trace_text()
     ensures spelled { TraceIsSpelled }
     ensures read { SpelledTraceIsRead }

@@ -35,7 +35,7 @@ const ADDG: &[u8] = b"addg";
 
 const SUBG: &[u8] = b"subg";
 
-// the greatest numbers of each kind; a request's is in bytes, and so is an access's
+// the greatest number of each kind; those of a request and an access are in bytes
 pub(crate) const LAST_VARIABLE: u32 = 1023;
 
 pub(crate) const LARGEST_REQUEST: u32 = 2_147_483_647;
@@ -72,7 +72,7 @@ fn judged_line(number: u32, line: &[u8]) -> Result<Event, TraceFault>
     }
 }
 
-// the event that a line spells, or its fault, by all its words
+// the event that a line spells, or its fault, found word by word
 #[tactic(auto, unfolding(crate::specs::TraceLine::event_of_words))]
 #[inline(never)]
 fn judged_words(line: &[u8]) -> Result<Event, TraceFault>
@@ -131,7 +131,7 @@ fn variable_in(word: &[u8]) -> Result<u16, TraceFault>
     Ok(number_from(0, LAST_VARIABLE, word)? as u16)
 }
 
-// the event of a line `free`, by the words behind that one, and so below
+// the event of a line `free`, from the words after the first; so below
 fn free_in(words: &[&[u8]]) -> Result<Event, TraceFault>
     ensures { result ≡ free_of (map (λ w. w.now) words.now) }
 {
@@ -167,7 +167,7 @@ fn store_in(words: &[&[u8]]) -> Result<Event, TraceFault>
     Ok(Event::Store { v, off, len, byte })
 }
 
-// the variable and the size of a request, whatever event it is of
+// the variable and the size of a request of any event
 fn request_in(words: &[&[u8]]) -> Result<(u16, u32), TraceFault>
     ensures { (event : ℕ → ℕ → EventView)
         → made (λ x. event x.0 x.1) result ≡ request_of event (map (λ w. w.now) words.now) }

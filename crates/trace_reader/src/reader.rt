@@ -19,7 +19,7 @@ use std::collections::VecDeque;
 use std::marker::Model;
 
 /// Reads a trace that comes in pieces of any size. It keeps the events that were not yet taken out, and of the text only the bytes of the
-/// unfinished line.
+/// unfinished line, at most 80.
 #[derive(Debug, Drop)]
 pub struct TraceReader {
     events: VecDeque<Event>,
@@ -43,7 +43,7 @@ impl Model for TraceReader {
 }
 
 impl TraceReader {
-    /// A reader to which nothing was fed. It takes no memory yet.
+    /// A reader that has read nothing. It takes no memory yet.
     pub fn new(alloc: Global) -> TraceReader
         ensures { result ≡ nothing_read }
     {
@@ -55,9 +55,11 @@ impl TraceReader {
         }
     }
 
-    /// Reads the next piece of the text, which may begin and end within a line. The events of the whole lines wait for `next_event`.
-    /// An error is the fault of the first faulty line, or that memory was refused; it stays, each later call answers it and reads nothing, and the
-    /// events of the lines before it can still be taken out.
+    /// Reads the next piece of the text, which may begin and end within a line. `next_event` takes out the events of the whole lines.
+    /// It must not be called after `finish` has succeeded.
+    ///
+    /// Errors: the first faulty line with its fault, or `OutOfMemory`. After the first error the reader accepts no more input: each later
+    /// call returns that error. The events read so far can still be taken out; they are a prefix of the trace's.
     pub fn feed(&mut self, piece: &[u8]) -> Result<(), TraceError>
         requires { is_finished self.old ≡ false }
         ensures answer { result ≡ answer_of self.new.state }
@@ -78,7 +80,8 @@ impl TraceReader {
         self.keep(text)
     }
 
-    /// Takes the end of the text: its last line may lack its newline. An error is as in `feed`, and stays in the same way.
+    /// Ends the text. Its last line may lack its newline. The errors are those of `feed`. It must not be called again after it has
+    /// succeeded.
     pub fn finish(&mut self) -> Result<(), TraceError>
         requires { is_finished self.old ≡ false }
         ensures answer { result ≡ answer_of self.new.state }
@@ -99,14 +102,14 @@ impl TraceReader {
         Ok(())
     }
 
-    /// Whether the end of the text was taken without an error. Then `feed` and `finish` may not be called any more.
+    /// Whether `finish` has succeeded. Then `feed` and `finish` must not be called again.
     pub fn is_finished(&self) -> bool
         ensures { result ≡ is_finished self.now }
     {
         matches!(self.status, Status::Finished)
     }
 
-    /// Takes out the first event that was read and not yet taken out; none where there is no such event now.
+    /// Takes out the first event that was read and not yet taken out. `None` if there is none at present.
     pub fn next_event(&mut self) -> Option<Event>
         ensures event { result ≡ slice_get self.old.events 0 }
         ensures rest { self.new.events ≡ drop 1 self.old.events }
@@ -116,7 +119,7 @@ impl TraceReader {
         self.events.pop_front()
     }
 
-    /// The events that were read and not yet taken out, in their order.
+    /// The events that were read and not yet taken out, in order.
     pub fn events(&self) -> &VecDeque<Event>
         ensures events { result.now.items ≡ self.now.events }
         ensures range { All IsInRange result.now.items }
@@ -124,7 +127,7 @@ impl TraceReader {
         &self.events
     }
 
-    // ends the unfinished line by these bytes and a newline.
+    // ends the unfinished line with these bytes and a newline
     fn end_line(&mut self, end: &[u8]) -> Result<(), TraceError>
         requires open { is_open self.old ≡ true }
         requires line { IsLine end.now }
@@ -138,7 +141,7 @@ impl TraceReader {
         self.judge_rest()
     }
 
-    // judges the unfinished line as a whole one.
+    // judges the unfinished line as a whole line
     fn judge_rest(&mut self) -> Result<(), TraceError>
         requires { is_open self.old ≡ true }
         ensures { HasReached self.old (line_ended self.old []) self.new result }
@@ -147,7 +150,7 @@ impl TraceReader {
         self.add(judged)
     }
 
-    // takes what the unfinished line was judged to be.
+    // keeps the event of the line that was judged, or stops at its fault
     fn add(&mut self, judged: Result<Event, TraceFault>) -> Result<(), TraceError>
         requires open { is_open self.old ≡ true }
         requires judged { IsJudgementIn self.old.state judged }
@@ -166,7 +169,7 @@ impl TraceReader {
         }
     }
 
-    // goes on with the unfinished line by bytes that hold no newline.
+    // appends bytes without a newline to the unfinished line
     fn keep(&mut self, bytes: &[u8]) -> Result<(), TraceError>
         requires open { is_open self.old ≡ true }
         requires line { IsLine bytes.now }
@@ -180,7 +183,7 @@ impl TraceReader {
         Ok(())
     }
 
-    // stops at an error.
+    // stops at an error
     fn fail(&mut self, error: TraceError) -> Result<(), TraceError>
         ensures answer { result ≡ Err error }
         ensures failed { self.new ≡ record { events = self.old.events; state = Failed error } }

@@ -1,5 +1,5 @@
-//! The event of a line that spells one, read in one pass over its bytes. `line` judges every other line word by word: that is slower, and knows
-//! each fault.
+//! The event of a line that spells one, read in one pass over its bytes. `line` judges every other line word by word, which is slower and
+//! finds each fault.
 ghost use Rattle.std.specs.Prelude.{◌≡◌, ◌≤◌, [], ℕ, IfSome, Ok};
 ghost use Rattle.heap_theory.specs.declared.event.Event.{Event as EventView};
 ghost use Rattle.line_text.specs.Lines.{words};
@@ -11,7 +11,7 @@ use crate::words::{FARTHEST, byte_in, offset_in};
 use heap_theory::Event;
 use line_text::{Words, words_in};
 
-// the event that a line spells; none where it spells none
+// the event that a line spells; `None` if it spells none
 pub(crate) fn spelled_event(line: &[u8]) -> Option<Event>
     ensures { IfSome result (λ event. event_of_words (words line.now) ≡ Ok event) }
 {
@@ -48,7 +48,7 @@ fn spelled_with_s(line: &[u8]) -> Option<Event>
     Some(Event::Subg { v, w, u6, u4 })
 }
 
-// the words after a first one, which is given with its space
+// the words after the first, which `first` gives with its space
 fn words_after<'a>(first: &[u8], line: &'a [u8]) -> Option<Words<'a>>
     ensures { IfSome result (λ left. AreAfter first.now line.now left) }
 {
@@ -147,7 +147,7 @@ fn byte(words: &mut Words<'_>) -> Option<u8>
     }
 }
 
-// nothing where no word is left; none where one is
+// `Some` if no word is left
 fn last(words: &mut Words<'_>) -> Option<()>
     ensures { IfSome result (λ _. words.old ≡ []) }
 {

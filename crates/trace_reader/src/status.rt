@@ -1,11 +1,11 @@
 use crate::fault::TraceError;
 
-/// Where a reader stands.
+/// The state of a reader.
 #[derive(Debug, Clone, Copy)]
 pub(crate) enum Status {
     /// More of the text may come.
     Open,
-    /// The text was refused, or memory was.
+    /// A line was faulty, or the allocator refused memory.
     Failed(TraceError),
     /// The text has ended.
     Finished,

@@ -1,5 +1,5 @@
-//! What is true of every profile, table and certificate; each law is the contract of a function that does nothing.
-//! A crate above uses a law by calling its function: the call costs nothing, and its `ensures` are facts from there on.
+//! What holds for every profile, table and certificate. Each law is the contract of a function that does nothing.
+//! A crate above uses a law by calling its function. The call costs nothing, and its `ensures` are facts from there on.
 ghost use Rattle.std.specs.Prelude.{ℕ, ◌^◌, ◌<◌, List};
 ghost use Rattle.class_table.specs.Tables.{IsLegalTable};
 ghost use Rattle.tuner_theory.specs.Laws.{
@@ -42,7 +42,7 @@ pub fn law_waste_fits()
     law_class_for();
 }
 
-/// A rounded need is the least multiple of the step that is not below the need, and fits the largest class where the need does.
+/// A rounded need is the least multiple of the step that is not below the need. It fits the largest class if the need does.
 pub fn law_round_up()
     ensures least { RoundingIsLeast }
     ensures fits { RoundingFits }
@@ -69,7 +69,7 @@ pub fn law_spans_fit()
     ensures { SpansFit }
 {}
 
-/// The waste between two needs is told by two sums up to a need, and each step of telling it fits 64 bits.
+/// The waste between two needs follows from two sums up to a need, and each step of that computation fits 64 bits.
 pub fn law_prefix_sums()
     ensures waste { SumsTellWaste }
     ensures ascend { SumsAscend }
@@ -83,7 +83,7 @@ pub fn law_potentials_bound()
     ensures everywhere { PotentialsBoundRests }
 {}
 
-/// A sheet that meets all that a checker looks at has a best table, whoever wrote it.
+/// A sheet that passes all tests of a checker has a best table, whoever wrote it.
 pub fn law_optimal_is_best()
     ensures { OptimalIsBest }
 {}
@@ -93,7 +93,7 @@ pub fn law_one_verdict()
     ensures { OneVerdict }
 {}
 
-/// Least rows: their ends are behind their places, and their numbers are valid potentials.
+/// The ends of least rows come after their places, and their numbers are valid potentials.
 pub fn law_least_rows()
     ensures ends { EndsAreLater }
     ensures valid { LeastRowsAreValid }
@@ -110,7 +110,7 @@ pub fn law_rests()
     ensures one { OneRest }
 {}
 
-/// The table that least rows tell is the canonical one, which is one table; it wastes what they say, and its sheet breaks no condition.
+/// The table that least rows give is the canonical one, and there is only one. It wastes what they say, and its sheet breaks no condition.
 pub fn law_tuned_table()
     ensures canonical { TunedTableIsCanonical }
     ensures wastes { TunedTableWastes }

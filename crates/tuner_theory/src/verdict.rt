@@ -3,7 +3,7 @@ ghost use Rattle.tuner_theory.specs.Shown.{shown_refusal};
 
 use std::fmt;
 
-/// Why a sheet is refused: the first of these that holds of it, in this order. Each is shown as its code and name.
+/// Why a sheet is refused: the first of these that holds, in this order. Each is shown as its code and name.
 #[derive(Debug, Clone, Copy, PartialEq, Eq)]
 pub enum Refusal {
     /// The step is not 1, 2, 4 or 8, or a class of the table is no multiple of it.
@@ -12,15 +12,15 @@ pub enum Refusal {
     OverLimit,
     /// A counted size has no class.
     NotServing,
-    /// The waste is not the table's.
+    /// The sheet's waste is not its table's.
     WasteWrong,
-    /// There are not as many rows as the limit, or a row has not one number for each distinct need.
+    /// The number of rows is not the limit, or a row does not have one number for each distinct need.
     Shape,
-    /// A number of row 1 is more than one class for all places above costs.
+    /// A number of row 1 is more than the cost of one class for all places above.
     LastClass,
     /// A number is more than the one above it in the row before.
     StageDrop,
-    /// A number is more than what a class up to a later place costs with the number of the row before at that place.
+    /// A number is more than the cost of a class up to a later place plus the number of the row before at that place.
     Edge,
     /// The last row's first number is not the waste.
     NotTight,

@@ -15,13 +15,13 @@ ghost use Rattle.heap_theory.specs.Laws.{
   RestIsHeld,
 };
 
-/// The front of a class's list is the slot that the class gives out next, or where the list is empty its lowest fresh slot.
+/// A class gives out next the front of its list, or its lowest fresh slot if the list is empty.
 pub fn law_front()
     ensures listed { FrontIsGiven }
     ensures fresh { LowestFreshIsGiven }
 {}
 
-/// A queue and a list for each class, kept step by step, agree with the marks.
+/// A queue and a list for each class that are changed step by step agree with the marks.
 pub fn law_booking()
     ensures first { NothingIsBookedAtFirst }
 
@@ -37,7 +37,8 @@ pub fn law_booking()
     ensures holds { RestIsHeld }
 {}
 
-/// The queue has the quarantined slots in ascending mark, each class's list its released slots in descending mark, and no slot is in two of them.
+/// The queue has the quarantined slots in ascending mark. Each class's list has its released slots in descending mark. No slot is in two of
+/// these.
 pub fn law_held()
     ensures queue { QueueHoldsQuarantined }
     ensures lists { ListsHoldReleased }

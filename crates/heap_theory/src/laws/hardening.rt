@@ -22,7 +22,7 @@ ghost use Rattle.heap_theory.specs.OwnPointers.{
 
 use super::laws_below;
 
-/// No chunk granule has tag 0, and those of an even slot and of an odd one never have the same tag.
+/// No chunk granule has tag 0. A chunk granule of an even slot and one of an odd slot never have the same tag.
 pub fn law_chunk_tags()
     ensures not_zero { AfterEveryRun ChunkTagsNotZero }
     ensures differ { AfterEveryRun ChunkTagsDiffer }
@@ -45,9 +45,9 @@ pub fn law_inside()
     laws_below();
 }
 
-/// The pointer that was given out for a live chunk is accepted by `free` and never refused for itself by `realloc`, and what it frees is that
-/// chunk. No other pointer is accepted but null. What malloc, calloc and realloc give out is such a pointer, and each call but a free or a
-/// realloc of it leaves it one. So a variable whose generation is live has one.
+/// `free` and `realloc` accept the pointer that was given out for a live chunk, and act on that chunk. They accept no other pointer but
+/// null. Malloc, calloc and realloc give out such a pointer, and it remains one until a free or a realloc of it. So a variable whose
+/// generation is live has one.
 pub fn law_own_pointer()
     ensures free { FreeAcceptsOwnPointers }
     ensures realloc { ReallocAcceptsOwnPointers }
@@ -74,15 +74,15 @@ pub fn law_freed()
     laws_below();
 }
 
-/// A dead slot is given out only where more bytes than the quarantine's limit were freed from its free on, its own among them.
+/// A dead slot is given out only after the bytes freed from its free on, those of its own block included, exceed the quarantine's limit.
 pub fn law_delay()
     ensures { AtEveryEvent ReuseIsDelayed }
 {
     laws_below();
 }
 
-/// In an event each slot stays fresh, stays dead with its size, tag and mark, or stays live (a realloc in place may change its size); or it is
-/// freed; or it is given out once more.
+/// In an event each slot stays fresh, stays dead with its size, tag and mark, or stays live (a realloc in place may change its size); or it
+/// is freed; or it is given out.
 pub fn law_life()
     ensures { AtEveryEvent (λ quarantine. LivesOn) }
 {

@@ -34,7 +34,7 @@ ghost use Rattle.heap_theory.specs.HeaderLaws.{
 
 use super::laws_below;
 
-/// A header that is written is read, and nothing else changes.
+/// A header that was written is read back, and nothing else changes.
 pub fn law_header()
     ensures words { HeaderIsReadFromWords }
     ensures all_bits { WordsAreOfHeader }
@@ -61,14 +61,15 @@ pub fn law_slot_header()
 }
 
 /// Two memories that keep heaps with the same layout, slots, total and limit have the same words in every slot's header: both words, all
-/// 128 bits. So whatever leaves these four as they were leaves every header word as it was.
+/// 128 bits. So a change that keeps these four keeps every header word.
 pub fn law_header_words()
     ensures { SlotsTellHeaderWords }
 {
     laws_below();
 }
 
-/// Links depend on the slots of their list alone and show one list; how they change as a slot is put in front or behind.
+/// Links depend on the slots of their list alone, and show one list. The law also says how they change as a slot goes to the front or to
+/// the end.
 pub fn law_links()
     ensures stay { LinksStay }
     ensures one { OneListIsLinked }
@@ -87,7 +88,7 @@ pub fn law_links_in_headers()
     laws_below();
 }
 
-/// What a heap's caller sees of the memory, the bytes of headers left out.
+/// What a heap's caller sees of the memory: all but the bytes of headers.
 pub fn law_seen_memory()
     ensures new { NewMemoryIsSeen }
     ensures tags { TagsAreSeen }

@@ -28,14 +28,14 @@ pub fn law_sound()
     laws_below();
 }
 
-/// Each call keeps a heap sound, also where it is refused.
+/// Each call keeps a heap sound, even if it is refused.
 pub fn law_calls()
     ensures { EachCallKeepsSound }
 {
     laws_below();
 }
 
-/// What is true of the slot that a request is given, and of the chunk that a pointer names.
+/// What holds for the slot that a request gets, and for the chunk that a pointer names.
 pub fn law_choices()
     ensures request { RequestIsGiven }
     ensures chunk { NamedChunkIsLive }
@@ -50,8 +50,8 @@ pub fn law_lowest_fresh()
     ensures none { NoneIsFresh }
 {}
 
-/// Each granule of a sound heap is of the kind that its place in the layout and the state of its slot say: slack, a header, a granule of a
-/// live chunk or of a freed one, or a tail.
+/// The layout and the state of its slot determine the kind of each granule of a sound heap: slack, a header, a granule of a live or of a
+/// freed chunk, or a tail.
 pub fn law_kinds()
     ensures { GranuleIsOfItsKind }
 {

@@ -1,8 +1,7 @@
 ghost use Rattle.heap_theory.specs.Losses.{ServedRunLosesItsWaste};
 
-/// Where each counted request has a class, none is refused for want of one; the bytes lost are at most those that
-/// rounding loses over all counted requests, and exactly those where no request was exhausted and no realloc was
-/// refused for its pointer.
+/// If each counted request has a class, no request is refused because it has none. The bytes lost are then at most those that rounding
+/// loses over all counted requests. They are exactly those if no request was exhausted and no realloc was refused for its pointer.
 pub fn law_losses()
     ensures { ServedRunLosesItsWaste }
 {}

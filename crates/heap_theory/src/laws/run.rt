@@ -15,7 +15,7 @@ ghost use Rattle.heap_theory.specs.SoundRun.{IsSoundRun};
 
 use super::laws_below;
 
-/// What is true of every state that a run reaches: its heap is sound, and each variable with a generation is its slot's address under
+/// What holds for every state that a run reaches: its heap is sound, and each variable with a generation is its slot's address under
 /// that generation's tag.
 pub fn law_states()
     ensures { AfterEveryRun IsSoundRun }
@@ -23,7 +23,7 @@ pub fn law_states()
     laws_below();
 }
 
-/// What is stored of a run needs nothing else, and one event more is one step, one answer and one report line more.
+/// What is stored of a run determines the rest. One more event is one more step, one more answer and one more report line.
 pub fn law_run()
     ensures stored { StoredPartIsAReplay }
     ensures step { OneStepMore }
@@ -33,14 +33,13 @@ pub fn law_run()
     ensures line { OneLineMore }
 {}
 
-/// A load or a store whose access is a fault answers it and changes nothing.
+/// A load or a store whose access faults reports that fault and changes nothing.
 pub fn law_faults()
     ensures { FaultsAreAnswered }
 {}
 
-/// A load or a store of one byte or more is answered by its access: unmapped exactly where the access is not mapped, a tag fault exactly
-/// where it is mapped and touches a granule whose tag differs from the pointer's, naming the lowest such granule, both tags and its kind;
-/// else it succeeds.
+/// The result of a load or a store of one byte or more: unmapped exactly if the access is not mapped; a tag fault exactly if it is mapped
+/// and touches a granule whose tag differs from the pointer's, with the lowest such granule, both tags and its kind; otherwise it succeeds.
 pub fn law_accesses()
     ensures load { LoadIsAnswered }
     ensures store { StoreIsAnswered }
@@ -50,7 +49,7 @@ pub fn law_accesses()
     laws_below();
 }
 
-/// Totals that are kept event by event are the counts and sums over all events.
+/// Totals that are counted event by event are the counts and sums over all events.
 pub fn law_totals()
     ensures none { TotalsOfNone }
     ensures one_more { TotalsOfOneMore }

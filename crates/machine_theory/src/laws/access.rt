@@ -4,13 +4,13 @@ ghost use Rattle.machine_theory.specs.Memory.{Granule, tag_at};
 ghost use Rattle.machine_theory.specs.declared.fault.Fault.TheVariants.{TagCheck, Unmapped};
 ghost use Rattle.std.specs.Prelude.{◌≡◌, ◌≢◌, ◌↔◌, ◌<◌, IsSome, IsTrue, List, None, Some, length, ℕ};
 
-/// An access passes the test exactly where it is mapped.
+/// An access passes the test exactly if it is mapped.
 pub fn law_mapped()
     ensures { (granules address len : ℕ) → IsTrue (is_mapped granules address len) ↔ IsMapped granules address len }
 {}
 
-/// An access is a tag fault exactly where it is mapped and a granule that it touches has another tag than the pointer's, and the
-/// fault names the lowest such granule.
+/// An access is a tag fault exactly if it is mapped and touches a granule whose tag differs from the pointer's. The fault names the lowest
+/// such granule.
 pub fn law_access()
     ensures unmapped { (memory : List Granule) (address len : ℕ) → (IsMapped (length memory) address len → ⊥) →
         access_fault memory address len ≡ Some Unmapped }
@@ -21,7 +21,7 @@ pub fn law_access()
     ensures succeeds { (memory : List Granule) (address len : ℕ) → 0 < len → IsMapped (length memory) address len →
         ((g : ℕ) → Touches address len g → tag_at memory g ≡ logical_tag address) → access_fault memory address len ≡ None }
 
-    // an access sees the length of the memory and its tags, and no byte
+    // the result of an access depends on the length of the memory and its tags, and on no byte
     ensures by_tags { (memory other : List Granule) (address len : ℕ) → length other ≡ length memory →
         ((g : ℕ) → tag_at other g ≡ tag_at memory g) → access_fault other address len ≡ access_fault memory address len }
 {}

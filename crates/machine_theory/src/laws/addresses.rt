@@ -1,7 +1,7 @@
 ghost use Rattle.machine_theory.specs.Address.{Holds, logical_tag, moved_by, place_of, region_start, with_tag};
 ghost use Rattle.std.specs.Prelude.{◌≡◌, ◌+◌, ◌<◌, ◌≤◌, ◌^◌, nat_abs, ℕ, ℤ};
 
-/// A tag that is put into an address is read from it, and the rest of the address stays.
+/// A tag that was put into an address is read back from it, and the rest of the address stays the same.
 pub fn law_addresses()
     ensures tag { (address tag : ℕ) → tag < 16 → logical_tag (with_tag address tag) ≡ tag }
     ensures place { (address tag : ℕ) → place_of (with_tag address tag) ≡ place_of address }
@@ -15,8 +15,8 @@ pub fn law_granules()
     ensures one { (g k place : ℕ) → Holds g place → Holds k place → g ≡ k }
 {}
 
-/// Near the region, an address that is moved by at most 2 ^ 20 bytes keeps its tag and its highest four bits, and null is not near
-/// the region.
+/// An address near the region keeps its tag and its highest four bits when it is moved by at most 2 ^ 20 bytes. Null is not near the
+/// region.
 pub fn law_moved()
     ensures tag { (address : ℕ) (offset : ℤ) (i : ℕ) → nat_abs offset ≤ 2 ^ 20 → i < 64 →
         region_start ≤ place_of (moved_by address offset) + i → place_of (moved_by address offset) < 2 ^ 37 →

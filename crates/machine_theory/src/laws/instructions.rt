@@ -14,7 +14,7 @@ pub fn law_never_zero()
     ensures subg { (xn u6 u4 : ℕ) → logical_tag (subg xn u6 u4) ≢ 0 }
 {}
 
-/// When LDG and the three stores are refused: a store by its alignment first, then where its granules are not all mapped.
+/// When LDG and the three stores fault: a store first for its alignment, then if its granules are not all mapped.
 pub fn law_refusals()
     ensures alignment { (memory : List Granule) (count xn : ℕ) → xn % 16 ≢ 0 → tag_store_fault memory count xn ≡ Some Alignment }
     ensures unmapped { (memory : List Granule) (count xn : ℕ) → xn % 16 ≡ 0 → (IsMapped (length memory) xn (16 * count) → ⊥) →
@@ -26,7 +26,7 @@ pub fn law_refusals()
         ldg memory xt xn ≡ Ok (with_tag xt (tag_at memory (granule_of (place_of xn)))) }
 {}
 
-/// LDG reads the tag that STG or STZG wrote, ST2G is STG at a granule and at the next one, and STZG leaves bytes that are 0.
+/// LDG reads the tag that STG or STZG wrote. ST2G is STG at a granule and at the next one. STZG sets the bytes to 0.
 pub fn law_tag_stores()
     ensures stg { (memory : List Granule) (xt xn other : ℕ) → tag_store_fault memory 1 xn ≡ None →
         ldg (stg memory xt xn) other xn ≡ Ok (with_tag other (logical_tag xt)) }

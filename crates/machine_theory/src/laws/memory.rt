@@ -2,8 +2,7 @@ ghost use Rattle.machine_theory.specs.Memory.{Granule, IsMemory, bytes_at, each_
 ghost use Rattle.std.specs.Int.{to_le_bytes, w64};
 ghost use Rattle.std.specs.Prelude.{◌≡◌, ◌⊎◌, ◌+◌, ◌*◌, ◌++◌, ◌<◌, ◌≤◌, ◌^◌, All, List, length, replicate, ℕ};
 
-/// What a change of each granule makes of a memory, and that two changes may be made in either order where they may at each
-/// granule.
+/// What a change of each granule makes of a memory. Two changes may be made in either order if they may at each granule.
 pub fn law_each_granule()
     ensures len { (change : ℕ → Granule → Granule) (memory : List Granule) → length (each_granule change memory) ≡ length memory }
     ensures granule { (change : ℕ → Granule → Granule) (memory : List Granule) (g : ℕ) → g < length memory →
@@ -15,7 +14,7 @@ pub fn law_each_granule()
         each_granule one (each_granule other memory) ≡ each_granule other (each_granule one memory) }
 {}
 
-/// Tags and bytes that are written one after another are those that are written at once, in either order.
+/// Tags and bytes that are written one after another, in either order, are those that are written at once.
 pub fn law_changes()
     ensures no_tag { (first tag : ℕ) (memory : List Granule) → tagged first 0 tag memory ≡ memory }
     ensures one_tag_more { (first n tag : ℕ) (memory : List Granule) →
@@ -26,7 +25,7 @@ pub fn law_changes()
         written i new (tagged first count tag memory) ≡ tagged first count tag (written i new memory) }
 {}
 
-/// What is read after a change: the tags and bytes that were written, and all others as they were.
+/// What is read after a change: the tags and bytes that were written, and all others unchanged.
 pub fn law_reads()
     ensures written_tag { (first count tag g : ℕ) (memory : List Granule) → first ≤ g → g < first + count → g < length memory →
         tag_at (tagged first count tag memory) g ≡ tag }
@@ -45,7 +44,7 @@ pub fn law_reads()
         word_at (written i (to_le_bytes w64 w) memory) i ≡ w }
 {}
 
-/// A change keeps a memory a memory of as many granules.
+/// After a change a memory is still a memory, with as many granules.
 pub fn law_memory()
     ensures new { (granules : ℕ) → 64 ≤ granules → granules ≤ 262144 → IsMemory (replicate granules new_granule) }
     ensures tagged { (first count tag : ℕ) (memory : List Granule) → tag < 16 → IsMemory memory → IsMemory (tagged first count tag memory) }

@@ -12,8 +12,8 @@ pub fn law_choose_tag()
         choose_tag tag offset exclude ≡ 0 }
 {}
 
-/// Where IRG draws with the tags of one parity and one more tag excluded, its tag is of the other parity, and neither 0 nor
-/// that one.
+/// If the mask of IRG excludes the tags of one parity and one more tag, the drawn tag is of the other parity, and neither 0 nor that one
+/// more tag.
 pub fn law_parity()
     ensures odd { (tag seed last : ℕ) → tag < 16 →
         let drawn = drawn_tag tag seed (bit_or 0x5555 (2 ^ last)) in (drawn < 16) × (drawn % 2 ≡ 1) × (drawn ≢ last) }

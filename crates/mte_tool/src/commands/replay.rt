@@ -92,7 +92,7 @@ pub fn words<'a>(alloc: Global) -> Result<Command<'a>, AllocError>
 /// The command's options.
 #[derive(Debug, Clone, Copy)]
 pub struct Replay {
-    /// How the heap is set up.
+    /// The configuration of the heap.
     pub config: Config,
 }
 

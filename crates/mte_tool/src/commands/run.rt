@@ -97,12 +97,12 @@ pub struct Run {
     pub limit: u8,
     /// The granules that each class is a multiple of: 1, 2, 4 or 8.
     pub step: u8,
-    /// How the heap is set up.
+    /// The configuration of the heap.
     pub config: Config,
 }
 
 impl Run {
-    /// The options that clap found. The error is `BadOption` where the step is not 1, 2, 4 or 8, or another number is not in its range.
+    /// The options that clap found. `BadOption` if the step is not 1, 2, 4 or 8, or another number is outside its range.
     pub fn of_options(options: &ArgMatches<'_>) -> Result<Run, OptionFault>
         ensures { MatchResult result
             (λ o. Names (codes "run") (rows_of (found_of options.now)) (RunCall o))

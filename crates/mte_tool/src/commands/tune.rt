@@ -79,7 +79,7 @@ pub struct Tune {
 }
 
 impl Tune {
-    /// The options that clap found. The error is `BadOption` where the step is not 1, 2, 4 or 8, or another number is not in its range.
+    /// The options that clap found. `BadOption` if the step is not 1, 2, 4 or 8, or another number is outside its range.
     pub fn of_options(options: &ArgMatches<'_>) -> Result<Tune, OptionFault>
         ensures { MatchResult result
             (λ o. Names (codes "tune") (rows_of (found_of options.now)) (TuneCall o))
