@@ -1,0 +1,78 @@
+//! Profiles: how often each size was requested.
+
+use crate::text::{push_number, Scanner};
+
+/// The largest size that any class serves, in bytes.
+pub const LARGEST: usize = 16_368;
+
+const MOST_COUNTED: u64 = 1_000_000_000;
+
+pub struct Profile {
+    /// How often each size was requested.
+    pub counts: Vec<u32>,
+    /// How often a larger one was.
+    pub large: u32,
+}
+
+impl Profile {
+    pub fn new() -> Profile {
+        Profile {
+            counts: vec![0; LARGEST + 1],
+            large: 0,
+        }
+    }
+
+    /// Counts a request of `n` bytes.
+    pub fn add(&mut self, n: u32) {
+        match self.counts.get_mut(n as usize) {
+            Some(count) => *count += 1,
+            None => self.large += 1,
+        }
+    }
+
+    /// Reads lines `SIZE COUNT`, ascending, and perhaps a line `large COUNT` after them.
+    pub fn read(text: &mut Scanner) -> Option<Profile> {
+        let mut profile = Profile::new();
+        let mut next = 0;
+        while text.len() > 0 {
+            let Some(size) = text.number() else {
+                text.expect(b"large ")?;
+                profile.large = read_count(text)?;
+                return (text.len() == 0).then_some(profile);
+            };
+            if size < next || size > LARGEST as u64 {
+                return None;
+            }
+            text.expect(b" ")?;
+            profile.counts[size as usize] = read_count(text)?;
+            next = size + 1;
+        }
+        Some(profile)
+    }
+
+    pub fn write(&self, text: &mut Vec<u8>) {
+        for (size, count) in self.counts.iter().enumerate() {
+            if *count > 0 {
+                push_number(text, size as u64);
+                push_count(text, *count);
+            }
+        }
+        if self.large > 0 {
+            text.extend_from_slice(b"large");
+            push_count(text, self.large);
+        }
+    }
+}
+
+// the count at the end of a line
+fn read_count(text: &mut Scanner) -> Option<u32> {
+    let count = text.number_to(MOST_COUNTED)?;
+    text.end_line()?;
+    (count > 0).then_some(count as u32)
+}
+
+fn push_count(text: &mut Vec<u8>, count: u32) {
+    text.push(b' ');
+    push_number(text, u64::from(count));
+    text.push(b'\n');
+}

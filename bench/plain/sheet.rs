@@ -1,0 +1,77 @@
+//! Sheets: a table, and the rows that show that it is a best one.
+
+use crate::score::read_classes;
+use crate::text::{push_number, Scanner};
+
+pub struct Sheet {
+    pub classes: Vec<u32>,
+    pub limit: usize,
+    pub step: u32,
+    pub waste: u64,
+    /// A number for each place but the last, and then a 0 for the last one.
+    pub rows: Vec<Vec<u64>>,
+}
+
+impl Sheet {
+    pub fn read(text: &mut Scanner) -> Option<Sheet> {
+        let classes = read_classes(text)?;
+        text.expect(b"limit ")?;
+        let limit = text.number_to(32).filter(|limit| *limit > 0)? as usize;
+        text.end_line()?;
+        let mut step = 1;
+        if text.skip(b"step ") {
+            step = text.number().filter(|step| matches!(step, 2 | 4 | 8))? as u32;
+            text.end_line()?;
+        }
+        text.expect(b"waste ")?;
+        let waste = text.number()?;
+        text.end_line()?;
+        let mut rows = Vec::new();
+        while text.skip(b"row") {
+            rows.push(read_row(text)?);
+        }
+        (rows.len() <= 32).then_some(Sheet {
+            classes,
+            limit,
+            step,
+            waste,
+            rows,
+        })
+    }
+
+    pub fn write(&self, text: &mut Vec<u8>) {
+        text.extend_from_slice(b"classes");
+        for class in &self.classes {
+            text.push(b' ');
+            push_number(text, u64::from(*class));
+        }
+        push_line(text, b"\nlimit", &[self.limit as u64]);
+        if self.step > 1 {
+            push_line(text, b"step", &[u64::from(self.step)]);
+        }
+        push_line(text, b"waste", &[self.waste]);
+        for row in &self.rows {
+            push_line(text, b"row", &row[..row.len() - 1]);
+        }
+    }
+}
+
+// the numbers of a row, at most 1,023, and the 0 of the last place
+fn read_row(text: &mut Scanner) -> Option<Vec<u64>> {
+    let mut row = Vec::with_capacity(1024);
+    while text.skip(b" ") {
+        row.push(text.number()?);
+    }
+    text.end_line()?;
+    row.push(0);
+    (row.len() <= 1024).then_some(row)
+}
+
+fn push_line(text: &mut Vec<u8>, name: &[u8], numbers: &[u64]) {
+    text.extend_from_slice(name);
+    for number in numbers {
+        text.push(b' ');
+        push_number(text, *number);
+    }
+    text.push(b'\n');
+}

@@ -1,0 +1,174 @@
+//! Text in and out: standard input, read by pieces of 65,536 bytes, and numbers.
+
+use std::io::Read;
+
+const PIECE: usize = 65_536;
+
+// so many digits always fit 64 bits
+const MOST_DIGITS: usize = 19;
+
+/// All of standard input. None where a read fails.
+pub fn read_all() -> Option<Vec<u8>> {
+    let mut input = std::io::stdin().lock();
+    let mut piece = vec![0; PIECE];
+    let mut text = Vec::new();
+    loop {
+        match input.read(&mut piece).ok()? {
+            0 => return Some(text),
+            n => text.extend_from_slice(&piece[..n]),
+        }
+    }
+}
+
+/// Hands on standard input as texts of whole lines; the last line may lack its newline. It keeps
+/// one piece and an unfinished line. None where a line is longer than a piece, a read fails, or
+/// `take` gives none.
+pub fn each_text(mut take: impl FnMut(Scanner) -> Option<()>) -> Option<()> {
+    let mut input = std::io::stdin().lock();
+    let mut buffer = vec![0; 2 * PIECE];
+    let mut held = 0;
+    loop {
+        let n = input.read(buffer.get_mut(held..held + PIECE)?).ok()?;
+        let end = held + n;
+        if n == 0 {
+            return take(Scanner::new(&buffer[..end]));
+        }
+        let newline = buffer[held..end].iter().rposition(|byte| *byte == b'\n');
+        if let Some(at) = newline {
+            let whole = held + at + 1;
+            take(Scanner::new(&buffer[..whole]))?;
+            buffer.copy_within(whole..end, 0);
+            held = end - whole;
+        } else {
+            held = end;
+        }
+    }
+}
+
+/// Reads a text from its front.
+pub struct Scanner<'a> {
+    rest: &'a [u8],
+}
+
+impl<'a> Scanner<'a> {
+    pub fn new(text: &'a [u8]) -> Scanner<'a> {
+        Scanner { rest: text }
+    }
+
+    /// How many bytes are left.
+    pub fn len(&self) -> usize {
+        self.rest.len()
+    }
+
+    /// Passes over these bytes where they come next, and says whether they do.
+    pub fn skip(&mut self, bytes: &[u8]) -> bool {
+        let rest = self.rest.strip_prefix(bytes);
+        self.rest = rest.unwrap_or(self.rest);
+        rest.is_some()
+    }
+
+    /// Passes over these bytes, which must come next.
+    pub fn expect(&mut self, bytes: &[u8]) -> Option<()> {
+        self.rest = self.rest.strip_prefix(bytes)?;
+        Some(())
+    }
+
+    /// Passes over the newline that ends a line; the last line may lack it.
+    pub fn end_line(&mut self) -> Option<()> {
+        if !self.rest.is_empty() {
+            self.expect(b"\n")?;
+        }
+        Some(())
+    }
+
+    /// The number that comes next: digits with no 0 in front of others.
+    #[inline]
+    pub fn number(&mut self) -> Option<u64> {
+        let mut n: u64 = 0;
+        let mut len = 0;
+        for byte in self.rest {
+            let digit = byte.wrapping_sub(b'0');
+            if digit > 9 {
+                break;
+            }
+            n = n.wrapping_mul(10).wrapping_add(u64::from(digit));
+            len += 1;
+        }
+        if len == 0 || len > MOST_DIGITS || (len > 1 && self.rest[0] == b'0') {
+            return self.odd_number(len);
+        }
+        self.rest = &self.rest[len..];
+        Some(n)
+    }
+
+    // the number of so many digits, where they are none, begin with a 0 or may not fit 64 bits
+    #[cold]
+    fn odd_number(&mut self, len: usize) -> Option<u64> {
+        let (digits, rest) = self.rest.split_at(len);
+        if digits.is_empty() || digits[0] == b'0' {
+            return None;
+        }
+        self.rest = rest;
+        std::str::from_utf8(digits).ok()?.parse().ok()
+    }
+
+    /// The number that comes next, which is at most `most`.
+    pub fn number_to(&mut self, most: u64) -> Option<u64> {
+        self.number().filter(|n| *n <= most)
+    }
+
+    /// The next two bytes as a byte in hexadecimal digits.
+    pub fn hex_byte(&mut self) -> Option<u8> {
+        let [high, low, rest @ ..] = self.rest else {
+            return None;
+        };
+        self.rest = rest;
+        Some(16 * hex_digit(*high)? + hex_digit(*low)?)
+    }
+}
+
+fn hex_digit(byte: u8) -> Option<u8> {
+    match byte {
+        b'0'..=b'9' => Some(byte - b'0'),
+        b'a'..=b'f' => Some(byte - b'a' + 10),
+        _ => None,
+    }
+}
+
+// the two digits of each number below 100
+const PAIRS: [[u8; 2]; 100] = {
+    let mut pairs = [[0; 2]; 100];
+    let mut n = 0;
+    while n < 100 {
+        pairs[n] = [b'0' + (n / 10) as u8, b'0' + (n % 10) as u8];
+        n += 1;
+    }
+    pairs
+};
+
+/// Appends a number in decimal digits, four at a time.
+pub fn push_number(text: &mut Vec<u8>, mut n: u64) {
+    let mut digits = [0; 20];
+    let mut at = digits.len();
+    while n >= 10_000 {
+        let low = (n % 10_000) as usize;
+        n /= 10_000;
+        at -= 4;
+        digits[at..at + 2].copy_from_slice(&PAIRS[low / 100]);
+        digits[at + 2..at + 4].copy_from_slice(&PAIRS[low % 100]);
+    }
+    let mut n = n as usize;
+    if n >= 100 {
+        at -= 2;
+        digits[at..at + 2].copy_from_slice(&PAIRS[n % 100]);
+        n /= 100;
+    }
+    if n >= 10 {
+        at -= 2;
+        digits[at..at + 2].copy_from_slice(&PAIRS[n]);
+    } else {
+        at -= 1;
+        digits[at] = b'0' + n as u8;
+    }
+    text.extend_from_slice(&digits[at..]);
+}
