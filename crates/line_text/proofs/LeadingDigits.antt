@@ -1,13 +1,14 @@
 -- The digits in front of a text, and the number that they spell.
-use Rattle.std.proofs.Common.{◌≡◌, ℕ, Bool, cond, ◌<◌, ◌≤◌, true, false, eqb, List, [], ◌∷◌, ◌∙◌, length, get_or, take, take_all, refl, arith, Some, None, inl, inr, ◌⊎◌}
+use Rattle.std.proofs.Common.{◌≡◌, ℕ, zero, suc, ◌+◌, min, Bool, cond, ◌<◌, ◌≤◌, true, false, eqb, List, [], ◌∷◌, ◌++◌, append-nil, leb, ◌∙◌, length, get_or, take, take_all, refl, sym, ap, arith, Option, Some, None, inl, inr, ◌⊎◌}
 use Rattle.std.specs.Char.{is_ascii_digit}
 use Rattle.std.specs.List.{list_all, prefix_len, take_while}
 use Rattle.std.specs.Str.Parse.{digits_value}
-use Rattle.std.proofs.lemmas.Bool.{cases_lt, both_ways}
+use Rattle.std.proofs.lemmas.Bool.{cases_Bool, cases_lt, both_ways}
 use Rattle.std.proofs.lemmas.Bool.Decides.{nat_tests}
-use Rattle.std.proofs.lemmas.List.{get_or-take, length-take-le}
+use Rattle.std.proofs.lemmas.List.{get_or-take, length-take-le, take-take}
 use Rattle.std.proofs.lemmas.List.Sums.{prefix_len_is, prefix_len_stops, prefix_len-le-length, take_while-cons}
-use Rattle.line_text.specs.Numbers.{number_of, leading_digits, leading_number_of}
+use Rattle.line_text.specs.Numbers.{number_of, short_number_of, leading_digits, leading_number_of}
+use Rattle.line_text.specs.Pairs.{AreLeading}
 use Rattle.line_text.proofs.Digits.{digit_at}
 
 -- a digit before the end of digits
@@ -22,7 +23,7 @@ pub ends_at : (text : List ℕ) (i : ℕ) → i ≤ length text → list_all is_
 ends_at text i le all other = prefix_len_is is_ascii_digit text i 0 le (λ k lt. digit_before text i k le all lt) other
 
 -- and not before it
-reaches : (text : List ℕ) (i : ℕ) → i ≤ length text → list_all is_ascii_digit (take i text) ≡ true → i ≤ prefix_len is_ascii_digit text
+pub reaches : (text : List ℕ) (i : ℕ) → i ≤ length text → list_all is_ascii_digit (take i text) ≡ true → i ≤ prefix_len is_ascii_digit text
 reaches text i le all = elim (cases_lt (prefix_len is_ascii_digit text) i) [
   | inl before ↦
       absurd (both_ways _ (prefix_len_stops is_ascii_digit text 0 (omega arith)) (digit_before text i (prefix_len is_ascii_digit text) le all before))
@@ -78,3 +79,41 @@ a_number text i le few is all some first = short text i le few is ∙ number_of-
   | inl one ↦ inl (omega (arith, length-take-le i text le, one))
   | inr other ↦ inr (rw (get_or-take i text 0 0 some) other)
 ])
+
+-- what was read up to the first byte that is no digit
+pub leading_up_to : (text : List ℕ) (i end value : ℕ) → i ≤ length text → end ≡ i → i ≤ 19 → list_all is_ascii_digit (take i text) ≡ true → value ≡ digits_value 10 (take i text)
+    → (i < length text → is_ascii_digit (get_or text i 0) ≡ false) → AreLeading (Some (value, end)) text
+leading_up_to text i end value le is few all read other =
+    let stop = ends_at text i le all other in
+    (read ∙ ap (λ n. digits_value 10 (take n text)) (sym stop), is ∙ sym stop, omega arith)
+
+prefix_len-take : (text : List ℕ) (n : ℕ) → prefix_len is_ascii_digit (take n text) ≡ min n (prefix_len is_ascii_digit text)
+prefix_len-take text zero = omega arith
+prefix_len-take [] (suc n) = omega arith
+prefix_len-take (c ∷ text) (suc n) = more (prefix_len-take text n) (is_ascii_digit c)
+  where
+    more : prefix_len is_ascii_digit (take n text) ≡ min n (prefix_len is_ascii_digit text) → (b : Bool)
+        → cond b (1 + prefix_len is_ascii_digit (take n text)) 0 ≡ min (suc n) (cond b (1 + prefix_len is_ascii_digit text) 0)
+    more rest true = omega arith
+    more rest false = omega arith
+
+-- the digits in front of the first 20 bytes tell those of the text, as far as they are few
+pub leading_of_window : (text : List ℕ) (found : Option (ℕ × ℕ)) → AreLeading found (take 20 text) → AreLeading found text
+leading_of_window text None many = omega (arith, prefix_len-take text 20)
+leading_of_window text (Some found) read =
+    let same : prefix_len is_ascii_digit (take 20 text) ≡ prefix_len is_ascii_digit text = omega (arith, prefix_len-take text 20, read) in
+    let few : prefix_len is_ascii_digit (take 20 text) ≤ 20 = omega (arith, read) in
+    (read.0 ∙ ap (digits_value 10) (take-take (prefix_len is_ascii_digit (take 20 text)) 20 text few ∙ ap (λ n. take n text) same), read.1 ∙ same, read.2)
+
+short_is_number : (word : List ℕ) (n : ℕ) → short_number_of word ≡ Some n → number_of word ≡ Some n
+short_is_number word n is = elim (cases_Bool (leb (length word) 19)) [
+  | inl few ↦ rw few at is
+  | inr many ↦ let none = rw many at is in absurd cc
+]
+
+-- digits with nothing behind them are a whole word
+pub whole_number : (word behind : List ℕ) (n : ℕ) → Some n ≡ leading_number_of word → word ≡ leading_digits word ++ behind → length behind ≡ 0 → number_of word ≡ Some n
+whole_number word [] n is cut none =
+    let all : leading_digits word ≡ word = sym (cut ∙ append-nil (leading_digits word)) in
+    short_is_number word n (ap short_number_of (sym all) ∙ sym is)
+whole_number word (b ∷ behind) n is cut none = absurd (omega (arith, none))

@@ -3,4 +3,5 @@ pub mod Hexadecimal
 pub mod Laws
 pub mod Lines
 pub mod Numbers
+pub mod Pairs
 pub mod Signed

@@ -7,6 +7,7 @@ pub mod laws;
 mod leading;
 mod lines;
 mod number;
+mod pair;
 mod search;
 mod signed;
 #[cfg(test)]

@@ -1,8 +1,10 @@
 //! Lines of a text.
-ghost use Rattle.std.specs.Prelude.{◌≡◌, List, ℕ};
+ghost use Rattle.std.specs.Prelude.{◌≡◌, List, ℕ, IfSome, IfNone, drop, option_and_then, slice_get};
 ghost use Rattle.std.specs.Iterator.{YieldsFirstBy, item_count};
-ghost use Rattle.line_text.specs.Lines.{lines};
+ghost use Rattle.line_text.specs.Lines.{lines, words};
+ghost use Rattle.line_text.specs.Pairs.{short_pair_of};
 
+use crate::pair::leading_pair;
 use crate::search::first_place;
 use std::marker::Model;
 
@@ -32,6 +34,19 @@ impl<'a> Lines<'a> {
         ensures { lines result.now ≡ self.now }
     {
         self.rest
+    }
+
+    /// Takes the next line as two numbers, in one pass over its bytes. None where no line is left, or the next one is not two words that
+    /// each spell a number of at most 19 digits; then no line is taken.
+    #[inline(always)]
+    pub fn next_numbers(&mut self) -> Option<(u64, u64)>
+        ensures numbers { result ≡ option_and_then (λ line. short_pair_of (words line)) (slice_get self.old 0) }
+        ensures taken { IfSome result (λ _. self.new ≡ drop 1 self.old) }
+        ensures kept { IfNone result (self.new ≡ self.old) }
+    {
+        let (numbers, rest) = leading_pair(self.rest)?;
+        self.rest = rest;
+        Some(numbers)
     }
 }
 

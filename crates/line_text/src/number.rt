@@ -6,6 +6,8 @@ ghost use Rattle.std.specs.Option.{SomeIff, option_map};
 ghost use Rattle.std.specs.Str.Parse.{digits_value};
 ghost use Rattle.line_text.specs.Numbers.{number_of, classified};
 
+use crate::leading::leading_number;
+
 /// What a word says as a number.
 #[derive(Debug, Clone, Copy, PartialEq, Eq)]
 pub enum Number {
@@ -22,18 +24,23 @@ pub(crate) const SHORT: usize = 19;
 
 /// The number that a word of any length spells. Each number has one spelling: its decimal digits, with no 0 in front
 /// but in `0` itself.
-#[tactic(auto, unfolding(crate::specs::Numbers::number_of))]
+#[tactic(auto, using(crate::proofs::LeadingDigits::whole_number))]
 pub fn number_in(word: &[u8]) -> Number
+    ensures { result ≡ classified (number_of word.now) }
+{
+    match leading_number(word) {
+        Some((value, [])) => Number::Value(value),
+        _ => any_number_in(word),
+    }
+}
+
+// The number that a word spells, also where it has more digits than `leading_number` reads.
+#[tactic(auto, unfolding(crate::specs::Numbers::number_of))]
+fn any_number_in(word: &[u8]) -> Number
     ensures { result ≡ classified (number_of word.now) }
 {
     if word.is_empty() || (word[0] == b'0' && 1 < word.len()) {
         return Number::NoNumber;
-    }
-    if word.len() <= SHORT {
-        return match short_value_in(word) {
-            Some(value) => Number::Value(value),
-            None => Number::NoNumber,
-        };
     }
     if !all_digits(word) {
         return Number::NoNumber;
@@ -61,21 +68,6 @@ fn all_digits(word: &[u8]) -> bool
     ensures { result ≡ list_all is_ascii_digit word.now }
 {
     word.iter().all(|b| b.is_ascii_digit())
-}
-
-// The value of a short word, where all its bytes are digits.
-fn short_value_in(word: &[u8]) -> Option<u64>
-    requires { length word.now ≤ SHORT }
-    ensures { SomeIff result (IsTrue (list_all is_ascii_digit word.now)) (digits_value 10 word.now) }
-{
-    let mut value: u64 = 0;
-    for byte in word {
-        if !byte.is_ascii_digit() {
-            return None;
-        }
-        value = value * 10 + u64::from(*byte - b'0');
-    }
-    Some(value)
 }
 
 // The value of digits, where 64 bits hold it.

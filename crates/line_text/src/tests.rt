@@ -119,6 +119,50 @@ fn next_numbers(rt: HostRuntime) {
 }
 
 #[test]
+fn next_lines_of_numbers(rt: HostRuntime) {
+    let cases: [(&str, Option<(u64, u64)>, Option<&str>); 17] = [
+        ("16 3\n40 1\n", Some((16, 3)), Some("40 1")),
+        ("16 3", Some((16, 3)), None),
+        ("0 0\n", Some((0, 0)), None),
+        ("0 0\n\n", Some((0, 0)), Some("")),
+        (
+            "9999999999999999999 9999999999999999999\nlarge 7",
+            Some((9_999_999_999_999_999_999, 9_999_999_999_999_999_999)),
+            Some("large 7"),
+        ),
+        ("", None, None),
+        ("\n16 3", None, Some("")),
+        ("16", None, Some("16")),
+        ("16\n3\n", None, Some("16")),
+        ("16 \n3\n", None, Some("16 ")),
+        ("16 3 \n", None, Some("16 3 ")),
+        ("16 3 4\n", None, Some("16 3 4")),
+        ("16  3\n", None, Some("16  3")),
+        ("016 3\n", None, Some("016 3")),
+        ("16 03\n", None, Some("16 03")),
+        ("large 3\n", None, Some("large 3")),
+        (
+            "16 10000000000000000000\n",
+            None,
+            Some("16 10000000000000000000"),
+        ),
+    ];
+    for (text, numbers, after) in cases {
+        let mut lines = lines_in(text.as_bytes());
+        assert_eq!(rt;
+            lines.next_numbers(),
+            numbers,
+            "numbers in front of {text:?}"
+        );
+        assert_eq!(rt;
+            lines.next(),
+            after.map(|line| line.as_bytes()),
+            "line after them in {text:?}"
+        );
+    }
+}
+
+#[test]
 fn signed_numbers(rt: HostRuntime) {
     let cases: [(&str, SignedNumber); 13] = [
         ("0", SignedNumber::Value(0)),

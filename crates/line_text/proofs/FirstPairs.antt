@@ -1,0 +1,194 @@
+-- The two numbers of the first line of a text, read from the front of the text.
+use Rattle.std.proofs.Common.{◌≡◌, ◌≢◌, ℕ, ◌<◌, ◌∙◌, Bool, true, false, cond, eqb-true, List, [], ◌∷◌, ◌++◌, length, get_or, drop, refl, sym, ap, arith, Option, Some, None, option_and_then, slice_get, inl, inr}
+use Rattle.std.specs.Char.{is_ascii_digit}
+use Rattle.std.specs.List.{onto_first}
+use Rattle.std.specs.Option.{option_map}
+use Rattle.std.proofs.lemmas.Bool.{cases_Bool}
+use Rattle.std.proofs.lemmas.List.Elements.{All-head, All-tail, All-from_get_or}
+use Rattle.std.proofs.lemmas.List.Sums.{take_while-cons}
+use Rattle.line_text.specs.Lines.{lines, words, line_of, is_newline, is_space, IsLine}
+use Rattle.line_text.specs.Numbers.{short_number_of, leading_digits, leading_number_of}
+use Rattle.line_text.specs.Pairs.{short_pair_of}
+use Rattle.line_text.proofs.Cuts.{line_of-words}
+use Rattle.line_text.proofs.Digits.{digit_at, other_byte}
+use Rattle.line_text.proofs.FirstNumbers.{no_first_number, no_word_end, only_word, word_before, first_number_of}
+use Rattle.line_text.proofs.LeadingDigits.{are_digits}
+
+-- ---- the first line of a text and the text after it
+
+abbrev pub front : List ℕ → List ℕ
+front [] = []
+front (b ∷ text) = cond (is_newline b) [] (b ∷ front text)
+
+abbrev pub after : List ℕ → List ℕ
+after [] = []
+after (b ∷ text) = cond (is_newline b) text (after text)
+
+lines-cons : (b : ℕ) (text : List ℕ) → lines (b ∷ text) ≡ front (b ∷ text) ∷ lines (after (b ∷ text))
+unfolding lines
+lines-cons b [] = go (is_newline b)
+  where
+    go : (v : Bool) → cond v ([] ∷ []) ((b ∷ []) ∷ []) ≡ cond v [] (b ∷ []) ∷ lines (cond v [] [])
+    go true = refl
+    go false = refl
+lines-cons b (d ∷ text) = go (is_newline b) (lines-cons d text)
+  where
+    go : (v : Bool) → lines (d ∷ text) ≡ front (d ∷ text) ∷ lines (after (d ∷ text))
+        → cond v ([] ∷ lines (d ∷ text)) (onto_first b (lines (d ∷ text))) ≡ cond v [] (b ∷ front (d ∷ text)) ∷ lines (cond v (d ∷ text) (after (d ∷ text)))
+    go true rest = refl
+    go false rest = ap (onto_first b) rest
+
+abbrev pub first_pair_of : List ℕ → Option (ℕ × ℕ)
+first_pair_of text = option_and_then (λ line. short_pair_of (words line)) (slice_get (lines text) 0)
+
+first_pair_is : (text : List ℕ) → first_pair_of text ≡ short_pair_of (words (front text))
+unfolding lines words
+first_pair_is [] = refl
+first_pair_is (b ∷ text) = ap (λ (ls : List (List ℕ)). option_and_then (λ line. short_pair_of (words line)) (slice_get ls 0)) (lines-cons b text)
+
+lines-after : (text : List ℕ) → lines (after text) ≡ drop 1 (lines text)
+unfolding lines
+lines-after [] = refl
+lines-after (b ∷ text) = sym (ap (λ (ls : List (List ℕ)). drop 1 ls) (lines-cons b text))
+
+front-append : (part text : List ℕ) → IsLine part → front (part ++ text) ≡ part ++ front text
+front-append [] text all = refl
+front-append (b ∷ part) text all =
+    rw (All-head (λ x. is_newline x ≡ false) b part all) (ap (λ (t : List ℕ). b ∷ t) (front-append part text (All-tail (λ x. is_newline x ≡ false) b part all)))
+
+after-append : (part text : List ℕ) → IsLine part → after (part ++ text) ≡ after text
+after-append [] text all = refl
+after-append (b ∷ part) text all =
+    rw (All-head (λ x. is_newline x ≡ false) b part all) (after-append part text (All-tail (λ x. is_newline x ≡ false) b part all))
+
+are_in_line : (text : List ℕ) → IsLine (leading_digits text)
+are_in_line text = All-from_get_or (λ b. is_newline b ≡ false) (leading_digits text) 0
+    (λ i lt. other_byte (get_or (leading_digits text) i 0) 10 (digit_at (leading_digits text) i (are_digits text) lt) (omega arith))
+
+-- the digits in front of a text are those in front of its first line
+leading_digits-front : (text : List ℕ) → leading_digits (front text) ≡ leading_digits text
+leading_digits-front [] = refl
+leading_digits-front (b ∷ text) = elim (cases_Bool (is_newline b)) [
+  | inl ends ↦ rw (eqb-true b 10 ends) refl
+  | inr goes_on ↦
+      rw goes_on
+      (take_while-cons is_ascii_digit b (front text)
+      ∙ ap (λ (t : List ℕ). cond (is_ascii_digit b) (b ∷ t) []) (leading_digits-front text)
+      ∙ sym (take_while-cons is_ascii_digit b text))
+]
+
+-- what stands after the digits in the line
+cut_line : (text behind : List ℕ) → text ≡ leading_digits text ++ behind → front text ≡ leading_digits (front text) ++ front behind
+cut_line text behind cut =
+    ap front cut ∙ front-append (leading_digits text) behind (are_in_line text) ∙ ap (λ (ds : List ℕ). ds ++ front behind) (sym (leading_digits-front text))
+
+no_number_in_front : (text : List ℕ) → leading_number_of text ≡ None → first_number_of (front text) ≡ None
+no_number_in_front text none = no_first_number (front text) (ap short_number_of (leading_digits-front text) ∙ none)
+
+-- ---- words that are no two numbers
+
+first_is_none : (ws : List (List ℕ)) → option_and_then short_number_of (slice_get ws 0) ≡ None → short_pair_of ws ≡ None
+first_is_none [] none = refl
+first_is_none (a ∷ []) none = refl
+first_is_none (a ∷ b ∷ []) none = ap (λ (o : Option ℕ). option_and_then (λ m. option_map (λ n. (m, n)) (short_number_of b)) o) none
+first_is_none (a ∷ b ∷ c ∷ ws) none = refl
+
+second_is_none : (a : List ℕ) (ws : List (List ℕ)) → option_and_then short_number_of (slice_get ws 0) ≡ None → short_pair_of (a ∷ ws) ≡ None
+second_is_none a [] none = refl
+second_is_none a (b ∷ []) none =
+    ap (λ (o : Option ℕ). option_and_then (λ m. option_map (λ n. (m, n)) o) (short_number_of a)) none ∙ nothing (short_number_of a)
+  where
+    nothing : (o : Option ℕ) → option_and_then {T = ℕ} {U = ℕ × ℕ} (λ m. None) o ≡ None
+    nothing None = refl
+    nothing (Some m) = refl
+second_is_none a (b ∷ c ∷ ws) none = refl
+
+no_words : words [] ≢ []
+unfolding words
+no_words none = absurd cc
+
+more_words : (a b line : List ℕ) → short_pair_of (a ∷ b ∷ words line) ≡ None
+more_words a b line = go (words line) refl
+  where
+    go : (ws : List (List ℕ)) → words line ≡ ws → short_pair_of (a ∷ b ∷ ws) ≡ None
+    go [] none = let empty : line ≡ [] = sym (line_of-words line) ∙ ap line_of none in absurd (no_words (ap words (sym empty) ∙ none))
+    go (w ∷ ws) parts = refl
+
+-- ---- the cases of a reader
+
+pub no_first : (text : List ℕ) → leading_number_of text ≡ None → first_pair_of text ≡ None
+no_first text none = first_pair_is text ∙ first_is_none (words (front text)) (no_number_in_front text none)
+
+-- the byte after the digits is no space
+pub no_space : (text behind : List ℕ) → text ≡ leading_digits text ++ behind → slice_get behind 0 ≢ Some 32 → first_pair_of text ≡ None
+no_space text behind cut other = first_pair_is text ∙ go (front behind) refl
+  where
+    differs : (bs : List ℕ) → slice_get bs 0 ≢ Some 32 → 0 < length (front bs) → get_or (front bs) 0 0 ≢ 32
+    differs [] ne some = absurd (omega (arith, some))
+    differs (b ∷ bs) ne some = elim (cases_Bool (is_newline b)) [
+      | inl ends ↦ absurd (omega (arith, rw ends at some))
+      | inr goes_on ↦ rw goes_on (λ space. ne (ap Some space))
+    ]
+
+    go : (left : List ℕ) → front behind ≡ left → short_pair_of (words (front text)) ≡ None
+    go [] none = ap short_pair_of (only_word (front text) (front behind) (cut_line text behind cut) (ap length none))
+    go (b ∷ left) is =
+        let some : 0 < length (front behind) = omega (arith, ap length is) in
+        first_is_none (words (front text)) (no_word_end (front text) (front behind) (cut_line text behind cut) some (differs behind other some))
+
+-- a space stands after the digits
+words_after : (text more : List ℕ) → text ≡ leading_digits text ++ 32 ∷ more → words (front text) ≡ leading_digits text ∷ words (front more)
+words_after text more cut =
+    word_before (front text) (32 ∷ front more) (cut_line text (32 ∷ more) cut) (omega arith) refl
+    ∙ ap (λ (ds : List ℕ). ds ∷ words (front more)) (leading_digits-front text)
+
+pub no_second : (text more : List ℕ) → text ≡ leading_digits text ++ 32 ∷ more → leading_number_of more ≡ None → first_pair_of text ≡ None
+no_second text more cut none =
+    first_pair_is text ∙ ap short_pair_of (words_after text more cut)
+    ∙ second_is_none (leading_digits text) (words (front more)) (no_number_in_front more none)
+
+-- neither the end nor a newline stands after the second number
+pub no_end : (text more behind : List ℕ) → text ≡ leading_digits text ++ 32 ∷ more → more ≡ leading_digits more ++ behind → 0 < length behind → slice_get behind 0 ≢ Some 10
+    → first_pair_of text ≡ None
+no_end text more behind cut cut_more some other = first_pair_is text ∙ ap short_pair_of (words_after text more cut) ∙ go behind refl
+  where
+    go : (bs : List ℕ) → behind ≡ bs → short_pair_of (leading_digits text ∷ words (front more)) ≡ None
+    go [] none = absurd (omega (arith, some, ap length none))
+    go (b ∷ bs) is = elim (cases_Bool (is_newline b)) [
+      | inl ends ↦ absurd (other (rw is (ap Some (eqb-true b 10 ends))))
+      | inr goes_on ↦
+          let left : front behind ≡ b ∷ front bs = ap front is ∙ rw goes_on refl in
+          let there : 0 < length (front behind) = omega (arith, ap length left) in
+          let first : get_or (front behind) 0 0 ≡ b = ap (λ (t : List ℕ). get_or t 0 0) left in
+          elim (cases_Bool (is_space b)) [
+            | inl space ↦
+                ap (λ (ws : List (List ℕ)). short_pair_of (leading_digits text ∷ ws)) (word_before (front more) (front behind) (cut_line more behind cut_more) there (first ∙ eqb-true b 32 space))
+                ∙ more_words (leading_digits text) (leading_digits (front more)) (drop 1 (front behind))
+            | inr letter ↦
+                second_is_none (leading_digits text) (words (front more))
+                (no_word_end (front more) (front behind) (cut_line more behind cut_more) there (λ is_32. absurd (differs b (sym first ∙ is_32) letter)))
+          ]
+    ]
+      where
+        differs : (b : ℕ) → b ≡ 32 → is_space b ≡ false → ⊥
+        differs b e ne = let f = rw e at ne in absurd cc
+
+-- the line ends after the second number
+pub pair_ends : (text more behind : List ℕ) (m n : ℕ) → text ≡ leading_digits text ++ 32 ∷ more → more ≡ leading_digits more ++ behind → front behind ≡ []
+    → Some m ≡ leading_number_of text → Some n ≡ leading_number_of more → Some (m, n) ≡ first_pair_of text
+pair_ends text more behind m n cut cut_more ends first second =
+    let two : words (front text) ≡ leading_digits text ∷ leading_digits more ∷ [] =
+    words_after text more cut
+    ∙ ap (λ (ws : List (List ℕ)). leading_digits text ∷ ws)
+    (only_word (front more) (front behind) (cut_line more behind cut_more) (ap length ends) ∙ ap (λ (ds : List ℕ). ds ∷ []) (leading_digits-front more)) in
+    sym (first_pair_is text ∙ ap short_pair_of two ∙ rw (← first, ← second) refl)
+
+pub after_pair : (text more behind : List ℕ) → text ≡ leading_digits text ++ 32 ∷ more → more ≡ leading_digits more ++ behind → lines (after behind) ≡ drop 1 (lines text)
+after_pair text more behind cut cut_more =
+    ap lines (sym (ap after cut ∙ after-append (leading_digits text) (32 ∷ more) (are_in_line text) ∙ ap after cut_more ∙ after-append (leading_digits more) behind (are_in_line more)))
+    ∙ lines-after text
+
+-- where nothing is left, neither a line nor a text after it is
+pub nothing_left : (text : List ℕ) → length text ≡ 0 → (front text ≡ []) × (lines text ≡ lines (after text))
+nothing_left [] none = (refl, refl)
+nothing_left (b ∷ text) none = absurd (omega (arith, none))
