@@ -23,7 +23,7 @@ entry_line entry = line_of (entry_words entry)
 
 -- ---- from an entry to its line
 
-large_is_no_number : number_of (codes "large") ≡ None
+pub large_is_no_number : number_of (codes "large") ≡ None
 unfolding number_of
 large_is_no_number = refl
 

@@ -4,6 +4,7 @@ pub mod EntryLines
 pub mod FirstFaults
 pub mod FirstServing
 pub mod LineByLine
+pub mod NextEntry
 pub mod OpenReading
 pub mod ReadIsSpelled
 pub mod RequestLosses

@@ -1,12 +1,13 @@
-ghost use Rattle.std.specs.Prelude.{◌≡◌, ◌≢◌, ℕ, List, [], ◌∷◌, IfOk, IfSome, IfNone};
+ghost use Rattle.std.specs.Prelude.{◌≡◌, ◌≢◌, ℕ, List, [], ◌∷◌, IfOk, IfSome, IfNone, drop, slice_get};
+ghost use Rattle.std.specs.Option.{option_map};
 ghost use Rattle.line_text.specs.Lines.{words};
 ghost use Rattle.line_text.specs.Numbers.{number_of};
-ghost use Rattle.profile_count.specs.ProfileText.{IsNext, entry_of, is_count, large_entry, numbers_entry};
+ghost use Rattle.profile_count.specs.ProfileText.{IsNext, entry_of, is_count, large_entry, numbers_entry, size_entry};
 
 use crate::fault::ProfileFault;
 use crate::profile::MOST_COUNTED;
 use class_table::LARGEST_COUNTED;
-use line_text::{capped_number_in, words_in};
+use line_text::{Lines, capped_number_in, words_in};
 
 // the first word of the line of large requests
 pub(crate) const LARGE: &[u8] = b"large";
@@ -18,6 +19,27 @@ pub enum Entry {
     Size(u32, u32),
     /// So many requests of sizes above 16,368 bytes.
     Large(u32),
+}
+
+// Takes the next line, and returns what it counts; none where no line is left. `next` is the least size that may come, `large` the count
+// of the `large` line, 0 where none came.
+#[inline(always)]
+pub(crate) fn next_entry(
+    next: u32,
+    large: u32,
+    lines: &mut Lines<'_>,
+) -> Option<Result<Entry, ProfileFault>>
+    ensures entry { result ≡ option_map (λ line. entry_of next large (words line)) (slice_get lines.old 0) }
+    ensures taken { lines.new ≡ drop 1 lines.old }
+    ensures next { IfSome result (λ read. IfOk read (λ entry. IsNext next large entry)) }
+{
+    // A line of two numbers is read in one pass; `entry_in` knows all other lines, and each fault.
+    if large == 0
+        && let Some((size, count)) = lines.next_numbers()
+    {
+        return Some(size_entry(next, size, count));
+    }
+    Some(entry_in(next, large, lines.next()?))
 }
 
 // What a line counts; `next` is the least size that may come, `large` the count of the `large` line, 0 where none came.
@@ -59,7 +81,7 @@ fn large_entry(count: &[u8]) -> Result<Entry, ProfileFault>
     let Some(count) = capped_number_in(count, u32::MAX) else {
         return Err(ProfileFault::BadLine);
     };
-    if !is_count(count) {
+    if !is_count(u64::from(count)) {
         return Err(ProfileFault::CountOutOfRange);
     }
     Ok(Entry::Large(count))
@@ -76,21 +98,30 @@ fn numbers_entry(next: u32, size: &[u8], count: &[u8]) -> Result<Entry, ProfileF
     let Some(count) = capped_number_in(count, u32::MAX) else {
         return Err(ProfileFault::BadLine);
     };
-    if size > LARGEST_COUNTED {
+    size_entry(next, u64::from(size), u64::from(count))
+}
+
+// the entry of a line with this size and count
+#[inline(always)]
+fn size_entry(next: u32, size: u64, count: u64) -> Result<Entry, ProfileFault>
+    ensures entry { result ≡ size_entry next size count }
+    ensures next { IfOk result (λ entry. IsNext next 0 entry) }
+{
+    if size > u64::from(LARGEST_COUNTED) {
         return Err(ProfileFault::BadLine);
     }
-    if size < next {
+    if size < u64::from(next) {
         return Err(ProfileFault::NotAscending);
     }
     if !is_count(count) {
         return Err(ProfileFault::CountOutOfRange);
     }
-    Ok(Entry::Size(size, count))
+    Ok(Entry::Size(size as u32, count as u32))
 }
 
 // whether a count is one that a line may have
-fn is_count(count: u32) -> bool
+fn is_count(count: u64) -> bool
     ensures { result ≡ is_count count }
 {
-    (1..=MOST_COUNTED).contains(&count)
+    (1..=u64::from(MOST_COUNTED)).contains(&count)
 }

@@ -1,6 +1,6 @@
 ghost use Rattle.profile_count.specs.ProfileText.{GivesProfile, profile_of};
 
-use crate::entry::{Entry, entry_in};
+use crate::entry::{Entry, next_entry};
 use crate::fault::ProfileError;
 use crate::profile::Profile;
 use line_text::lines_in;
@@ -15,15 +15,19 @@ impl Profile {
         let mut profile = Profile::new(alloc)?;
         let mut next = 0;
         let mut number = 0;
-        for line in lines_in(text) {
+        let mut lines = lines_in(text);
+        while let Some(read) = next_entry(next, profile.large(), &mut lines) {
             number += 1;
-            match entry_in(next, profile.large(), line) {
+            let entry = match read {
+                Ok(entry) => entry,
                 Err(fault) => return Err(ProfileError::Line(number, fault)),
-                Ok(Entry::Size(size, count)) => {
+            };
+            match entry {
+                Entry::Size(size, count) => {
                     profile.set_count(size, count);
                     next = size + 1;
                 }
-                Ok(Entry::Large(count)) => profile.set_large(count),
+                Entry::Large(count) => profile.set_large(count),
             }
         }
         Ok(profile)

@@ -1,38 +1,38 @@
 use Rattle.std.proofs.Common.{◌+◌, ◌∙◌, arith, add-one}
 use Rattle.profile_count.specs.declared.entry.Entry.TheVariants.{Size, Large}
-use Rattle.profile_count.proofs.LineByLine.{line_read, line_faulty, no_line}
+use Rattle.profile_count.proofs.LineByLine.{entry_read, entry_faulty, no_entry}
 use Rattle.profile_count.proofs.profile.Profile.read.Goals as goal
 
 pub returns-in-Err : goal.returns-in-Err
 returns-in-Err c =
-    let entry = rw c.large.ensures.large at c.in-Err.ensures.entry in
-    c.loop-line.invariant.rest ∙ line_faulty (c.loop-line.number + 1) (record { profile = c.loop-line.profile; next = c.loop-line.next }) _ _ _ _ c.in-Some.ensures.steps entry
+    let entry = rw (c.in-Err.is, c.large.ensures.large) at c.in-Some.ensures.entry in
+    c.loop-read.invariant.rest ∙ entry_faulty (c.loop-read.number + 1) (record { profile = c.loop-read.profile; next = c.loop-read.next }) c.loop-read.lines _ entry
 
-pub loop-line-preserved-in-Ok-Size : goal.loop-line-preserved-in-Ok-Size
-loop-line-preserved-in-Ok-Size c =
-    let entry = rw (c.in-Ok-Size.field-0-is, c.large.ensures.large) at c.in-Ok-Size.ensures.entry in
-    let next = rw (c.in-Ok-Size.field-0-is, c.large.ensures.large) at c.in-Ok-Size.ensures.next in
-    let read = c.loop-line.invariant.rest ∙ line_read (c.loop-line.number + 1) (record { profile = c.loop-line.profile; next = c.loop-line.next }) _ _ _ (Size c.in-Ok-Size.size c.in-Ok-Size.count) c.in-Some.ensures.steps entry in
-    let before = c.loop-line.invariant.lines_of_sizes next.0 in
+pub loop-read-preserved-in-Size : goal.loop-read-preserved-in-Size
+loop-read-preserved-in-Size c =
+    let entry = rw (c.in-Ok.is, c.in-Size.is, c.large.ensures.large) at c.in-Some.ensures.entry in
+    let next = rw (c.in-Ok.is, c.in-Size.is, c.large.ensures.large) at c.in-Some.ensures.next in
+    let read = c.loop-read.invariant.rest ∙ entry_read (c.loop-read.number + 1) (record { profile = c.loop-read.profile; next = c.loop-read.next }) c.loop-read.lines _ (Size c.in-Size.size c.in-Size.count) entry c.in-Some.ensures.taken in
+    let before = c.loop-read.invariant.lines_of_sizes next.0 in
     record {
-      rest = rw (c.set_count.ensures, add-one c.in-Ok-Size.size) read;
+      rest = rw (c.set_count.ensures, add-one c.in-Size.size) read;
       sizes = omega (arith, next.2);
       lines = omega (arith, before, next.1);
       lines_of_sizes = λ none. omega (arith, before, next.1);
     }
 
-pub loop-line-preserved : goal.loop-line-preserved
-loop-line-preserved c =
-    let entry = rw (c.in-Ok-Large.field-0-is, c.large.ensures.large) at c.in-Ok-Large.ensures.entry in
-    let next = rw (c.in-Ok-Large.field-0-is, c.large.ensures.large) at c.in-Ok-Large.ensures.next in
-    let read = c.loop-line.invariant.rest ∙ line_read (c.loop-line.number + 1) (record { profile = c.loop-line.profile; next = c.loop-line.next }) _ _ _ (Large c.in-Ok-Large.count) c.in-Some.ensures.steps entry in
-    let before = c.loop-line.invariant.lines_of_sizes next.0 in
+pub loop-read-preserved : goal.loop-read-preserved
+loop-read-preserved c =
+    let entry = rw (c.in-Ok.is, c.in-Large.is, c.large.ensures.large) at c.in-Some.ensures.entry in
+    let next = rw (c.in-Ok.is, c.in-Large.is, c.large.ensures.large) at c.in-Some.ensures.next in
+    let read = c.loop-read.invariant.rest ∙ entry_read (c.loop-read.number + 1) (record { profile = c.loop-read.profile; next = c.loop-read.next }) c.loop-read.lines _ (Large c.in-Large.count) entry c.in-Some.ensures.taken in
+    let before = c.loop-read.invariant.lines_of_sizes next.0 in
     record {
       rest = rw c.set_large.ensures read;
-      sizes = c.loop-line.invariant.sizes;
+      sizes = c.loop-read.invariant.sizes;
       lines = omega (arith, before);
       lines_of_sizes = λ none. absurd (omega (arith, next.1, rw c.set_large.ensures at none));
     }
 
 pub returns : goal.returns
-returns c = c.loop-line.invariant.rest ∙ no_line (c.loop-line.number + 1) (record { profile = c.loop-line.profile; next = c.loop-line.next }) _ c.in-None.ensures.steps.0
+returns c = c.loop-read.invariant.rest ∙ no_entry (c.loop-read.number + 1) (record { profile = c.loop-read.profile; next = c.loop-read.next }) c.loop-read.lines (rw c.large.ensures.large at c.in_default.ensures.entry)
