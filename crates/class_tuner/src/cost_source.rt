@@ -1,4 +1,6 @@
-ghost use Rattle.std.specs.Prelude.{◌≡◌, ℕ, ◌+◌, ◌^◌, ◌<◌, ◌≤◌};
+ghost use Rattle.std.specs.Prelude.{◌≡◌, ℕ, ◌+◌, ◌-◌, ◌^◌, ◌<◌, ◌≤◌, length, slice_index};
+ghost use Rattle.class_tuner.specs.Filling.{end_cost};
+ghost use Rattle.class_tuner.specs.Windows.{IsLeastWithin};
 ghost use Rattle.tuner_theory.specs.Spans.{IsCrossing};
 
 /// A source of the costs of spans, which counts how often it was asked for one. A span goes from a place to a later one;
@@ -32,6 +34,32 @@ pub trait CostSource {
         ensures cost { result ≡ cost self.old i j }
         ensures counted { self.new ≡ with_calls self.old (call_count self.old + 1) };
 
+    /// The least cost of a place over its ends from `low` to `high`, with the first end that has it. An end costs what the span to it costs and
+    /// the number of `before` at it, which is at most 2^60; past its length there is 0. Each of these ends counts as a call of `at`, and nothing
+    /// else changes.
+    fn least_end(&mut self, before: &[u64], place: usize, low: usize, high: usize) -> (u64, usize)
+        requires after { place < low }
+        requires some { low ≤ high }
+        requires within { high ≤ place_count self.old }
+        requires covered { high ≤ length before.now }
+        requires small { (j : ℕ) → slice_index before.now j ≤ 2 ^ 60 }
+        requires room { call_count self.old + (high - low) < 2 ^ 63 }
+        ensures least { IsLeastWithin (end_cost (cost self.old) before.now place) low high result.1 }
+        ensures value { result.0 ≡ end_cost (cost self.old) before.now place result.1 }
+        ensures counted { self.new ≡ with_calls self.old (call_count self.old + (high - low) + 1) }
+    {
+        let mut end = high;
+        let mut least = self.at(place, high) + number_at(before, high);
+        for j in (low..high).rev() {
+            let cost = self.at(place, j) + before[j];
+            if cost <= least {
+                least = cost;
+                end = j;
+            }
+        }
+        (least, end)
+    }
+
     /// No cost is above 2^60.
     ghost is_small: { (s : Self) (i j : ℕ) → i < j → j ≤ place_count s → cost s i j ≤ 2 ^ 60 };
 
@@ -62,4 +90,11 @@ pub(crate) fn ask<C: CostSource>(costs: &mut C, i: usize, j: usize) -> u64
     ensures same_places { C.place_count costs.new ≡ C.place_count costs.old }
 {
     costs.at(i, j)
+}
+
+// the number of a row at a place, and 0 past its end
+pub(crate) fn number_at(row: &[u64], place: usize) -> u64
+    ensures { result ≡ slice_index row.now place }
+{
+    row.get(place).copied().unwrap_or(0)
 }

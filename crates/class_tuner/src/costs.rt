@@ -3,7 +3,7 @@ ghost use Rattle.potential_check.specs.Spanned.{IsSpanned};
 ghost use Rattle.tuner_theory.specs.Spans.{IsCrossing, places, span_waste};
 ghost use Rattle.class_table.specs.Steps.{IsStep};
 
-use crate::cost_source::CostSource;
+use crate::cost_source::{CostSource, number_at};
 use potential_check::Spans;
 use potential_check::laws::law_crossing_spans;
 use profile_count::Profile;
@@ -80,6 +80,22 @@ impl<'a> CostSource for Costs<'a> {
     fn at(&mut self, i: usize, j: usize) -> u64 {
         self.calls += 1;
         self.lawful.spans.waste(i, j)
+    }
+
+    // The calls are counted once, so the loop only reads.
+    fn least_end(&mut self, before: &[u64], place: usize, low: usize, high: usize) -> (u64, usize) {
+        self.calls += (high - low) as u64 + 1;
+        let spans = &self.lawful.spans;
+        let mut end = high;
+        let mut least = spans.waste(place, high) + number_at(before, high);
+        for j in (low..high).rev() {
+            let cost = spans.waste(place, j) + before[j];
+            if cost <= least {
+                least = cost;
+                end = j;
+            }
+        }
+        (least, end)
     }
 
     ghost is_small = { λ s. s.lawful.small };

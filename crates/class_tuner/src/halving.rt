@@ -4,7 +4,7 @@ ghost use Rattle.std.specs.Prelude.{◌≡◌, ℕ, ◌+◌, ◌-◌, ◌*◌, �
 ghost use Rattle.class_tuner.specs.Filling.{AreEndsBetween, IsFilledWithin, IsKeptOutside, end_cost, tried_within};
 ghost use Rattle.tuner_theory.specs.Rows.{IsLeastEnd};
 
-use crate::cost_source::{CostSource, ask};
+use crate::cost_source::CostSource;
 use tuner_theory::laws::law_ends_ascend;
 
 /// A part of the places, from `start` up to `stop`, and the window of ends from `low` to `high` in which their least ends are.
@@ -93,21 +93,5 @@ fn least_end<C: CostSource>(
     ensures same_cost { C.cost costs.new ≡ C.cost costs.old }
     ensures same_places { C.place_count costs.new ≡ C.place_count costs.old }
 {
-    let mut end = low;
-    let mut least = ask(costs, place, low) + number_at(before, low);
-    for j in low + 1..high + 1 {
-        let cost = ask(costs, place, j) + number_at(before, j);
-        if cost < least {
-            least = cost;
-            end = j;
-        }
-    }
-    (least, end)
-}
-
-// the number of a row at a place, and 0 past its end
-fn number_at(row: &[u64], place: usize) -> u64
-    ensures { result ≡ slice_index row.now place }
-{
-    row.get(place).copied().unwrap_or(0)
+    costs.least_end(before, place, low, high)
 }
