@@ -4,7 +4,7 @@ ghost use Rattle.potential_check.specs.Lists.{lists_of};
 ghost use Rattle.tuner_theory.specs.Rows.{IsFilled, number_at};
 
 use crate::cost_source::{CostSource, ask};
-use crate::halving::{Part, fill_part};
+use crate::halving::{Window, fill_part};
 use std::alloc::{AllocError, Global};
 
 /// Rows of least costs, and where each is reached. Row k, counted from 1, has at each place the least cost of serving all places above it
@@ -118,9 +118,8 @@ fn next_row<C: CostSource>(alloc: Global, costs: &mut C, before: &[u64]) -> Resu
             before,
             &mut row,
             &mut ends,
-            Part {
-                start: 0,
-                stop: places,
+            0..places,
+            Window {
                 low: 1,
                 high: places,
             },

@@ -5,67 +5,63 @@ ghost use Rattle.class_tuner.specs.Filling.{AreEndsBetween, IsFilledWithin, IsKe
 ghost use Rattle.tuner_theory.specs.Rows.{IsLeastEnd};
 
 use crate::cost_source::CostSource;
+use std::ops::Range;
 use tuner_theory::laws::law_ends_ascend;
 
-/// A part of the places, from `start` up to `stop`, and the window of ends from `low` to `high` in which their least ends are.
+/// The window of ends from `low` to `high`.
 #[derive(Clone, Copy)]
-pub(crate) struct Part {
-    pub start: usize,
-    pub stop: usize,
+pub(crate) struct Window {
     pub low: usize,
     pub high: usize,
 }
 
-// Fills a part of a row and of its ends, `before` being the row before it.
+// Fills a part of a row and of its ends, `before` being the row before it. The window has the least ends of the part's places.
+// The part and its window are two small structs: so they stay in registers, and the right half is done in a loop.
 pub(crate) fn fill_part<C: CostSource>(
     costs: &mut C,
     before: &[u64],
     row: &mut [u64],
     ends: &mut [usize],
-    part: Part,
+    part: Range<usize>,
+    window: Window,
 )
     requires places { C.place_count costs.old ≤ 1023 }
     requires before_length { length before.now ≡ C.place_count costs.old }
     requires row_length { length row.old ≡ C.place_count costs.old }
     requires ends_length { length ends.old ≡ C.place_count costs.old }
-    requires order { part.start ≤ part.stop }
-    requires behind { part.stop ≤ part.high }
-    requires window { part.low ≤ part.high }
-    requires within { part.high ≤ C.place_count costs.old }
+    requires order { part.start ≤ part.end }
+    requires behind { part.end ≤ window.high }
+    requires window { window.low ≤ window.high }
+    requires within { window.high ≤ C.place_count costs.old }
     requires small { (j : ℕ) → slice_index before.now j ≤ 2 ^ 60 }
-    requires room { C.call_count costs.old + 1024 * (part.stop - part.start) ≤ 2 ^ 63 }
-    requires between { AreEndsBetween (C.cost costs.old) (C.place_count costs.old) before.now part.start part.stop part.low part.high }
-    ensures filled { IsFilledWithin (C.cost costs.old) (C.place_count costs.old) before.now row.new ends.new part.start part.stop }
-    ensures row_kept { IsKeptOutside row.old row.new part.start part.stop }
-    ensures ends_kept { IsKeptOutside ends.old ends.new part.start part.stop }
-    ensures counted { (b : ℕ) → part.stop - part.start < 2 ^ b
-        → C.call_count costs.new ≤ C.call_count costs.old + (part.high - part.low) * b + (part.stop - part.start) }
-    ensures exact { (b : ℕ) → part.stop - part.start < 2 ^ b → C.call_count costs.new
-        ≡ C.call_count costs.old + tried_within (slice_index ends.new) b part.start part.stop part.low part.high }
-    ensures room { C.call_count costs.new ≤ C.call_count costs.old + 1024 * (part.stop - part.start) }
+    requires room { C.call_count costs.old + 1024 * (part.end - part.start) ≤ 2 ^ 63 }
+    requires between { AreEndsBetween (C.cost costs.old) (C.place_count costs.old) before.now part.start part.end window.low window.high }
+    ensures filled { IsFilledWithin (C.cost costs.old) (C.place_count costs.old) before.now row.new ends.new part.start part.end }
+    ensures row_kept { IsKeptOutside row.old row.new part.start part.end }
+    ensures ends_kept { IsKeptOutside ends.old ends.new part.start part.end }
+    ensures counted { (b : ℕ) → part.end - part.start < 2 ^ b
+        → C.call_count costs.new ≤ C.call_count costs.old + (window.high - window.low) * b + (part.end - part.start) }
+    ensures exact { (b : ℕ) → part.end - part.start < 2 ^ b → C.call_count costs.new
+        ≡ C.call_count costs.old + tried_within (slice_index ends.new) b part.start part.end window.low window.high }
+    ensures room { C.call_count costs.new ≤ C.call_count costs.old + 1024 * (part.end - part.start) }
     ensures kept { costs.new ≡ C.with_calls costs.old (C.call_count costs.new) }
     ensures same_cost { C.cost costs.new ≡ C.cost costs.old }
     ensures same_places { C.place_count costs.new ≡ C.place_count costs.old }
 {
     law_ends_ascend();
-    if part.start < part.stop {
-        let middle = part.start + (part.stop - part.start) / 2;
-        let first = part.low.max(middle + 1);
-        let (cost, end) = least_end(costs, before, middle, first, part.high);
+    if part.start < part.end {
+        let middle = part.start + (part.end - part.start) / 2;
+        let first = window.low.max(middle + 1);
+        let (cost, end) = least_end(costs, before, middle, first, window.high);
         row[middle] = cost;
         ends[middle] = end;
-        let left = Part {
-            stop: middle,
+        let left = Window {
             high: end,
-            ..part
+            ..window
         };
-        let right = Part {
-            start: middle + 1,
-            low: end,
-            ..part
-        };
-        fill_part(costs, before, row, ends, left);
-        fill_part(costs, before, row, ends, right);
+        let right = Window { low: end, ..window };
+        fill_part(costs, before, row, ends, part.start..middle, left);
+        fill_part(costs, before, row, ends, middle + 1..part.end, right);
     }
 }
 

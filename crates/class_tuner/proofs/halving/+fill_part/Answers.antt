@@ -8,71 +8,71 @@ use Rattle.class_tuner.proofs.halving.+fill_part.Goals as goal
 pub least_end-cost-requires-clause-ends : goal.least_end-cost-requires-clause-ends
 least_end-cost-requires-clause-ends g t c = λ e least.
     let part = c.args.part in
-    let inside = c.requires.between (part.start + (part.stop - part.start) / 2) e (omega arith) (omega arith) least in
+    let inside = c.requires.between (part.start + (part.end - part.start) / 2) e (omega arith) (omega arith) least in
     (omega (arith, least.after, inside.0), inside.1)
 
 pub fill_part-requires : goal.fill_part-requires
 fill_part-requires g t c κs within =
     let part = c.args.part in
-    let middle : ℕ = part.start + (part.stop - part.start) / 2 in
+    let middle : ℕ = part.start + (part.end - part.start) / 2 in
     let end = c.least_end-cost.result.1 in
     let asked = c.least_end-cost.new.costs in
-    let between : AreEndsBetween (g.C.CostSource.cost asked) (g.C.CostSource.place_count asked) c.args.before.now part.start middle part.low end =
+    let between : AreEndsBetween (g.C.CostSource.cost asked) (g.C.CostSource.place_count asked) c.args.before.now part.start middle c.args.window.low end =
     rw (c.least_end-cost.ensures.same_cost, c.least_end-cost.ensures.same_places)
     (between-left c.law_ends_ascend.ensures (g.C.CostSource.cost c.args.costs.now) (g.C.CostSource.place_count c.args.costs.now)
-    (g.met.C.CostSource.is_crossing c.args.costs.now) c.args.before.now part.start part.stop part.low part.high middle end
+    (g.met.C.CostSource.is_crossing c.args.costs.now) c.args.before.now part.start part.end c.args.window.low c.args.window.high middle end
     c.requires.between c.least_end-cost.ensures.least (omega arith)) in
     search (rules, between)
 
 pub fill_part-requires-then-part : goal.fill_part-requires-then-part
 fill_part-requires-then-part g t c κs within =
     let part = c.args.part in
-    let middle : ℕ = part.start + (part.stop - part.start) / 2 in
+    let middle : ℕ = part.start + (part.end - part.start) / 2 in
     let end = c.least_end-cost.result.1 in
     let asked = c.fill_part.new.costs in
-    let between : AreEndsBetween (g.C.CostSource.cost asked) (g.C.CostSource.place_count asked) c.args.before.now (middle + 1) part.stop end part.high =
+    let between : AreEndsBetween (g.C.CostSource.cost asked) (g.C.CostSource.place_count asked) c.args.before.now (middle + 1) part.end end c.args.window.high =
     rw (c.fill_part.ensures.same_cost, c.fill_part.ensures.same_places, c.least_end-cost.ensures.same_cost, c.least_end-cost.ensures.same_places, add-one)
     (between-right c.law_ends_ascend.ensures (g.C.CostSource.cost c.args.costs.now) (g.C.CostSource.place_count c.args.costs.now)
-    (g.met.C.CostSource.is_crossing c.args.costs.now) c.args.before.now part.start part.stop part.low part.high middle end
+    (g.met.C.CostSource.is_crossing c.args.costs.now) c.args.before.now part.start part.end c.args.window.low c.args.window.high middle end
     c.requires.between c.least_end-cost.ensures.least (omega arith)) in
     search (rules, between)
 
 pub returns-then-part-clause-counted : goal.returns-then-part-clause-counted
 returns-then-part-clause-counted g t c = counted
   where
-    counted : (b : ℕ) → c.args.part.stop - c.args.part.start < 2 ^ b
+    counted : (b : ℕ) → c.args.part.end - c.args.part.start < 2 ^ b
         → g.C.CostSource.call_count c.fill_part-then-part.new.costs
-        ≤ g.C.CostSource.call_count c.args.costs.now + (c.args.part.high - c.args.part.low) * b + (c.args.part.stop - c.args.part.start)
+        ≤ g.C.CostSource.call_count c.args.costs.now + (c.args.window.high - c.args.window.low) * b + (c.args.part.end - c.args.part.start)
     counted zero lt = absurd (omega arith)
     counted (suc b) lt =
         let part = c.args.part in
-        let half = half-digits (part.stop - part.start) b lt in
+        let half = half-digits (part.end - part.start) b lt in
         let end = c.least_end-cost.result.1 in
-        let middle : ℕ = part.start + (part.stop - part.start) / 2 in
+        let middle : ℕ = part.start + (part.end - part.start) / 2 in
         let window = c.least_end-cost.ensures.window in
-        count-halves (part.stop - part.start) (part.high - part.low) (end - part.low) (part.high - end)
-        (middle - part.start) (part.stop - (middle + 1)) b (g.C.CostSource.call_count c.args.costs.now)
-        (part.high - c.max-first.result + 1) _ _ (omega arith) (omega arith) (omega arith)
+        count-halves (part.end - part.start) (c.args.window.high - c.args.window.low) (end - c.args.window.low) (c.args.window.high - end)
+        (middle - part.start) (part.end - (middle + 1)) b (g.C.CostSource.call_count c.args.costs.now)
+        (c.args.window.high - c.max-first.result + 1) _ _ (omega arith) (omega arith) (omega arith)
         (omega (arith, c.fill_part.ensures.counted b (omega arith), c.least_end-cost.ensures.counted))
         (c.fill_part-then-part.ensures.counted b (omega arith))
 
 pub returns-then-part-clause-exact : goal.returns-then-part-clause-exact
 returns-then-part-clause-exact g t c = exact
   where
-    exact : (b : ℕ) → c.args.part.stop - c.args.part.start < 2 ^ b
+    exact : (b : ℕ) → c.args.part.end - c.args.part.start < 2 ^ b
         → g.C.CostSource.call_count c.fill_part-then-part.new.costs
         ≡ g.C.CostSource.call_count c.args.costs.now
-        + tried_within (slice_index c.fill_part-then-part.new.ends) b c.args.part.start c.args.part.stop c.args.part.low c.args.part.high
+        + tried_within (slice_index c.fill_part-then-part.new.ends) b c.args.part.start c.args.part.end c.args.window.low c.args.window.high
     exact zero lt = absurd (omega arith)
     exact (suc b) lt =
         let part = c.args.part in
-        let middle : ℕ = part.start + (part.stop - part.start) / 2 in
+        let middle : ℕ = part.start + (part.end - part.start) / 2 in
         let end = c.least_end-cost.result.1 in
         let kept = c.fill_part-then-part.ensures.ends_kept in
         let is : slice_index c.fill_part-then-part.new.ends middle ≡ end =
         kept middle (inl (omega arith))
         ∙ (c.fill_part.ensures.ends_kept middle (inr (omega arith)) ∙ get_or-set_same c.args.ends.now middle end 0 (omega arith)) in
-        tried-part (slice_index c.fill_part.new.ends) (slice_index c.fill_part-then-part.new.ends) b part.start part.stop part.low part.high
+        tried-part (slice_index c.fill_part.new.ends) (slice_index c.fill_part-then-part.new.ends) b part.start part.end c.args.window.low c.args.window.high
         c.max-first.result end (g.C.CostSource.call_count c.args.costs.now) _ _ _ (omega arith) (omega arith) (omega arith) is
         (λ i from below. sym (kept i (inl (omega arith)))) c.least_end-cost.ensures.counted
         (c.fill_part.ensures.exact b (omega arith)) (c.fill_part-then-part.ensures.exact b (omega arith))
@@ -80,4 +80,4 @@ returns-then-part-clause-exact g t c = exact
 pub returns-else-part-clause-exact : goal.returns-else-part-clause-exact
 returns-else-part-clause-exact g t c = λ b lt.
     let part = c.args.part in
-    omega (arith, tried-none (slice_index c.args.ends.now) b part.start part.stop part.low part.high (omega arith))
+    omega (arith, tried-none (slice_index c.args.ends.now) b part.start part.end c.args.window.low c.args.window.high (omega arith))
