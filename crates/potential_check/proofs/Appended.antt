@@ -1,13 +1,14 @@
 -- Appending to a text.
-use Rattle.std.proofs.Common.{◌≡◌, ℕ, ◌+◌, ◌<◌, List, [], ◌∷◌, ◌++◌, length, map, take, get_or, Some, refl, sym, ap, ◌∙◌, append_assoc, append-nil}
+use Rattle.std.proofs.Common.{◌≡◌, ℕ, ◌+◌, List, [], ◌∷◌, ◌++◌, length, map, take, get_or, Some, refl, sym, ap, ◌∙◌, append_assoc, append-nil}
 use Rattle.std.specs.Fmt.{decimal}
 use Rattle.std.specs.Prelude.{slice_get}
 use Rattle.std.proofs.lemmas.List.{map-append, take_at, take_more}
 use Rattle.std.proofs.lemmas.List.Concat.{flat_map-append}
 use Rattle.std.proofs.lemmas.Option.{get_or_from_slice_get, slice_get_within}
-use Rattle.line_text.specs.Lines.{ended, line_of, text_of}
+use Rattle.line_text.specs.Lines.{ended, text_of}
 use Rattle.profile_count.specs.Appended.{GoesOn}
 use Rattle.potential_check.specs.SheetText.{named_line}
+use Rattle.potential_check.specs.Spaced.{spaced}
 
 -- ---- a text that goes on
 
@@ -26,15 +27,9 @@ take-goes_on old new goes_on = rw goes_on.is (take_at old goes_on.behind (length
 
 -- ---- a line's words, one after the other
 
-line_of-push : (w : List ℕ) (ws : List (List ℕ)) (v : List ℕ) → line_of (w ∷ ws ++ v ∷ []) ≡ line_of (w ∷ ws) ++ 32 ∷ v
-line_of-push w [] v = refl
-line_of-push w (u ∷ ws) v = ap (λ (rest : List ℕ). w ++ 32 ∷ rest) (line_of-push u ws v) ∙ sym (append_assoc w (32 ∷ line_of (u ∷ ws)) (32 ∷ v))
-
--- one number more
-pub named_line-more : (name numbers : List ℕ) (i : ℕ) → i < length numbers → named_line name (take (i + 1) numbers) ≡ named_line name (take i numbers) ++ 32 ∷ decimal (get_or numbers i 0)
-named_line-more name numbers i within =
-    let more : take (i + 1) numbers ≡ take i numbers ++ get_or numbers i 0 ∷ [] = take_more numbers i 0 within in
-    rw (more, map-append) (line_of-push name (map decimal (take i numbers)) (decimal (get_or numbers i 0)))
+pub named_line-spaced : (name numbers : List ℕ) → named_line name numbers ≡ name ++ spaced numbers
+named_line-spaced name [] = sym (append-nil name)
+named_line-spaced name (n ∷ numbers) = ap (λ (rest : List ℕ). name ++ 32 ∷ rest) (named_line-spaced (decimal n) numbers)
 
 -- one row more
 pub rows_text-more : (name : List ℕ) (rows : List (List ℕ)) (i : ℕ) (row : List ℕ) → slice_get rows i ≡ Some row

@@ -5,4 +5,5 @@ pub mod Leading
 pub mod Lists
 pub mod SheetText
 pub mod Sheets
+pub mod Spaced
 pub mod Spanned

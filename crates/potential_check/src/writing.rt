@@ -1,17 +1,26 @@
-ghost use Rattle.std.specs.Prelude.{◌≡◌, ◌++◌, map, OnOk, OnErr};
+ghost use Rattle.std.specs.Prelude.{◌≡◌, ◌≤◌, ◌++◌, length, map, OnOk, OnErr};
 ghost use Rattle.line_text.specs.Lines.{ended, text_of};
 ghost use Rattle.class_table.specs.ClassLine.{class_line};
 ghost use Rattle.profile_count.specs.Appended.{GoesOn};
 ghost use Rattle.potential_check.specs.Sheets.{sheet_of};
 ghost use Rattle.potential_check.specs.SheetText.{named_line, sheet_text};
+ghost use Rattle.potential_check.specs.Spaced.{spaced};
 
 use crate::rows::Rows;
 use crate::sheet::Sheet;
 use crate::sheet_line::{LIMIT, ROW, STEP, WASTE};
 use arrayvec::ArrayVec;
 use class_table::{ClassTable, LINE_BYTES};
-use itoa::Buffer;
+use itoa::write_digits;
 use std::alloc::AllocError;
+
+// a space and the digits that 64 bits may have
+const NUMBER_BYTES: usize = 21;
+
+// how many numbers are written before they are appended
+const TOGETHER: usize = 32;
+
+const TOGETHER_BYTES: usize = TOGETHER * NUMBER_BYTES;
 
 /// Appends the text of a sheet: its class line, `limit K`, `step S` where the step is not 1, `waste W`, and a line `row ..` for each row.
 /// Each line has its newline. Where memory is refused, the text is as before.
@@ -64,12 +73,28 @@ fn append_line(text: &mut Vec<u8>, name: &[u8], numbers: &[u64]) -> Result<(), A
     ensures written { OnOk result (text.new.items ≡ text.old.items ++ ended (named_line name.now numbers.now)) }
     ensures kept { GoesOn text.old.items text.new.items }
 {
-    let mut buffer = Buffer::new();
     text.extend_from_slice(name)?;
-    for number in numbers {
-        text.push(b' ')?;
-        text.extend_from_slice(buffer.format(*number).as_bytes())?;
+    let mut rest = numbers;
+    while !rest.is_empty() {
+        let (next, later) = rest.split_at(rest.len().min(TOGETHER));
+        append_spaced(text, next)?;
+        rest = later;
     }
     text.push(b'\n')?;
     Ok(())
+}
+
+// Appends a few numbers, each after a space. They are written from the last to the first, so that no number is moved, and appended once.
+fn append_spaced(text: &mut Vec<u8>, numbers: &[u64]) -> Result<(), AllocError>
+    requires { length numbers.now ≤ TOGETHER }
+    ensures written { OnOk result (text.new.items ≡ text.old.items ++ spaced numbers.now) }
+    ensures kept { GoesOn text.old.items text.new.items }
+{
+    let mut buffer = [0u8; TOGETHER_BYTES];
+    let mut start = TOGETHER_BYTES;
+    for index in (0..numbers.len()).rev() {
+        start = write_digits(numbers[index], &mut buffer, start) - 1;
+        buffer[start] = b' ';
+    }
+    text.extend_from_slice(&buffer[start..])
 }

@@ -1,6 +1,13 @@
-use Rattle.std.proofs.Common.{◌≡◌, ◌++◌, take}
-use Rattle.potential_check.specs.SheetText.{named_line}
+use Rattle.std.proofs.Common.{◌≡◌, ◌++◌, length}
+use Rattle.profile_count.specs.Appended.{GoesOn}
+use Rattle.potential_check.specs.Spaced.{spaced}
 use Rattle.potential_check.proofs.writing.append_line.Given as goal
 
-abbrev pub invariant-loop-number : goal.invariant-loop-number
-invariant-loop-number l = l.text.items ≡ l.fn.text.items ++ named_line l.name (take l.number-index l.numbers)
+abbrev pub invariant-loop-rest : goal.invariant-loop-rest
+invariant-loop-rest l = record {
+  written : l.text.items ++ spaced l.rest ≡ (l.fn.text.items ++ l.name) ++ spaced l.numbers;
+  kept : GoesOn l.fn.text.items l.text.items;
+}
+
+abbrev pub decreases-loop-rest : goal.decreases-loop-rest
+decreases-loop-rest l = length l.rest
