@@ -5,4 +5,6 @@ pub mod FirstPairs
 pub mod FullLines
 pub mod HexDigits
 pub mod LeadingDigits
+pub mod NearDigits
+pub mod NearNumbers
 pub mod Signs

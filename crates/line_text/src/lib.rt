@@ -6,6 +6,7 @@ mod hexadecimal;
 pub mod laws;
 mod leading;
 mod lines;
+mod near;
 mod number;
 mod pair;
 mod search;

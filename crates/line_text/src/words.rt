@@ -1,11 +1,13 @@
 //! Words of a line.
-ghost use Rattle.std.specs.Prelude.{◌≡◌, List, ℕ, IfSome, IfNone, drop, option_and_then, slice_get};
+ghost use Rattle.std.specs.Prelude.{◌≡◌, List, ℕ, IfSome, IfNone, Some, drop, option_and_then, slice_get};
 ghost use Rattle.std.specs.Iterator.{YieldsFirstBy, item_count};
 ghost use Rattle.std.specs.Option.{option_map};
 ghost use Rattle.line_text.specs.Lines.{words, words_left};
-ghost use Rattle.line_text.specs.Numbers.{short_number_of};
+ghost use Rattle.line_text.specs.Numbers.{classified, number_of, short_number_of};
 
 use crate::leading::leading_number;
+use crate::near::near_digits;
+use crate::number::{Number, SHORT, number_in};
 use crate::search::first_place;
 use std::marker::Model;
 
@@ -47,6 +49,38 @@ impl<'a> Words<'a> {
             return None;
         }
         self.rest = Some(&behind[1..]);
+        Some(value)
+    }
+
+    /// Takes the next word, as what it says as a number, mostly in one pass over its bytes. None where no word is left.
+    #[inline]
+    pub fn next_as_number(&mut self) -> Option<Number>
+        ensures number { result ≡ option_map (λ word. classified (number_of word)) (slice_get self.old 0) }
+        ensures taken { self.new ≡ drop 1 self.old }
+    {
+        if let Some(value) = self.next_near_number() {
+            return Some(Number::Value(value));
+        }
+        match self.next() {
+            Some(word) => Some(number_in(word)),
+            None => None,
+        }
+    }
+
+    // Takes the next word as a number, where that has at most 18 digits and the line goes on after it; else no word is taken.
+    #[inline(always)]
+    fn next_near_number(&mut self) -> Option<u64>
+        ensures number { IfSome result (λ n. option_and_then short_number_of (slice_get self.old 0) ≡ Some n) }
+        ensures taken { IfSome result (λ _. self.new ≡ drop 1 self.old) }
+        ensures kept { IfNone result (self.new ≡ self.old) }
+    {
+        let line = self.rest?;
+        let (bytes, _) = line.split_first_chunk::<SHORT>()?;
+        let (size, value) = near_digits(bytes)?;
+        if bytes[size] != b' ' || size == 0 || (bytes[0] == b'0' && 1 < size) {
+            return None;
+        }
+        self.rest = Some(&line[size + 1..]);
         Some(value)
     }
 }

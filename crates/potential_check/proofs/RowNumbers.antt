@@ -1,5 +1,5 @@
 -- Reading the numbers of a line, word by word.
-use Rattle.std.proofs.Common.{◌≡◌, ℕ, ◌<◌, ◌≤◌, ◌^◌, Bool, true, false, List, [], ◌∷◌, ◌++◌, length, Option, Some, None, option_map, codes, refl, ap, ◌∙◌, arith, ltb, leb, length-append, append_assoc, append-nil}
+use Rattle.std.proofs.Common.{◌≡◌, ℕ, ◌<◌, ◌≤◌, ◌^◌, Bool, true, false, List, [], ◌∷◌, ◌++◌, length, Option, Some, None, option_map, codes, drop, refl, ap, sym, slice_get, ◌∙◌, arith, ltb, leb, length-append, append_assoc, append-nil}
 use Rattle.std.specs.List.{list_all}
 use Rattle.std.specs.Prelude.{option_and_then}
 use Rattle.std.proofs.lemmas.Bool.{and_left, and_right, lt-leb, le-leb}
@@ -28,6 +28,24 @@ no_value_passes (Some m) read e none = go (ltb m (2 ^ 64)) refl
     go : (small : Bool) → ltb m (2 ^ 64) ≡ small → passing fits (Some m) ≡ None
     go true f = absurd (none m (e ∙ rw f refl))
     go false f = rw f refl
+
+-- the word that was read as a number
+pub record IsNextWord (old new : List (List ℕ)) (read : Number) : Type 0 where
+  pub word : List ℕ
+  pub parts : old ≡ word ∷ new
+  pub says : read ≡ classified (number_of word)
+
+pub next_word : (old new : List (List ℕ)) (read : Number) → Some read ≡ option_map (λ word. classified (number_of word)) (slice_get old 0) → new ≡ drop 1 old
+    → IsNextWord old new read
+next_word [] new read number taken = absurd cc
+next_word (w ∷ ws) new read number taken = record { word = w; parts = ap (λ (rest : List (List ℕ)). w ∷ rest) (sym taken); says = cc }
+
+abbrev no_read : Option Number
+no_read = None
+
+pub no_next_word : (old : List (List ℕ)) → no_read ≡ option_map (λ word. classified (number_of word)) (slice_get old 0) → old ≡ []
+no_next_word [] none = refl
+no_next_word (w ∷ ws) none = absurd cc
 
 -- ---- a single number
 

@@ -132,9 +132,10 @@ fn next_named<'a>(name: &[u8], lines: &mut Lines<'a>) -> Option<&'a [u8]>
     ensures some { IfSome result (λ line. (lines.old ≡ line.now ∷ lines.new) × (is_named name.now line.now ≡ Bool.true)) }
     ensures none { IfNone result ((lines.new ≡ lines.old) × (take_while (is_named name.now) lines.old ≡ [])) }
 {
-    match lines_in(lines.rest()).next() {
+    let mut ahead = lines_in(lines.rest());
+    match ahead.next() {
         Some(line) if is_named(name, line) => {
-            let _ = lines.next();
+            *lines = ahead;
             Some(line)
         }
         _ => None,

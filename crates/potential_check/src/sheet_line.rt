@@ -64,12 +64,12 @@ pub(crate) fn waste_in(line: &[u8]) -> Option<u64>
 pub(crate) fn row_in(alloc: Global, line: &[u8]) -> Result<Option<Vec<u64>>, AllocError>
     ensures { IfOk result (λ row. option_map (λ v. v.items) row ≡ row_in line.now) }
 {
-    let Some(words) = words_behind(ROW, line) else {
+    let Some(mut words) = words_behind(ROW, line) else {
         return Ok(None);
     };
     let mut row = Vec::new(alloc);
-    for word in words {
-        let Number::Value(number) = number_in(word) else {
+    while let Some(read) = words.next_as_number() {
+        let Number::Value(number) = read else {
             return Ok(None);
         };
         if row.len() == MOST_NUMBERS {

@@ -1,5 +1,9 @@
+use Rattle.std.proofs.Common.{length}
 use Rattle.potential_check.proofs.RowNumbers.{RowSoFar}
 use Rattle.potential_check.proofs.sheet_line.row_in.Given as goal
 
-abbrev pub invariant-loop-word : goal.invariant-loop-word
-invariant-loop-word l = RowSoFar l.line l.word-iterator l.row.items
+abbrev pub invariant-loop-read : goal.invariant-loop-read
+invariant-loop-read l = RowSoFar l.line l.words l.row.items
+
+abbrev pub decreases-loop-read : goal.decreases-loop-read
+decreases-loop-read l = length l.words

@@ -1,0 +1,38 @@
+use Rattle.std.proofs.Common.{◌≡◌, ℕ, ◌-◌, ◌∙◌, get_or, true, ap, sym, arith}
+use Rattle.std.specs.Char.{is_ascii_digit}
+use Rattle.line_text.proofs.Digits.{one_more, digits_more, room_for_one}
+use Rattle.line_text.proofs.LeadingDigits.{ends_at}
+use Rattle.line_text.proofs.NearDigits.{distance, near_digit, far_digit}
+use Rattle.line_text.proofs.near.near_digits.Goals as goal
+
+pub returns-then-digit-gt9-clause-size : goal.returns-then-digit-gt9-clause-size
+returns-then-digit-gt9-clause-size c =
+    let far = rw c.from-in-loop-place.ensures at c.if-digit-gt9.true in
+    let other = rw c.from.ensures at (far_digit c.from.result c.from.type_inv far) in
+    sym (ends_at c.args.bytes.now c.loop-place.place (omega arith) c.loop-place.invariant.digits (λ within. other))
+
+-- this byte is a digit, and what it adds
+record IsNext (byte added : ℕ) : Type 0 where
+  pub digit : is_ascii_digit byte ≡ true
+  pub value : added ≡ byte - 48
+
+next : (c : goal.Else-digit-gt9) → IsNext (get_or c.args.bytes.now c.loop-place.place 0) (distance c.from.result)
+next c =
+    let near = rw c.from-in-loop-place.ensures at c.if-digit-gt9.false in
+    let is = near_digit c.from.result c.from.type_inv near in
+    record { digit = rw c.from.ensures at is.0; value = is.1 ∙ ap (λ byte. byte - 48) c.from.ensures }
+
+pub overflow_mul-value : goal.overflow_mul-value
+overflow_mul-value c =
+    omega (arith, room_for_one c.args.bytes.now c.loop-place.place (omega arith) (omega arith) (next c).digit c.loop-place.invariant.digits)
+
+pub overflow_add-value : goal.overflow_add-value
+overflow_add-value c =
+    rw c.from-in-loop-place.ensures
+    (omega (arith, (next c).value, room_for_one c.args.bytes.now c.loop-place.place (omega arith) (omega arith) (next c).digit c.loop-place.invariant.digits))
+
+pub loop-place-preserved : goal.loop-place-preserved
+loop-place-preserved c = record {
+  digits = digits_more c.args.bytes.now c.loop-place.place (omega arith) (next c).digit c.loop-place.invariant.digits;
+  value = rw c.from-in-loop-place.ensures (omega (arith, (next c).value, one_more c.args.bytes.now c.loop-place.place (omega arith) (next c).digit));
+}

@@ -1,0 +1,26 @@
+//! The number in front of a long text, in one pass over its digits.
+ghost use Rattle.std.specs.Prelude.{◌≡◌, ◌<◌, IfSome, take};
+ghost use Rattle.std.specs.Char.{is_ascii_digit};
+ghost use Rattle.std.specs.List.{prefix_len};
+ghost use Rattle.std.specs.Str.Parse.{digits_value};
+
+use crate::number::SHORT;
+
+// How many digits are in front of these bytes, and the value of the digits; none where all bytes are digits.
+// The length is a constant, so that the loop can be unrolled, and no byte costs a test for the end of the text.
+#[inline(always)]
+pub(crate) fn near_digits(bytes: &[u8; SHORT]) -> Option<(usize, u64)>
+    ensures size { IfSome result (λ pair. pair.0 ≡ prefix_len is_ascii_digit bytes.now) }
+    ensures ended { IfSome result (λ pair. pair.0 < SHORT) }
+    ensures value { IfSome result (λ pair. pair.1 ≡ digits_value 10 (take pair.0 bytes.now)) }
+{
+    let mut value: u64 = 0;
+    for (place, byte) in bytes.iter().enumerate() {
+        let digit = u64::from(*byte).wrapping_sub(u64::from(b'0'));
+        if digit > 9 {
+            return Some((place, value));
+        }
+        value = value * 10 + digit;
+    }
+    None
+}
