@@ -12,4 +12,5 @@ pub mod RowNumbers
 pub mod SheetFaults
 pub mod SheetLines
 pub mod SpelledIsRead
+pub mod TightEnds
 pub mod Told

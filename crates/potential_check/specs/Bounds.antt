@@ -1,5 +1,5 @@
 -- What bounds the numbers of a certificate's rows: the first row by itself, a later row beside the row before it.
-use Rattle.std.specs.Prelude.{ℕ, ◌+◌, ◌<◌, ◌≤◌, List, length, slice_index}
+use Rattle.std.specs.Prelude.{◌≡◌, ℕ, ◌+◌, ◌<◌, ◌≤◌, List, length, slice_index}
 use Rattle.potential_check.specs.Spanned.{Spanned}
 use Rattle.tuner_theory.specs.Spans.{places, span_waste}
 
@@ -24,3 +24,12 @@ pub record EdgesHold (s : Spanned) (before row : List ℕ) : Type 0 where
 abbrev pub EdgesHoldWithin : Spanned → List ℕ → List ℕ → ℕ → ℕ → ℕ → ℕ → Type 0
 EdgesHoldWithin s before row start stop low high =
     (i j : ℕ) → start ≤ i → i < stop → i < j → low ≤ j → j < high → slice_index row i ≤ edge_bound s before i j
+
+-- An end for place i, up to `last`: the number there is just what its edge to this end allows. It is within its edges to the ends from this one
+-- up to `last`, and the number at the next place is so too, except for `last` itself.
+pub record IsTightEnd (s : Spanned) (before row : List ℕ) (i last end : ℕ) : Type 0 where
+  pub after : i < end
+  pub within : end ≤ last
+  pub tight : slice_index row i ≡ edge_bound s before i end
+  pub here : (j : ℕ) → end ≤ j → j ≤ last → slice_index row i ≤ edge_bound s before i j
+  pub next : (j : ℕ) → i + 1 < j → end ≤ j → j < last → slice_index row (i + 1) ≤ edge_bound s before (i + 1) j

@@ -5,6 +5,7 @@ ghost use Rattle.potential_check.specs.Bounds.{EdgesHold, EdgesHoldWithin, LastC
 ghost use Rattle.tuner_theory.specs.Spans.{places};
 
 use crate::spans::Spans;
+use crate::tight_rows::is_tight_row;
 use std::ops::Range;
 use tuner_theory::laws::law_crossing_spans;
 
@@ -40,7 +41,7 @@ pub(crate) fn edges_hold(spans: &Spans, before: &[u64], row: &[u64]) -> bool
     ensures { IsTrue result ↔ EdgesHold spans.now before.now row.now }
 {
     let last = spans.places();
-    edges_hold_within(spans, before, row, 0..last, 0..last + 1)
+    is_tight_row(spans, before, row) || edges_hold_within(spans, before, row, 0..last, 0..last + 1)
 }
 
 // Whether no number of a part of a row is more than its edge to any of these ends allows.
@@ -94,8 +95,8 @@ fn tightest_end(spans: &Spans, before: &[u64], i: usize, ends: Range<usize>) -> 
     end
 }
 
-// the most that a number at place `i` may be by its edge to place `j`
-fn edge_bound(spans: &Spans, before: &[u64], i: usize, j: usize) -> u128
+/// The most that a number at place `i` may be by its edge to place `j`.
+pub(crate) fn edge_bound(spans: &Spans, before: &[u64], i: usize, j: usize) -> u128
     requires order { i < j }
     requires within { j ≤ places spans.now.counts spans.now.step }
     ensures { result ≡ edge_bound spans.now before.now i j }

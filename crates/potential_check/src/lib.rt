@@ -12,6 +12,7 @@ mod rows;
 mod sheet;
 mod sheet_line;
 mod spans;
+mod tight_rows;
 mod writing;
 
 pub use checker::check;

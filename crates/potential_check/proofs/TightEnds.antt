@@ -1,0 +1,82 @@
+-- The edges of the places from one on, as a walk down the ends has seen to them.
+use Rattle.std.proofs.Common.{◌≡◌, ℕ, ◌+◌, ◌<◌, ◌≤◌, List, length, slice_index, arith, ap, inl, inr, refl}
+use Rattle.std.proofs.lemmas.Bool.{cases_lt, cases_order}
+use Rattle.potential_check.specs.Bounds.{EdgesHold, IsTightEnd, edge_bound}
+use Rattle.potential_check.specs.Spanned.{Spanned}
+use Rattle.tuner_theory.specs.Laws.{PlacesCross}
+use Rattle.tuner_theory.specs.Spans.{places}
+use Rattle.class_table.specs.Steps.{IsStep}
+
+-- the numbers from place i on are within their edges to the ends from `end` on
+abbrev pub HoldFrom : Spanned → List ℕ → List ℕ → ℕ → ℕ → Type 0
+HoldFrom s before row i end =
+    (k j : ℕ) → i ≤ k → k < length row → k < j → end ≤ j → j ≤ places s.counts s.step → slice_index row k ≤ edge_bound s before k j
+
+-- the same, and the number at place i is just what its edge to `end` allows
+pub record IsWalked (s : Spanned) (before row : List ℕ) (i end : ℕ) : Type 0 where
+  pub within : end ≤ places s.counts s.step
+  pub after : i < length row → i < end
+  pub tight : i < length row → slice_index row i ≡ edge_bound s before i end
+  pub last : length row ≤ i → end ≡ places s.counts s.step
+  pub hold : HoldFrom s before row i end
+
+module _ (cross : PlacesCross) (s : Spanned) (is_step : IsStep s.step) (before row : List ℕ) (full : length row ≡ places s.counts s.step) where
+  pub walked-none : IsWalked s before row (length row) (places s.counts s.step)
+  walked-none = record {
+    within = omega (arith, full);
+    after = λ some. absurd (omega arith);
+    tight = λ some. absurd (omega arith);
+    last = λ none. refl;
+    hold = λ k j from within lt above upto. absurd (omega arith);
+  }
+
+  -- more ends for the same places: where the first of them keeps within its edges there, all do
+  pub walked-lower : (i end low : ℕ) → IsWalked s before row i end → i < length row
+      → ((j : ℕ) → i < j → low ≤ j → j < end → slice_index row i ≤ edge_bound s before i j) → HoldFrom s before row i low
+  walked-lower i end low walked some here = λ k j from within lt above upto. elim (cases_lt j end) [
+    | inr past ↦ walked.hold k j from within lt past upto
+    | inl below ↦ elim (cases_lt i k) [
+      | inl later ↦ omega (
+        arith,
+        walked.tight some,
+        here j (omega arith) above below,
+        walked.hold k end from within (omega arith) (omega arith) walked.within,
+        cross s.counts s.step i k j end is_step (omega arith) (omega arith) (omega arith) walked.within,
+      )
+      | inr not ↦ (let same : k ≡ i = omega arith in omega (arith, ap (slice_index row) same, ap (λ m. edge_bound s before m j) same, here j (omega arith) above below))
+    ]
+  ]
+
+  -- a place more
+  pub walked-more : (i later end tight : ℕ) → later ≡ i + 1 → IsWalked s before row later end → i < length row → IsTightEnd s before row i end tight
+      → IsWalked s before row i tight
+  walked-more i later end tight is so_far some found = let walked : IsWalked s before row (i + 1) end = rw is at so_far in record {
+    within = omega (arith, walked.within, found.within);
+    after = λ _. found.after;
+    tight = λ _. found.tight;
+    last = λ none. absurd (omega arith);
+    hold = λ k j from within lt above upto. elim (cases_lt i k) [
+      | inl later ↦ walked-lower (i + 1) end tight walked (omega arith) found.next k j (omega arith) within lt above upto
+      | inr not ↦ (let same : k ≡ i = omega arith in elim (cases_lt end j) [
+        | inr near ↦ omega (arith, ap (slice_index row) same, ap (λ m. edge_bound s before m j) same, found.here j above near)
+        | inl past ↦ elim (cases_lt (i + 1) (length row)) [
+          | inr none ↦ absurd (omega (arith, walked.last none))
+          | inl more ↦ omega (
+            arith,
+            ap (slice_index row) same,
+            ap (λ m. edge_bound s before m j) same,
+            found.here end found.within (omega arith),
+            walked.tight more,
+            walked.hold (i + 1) j (omega arith) more (omega (arith, walked.after more)) (omega arith) upto,
+            cross s.counts s.step i (i + 1) end j is_step (omega arith) (omega (arith, walked.after more)) (omega arith) upto,
+          )
+        ]
+      ])
+    ];
+  }
+
+  -- the whole row
+  pub walked-all : (i end : ℕ) → i ≡ 0 → IsWalked s before row i end → ((j : ℕ) → 0 < j → j < end → slice_index row 0 ≤ edge_bound s before 0 j) → EdgesHold s before row
+  walked-all i end is so_far first = let walked : IsWalked s before row 0 end = rw is at so_far in record {
+    each = λ i j some lt upto. walked-lower 0 end 0 walked (omega arith) (λ j later _ below. first j later below) i j (omega arith) some lt (omega arith) upto;
+  }

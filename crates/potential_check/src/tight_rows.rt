@@ -1,0 +1,69 @@
+//! Rows whose numbers are each as large as their edges allow, as a tuner writes them. Their ends ascend from place to place, so that one walk
+//! down the places and the ends sees to all edges: two bounds for each of both, in place of some ten for each place.
+ghost use Rattle.std.specs.Prelude.{◌≡◌, ℕ, ◌<◌, ◌≤◌, length, slice_index, IfSome, IsTrue};
+ghost use Rattle.class_table.specs.Steps.{IsStep};
+ghost use Rattle.potential_check.specs.Bounds.{EdgesHold, IsTightEnd, edge_bound};
+ghost use Rattle.tuner_theory.specs.Spans.{places};
+
+use crate::bounds::edge_bound;
+use crate::spans::Spans;
+use tuner_theory::laws::law_crossing_spans;
+
+/// Whether each number of a row is just what one of its edges allows, and none is more than any of them allows.
+/// Where it is not, some number may still be within its edges, and less than they allow.
+pub(crate) fn is_tight_row(spans: &Spans, before: &[u64], row: &[u64]) -> bool
+    requires step { IsStep spans.now.step }
+    requires row { length row.now ≡ places spans.now.counts spans.now.step }
+    ensures { IsTrue result → EdgesHold spans.now before.now row.now }
+{
+    law_crossing_spans();
+    let mut end = spans.places();
+    for place in (0..row.len()).rev() {
+        match tight_end(spans, before, row, place, end) {
+            Some(tight) => end = tight,
+            None => return false,
+        }
+    }
+    first_edges_hold(spans, before, row, end)
+}
+
+// The end for this place, from that of the place after it on downwards, whose edge allows just the number here. On the way the edges of both
+// places to the ends in between are tested; none where a number is more than such an edge allows, or there is no such end.
+#[inline(always)]
+fn tight_end(spans: &Spans, before: &[u64], row: &[u64], place: usize, last: usize) -> Option<usize>
+    requires row { length row.now ≡ places spans.now.counts spans.now.step }
+    requires after { place < last }
+    requires within { last ≤ places spans.now.counts spans.now.step }
+    ensures { IfSome result (IsTightEnd spans.now before.now row.now place last) }
+{
+    let number = u128::from(row[place]);
+    let mut end = last;
+    let mut bound = edge_bound(spans, before, place, end);
+    while number < bound {
+        end -= 1;
+        if end == place {
+            return None;
+        }
+        if place + 1 < end
+            && u128::from(row[place + 1]) > edge_bound(spans, before, place + 1, end)
+        {
+            return None;
+        }
+        bound = edge_bound(spans, before, place, end);
+    }
+    if number == bound { Some(end) } else { None }
+}
+
+// whether the first number is within its edges to the ends before this one
+fn first_edges_hold(spans: &Spans, before: &[u64], row: &[u64], end: usize) -> bool
+    requires row { length row.now ≡ places spans.now.counts spans.now.step }
+    requires within { end ≤ places spans.now.counts spans.now.step }
+    ensures { IsTrue result → (j : ℕ) → 0 < j → j < end → slice_index row.now 0 ≤ edge_bound spans.now before.now 0 j }
+{
+    for j in 1..end {
+        if u128::from(row[0]) > edge_bound(spans, before, 0, j) {
+            return false;
+        }
+    }
+    true
+}
