@@ -1,6 +1,6 @@
 use Rattle.std.proofs.Common.{◌≡◌, ◌<◌, length, sym, ◌∙◌, arith}
 use Rattle.line_text.specs.Numbers.{number_of}
-use Rattle.potential_check.proofs.RowNumbers.{IsNextWord, next_word, no_next_word, no_value_passes, row_on-start, row_on-no_number, row_on-full, row_on-more, row_on-end, value_passes}
+use Rattle.potential_check.proofs.RowNumbers.{next_word, no_next_word, no_value_passes, row_on-no_number, row_on-full, row_on-more, row_on-end, value_passes}
 use Rattle.potential_check.proofs.sheet_line.row_in.Goals as goal
 
 pub returns-in_default-read : goal.returns-in_default-read
