@@ -11,6 +11,8 @@ use tuner_theory::laws::law_crossing_spans;
 
 /// Whether each number of a row is just what one of its edges allows, and none is more than any of them allows.
 /// Where it is not, some number may still be within its edges, and less than they allow.
+// Not inlined: in a large caller the walk's values would be kept in memory.
+#[inline(never)]
 pub(crate) fn is_tight_row(spans: &Spans, before: &[u64], row: &[u64]) -> bool
     requires step { IsStep spans.now.step }
     requires row { length row.now ≡ places spans.now.counts spans.now.step }
