@@ -18,7 +18,7 @@ use std::alloc::AllocError;
 const NUMBER_BYTES: usize = 21;
 
 // how many numbers are written before they are appended
-const TOGETHER: usize = 32;
+const TOGETHER: usize = 16;
 
 const TOGETHER_BYTES: usize = TOGETHER * NUMBER_BYTES;
 

@@ -42,8 +42,8 @@ pub returns-clause-written : goal.returns-clause-written
 returns-clause-written c =
     let none : c.loop-index.index ≡ 0 = omega arith in
     let rest = drop c.loop-index.start c.loop-index.buffer in
-    let short : length rest ≤ 672 - c.loop-index.start = omega (arith, length-drop c.loop-index.start c.loop-index.buffer) in
-    let all : take (672 - c.loop-index.start) rest ≡ spaced c.args.numbers.now =
-    take_all (672 - c.loop-index.start) rest short ∙ (c.loop-index.invariant.written ∙ rw none refl) in
+    let short : length rest ≤ 336 - c.loop-index.start = omega (arith, length-drop c.loop-index.start c.loop-index.buffer) in
+    let all : take (336 - c.loop-index.start) rest ≡ spaced c.args.numbers.now =
+    take_all (336 - c.loop-index.start) rest short ∙ (c.loop-index.invariant.written ∙ rw none refl) in
     let items = rw all at c.extend_from_slice.ensures.items in
     search (rules, items)

@@ -6,6 +6,6 @@ abbrev pub invariant-loop-index : goal.invariant-loop-index
 invariant-loop-index l = record {
   written : drop l.start l.buffer ≡ spaced (drop l.index l.numbers);
   room : 21 * l.index ≤ l.start;
-  within : l.start ≤ 672;
-  size : length l.buffer ≡ 672;
+  within : l.start ≤ 336;
+  size : length l.buffer ≡ 336;
 }
