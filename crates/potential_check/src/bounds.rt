@@ -1,11 +1,13 @@
 //! What bounds the numbers of a certificate's rows. A number may be any of 64 bits, so sums with one are made in 128.
 ghost use Rattle.std.specs.Prelude.{◌≡◌, ◌↔◌, ℕ, ◌+◌, ◌<◌, ◌≤◌, length, slice_index, IsTrue};
+ghost use Rattle.std.specs.Ordering.{MatchOrdering};
 ghost use Rattle.class_table.specs.Steps.{IsStep};
 ghost use Rattle.potential_check.specs.Bounds.{EdgesHold, EdgesHoldWithin, LastClassHolds, StageDropHolds, edge_bound};
 ghost use Rattle.tuner_theory.specs.Spans.{places};
 
 use crate::spans::Spans;
 use crate::tight_rows::is_tight_row;
+use std::cmp::Ordering;
 use std::ops::Range;
 use tuner_theory::laws::law_crossing_spans;
 
@@ -95,13 +97,25 @@ fn tightest_end(spans: &Spans, before: &[u64], i: usize, ends: Range<usize>) -> 
     end
 }
 
-/// The most that a number at place `i` may be by its edge to place `j`.
-pub(crate) fn edge_bound(spans: &Spans, before: &[u64], i: usize, j: usize) -> u128
+// the most that a number at place `i` may be by its edge to place `j`
+fn edge_bound(spans: &Spans, before: &[u64], i: usize, j: usize) -> u128
     requires order { i < j }
     requires within { j ≤ places spans.now.counts spans.now.step }
     ensures { result ≡ edge_bound spans.now before.now i j }
 {
     u128::from(spans.waste(i, j)) + u128::from(number_in(before, j))
+}
+
+/// How a number at place `i` compares with the most that it may be by its edge to place `j`.
+pub(crate) fn edge_order(number: u64, spans: &Spans, before: &[u64], i: usize, j: usize) -> Ordering
+    requires order { i < j }
+    requires within { j ≤ places spans.now.counts spans.now.step }
+    ensures { let bound = edge_bound spans.now before.now i j in MatchOrdering result (number < bound) (number ≡ bound) (bound < number) }
+{
+    match number.checked_sub(number_in(before, j)) {
+        Some(rest) => rest.cmp(&spans.waste(i, j)),
+        None => Ordering::Less,
+    }
 }
 
 // the number of a row at a place, and 0 past its end

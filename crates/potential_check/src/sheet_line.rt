@@ -60,7 +60,8 @@ pub(crate) fn waste_in(line: &[u8]) -> Option<u64>
     only_number(words_behind(WASTE, line)?)
 }
 
-// the numbers of a row
+// The numbers of a row. Not inlined: in a large caller what the loop holds would be kept in memory.
+#[inline(never)]
 pub(crate) fn row_in(alloc: Global, line: &[u8]) -> Result<Option<Vec<u64>>, AllocError>
     ensures { IfOk result (λ row. option_map (λ v. v.items) row ≡ row_in line.now) }
 {

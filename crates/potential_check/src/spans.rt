@@ -106,7 +106,7 @@ impl<'a> Spans<'a> {
         law_places();
         law_prefix_sums();
         law_spans_fit();
-        let payload = u64::from(GRANULE_BYTES) * u64::from(self.need(j) - 1);
+        let payload = u64::from(GRANULE_BYTES) * (u64::from(self.need(j)) - 1);
         let (requests_before, requests) = (self.requests_up_to(i), self.requests_up_to(j));
         let (bytes_before, bytes) = (self.bytes_up_to(i), self.bytes_up_to(j));
         payload * (requests - requests_before) - (bytes - bytes_before)

@@ -5,8 +5,9 @@ ghost use Rattle.class_table.specs.Steps.{IsStep};
 ghost use Rattle.potential_check.specs.Bounds.{EdgesHold, IsTightEnd, edge_bound};
 ghost use Rattle.tuner_theory.specs.Spans.{places};
 
-use crate::bounds::edge_bound;
+use crate::bounds::edge_order;
 use crate::spans::Spans;
+use std::cmp::Ordering;
 use tuner_theory::laws::law_crossing_spans;
 
 /// Whether each number of a row is just what one of its edges allows, and none is more than any of them allows.
@@ -38,22 +39,21 @@ fn tight_end(spans: &Spans, before: &[u64], row: &[u64], place: usize, last: usi
     requires within { last ≤ places spans.now.counts spans.now.step }
     ensures { IfSome result (IsTightEnd spans.now before.now row.now place last) }
 {
-    let number = u128::from(row[place]);
     let mut end = last;
-    let mut bound = edge_bound(spans, before, place, end);
-    while number < bound {
+    loop {
+        match edge_order(row[place], spans, before, place, end) {
+            Ordering::Less => {}
+            Ordering::Equal => return Some(end),
+            Ordering::Greater => return None,
+        }
         end -= 1;
         if end == place {
             return None;
         }
-        if place + 1 < end
-            && u128::from(row[place + 1]) > edge_bound(spans, before, place + 1, end)
-        {
+        if place + 1 < end && edge_order(row[place + 1], spans, before, place + 1, end).is_gt() {
             return None;
         }
-        bound = edge_bound(spans, before, place, end);
     }
-    if number == bound { Some(end) } else { None }
 }
 
 // whether the first number is within its edges to the ends before this one
@@ -63,7 +63,7 @@ fn first_edges_hold(spans: &Spans, before: &[u64], row: &[u64], end: usize) -> b
     ensures { IsTrue result → (j : ℕ) → 0 < j → j < end → slice_index row.now 0 ≤ edge_bound spans.now before.now 0 j }
 {
     for j in 1..end {
-        if u128::from(row[0]) > edge_bound(spans, before, 0, j) {
+        if edge_order(row[0], spans, before, 0, j).is_gt() {
             return false;
         }
     }

@@ -17,9 +17,9 @@ returns-then-len-eq-MOST_NUMBERS c =
 
 pub loop-read-preserved : goal.loop-read-preserved
 loop-read-preserved c =
+    let room : length c.loop-read.row.items < 1023 = omega (arith, c.loop-read.invariant.few) in
     let next = next_word _ _ _ c.in-Some-next_as_number.ensures.number c.in-Some-next_as_number.ensures.taken in
     let passes = value_passes (number_of next.word) _ (sym c.in-Value.is ∙ next.says) in
-    let room : length c.loop-read.row.items < 1023 = omega (arith, c.loop-read.invariant.few) in
     rw c.in_ok-push.ensures.items (row_on-more _ _ _ _ _ _ c.loop-read.invariant next.parts passes room)
 
 pub returns : goal.returns

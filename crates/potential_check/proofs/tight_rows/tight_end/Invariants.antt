@@ -1,15 +1,14 @@
-use Rattle.std.proofs.Common.{◌≡◌, ℕ, ◌+◌, ◌<◌, ◌≤◌, slice_index}
+use Rattle.std.proofs.Common.{ℕ, ◌+◌, ◌<◌, ◌≤◌, slice_index}
 use Rattle.potential_check.specs.Bounds.{edge_bound}
 use Rattle.potential_check.proofs.tight_rows.tight_end.Given as goal
 
-abbrev pub invariant-loop-bound : goal.invariant-loop-bound
-invariant-loop-bound l = record {
+abbrev pub invariant-loop-end : goal.invariant-loop-end
+invariant-loop-end l = record {
   after : l.place < l.end;
   upto : l.end ≤ l.last;
-  bound : l.bound ≡ edge_bound l.spans l.before l.place l.end;
   here : (j : ℕ) → l.end < j → j ≤ l.last → slice_index l.row l.place ≤ edge_bound l.spans l.before l.place j;
   next : (j : ℕ) → l.place + 1 < j → l.end ≤ j → j < l.last → slice_index l.row (l.place + 1) ≤ edge_bound l.spans l.before (l.place + 1) j;
 }
 
-abbrev pub decreases-loop-bound : goal.decreases-loop-bound
-decreases-loop-bound l = l.end
+abbrev pub decreases-loop-end : goal.decreases-loop-end
+decreases-loop-end l = l.end
