@@ -1,7 +1,7 @@
 -- The edges of the places from one on, as a walk down the ends has seen to them.
 use Rattle.std.proofs.Common.{◌≡◌, ℕ, ◌+◌, ◌<◌, ◌≤◌, List, length, slice_index, arith, ap, inl, inr, refl}
 use Rattle.std.proofs.lemmas.Bool.{cases_lt}
-use Rattle.potential_check.specs.Bounds.{EdgesHold, IsTightEnd, edge_bound}
+use Rattle.potential_check.specs.Bounds.{EdgesHold, HasTightEnd, IsTightEnd, edge_bound}
 use Rattle.potential_check.specs.Spanned.{Spanned}
 use Rattle.tuner_theory.specs.Laws.{PlacesCross}
 use Rattle.tuner_theory.specs.Spans.{places}
@@ -80,3 +80,23 @@ module _ (cross : PlacesCross) (s : Spanned) (is_step : IsStep s.step) (before r
   walked-all i end is so_far first = let walked : IsWalked s before row 0 end = rw is at so_far in record {
     each = λ i j some lt upto. walked-lower 0 end 0 walked (omega arith) (λ j later _ below. first j later below) i j (omega arith) some lt (omega arith) upto;
   }
+
+  -- where all edges hold, a place with a tight end has one up to that of the next place
+  pub walked-end : (i later end : ℕ) → later ≡ i + 1 → IsWalked s before row later end → i < length row → EdgesHold s before row
+      → HasTightEnd s before row i (places s.counts s.step) → HasTightEnd s before row i end
+  walked-end i later end is so_far some hold (j, after, upto, tight) = let walked : IsWalked s before row (i + 1) end = rw is at so_far in
+      elim (cases_lt end j) [
+        | inr near ↦ (j, after, near, tight)
+        | inl past ↦ elim (cases_lt (i + 1) (length row)) [
+          | inr none ↦ absurd (omega (arith, walked.last none))
+          | inl more ↦ (let next = walked.after more in
+              let same : slice_index row i ≡ edge_bound s before i end = omega (
+                arith,
+                hold.each i end some (omega arith) walked.within,
+                hold.each (i + 1) j more (omega arith) upto,
+                walked.tight more,
+                cross s.counts s.step i (i + 1) end j is_step (omega arith) (omega arith) (omega arith) upto,
+              ) in
+              (end, omega arith, omega arith, same))
+        ]
+      ]

@@ -25,6 +25,14 @@ abbrev pub EdgesHoldWithin : Spanned → List ℕ → List ℕ → ℕ → ℕ �
 EdgesHoldWithin s before row start stop low high =
     (i j : ℕ) → start ≤ i → i < stop → i < j → low ≤ j → j < high → slice_index row i ≤ edge_bound s before i j
 
+-- The number at place i is just what one of its edges to the ends up to `last` allows.
+abbrev pub HasTightEnd : Spanned → List ℕ → List ℕ → ℕ → ℕ → Type 0
+HasTightEnd s before row i last = (j : ℕ) × (i < j) × (j ≤ last) × (slice_index row i ≡ edge_bound s before i j)
+
+-- Each number is just what one of its edges allows.
+pub record AreTight (s : Spanned) (before row : List ℕ) : Type 0 where
+  pub each : (i : ℕ) → i < length row → HasTightEnd s before row i (places s.counts s.step)
+
 -- An end for place i, up to `last`: the number there is just what its edge to this end allows. It is within its edges to the ends from this one
 -- up to `last`, and the number at the next place is so too, except for `last` itself.
 pub record IsTightEnd (s : Spanned) (before row : List ℕ) (i last end : ℕ) : Type 0 where

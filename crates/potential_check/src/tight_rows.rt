@@ -1,8 +1,8 @@
 //! Rows whose numbers are each as large as their edges allow, as a tuner writes them. Their ends ascend from place to place, so that one walk
 //! down the places and the ends sees to all edges: two bounds for each of both, in place of some ten for each place.
-ghost use Rattle.std.specs.Prelude.{◌≡◌, ℕ, ◌<◌, ◌≤◌, length, slice_index, IfSome, IsTrue};
+ghost use Rattle.std.specs.Prelude.{◌≡◌, ◌↔◌, ℕ, ◌<◌, ◌≤◌, length, slice_index, IfNone, IfSome, IsTrue};
 ghost use Rattle.class_table.specs.Steps.{IsStep};
-ghost use Rattle.potential_check.specs.Bounds.{EdgesHold, IsTightEnd, edge_bound};
+ghost use Rattle.potential_check.specs.Bounds.{AreTight, EdgesHold, HasTightEnd, IsTightEnd, edge_bound};
 ghost use Rattle.tuner_theory.specs.Spans.{places};
 
 use crate::bounds::edge_order;
@@ -10,14 +10,13 @@ use crate::spans::Spans;
 use std::cmp::Ordering;
 use tuner_theory::laws::law_crossing_spans;
 
-/// Whether each number of a row is just what one of its edges allows, and none is more than any of them allows.
-/// Where it is not, some number may still be within its edges, and less than they allow.
+/// Whether each number of a row is within its edges, and just what one of them allows.
 // Not inlined: in a large caller the walk's values would be kept in memory.
 #[inline(never)]
 pub(crate) fn is_tight_row(spans: &Spans, before: &[u64], row: &[u64]) -> bool
     requires step { IsStep spans.now.step }
     requires row { length row.now ≡ places spans.now.counts spans.now.step }
-    ensures { IsTrue result → EdgesHold spans.now before.now row.now }
+    ensures { IsTrue result ↔ (EdgesHold spans.now before.now row.now × AreTight spans.now before.now row.now) }
 {
     law_crossing_spans();
     let mut end = spans.places();
@@ -37,7 +36,8 @@ fn tight_end(spans: &Spans, before: &[u64], row: &[u64], place: usize, last: usi
     requires row { length row.now ≡ places spans.now.counts spans.now.step }
     requires after { place < last }
     requires within { last ≤ places spans.now.counts spans.now.step }
-    ensures { IfSome result (IsTightEnd spans.now before.now row.now place last) }
+    ensures some { IfSome result (IsTightEnd spans.now before.now row.now place last) }
+    ensures none { IfNone result (HasTightEnd spans.now before.now row.now place last → EdgesHold spans.now before.now row.now → ⊥) }
 {
     let mut end = last;
     loop {
@@ -60,7 +60,7 @@ fn tight_end(spans: &Spans, before: &[u64], row: &[u64], place: usize, last: usi
 fn first_edges_hold(spans: &Spans, before: &[u64], row: &[u64], end: usize) -> bool
     requires row { length row.now ≡ places spans.now.counts spans.now.step }
     requires within { end ≤ places spans.now.counts spans.now.step }
-    ensures { IsTrue result → (j : ℕ) → 0 < j → j < end → slice_index row.now 0 ≤ edge_bound spans.now before.now 0 j }
+    ensures { IsTrue result ↔ ((j : ℕ) → 0 < j → j < end → slice_index row.now 0 ≤ edge_bound spans.now before.now 0 j) }
 {
     for j in 1..end {
         if edge_order(row[0], spans, before, 0, j).is_gt() {

@@ -1,13 +1,38 @@
-use Rattle.std.proofs.Common.{◌-◌, arith}
-use Rattle.potential_check.proofs.TightEnds.{walked-all, walked-more}
+use Rattle.std.proofs.Common.{◌≡◌, ◌-◌, ◌<◌, length, arith, inl, inr}
+use Rattle.std.proofs.lemmas.Bool.{cases_lt}
+use Rattle.potential_check.proofs.TightEnds.{walked-all, walked-end, walked-more}
 use Rattle.potential_check.proofs.tight_rows.is_tight_row.Goals as goal
+
+pub returns-in-None : goal.returns-in-None
+returns-in-None c = (
+  λ holds. absurd cc,
+  λ (hold, tight).
+      let some : c.loop-place.place - 1 < length c.args.row.now = omega arith in
+      let end = walked-end c.law_crossing_spans.ensures.places c.args.spans.now c.requires.step c.args.before.now c.args.row.now c.requires.row
+      (c.loop-place.place - 1) c.loop-place.place c.loop-place.end (omega arith) c.loop-place.invariant.walked some hold (tight.each _ some) in
+      absurd (c.in-None.ensures.none end hold),
+)
 
 pub loop-place-preserved : goal.loop-place-preserved
 loop-place-preserved c =
-    walked-more c.law_crossing_spans.ensures.places c.args.spans.now c.requires.step c.args.before.now c.args.row.now c.requires.row
-    (c.loop-place.place - 1) c.loop-place.place c.loop-place.end c.in-Some.tight (omega arith) c.loop-place.invariant (omega arith) c.in-Some.ensures
+    let found = c.in-Some.ensures.some in
+    record {
+      walked = walked-more c.law_crossing_spans.ensures.places c.args.spans.now c.requires.step c.args.before.now c.args.row.now c.requires.row
+          (c.loop-place.place - 1) c.loop-place.place c.loop-place.end c.in-Some.tight (omega arith) c.loop-place.invariant.walked (omega arith) found;
+      tight = λ k from within. elim (cases_lt (c.loop-place.place - 1) k) [
+        | inl later ↦ c.loop-place.invariant.tight k (omega arith) within
+        | inr not ↦ (let same : k ≡ c.loop-place.place - 1 = omega arith in
+            rw same (c.in-Some.tight, found.after, omega (arith, found.within, c.loop-place.invariant.walked.within), found.tight))
+      ];
+    }
 
 pub returns : goal.returns
-returns c = λ holds.
+returns c = (
+  λ holds. (
     walked-all c.law_crossing_spans.ensures.places c.args.spans.now c.requires.step c.args.before.now c.args.row.now c.requires.row
-    c.loop-place.place c.loop-place.end (omega arith) c.loop-place.invariant (c.first_edges_hold.ensures holds)
+        c.loop-place.place c.loop-place.end (omega arith) c.loop-place.invariant.walked (c.first_edges_hold.ensures.0 holds),
+    record { each = λ k within. c.loop-place.invariant.tight k (omega arith) within },
+  ),
+  λ all. c.first_edges_hold.ensures.1
+      (λ j some below. all.0.each 0 j (omega (arith, c.loop-place.invariant.walked.within)) some (omega (arith, c.loop-place.invariant.walked.within))),
+)

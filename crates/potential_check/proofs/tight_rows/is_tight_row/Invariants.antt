@@ -1,5 +1,11 @@
+use Rattle.std.proofs.Common.{ℕ, ◌<◌, ◌≤◌, length}
+use Rattle.potential_check.specs.Bounds.{HasTightEnd}
 use Rattle.potential_check.proofs.TightEnds.{IsWalked}
 use Rattle.potential_check.proofs.tight_rows.is_tight_row.Given as goal
+use Rattle.tuner_theory.specs.Spans.{places}
 
 abbrev pub invariant-loop-place : goal.invariant-loop-place
-invariant-loop-place l = IsWalked l.spans l.before l.row l.place l.end
+invariant-loop-place l = record {
+  walked : IsWalked l.spans l.before l.row l.place l.end;
+  tight : (k : ℕ) → l.place ≤ k → k < length l.row → HasTightEnd l.spans l.before l.row k (places l.spans.counts l.spans.step);
+}

@@ -6,7 +6,7 @@ abbrev pub invariant-loop-end : goal.invariant-loop-end
 invariant-loop-end l = record {
   after : l.place < l.end;
   upto : l.end ≤ l.last;
-  here : (j : ℕ) → l.end < j → j ≤ l.last → slice_index l.row l.place ≤ edge_bound l.spans l.before l.place j;
+  here : (j : ℕ) → l.end < j → j ≤ l.last → slice_index l.row l.place < edge_bound l.spans l.before l.place j;
   next : (j : ℕ) → l.place + 1 < j → l.end ≤ j → j < l.last → slice_index l.row (l.place + 1) ≤ edge_bound l.spans l.before (l.place + 1) j;
 }
 
