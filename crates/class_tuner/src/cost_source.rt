@@ -3,8 +3,8 @@ ghost use Rattle.class_tuner.specs.Filling.{end_cost};
 ghost use Rattle.class_tuner.specs.Windows.{IsLeastWithin};
 ghost use Rattle.tuner_theory.specs.Spans.{IsCrossing};
 
-/// A source of the costs of spans, which counts how often it was asked for one. A span goes from a place to a later one;
-/// places are counted from 1, and place 0 is before them all. Code over any source knows a cost by `at` alone.
+/// A source of the costs of spans, which counts its calls. A span goes from a place to a later one. Places are counted from 1, and place 0
+/// is before them all. Code over any source knows costs by `at` and `least_end` alone.
 pub trait CostSource {
     /// What the span from one place to another costs.
     ghost cost: { Self → ℕ → ℕ → ℕ };
@@ -12,7 +12,7 @@ pub trait CostSource {
     /// How many places there are.
     ghost place_count: { Self → ℕ };
 
-    /// How often `at` was called.
+    /// How many costs were asked for.
     ghost call_count: { Self → ℕ };
 
     /// The same source with another count of calls.
@@ -22,11 +22,12 @@ pub trait CostSource {
     fn places(&self) -> usize
         ensures { result ≡ place_count self.now };
 
-    /// How often `at` was called.
+    /// How many costs were asked for.
     fn calls(&self) -> u64
         ensures { result ≡ call_count self.now };
 
-    /// What the span from place `i` to a later place `j` costs. The count of calls, fewer than 2^63 before, rises by 1, and nothing else changes.
+    /// The cost of the span from place `i` to a later place `j`. The count of calls, which must be below 2^63, rises by 1. Nothing else
+    /// changes.
     fn at(&mut self, i: usize, j: usize) -> u64
         requires order { i < j }
         requires within { j ≤ place_count self.old }
@@ -34,9 +35,9 @@ pub trait CostSource {
         ensures cost { result ≡ cost self.old i j }
         ensures counted { self.new ≡ with_calls self.old (call_count self.old + 1) };
 
-    /// The least cost of a place over its ends from `low` to `high`, with the first end that has it. An end costs what the span to it costs and
-    /// the number of `before` at it, which is at most 2^60; past its length there is 0. Each of these ends counts as a call of `at`, and nothing
-    /// else changes.
+    /// The least cost of a place over its ends from `low` to `high`, with the first end that has it. The cost of an end is the cost of the
+    /// span to it plus the number of `before` at it, which must be at most 2^60; after the last number of `before` it is 0. Each of these
+    /// ends counts as one call of `at`. Nothing else changes.
     fn least_end(&mut self, before: &[u64], place: usize, low: usize, high: usize) -> (u64, usize)
         requires after { place < low }
         requires some { low ≤ high }
@@ -78,7 +79,7 @@ pub trait CostSource {
     ghost keeps_all: { (s : Self) → with_calls s (call_count s) ≡ s };
 }
 
-// What the span from i to j costs, asked of the source; what that leaves as it was is said for callers that ask often.
+// The cost of the span from i to j, by one call of the source. Its clauses also say what stays the same, for callers that ask often.
 pub(crate) fn ask<C: CostSource>(costs: &mut C, i: usize, j: usize) -> u64
     requires order { i < j }
     requires within { j ≤ C.place_count costs.old }

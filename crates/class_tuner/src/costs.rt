@@ -26,7 +26,8 @@ struct LawfulSpans<'a> {
 }
 
 impl<'a> Costs<'a> {
-    /// The costs of a profile for blocks in multiples of a step (1, 2, 4 or 8 granules), asked for none yet. An error only where memory was refused.
+    /// The costs of a profile for blocks in multiples of a step (1, 2, 4 or 8 granules), with no call counted. The only error is that the
+    /// allocator refuses memory.
     pub fn new(alloc: Global, profile: &'a Profile, step: u8) -> Result<Costs<'a>, AllocError>
         requires { IsStep step }
         ensures cost { IfOk result (λ costs. ⟦<Costs<'a> as CostSource>⟧.cost costs ≡ span_waste profile.now.counts step) }
@@ -82,7 +83,7 @@ impl<'a> CostSource for Costs<'a> {
         self.lawful.spans.waste(i, j)
     }
 
-    // The calls are counted once, so the loop only reads.
+    // counts the calls once, so that the loop only reads
     fn least_end(&mut self, before: &[u64], place: usize, low: usize, high: usize) -> (u64, usize) {
         self.calls += (high - low) as u64 + 1;
         let spans = &self.lawful.spans;

@@ -7,8 +7,8 @@ use crate::cost_source::{CostSource, ask};
 use crate::halving::{Window, fill_part};
 use std::alloc::{AllocError, Global};
 
-/// Rows of least costs, and where each is reached. Row k, counted from 1, has at each place the least cost of serving all places above it
-/// with at most k spans; its end is the least place to which the first of these spans may go.
+/// Rows of least costs, with their ends. Row k, counted from 1, has at each place the least cost of serving all places above it with at
+/// most k spans. The end is the least place to which the first of these spans may go.
 #[derive(Debug, Drop)]
 pub struct Filled {
     /// One row of costs for each number of spans, one number for each place from 0 on but the last.
@@ -25,7 +25,7 @@ struct Row {
 }
 
 impl Filled {
-    // puts a row behind the others
+    // appends a row
     fn push(&mut self, row: Row) -> Result<(), AllocError>
         ensures rows { OnOk result (lists_of self.new.rows.items ≡ lists_of self.old.rows.items ++ row.costs.items ∷ []) }
         ensures ends { OnOk result (lists_of self.new.ends.items ≡ lists_of self.old.ends.items ++ row.ends.items ∷ []) }
@@ -36,10 +36,10 @@ impl Filled {
     }
 }
 
-/// The first `limit` (1 to 32) rows of least costs over a source of at most 1,023 places that was asked fewer than 2^62 times.
-/// Over D places, at least one, the source is asked at most `limit * ((D - 1) * bits(D) + D)` times, `bits(D)` being the number of binary digits of D;
-/// over none it is not asked. The ends of the rows determine how often it is asked (`calls_of`).
-/// An error only where memory was refused; nothing but the count of calls changes then too.
+/// The first `limit` (1 to 32) rows of least costs over a source. The source must have at most 1,023 places and fewer than 2^62 calls.
+/// Over D places, at least one, the function asks for at most `limit * ((D - 1) * bits(D) + D)` costs, where `bits(D)` is the number of
+/// binary digits of D; over no places it asks for none. The ends of the rows determine how many costs it asks for (`calls_of`).
+/// The only error is that the allocator refuses memory. Only the count of calls changes, also after an error.
 pub fn fill_rows<C: CostSource>(
     alloc: Global,
     costs: &mut C,

@@ -1,5 +1,5 @@
-//! One row by halving: the middle place first, and then the places on either side of it, each with ends on their side of its least end.
-//! Where spans cross, a later place has no earlier least end, so no end is tried in vain on both sides.
+//! One row by halving: the middle place first, then the places on either side of it, each with the ends on their side of its least end.
+//! If spans cross, a later place has no earlier least end, so no end is tried in vain on both sides.
 ghost use Rattle.std.specs.Prelude.{◌≡◌, ℕ, ◌+◌, ◌-◌, ◌*◌, ◌^◌, ◌<◌, ◌≤◌, length, slice_index};
 ghost use Rattle.class_tuner.specs.Filling.{AreEndsBetween, IsFilledWithin, IsKeptOutside, end_cost, tried_within};
 ghost use Rattle.tuner_theory.specs.Rows.{IsLeastEnd};

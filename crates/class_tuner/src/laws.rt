@@ -1,9 +1,9 @@
-//! What is true of every sheet that is tuned; each law is the contract of a function that does nothing.
+//! What holds for every tuned sheet. Each law is the contract of a function that does nothing.
 ghost use Rattle.class_tuner.specs.Laws.{OneCount, OneSheet};
 
 use tuner_theory::laws::{law_rests, law_tuned_table};
 
-/// What `tune` ensures of its sheet leaves but one: for a profile, a step and a limit all tuned sheets are the same.
+/// `tune` pins its sheet: for a profile, a step and a limit all tuned sheets are the same.
 pub fn law_one_sheet()
     ensures { OneSheet }
 {
@@ -11,7 +11,7 @@ pub fn law_one_sheet()
     law_tuned_table();
 }
 
-/// What `tune` ensures of its evaluations leaves but one number: for a profile, a step, a limit and rows.
+/// `tune` pins its number of evaluations: for a profile, a step, a limit and rows there is only one.
 pub fn law_one_count()
     ensures { OneCount }
 {}

@@ -1,5 +1,5 @@
-//! The tuner: for a profile, a limit and a step, the class table of least waste with its certificate. The rows of the certificate
-//! are filled by halving, over a source of costs that counts how often it is asked.
+//! The tuner: for a profile, a limit and a step, the class table of least waste with its certificate. It fills the rows of the certificate
+//! by halving, over a source of costs that counts its calls.
 #![tactic(auto)]
 
 mod cost_source;

@@ -10,7 +10,7 @@ use class_table::laws::law_faults;
 use class_table::{ClassTable, MOST_CLASSES};
 use potential_check::Spans;
 
-// The table that the ends tell: the need at the end of place 0 in the last row, and on from there in the row before.
+// The table that the ends give: the need at the end of place 0 in the last row, then on from that end in the row before.
 pub(crate) fn table_of_ends(spans: &Spans<'_>, ends: &[Vec<usize>], limit: u8) -> ClassTable
     requires few { limit ≤ 32 }
     requires later { (k i : ℕ) → 1 ≤ k → k ≤ limit → i < places spans.now.counts spans.now.step

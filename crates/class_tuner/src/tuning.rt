@@ -18,7 +18,7 @@ use std::alloc::{AllocError, Global};
 use std::marker::Model;
 use tuner_theory::laws::{law_least_rows, law_rests, law_tuned_table};
 
-/// What `tune` answers: a sheet, and how often the span wastes were asked for to make it.
+/// The result of `tune`: a sheet, and how many span wastes it asked for.
 #[derive(Debug, Drop)]
 pub struct Tuned {
     sheet: Sheet,
@@ -41,7 +41,7 @@ impl Tuned {
         &self.sheet
     }
 
-    /// How often the span wastes were asked for.
+    /// How many span wastes `tune` asked for.
     pub fn evaluations(&self) -> u64
         ensures { result ≡ self.now.evaluations }
     {
@@ -49,8 +49,9 @@ impl Tuned {
     }
 }
 
-/// The class table of least waste for a profile, of at most `limit` (1 to 32) classes that are multiples of `step` (1, 2, 4 or 8 granules):
-/// of the best tables whose every class is used the lexicographically least, with its certificate. An error only where memory was refused.
+/// The class table of least waste for a profile, of at most `limit` (1 to 32) classes that are multiples of `step` (1, 2, 4 or 8 granules),
+/// with its certificate. Of the best tables whose every class is used, it is the lexicographically least. The only error is that the
+/// allocator refuses memory.
 pub fn tune(alloc: Global, profile: &Profile, limit: u8, step: u8) -> Result<Tuned, AllocError>
     requires some { 1 ≤ limit }
     requires few { limit ≤ 32 }
@@ -71,7 +72,7 @@ pub fn tune(alloc: Global, profile: &Profile, limit: u8, step: u8) -> Result<Tun
     Ok(Tuned { sheet, evaluations })
 }
 
-// the sheet that filled rows tell
+// the sheet that filled rows give
 fn sheet_of_rows(spans: &Spans<'_>, filled: Filled, limit: u8) -> Sheet
     requires spans { IsSpanned spans.now }
     requires some { 1 ≤ limit }

@@ -6,8 +6,7 @@ ghost use Rattle.line_text.specs.Hexadecimal.{hex_of, hex, is_hex_digit};
 // the digits, by their values
 const DIGITS: [u8; 16] = *b"0123456789abcdef";
 
-/// The byte that a word of exactly two digits from `0` to `9` and `a` to `f` spells, the high one first; none for any
-/// other word.
+/// The byte that a word of exactly two digits from `0` to `9` and `a` to `f` spells, the high digit first. `None` for any other word.
 #[tactic(auto, unfolding(crate::specs::Hexadecimal::hex_of))]
 pub fn hex_byte_in(word: &[u8]) -> Option<u8>
     ensures { result ≡ hex_of word.now }
@@ -18,7 +17,7 @@ pub fn hex_byte_in(word: &[u8]) -> Option<u8>
     Some(16 * hex_digit_in(*high)? + hex_digit_in(*low)?)
 }
 
-/// The two digits that spell a byte, the high one first.
+/// The two digits that spell a byte, the high digit first.
 pub fn hex_digits(byte: u8) -> [u8; 2]
     ensures { result ≡ hex byte }
 {

@@ -1,4 +1,4 @@
-//! The laws of the spellings. Each function does nothing: a caller calls it for what it ensures.
+//! The laws of the spellings. Each is the contract of a function that does nothing.
 ghost use Rattle.line_text.specs.Laws.{TextIsItsLines, LinesAreLines, WrittenLinesAreRead, CutLinesAreRead, FullLinesAreRead, LineInFrontIsRead};
 ghost use Rattle.line_text.specs.Laws.{TextLaws};
 ghost use Rattle.line_text.specs.Laws.{LineIsItsWords, WordsAreWords, WrittenWordsAreRead, WordsMakeALine};
@@ -6,7 +6,7 @@ ghost use Rattle.line_text.specs.Laws.{NumberIsSpelled, SpelledNumberIsRead, Spe
 ghost use Rattle.line_text.specs.Laws.{SignedIsSpelled, SpelledSignedIsRead, SpelledSignedIsAWord};
 ghost use Rattle.line_text.specs.Laws.{HexIsAByte, HexIsSpelled, SpelledHexIsRead, SpelledHexIsAWord};
 
-/// A text is its lines, and lines that are written as a text are read again.
+/// A text is its lines, and lines that are written as a text are read back.
 pub fn law_lines()
     ensures text { TextIsItsLines }
     ensures lines { LinesAreLines }
@@ -16,7 +16,7 @@ pub fn law_lines()
     ensures front { LineInFrontIsRead }
 {}
 
-/// A line is its words, and words that are written as a line are read again.
+/// A line is its words, and words that are written as a line are read back.
 pub fn law_words()
     ensures line { LineIsItsWords }
     ensures words { WordsAreWords }
@@ -24,21 +24,21 @@ pub fn law_words()
     ensures makes_line { WordsMakeALine }
 {}
 
-/// A number of at most 64 bits has one spelling, and is read from it.
+/// A number of at most 64 bits has one spelling, and is read back from it.
 pub fn law_numbers()
     ensures spelled { NumberIsSpelled }
     ensures read { SpelledNumberIsRead }
     ensures word { SpelledNumberIsAWord }
 {}
 
-/// A number from -2^63 to 2^63 - 1 has one spelling with its sign, and is read from it.
+/// A number from -2^63 to 2^63 - 1 has one spelling with its sign, and is read back from it.
 pub fn law_signed()
     ensures spelled { SignedIsSpelled }
     ensures read { SpelledSignedIsRead }
     ensures word { SpelledSignedIsAWord }
 {}
 
-/// A byte has one spelling of two digits, and is read from it.
+/// A byte has one spelling of two digits, and is read back from it.
 pub fn law_hex()
     ensures byte { HexIsAByte }
     ensures spelled { HexIsSpelled }
@@ -46,7 +46,7 @@ pub fn law_hex()
     ensures word { SpelledHexIsAWord }
 {}
 
-/// All that a format of lines, words and numbers wants, in one record.
+/// The facts that a format of lines, words and numbers needs, in one record.
 pub fn law_text()
     ensures { TextLaws }
 {

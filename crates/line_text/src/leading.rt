@@ -1,4 +1,4 @@
-//! The number in front of a text, in one pass over its digits.
+//! The number at the start of a text, in one pass over its digits.
 ghost use Rattle.std.specs.Prelude.{◌≡◌, ◌++◌, IfSome};
 ghost use Rattle.std.specs.Option.{option_map};
 ghost use Rattle.line_text.specs.Numbers.{leading_digits, leading_number_of};
@@ -6,7 +6,7 @@ ghost use Rattle.line_text.specs.Pairs.{AreLeading};
 
 use crate::number::SHORT;
 
-// the number that the digits in front of a text spell, and the text after them; none where they spell none, and where they are more than 19
+// the number that the digits at the start of a text spell, and the text after them; `None` if they spell none or are more than 19
 #[inline(always)]
 pub(crate) fn leading_number(text: &[u8]) -> Option<(u64, &[u8])>
     ensures number { option_map (λ pair. pair.0) result ≡ leading_number_of text.now }
@@ -19,12 +19,12 @@ pub(crate) fn leading_number(text: &[u8]) -> Option<(u64, &[u8])>
     Some((value, &text[end..]))
 }
 
-// the value of the digits in front of a text, and their number; none where they are more than 19
+// the value of the digits at the start of a text, and how many they are; `None` if they are more than 19
 #[inline(always)]
 fn digits_in_front(text: &[u8]) -> Option<(u64, usize)>
     ensures { AreLeading result text.now }
 {
-    // Of a constant number of bytes the compiler writes the loop out.
+    // The compiler unrolls the loop if the number of bytes is a constant.
     if SHORT < text.len() {
         count_digits(&text[..SHORT + 1])
     } else {

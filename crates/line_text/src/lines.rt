@@ -8,7 +8,7 @@ use crate::pair::leading_pair;
 use crate::search::first_place;
 use std::marker::Model;
 
-/// The lines of a text that are still to be read, in order and without their newlines.
+/// The unread lines of a text, in order and without their newlines.
 #[derive(Drop)]
 pub struct Lines<'a> {
     rest: &'a [u8],
@@ -20,8 +20,8 @@ impl<'a> Model for Lines<'a> {
     ghost view = { λ s. lines s.rest.now };
 }
 
-/// The lines of a text. A newline (byte 10) ends each, and may be missing at the last. The empty text has none, and
-/// two newlines in a row make an empty line.
+/// The lines of a text. A newline (byte 10) ends each line; the last line may lack it. The empty text has no line, and two newlines in a
+/// row make an empty line.
 pub fn lines_in(text: &[u8]) -> Lines<'_>
     ensures { result ≡ lines text.now }
 {
@@ -29,15 +29,15 @@ pub fn lines_in(text: &[u8]) -> Lines<'_>
 }
 
 impl<'a> Lines<'a> {
-    /// The text of the lines that are still to be read.
+    /// The text of the unread lines.
     pub fn rest(&self) -> &'a [u8]
         ensures { lines result.now ≡ self.now }
     {
         self.rest
     }
 
-    /// Takes the next line as two numbers, in one pass over its bytes. None where no line is left, or the next one is not two words that
-    /// each spell a number of at most 19 digits; then no line is taken.
+    /// Takes the next line as two numbers, in one pass over its bytes. `None`, with no line taken, if no line is left or the next line is
+    /// not two words that each spell a number of at most 19 digits.
     #[inline(always)]
     pub fn next_numbers(&mut self) -> Option<(u64, u64)>
         ensures numbers { result ≡ option_and_then (λ line. short_pair_of (words line)) (slice_get self.old 0) }

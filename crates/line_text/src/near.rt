@@ -1,4 +1,4 @@
-//! The number in front of a long text, in one pass over its digits.
+//! The number at the start of a long text, in one pass over its digits.
 ghost use Rattle.std.specs.Prelude.{◌≡◌, ◌<◌, IfSome, take};
 ghost use Rattle.std.specs.Char.{is_ascii_digit};
 ghost use Rattle.std.specs.List.{prefix_len};
@@ -6,8 +6,8 @@ ghost use Rattle.std.specs.Str.Parse.{digits_value};
 
 use crate::number::SHORT;
 
-// How many digits are in front of these bytes, and the value of the digits; none where all bytes are digits.
-// The length is a constant, so that the loop can be unrolled, and no byte costs a test for the end of the text.
+// How many digits are at the start of these bytes, and their value; `None` if all bytes are digits.
+// The length is a constant. So the compiler unrolls the loop, and no byte costs a test for the end of the text.
 #[inline(always)]
 pub(crate) fn near_digits(bytes: &[u8; SHORT]) -> Option<(usize, u64)>
     ensures size { IfSome result (λ pair. pair.0 ≡ prefix_len is_ascii_digit bytes.now) }

@@ -8,22 +8,21 @@ ghost use Rattle.line_text.specs.Numbers.{number_of, classified};
 
 use crate::leading::leading_number;
 
-/// What a word says as a number.
+/// What a word spells as a number.
 #[derive(Debug, Clone, Copy, PartialEq, Eq)]
 pub enum Number {
-    /// It is no number, or not in its one spelling.
+    /// No number, or not the one spelling of its number.
     NoNumber,
-    /// It is a number above 2^64 - 1.
+    /// A number above 2^64 - 1.
     TooLarge,
-    /// It is this number.
+    /// This number.
     Value(u64),
 }
 
-// Every number of so many digits is below 2^64.
+// Every number of this many digits is below 2^64.
 pub(crate) const SHORT: usize = 19;
 
-/// The number that a word of any length spells. Each number has one spelling: its decimal digits, with no 0 in front
-/// but in `0` itself.
+/// The number that a word of any length spells. Each number has one spelling: its decimal digits, without a leading 0 except in `0` itself.
 #[tactic(auto, using(crate::proofs::LeadingDigits::whole_number))]
 pub fn number_in(word: &[u8]) -> Number
     ensures { result ≡ classified (number_of word.now) }
@@ -34,7 +33,7 @@ pub fn number_in(word: &[u8]) -> Number
     }
 }
 
-// The number that a word spells, also where it has more digits than `leading_number` reads.
+// The number that a word of any length spells, even if it has more digits than `leading_number` reads.
 #[tactic(auto, unfolding(crate::specs::Numbers::number_of))]
 fn any_number_in(word: &[u8]) -> Number
     ensures { result ≡ classified (number_of word.now) }
@@ -51,7 +50,7 @@ fn any_number_in(word: &[u8]) -> Number
     }
 }
 
-/// The number that a word of any length spells, or `most` where it is larger; none where the word spells none.
+/// The number that a word of any length spells, or `most` if the number is larger. `None` if the word spells no number.
 /// It serves a reader for which every number from `most` on is out of range.
 pub fn capped_number_in(word: &[u8], most: u32) -> Option<u32>
     ensures number { result ≡ option_map (λ n. min n most) (number_of word.now) }
@@ -70,7 +69,7 @@ fn all_digits(word: &[u8]) -> bool
     word.iter().all(|b| b.is_ascii_digit())
 }
 
-// The value of digits, where 64 bits hold it.
+// The value of digits, if 64 bits hold it.
 fn value_of(digits: &[u8]) -> Option<u64>
     requires { IsTrue (list_all is_ascii_digit digits.now) }
     ensures { SomeIff result (digits_value 10 digits.now < 2 ^ 64) (digits_value 10 digits.now) }

@@ -6,7 +6,7 @@ ghost use Rattle.line_text.specs.Pairs.{short_pair_of};
 
 use crate::leading::leading_number;
 
-// the two numbers of the first line of a text, and the text after that line; none where the line is no such pair
+// the two numbers of the first line of a text, and the text after that line; `None` if the line is no such pair
 #[inline(always)]
 pub(crate) fn leading_pair(text: &[u8]) -> Option<((u64, u64), &[u8])>
     ensures numbers { option_map (λ found. found.0) result
@@ -22,7 +22,7 @@ pub(crate) fn leading_pair(text: &[u8]) -> Option<((u64, u64), &[u8])>
     Some(((first, second), rest))
 }
 
-// the text after its first byte, where this byte is the first one
+// the text after its first byte, if that is this byte
 #[inline(always)]
 fn after_byte(byte: u8, text: &[u8]) -> Option<&[u8]>
     ensures first { IfSome result (λ rest. text.now ≡ byte ∷ rest.now) }

@@ -3,10 +3,10 @@ ghost use Rattle.memchr.specs.Find.{IsFirstByte, is_byte};
 
 use memchr::memchr;
 
-// Up to here one byte after the other is the faster search, and most lines and words are no longer.
+// Up to this length a search byte by byte is faster. Most lines and words are no longer.
 const NEAR: usize = 32;
 
-// Inlined, as the two `next` that call it: a call for each word would take longer than most words do.
+// Inlined, like its two callers `next`: a call for each word would take longer than most words do.
 #[inline(always)]
 pub(crate) fn first_place(byte: u8, bytes: &[u8]) -> Option<usize>
     ensures { IsFirstByte (is_byte byte) bytes.now result }

@@ -6,19 +6,18 @@ ghost use Rattle.line_text.specs.Signed.{signed_of, signed_classified, negated};
 
 use crate::number::{Number, number_in};
 
-/// What a word says as a number with a sign.
+/// What a word spells as a number with a sign.
 #[derive(Debug, Clone, Copy, PartialEq, Eq)]
 pub enum SignedNumber {
-    /// It is no number, or not in its one spelling.
+    /// No number, or not the one spelling of its number.
     NoNumber,
-    /// It is a number below -2^63 or above 2^63 - 1.
+    /// A number below -2^63 or above 2^63 - 1.
     TooLarge,
-    /// It is this number.
+    /// This number.
     Value(i64),
 }
 
-/// The number with its sign that a word of any length spells: a number as `number_in` reads it, or `-` and such a
-/// number other than 0.
+/// The number with its sign that a word of any length spells: a number as `number_in` reads it, or `-` and such a number other than 0.
 pub fn signed_in(word: &[u8]) -> SignedNumber
     ensures { result ≡ signed_classified (signed_of word.now) }
 {
@@ -43,7 +42,7 @@ fn not_negative(number: Number) -> SignedNumber
     }
 }
 
-// The number behind a `-`.
+// The number after a `-`.
 fn negative(number: Number) -> SignedNumber
     ensures { (spelled : Option ℕ) → number ≡ classified spelled
         → result ≡ signed_classified (option_and_then negated spelled) }
@@ -51,7 +50,7 @@ fn negative(number: Number) -> SignedNumber
     match number {
         Number::NoNumber | Number::Value(0) => SignedNumber::NoNumber,
         Number::TooLarge => SignedNumber::TooLarge,
-        // By the number below it: 2^63 is no i64, and -2^63 is one.
+        // computed from the number below it: 2^63 is no i64, and -2^63 is one
         Number::Value(n) => match i64::try_from(n - 1) {
             Ok(below) => SignedNumber::Value(-1 - below),
             Err(_) => SignedNumber::TooLarge,

@@ -11,7 +11,7 @@ use crate::number::{Number, SHORT, number_in};
 use crate::search::first_place;
 use std::marker::Model;
 
-/// The words of a line that are still to be read, in order.
+/// The unread words of a line, in order.
 #[derive(Drop)]
 pub struct Words<'a> {
     rest: Option<&'a [u8]>,
@@ -23,8 +23,8 @@ impl<'a> Model for Words<'a> {
     ghost view = { λ s. words_left (option_map (λ x. x.now) s.rest) };
 }
 
-/// The words of a line, with a single space (byte 32) between each two. A space at the front or the end, and two
-/// spaces in a row, make an empty word; the empty line is one.
+/// The words of a line, with a single space (byte 32) between each two. A space at the start or the end, and two spaces in a row, make an
+/// empty word. The empty line is one empty word.
 pub fn words_in(line: &[u8]) -> Words<'_>
     ensures { result ≡ words line.now }
 {
@@ -32,8 +32,8 @@ pub fn words_in(line: &[u8]) -> Words<'_>
 }
 
 impl<'a> Words<'a> {
-    /// Takes the next word as a number, in one pass over its bytes: the number that it spells. None where no word is left, or the next one
-    /// spells no number or has more than 19 digits; then no word is taken.
+    /// Takes the next word as a number, in one pass over its bytes. `None`, with no word taken, if no word is left, the next word spells no
+    /// number, or it has more than 19 digits.
     #[inline]
     pub fn next_number(&mut self) -> Option<u64>
         ensures number { result ≡ option_and_then short_number_of (slice_get self.old 0) }
@@ -52,7 +52,7 @@ impl<'a> Words<'a> {
         Some(value)
     }
 
-    /// Takes the next word, as what it says as a number, mostly in one pass over its bytes. None where no word is left.
+    /// Takes the next word, and returns what it spells as a number, mostly in one pass over its bytes. `None` if no word is left.
     #[inline]
     pub fn next_as_number(&mut self) -> Option<Number>
         ensures number { result ≡ option_map (λ word. classified (number_of word)) (slice_get self.old 0) }
@@ -67,7 +67,7 @@ impl<'a> Words<'a> {
         }
     }
 
-    // Takes the next word as a number, where that has at most 18 digits and the line goes on after it; else no word is taken.
+    // Takes the next word as a number if it has at most 18 digits and the line goes on after it. Otherwise it takes no word.
     #[inline(always)]
     fn next_near_number(&mut self) -> Option<u64>
         ensures number { IfSome result (λ n. option_and_then short_number_of (slice_get self.old 0) ≡ Some n) }

@@ -1,4 +1,4 @@
-//! What bounds the numbers of a certificate's rows. A number may be any of 64 bits, so sums with one are made in 128.
+//! The bounds of the numbers in a certificate's rows. A number may have any 64 bits, so sums with a number have 128.
 ghost use Rattle.std.specs.Prelude.{◌≡◌, ◌↔◌, ℕ, ◌+◌, ◌<◌, ◌≤◌, length, slice_index, IsTrue};
 ghost use Rattle.std.specs.Ordering.{MatchOrdering};
 ghost use Rattle.class_table.specs.Steps.{IsStep};
@@ -47,8 +47,8 @@ pub(crate) fn edges_hold(spans: &Spans, before: &[u64], row: &[u64]) -> bool
 }
 
 // Whether no number of a part of a row is more than its edge to any of these ends allows.
-// The middle place is tested by its tightest end. Since spans cross, that end is as tight for an earlier place as any behind it,
-// and for a later place as any before it: so earlier places are left with the ends up to it, and later ones with those from it on.
+// The function tests the middle place by its tightest end. Since spans cross, that end is as tight for an earlier place as any end after
+// it, and for a later place as any end before it. So earlier places need only the ends up to it, and later places only those from it on.
 fn edges_hold_within(
     spans: &Spans,
     before: &[u64],
@@ -76,7 +76,7 @@ fn edges_hold_within(
         && edges_hold_within(spans, before, row, middle + 1..part.end, end..ends.end)
 }
 
-// the tightest of these ends for place `i`: the one whose edge allows a number there the least
+// the tightest of these ends for place `i`: its edge allows the least number there
 fn tightest_end(spans: &Spans, before: &[u64], i: usize, ends: Range<usize>) -> usize
     requires after { i < ends.start }
     requires some { ends.start < ends.end }

@@ -1,4 +1,4 @@
-//! The rows of a sheet beside the spans of its profile.
+//! The tests of a sheet's rows against the spans of its profile.
 ghost use Rattle.std.specs.Prelude.{◌≡◌, ◌↔◌, All, length, IfNone, IfSome, IsTrue};
 ghost use Rattle.std.specs.List.{AllAdjacentBelow};
 ghost use Rattle.potential_check.specs.Bounds.{EdgesHold, StageDropHolds};
@@ -16,7 +16,7 @@ use crate::spans::Spans;
 use std::marker::Model;
 use tuner_theory::Refusal;
 
-/// A sheet beside the spans of the profile that it is for, at the sheet's step.
+/// A sheet with the spans of its profile, at the sheet's step.
 #[derive(Drop)]
 pub(crate) struct Certificate<'a> {
     spans: &'a Spans<'a>,
@@ -36,7 +36,7 @@ impl<'a> Model for Certificate<'a> {
 }
 
 impl<'a> Certificate<'a> {
-    /// A sheet beside the spans of its profile.
+    /// A sheet with the spans of its profile.
     pub(crate) fn new(spans: &'a Spans<'a>, sheet: &'a Sheet) -> Certificate<'a>
         requires { spans.now.step ≡ sheet.now.step }
         ensures { result ≡ record { counts = spans.now.counts; sheet = sheet_of sheet.now } }
@@ -44,7 +44,7 @@ impl<'a> Certificate<'a> {
         Certificate { spans, sheet }
     }
 
-    /// The first refusal that the rows get, where the table gets none.
+    /// The first refusal for the rows. There must be none for the table.
     pub(crate) fn refusal(&self) -> Option<Refusal>
         requires { MeetsBefore self.now.counts self.now.sheet Shape }
         ensures refused { IfSome result (λ refusal. IsVerdict self.now.counts self.now.sheet (Refused refusal)) }
@@ -68,7 +68,7 @@ impl<'a> Certificate<'a> {
         None
     }
 
-    // whether there is a row for each class up to the limit, of a number for each place
+    // whether there is a row for each number of classes up to the limit, with a number for each place
     fn has_shape(&self) -> bool
         ensures { IsTrue result ↔ Meets self.now.counts self.now.sheet Shape }
     {
@@ -76,7 +76,7 @@ impl<'a> Certificate<'a> {
         rows.len() == usize::from(self.sheet.limit) && have_length(rows, self.spans.places())
     }
 
-    // whether row 1 is within what one class wastes
+    // whether no number of row 1 is above the waste of one class
     fn meets_last_class(&self) -> bool
         requires { Meets self.now.counts self.now.sheet Shape }
         ensures { IsTrue result ↔ Meets self.now.counts self.now.sheet LastClass }
@@ -85,7 +85,7 @@ impl<'a> Certificate<'a> {
         rows.is_empty() || last_class_holds(self.spans, rows.row(0))
     }
 
-    // whether each later row is within the row before it
+    // whether no number of a later row is above that of the row before
     fn meets_stage_drop(&self) -> bool
         requires { Meets self.now.counts self.now.sheet Shape }
         ensures { IsTrue result ↔ Meets self.now.counts self.now.sheet StageDrop }
@@ -101,7 +101,7 @@ impl<'a> Certificate<'a> {
         all_edges_hold(self.spans, &self.sheet.rows)
     }
 
-    // whether the rows show that no table wastes less than this one is said to
+    // whether the rows show that no table wastes less than the sheet's waste
     fn is_tight(&self) -> bool
         requires { Meets self.now.counts self.now.sheet Shape }
         ensures { IsTrue result ↔ Meets self.now.counts self.now.sheet NotTight }
@@ -116,7 +116,7 @@ impl<'a> Certificate<'a> {
     }
 }
 
-// whether each row has so many numbers
+// whether each row has this many numbers
 fn have_length(rows: &Rows, len: usize) -> bool
     ensures { IsTrue result ↔ All (λ row. length row ≡ len) rows.now }
 {

@@ -1,4 +1,4 @@
-//! The checker: it trusts nobody, so it looks at all that a sheet says.
+//! The checker. It trusts nobody, so it tests everything that a sheet says.
 ghost use Rattle.std.specs.Prelude.{◌≡◌, ◌↔◌, ◌≤◌, ◌<◌, ℕ, length, IfNone, IfOk, IfSome, IsTrue};
 ghost use Rattle.class_table.specs.Steps.{IsStep};
 ghost use Rattle.class_table.specs.Tables.{FitsStep, IsLegalTable};
@@ -17,9 +17,9 @@ use std::alloc::{AllocError, Global};
 use tuner_theory::laws::law_optimal_is_best;
 use tuner_theory::{Refusal, Verdict};
 
-/// The verdict on a sheet, whoever wrote it and whatever it holds: optimal, or refused by the first of the refusals that holds of it.
-/// The table of an optimal sheet is a best one: no table of at most `limit` classes that fits the step and serves the profile
-/// wastes less. An error only where memory was refused.
+/// The verdict on a sheet, whoever wrote it and whatever it holds: optimal, or the first refusal that holds.
+/// The table of an optimal sheet is a best one: no table of at most `limit` classes that fits the step and serves the profile wastes less.
+/// The only error is that the allocator refuses memory.
 pub fn check(alloc: Global, profile: &Profile, sheet: &Sheet) -> Result<Verdict, AllocError>
     ensures verdict { IfOk result (IsVerdict profile.now.counts (sheet_of sheet.now)) }
     ensures best { IfOk result
@@ -36,7 +36,7 @@ pub fn check(alloc: Global, profile: &Profile, sheet: &Sheet) -> Result<Verdict,
     }
 }
 
-// the first refusal that the table gets, beside the step, the limit and the waste
+// the first refusal for the table, with the step, the limit and the waste
 fn table_refusal(profile: &Profile, sheet: &Sheet) -> Option<Refusal>
     ensures refused { IfSome result (λ refusal. IsVerdict profile.now.counts (sheet_of sheet.now) (Refused refusal)) }
     ensures none { IfNone result (MeetsBefore profile.now.counts (sheet_of sheet.now) Shape) }

@@ -4,13 +4,13 @@ ghost use Rattle.potential_check.specs.declared.fault.SheetError.TheVariants.{Ou
 use std::alloc::AllocError;
 use thiserror::Error;
 
-/// Why no sheet was read; shown as its code and name.
+/// Why no sheet was read. Each is shown as its code and name.
 #[derive(Debug, Clone, Copy, PartialEq, Eq, Error)]
 pub enum SheetError {
-    /// A growth was refused.
+    /// The allocator refused memory.
     #[error("1 OutOfMemory")]
     OutOfMemory,
-    /// The line of this number, counted from 1, is the first that is faulty or missing.
+    /// The first line that is faulty or missing has this number, counted from 1.
     #[error("48 BadSheet line {0}")]
     Line(u64),
 }

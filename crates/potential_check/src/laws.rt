@@ -1,11 +1,11 @@
-//! What is true of every profile and its spans, and of every sheet's text; each law is the contract of a function that does nothing.
+//! What holds for every profile and its spans, and for every sheet's text. Each law is the contract of a function that does nothing.
 ghost use Rattle.potential_check.specs.Laws.{FaultIsFirst, FirstFaultIsTold, SheetIsSpelled, SpelledSheetIsRead};
 
 use class_table::laws::law_class_line;
 use line_text::laws::law_text;
 pub use tuner_theory::laws::{law_crossing_spans, law_optimal_is_best, law_potentials_bound};
 
-/// What is read as a sheet is its text, and the text of a sheet within the format's limits is read as that sheet.
+/// A text that is read as a sheet is that sheet's text, and the text of a sheet within the format's limits is read as that sheet.
 pub fn law_sheet_text()
     ensures read { SheetIsSpelled }
     ensures written { SpelledSheetIsRead }

@@ -1,12 +1,12 @@
 use crate::sheet::Sheet;
 
-/// A sheet that stands in front of other lines of a text.
+/// A sheet at the start of a text.
 #[derive(Debug, Drop)]
 pub struct LeadingSheet<'a> {
     /// The sheet.
     pub sheet: Sheet,
-    /// How many lines it has.
+    /// The number of its lines.
     pub lines: u64,
-    /// The text behind its lines.
+    /// The text after its lines.
     pub rest: &'a [u8],
 }

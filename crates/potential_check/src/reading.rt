@@ -22,7 +22,7 @@ const MOST_ROWS: usize = MOST_CLASSES;
 
 /// The sheet that a text spells: a class line, `limit K` (1 to 32), perhaps `step S` (2, 4 or 8; else the step is 1), `waste W`, and at most
 /// 32 lines `row ..` of at most 1,023 numbers; each number is below 2^64. The last line may lack its newline.
-/// An error is the number of the first line that is faulty or missing, or that memory was refused.
+/// Errors: the number of the first line that is faulty or missing, or `OutOfMemory`.
 pub fn read_sheet(alloc: Global, text: &[u8]) -> Result<Sheet, SheetError>
     ensures exact { Gives sheet_of result (sheet_in text.now) }
     ensures within { IfOk result (λ sheet. IsWithinLimits (sheet_of sheet)) }
@@ -88,7 +88,7 @@ fn head_in(lines: &mut Lines<'_>) -> Result<Head, SheetError>
     })
 }
 
-// The step that the next line, the third, tells, and then it is passed over; 1 where its first word is another.
+// The step of the next line, the third, which is then taken. 1, with no line taken, if the line's first word is another.
 fn step_at(lines: &mut Lines<'_>) -> Option<u8>
     ensures { step_at lines.old ≡ option_map (λ step. (step, lines.new)) result }
 {
@@ -98,7 +98,7 @@ fn step_at(lines: &mut Lines<'_>) -> Option<u8>
     }
 }
 
-// the number of the waste's line, which is behind the step's
+// the number of the waste's line, which follows the step's
 fn waste_number(step: u8) -> u64
     ensures number { result ≡ waste_number step }
     ensures small { result ≤ 4 }
@@ -106,7 +106,7 @@ fn waste_number(step: u8) -> u64
     if step == 1 { 3 } else { 4 }
 }
 
-// The rows that the next lines are, as long as their first word is `row`; the first of them has this number.
+// The rows of the next lines, as long as their first word is `row`. The first of these lines has the number `first`.
 fn rows_in(alloc: Global, lines: &mut Lines<'_>, first: u64) -> Result<Rows, SheetError>
     requires { first ≤ 5 }
     ensures rows { Gives (λ rows. rows) result (rows_from first 32 (take_while is_row_line lines.old)) }
@@ -127,7 +127,7 @@ fn rows_in(alloc: Global, lines: &mut Lines<'_>, first: u64) -> Result<Rows, She
     Ok(Rows::new(rows))
 }
 
-// the next line where its first word is this name; it is passed over then
+// takes the next line if its first word is this name
 fn next_named<'a>(name: &[u8], lines: &mut Lines<'a>) -> Option<&'a [u8]>
     ensures some { IfSome result (λ line. (lines.old ≡ line.now ∷ lines.new) × (is_named name.now line.now ≡ Bool.true)) }
     ensures none { IfNone result ((lines.new ≡ lines.old) × (take_while (is_named name.now) lines.old ≡ [])) }

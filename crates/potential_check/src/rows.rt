@@ -46,7 +46,7 @@ impl Rows {
         &self.rows[index]
     }
 
-    /// The number in row `k`, counted from 1, at a place; 0 where the row has none there, or there is no such row.
+    /// The number in row `k`, counted from 1, at a place; 0 if there is no such row, or the row has no number there.
     pub fn number(&self, k: usize, place: usize) -> u64
         requires { 1 ≤ k }
         ensures { result ≡ number_at self.now k place }

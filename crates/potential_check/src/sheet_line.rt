@@ -18,7 +18,7 @@ pub(crate) const WASTE: &[u8] = b"waste";
 
 pub(crate) const ROW: &[u8] = b"row";
 
-// no table has more classes
+// no table has more classes than this
 const MOST_LIMIT: u64 = MOST_CLASSES as u64;
 
 // the most numbers of a row: there are as many classes that a need can be
@@ -88,7 +88,7 @@ pub(crate) fn is_named(name: &[u8], line: &[u8]) -> bool
     words_behind(name, line).is_some()
 }
 
-// the words behind a line's name
+// the words after a line's name
 fn words_behind<'a>(name: &[u8], line: &'a [u8]) -> Option<Words<'a>>
     ensures { result ≡ words_behind name.now (words line.now) }
 {
@@ -99,7 +99,7 @@ fn words_behind<'a>(name: &[u8], line: &'a [u8]) -> Option<Words<'a>>
     Some(words)
 }
 
-// the number of words that are one number
+// the number that the words spell, if they are one word
 fn only_number(mut words: Words<'_>) -> Option<u64>
     ensures { result ≡ passing fits (option_and_then only_one (numbers_of words.entry)) }
 {

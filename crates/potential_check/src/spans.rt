@@ -10,8 +10,8 @@ use std::alloc::{AllocError, Global};
 use std::marker::Model;
 use tuner_theory::laws::{law_places, law_prefix_sums, law_round_up, law_spans_fit};
 
-/// The spans of a profile: its places, one for each distinct rounded need, and what it wastes to serve the needs from one place to another
-/// by the greatest of them. Each waste is told by two sums, of requests and of bytes, that are kept for each place.
+/// The spans of a profile: its places, one for each distinct rounded need, and the waste of serving the needs from one place to another by
+/// the greatest of them. Each waste follows from two sums for each place, of requests and of bytes.
 #[derive(Debug, Drop)]
 pub struct Spans<'a> {
     profile: &'a Profile,
@@ -32,7 +32,7 @@ impl<'a> Model for Spans<'a> {
 }
 
 impl<'a> Spans<'a> {
-    /// The spans of a profile, for blocks in multiples of a step (1, 2, 4 or 8 granules). An error only where memory was refused.
+    /// The spans of a profile, for blocks in multiples of a step (1, 2, 4 or 8 granules). The only error is that the allocator refuses memory.
     pub fn new(alloc: Global, profile: &'a Profile, step: u8) -> Result<Spans<'a>, AllocError>
         requires { IsStep step }
         ensures spans { IfOk result (λ spans. spans ≡ record { counts = profile.now.counts; step = step }) }
@@ -96,7 +96,7 @@ impl<'a> Spans<'a> {
         self.needs[place - 1]
     }
 
-    /// The bytes that the requests at the places above `i` up to `j` lose in the class that is the need at `j`.
+    /// The bytes that the requests at the places above `i`, up to `j`, lose in the class that is the need at `j`.
     pub fn waste(&self, i: usize, j: usize) -> u64
         requires order { i < j }
         requires within { j ≤ places self.now.counts self.now.step }
@@ -112,7 +112,7 @@ impl<'a> Spans<'a> {
         payload * (requests - requests_before) - (bytes - bytes_before)
     }
 
-    // how many requests were counted up to a place
+    // the number of requests counted up to a place
     fn requests_up_to(&self, place: usize) -> u64
         requires { place ≤ places self.now.counts self.now.step }
         ensures requests { let high = need_at self.now.counts self.now.step place in result ≡ counted_up_to self.now.counts self.now.step high }

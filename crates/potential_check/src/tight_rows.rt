@@ -1,5 +1,6 @@
-//! Rows whose numbers are each as large as their edges allow, as a tuner writes them. Their ends ascend from place to place, so that one walk
-//! down the places and the ends sees to all edges: two bounds for each of both, in place of some ten for each place.
+//! Rows whose numbers are each as large as their edges allow, as a tuner writes them. Their ends ascend from place to place. So one walk
+//! down the places and the ends covers all edges: it computes some two bounds for each place and each end, where the halving computes ten
+//! for each place.
 ghost use Rattle.std.specs.Prelude.{◌≡◌, ◌↔◌, ℕ, ◌<◌, ◌≤◌, length, slice_index, IfNone, IfSome, IsTrue};
 ghost use Rattle.class_table.specs.Steps.{IsStep};
 ghost use Rattle.potential_check.specs.Bounds.{AreTight, EdgesHold, HasTightEnd, IsTightEnd, edge_bound};
@@ -10,7 +11,7 @@ use crate::spans::Spans;
 use std::cmp::Ordering;
 use tuner_theory::laws::law_crossing_spans;
 
-/// Whether each number of a row is within its edges, and just what one of them allows.
+/// Whether each number of a row is within its edges, and exactly what one of them allows.
 // Not inlined: in a large caller the walk's values would be kept in memory.
 #[inline(never)]
 pub(crate) fn is_tight_row(spans: &Spans, before: &[u64], row: &[u64]) -> bool
@@ -29,8 +30,8 @@ pub(crate) fn is_tight_row(spans: &Spans, before: &[u64], row: &[u64]) -> bool
     first_edges_hold(spans, before, row, end)
 }
 
-// The end for this place, from that of the place after it on downwards, whose edge allows just the number here. On the way the edges of both
-// places to the ends in between are tested; none where a number is more than such an edge allows, or there is no such end.
+// The end for this place whose edge allows exactly the number here, searched from the end of the next place downwards. On the way the
+// search tests the edges of both places to the ends in between. `None` if a number is more than such an edge allows, or there is no such end.
 #[inline(always)]
 fn tight_end(spans: &Spans, before: &[u64], row: &[u64], place: usize, last: usize) -> Option<usize>
     requires row { length row.now ≡ places spans.now.counts spans.now.step }
@@ -56,7 +57,7 @@ fn tight_end(spans: &Spans, before: &[u64], row: &[u64], place: usize, last: usi
     }
 }
 
-// whether the first number is within its edges to the ends before this one
+// whether the first number is within its edges to all ends before this one
 fn first_edges_hold(spans: &Spans, before: &[u64], row: &[u64], end: usize) -> bool
     requires row { length row.now ≡ places spans.now.counts spans.now.step }
     requires within { end ≤ places spans.now.counts spans.now.step }

@@ -22,8 +22,8 @@ const TOGETHER: usize = 16;
 
 const TOGETHER_BYTES: usize = TOGETHER * NUMBER_BYTES;
 
-/// Appends the text of a sheet: its class line, `limit K`, `step S` where the step is not 1, `waste W`, and a line `row ..` for each row.
-/// Each line has its newline. Where memory is refused, the text is as before.
+/// Appends the text of a sheet: its class line, `limit K`, `step S` unless the step is 1, `waste W`, and a line `row ..` for each row.
+/// Each line has its newline. If memory runs out, `text` is unchanged.
 pub fn write_sheet(sheet: &Sheet, text: &mut Vec<u8>) -> Result<(), AllocError>
     ensures written { OnOk result (text.new.items ≡ text.old.items ++ sheet_text (sheet_of sheet.now)) }
     ensures refused { OnErr result (text.new.items ≡ text.old.items) }

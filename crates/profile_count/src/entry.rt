@@ -17,12 +17,12 @@ pub(crate) const LARGE: &[u8] = b"large";
 pub enum Entry {
     /// Requests of a size, in bytes, and how many of them.
     Size(u32, u32),
-    /// So many requests of sizes above 16,368 bytes.
+    /// How many requests of sizes above 16,368 bytes.
     Large(u32),
 }
 
-// Takes the next line, and returns what it counts; none where no line is left. `next` is the least size that may come, `large` the count
-// of the `large` line, 0 where none came.
+// Takes the next line, and returns what it counts; `None` if no line is left. `next` is the least size that may come, `large` the count
+// of the `large` line, 0 if none came.
 #[inline(always)]
 pub(crate) fn next_entry(
     next: u32,
@@ -33,7 +33,7 @@ pub(crate) fn next_entry(
     ensures taken { lines.new ≡ drop 1 lines.old }
     ensures next { IfSome result (λ read. IfOk read (λ entry. IsNext next large entry)) }
 {
-    // A line of two numbers is read in one pass; `entry_in` knows all other lines, and each fault.
+    // This reads a line of two numbers in one pass; `entry_in` reads all other lines, and finds each fault.
     if large == 0
         && let Some((size, count)) = lines.next_numbers()
     {
@@ -42,7 +42,7 @@ pub(crate) fn next_entry(
     Some(entry_in(next, large, lines.next()?))
 }
 
-// What a line counts; `next` is the least size that may come, `large` the count of the `large` line, 0 where none came.
+// What a line counts. `next` is the least size that may come, `large` the count of the `large` line, 0 if none came.
 pub(crate) fn entry_in(next: u32, large: u32, line: &[u8]) -> Result<Entry, ProfileFault>
     ensures entry { result ≡ entry_of next large (words line.now) }
     ensures next { IfOk result (λ entry. IsNext next large entry) }
@@ -59,7 +59,7 @@ pub(crate) fn entry_in(next: u32, large: u32, line: &[u8]) -> Result<Entry, Prof
     numbers_entry(next, first, count)
 }
 
-// the words of a line, where there are two
+// the words of a line, if there are two
 fn two_words(line: &[u8]) -> Option<(&[u8], &[u8])>
     ensures two { IfSome result (λ pair. words line.now ≡ pair.0.now ∷ pair.1.now ∷ []) }
     ensures other { IfNone result ((a b : List ℕ) → words line.now ≢ a ∷ b ∷ []) }
@@ -119,7 +119,7 @@ fn size_entry(next: u32, size: u64, count: u64) -> Result<Entry, ProfileFault>
     Ok(Entry::Size(size as u32, count as u32))
 }
 
-// whether a count is one that a line may have
+// whether a line may have this count
 fn is_count(count: u64) -> bool
     ensures { result ≡ is_count count }
 {

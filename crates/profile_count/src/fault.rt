@@ -6,12 +6,12 @@ use std::alloc::AllocError;
 use std::fmt;
 use thiserror::Error;
 
-/// What is wrong with a line of a profile, in the order in which faults are looked for. Each is shown as its code and name.
+/// What is wrong with a line of a profile, in the order of the tests. Each is shown as its code and name.
 #[derive(Debug, Clone, Copy, PartialEq, Eq)]
 pub enum ProfileFault {
-    /// The line is not two words, of which the first is a number up to 16,368 or `large` and the second a number, or it stands behind a `large` line.
+    /// The line is not a number up to 16,368 or `large`, a space and a number; or it follows a `large` line.
     BadLine,
-    /// The size is not above the one of the line before.
+    /// The size is not above that of the line before.
     NotAscending,
     /// The count is not from 1 to 1,000,000,000.
     CountOutOfRange,
@@ -34,15 +34,15 @@ impl std::error::Error for ProfileFault {}
 /// Why no profile was read.
 #[derive(Debug, Clone, Copy, PartialEq, Eq, Error)]
 pub enum ProfileError {
-    /// A growth was refused.
+    /// The allocator refused memory.
     #[error("1 OutOfMemory")]
     OutOfMemory,
-    /// The line of this number, counted from 1, is the first faulty one.
+    /// The first faulty line has this number, counted from 1.
     #[error("{1} line {0}")]
     Line(u32, ProfileFault),
 }
 
-/// The count of a request stands at 1,000,000,000, so it can't be raised; shown as its code and name.
+/// The count of a request is 1,000,000,000 already, so it can't be raised. It is shown as its code and name.
 #[derive(Debug, Clone, Copy, PartialEq, Eq, Error)]
 #[error("33 CountFull")]
 pub struct CountFull;

@@ -1,11 +1,11 @@
-//! What is true of every profile's text and of every list of requests; each law is the contract of a function that does nothing.
+//! What holds for every profile's text and for every list of requests. Each law is the contract of a function that does nothing.
 ghost use Rattle.profile_count.specs.Laws.{AddedRequestsAreCounted, CountsAreFew, OneMoreIsCounted, ProfileCountsRequests, ProfileIsSpelled, SpelledProfileIsRead};
 ghost use Rattle.profile_count.specs.Laws.{FirstFaultIsRefused, LinesBeforeItSpell, RefusedLineIsThere};
 ghost use Rattle.profile_count.specs.RequestLosses.{ProfileOfSizesIsOne, ServesEachRequest, WasteIsTheSumOfLosses};
 
 use line_text::laws::law_text;
 
-/// What is read as a profile is its text, and its text is read as that profile.
+/// A text that is read as a profile is that profile's text, and the text is read as the profile.
 pub fn law_profile_text()
     ensures read { ProfileIsSpelled }
     ensures written { SpelledProfileIsRead }
@@ -13,8 +13,8 @@ pub fn law_profile_text()
     law_text();
 }
 
-/// A text is refused as a profile exactly at its first fault: the lines before it alone spell a profile, and no text that begins with
-/// the lines up to it spells one. That line is one of the text, since a profile misses no line.
+/// A text is refused as a profile exactly at its first fault: the lines before it spell a profile, and no text that begins with the lines
+/// up to it spells one. That line is a line of the text, since a profile never lacks a line.
 pub fn law_profile_fault()
     ensures first { FirstFaultIsRefused }
     ensures line { RefusedLineIsThere }
@@ -23,8 +23,8 @@ pub fn law_profile_fault()
     law_text();
 }
 
-/// The profile of requests has the number of each size's requests and of the large ones, none above the number of all;
-/// requests that are added one by one to the empty profile give it.
+/// The profile of requests has the number of each size's requests and of the large ones, none above the number of all requests. Requests
+/// that are added one by one to the empty profile give it.
 pub fn law_profile_of_sizes()
     ensures counts { ProfileCountsRequests }
     ensures added { AddedRequestsAreCounted }
@@ -32,9 +32,8 @@ pub fn law_profile_of_sizes()
     ensures few { CountsAreFew }
 {}
 
-/// The waste of a table on the profile of requests is the sum, over all counted requests, of the bytes that each loses
-/// in its class; the table serves that profile exactly where each of them has a class. The profile of at most
-/// 1,000,000,000 requests is one that a `Profile` may hold.
+/// The waste of a table on the profile of requests is the sum, over all counted requests, of the bytes that each loses in its class. The
+/// table serves that profile exactly if each of them has a class. A `Profile` can hold the profile of at most 1,000,000,000 requests.
 pub fn law_waste_of_sizes()
     ensures waste { WasteIsTheSumOfLosses }
     ensures serves { ServesEachRequest }

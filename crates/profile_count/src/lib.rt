@@ -1,4 +1,5 @@
-//! Profiles: how often each size was requested, counted one by one or read from their text, written, and what a class table wastes on one.
+//! Profiles: how often each size was requested. They are counted request by request or read from a text, and written; and what a class
+//! table wastes on one.
 #![tactic(auto)]
 
 mod entry;

@@ -9,13 +9,13 @@ use class_table::{ClassTable, LARGEST_COUNTED};
 use std::alloc::{AllocError, Global};
 use std::marker::Model;
 
-/// The most requests that one count tells.
+/// The greatest count.
 pub const MOST_COUNTED: u32 = 1_000_000_000;
 
-// a counter for each size up to the largest that is counted
+// a count for each size up to the largest that is counted
 const SIZES: usize = LARGEST_COUNTED as usize + 1;
 
-/// How often each size from 0 to 16,368 bytes was requested, and how often a larger one, each at most 1,000,000,000 times.
+/// How often each size from 0 to 16,368 bytes was requested, and how often larger sizes were. Each count is at most 1,000,000,000.
 #[derive(Debug, Drop)]
 pub struct Profile {
     counts: Vec<u32>,
@@ -33,7 +33,7 @@ impl Model for Profile {
 }
 
 impl Profile {
-    /// A profile that counts nothing. An error only where memory was refused.
+    /// A profile of no requests. The only error is that the allocator refuses memory.
     pub fn new(alloc: Global) -> Result<Profile, AllocError>
         ensures { IfOk result (λ profile. profile ≡ nothing_counted) }
     {
@@ -58,8 +58,8 @@ impl Profile {
         self.large
     }
 
-    /// Counts one more request of `n` bytes, any number; above 16,368 it is a large one.
-    /// The error is that its count stands at 1,000,000,000; the profile is then as before.
+    /// Counts one more request of `n` bytes, any number; above 16,368 it is a large request.
+    /// The error is that its count is 1,000,000,000 already; the profile is then unchanged.
     pub fn add(&mut self, n: u32) -> Result<(), CountFull>
         ensures added { OnOk result (self.new ≡ with_one_more self.old n) }
         ensures full { IsErr result ↔ (count_for self.old n ≡ MOST_COUNTED) }
@@ -90,7 +90,7 @@ impl Profile {
         self.large = count;
     }
 
-    /// The least counted size that has no class in the table, in bytes, or none where the table serves the profile.
+    /// The least counted size that has no class in the table, in bytes. `None` if the table serves the profile.
     pub fn unserved(&self, table: &ClassTable) -> Option<u16>
         ensures size { result ≡ unserved_of self.now.counts table.now }
         ensures found { IfSome result (λ n. IsCounted self.now.counts n × (class_for table.now n ≡ None)) }
@@ -100,7 +100,7 @@ impl Profile {
         first_unserved(&self.counts, table)
     }
 
-    /// The bytes that a table which serves the profile (`unserved` tells) loses by rounding its counted requests up.
+    /// The bytes that a table loses by rounding the profile's counted requests up. The table must serve the profile (`unserved`).
     pub fn waste(&self, table: &ClassTable) -> u64
         requires { Serves self.now.counts table.now }
         ensures waste { result ≡ waste_of self.now.counts table.now }
@@ -110,7 +110,7 @@ impl Profile {
     }
 }
 
-// a count that is higher by 1, unless this one is the highest
+// a count that is higher by 1, unless this is the greatest count
 fn one_more(count: u32) -> Result<u32, CountFull>
     requires { count ≤ MOST_COUNTED }
     ensures more { IfOk result (λ more. more ≡ count + 1) }
@@ -123,7 +123,7 @@ fn one_more(count: u32) -> Result<u32, CountFull>
     Ok(count + 1)
 }
 
-// so many zeros
+// this many zeros
 #[tactic(auto, unfolding(crate::specs::Counts::zeros))]
 fn zeros(alloc: Global, n: usize) -> Result<Vec<u32>, AllocError>
     ensures { IfOk result (λ counts. counts.items ≡ zeros n) }

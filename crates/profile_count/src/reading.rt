@@ -8,7 +8,7 @@ use std::alloc::Global;
 
 impl Profile {
     /// The profile that a text spells: a line `SIZE COUNT` for each counted size, ascending, then perhaps a line `large COUNT`.
-    /// The last line may lack its newline. An error is the first faulty line with its fault, or that memory was refused.
+    /// The last line may lack its newline. Errors: the first faulty line with its fault, or `OutOfMemory`.
     pub fn read(alloc: Global, text: &[u8]) -> Result<Profile, ProfileError>
         ensures { GivesProfile result (profile_of text.now) }
     {

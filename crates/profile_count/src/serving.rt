@@ -1,4 +1,4 @@
-//! Walks over the counts of all sizes, beside the classes that serve them: as sizes ascend, so do their classes.
+//! Walks over the counts of all sizes, together with the classes that serve them: as sizes ascend, so do their classes.
 ghost use Rattle.std.specs.Prelude.{◌≡◌, ◌<◌, ◌≤◌, ◌^◌, ℕ, length, unwrap_or};
 ghost use Rattle.std.specs.List.{position_or_len};
 ghost use Rattle.class_table.specs.Sizes.{loss_of, serves};
@@ -38,7 +38,7 @@ pub(crate) fn table_losses(counts: &[u32], table: &ClassTable) -> u64
     total
 }
 
-// the number of the first class that serves n, or of all classes; no class before `from` serves n
+// the number of the first class that serves n, or the number of classes if none does; no class before `from` serves n
 fn first_serving(table: &ClassTable, from: usize, n: u32) -> usize
     requires { from ≤ position_or_len (serves n) table.now }
     ensures first { result ≡ position_or_len (serves n) table.now }
@@ -52,7 +52,7 @@ fn first_serving(table: &ClassTable, from: usize, n: u32) -> usize
     table.len()
 }
 
-// what a request of n bytes loses in the class of this number, the first that serves it; nothing where none does
+// what a request of n bytes loses in the class of this number, the first that serves it; 0 if none does
 fn loss_in(table: &ClassTable, number: usize, n: u32) -> u32
     requires { number ≡ position_or_len (serves n) table.now }
     ensures loss { result ≡ loss_of n (unwrap_or (class_for table.now n) 0) }

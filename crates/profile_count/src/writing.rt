@@ -12,8 +12,8 @@ use itoa::Buffer;
 use std::alloc::AllocError;
 
 impl Profile {
-    /// Appends the text of the profile: a line `SIZE COUNT` for each counted size, ascending, then a line `large COUNT` where large
-    /// requests were counted. Each line has its newline. Where memory is refused, the text is as before.
+    /// Appends the text of the profile: a line `SIZE COUNT` for each counted size, ascending, then a line `large COUNT` if large requests
+    /// were counted. Each line has its newline. If memory runs out, `text` is unchanged.
     pub fn write(&self, text: &mut Vec<u8>) -> Result<(), AllocError>
         ensures written { OnOk result (text.new.items ≡ text.old.items ++ profile_text self.now) }
         ensures refused { OnErr result (text.new.items ≡ text.old.items) }
@@ -54,7 +54,7 @@ fn append_sizes(text: &mut Vec<u8>, profile: &Profile) -> Result<(), AllocError>
     Ok(())
 }
 
-// appends the line of the large requests, where there were any
+// appends the line of the large requests, if there were any
 fn append_large(text: &mut Vec<u8>, count: u32) -> Result<(), AllocError>
     ensures written { OnOk result (text.new.items ≡ text.old.items ++ text_of (large_lines count)) }
     ensures kept { GoesOn text.old.items text.new.items }
