@@ -32,7 +32,7 @@ use score::read_classes;
 use sheet::Sheet;
 use std::io::Write;
 use std::process::ExitCode;
-use text::{each_text, push_number, read_all, Scanner};
+use text::{each_line, push_number, read_all, Scanner};
 use trace::Event;
 
 const EVENTS: usize = 1_000_000;
@@ -126,11 +126,9 @@ fn check(out: &mut impl Write) -> Option<ExitCode> {
 
 fn profile(out: &mut impl Write) -> Option<()> {
     let mut profile = Profile::new();
-    each_text(|mut text| {
-        while text.len() > 0 {
-            if let Some(n) = Event::read(&mut text)?.request() {
-                profile.add(n);
-            }
+    each_line(|line| {
+        if let Some(n) = Event::read(line)?.request() {
+            profile.add(n);
         }
         Some(())
     })?;
@@ -143,11 +141,12 @@ fn replay(options: &Options, out: &mut impl Write) -> Option<()> {
     let settings = options.heap()?;
     let mut classes = None;
     let mut events = Vec::new();
-    each_text(|mut text| {
-        if classes.is_none() {
-            classes = Some(read_classes(&mut text)?);
+    each_line(|line| {
+        match classes {
+            None => classes = Some(read_classes(&mut Scanner::new(line))?),
+            Some(_) => push_event(line, &mut events)?,
         }
-        read_events(text, &mut events)
+        Some(())
     })?;
     write_report(&classes?, &settings, &events, out)
 }
@@ -156,7 +155,7 @@ fn run(options: &Options, out: &mut impl Write) -> Option<()> {
     let (limit, step) = (options.limit()?, options.step()?);
     let settings = options.heap()?;
     let mut events = Vec::new();
-    each_text(|text| read_events(text, &mut events))?;
+    each_line(|line| push_event(line, &mut events))?;
     let mut profile = Profile::new();
     for n in events.iter().filter_map(Event::request) {
         profile.add(n);
@@ -168,10 +167,8 @@ fn run(options: &Options, out: &mut impl Write) -> Option<()> {
     write_report(&sheet.classes, &settings, &events, out)
 }
 
-fn read_events(mut text: Scanner, events: &mut Vec<Event>) -> Option<()> {
-    while text.len() > 0 {
-        events.push(Event::read(&mut text)?);
-    }
+fn push_event(line: &[u8], events: &mut Vec<Event>) -> Option<()> {
+    events.push(Event::read(line)?);
     (events.len() <= EVENTS).then_some(())
 }
 

@@ -1,4 +1,4 @@
-//! Text in and out: standard input, read by pieces of 65,536 bytes, and numbers.
+//! Text in and out: standard input, read by pieces of 65,536 bytes, lines, words and numbers.
 
 use std::io::Read;
 
@@ -20,28 +20,52 @@ pub fn read_all() -> Option<Vec<u8>> {
     }
 }
 
-/// Hands on standard input as texts of whole lines; the last line may lack its newline. It keeps
-/// one piece and an unfinished line. None where a line is longer than a piece, a read fails, or
-/// `take` gives none.
-pub fn each_text(mut take: impl FnMut(Scanner) -> Option<()>) -> Option<()> {
+/// Calls `take` for each line of standard input, without its newline; the last line may lack it. It
+/// keeps one piece and an unfinished line. None where a read fails, or `take` gives none.
+pub fn each_line(mut take: impl FnMut(&[u8]) -> Option<()>) -> Option<()> {
     let mut input = std::io::stdin().lock();
-    let mut buffer = vec![0; 2 * PIECE];
-    let mut held = 0;
+    let mut piece = vec![0; PIECE];
+    let mut unfinished = Vec::new();
     loop {
-        let n = input.read(buffer.get_mut(held..held + PIECE)?).ok()?;
-        let end = held + n;
+        let n = input.read(&mut piece).ok()?;
         if n == 0 {
-            return take(Scanner::new(&buffer[..end]));
+            break;
         }
-        let newline = buffer[held..end].iter().rposition(|byte| *byte == b'\n');
-        if let Some(at) = newline {
-            let whole = held + at + 1;
-            take(Scanner::new(&buffer[..whole]))?;
-            buffer.copy_within(whole..end, 0);
-            held = end - whole;
-        } else {
-            held = end;
+        let mut text = &piece[..n];
+        while let Some(end) = text.iter().position(|byte| *byte == b'\n') {
+            if unfinished.is_empty() {
+                take(&text[..end])?;
+            } else {
+                unfinished.extend_from_slice(&text[..end]);
+                take(&unfinished)?;
+                unfinished.clear();
+            }
+            text = &text[end + 1..];
         }
+        unfinished.extend_from_slice(text);
+    }
+    if !unfinished.is_empty() {
+        take(&unfinished)?;
+    }
+    Some(())
+}
+
+/// The words of a line, with a space between each two.
+pub fn words_of(line: &[u8]) -> impl Iterator<Item = &[u8]> {
+    line.split(|byte| *byte == b' ')
+}
+
+/// The number that a word spells, which is at most `most`.
+pub fn number_in(word: &[u8], most: u64) -> Option<u64> {
+    let mut digits = Scanner::new(word);
+    digits.number_to(most).filter(|_| digits.len() == 0)
+}
+
+/// The byte that a word of two hexadecimal digits spells.
+pub fn hex_byte(word: &[u8]) -> Option<u8> {
+    match word {
+        [high, low] => Some(16 * hex_digit(*high)? + hex_digit(*low)?),
+        _ => None,
     }
 }
 
@@ -115,15 +139,6 @@ impl<'a> Scanner<'a> {
     /// The number that comes next, which is at most `most`.
     pub fn number_to(&mut self, most: u64) -> Option<u64> {
         self.number().filter(|n| *n <= most)
-    }
-
-    /// The next two bytes as a byte in hexadecimal digits.
-    pub fn hex_byte(&mut self) -> Option<u8> {
-        let [high, low, rest @ ..] = self.rest else {
-            return None;
-        };
-        self.rest = rest;
-        Some(16 * hex_digit(*high)? + hex_digit(*low)?)
     }
 }
 

@@ -1,6 +1,6 @@
 //! Events, a line for each. `addg` and `subg` are missing.
 
-use crate::text::{push_number, Scanner};
+use crate::text::{hex_byte, number_in, push_number, words_of};
 
 #[derive(Clone, Copy)]
 pub enum Event {
@@ -16,43 +16,40 @@ const MOST_LINE: usize = 80;
 const MOST_OFFSET: u64 = 1_048_576;
 
 impl Event {
-    /// The event of the next line.
-    pub fn read(text: &mut Scanner) -> Option<Event> {
-        let before = text.len();
-        let event = Event::read_words(text)?;
-        (before - text.len() <= MOST_LINE).then_some(())?;
-        text.end_line()?;
-        Some(event)
-    }
-
-    fn read_words(text: &mut Scanner) -> Option<Event> {
-        if text.skip(b"load ") {
-            let (v, off, len) = read_range(text)?;
-            Some(Event::Load { v, off, len })
-        } else if text.skip(b"store ") {
-            let (v, off, len) = read_range(text)?;
-            text.expect(b" ")?;
-            Some(Event::Store {
-                v,
-                off,
-                len,
-                byte: text.hex_byte()?,
-            })
-        } else if text.skip(b"malloc ") {
-            let (v, n) = read_request(text)?;
-            Some(Event::Malloc { v, n })
-        } else if text.skip(b"calloc ") {
-            let (v, n) = read_request(text)?;
-            Some(Event::Calloc { v, n })
-        } else if text.skip(b"realloc ") {
-            let (v, n) = read_request(text)?;
-            Some(Event::Realloc { v, n })
-        } else {
-            text.expect(b"free ")?;
-            Some(Event::Free {
-                v: read_variable(text)?,
-            })
+    /// The event that a line spells.
+    pub fn read(line: &[u8]) -> Option<Event> {
+        if line.len() > MOST_LINE {
+            return None;
         }
+        let mut words = words_of(line);
+        let name = words.next()?;
+        let v = number_in(words.next()?, 1023)? as u16;
+        let event = match name {
+            b"malloc" => Event::Malloc {
+                v,
+                n: size(&mut words)?,
+            },
+            b"calloc" => Event::Calloc {
+                v,
+                n: size(&mut words)?,
+            },
+            b"realloc" => Event::Realloc {
+                v,
+                n: size(&mut words)?,
+            },
+            b"free" => Event::Free { v },
+            b"load" => {
+                let (off, len) = range(&mut words)?;
+                Event::Load { v, off, len }
+            }
+            b"store" => {
+                let (off, len) = range(&mut words)?;
+                let byte = hex_byte(words.next()?)?;
+                Event::Store { v, off, len, byte }
+            }
+            _ => return None,
+        };
+        words.next().is_none().then_some(event)
     }
 
     /// The size that the event requests.
@@ -83,27 +80,17 @@ impl Event {
     }
 }
 
-fn read_variable(text: &mut Scanner) -> Option<u16> {
-    text.number_to(1023).map(|v| v as u16)
+fn size<'a>(words: &mut impl Iterator<Item = &'a [u8]>) -> Option<u32> {
+    number_in(words.next()?, 2_147_483_647).map(|n| n as u32)
 }
 
-fn read_request(text: &mut Scanner) -> Option<(u16, u32)> {
-    let v = read_variable(text)?;
-    text.expect(b" ")?;
-    Some((v, text.number_to(2_147_483_647)? as u32))
-}
-
-fn read_range(text: &mut Scanner) -> Option<(u16, i32, u8)> {
-    let v = read_variable(text)?;
-    text.expect(b" ")?;
-    let off = if text.skip(b"-") {
-        -(text.number_to(MOST_OFFSET).filter(|off| *off > 0)? as i32)
-    } else {
-        text.number_to(MOST_OFFSET)? as i32
+fn range<'a>(words: &mut impl Iterator<Item = &'a [u8]>) -> Option<(i32, u8)> {
+    let off = match words.next()? {
+        [b'-', digits @ ..] => -(number_in(digits, MOST_OFFSET).filter(|off| *off > 0)? as i32),
+        digits => number_in(digits, MOST_OFFSET)? as i32,
     };
-    text.expect(b" ")?;
-    let len = text.number_to(64).filter(|len| *len > 0)? as u8;
-    Some((v, off, len))
+    let len = number_in(words.next()?, 64).filter(|len| *len > 0)? as u8;
+    Some((off, len))
 }
 
 fn push_words(text: &mut Vec<u8>, name: &[u8], numbers: &[i64]) {
