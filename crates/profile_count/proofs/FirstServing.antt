@@ -1,11 +1,11 @@
 -- The first class that serves a size, as sizes ascend.
-use Rattle.std.proofs.Common.{◌≡◌, ℕ, zero, suc, ◌+◌, ◌<◌, ◌≤◌, true, false, not, List, [], ◌∷◌, length, get_or, None, sym, ap, ◌∙◌, arith, inl, inr}
-use Rattle.std.specs.Prelude.{slice_get}
+use Rattle.std.proofs.Common.{◌≡◌, ℕ, zero, suc, ◌+◌, ◌-◌, ◌*◌, ◌<◌, ◌≤◌, true, false, not, List, [], ◌∷◌, length, get_or, Some, None, refl, sym, ap, ◌∙◌, arith, inl, inr}
+use Rattle.std.specs.Prelude.{IsSome, slice_get}
 use Rattle.std.specs.List.{position_or_len}
-use Rattle.std.proofs.lemmas.Bool.{cases_Bool, cases_lt, not_from_true, leb-false, lt-leb, both_ways}
+use Rattle.std.proofs.lemmas.Bool.{cases_Bool, cases_lt, not_from_true, leb-false, le-leb, lt-leb, both_ways}
 use Rattle.std.proofs.lemmas.List.Sums.{prefix_len-le-length, prefix_len_passes}
 use Rattle.std.proofs.lemmas.List.Folds.{find_at}
-use Rattle.std.proofs.lemmas.Option.{slice_get_past}
+use Rattle.std.proofs.lemmas.Option.{slice_get_past, slice_get-get_or}
 use Rattle.class_table.specs.Sizes.{serves}
 use Rattle.class_table.specs.Tables.{class_for}
 
@@ -60,3 +60,45 @@ serving_there n number classes e within =
       | inl serving ↦ serving
       | inr other ↦ let more = passed n number classes (omega arith) within other in absurd (omega arith)
     ]
+
+-- a class that serves n there is
+pub some_class : (n i : ℕ) (classes : List ℕ) → i < length classes → serves n (get_or classes i 0) ≡ true → IsSome (class_for classes n)
+some_class n i classes within serving =
+    elim (cases_lt i (position_or_len (serves n) classes)) [
+      | inl earlier ↦ absurd (both_ways _ (not_from_true _ serving) (prefix_len_passes (λ class. not (serves n class)) classes i 0 earlier))
+      | inr there ↦
+          let within_too : position_or_len (serves n) classes < length classes = omega arith in
+          rw (class_there n (position_or_len (serves n) classes) classes refl, slice_get-get_or classes (position_or_len (serves n) classes) 0 within_too) refl
+    ]
+
+-- ---- the sizes that a class serves
+
+pub below_end : (n class : ℕ) → 2 ≤ class → n < 16 * class - 15 → serves n class ≡ true
+below_end n class most before = le-leb n (16 * class - 16) (omega arith)
+
+pub from_end : (n class : ℕ) → 2 ≤ class → 16 * class - 15 ≤ n → serves n class ≡ false
+from_end n class most after = lt-leb n (16 * class - 16) (omega arith)
+
+-- the next class is the first that can serve what this one does not
+pub next_ready : (from number class : ℕ) (classes : List ℕ) → 2 ≤ class → number < length classes → get_or classes number 0 ≡ class
+    → number ≤ position_or_len (serves from) classes → 16 * class - 15 ≤ from → number + 1 ≤ position_or_len (serves from) classes
+next_ready from number class classes most within is ready past =
+    passed from number classes ready within (ap (serves from) is ∙ from_end from class most past)
+
+-- it serves all sizes before its end,
+pub next_served : (n number class : ℕ) (classes : List ℕ) → 2 ≤ class → number < length classes → get_or classes number 0 ≡ class
+    → n < 16 * class - 15 → IsSome (class_for classes n)
+next_served n number class classes most within is before = some_class n number classes within (ap (serves n) is ∙ below_end n class most before)
+
+-- and is the class of those that no earlier one serves
+pub next_class : (from n number class : ℕ) (classes : List ℕ) → 2 ≤ class → number < length classes → get_or classes number 0 ≡ class
+    → number ≤ position_or_len (serves from) classes → from ≤ n → n < 16 * class - 15 → class_for classes n ≡ Some class
+next_class from n number class classes most within is ready le before =
+    let serving : serves n (get_or classes number 0) ≡ true = ap (serves n) is ∙ below_end n class most before in
+    let first = reached n number classes (omega (arith, ready, position-mono from n classes le)) within serving in
+    class_there n number classes (sym first) ∙ slice_get-get_or classes number 0 within ∙ ap Some is
+
+-- after all classes none is left for any size from here on
+pub none_left : (from n number : ℕ) (classes : List ℕ) → number ≤ position_or_len (serves from) classes → length classes ≤ number → from ≤ n → class_for classes n ≡ None
+none_left from n number classes ready all le =
+    no_class n (position_or_len (serves n) classes) classes refl (omega (arith, ready, position-mono from n classes le))

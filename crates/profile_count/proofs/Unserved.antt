@@ -1,8 +1,8 @@
 -- The least counted size that has no class.
-use Rattle.std.proofs.Common.{◌≡◌, ℕ, zero, suc, ◌+◌, ◌<◌, ◌≤◌, Bool, true, false, ◌&&◌, List, [], ◌∷◌, length, get_or, drop, ltb, cond, is_none, Option, Some, None, refl, sym, ap, ◌∙◌, arith, add-one}
+use Rattle.std.proofs.Common.{◌≡◌, ℕ, zero, suc, ◌+◌, ◌<◌, ◌≤◌, Bool, true, false, ◌&&◌, List, [], ◌∷◌, length, get_or, drop, ltb, cond, is_none, Option, Some, None, refl, sym, ap, ◌∙◌, arith, add-one, inl, inr}
 use Rattle.std.specs.Prelude.{IsSome, IfSome, IfNone}
 use Rattle.std.proofs.Math.Seq.{drop-cons}
-use Rattle.std.proofs.lemmas.Bool.{lt-ltb, le-ltb, ltb-true, and_parts}
+use Rattle.std.proofs.lemmas.Bool.{cases_lt, lt-ltb, le-ltb, ltb-true, and_parts}
 use Rattle.std.proofs.lemmas.List.{drop_all}
 use Rattle.class_table.specs.Tables.{class_for}
 use Rattle.tuner_theory.specs.Waste.{IsCounted, Serves}
@@ -133,3 +133,19 @@ pub serving : (counts classes : List ℕ) (size : Option ℕ) → size ≡ unser
 serving counts classes None e = λ n counted.
     is_some-not_None (class_for classes n) (λ none. let same : n ≡ 0 + n = omega arith in all_served classes counts 0 (sym e) n counted.0 counted.1 (rw same at none))
 serving counts classes (Some size) e = tt
+
+-- the walk begins where the classes end
+pub skips_served : (counts classes : List ℕ) (n : ℕ) → ((m : ℕ) → m < n → IsSome (class_for classes m)) → unserved_of counts classes ≡ unserved_behind counts classes n
+skips_served counts classes zero served = refl
+skips_served counts classes (suc n) served =
+    let before = skips_served counts classes n (λ m lt. served m (omega arith)) in
+    let next : n + 1 ≡ suc n = omega arith in
+    elim (cases_lt n (length counts)) [
+      | inl within ↦ before ∙ is_served counts classes n within (class_for classes n) refl (served n (omega arith)) ∙ ap (unserved_behind counts classes) next
+      | inr past ↦ before ∙ none_behind counts classes n past ∙ sym (none_behind counts classes (suc n) (omega arith))
+    ]
+  where
+    is_served : (counts classes : List ℕ) (n : ℕ) → n < length counts → (o : Option ℕ) → class_for classes n ≡ o → IsSome (class_for classes n)
+        → unserved_behind counts classes n ≡ unserved_behind counts classes (n + 1)
+    is_served counts classes n within None is some = let none = rw is at some in absurd cc
+    is_served counts classes n within (Some class) is some = served_here counts classes n class within is

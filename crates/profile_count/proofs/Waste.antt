@@ -1,7 +1,10 @@
 -- The waste, size by size.
-use Rattle.std.proofs.Common.{◌≡◌, ℕ, suc, ◌+◌, ◌*◌, ◌≤◌, refl, arith}
+use Rattle.std.proofs.Common.{◌≡◌, ℕ, zero, suc, ◌+◌, ◌-◌, ◌*◌, ◌≤◌, List, get_or, Option, Some, None, unwrap_or, refl, ap, ◌∙◌, arith, inl, inr}
 use Rattle.std.proofs.Math.Nat.{mul-le-mul}
-use Rattle.tuner_theory.specs.Waste.{sum_below}
+use Rattle.std.proofs.lemmas.Bool.{cases_lt}
+use Rattle.class_table.specs.Sizes.{loss_of}
+use Rattle.class_table.specs.Tables.{class_for}
+use Rattle.tuner_theory.specs.Waste.{sum_below, waste_at}
 
 pub sum_below-none : (f : ℕ → ℕ) → sum_below f 0 ≡ 0
 unfolding sum_below
@@ -14,3 +17,25 @@ sum_below-more f n = let next : n + 1 ≡ suc n = omega arith in rw next refl
 -- the losses of one size are small
 pub small_term : (count loss : ℕ) → count ≤ 1000000000 → loss ≤ 16368 → count * loss ≤ 16368000000000
 small_term count loss few small = mul-le-mul {n₂ = 1000000000} {m₂ = 16368} few small
+
+-- from where on nothing is lost, the sum stays
+pub sum_below-rest : (f : ℕ → ℕ) (from end : ℕ) → from ≤ end → ((n : ℕ) → from ≤ n → f n ≡ 0) → sum_below f end ≡ sum_below f from
+sum_below-rest f from zero le none = ap (sum_below f) (omega arith)
+sum_below-rest f from (suc end) le none =
+    elim (cases_lt end from) [
+      | inl there ↦ ap (sum_below f) (omega arith)
+      | inr later ↦
+          let rest = sum_below-rest f from end later none in
+          let next : suc end ≡ end + 1 = omega arith in
+          rw next (omega (arith, sum_below-more f end, none end later, rest))
+    ]
+
+-- what is lost in a class on the sizes that it is the class of
+pub waste_in_class : (counts classes : List ℕ) (n class end : ℕ) → class_for classes n ≡ Some class → end ≡ 16 * class - 15 → 2 ≤ class → waste_at counts classes n ≡ get_or counts n 0 * (end - 1 - n)
+waste_in_class counts classes n class end is ends most =
+    ap (λ (o : Option ℕ). get_or counts n 0 * loss_of n (unwrap_or o 0)) is ∙ ap (λ k. get_or counts n 0 * k) (omega arith)
+
+pub waste_in_none : (counts classes : List ℕ) (n : ℕ) → class_for classes n ≡ None → waste_at counts classes n ≡ 0
+waste_in_none counts classes n none =
+    let nothing : loss_of n 0 ≡ 0 = omega arith in
+    ap (λ (o : Option ℕ). get_or counts n 0 * loss_of n (unwrap_or o 0)) none ∙ ap (λ k. get_or counts n 0 * k) nothing ∙ omega arith

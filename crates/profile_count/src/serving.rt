@@ -1,22 +1,18 @@
-//! Walks over the counts of all sizes, together with the classes that serve them: as sizes ascend, so do their classes.
-ghost use Rattle.std.specs.Prelude.{◌≡◌, ◌<◌, ◌≤◌, ◌^◌, ℕ, length, unwrap_or};
-ghost use Rattle.std.specs.List.{position_or_len};
-ghost use Rattle.class_table.specs.Sizes.{loss_of, serves};
+//! Walks over the counts of all sizes, a class at a time: as classes ascend, each serves the sizes from where the one before it ends.
+ghost use Rattle.std.specs.Prelude.{◌≡◌, ◌<◌, ◌≤◌, ◌+◌, ◌-◌, ◌*◌, ◌^◌, ℕ, None, IsSome, length, slice_index};
 ghost use Rattle.class_table.specs.Tables.{class_for};
 ghost use Rattle.profile_count.specs.Counts.{unserved_of};
-ghost use Rattle.tuner_theory.specs.Waste.{AreCounts, waste_of};
+ghost use Rattle.tuner_theory.specs.Waste.{AreCounts, sum_below, waste_of};
 
-use class_table::{ClassTable, loss, serves};
+use class_table::{ClassTable, GRANULE_BYTES};
 
 // the least counted size that has no class
 pub(crate) fn first_unserved(counts: &[u32], table: &ClassTable) -> Option<u16>
     requires { length counts.now ≤ 65536 }
     ensures { result ≡ unserved_of counts.now table.now }
 {
-    let mut number = 0;
-    for (n, count) in counts.iter().enumerate() {
-        number = first_serving(table, number, n as u32);
-        if *count > 0 && number == table.len() {
+    for n in served_below(table) as usize..counts.len() {
+        if counts[n] > 0 {
             return Some(n as u16);
         }
     }
@@ -30,36 +26,53 @@ pub(crate) fn table_losses(counts: &[u32], table: &ClassTable) -> u64
     ensures small { result < 2 ^ 58 }
 {
     let mut total = 0;
-    let mut number = 0;
-    for (n, count) in counts.iter().enumerate() {
-        number = first_serving(table, number, n as u32);
-        total += u64::from(*count) * u64::from(loss_in(table, number, n as u32));
+    let mut from = 0;
+    for number in 0..table.len() {
+        let end = served_end(table.class(number));
+        if from < end {
+            total += losses_below(end, from, counts);
+            from = end;
+        }
     }
     total
 }
 
-// the number of the first class that serves n, or the number of classes if none does; no class before `from` serves n
-fn first_serving(table: &ClassTable, from: usize, n: u32) -> usize
-    requires { from ≤ position_or_len (serves n) table.now }
-    ensures first { result ≡ position_or_len (serves n) table.now }
-    ensures later { (m : ℕ) → n ≤ m → result ≤ position_or_len (serves m) table.now }
+// what the counted requests of the sizes from `from` on lose in the class whose first size that it does not serve is `end`
+fn losses_below(end: u32, from: u32, counts: &[u32]) -> u64
+    requires counts { AreCounts counts.now }
+    requires some { from < end }
+    requires end { end ≤ 16369 }
+    ensures sum { (f : ℕ → ℕ)
+        → ((n : ℕ) → from ≤ n → n < end → f n ≡ slice_index counts.now n * (end - 1 - n))
+        → sum_below f end ≡ sum_below f from + result }
+    ensures small { result ≤ 16368000000000 * (end - from) }
 {
-    for number in from..table.len() {
-        if serves(n, table.class(number)) {
-            return number;
-        }
+    let mut total = 0;
+    for n in from..end {
+        total += u64::from(counts[n as usize]) * u64::from(end - 1 - n);
     }
-    table.len()
+    total
 }
 
-// what a request of n bytes loses in the class of this number, the first that serves it; 0 if none does
-fn loss_in(table: &ClassTable, number: usize, n: u32) -> u32
-    requires { number ≡ position_or_len (serves n) table.now }
-    ensures loss { result ≡ loss_of n (unwrap_or (class_for table.now n) 0) }
-    ensures small { result ≤ 16368 }
+// the first size that no class of the table serves
+fn served_below(table: &ClassTable) -> u32
+    ensures served { (n : ℕ) → n < result → IsSome (class_for table.now n) }
+    ensures others { (n : ℕ) → result ≤ n → class_for table.now n ≡ None }
 {
-    if number == table.len() {
-        return 0;
+    let mut from = 0;
+    for number in 0..table.len() {
+        let end_of_class = served_end(table.class(number));
+        if from < end_of_class {
+            from = end_of_class;
+        }
     }
-    loss(n, table.class(number))
+    from
+}
+
+// the first size that a class does not serve
+fn served_end(class: u16) -> u32
+    requires { (2 ≤ class) × (class ≤ 1024) }
+    ensures { result ≡ 16 * class - 15 }
+{
+    GRANULE_BYTES * u32::from(class) - GRANULE_BYTES + 1
 }

@@ -1,20 +1,54 @@
-use Rattle.std.proofs.Common.{◌≡◌, ◌+◌, ◌*◌, ◌≤◌, slice_index, arith, ap, sym, ◌∙◌}
+use Rattle.std.proofs.Common.{◌<◌, ◌≤◌, length, sym, ◌∙◌, arith}
+use Rattle.std.specs.List.{position_or_len}
+use Rattle.std.proofs.lemmas.Option.{get_or_from_slice_get}
+use Rattle.class_table.specs.Sizes.{serves}
 use Rattle.tuner_theory.specs.Waste.{waste_at}
-use Rattle.profile_count.proofs.Waste.{sum_below-none, sum_below-more, small_term}
+use Rattle.profile_count.proofs.FirstServing.{next_ready, next_class, none_left, position-mono}
+use Rattle.profile_count.proofs.Waste.{sum_below-none, sum_below-rest, waste_in_class, waste_in_none}
 use Rattle.profile_count.proofs.serving.table_losses.Goals as goal
+use Rattle.profile_count.proofs.serving.table_losses.Goals.{then-from-end, else-from-end}
 
-pub loop-n-init : goal.loop-n-init
-loop-n-init c = record { summed = sym (sum_below-none (waste_at c.args.counts.now c.args.table.now)); small = omega arith; ready = omega arith }
+pub loop-number-init : goal.loop-number-init
+loop-number-init c =
+    record { summed = sym (sum_below-none (waste_at c.args.counts.now c.args.table.now)); small = omega arith; inside = omega arith; ready = omega arith }
 
-pub loop-n-preserved : goal.loop-n-preserved
-loop-n-preserved c =
-    let f = waste_at c.args.counts.now c.args.table.now in
-    let term : c.from.result * c.from-in-loop-n.result ≡ f c.loop-n.n =
-    ap (λ z. z * c.from-in-loop-n.result) c.from.ensures ∙ ap (λ z. slice_index c.args.counts.now c.loop-n.n * z) (c.from-in-loop-n.ensures ∙ c.loss_in.ensures.loss) in
-    let count : c.from.result ≤ 1000000000 = omega (arith, c.from.ensures, c.requires.in_range c.loop-n.n 0 c.loop-n-test.true) in
-    let loss : c.from-in-loop-n.result ≤ 16368 = omega (arith, c.from-in-loop-n.ensures, c.loss_in.ensures.small) in
-    record {
-      summed = omega (arith, c.loop-n.invariant.summed, sum_below-more f c.loop-n.n, term);
-      small = omega (arith, c.loop-n.invariant.small, small_term c.from.result c.from-in-loop-n.result count loss);
-      ready = c.first_serving-number.ensures.later (c.loop-n.n + 1) (omega arith);
-    }
+pub loop-number-preserved : goal.loop-number-preserved
+loop-number-preserved c =
+    let counts = c.args.counts.now in
+    let table = c.args.table.now in
+    let number = c.loop-number.number in
+    let i = c.loop-number.invariant in
+    let within : number < length table = omega (arith, c.len-number-end.ensures.len) in
+    let class = get_or_from_slice_get table number c.class.result 0 c.class.ensures.class in
+    let most : 2 ≤ c.class.result = c.class.ensures.in_range.0 in
+    elim c.if-from-end.branch [
+      | then-from-end w ↦
+          let ready : number ≤ position_or_len (serves c.if-from-end.from) table = omega (arith, i.ready, position-mono c.loop-number.from c.if-from-end.from table (omega arith)) in
+          let sum = w.losses_below-total.ensures.sum (waste_at counts table) (λ n le lt.
+          waste_in_class counts table n c.class.result c.served_end-end.result
+          (next_class c.loop-number.from n number c.class.result table most within class i.ready le (omega (arith, lt, c.served_end-end.ensures))) c.served_end-end.ensures most) in
+          record {
+            summed = rw w.from-is (omega (arith, w.total-is, i.summed, sum));
+            small = omega (arith, w.total-is, w.from-is, w.if-from-end.true, w.losses_below-total.ensures.small, i.small);
+            inside = omega (arith, w.from-is, c.served_end-end.ensures, c.class.ensures.in_range.1);
+            ready = next_ready c.if-from-end.from number c.class.result table most within class ready (omega (arith, w.from-is, c.served_end-end.ensures));
+          }
+      | else-from-end w ↦
+          let ready : number ≤ position_or_len (serves c.if-from-end.from) table = omega (arith, i.ready, position-mono c.loop-number.from c.if-from-end.from table (omega arith)) in
+          record {
+            summed = rw w.from-is (omega (arith, w.total-is, i.summed));
+            small = omega (arith, w.total-is, w.from-is, i.small);
+            inside = omega (arith, w.from-is, i.inside);
+            ready = next_ready c.if-from-end.from number c.class.result table most within class ready (omega (arith, w.from-is, c.served_end-end.ensures));
+          }
+    ]
+
+pub returns-clause-waste : goal.returns-clause-waste
+returns-clause-waste c =
+    let counts = c.args.counts.now in
+    let table = c.args.table.now in
+    let i = c.loop-number.invariant in
+    let all : length table ≤ c.loop-number.number = omega (arith, c.len-number-end.ensures.len) in
+    i.summed
+    ∙ sym (sum_below-rest (waste_at counts table) c.loop-number.from (length counts) (omega (arith, i.inside, c.requires.sizes))
+    (λ n le. waste_in_none counts table n (none_left c.loop-number.from n c.loop-number.number table i.ready all le)))

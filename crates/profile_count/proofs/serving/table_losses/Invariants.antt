@@ -4,9 +4,10 @@ use Rattle.class_table.specs.Sizes.{serves}
 use Rattle.tuner_theory.specs.Waste.{sum_below, waste_at}
 use Rattle.profile_count.proofs.serving.table_losses.Given as goal
 
-abbrev pub invariant-loop-n : goal.invariant-loop-n
-invariant-loop-n l = record {
-  summed : l.total ≡ sum_below (waste_at l.counts l.table) l.n;
-  small : l.total ≤ 16368000000000 * l.n;
-  ready : l.number ≤ position_or_len (serves l.n) l.table;
+abbrev pub invariant-loop-number : goal.invariant-loop-number
+invariant-loop-number l = record {
+  summed : l.total ≡ sum_below (waste_at l.counts l.table) l.from;
+  small : l.total ≤ 16368000000000 * l.from;
+  inside : l.from ≤ 16369;
+  ready : l.number ≤ position_or_len (serves l.from) l.table;
 }
