@@ -12,7 +12,7 @@ pub trait CostSource {
     /// How many places there are.
     ghost place_count: { Self → ℕ };
 
-    /// How many costs were asked for.
+    /// How many costs were asked for: one by each call of `at`, one for each end by a call of `least_end`.
     ghost call_count: { Self → ℕ };
 
     /// The same source with another count of calls.
@@ -22,7 +22,7 @@ pub trait CostSource {
     fn places(&self) -> usize
         ensures { result ≡ place_count self.now };
 
-    /// How many costs were asked for.
+    /// How many costs were asked for: one by each call of `at`, one for each end by a call of `least_end`.
     fn calls(&self) -> u64
         ensures { result ≡ call_count self.now };
 

@@ -16,7 +16,7 @@ pub(crate) struct Window {
 }
 
 // Fills a part of a row and of its ends, `before` being the row before it. The window has the least ends of the part's places.
-// The part and its window are two small structs: so they stay in registers, and the right half is done in a loop.
+// The part and its window are two small structs: so they are passed in registers, and the compiler makes a loop of the last call.
 pub(crate) fn fill_part<C: CostSource>(
     costs: &mut C,
     before: &[u64],
@@ -55,6 +55,9 @@ pub(crate) fn fill_part<C: CostSource>(
         let (cost, end) = least_end(costs, before, middle, first, window.high);
         row[middle] = cost;
         ends[middle] = end;
+        if part.end - part.start == 1 {
+            return;
+        }
         let left = Window {
             high: end,
             ..window

@@ -1,4 +1,4 @@
-use Rattle.std.proofs.Common.{rules, ◌≡◌, ℕ, zero, suc, ◌+◌, ◌-◌, ◌*◌, ◌^◌, ◌/◌, ◌<◌, ◌≤◌, slice_index, add-one, arith, sym, ◌∙◌, inl, inr}
+use Rattle.std.proofs.Common.{rules, ◌≡◌, ℕ, zero, suc, ◌+◌, ◌-◌, ◌*◌, ◌^◌, ◌/◌, ◌<◌, ◌≤◌, slice_index, slice_set, add-one, arith, refl, sym, ◌∙◌, inl, inr}
 use Rattle.std.proofs.lemmas.List.{get_or-set_same}
 use Rattle.class_tuner.specs.Filling.{AreEndsBetween, tried_within}
 use Rattle.class_tuner.proofs.Halves.{between-left, between-right, count-halves, half-digits}
@@ -37,8 +37,39 @@ fill_part-requires-then-part g t c κs within =
     c.requires.between c.least_end-cost.ensures.least (omega arith)) in
     search (rules, between)
 
-pub returns-then-part-clause-counted : goal.returns-then-part-clause-counted
-returns-then-part-clause-counted g t c = counted
+pub returns-then-part-eq1-clause-counted : goal.returns-then-part-eq1-clause-counted
+returns-then-part-eq1-clause-counted g t c = counted
+  where
+    counted : (b : ℕ) → c.args.part.end - c.args.part.start < 2 ^ b
+        → g.C.CostSource.call_count c.least_end-cost.new.costs
+        ≤ g.C.CostSource.call_count c.args.costs.now + (c.args.window.high - c.args.window.low) * b + (c.args.part.end - c.args.part.start)
+    counted zero lt = absurd (omega arith)
+    counted (suc b) lt = omega (arith, c.least_end-cost.ensures.counted)
+
+pub returns-then-part-eq1-clause-exact : goal.returns-then-part-eq1-clause-exact
+returns-then-part-eq1-clause-exact g t c = exact
+  where
+    exact : (b : ℕ) → c.args.part.end - c.args.part.start < 2 ^ b
+        → let middle : ℕ = c.args.part.start + (c.args.part.end - c.args.part.start) / 2 in
+        g.C.CostSource.call_count c.least_end-cost.new.costs
+        ≡ g.C.CostSource.call_count c.args.costs.now
+        + tried_within (slice_index (slice_set c.args.ends.now middle c.least_end-cost.result.1)) b c.args.part.start c.args.part.end
+        c.args.window.low c.args.window.high
+    exact zero lt = absurd (omega arith)
+    exact (suc b) lt =
+        let part = c.args.part in
+        let middle : ℕ = part.start + (part.end - part.start) / 2 in
+        let end = c.least_end-cost.result.1 in
+        let ends = slice_index (slice_set c.args.ends.now middle end) in
+        let asked : ℕ = g.C.CostSource.call_count c.least_end-cost.new.costs in
+        tried-part ends ends b part.start part.end c.args.window.low c.args.window.high c.max-first.result end
+        (g.C.CostSource.call_count c.args.costs.now) asked asked asked (omega arith) (omega arith) (omega arith)
+        (get_or-set_same c.args.ends.now middle end 0 (omega arith)) (λ i from below. refl) c.least_end-cost.ensures.counted
+        (omega (arith, tried-none ends b part.start middle c.args.window.low end (omega arith)))
+        (omega (arith, tried-none ends b (middle + 1) part.end end c.args.window.high (omega arith)))
+
+pub returns-else-part-eq1-clause-counted : goal.returns-else-part-eq1-clause-counted
+returns-else-part-eq1-clause-counted g t c = counted
   where
     counted : (b : ℕ) → c.args.part.end - c.args.part.start < 2 ^ b
         → g.C.CostSource.call_count c.fill_part-then-part.new.costs
@@ -56,8 +87,8 @@ returns-then-part-clause-counted g t c = counted
         (omega (arith, c.fill_part.ensures.counted b (omega arith), c.least_end-cost.ensures.counted))
         (c.fill_part-then-part.ensures.counted b (omega arith))
 
-pub returns-then-part-clause-exact : goal.returns-then-part-clause-exact
-returns-then-part-clause-exact g t c = exact
+pub returns-else-part-eq1-clause-exact : goal.returns-else-part-eq1-clause-exact
+returns-else-part-eq1-clause-exact g t c = exact
   where
     exact : (b : ℕ) → c.args.part.end - c.args.part.start < 2 ^ b
         → g.C.CostSource.call_count c.fill_part-then-part.new.costs
