@@ -17,7 +17,7 @@ use Rattle.line_text.specs.Numbers.{number_of, is_numeral}
 
 -- ---- reading
 
-pub digit_is : (c : ℕ) → is_ascii_digit c ≡ true → (digit_value c ≡ c - 48) × (48 ≤ c) × (c ≤ 57)
+digit_is : (c : ℕ) → is_ascii_digit c ≡ true → (digit_value c ≡ c - 48) × (48 ≤ c) × (c ≤ 57)
 digit_is c e = let h : (48 ≤ c) × (c ≤ 57) = grind (arith, nat_tests) in (grind (arith, nat_tests), h.0, h.1)
 
 pub digit_at : (word : List ℕ) (i : ℕ) → list_all is_ascii_digit word ≡ true → i < length word → is_ascii_digit (get_or word i 0) ≡ true
@@ -39,9 +39,9 @@ digits_more digits i lt digit so_far = list_all_more is_ascii_digit digits i 0 l
 pub own : IsNumeralModel (λ ds. list_all is_ascii_digit ds ≡ true) (digits_value 10)
 own = numerals_by_value _ (search rules)
 
--- it stays far in 64 bits up to 19 digits
+-- it stays in 64 bits up to 19 digits
 pub room_for_one : (word : List ℕ) (i : ℕ) → i < length word → i < 19 → is_ascii_digit (get_or word i 0) ≡ true
-    → list_all is_ascii_digit (take i word) ≡ true → digits_value 10 (take i word) * 10 + (get_or word i 0 - 48) < 10 ^ 19
+    → list_all is_ascii_digit (take i word) ≡ true → digits_value 10 (take i word) * 10 + (get_or word i 0 - 48) < 2 ^ 64
 room_for_one word i lt few digit so_far =
     let digits = digits_more word i lt digit so_far in
     let short : length (take (i + 1) word) ≤ 19 = omega (arith, length-take-le (i + 1) word (omega arith)) in

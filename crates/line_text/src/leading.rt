@@ -6,8 +6,6 @@ ghost use Rattle.line_text.specs.Pairs.{AreLeading};
 
 use crate::number::SHORT;
 
-const ZERO: u64 = b'0' as u64;
-
 // the number that the digits at the start of a text spell, and the text after them; `None` if they spell none or are more than 19
 #[inline(always)]
 pub(crate) fn leading_number(text: &[u8]) -> Option<(u64, &[u8])>
@@ -47,8 +45,7 @@ fn count_digits(text: &[u8]) -> Option<(u64, usize)>
         if end == SHORT {
             return None;
         }
-        // In this order the digit joins the value in one step of address arithmetic.
-        value = value * 10 + u64::from(*byte) - ZERO;
+        value = value * 10 + u64::from(*byte - b'0');
         end += 1;
     }
     Some((value, end))

@@ -1,5 +1,5 @@
-use Rattle.std.proofs.Common.{◌+◌, ◌<◌, get_or, sym, ◌∙◌, arith}
-use Rattle.line_text.proofs.Digits.{digit_is, one_more, digits_more, room_for_one}
+use Rattle.std.proofs.Common.{◌+◌, sym, ◌∙◌, arith}
+use Rattle.line_text.proofs.Digits.{one_more, digits_more, room_for_one}
 use Rattle.line_text.proofs.LeadingDigits.{leading_up_to, reaches}
 use Rattle.line_text.proofs.leading.count_digits.Goals as goal
 
@@ -18,13 +18,7 @@ overflow_mul-value c =
 pub overflow_add-value : goal.overflow_add-value
 overflow_add-value c =
     let digit = sym c.is_ascii_digit.ensures.value ∙ c.if-not-is_ascii_digit.false in
-    let few : c.loop-byte.byte-index < 19 = omega (arith, c.if-end-eq-SHORT.false, c.loop-byte.invariant.end, c.loop-byte.invariant.few) in
-    omega (arith, room_for_one c.args.text.now c.loop-byte.byte-index (omega arith) few digit c.loop-byte.invariant.digits, c.from.ensures, digit_is (get_or c.args.text.now c.loop-byte.byte-index 0) digit)
-
-pub overflow_sub-value : goal.overflow_sub-value
-overflow_sub-value c =
-    let digit = sym c.is_ascii_digit.ensures.value ∙ c.if-not-is_ascii_digit.false in
-    omega (arith, c.from.ensures, digit_is (get_or c.args.text.now c.loop-byte.byte-index 0) digit)
+    omega (arith, room_for_one c.args.text.now c.loop-byte.byte-index (omega arith) (omega arith) digit c.loop-byte.invariant.digits, c.from.ensures)
 
 pub loop-byte-preserved : goal.loop-byte-preserved
 loop-byte-preserved c =
@@ -35,7 +29,7 @@ loop-byte-preserved c =
       end = omega (arith, c.loop-byte.invariant.end);
       few = omega (arith, c.if-end-eq-SHORT.false, c.loop-byte.invariant.end, c.loop-byte.invariant.few);
       digits = digits_more text i (omega arith) digit c.loop-byte.invariant.digits;
-      value = omega (arith, one_more text i (omega arith) digit, c.from.ensures, digit_is (get_or c.args.text.now c.loop-byte.byte-index 0) digit);
+      value = omega (arith, one_more text i (omega arith) digit, c.from.ensures);
     }
 
 pub returns-after-loop-byte : goal.returns-after-loop-byte
