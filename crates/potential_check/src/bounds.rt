@@ -1,4 +1,4 @@
-//! The bounds of the numbers in a certificate's rows. A number may have any 64 bits, so sums with a number have 128.
+//! The bounds of the numbers in a certificate's rows. A number may have any 64 bits, so a sum with a number has 128, or the code avoids it.
 ghost use Rattle.std.specs.Prelude.{◌≡◌, ◌↔◌, ℕ, ◌+◌, ◌<◌, ◌≤◌, length, slice_index, IsTrue};
 ghost use Rattle.std.specs.Ordering.{MatchOrdering};
 ghost use Rattle.class_table.specs.Steps.{IsStep};
@@ -112,8 +112,9 @@ pub(crate) fn edge_order(number: u64, spans: &Spans, before: &[u64], i: usize, j
     requires within { j ≤ places spans.now.counts spans.now.step }
     ensures { let bound = edge_bound spans.now before.now i j in MatchOrdering result (number < bound) (number ≡ bound) (bound < number) }
 {
+    let waste = spans.waste(i, j);
     match number.checked_sub(number_in(before, j)) {
-        Some(rest) => rest.cmp(&spans.waste(i, j)),
+        Some(rest) => rest.cmp(&waste),
         None => Ordering::Less,
     }
 }

@@ -60,8 +60,7 @@ pub(crate) fn waste_in(line: &[u8]) -> Option<u64>
     only_number(words_behind(WASTE, line)?)
 }
 
-// The numbers of a row. Not inlined: in a large caller what the loop holds would be kept in memory.
-#[inline(never)]
+// the numbers of a row
 pub(crate) fn row_in(alloc: Global, line: &[u8]) -> Result<Option<Vec<u64>>, AllocError>
     ensures { IfOk result (λ row. option_map (λ v. v.items) row ≡ row_in line.now) }
 {
