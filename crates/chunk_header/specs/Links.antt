@@ -1,4 +1,4 @@
--- What one link that is set leaves as it was.
+-- What stays the same when one link is set.
 use Rattle.std.specs.Prelude.{◌≡◌, ◌≢◌, ℕ, ◌+◌, ◌*◌, ◌<◌, List, Contains}
 use Rattle.machine_theory.specs.Memory.{Granule, IsMemory}
 use Rattle.granule_memory.specs.Changes.{ChangesOnlyBytes}

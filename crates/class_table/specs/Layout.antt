@@ -4,7 +4,7 @@ use Rattle.std.specs.List.{range_with_len}
 use Rattle.class_table.specs.Sizes.{granule_bytes}
 use Rattle.class_table.specs.Tables.{IsLegalTable}
 
--- A region of so many granules, and the table whose classes share it.
+-- A region with its number of granules, and the table whose classes share it.
 pub record Partition : Type 0 where
   pub classes : List ℕ
   pub granules : ℕ
@@ -20,11 +20,11 @@ pub record Slot : Type 0 where
   pub start : ℕ
   pub class : ℕ
 
--- what stands past the last slot
+-- the place after the last slot
 abbrev pub no_slot : Slot
 no_slot = record { start = 0; class = 0 }
 
--- the first granule behind a slot
+-- the first granule after a slot
 abbrev pub end_of : Slot → ℕ
 end_of slot = slot.start + slot.class
 
@@ -77,7 +77,7 @@ slot_over region granule = position (λ slot. covers slot granule) (slots_of reg
 
 -- ---- what is true of every layout
 
--- The slots stand in address order, apart from one another and inside the region; each has a payload, and a class of the table.
+-- The slots are in address order, apart from one another and inside the region. Each has a payload, and a class of the table.
 pub record AreInOrder (region : Partition) : Type 0 where
   pub inside : (s : ℕ) → s < slot_count region → end_of (slot_of region s) ≤ region.granules
   pub wide : (s : ℕ) → s < slot_count region → 2 ≤ (slot_of region s).class

@@ -3,7 +3,7 @@ use Rattle.std.specs.Prelude.{◌≡◌, ◌↔◌, ℕ, ◌+◌, ◌*◌, ◌/�
 use Rattle.class_table.specs.Layout.{Partition, Covers, AreInOrder, share_of, slot_count, slot_of, first_slot, slot_over}
 use Rattle.class_table.specs.Tables.{IsLegalTable}
 
--- Slots of a legal table stand in address order, apart from one another and inside the region.
+-- Slots of a legal table are in address order, apart from one another and inside the region.
 abbrev pub LegalSlotsAreInOrder : Type 0
 LegalSlotsAreInOrder = (step : ℕ) (region : Partition) → IsLegalTable step region.classes → AreInOrder region
 
@@ -11,7 +11,7 @@ LegalSlotsAreInOrder = (step : ℕ) (region : Partition) → IsLegalTable step r
 abbrev pub SlotsHaveClasses : Type 0
 SlotsHaveClasses = (region : Partition) (s : ℕ) → s < slot_count region → Contains region.classes (slot_of region s).class
 
--- The slots of a class begin with its share and stand one after the other, as many as fit;
+-- The slots of a class begin with its share and follow one another, as many as fit;
 abbrev pub SlotsOfAClass : Type 0
 SlotsOfAClass =
     (region : Partition) (number k : ℕ) → number < length region.classes →

@@ -7,7 +7,7 @@ use Rattle.class_table.specs.declared.layout.Layout.TheInside.{Inside}
 abbrev pub partition_of : Inside → Partition
 partition_of layout = record { classes = layout.classes.items; granules = layout.granules }
 
--- The share of each class, and the first slots of all classes with the number of slots behind them.
+-- The share of each class, and the first slots of all classes followed by the number of slots.
 pub record IsLayout (layout : Inside) : Type 0 where
   pub partition : IsPartition (partition_of layout)
   pub share : layout.share ≡ share_of (partition_of layout)

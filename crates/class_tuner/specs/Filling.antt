@@ -1,4 +1,4 @@
--- Rows that are filled in part, and how often a source is asked for them.
+-- Rows that are filled in part, and the number of calls of a source for them.
 use Rattle.std.specs.Prelude.{◌≡◌, ℕ, zero, suc, ◌+◌, ◌-◌, ◌*◌, ◌/◌, ◌<◌, ◌≤◌, max, ◌⊎◌, nat_lt, if◌then◌else◌, List, length, slice_index}
 use Rattle.std.specs.Int.Digits.{digits_of}
 use Rattle.tuner_theory.specs.Rows.{IsLeastEnd}
@@ -7,7 +7,7 @@ use Rattle.tuner_theory.specs.Rows.{IsLeastEnd}
 abbrev pub bits : ℕ → ℕ
 bits n = length (digits_of 2 n)
 
--- The most that a source of d places is asked for so many rows.
+-- The most calls of a source of d places for this number of rows.
 abbrev pub most_calls : ℕ → ℕ → ℕ
 most_calls limit d = limit * ((d - 1) * bits d + d)
 

@@ -7,7 +7,7 @@ use Rattle.tuner_theory.specs.Sheets.{Sheet}
 abbrev pub OneSheet : Type 0
 OneSheet = (counts : List ℕ) (step limit : ℕ) (a b : Sheet) → IsTuned counts step limit a → IsTuned counts step limit b → a ≡ b
 
--- How often the span wastes are asked for is one number.
+-- The number of evaluations is determined.
 abbrev pub OneCount : Type 0
 OneCount =
     (counts : List ℕ) (step limit : ℕ) (rows : List (List ℕ)) (a b : ℕ)

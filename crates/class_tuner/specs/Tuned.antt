@@ -1,4 +1,4 @@
--- What a tuner answers.
+-- The result of a tuner.
 use Rattle.std.specs.Prelude.{◌≡◌, ℕ, ◌<◌, ◌≤◌, List}
 use Rattle.class_tuner.specs.Filling.{calls_of}
 use Rattle.potential_check.specs.declared.sheet.Sheet.{Sheet as Written}
@@ -11,7 +11,7 @@ use Rattle.tuner_theory.specs.Spans.{places, span_waste}
 use Rattle.tuner_theory.specs.Waste.{waste_of}
 use Rattle.tuner_theory.specs.declared.verdict.Verdict.TheVariants.{Optimal}
 
--- A sheet, and how often the span wastes were asked for to make it.
+-- A sheet, and how many span wastes were asked for to make it.
 pub record Tuning : Type 0 where
   pub sheet : Written
   pub evaluations : ℕ
@@ -31,7 +31,7 @@ pub record IsTuned (counts : List ℕ) (step limit : ℕ) (sheet : Sheet) : Type
   pub valid : AreValidPotentials (span_waste counts step) (places counts step) limit (number_at sheet.rows)
   pub optimal : IsVerdict counts sheet Optimal
 
--- How often a source of the span wastes is asked for them to fill these rows. The rows' own least ends determine it.
+-- How many span wastes a source is asked for to fill these rows. The rows' own least ends determine it.
 pub record AreEvaluations (counts : List ℕ) (step limit : ℕ) (rows : List (List ℕ)) (evaluations : ℕ) : Type 0 where
   pub ends : List (List ℕ)
   pub filled : IsFilled (span_waste counts step) (places counts step) limit rows ends

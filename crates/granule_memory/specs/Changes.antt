@@ -1,8 +1,8 @@
--- What a change of tags or bytes leaves as it was.
+-- What stays the same under a change of tags or bytes.
 use Rattle.std.specs.Prelude.{◌≡◌, ℕ, ◌+◌, ◌*◌, ◌<◌, ◌≤◌, ◌⊎◌, List, length}
 use Rattle.machine_theory.specs.Memory.{Granule, granule_at, tag_at, byte_at, word_at}
 
--- all tags, and the bytes before `from` and from `to` on, are as they were
+-- all tags, and the bytes before `from` and from `to` on, are the same
 pub record ChangesOnlyBytes (old new : List Granule) (from to : ℕ) : Type 0 where
   pub len : length new ≡ length old
   pub tag : (g : ℕ) → tag_at new g ≡ tag_at old g
@@ -10,7 +10,7 @@ pub record ChangesOnlyBytes (old new : List Granule) (from to : ℕ) : Type 0 wh
   pub word : (k : ℕ) → (k + 8 ≤ from) ⊎ (to ≤ k) → word_at new k ≡ word_at old k
   pub granule : (g : ℕ) → (16 * g + 16 ≤ from) ⊎ (to ≤ 16 * g) → granule_at new g ≡ granule_at old g
 
--- all bytes, and the granules before `from` and from `to` on, are as they were
+-- all bytes, and the granules before `from` and from `to` on, are the same
 pub record ChangesOnlyTags (old new : List Granule) (from to : ℕ) : Type 0 where
   pub len : length new ≡ length old
   pub byte : (k : ℕ) → byte_at new k ≡ byte_at old k

@@ -1,4 +1,4 @@
--- When each answer of an access is given, exactly.
+-- When each result of an access comes, exactly.
 use Rattle.std.specs.Prelude.{◌≡◌, ◌≢◌, ◌↔◌, ℕ, ◌<◌, ℤ, List, ◌∷◌, ◌++◌, length, replicate, slice_get, Some, IsTrue}
 use Rattle.machine_theory.specs.Access.{IsMapped, IsTagFault, loaded, stored}
 use Rattle.machine_theory.specs.Address.{logical_tag, moved_by, Touches}
@@ -12,7 +12,7 @@ use Rattle.heap_theory.specs.Run.Answer.{Silent, Loaded, NotMapped, TagFault}
 use Rattle.heap_theory.specs.State.{Heap}
 use Rattle.heap_theory.specs.Totals.{is_tag_fault}
 
--- The answer to an access of `len` bytes at an address: unmapped, a tag fault, or `done`, the answer where it succeeds.
+-- The result of an access of `len` bytes at an address: unmapped, a tag fault, or `done` if it succeeds.
 pub record IsAnswerTo (heap : Heap) (address len : ℕ) (done answer : Answer) : Type 0 where
   -- It is unmapped exactly where the access is not mapped,
   pub unmapped : (answer ≡ NotMapped) ↔ (IsMapped (length heap.memory) address len → ⊥)
@@ -56,7 +56,7 @@ StoreIsDone =
 
 -- ---- whole traces
 
--- Each load and store among the events of a trace is answered so, by the replay that the events before it left.
+-- Each load and store of a trace has this result, in the replay after the events before it.
 pub record AccessesAreAnswered (first : Replay) (events : List Event) : Type 0 where
   pub loads : (before after : List Event) (v : ℕ) (off : ℤ) (len : ℕ) →
       events ≡ before ++ Load v off len ∷ after → 0 < len →

@@ -7,7 +7,7 @@ use Rattle.heap_theory.specs.Choice.{is_released, mark_of}
 use Rattle.heap_theory.specs.State.{State, Heap, state_at, last_tag}
 use Rattle.heap_theory.specs.State.State.{Fresh as NeverGiven, Live as Given, Dead}
 
--- How a slot stands: fresh, live, or dead and in the quarantine, or dead and in its class's list.
+-- The state of a slot: fresh, live, dead and in the quarantine, or dead and in its class's list.
 pub data Standing : Type 0 where
   Fresh : Standing
   Live : Standing
@@ -46,14 +46,14 @@ standing_of (suc zero) = Live
 standing_of (suc (suc zero)) = Quarantined
 standing_of (suc (suc (suc code))) = Freed
 
--- bits 0 to 1 say how the slot stands, 2 to 15 are the size, 16 to 19 the tag, 20 to 31 the class, and 32 to 63 next
+-- bits 0 to 1 are the state, 2 to 15 the size, 16 to 19 the tag, 20 to 31 the class, and 32 to 63 next
 abbrev pub first_word : Header → ℕ
 first_word header = code_of header.standing + 2 ^ 2 * header.size + 2 ^ 16 * header.tag + 2 ^ 20 * header.class + 2 ^ 32 * header.next
 
 abbrev pub second_word : Header → ℕ
 second_word header = header.mark
 
--- The header that two words spell. Its class is below 32, and so bits 25 to 31 are 0, where a slot's header stands.
+-- The header that two words spell. In a slot's header the class is below 32, and so bits 25 to 31 are 0.
 abbrev pub header_of : ℕ → ℕ → Header
 header_of first second = record {
   standing = standing_of (first % 2 ^ 2);

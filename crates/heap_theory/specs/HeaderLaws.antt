@@ -115,7 +115,7 @@ abbrev pub LastSlotEnds : Type 0
 LastSlotEnds =
     (next : ℕ → ℕ) (front s : ℕ) (list : List ℕ) → IsLinked next front list → last_link list ≡ suc s → Contains list s × (next s ≡ 0)
 
--- A slot is put in front of a list by its own link,
+-- A slot goes to the front of a list by its own link,
 abbrev pub PutInFront : Type 0
 PutInFront = (next : ℕ → ℕ) (front s : ℕ) (list : List ℕ) → next s ≡ front → IsLinked next front list → IsLinked next (suc s) (s ∷ list)
 

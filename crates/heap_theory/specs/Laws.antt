@@ -194,7 +194,7 @@ StoredPartIsAReplay =
     (layout : Partition) (seed quarantine : ℕ) (events : List Event) →
     (run layout seed quarantine events).replay ≡ replay_of (first_replay layout seed quarantine) events
 
--- One event more: the run and the replay take one step more, and there is one answer and one report line more.
+-- One more event: the run and the replay take one more step, and there is one more result and one more report line.
 abbrev pub OneStepMore : Type 0
 OneStepMore =
     (layout : Partition) (seed quarantine : ℕ) (events : List Event) (event : Event) →

@@ -33,7 +33,7 @@ no_totals = record {
   loss = 0;
 }
 
--- ---- what an event and its answer count as
+-- ---- what an event and its result count as
 
 abbrev pub request_size : Event → Option ℕ
 request_size (Malloc v n) = Some n

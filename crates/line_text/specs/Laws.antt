@@ -28,7 +28,7 @@ CutLinesAreRead =
     (ls : List (List ℕ)) (last : List ℕ) → All IsLine ls → IsLine last → 0 < length last
     → lines (text_of ls ++ last) ≡ ls ++ last ∷ []
 
--- A line that is written in front of a text is read before the lines of that text.
+-- A line that is written before a text is read before the lines of that text.
 abbrev pub LineInFrontIsRead : Type 0
 LineInFrontIsRead =
     (line text : List ℕ) → IsLine line → lines (line ++ 10 ∷ text) ≡ line ∷ lines text

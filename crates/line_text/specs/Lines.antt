@@ -43,7 +43,7 @@ line_of ws = join_with_byte 32 ws
 abbrev pub IsLine : List ℕ → Type 0
 IsLine line = All (λ b. is_newline b ≡ Bool.false) line
 
--- A line that may stand at the end of a text without its newline.
+-- A line that may end a text without its newline.
 abbrev pub IsFullLine : List ℕ → Type 0
 IsFullLine line = IsLine line × (0 < length line)
 

@@ -6,7 +6,7 @@ use Rattle.std.specs.Str.Parse.{digits_value}
 use Rattle.line_text.specs.declared.number.Number.{Number}
 use Rattle.line_text.specs.declared.number.Number.TheVariants.{NoNumber, TooLarge, Value}
 
--- Digits, and no needless 0 in front: 48 is `0`.
+-- Digits, without a leading 0: 48 is `0`.
 abbrev pub is_numeral : List ℕ → Bool
 is_numeral word = list_all is_ascii_digit word && not (length word == 0) && (length word == 1 || not (slice_index word 0 == 48))
 
@@ -23,7 +23,7 @@ classified (Some n) = if nat_lt n (2 ^ 64) then Value n else TooLarge
 abbrev pub short_number_of : List ℕ → Option ℕ
 short_number_of word = if nat_le (length word) 19 then number_of word else None
 
--- The digits in front of a text, up to its first byte that is none.
+-- The digits at the start of a text, up to its first byte that is no digit.
 abbrev pub leading_digits : List ℕ → List ℕ
 leading_digits text = take_while is_ascii_digit text
 

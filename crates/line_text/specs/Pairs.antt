@@ -1,4 +1,4 @@
--- A line of two numbers, and the digits in front of a text.
+-- A line of two numbers, and the digits at the start of a text.
 use Rattle.std.specs.Prelude.{◌≡◌, ◌<◌, ◌≤◌, ℕ, List, [], ◌∷◌, Option, Some, None, option_and_then}
 use Rattle.std.specs.Char.{is_ascii_digit}
 use Rattle.std.specs.List.{prefix_len}
@@ -6,7 +6,7 @@ use Rattle.std.specs.Option.{option_map}
 use Rattle.std.specs.Str.Parse.{digits_value}
 use Rattle.line_text.specs.Numbers.{leading_digits, short_number_of}
 
--- The value and the number of the digits in front of a text; none exactly where they are more than 19.
+-- The value and the number of the digits at the start of a text; `None` exactly if they are more than 19.
 abbrev pub AreLeading : Option (ℕ × ℕ) → List ℕ → Type 0
 AreLeading None text = 19 < prefix_len is_ascii_digit text
 AreLeading (Some found) text =

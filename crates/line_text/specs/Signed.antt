@@ -5,7 +5,7 @@ use Rattle.line_text.specs.Numbers.{number_of}
 use Rattle.line_text.specs.declared.signed.SignedNumber.{SignedNumber}
 use Rattle.line_text.specs.declared.signed.SignedNumber.TheVariants.{NoNumber, TooLarge, Value}
 
--- The number behind a `-`, where it is not 0: `negsuc n` is -(n + 1).
+-- The number after a `-`, if it is not 0: `negsuc n` is -(n + 1).
 abbrev pub negated : ℕ → Option ℤ
 negated zero = None
 negated (suc n) = Some (negsuc n)

@@ -7,7 +7,7 @@ use Rattle.std.specs.List.{range_with_len}
 use Rattle.machine_theory.specs.Address.{logical_tag, place_of, region_start, byte_of, granule_of, Touches}
 use Rattle.machine_theory.specs.Memory.{Granule, tag_at, bytes_at, written}
 
--- whether each byte of the access lies in the region of so many granules, and bits 63 to 60 of the address are 0
+-- whether each byte of the access lies in the region of this many granules, and bits 63 to 60 of the address are 0
 abbrev pub is_mapped : ℕ → ℕ → ℕ → Bool
 is_mapped granules address len =
     nat_lt address (2 ^ 60) && nat_le region_start (place_of address) && nat_le (place_of address + len) (region_start + 16 * granules)
@@ -25,7 +25,7 @@ unfoldable pub access_fault : List Granule → ℕ → ℕ → Option Fault
 access_fault memory address len =
     if is_mapped (length memory) address len then tag_fault memory (logical_tag address) (touched address len) else Some Unmapped
 
--- the answer of a call that has this fault, if any
+-- the result of a call that has this fault, if any
 abbrev pub ok_unless : Option Fault → Result (Unit {0}) Fault
 ok_unless None = Ok tt
 ok_unless (Some fault) = Err fault

@@ -14,7 +14,7 @@ place_of address = address % 2 ^ 56
 abbrev pub with_tag : ℕ → ℕ → ℕ
 with_tag address tag = address / 2 ^ 60 * 2 ^ 60 + tag * 2 ^ 56 + place_of address
 
--- the address so many bytes further on, modulo 2 ^ 64
+-- the address this many bytes further on, modulo 2 ^ 64
 abbrev pub moved_by : ℕ → ℤ → ℕ
 moved_by address (pos n) = (address + n) % 2 ^ 64
 moved_by address (negsuc n) = (address + (2 ^ 64 - suc n)) % 2 ^ 64

@@ -24,7 +24,7 @@ pub record IsMemory (memory : List Granule) : Type 0 where
 abbrev pub new_granule : Granule
 new_granule = record { tag = 0; bytes = replicate 16 0 }
 
--- what stands past the end of a memory
+-- the granule past the end of a memory
 abbrev pub no_granule : Granule
 no_granule = record { tag = 0; bytes = [] }
 

@@ -25,7 +25,7 @@ next_seed seed = seed / 16 + 2 ^ 12 * next_offset seed
 abbrev pub shifted : ℕ → ℕ
 shifted seed = seed / 2 + 2 ^ 15 * next_bit seed 0
 
--- the register once IRG has drawn so many times
+-- the register after IRG has drawn this many times
 abbrev pub seed_after : ℕ → ℕ → ℕ
 seed_after zero seed = seed
 seed_after (suc k) seed = next_seed (seed_after k seed)

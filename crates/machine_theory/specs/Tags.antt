@@ -4,7 +4,7 @@ use Rattle.std.specs.Prelude.{ℕ, ◌+◌, ◌-◌, ◌%◌, Bool, not, ◌==�
 use Rattle.std.specs.Int.{bit_at}
 use Rattle.std.specs.List.{range_with_len}
 
--- whether the mask excludes the tag: bit t stands for tag t
+-- whether the mask excludes the tag: bit t excludes tag t
 abbrev pub is_excluded : ℕ → ℕ → Bool
 is_excluded exclude tag = bit_at exclude tag == 1
 

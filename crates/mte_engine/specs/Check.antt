@@ -1,4 +1,4 @@
--- What `check` answers: the verdict on the sheet in front of its input, for the profile behind it.
+-- The answers of `check`: the verdict on the sheet at the start of its input, for the profile after it.
 use Rattle.std.specs.Prelude.{◌≡◌, ℕ, List, ◌++◌, codes, length, Result, Ok, Err}
 use Rattle.line_text.specs.Lines.{lines, ended}
 use Rattle.potential_check.specs.Leading.{leading_lines, lines_behind}
@@ -20,7 +20,7 @@ abbrev pub verdict_text : Verdict → Answer
 verdict_text Optimal = record { text = ended (codes "optimal"); status = Done }
 verdict_text (Refused refusal) = record { text = ended (codes "refused " ++ shown_refusal refusal); status = No }
 
--- The sheet that stands in front of these lines, and the profile behind it.
+-- The sheet at the start of these lines, and the profile after it.
 unfoldable pub sheet_and_profile : List (List ℕ) → Result (Sheet × Counted) InputFault
 sheet_and_profile ls = do
   sheet ← sheet_part (sheet_of_lines (leading_lines ls))
@@ -34,7 +34,7 @@ pub record IsChecked (sheet : Sheet) (profile : Counted) (answer : Answer) : Typ
   pub best : verdict ≡ Optimal → IsBest profile.counts sheet.step sheet.limit sheet.table
   pub written : answer ≡ verdict_text verdict
 
--- A sheet and then a profile; what is answered is the verdict, or the first fault of the two.
+-- A sheet and then a profile. The answer is the verdict, or the first fault of the two.
 abbrev pub CheckAnswers : List ℕ → Result Answer InputFault → Type 0
 CheckAnswers text (Ok answer) =
     (parts : Sheet × Counted) × (sheet_and_profile (lines text) ≡ Ok parts) × IsChecked parts.0 parts.1 answer

@@ -20,11 +20,11 @@ pub record Answer : Type 0 where
   pub text : List ℕ
   pub status : Status
 
--- The answers to any input: one that is too long is refused before its text is looked at.
+-- The answers to any input. An input that is too long is refused before any fault of its text.
 abbrev pub AnswersInput : (List ℕ → Result Answer InputFault → Type 0) → List ℕ → Result Answer InputFault → Type 0
 AnswersInput answers input answer = MatchBool (nat_lt most_input (length input)) (answer ≡ Err TooLong) (answers input answer)
 
--- What the code made of an input is one of these answers, unless memory ran out: `text` is what an output hands out.
+-- The code's result for an input is one of these answers, unless memory ran out. `text` is the text of an output.
 abbrev pub GivesFault : (Result Answer InputFault → Type 0) → AnswerError → Type 0
 GivesFault answers NoMemoryToAnswer = ⊤
 GivesFault answers (Refused fault) = answers (Err fault)
@@ -46,7 +46,7 @@ fault_of_answer (Refused fault) = Input fault
 
 -- ---- a call of an engine
 
--- What a call wrote, where these are the answers to its input; `before` and `after` are the bytes that the sink had taken, where it knows
+-- What a call wrote, if these are the answers to its input. `before` and `after` are the bytes that the sink had taken, if it knows
 -- them. Where the engine finished, the sink took the whole text; after a failed write a prefix of it; after any other fault nothing.
 abbrev pub Tells : (Result Answer InputFault → Type 0) → Option (List ℕ) → Option (List ℕ) → Result Status ToolFault → Type 0
 Tells answers before after (Ok status) = (text : List ℕ) × answers (Ok (record { text = text; status = status })) × Appends before after text
@@ -73,7 +73,7 @@ pub record IsReady (source : SourceState) (sink : SinkState) : Type 0 where
   pub reading : source.failed < 2 ^ 63
   pub writing : sink.failed < 2 ^ 63
 
--- What a call of an engine does whose answers are these, from a source to a sink.
+-- What a call of an engine with these answers does, from a source to a sink.
 pub record Runs (answers : List ℕ → Result Answer InputFault → Type 0) (source source' : SourceState) {W : Type 0} (state : W → SinkState) (sink sink' : W)
     (result : Result Status ToolFault) : Type 0 where
   -- a failed read is reported exactly where one failed, and so is a failed write

@@ -25,7 +25,7 @@ abbrev pub sheet_part : Result Sheet ℕ → Result Sheet InputFault
 sheet_part (Ok s) = Ok s
 sheet_part (Err number) = Err (BadSheet number)
 
--- A profile that comes after so many lines of its input.
+-- A profile that follows this many lines of its input.
 abbrev pub profile_part : ℕ → Result Counted (ℕ × ProfileFault) → Result Counted InputFault
 profile_part lines (Ok profile) = Ok profile
 profile_part lines (Err fault) = Err (Profile (lines + fault.0) fault.1)

@@ -1,4 +1,4 @@
--- What `profile` answers: the profile of a trace.
+-- The answers of `profile`: the profile of a trace.
 use Rattle.std.specs.Prelude.{◌≡◌, ℕ, List, Result, Ok}
 use Rattle.heap_theory.specs.declared.event.Event.{Event}
 use Rattle.profile_count.specs.ProfileText.{profile_text}

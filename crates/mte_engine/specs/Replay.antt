@@ -1,4 +1,4 @@
--- What `replay` answers: the report on a trace, replayed on the heap over a class table.
+-- The answers of `replay`: the report on a trace, replayed on the heap over a class table.
 use Rattle.std.specs.Prelude.{◌≡◌, ◌≢◌, ℕ, ◌≤◌, List, [], ◌∷◌, Result, Ok, Err}
 use Rattle.line_text.specs.Lines.{lines}
 use Rattle.class_table.specs.ClassLine.{table_of_line}
@@ -21,7 +21,7 @@ pub record IsConfig (config : Config) : Type 0 where
   pub seed : config.seed ≢ 0
   pub quarantine : config.quarantine ≤ 4194304
 
--- A region of so many granules for the classes of a table.
+-- A region of this many granules for the classes of a table.
 abbrev pub region_for : Config → List ℕ → Partition
 region_for config table = record { classes = table; granules = config.granules }
 

@@ -1,4 +1,4 @@
--- The headline: what `run` answers. It tunes a class table for the requests of a trace, and replays the trace on the heap over that table.
+-- The headline: the answers of `run`. It tunes a class table for the requests of a trace, and replays the trace on the heap over that table.
 use Rattle.std.specs.Prelude.{◌≡◌, ℕ, ◌≤◌, List, ◌++◌, length, zip, Result, Ok, Err}
 use Rattle.class_table.specs.Tables.{IsLegalTable}
 use Rattle.class_tuner.specs.Tuned.{IsTuned}
@@ -20,7 +20,7 @@ use Rattle.mte_engine.specs.declared.fault.InputFault.{InputFault}
 
 -- ---- the tables in question
 
--- A table that is legal for the step, has at most so many classes, and serves each counted request of the events.
+-- A table that is legal for the step, has at most `limit` classes, and serves each counted request of the events.
 pub record IsTableFor (step limit : ℕ) (events : List Event) (table : List ℕ) : Type 0 where
   pub legal : IsLegalTable step table
   pub few : length table ≤ limit
@@ -32,7 +32,7 @@ pub record IsTableFor (step limit : ℕ) (events : List Event) (table : List ℕ
 abbrev pub new_replay : Config → List ℕ → Replay
 new_replay config table = first_replay (region_for config table) config.seed config.quarantine
 
--- The answers of the tagged machine to the events, one after the other,
+-- The results of the events on the tagged machine, one after the other,
 abbrev pub answers_on : Config → List ℕ → List Event → List HeapAnswer
 answers_on config table events = answers (new_replay config table) events
 
@@ -69,7 +69,7 @@ pub record IsTunedRun (limit step : ℕ) (config : Config) (events : List Event)
   pub all_loss : (totals_on config sheet.table events).null_exhausted ≡ 0 → refused_reallocs (zip events (answers_on config sheet.table events)) ≡ 0
       → (totals_on config sheet.table events).loss ≡ sheet.waste
 
--- The whole text is a trace; what is answered is the headline for its events, or the trace's first fault.
+-- The whole text is a trace. The answer is the headline for its events, or the trace's first fault.
 abbrev pub RunAnswers : ℕ → ℕ → Config → List ℕ → Result Answer InputFault → Type 0
 RunAnswers limit step config text (Ok answer) = (events : List Event) × (trace_part 0 (trace_of text) ≡ Ok events) × IsTunedRun limit step config events answer
 RunAnswers limit step config text (Err fault) = trace_part 0 (trace_of text) ≡ Err fault

@@ -1,4 +1,4 @@
--- What `score` answers: the waste of a table on a profile, or the least counted size that the table doesn't serve.
+-- The answers of `score`: the waste of a table on a profile, or the least counted size that the table doesn't serve.
 use Rattle.std.specs.Prelude.{◌≡◌, ℕ, List, [], ◌∷◌, codes, Option, Some, None, Result, Ok, Err}
 use Rattle.std.specs.Fmt.{decimal}
 use Rattle.line_text.specs.Lines.{lines, line_of, ended}

@@ -15,7 +15,7 @@ abbrev pub failed_reads : {E : Type 0} → Result ℕ E → ℕ
 failed_reads (Ok n) = 0
 failed_reads (Err e) = 1
 
--- and a write of so many bytes, which fails also where it takes none of them.
+-- and a write of this many bytes, which also fails if it takes none of them.
 abbrev pub failed_writes : {E : Type 0} → Result ℕ E → ℕ → ℕ
 failed_writes (Ok n) zero = 0
 failed_writes (Ok zero) (suc len) = 1

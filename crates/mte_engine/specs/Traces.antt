@@ -21,11 +21,11 @@ abbrev pub events_unless : ℕ → List Event → Option (ℕ × TraceFault) →
 events_unless lines events None = Ok events
 events_unless lines events (Some (number, fault)) = Err (Trace (lines + number) fault)
 
--- The events of a trace that comes after so many lines of its input, or its first fault.
+-- The events of a trace that follows this many lines of its input, or its first fault.
 abbrev pub trace_part : ℕ → TraceRead → Result (List Event) InputFault
 trace_part lines trace = events_unless lines trace.events trace.fault
 
--- How a trace ended that comes after so many lines: without a fault, or at its first one; unless memory ran out.
+-- How a trace that follows this many lines ended: without a fault, or at its first one; unless memory ran out.
 abbrev pub HasEnded : ℕ → State → Result (Unit {0}) AnswerError → Type 0
 HasEnded lines state (Ok done) = state ≡ Finished
 HasEnded lines state (Err OutOfMemory) = ⊤

@@ -1,4 +1,4 @@
--- What `tune` answers: the sheet that is tuned for a profile.
+-- The answers of `tune`: the sheet that is tuned for a profile.
 use Rattle.std.specs.Prelude.{◌≡◌, ℕ, List, Result, Ok, Err}
 use Rattle.class_tuner.specs.Tuned.{IsTuned}
 use Rattle.potential_check.specs.SheetText.{sheet_text}
@@ -16,7 +16,7 @@ pub record IsTunedText (limit step : ℕ) (profile : Counted) (answer : Answer) 
   pub tuned : IsTuned profile.counts step limit sheet
   pub written : answer ≡ record { text = sheet_text sheet; status = Done }
 
--- The whole text is a profile; what is answered is the tuned sheet's text, or the profile's first fault.
+-- The whole text is a profile. The answer is the tuned sheet's text, or the profile's first fault.
 abbrev pub TuneAnswers : ℕ → ℕ → List ℕ → Result Answer InputFault → Type 0
 TuneAnswers limit step text (Ok answer) = (profile : Counted) × (profile_part 0 (profile_of text) ≡ Ok profile) × IsTunedText limit step profile answer
 TuneAnswers limit step text (Err fault) = profile_part 0 (profile_of text) ≡ Err fault

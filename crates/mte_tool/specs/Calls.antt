@@ -1,4 +1,4 @@
--- Which call is meant by the words of a command, and what the call's engine answers.
+-- Which call the words of a command mean, and the answers of the call's engine.
 use Rattle.std.specs.Prelude.{◌≡◌, ◌≢◌, ℕ, ◌≤◌, List, Option, Some, None, Result, Ok, Err, codes, ⊤}
 use Rattle.std.specs.Str.Parse.{IsNumeral, without_leading_plus, digits_value}
 use Rattle.clap.specs.Words.{Row, Text, one_of}
@@ -15,7 +15,7 @@ use Rattle.mte_tool.specs.declared.call.Call.{Call}
 use Rattle.mte_tool.specs.declared.call.Call.TheVariants.{Score, Tune, Check, Profile, Replay, Run}
 use Rattle.tagged_heap.specs.declared.heap.Config.{Config}
 
--- The option of this name has a value, and it spells the number: decimal digits, where a `+` may stand first.
+-- The option of this name has a value that spells the number: decimal digits, with or without a `+` before them.
 abbrev pub HasNumber : List Row → Text → ℕ → Type 0
 HasNumber options name n = (text : Text) × (one_of name options ≡ Some text)
     × IsNumeral 10 (without_leading_plus text) × (digits_value 10 (without_leading_plus text) ≡ n)

@@ -28,7 +28,7 @@ is_shown DisplayHelp = true
 is_shown DisplayVersion = true
 is_shown kind = false
 
--- How the program may end where it runs no command: help that was asked for is shown or can't be written, and all else is refused.
+-- How the program may end if it runs no command: it shows the help that was asked for, or can't write it, or refuses the words.
 abbrev pub IsRefusedEnd : Refusal → End → Type 0
 IsRefusedEnd NoMemory end = end ≡ Ended (Err OutOfMemory)
 IsRefusedEnd (Options fault) end = end ≡ Refused

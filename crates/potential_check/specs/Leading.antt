@@ -1,4 +1,4 @@
--- A sheet in front of other lines, as the checker's input has it in front of the profile.
+-- A sheet before other lines, as the checker's input has it before the profile.
 use Rattle.std.specs.Prelude.{◌≡◌, ◌≤◌, ℕ, Bool, List, [], ◌++◌, length, take, drop, codes, slice_index_or, Result, Ok, Err, if◌then◌else◌}
 use Rattle.std.specs.List.{take_while}
 use Rattle.line_text.specs.Lines.{lines}
@@ -12,19 +12,19 @@ use Rattle.potential_check.specs.declared.leading.LeadingSheet.{LeadingSheet}
 abbrev pub is_row_line : List ℕ → Bool
 is_row_line line = is_named (codes "row") line
 
--- How many lines stand in front of a sheet's rows: four where the third line's first word is `step`, else three.
+-- How many lines come before a sheet's rows: four if the third line's first word is `step`, otherwise three.
 abbrev pub head_size : List (List ℕ) → ℕ
 head_size ls = if is_named (codes "step") (slice_index_or ls 2 []) then 4 else 3
 
--- The lines of the sheet: so many, and all directly behind them whose first word is `row`.
+-- The lines of the sheet: those before its rows, and all lines directly after them whose first word is `row`.
 unfoldable pub leading_lines : List (List ℕ) → List (List ℕ)
 leading_lines ls = take (head_size ls) ls ++ take_while is_row_line (drop (head_size ls) ls)
 
--- The lines behind the sheet.
+-- The lines after the sheet.
 unfoldable pub lines_behind : List (List ℕ) → List (List ℕ)
 lines_behind ls = drop (length (leading_lines ls)) ls
 
--- The sheet that the lines spell, how many lines it has, and the text behind them.
+-- The sheet that the lines spell, how many lines it has, and the text after them.
 pub record IsLeading (ls : List (List ℕ)) (leading : LeadingSheet) : Type 0 where
   pub sheet : sheet_of_lines (leading_lines ls) ≡ Ok (sheet_of leading.sheet)
   pub size : leading.lines ≡ length (leading_lines ls)

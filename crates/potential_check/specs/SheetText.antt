@@ -58,7 +58,7 @@ abbrev pub passing : {A : Type 0} → (A → Bool) → Option A → Option A
 passing test None = None
 passing test (Some x) = if test x then Some x else None
 
--- The words of a line behind this name; none where the first word is another.
+-- The words of a line after this name; `None` if the first word is another.
 abbrev pub words_behind : List ℕ → List (List ℕ) → Option (List (List ℕ))
 words_behind name [] = None
 words_behind name (w ∷ ws) = if bytes_eq w name then Some ws else None
@@ -116,12 +116,12 @@ abbrev pub ◌>>=◌ : {A B : Type 0} → Result A ℕ → (A → Result B ℕ) 
 (Ok x) >>= more = more x
 (Err number) >>= more = Err number
 
--- What is read off the first of the lines, which has this number, and the lines behind it. A missing line is faulty too.
+-- What is read from the first of the lines, which has this number, and the lines after it. A missing line is faulty too.
 abbrev pub line_at : {A : Type 0} → ℕ → (List ℕ → Option A) → List (List ℕ) → Result (A × List (List ℕ)) ℕ
 line_at number reading [] = Err number
 line_at number reading (line ∷ ls) = ok_or (option_map (λ x. (x, ls)) (reading line)) number
 
--- The step that the first of the lines tells, and the lines behind it; 1, and all of them, where its first word is not `step`.
+-- The step on the first of the lines, and the lines after it; 1, and all of them, if its first word is not `step`.
 abbrev pub step_at : List (List ℕ) → Option (ℕ × List (List ℕ))
 step_at [] = Some (1, [])
 step_at (line ∷ ls) = if is_named (codes "step") line then option_map (λ step. (step, ls)) (step_in line) else Some (1, line ∷ ls)
@@ -130,7 +130,7 @@ step_at (line ∷ ls) = if is_named (codes "step") line then option_map (λ step
 abbrev pub waste_number : ℕ → ℕ
 waste_number step = if step == 1 then 3 else 4
 
--- The rows of the lines, of which the first has this number; a line more than so many is faulty, whatever it says.
+-- The rows of the lines, the first of which has this number. A line after the last one allowed is faulty, whatever it says.
 unfoldable pub rows_from : ℕ → ℕ → List (List ℕ) → Result (List (List ℕ)) ℕ
 rows_from number most [] = Ok []
 rows_from number zero (line ∷ ls) = Err number
@@ -139,7 +139,7 @@ rows_from number (suc most) (line ∷ ls) = do
   rows ← rows_from (suc number) most ls
   Ok (row ∷ rows)
 
--- The head of a sheet, which stands in front of its rows, and the lines behind it.
+-- The head of a sheet, which comes before its rows, and the lines after it.
 unfoldable pub head_of_lines : List (List ℕ) → Result (Head × List (List ℕ)) ℕ
 head_of_lines ls = do
   (table, ls) ← line_at 1 table_in ls

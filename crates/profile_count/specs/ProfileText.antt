@@ -88,7 +88,8 @@ abbrev pub go_on : ℕ → Result Entry ProfileFault → (Entry → Result Profi
 go_on number (Ok entry) more = more entry
 go_on number (Err fault) more = Err (number, fault)
 
--- What lines spell of which the first has this number, behind what was read so far: a profile, or the first faulty line's number and fault.
+-- What the lines spell, after what was read so far: a profile, or the number of the first faulty line and its fault. The first of the lines
+-- has this number.
 unfoldable pub profile_from : ℕ → Reading → List (List ℕ) → Result Profile (ℕ × ProfileFault)
 profile_from number reading [] = Ok reading.profile
 profile_from number reading (line ∷ ls) = go_on number (entry_of reading.next reading.profile.large (words line)) (λ entry. profile_from (suc number) (with_entry reading entry) ls)

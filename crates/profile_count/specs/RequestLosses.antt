@@ -1,4 +1,4 @@
--- What a class table wastes on requests, each told by its size in bytes, request by request.
+-- What a class table wastes on requests, request by request. Each is given by its size in bytes.
 use Rattle.std.specs.Prelude.{◌≡◌, ◌↔◌, ℕ, ◌≤◌, nat_le, List, length, filter, sum_by, IsSome, All}
 use Rattle.std.specs.Option.{option_map_or}
 use Rattle.class_table.specs.Sizes.{largest_counted, loss_of}

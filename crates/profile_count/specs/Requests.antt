@@ -1,4 +1,4 @@
--- The profile of requests, each told by its size in bytes.
+-- The profile of requests, each given by its size in bytes.
 use Rattle.std.specs.Prelude.{◌≡◌, ℕ, ◌≤◌, ◌==◌, nat_lt, List, length, map, fold, count_by, slice_index}
 use Rattle.std.specs.List.{range_with_len}
 use Rattle.class_table.specs.Sizes.{largest_counted}

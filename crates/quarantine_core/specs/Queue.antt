@@ -24,7 +24,7 @@ pub record AreQueued (value : Queue) (layout : Partition) (memory : List Granule
   pub back : value.back ≡ last_link queue
   pub held : value.held ≡ bytes_of layout queue
 
--- The links stand: they show some queue.
+-- The links show some queue.
 abbrev pub LinksStand : Queue → Partition → List Granule → Type 0
 LinksStand value layout memory = (queue : List ℕ) × AreQueued value layout memory queue
 
@@ -34,7 +34,7 @@ IsOutside value layout memory slot = (queue : List ℕ) → AreQueued value layo
 
 -- ---- what is made of it
 
--- with one slot more behind the others
+-- with one more slot after the others
 abbrev pub with_newest : Queue → ℕ → ℕ → Queue
 with_newest value slot bytes = record {
   front = if value.back == 0 then suc slot else value.front;

@@ -3,7 +3,7 @@ use Rattle.std.specs.Prelude.{ℕ, ◌+◌, if◌then◌else◌, List, Option, i
 use Rattle.heap_theory.specs.Run.{Answer}
 use Rattle.heap_theory.specs.Totals.{Totals, one_if, is_large, is_no_class, is_exhausted, is_tag_fault, is_unmapped, is_refused, is_silent, loss_of_request}
 
--- its answer is counted
+-- its result is counted
 abbrev pub with_answer : Totals → Answer → Totals
 with_answer t answer = record t {
   null_large = t.null_large + one_if (is_large answer);

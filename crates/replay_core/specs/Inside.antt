@@ -1,4 +1,4 @@
--- What stands in a replay.
+-- The fields of a replay, and what a contract sees of them.
 use Rattle.std.specs.Prelude.{◌≡◌, ◌≤◌, length}
 use Rattle.class_table.specs.Tables.{IsLegalTable}
 use Rattle.replay_core.specs.Bounds.{AreBounded}

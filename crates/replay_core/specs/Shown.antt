@@ -9,7 +9,7 @@ use Rattle.replay_core.specs.declared.answer.Answer.{Answer as TheAnswer}
 use Rattle.replay_core.specs.declared.answer.Answer.TheVariants.{Silent as ItIsSilent, Loaded as ItLoaded, NotMapped as ItIsNotMapped, TagFault as ItIsATagFault, NoPointer as ItHasNoPointer, NotFreed as ItIsNotFreed}
 use Rattle.replay_core.specs.declared.totals.Totals.{Totals as TheTotals}
 
--- An answer, with the buffer in which the bytes of a load stand.
+-- A result, with the buffer that holds the bytes of a load.
 abbrev pub shown : List ℕ → TheAnswer → Answer
 shown bytes ItIsSilent = Silent
 shown bytes (ItLoaded len) = Loaded (take len bytes)

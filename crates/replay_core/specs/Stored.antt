@@ -59,7 +59,7 @@ StepsAreEvents = (layout : Partition) (seed quarantine : ℕ) (events : List Eve
 abbrev pub LinesOfNone : Type 0
 LinesOfNone = (layout : Partition) (seed quarantine : ℕ) → lines_of layout seed quarantine [] ≡ []
 
--- What is stored of the events before an event tells its line,
+-- What is stored of the events before an event determines its line,
 abbrev pub LinesOfOneMore : Type 0
 LinesOfOneMore =
     (layout : Partition) (seed quarantine : ℕ) (events : List Event) (event : Event) → let before = stored_of layout seed quarantine events in

@@ -1,4 +1,4 @@
--- What stands in a heap.
+-- The fields of a heap, and what a contract sees of them.
 use Rattle.heap_theory.specs.State.{Heap}
 use Rattle.tagged_heap.specs.declared.heap.Heap.TheInside.{Inside}
 use Rattle.tagged_heap.specs.View.{Counted, shown_heap, IsHeldIn}

@@ -63,7 +63,7 @@ FinishedAddsEvents = (reading : Reading) → IsFrontOf reading.events (finished 
 abbrev pub PiecesHaveFewEvents : Type 0
 PiecesHaveFewEvents = (pieces : List (List ℕ)) → length (fed_all nothing_read pieces).events ≤ most_events
 
--- Events that wait, or that were taken out, have no part in what comes behind them.
+-- Events that were read, taken out or not, do not change what comes after them.
 abbrev pub FedBehindEvents : Type 0
 FedBehindEvents = (events : List Event) (reading : Reading) (piece : List ℕ) → fed (added events reading) piece ≡ added events (fed reading piece)
 

@@ -1,4 +1,4 @@
--- What a call that reads answers and leaves.
+-- The result of a call that reads, and the reader after it.
 use Rattle.std.specs.Prelude.{◌≡◌, ◌≢◌, List, ◌++◌, Result, Ok, Err}
 use Rattle.heap_theory.specs.declared.event.Event.{Event}
 use Rattle.trace_reader.specs.declared.fault.TraceError.{TraceError}
@@ -6,7 +6,7 @@ use Rattle.trace_reader.specs.declared.fault.TraceError.TheVariants.{OutOfMemory
 use Rattle.trace_reader.specs.Reading.{State, Reading}
 use Rattle.trace_reader.specs.Reading.State.{Open, Failed, Finished}
 
--- The error at which a reading stands.
+-- The error of a reading that has failed.
 abbrev pub answer_of : State → Result (Unit {0}) TraceError
 answer_of (Open lines rest) = Ok tt
 answer_of (Failed error) = Err error

@@ -12,7 +12,7 @@ use Rattle.trace_reader.specs.TraceText.{Trace, no_lines, with_line, trace_from}
 
 -- ---- whole lines
 
--- A text by its newlines: the lines that have one, without it, and the bytes behind the last.
+-- A text cut at its newlines: the lines that have one, without it, and the bytes after the last newline.
 pub record Cut : Type 0 where
   pub whole : List (List ℕ)
   pub unfinished : List ℕ
@@ -20,7 +20,7 @@ pub record Cut : Type 0 where
 abbrev pub line_in_front : List ℕ → Cut → Cut
 line_in_front line c = record { whole = line ∷ c.whole; unfinished = c.unfinished }
 
--- Bytes in front of the first line, be it whole or not.
+-- Bytes before the first line, whether that is whole or not.
 abbrev pub bytes_in_front : List ℕ → List (List ℕ) → List ℕ → Cut
 bytes_in_front front [] unfinished = record { whole = []; unfinished = front ++ unfinished }
 bytes_in_front front (line ∷ ls) unfinished = record { whole = (front ++ line) ∷ ls; unfinished = unfinished }
@@ -34,13 +34,13 @@ cut (b ∷ text) = if is_newline b then line_in_front [] (cut text) else going_o
 
 -- ---- what has been read
 
--- Where a reading stands: behind so many whole lines, with the bytes of the unfinished one; at an error; or at the text's end.
+-- The state of a reading: open, after a number of whole lines, with the bytes of the unfinished line; failed, with its error; or finished.
 pub data State : Type 0 where
   Open : (lines : ℕ) (rest : List ℕ) → State
   Failed : TraceError → State
   Finished : State
 
--- The events that were read and not yet taken out, and where the reading stands.
+-- The events that were read and not yet taken out, and the state of the reading.
 pub record Reading : Type 0 where
   pub events : List Event
   pub state : State
@@ -99,7 +99,7 @@ is_open_state Finished = false
 abbrev pub is_open : Reading → Bool
 is_open reading = is_open_state reading.state
 
--- The unfinished line was judged, and is behind.
+-- The reading after the unfinished line was judged.
 abbrev pub judged_in : State → Result Event TraceFault → Reading
 judged_in (Open lines rest) (Ok event) = record { events = event ∷ []; state = Open (suc lines) [] }
 judged_in (Open lines rest) (Err fault) = record { events = []; state = Failed (Line (suc lines) fault) }

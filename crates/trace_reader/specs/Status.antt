@@ -1,4 +1,4 @@
--- How a reader's fields stand for a reading.
+-- The reading that a reader's fields mean.
 use Rattle.std.specs.Prelude.{ℕ, List}
 use Rattle.trace_reader.specs.declared.status.Status.{Status}
 use Rattle.trace_reader.specs.declared.status.Status.TheVariants.{Open as IsOpen, Failed as HasFailed, Finished as HasFinished}

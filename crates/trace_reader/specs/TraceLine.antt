@@ -44,7 +44,7 @@ event_line event = line_of (event_words event)
 
 -- ---- reading a word
 
--- What comes behind a value that was read; a fault stays the first.
+-- What follows a value that was read. The first fault decides.
 infixl 10 ◌>>=◌
 abbrev pub ◌>>=◌ : {A B : Type 0} → Result A TraceFault → (A → Result B TraceFault) → Result B TraceFault
 (Ok x) >>= f = f x
@@ -73,7 +73,7 @@ len_of word = number_from 1 64 word
 abbrev pub byte_of : List ℕ → Result ℕ TraceFault
 byte_of word = ranged (λ n. Bool.true) (hex_of word)
 
--- ---- the words behind an event's name: the leftmost faulty one decides
+-- ---- the words after an event's name: the leftmost faulty one decides
 
 abbrev pub request_of : (ℕ → ℕ → Event) → List (List ℕ) → Result Event TraceFault
 request_of event (v ∷ n ∷ []) = do

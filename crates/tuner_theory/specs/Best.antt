@@ -3,7 +3,7 @@ use Rattle.std.specs.Prelude.{◌≡◌, ℕ, ◌<◌, ◌≤◌, ◌⊎◌, Lis
 use Rattle.class_table.specs.Tables.{IsLegalTable, class_for}
 use Rattle.tuner_theory.specs.Waste.{IsCounted, Serves, waste_of}
 
--- A table in question: legal for the step, of at most so many classes, and with a class for each counted size.
+-- A table in question: legal for the step, of at most `limit` classes, and with a class for each counted size.
 pub record IsCandidate (counts : List ℕ) (step limit : ℕ) (classes : List ℕ) : Type 0 where
   pub legal : IsLegalTable step classes
   pub few : length classes ≤ limit

@@ -75,7 +75,7 @@ SpansFit = (counts : List ℕ) (step i j : ℕ) → IsStep step → AreCounts co
 
 -- ---- the waste of a span by two sums up to a need
 
--- The waste between two needs: what so many blocks of the greater one hold, less the bytes that were asked for.
+-- The waste between two needs: what the blocks of the greater one hold, less the requested bytes.
 abbrev pub SumsTellWaste : Type 0
 SumsTellWaste =
     (counts : List ℕ) (step low high : ℕ) → IsStep step → low ≤ high
@@ -130,13 +130,13 @@ OneVerdict = (counts : List ℕ) (sheet : Sheet) (v w : Verdict) → IsVerdict c
 
 -- ---- least rows
 
--- The end of a place is behind it.
+-- The end of a place comes after it.
 abbrev pub EndsAreLater : Type 0
 EndsAreLater =
     (cost : ℕ → ℕ → ℕ) (d limit : ℕ) (rows ends : ℕ → ℕ → ℕ) (k i : ℕ) → AreLeastRows cost d limit rows ends
     → 1 ≤ k → k ≤ limit → i < d → (i < ends k i) × (ends k i ≤ d)
 
--- Where spans cross, a later place has no earlier least end, whatever stands in the row before.
+-- If spans cross, a later place has no earlier least end, whatever the row before.
 abbrev pub EndsAscend : Type 0
 EndsAscend =
     (cost : ℕ → ℕ → ℕ) (before : ℕ → ℕ) (d i j e f : ℕ) → IsCrossing cost d → i ≤ j
@@ -157,7 +157,7 @@ TunedRowsAreRests =
 abbrev pub OneRest : Type 0
 OneRest = (counts : List ℕ) (step k i v w : ℕ) → IsRest counts step k i v → IsRest counts step k i w → v ≡ w
 
--- ---- the table that the rows tell
+-- ---- the table that the rows give
 
 -- The tuned table is the canonical one,
 abbrev pub TunedTableIsCanonical : Type 0

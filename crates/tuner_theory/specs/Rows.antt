@@ -1,4 +1,4 @@
--- The rows of a tuner: the least costs of serving all places with so many classes, filled row by row, and the table that they tell.
+-- The rows of a tuner: the least costs of serving all places with at most k classes, filled row by row, and the table that they give.
 use Rattle.std.specs.Prelude.{◌≡◌, ℕ, zero, suc, ◌+◌, ◌-◌, ◌<◌, ◌≤◌, nat_lt, if◌then◌else◌, List, [], ◌∷◌, length, slice_index, slice_index_or, All}
 
 -- The number in row k, counted from 1, at place i; 0 past the row's end.
@@ -32,7 +32,7 @@ pub record IsFilled (cost : ℕ → ℕ → ℕ) (d limit : ℕ) (rows ends : Li
   pub ends_shape : HasShape ends limit d
   pub least : AreLeastRows cost d limit (number_at rows) (number_at ends)
 
--- The table that the ends tell for the places above i, from row k on: the need at the end of i, and on from there in the row before.
+-- The table that the ends give for the places above i, from row k on: the need at the end of i, then on from that end in the row before.
 abbrev pub table_of_ends : (ℕ → ℕ) → (ℕ → ℕ → ℕ) → ℕ → ℕ → ℕ → List ℕ
 table_of_ends need ends d zero i = []
 table_of_ends need ends d (suc k) i = if nat_lt i d then need (ends (suc k) i) ∷ table_of_ends need ends d k (ends (suc k) i) else []

@@ -10,7 +10,7 @@ rounded_need step n = round_up (need_of n) step
 
 -- ---- places
 
--- The list with a need behind it, unless the need is in it.
+-- The list with a need after it, unless the need is in it.
 abbrev pub with_need : List ℕ → ℕ → List ℕ
 with_need [] need = need ∷ []
 with_need (x ∷ xs) need = if x == need then x ∷ xs else x ∷ with_need xs need
@@ -46,7 +46,7 @@ waste_between counts step low high =
 abbrev pub span_waste : List ℕ → ℕ → ℕ → ℕ → ℕ
 span_waste counts step i j = waste_between counts step (need_at counts step i) (need_at counts step j)
 
--- How many counted requests have a rounded need of at most `high`, and how many bytes they asked for.
+-- How many counted requests have a rounded need of at most `high`, and how many bytes they requested.
 abbrev pub counted_up_to : List ℕ → ℕ → ℕ → ℕ
 counted_up_to counts step high = sum_below (λ n. if nat_le (rounded_need step n) high then slice_index counts n else 0) (length counts)
 

@@ -1,4 +1,4 @@
--- What a tuner makes for a profile: rows over its spans, and the table that they tell.
+-- What a tuner makes for a profile: rows over its spans, and the table that they give.
 use Rattle.std.specs.Prelude.{ℕ, ◌≤◌, List}
 use Rattle.tuner_theory.specs.Rows.{AreLeastRows, table_of_ends}
 use Rattle.tuner_theory.specs.Spans.{need_at, places, span_waste}
@@ -13,6 +13,6 @@ pub record AreTunedRows (counts : List ℕ) (step limit : ℕ) (rows ends : ℕ 
   pub few : limit ≤ 32
   pub least : AreLeastRows (span_waste counts step) (places counts step) limit rows ends
 
--- The table that they tell, from the last row and place 0.
+-- The table that they give, from the last row and place 0.
 abbrev pub tuned_table : List ℕ → ℕ → ℕ → (ℕ → ℕ → ℕ) → List ℕ
 tuned_table counts step limit ends = table_of_ends (need_at counts step) ends (places counts step) limit 0

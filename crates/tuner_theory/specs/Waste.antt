@@ -8,7 +8,7 @@ pub record Profile : Type 0 where
   pub counts : List ℕ
   pub large : ℕ
 
--- The most that one count tells.
+-- The greatest count.
 abbrev pub most_counted : ℕ
 most_counted = 1000000000
 
