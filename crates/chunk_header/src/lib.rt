@@ -10,6 +10,3 @@ mod words;
 pub use granule::{is_header, read, write};
 pub use header::{Header, State};
 pub use slot_links::{link, set_link, unlink};
-
-#[cfg(test)]
-mod tests;

@@ -6,6 +6,3 @@ pub mod laws;
 mod lists;
 
 pub use lists::ClassLists;
-
-#[cfg(test)]
-mod tests;

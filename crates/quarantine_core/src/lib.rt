@@ -8,6 +8,3 @@ pub mod laws;
 mod quarantine;
 
 pub use quarantine::Quarantine;
-
-#[cfg(test)]
-mod tests;

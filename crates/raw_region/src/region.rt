@@ -154,29 +154,3 @@ impl RawRegion {
         unsafe { std::slice::from_raw_parts_mut(self.ptr, self.len) }
     }
 }
-
-#[cfg(test)]
-mod tests {
-    use super::*;
-    use std::test::Fail;
-
-    #[test]
-    fn each_call_with_ample_memory(rt: HostRuntime) -> Result<(), Fail> {
-        let mut region = RawRegion::new(rt.alloc(), 24)?;
-        assert_eq!(rt; region.len(), 24);
-        assert_eq!(rt; region.word(16), 0);
-        region.set_word(3, 0x0807_0605_0403_0201);
-        assert_eq!(rt; (region.byte(3), region.byte(10)), (1, 8));
-        region.set_byte(4, 0xff);
-        assert_eq!(rt; region.word(3), 0x0807_0605_0403_ff01);
-        region.fill(5, 10, 0xaa);
-        region.write_bytes(20, b"tags");
-        let mut run = [0; 10];
-        region.read_bytes(2, &mut run);
-        assert_eq!(rt; run, [0, 1, 0xff, 0xaa, 0xaa, 0xaa, 0xaa, 0xaa, 8, 0]);
-        let mut end = [0; 4];
-        region.read_bytes(20, &mut end);
-        assert_eq!(rt; &end, b"tags");
-        Ok(())
-    }
-}

@@ -21,6 +21,3 @@ pub use ranges::is_in_range;
 pub use replay::{LINE_BYTES, Replay};
 pub use tagged_heap::Config;
 pub use totals::{TOTALS_BYTES, Totals, request_size};
-
-#[cfg(test)]
-mod tests;

@@ -14,6 +14,3 @@ pub use addresses::{GRANULE_BYTES, REGION_START, logical_tag, place_of, with_tag
 pub use machine::Machine;
 pub use machine_theory::Fault;
 pub use machine_theory::laws::tags::law_choose_tag;
-
-#[cfg(test)]
-mod tests;

@@ -22,6 +22,3 @@ mod taking;
 
 pub use heap::{Config, Heap};
 pub use heap_theory::{FreeError, NullCause, PlaceKind, ReallocError};
-
-#[cfg(test)]
-mod tests;

@@ -1,25 +1,32 @@
 //! Traces over 64 granules with seed 1, and what their replay writes.
-use crate::{Config, Event, Replay, Totals, is_in_range};
 use arrayvec::ArrayVec;
 use class_table::ClassTable;
+use replay_core::{Config, Event, Replay, Totals, is_in_range};
 use std::process::Abort;
 use std::test::Fail;
 
 /// A trace with its report.
-#[derive(Drop)]
-pub struct Case<'a> {
+#[derive(Clone, Copy)]
+pub struct Case {
     pub name: &'static str,
-    pub classes: &'a [u16],
+    pub classes: &'static [u16],
     pub quarantine: u32,
-    pub events: &'a [Event],
+    pub events: &'static [Event],
     /// The lines of the events that have one, each with its newline.
     pub lines: &'static str,
     /// The nine totals, in the order of their lines.
     pub totals: [u64; 9],
 }
 
-/// Replays a trace, and compares its lines and its totals.
-pub fn check(rt: &(impl Abort + AllocGlobal), case: &Case<'_>) -> Result<(), Fail> {
+/// Replays each trace, and compares its lines and its totals.
+pub fn check(rt: &(impl Abort + AllocGlobal), cases: &[Case]) -> Result<(), Fail> {
+    for case in cases {
+        check_case(rt, case)?;
+    }
+    Ok(())
+}
+
+fn check_case(rt: &(impl Abort + AllocGlobal), case: &Case) -> Result<(), Fail> {
     let mut replay = replay(rt, case.classes, case.quarantine)?;
     let mut lines = Vec::with_capacity(rt.alloc(), 4096)?;
     for event in case.events {
@@ -66,36 +73,4 @@ fn in_order(totals: &Totals) -> [u64; 9] {
         totals.refused_frees,
         totals.loss,
     ]
-}
-
-pub fn malloc(v: u16, n: u32) -> Event {
-    Event::Malloc { v, n }
-}
-
-pub fn calloc(v: u16, n: u32) -> Event {
-    Event::Calloc { v, n }
-}
-
-pub fn realloc(v: u16, n: u32) -> Event {
-    Event::Realloc { v, n }
-}
-
-pub fn free(v: u16) -> Event {
-    Event::Free { v }
-}
-
-pub fn load(v: u16, off: i32, len: u8) -> Event {
-    Event::Load { v, off, len }
-}
-
-pub fn store(v: u16, off: i32, len: u8, byte: u8) -> Event {
-    Event::Store { v, off, len, byte }
-}
-
-pub fn addg(v: u16, w: u16, u6: u8, u4: u8) -> Event {
-    Event::Addg { v, w, u6, u4 }
-}
-
-pub fn subg(v: u16, w: u16, u6: u8, u4: u8) -> Event {
-    Event::Subg { v, w, u6, u4 }
 }

@@ -1,8 +1,7 @@
 use Rattle.std.proofs.Common.{[], ◌∷◌, ◌++◌, ⊎_elim, arith}
 use Rattle.std.specs.Prelude.{Contains}
-use Rattle.quarantine_core.proofs.LetGo.{was_in}
-use Rattle.quarantine_core.proofs.Queued.{first_or_behind, last_or_before}
-use Rattle.quarantine_core.proofs.tests.quarantine_releases_past_its_limit.Goals as goal
+use Rattle.heap_tests.proofs.Queues.{first_or_behind, last_or_before, was_in}
+use Rattle.heap_tests.proofs.tests.slots.quarantine_releases_past_its_limit.Goals as goal
 
 -- what is in the quarantine by then was put in: slots 0 and 1
 pub put-requires-3-clause-outside : goal.put-requires-3-clause-outside

@@ -1,0 +1,5 @@
+mod heaps;
+mod machines;
+mod regions;
+mod replays;
+mod slots;

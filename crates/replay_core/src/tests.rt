@@ -1,4 +1,0 @@
-mod calls;
-mod faults;
-mod reuse;
-mod support;
