@@ -20,8 +20,6 @@ mod running;
 mod scoring;
 mod standard;
 mod streams;
-#[cfg(test)]
-mod tests;
 mod traces;
 mod tuning;
 

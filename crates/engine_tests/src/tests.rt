@@ -1,7 +1,5 @@
-//! What no contract says: worked values, and calls that fail in the middle of an input or an output.
 mod calls;
 mod check_texts;
-mod counts;
 mod long_traces;
 mod pieces;
 mod profile_texts;
@@ -13,4 +11,3 @@ mod streams_failing;
 mod support;
 mod trace_faults;
 mod tune_texts;
-mod verdicts;

@@ -2,12 +2,13 @@
 ghost use Rattle.mte_engine.specs.Outcome.{IsReady};
 ghost use Rattle.mte_engine.specs.Replay.{IsConfig};
 
-use crate::engine::Status;
-use crate::fault::ToolFault;
-use crate::streams::{ByteSink, ByteSource};
-use crate::{check, profile, replay, run, score, tune};
+use super::support::{ended, sink, source};
+use mte_engine::{
+    ByteSink, ByteSource, Status, ToolFault, check, profile, replay, run, score, tune,
+};
 use replay_core::Config;
 use std::process::Abort;
+use std::test::Fail;
 
 /// An engine with its options; the region has 64 granules, and the seed is 1.
 #[derive(Debug, Clone, Copy)]
@@ -77,4 +78,25 @@ fn config(rt: &impl Abort, quarantine: u32) -> Config
         seed: 1,
         quarantine,
     }
+}
+
+/// Calls the engine on a text: this is written for it, and it ends so.
+pub fn answers(
+    rt: &(impl Abort + AllocGlobal),
+    call: Call,
+    input: &[u8],
+    written: &str,
+    wanted: &str,
+) -> Result<(), Fail> {
+    let mut from = source(input);
+    let mut to = sink(rt.alloc())?;
+    let end = call_on(rt, call, &mut from, &mut to);
+    let ends = ended(rt.alloc(), end)?;
+    assert_eq!(rt; ends.as_str(), wanted, "the end of {call:?} at {input:?}");
+    assert_eq!(rt;
+        to.text.as_slice(),
+        written.as_bytes(),
+        "what {call:?} writes at {input:?}"
+    );
+    Ok(())
 }

@@ -1,4 +1,4 @@
-//! The calls of the crates below, each once.
+//! Sizes, tables of classes and profiles.
 use class_table::{ClassTable, TableError, loss, need, serves};
 use profile_count::{CountFull, MOST_COUNTED, Profile};
 use std::test::Fail;

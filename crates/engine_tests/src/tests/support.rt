@@ -1,10 +1,7 @@
 //! Sources and sinks for the tests, and how an engine ended, as one text.
 ghost use Rattle.std.specs.Prelude.{◌≡◌, None, IfOk};
 
-use crate::engine::Status;
-use crate::fault::ToolFault;
-use crate::memory::{MemorySink, MemorySource};
-use crate::streams::{ByteSource, Failure};
+use mte_engine::{ByteSource, Failure, MemorySink, MemorySource, Status, ToolFault};
 use std::alloc::{AllocError, Global};
 
 /// A source over memory that gives all it has at once.

@@ -3,17 +3,17 @@ ghost use Rattle.std.specs.Prelude.{Some};
 
 use super::calls::{Call, call_on};
 use super::support::{ended, sink_with_room};
-use crate::streams::{ByteSource, Failure};
+use mte_engine::{ByteSource, Failure};
 use std::process::Abort;
 use std::test::Fail;
 
-/// What an engine writes for an input, and how it ends. The totals are written after the lines, where there are any.
+/// The input of an engine, and what it writes for it.
 #[derive(Clone, Copy)]
-pub struct Case {
-    pub input: &'static str,
-    pub lines: &'static str,
-    pub totals: Option<[u64; 9]>,
-    pub ends: &'static str,
+pub enum Case {
+    /// These lines, and then these totals; it ends well.
+    Report(&'static str, &'static str, [u64; 9]),
+    /// These lines; and how it ends.
+    Text(&'static str, &'static str, &'static str),
 }
 
 const TOTALS: [&str; 9] = [
@@ -28,72 +28,60 @@ const TOTALS: [&str; 9] = [
     "loss",
 ];
 
-/// A case that ends with a report.
-pub const fn report(input: &'static str, lines: &'static str, totals: [u64; 9]) -> Case {
-    Case {
-        input,
-        lines,
-        totals: Some(totals),
-        ends: "done",
-    }
-}
-
-/// A case that ends without one.
-pub const fn text(input: &'static str, lines: &'static str, ends: &'static str) -> Case {
-    Case {
-        input,
-        lines,
-        totals: None,
-        ends,
-    }
-}
-
 /// Runs the engine on each case, however the input is cut.
 pub fn check(rt: &(impl Abort + AllocGlobal), call: Call, cases: &[Case]) -> Result<(), Fail> {
     for case in cases {
-        let written = expected(rt, case)?;
-        for first in 0..=case.input.len() {
-            check_cut(rt, call, case, &written, first, usize::MAX)?;
+        match case {
+            Case::Report(input, lines, totals) => {
+                let mut written = String::from_str(rt.alloc(), lines)?;
+                append_totals(rt, totals, &mut written)?;
+                check_cuts(rt, call, input, &written, "done")?;
+            }
+            Case::Text(input, written, ends) => check_cuts(rt, call, input, written, ends)?,
         }
-        check_cut(rt, call, case, &written, 1, 1)?;
     }
     Ok(())
 }
 
-// the text that a case writes
-fn expected(rt: &impl AllocGlobal, case: &Case) -> Result<String, Fail> {
-    let mut text = String::from_str(rt.alloc(), case.lines)?;
-    append_totals(rt, case.totals, &mut text)?;
-    Ok(text)
-}
-
-/// Appends the lines of totals, where there are any.
+/// Appends the lines of totals.
 pub fn append_totals(
     rt: &impl AllocGlobal,
-    totals: Option<[u64; 9]>,
+    totals: &[u64; 9],
     text: &mut String,
 ) -> Result<(), Fail> {
-    if let Some(totals) = totals {
-        for place in 0..9 {
-            let (name, total) = (TOTALS[place], totals[place]);
-            let line = format!(in rt.alloc(); "{name} {total}\n")?;
-            text.push_str(line.as_str())?;
-        }
+    for place in 0..9 {
+        let (name, total) = (TOTALS[place], totals[place]);
+        let line = format!(in rt.alloc(); "{name} {total}\n")?;
+        text.push_str(line.as_str())?;
     }
     Ok(())
 }
 
-// Runs the engine on one input: `first` bytes in the first read, at most `most` in each one after it.
+// Runs the engine on an input that is cut at each place, and on one of single bytes.
+fn check_cuts(
+    rt: &(impl Abort + AllocGlobal),
+    call: Call,
+    input: &str,
+    written: &str,
+    wanted: &str,
+) -> Result<(), Fail> {
+    for first in 0..=input.len() {
+        check_cut(rt, call, input, written, wanted, (first, usize::MAX))?;
+    }
+    check_cut(rt, call, input, written, wanted, (1, 1))
+}
+
+// Runs the engine on one input: so many bytes in the first read, and at most so many in each one after it.
 fn check_cut(
     rt: &(impl Abort + AllocGlobal),
     call: Call,
-    case: &Case,
-    written: &String,
-    first: usize,
-    most: usize,
+    input: &str,
+    written: &str,
+    wanted: &str,
+    (first, most): (usize, usize),
 ) -> Result<(), Fail> {
     let mut from = Cut {
-        rest: case.input.as_bytes(),
+        rest: input.as_bytes(),
         next: first,
         most,
         reads: 0,
@@ -101,10 +89,9 @@ fn check_cut(
     let mut to = sink_with_room(rt.alloc(), 4096)?;
     let end = call_on(rt, call, &mut from, &mut to);
     let ends = ended(rt.alloc(), end)?;
-    let input = case.input;
     assert_eq!(rt;
         ends.as_str(),
-        case.ends,
+        wanted,
         "the end of {call:?} at {input}, cut at {first}"
     );
     assert_eq!(rt;

@@ -1,171 +1,149 @@
 //! `tune` and `check` from text to text on what three real programs requested; the profiles are those in the folder `examples`.
 use super::support::{sink, sink_with_room, source};
-use crate::checking::check as check_sheet;
-use crate::engine::Status;
-use crate::fault::ToolFault;
-use crate::tuning::tune;
+use mte_engine::{Status, ToolFault, check as check_sheet, tune};
 use std::process::Abort;
 use std::test::Fail;
 
-// a profile, the most classes, and the sheet's first lines
-#[derive(Clone, Copy)]
-struct Case {
-    input: &'static [u8],
-    limit: u8,
-    head: &'static str,
-}
-
-fn check(rt: &(impl Abort + AllocGlobal), cases: &[Case]) -> Result<(), Fail> {
-    for case in cases {
-        let (limit, input) = (case.limit, case.input);
+// tunes for the profile at each limit, and compares the sheet's first lines
+fn check(rt: &(impl Abort + AllocGlobal), input: &[u8], cases: &[(u8, &str)]) -> Result<(), Fail> {
+    for (limit, head) in cases {
+        let limit = *limit;
         assert!(rt; limit >= 1 && limit <= 32);
         let mut from = source(input);
         let mut to = sink_with_room(rt.alloc(), 65_536)?;
         let end = tune(rt.alloc(), limit, 1, &mut from, &mut to);
         assert_eq!(rt; end, Ok(Status::Done), "the end at limit {limit}");
-        let written = to.text.as_slice().get(..case.head.len());
+        let written = to.text.as_slice().get(..head.len());
         assert_eq!(rt;
             written,
-            Some(case.head.as_bytes()),
+            Some(head.as_bytes()),
             "the sheet at limit {limit}"
         );
     }
     Ok(())
 }
 
-#[test]
-fn jq(rt: HostRuntime) -> Result<(), Fail> {
-    check(
-        &rt,
-        &[
-            Case {
-                input: JQ,
-                limit: 1,
-                head: "\
+// the most classes, and the sheet's first lines
+const OF_JQ: [(u8, &str); 4] = [
+    (
+        1,
+        "\
 classes 792
 limit 1
 waste 176966214
 ",
-            },
-            Case {
-                input: JQ,
-                limit: 8,
-                head: "\
+    ),
+    (
+        8,
+        "\
 classes 3 11 18 26 65 140 327 792
 limit 8
 waste 208598
 ",
-            },
-            Case {
-                input: JQ,
-                limit: 16,
-                head: "\
+    ),
+    (
+        16,
+        "\
 classes 2 3 5 11 18 26 41 65 98 140 218 271 327 473 710 792
 limit 16
 waste 130934
 ",
-            },
-            Case {
-                input: JQ,
-                limit: 32,
-                head: "\
+    ),
+    (
+        32,
+        "\
 classes 2 3 4 5 7 8 11 12 17 18 26 27 41 62 65 93 98 112 140 194 210 218 257 271 315 327 386 473 669 710 770 792
 limit 32
 waste 119238
 ",
-            },
-        ],
-    )
-}
+    ),
+];
 
 #[test]
-fn perl(rt: HostRuntime) -> Result<(), Fail> {
-    check(
-        &rt,
-        &[
-            Case {
-                input: PERL,
-                limit: 1,
-                head: "\
+fn jq(rt: HostRuntime) -> Result<(), Fail> {
+    check(&rt, JQ, &OF_JQ)
+}
+
+// the most classes, and the sheet's first lines
+const OF_PERL: [(u8, &str); 4] = [
+    (
+        1,
+        "\
 classes 1019
 limit 1
 waste 122827085
 ",
-            },
-            Case {
-                input: PERL,
-                limit: 8,
-                head: "\
+    ),
+    (
+        8,
+        "\
 classes 2 4 6 9 68 260 583 1019
 limit 8
 waste 190365
 ",
-            },
-            Case {
-                input: PERL,
-                limit: 16,
-                head: "\
+    ),
+    (
+        16,
+        "\
 classes 2 3 4 5 6 7 8 9 21 68 132 222 260 513 762 1019
 limit 16
 waste 64237
 ",
-            },
-            Case {
-                input: PERL,
-                limit: 32,
-                head: "\
+    ),
+    (
+        32,
+        "\
 classes 2 3 4 5 6 7 8 9 10 13 17 19 22 33 42 65 68 84 101 132 207 222 237 256 257 260 301 506 513 583 762 1019
 limit 32
 waste 42109
 ",
-            },
-        ],
-    )
-}
+    ),
+];
 
 #[test]
-fn sqlite(rt: HostRuntime) -> Result<(), Fail> {
-    check(
-        &rt,
-        &[
-            Case {
-                input: SQLITE,
-                limit: 1,
-                head: "\
+fn perl(rt: HostRuntime) -> Result<(), Fail> {
+    check(&rt, PERL, &OF_PERL)
+}
+
+// the most classes, and the sheet's first lines
+const OF_SQLITE: [(u8, &str); 4] = [
+    (
+        1,
+        "\
 classes 514
 limit 1
 waste 101963359
 ",
-            },
-            Case {
-                input: SQLITE,
-                limit: 8,
-                head: "\
+    ),
+    (
+        8,
+        "\
 classes 2 4 11 66 153 274 410 514
 limit 8
 waste 334351
 ",
-            },
-            Case {
-                input: SQLITE,
-                limit: 16,
-                head: "\
+    ),
+    (
+        16,
+        "\
 classes 2 3 4 7 10 21 37 66 68 89 153 258 274 410 460 514
 limit 16
 waste 100191
 ",
-            },
-            Case {
-                input: SQLITE,
-                limit: 32,
-                head: "\
+    ),
+    (
+        32,
+        "\
 classes 2 3 4 5 6 7 8 9 10 11 14 21 30 34 37 54 66 68 89 130 153 258 274 333 403 405 410 420 448 460 483 514
 limit 32
 waste 63311
 ",
-            },
-        ],
-    )
+    ),
+];
+
+#[test]
+fn sqlite(rt: HostRuntime) -> Result<(), Fail> {
+    check(&rt, SQLITE, &OF_SQLITE)
 }
 
 // how `check` of a sheet and a profile ends

@@ -1,7 +1,6 @@
 //! Traces of a million events, and inputs of the most bytes.
 use super::support::{Repeated, ended, sink, source};
-use crate::moving::MOST_INPUT;
-use crate::{profile, replay, run};
+use mte_engine::{MOST_INPUT, profile, replay, run};
 use replay_core::Config;
 use std::alloc::{AllocError, Global};
 use std::test::Fail;

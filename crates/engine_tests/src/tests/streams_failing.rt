@@ -1,10 +1,7 @@
 //! Reads and writes that fail, or move a byte at a time, or never end.
 use super::calls::{Call, call_on};
 use super::support::{Repeated, ended, sink, source};
-use crate::moving::MOST_INPUT;
-use crate::scoring::score;
-use crate::standard::{StreamSink, StreamSource};
-use crate::streams::{ByteSink, ByteSource};
+use mte_engine::{ByteSink, ByteSource, MOST_INPUT, StreamSink, StreamSource, score};
 use std::io::{ErrorKind, Read, Write};
 use std::test::Fail;
 

@@ -1,0 +1,5 @@
+//! Tests of profiles and sheets: worked values, printed texts, and each call once. The crate has tests alone.
+#![tactic(auto)]
+
+#[cfg(test)]
+mod tests;
