@@ -8,8 +8,6 @@ mod filling;
 mod halving;
 pub mod laws;
 mod table;
-#[cfg(test)]
-mod tests;
 mod tuning;
 
 pub use cost_source::CostSource;

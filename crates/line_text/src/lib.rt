@@ -11,8 +11,6 @@ mod number;
 mod pair;
 mod search;
 mod signed;
-#[cfg(test)]
-mod tests;
 mod words;
 
 pub use cutting::first_line;

@@ -7,8 +7,6 @@ mod line;
 mod reader;
 mod spelled;
 mod status;
-#[cfg(test)]
-mod tests;
 mod words;
 
 pub use fault::{TraceError, TraceFault};

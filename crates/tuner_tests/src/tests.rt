@@ -1,2 +1,5 @@
 mod counts;
+mod lines;
+mod traces;
+mod tuning;
 mod verdicts;

@@ -1,4 +1,5 @@
-use crate::{
+//! Lines, words and numbers.
+use line_text::{
     Number, SignedNumber, hex_byte_in, hex_digits, lines_in, number_in, signed_in, words_in,
 };
 

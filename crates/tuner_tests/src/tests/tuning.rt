@@ -3,10 +3,7 @@ ghost use Rattle.std.specs.Prelude.{◌≡◌, ℕ, ◌+◌, ◌-◌, ◌*◌, �
 ghost use Rattle.std.proofs.Common.{arith};
 ghost use Rattle.std.proofs.Math.Nat.{mul-le-mul};
 
-use crate::cost_source::CostSource;
-use crate::costs::Costs;
-use crate::filling::fill_rows;
-use crate::tuning::tune;
+use class_tuner::{CostSource, Costs, fill_rows, tune};
 use profile_count::Profile;
 use std::test::Fail;
 

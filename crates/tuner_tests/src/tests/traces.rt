@@ -1,8 +1,8 @@
-//! Worked texts in pieces: events and errors do not depend on where a text is cut.
-use crate::{Event, TraceError, TraceFault, TraceReader};
+//! Traces in pieces: events and errors do not depend on where a text is cut.
 use std::alloc::Global;
 use std::process::Abort;
 use std::test::Fail;
+use trace_reader::{Event, TraceError, TraceFault, TraceReader};
 
 // The last line has no newline.
 const ACCESSES: &[u8] = b"malloc 1 100\nmalloc 2 1\nmalloc 3 1009\nmalloc 4 16369\nload 1 96 16\n\
