@@ -15,7 +15,7 @@ use Rattle.line_text.proofs.Cuts.{line_of-words}
 use Rattle.line_text.proofs.Digits.{digit_at, other_byte}
 use Rattle.line_text.proofs.LeadingDigits.{are_digits, all_digits_lead}
 
-not_digits : (word : List ℕ) → list_all is_ascii_digit word ≡ false → short_number_of word ≡ None
+pub not_digits : (word : List ℕ) → list_all is_ascii_digit word ≡ false → short_number_of word ≡ None
 unfolding number_of
 not_digits word other = rw other (grind (arith, nat_tests))
 
@@ -41,7 +41,7 @@ no_digit_first [] ends = refl
 no_digit_first (b ∷ behind) (inl e) = absurd cc
 no_digit_first (b ∷ behind) (inr e) = let space : b ≡ 32 = cc in rw space refl
 
-first_digits : (line word : List ℕ) (ws : List (List ℕ)) → words line ≡ word ∷ ws → list_all is_ascii_digit word ≡ true → leading_digits line ≡ word
+pub first_digits : (line word : List ℕ) (ws : List (List ℕ)) → words line ≡ word ∷ ws → list_all is_ascii_digit word ≡ true → leading_digits line ≡ word
 first_digits line word ws parts all =
     let first = first_of line word ws parts in
     ap leading_digits first.line_is ∙ digits_before word first.behind all (no_digit_first first.behind first.ends)

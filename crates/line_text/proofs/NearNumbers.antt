@@ -1,15 +1,18 @@
 -- The first word of a line, where its digits end within the line's first bytes.
-use Rattle.std.proofs.Common.{◌≡◌, ℕ, ◌+◌, ◌<◌, ◌≤◌, ◌∙◌, List, ◌∷◌, ◌++◌, length, length-drop, drop, take, sym, ap, arith, true, false, eqb, Some, get_or, ◌⊎◌}
+use Rattle.std.proofs.Common.{◌≡◌, ◌≢◌, ℕ, ◌+◌, ◌<◌, ◌≤◌, ◌∙◌, List, [], ◌∷◌, ◌++◌, length, length-drop, drop, take, sym, ap, arith, true, false, eqb, Option, Some, None, get_or, leb, refl, inl, inr, ◌&&◌, ◌⊎◌}
 use Rattle.std.specs.Char.{is_ascii_digit}
 use Rattle.std.specs.List.{list_all, prefix_len}
 use Rattle.std.specs.Str.Parse.{digits_value}
 use Rattle.std.proofs.lemmas.Bool.Decides.{nat_tests}
 use Rattle.std.proofs.lemmas.List.{drop-drop, get_or-drop, get_or-take, length-take-le, take-append-drop}
 use Rattle.std.proofs.lemmas.List.Folds.{prefix_len-append}
-use Rattle.line_text.specs.Lines.{words}
-use Rattle.line_text.specs.Numbers.{short_number_of, leading_digits}
-use Rattle.line_text.proofs.FirstNumbers.{word_before}
-use Rattle.line_text.proofs.LeadingDigits.{a_number, are_digits}
+use Rattle.std.proofs.lemmas.List.Sums.{prefix_len-le-length}
+use Rattle.std.proofs.lemmas.Bool.{and_right, cases_Bool, cases_lt, cond_both, le-leb, lt-leb}
+use Rattle.line_text.specs.Lines.{line_of, words}
+use Rattle.line_text.specs.Numbers.{near_number_of, number_of, short_number_of, leading_digits}
+use Rattle.line_text.proofs.Cuts.{line_of-words}
+use Rattle.line_text.proofs.FirstNumbers.{first_digits, first_number_of, no_first_number, no_word_end, not_digits, word_before}
+use Rattle.line_text.proofs.LeadingDigits.{a_number, are_digits, no_number, reaches}
 
 -- so many digits are in front of the line's first bytes, and another byte ends them there
 pub record IsNear (line : List ℕ) (size : ℕ) : Type 0 where
@@ -50,3 +53,77 @@ near_number line size near some first =
     let same : get_or (take 19 line) 0 0 ≡ get_or line 0 0 = get_or-take 19 line 0 0 (omega arith) in
     ap short_number_of (sym digits)
     ∙ a_number line size (omega (arith, near.long, near.ended)) (omega (arith, near.ended)) (near_prefix line size near) all some (rw same at first)
+
+-- ---- the word that is read, or left
+
+few_digits : (word : List ℕ) (n : ℕ) → length word ≤ 18 → short_number_of word ≡ Some n → number_of word ≡ Some n
+few_digits word n few e = let short : leb (length word) 19 ≡ true = le-leb (length word) 19 (omega arith) in rw short at e
+
+few_none : (word : List ℕ) → length word ≤ 18 → short_number_of word ≡ None → number_of word ≡ None
+few_none word few e = let short : leb (length word) 19 ≡ true = le-leb (length word) 19 (omega arith) in rw short at e
+
+pub near_some : (line : List ℕ) (size : ℕ) → IsNear line size → get_or (take 19 line) size 0 ≡ 32 → 0 < size
+    → (size ≡ 1) ⊎ (eqb (get_or (take 19 line) 0 0) 48 ≡ false) → near_number_of (words line) ≡ Some (digits_value 10 (take size line))
+near_some line size near space some first =
+    let parts = near_word line size near space in
+    let whole : line_of (take size line ∷ words (drop (size + 1) line)) ≡ line = ap line_of (sym parts) ∙ line_of-words line in
+    let word : length (take size line) ≡ size = length-take-le size line (omega (arith, near.long, near.ended)) in
+    let long : leb 19 (length line) ≡ true = le-leb 19 (length line) near.long in
+    let few : leb (length (take size line)) 18 ≡ true = le-leb _ 18 (omega (arith, near.ended, word)) in
+    let spelled = few_digits (take size line) _ (omega (arith, near.ended, word)) (near_number line size near some first) in
+    ap near_number_of parts ∙ rw (whole, long, few) spelled
+
+short_line : (line : List ℕ) (ws : List (List ℕ)) → words line ≡ ws → length line < 19 → near_number_of ws ≡ None
+short_line line [] parts short = refl
+short_line line (word ∷ ws) parts short =
+    let whole : line_of (word ∷ ws) ≡ line = ap line_of (sym parts) ∙ line_of-words line in
+    let not : leb 19 (length line) ≡ false = lt-leb 19 (length line) short in
+    rw (whole, not) refl
+
+pub near_short : (line : List ℕ) → length line < 19 → near_number_of (words line) ≡ None
+near_short line short = short_line line (words line) refl short
+
+-- a first word that is no number, or one of more digits
+left_word : (word : List ℕ) (ws : List (List ℕ)) → (length word ≤ 18 → number_of word ≡ None) → near_number_of (word ∷ ws) ≡ None
+left_word word ws none = elim (cases_lt 18 (length word)) [
+  | inl many ↦ (let not : leb (length word) 18 ≡ false = lt-leb (length word) 18 many in rw (not, and_right (leb 19 (length (line_of (word ∷ ws)))) false refl) refl)
+  | inr few ↦ (let nothing = none few in rw nothing (cond_both (leb 19 (length (line_of (word ∷ ws))) && leb (length word) 18) None None (λ (o : Option ℕ). o ≡ None) (λ _. refl) (λ _. refl)))
+]
+
+pub near_none : (line : List ℕ) → first_number_of line ≡ None → near_number_of (words line) ≡ None
+near_none line none = go (words line) refl
+  where
+    go : (ws : List (List ℕ)) → words line ≡ ws → near_number_of ws ≡ None
+    go [] parts = refl
+    go (word ∷ ws) parts = left_word word ws (λ few. few_none word few (rw parts at none))
+
+pub near_many : (line : List ℕ) → 19 ≤ length line → list_all is_ascii_digit (take 19 line) ≡ true → near_number_of (words line) ≡ None
+near_many line long all = go (words line) refl
+  where
+    digits : 19 ≤ length (leading_digits line)
+    digits = omega (arith, reaches line 19 long all, length-take-le (prefix_len is_ascii_digit line) line (prefix_len-le-length is_ascii_digit line))
+
+    go : (ws : List (List ℕ)) → words line ≡ ws → near_number_of ws ≡ None
+    go [] parts = refl
+    go (word ∷ ws) parts = left_word word ws (λ few. elim (cases_Bool (list_all is_ascii_digit word)) [
+      | inl digit ↦ absurd (omega (arith, ap length (first_digits line word ws parts digit), digits))
+      | inr other ↦ few_none word few (not_digits word other)
+    ])
+
+-- where another byte than a space ends the digits, or they are no number
+pub near_other : (line : List ℕ) (size : ℕ) → IsNear line size → get_or (take 19 line) size 0 ≢ 32 → near_number_of (words line) ≡ None
+near_other line size near other =
+    let digits = near_digits_are line size near in
+    let cut : line ≡ leading_digits line ++ drop size line = sym (take-append-drop size line) ∙ ap (λ ds. ds ++ drop size line) (sym digits) in
+    let some : 0 < length (drop size line) = omega (arith, near.long, near.ended, length-drop size line) in
+    let here : size + 0 ≡ size = omega arith in
+    let byte : get_or (drop size line) 0 0 ≡ get_or (take 19 line) size 0 =
+    get_or-drop size line 0 0 ∙ ap (λ n. get_or line n 0) here ∙ sym (get_or-take 19 line size 0 near.ended) in
+    near_none line (no_word_end line (drop size line) cut some (λ space. other (sym byte ∙ space)))
+
+pub near_no_number : (line : List ℕ) (size : ℕ) → IsNear line size → (size ≡ 0) ⊎ ((get_or (take 19 line) 0 0 ≡ 48) × (1 < size))
+    → near_number_of (words line) ≡ None
+near_no_number line size near why =
+    let same : get_or (take 19 line) 0 0 ≡ get_or line 0 0 = get_or-take 19 line 0 0 (omega arith) in
+    near_none line
+    (no_first_number line (no_number line size (omega (arith, near.long, near.ended)) (omega (arith, near.ended)) (near_prefix line size near) (rw same at why)))

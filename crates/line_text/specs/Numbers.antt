@@ -1,8 +1,9 @@
 -- How a number is spelled, and how a word is read as one.
-use Rattle.std.specs.Prelude.{ℕ, ◌^◌, Bool, ◌&&◌, ◌||◌, not, List, length, slice_index, Option, Some, None, ◌==◌, nat_lt, nat_le, if◌then◌else◌}
+use Rattle.std.specs.Prelude.{ℕ, ◌^◌, Bool, ◌&&◌, ◌||◌, not, List, [], ◌∷◌, length, slice_index, Option, Some, None, ◌==◌, nat_lt, nat_le, if◌then◌else◌}
 use Rattle.std.specs.Char.{is_ascii_digit}
 use Rattle.std.specs.List.{list_all, take_while}
 use Rattle.std.specs.Str.Parse.{digits_value}
+use Rattle.line_text.specs.Lines.{line_of}
 use Rattle.line_text.specs.declared.number.Number.{Number}
 use Rattle.line_text.specs.declared.number.Number.TheVariants.{NoNumber, TooLarge, Value}
 
@@ -30,3 +31,8 @@ leading_digits text = take_while is_ascii_digit text
 -- The number that they spell, where they are at most 19.
 abbrev pub leading_number_of : List ℕ → Option ℕ
 leading_number_of text = short_number_of (leading_digits text)
+
+-- The number that the first of these words spells, where it has at most 18 digits and is in a line of at least 19 bytes.
+abbrev pub near_number_of : List (List ℕ) → Option ℕ
+near_number_of [] = None
+near_number_of (word ∷ ws) = if nat_le 19 (length (line_of (word ∷ ws))) && nat_le (length word) 18 then number_of word else None

@@ -1,7 +1,7 @@
 //! The number at the start of a long text, in one pass over its digits.
-ghost use Rattle.std.specs.Prelude.{◌≡◌, ◌<◌, IfSome, take};
+ghost use Rattle.std.specs.Prelude.{◌≡◌, ◌<◌, Bool, IfNone, IfSome, take};
 ghost use Rattle.std.specs.Char.{is_ascii_digit};
-ghost use Rattle.std.specs.List.{prefix_len};
+ghost use Rattle.std.specs.List.{list_all, prefix_len};
 ghost use Rattle.std.specs.Str.Parse.{digits_value};
 
 use crate::number::SHORT;
@@ -13,6 +13,7 @@ pub(crate) fn near_digits(bytes: &[u8; SHORT]) -> Option<(usize, u64)>
     ensures size { IfSome result (λ pair. pair.0 ≡ prefix_len is_ascii_digit bytes.now) }
     ensures ended { IfSome result (λ pair. pair.0 < SHORT) }
     ensures value { IfSome result (λ pair. pair.1 ≡ digits_value 10 (take pair.0 bytes.now)) }
+    ensures all { IfNone result (list_all is_ascii_digit bytes.now ≡ Bool.true) }
 {
     let mut value: u64 = 0;
     for (place, byte) in bytes.iter().enumerate() {

@@ -1,9 +1,9 @@
 //! Words of a line.
-ghost use Rattle.std.specs.Prelude.{◌≡◌, List, ℕ, IfSome, IfNone, Some, drop, option_and_then, slice_get};
+ghost use Rattle.std.specs.Prelude.{◌≡◌, List, ℕ, IfSome, IfNone, drop, option_and_then, slice_get};
 ghost use Rattle.std.specs.Iterator.{YieldsFirstBy, item_count};
 ghost use Rattle.std.specs.Option.{option_map};
 ghost use Rattle.line_text.specs.Lines.{words, words_left};
-ghost use Rattle.line_text.specs.Numbers.{classified, number_of, short_number_of};
+ghost use Rattle.line_text.specs.Numbers.{classified, near_number_of, number_of, short_number_of};
 
 use crate::leading::leading_number;
 use crate::near::near_digits;
@@ -67,10 +67,10 @@ impl<'a> Words<'a> {
         }
     }
 
-    // Takes the next word as a number if it has at most 18 digits and the line goes on after it. Otherwise it takes no word.
+    // Takes the next word as a number if it has at most 18 digits and the line at least 19 bytes. Otherwise it takes no word.
     #[inline(always)]
     fn next_near_number(&mut self) -> Option<u64>
-        ensures number { IfSome result (λ n. option_and_then short_number_of (slice_get self.old 0) ≡ Some n) }
+        ensures number { result ≡ near_number_of self.old }
         ensures taken { IfSome result (λ _. self.new ≡ drop 1 self.old) }
         ensures kept { IfNone result (self.new ≡ self.old) }
     {

@@ -1,4 +1,4 @@
-use Rattle.std.proofs.Common.{◌≡◌, ℕ, ◌-◌, ◌∙◌, get_or, true, ap, sym, arith}
+use Rattle.std.proofs.Common.{◌≡◌, ℕ, ◌-◌, ◌∙◌, get_or, take_all, true, ap, sym, arith}
 use Rattle.std.specs.Char.{is_ascii_digit}
 use Rattle.line_text.proofs.Digits.{one_more, digits_more, room_for_one}
 use Rattle.line_text.proofs.LeadingDigits.{ends_at}
@@ -36,3 +36,8 @@ loop-place-preserved c = record {
   digits = digits_more c.args.bytes.now c.loop-place.place (omega arith) (next c).digit c.loop-place.invariant.digits;
   value = rw c.from-in-loop-place.ensures (omega (arith, (next c).value, one_more c.args.bytes.now c.loop-place.place (omega arith) (next c).digit));
 }
+
+pub returns-clause-all : goal.returns-clause-all
+returns-clause-all c =
+    let whole = take_all c.loop-place.place c.args.bytes.now (omega arith) in
+    rw whole at c.loop-place.invariant.digits
