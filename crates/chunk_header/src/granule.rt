@@ -9,7 +9,6 @@ use crate::header::Header;
 use crate::words::{class_of, first_word, header_of, next_of, with_next_in};
 use class_table::MOST_CLASSES;
 use granule_memory::Memory;
-use heap_theory::laws::headers::law_header;
 
 /// Whether the bytes of a granule, which must be below `granules()`, spell a header: the class is below 32, and so bits 25 to 31 of the
 /// first word are 0.
@@ -47,7 +46,6 @@ pub fn write(memory: &mut Memory, granule: u32, header: &Header)
     ensures others { ChangesOnlyBytes memory.old memory.new (16 * granule) (16 * granule + 16) }
     ensures memory { IsMemory memory.new }
 {
-    law_header();
     memory.set_word(granule, 0, first_word(header));
     memory.set_word(granule, 1, header.mark);
 }
@@ -71,7 +69,6 @@ pub(crate) fn set_next(memory: &mut Memory, granule: u32, next: u32)
     ensures others { ChangesOnlyBytes memory.old memory.new (16 * granule) (16 * granule + 8) }
     ensures memory { IsMemory memory.new }
 {
-    law_header();
     let word = with_next_in(memory.word(granule, 0), next);
     memory.set_word(granule, 0, word);
 }

@@ -7,7 +7,6 @@ ghost use Rattle.std.specs.Prelude.{◌≡◌, ◌<◌, length};
 use crate::granule::{next, set_next};
 use class_table::Layout;
 use granule_memory::Memory;
-use heap_theory::laws::headers::{law_links, law_links_in_headers};
 
 /// The link of a slot of the layout: a slot's number plus one, or 0. The layout must be the memory's.
 pub fn link(memory: &Memory, layout: &Layout, slot: u32) -> u32
@@ -25,8 +24,6 @@ pub fn set_link(memory: &mut Memory, layout: &Layout, slot: u32, link: u32)
     ensures link { SetsLink layout.now memory.old memory.new slot link }
     ensures region { length memory.new ≡ layout.now.granules }
 {
-    law_links();
-    law_links_in_headers();
     prove!(memory.granules() == layout.granules());
     set_next(memory, layout.start(slot), link);
 }
@@ -41,8 +38,6 @@ pub fn unlink(memory: &mut Memory, layout: &Layout, slot: u32, start: u32) -> u3
     ensures link { SetsLink layout.now memory.old memory.new slot 0 }
     ensures region { length memory.new ≡ layout.now.granules }
 {
-    law_links();
-    law_links_in_headers();
     prove!(memory.granules() == layout.granules());
     prove!(start == layout.start(slot));
     let link = next(memory, start);

@@ -12,21 +12,21 @@ use Rattle.heap_theory.specs.HeaderLaws.{EachSlotOnce}
 use Rattle.heap_theory.specs.Links.{IsLinked, next_in}
 use Rattle.class_lists.specs.Lists.{ShowsList}
 
-first_or_behind : (s : ℕ) (list : List ℕ) (r : ℕ) → Contains (s ∷ list) r → (s ≡ r) ⊎ Contains list r
-first_or_behind s list r there = at there.0 there.1 there.2
+first_or_after : (s : ℕ) (list : List ℕ) (r : ℕ) → Contains (s ∷ list) r → (s ≡ r) ⊎ Contains list r
+first_or_after s list r there = at there.0 there.1 there.2
   where
     at : (k : ℕ) → k < length (s ∷ list) → get_or (s ∷ list) k r ≡ r → (s ≡ r) ⊎ Contains list r
     at zero within is = inl is
     at (suc k) within is = inr (k, omega arith, is)
 
-behind : (s : ℕ) (list : List ℕ) (r : ℕ) → Contains list r → Contains (s ∷ list) r
-behind s list r there = (suc there.0, omega (arith, there.1), there.2)
+after : (s : ℕ) (list : List ℕ) (r : ℕ) → Contains list r → Contains (s ∷ list) r
+after s list r there = (suc there.0, omega (arith, there.1), there.2)
 
 pub shown_pushed : (layout : Partition) (memory : List Granule) (front s : ℕ) (list : List ℕ) → s < slot_count layout → next_in layout memory s ≡ front →
     ShowsList layout memory front list → ShowsList layout memory (s + 1) (s ∷ list)
 shown_pushed layout memory front s list within link shown = record {
   linked = (omega arith, subst (λ n. IsLinked (next_in layout memory) n list) (sym link) shown.linked);
-  slots = λ r there. ⊎_elim (λ same. subst (λ n. n < slot_count layout) same within) (shown.slots r) (first_or_behind s list r there);
+  slots = λ r there. ⊎_elim (λ same. subst (λ n. n < slot_count layout) same within) (shown.slots r) (first_or_after s list r there);
 }
 
 -- with no front there is no slot
@@ -42,7 +42,7 @@ shown_first layout memory front s (r ∷ rest) is shown = let same : r ≡ s = o
 -- and the link of that slot shows the rest
 pub shown_rest : (layout : Partition) (memory : List Granule) (s : ℕ) (rest : List ℕ) → ShowsList layout memory (s + 1) (s ∷ rest) →
     ShowsList layout memory (next_in layout memory s) rest
-shown_rest layout memory s rest shown = record { linked = shown.linked.1; slots = λ r there. shown.slots r (behind s rest r there) }
+shown_rest layout memory s rest shown = record { linked = shown.linked.1; slots = λ r there. shown.slots r (after s rest r there) }
 
 -- in which it isn't
 pub first_not_in_rest : EachSlotOnce → (layout : Partition) (memory : List Granule) (s : ℕ) (rest : List ℕ) → ShowsList layout memory (s + 1) (s ∷ rest) →

@@ -10,7 +10,6 @@ use arrayvec::ArrayVec;
 use chunk_header::{set_link, unlink};
 use class_table::{Layout, MOST_CLASSES};
 use granule_memory::Memory;
-use heap_theory::laws::headers::law_links;
 use std::marker::Model;
 
 /// A list of freed slots for each class of a layout. Contracts see it as the fronts of the lists, by the classes' numbers: a front is the
@@ -87,7 +86,6 @@ impl ClassLists {
             ChangesOnlyBytes memory.old memory.new (16 * start) (16 * start + 8)) }
         ensures memory { IfSome result (λ slot. IsMemory memory.new) }
     {
-        law_links();
         let front = self.front(class);
         if front == 0 {
             return None;

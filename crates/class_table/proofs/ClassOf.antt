@@ -12,7 +12,7 @@ use Rattle.class_table.specs.Layout.{Partition, Slot, share_of, slot_count, slot
 use Rattle.class_table.proofs.Firsts.{first_slot-suc}
 use Rattle.class_table.proofs.Slots.{slot_of-class, slot_count-classes}
 
--- the first slots of all classes, and the number of slots behind them
+-- the first slots of all classes, and the number of slots after them
 abbrev pub firsts_of : Partition → List ℕ
 firsts_of region = map (first_slot region) (range_with_len 0 (length region.classes + 1))
 

@@ -15,7 +15,7 @@ module _ (region : Partition) (filled numbers : List ℕ) (count number : ℕ) (
   pub length-numbers : length numbers ≡ number
   length-numbers = ap length is.firsts ∙ length-map-range_with_len (first_slot region) 0 number
 
-  -- the first slots of these classes, and the number of slots behind them
+  -- the first slots of these classes, and the number of slots after them
   pub firsts_more : numbers ++ count ∷ [] ≡ map (first_slot region) (range_with_len 0 (number + 1))
   firsts_more =
       ap (λ firsts. firsts ++ count ∷ []) is.firsts

@@ -15,10 +15,10 @@ last_granule_is_slack : (slot_count (divided_among (3 ∷ [])) ≡ 21) × (slot_
 unfolding slots_of_classes slots_of slot_over
 last_granule_is_slack = (refl, refl, refl)
 
--- shares of 21 granules: seven slots of three, four of five, and a granule of slack behind each share
-slack_behind_shares : (slot_count (divided_among (3 ∷ 5 ∷ 64 ∷ [])) ≡ 11) × (slot_of (divided_among (3 ∷ 5 ∷ 64 ∷ [])) 7 ≡ record { start = 21; class = 5 }) × (slot_over (divided_among (3 ∷ 5 ∷ 64 ∷ [])) 41 ≡ None)
+-- shares of 21 granules: seven slots of three, four of five, and a granule of slack after each share
+slack_after_shares : (slot_count (divided_among (3 ∷ 5 ∷ 64 ∷ [])) ≡ 11) × (slot_of (divided_among (3 ∷ 5 ∷ 64 ∷ [])) 7 ≡ record { start = 21; class = 5 }) × (slot_over (divided_among (3 ∷ 5 ∷ 64 ∷ [])) 41 ≡ None)
 unfolding slots_of_classes slots_of slot_over
-slack_behind_shares = (refl, refl, refl)
+slack_after_shares = (refl, refl, refl)
 
 -- with no class all granules are slack
 no_slots : (slot_count (divided_among []) ≡ 0) × (slot_over (divided_among []) 0 ≡ None)

@@ -31,7 +31,7 @@ least_at step classes n number legal found =
             elim (cases_order k number) [
               | inl same ↦ rw (at_zero, same) (omega arith)
               | inr (inl before) ↦ absurd (both_ways _ (first.2 k before) serving_there)
-              | inr (inr behind) ↦ let larger = AllPairs-from_increasing classes legal.ascending number k 0 behind inside in omega (arith, larger, at_zero)
+              | inr (inr after) ↦ let larger = AllPairs-from_increasing classes legal.ascending number k 0 after inside in omega (arith, larger, at_zero)
             ];
       },
     )

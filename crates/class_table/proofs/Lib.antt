@@ -4,6 +4,7 @@ pub mod Filling
 pub mod FirstFaults
 pub mod Firsts
 pub mod LayoutExamples
+pub mod LawLemmas
 pub mod Least
 pub mod Legal
 pub mod SlotAt

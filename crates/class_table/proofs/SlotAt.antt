@@ -56,10 +56,10 @@ none_past_shares region granule is past = none_over region granule is (λ s with
     omega (arith, place.within, where_is.number_is))
 
 -- where no slot of the granule's share covers it, none does
-pub none_behind_slots : (region : Partition) (granule : ℕ) → IsPartition region → granule / share_of region < length region.classes →
+pub none_after_slots : (region : Partition) (granule : ℕ) → IsPartition region → granule / share_of region < length region.classes →
     share_of region / get_or region.classes (granule / share_of region) 0 ≤ granule % share_of region / get_or region.classes (granule / share_of region) 0 →
     None ≡ slot_over region granule
-none_behind_slots region granule is within past = none_over region granule is (λ s inside at.
+none_after_slots region granule is within past = none_over region granule is (λ s inside at.
     let place = place_of region s inside in
     let where_is = covered region granule s place at in
     let fits : place.k < share_of region / get_or region.classes (granule / share_of region) 0 =
@@ -77,8 +77,8 @@ module _ (region : Partition) (share number class k first next : ℕ) (share_is 
   pub place_fits : first + k < next → k < share / class
   place_fits below = omega (arith, counted, below)
 
-  pub place_behind : next ≤ first + k → share / class ≤ k
-  place_behind past = omega (arith, counted, past)
+  pub place_after : next ≤ first + k → share / class ≤ k
+  place_after past = omega (arith, counted, past)
 
 -- and else it is the slot at that place
 pub some_in_share : (region : Partition) (granule s : ℕ) → IsPartition region → granule / share_of region < length region.classes →

@@ -149,7 +149,7 @@ of_words laws (w ∷ ws) table e = go (bytes_eq w (codes "classes")) refl
         let others = decimals-numbers_of laws ws table 0 parts.0 (classes-from_legal table parts.1) in
         (cc, parts.1)
 
--- two texts that are one with a newline behind each
+-- two texts that are one with a newline after each
 same_ended : (a b : List ℕ) → ended a ≡ ended b → a ≡ b
 same_ended a b e = append_cancel_right a b (10 ∷ []) e
 

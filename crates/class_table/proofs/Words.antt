@@ -53,20 +53,20 @@ same_table ns few =
 
 -- ---- numbers of words
 
-abbrev pub behind : List ℕ → Option (List ℕ) → Option (List ℕ)
-behind front None = None
-behind front (Some ns) = Some (front ++ ns)
+abbrev pub after : List ℕ → Option (List ℕ) → Option (List ℕ)
+after front None = None
+after front (Some ns) = Some (front ++ ns)
 
 none_first : (w : List ℕ) (ws : List (List ℕ)) → number_of w ≡ None → numbers_of (w ∷ ws) ≡ None
 unfolding numbers_of
 none_first w ws e = rw e refl
 
 one_more : (front : List ℕ) (w : List ℕ) (ws : List (List ℕ)) (n : ℕ) → number_of w ≡ Some n
-    → behind front (numbers_of (w ∷ ws)) ≡ behind (front ++ n ∷ []) (numbers_of ws)
+    → after front (numbers_of (w ∷ ws)) ≡ after (front ++ n ∷ []) (numbers_of ws)
 unfolding numbers_of
 one_more front w ws n e = rw e (go (numbers_of ws))
   where
-    go : (o : Option (List ℕ)) → behind front (option_map (λ ns. n ∷ ns) o) ≡ behind (front ++ n ∷ []) o
+    go : (o : Option (List ℕ)) → after front (option_map (λ ns. n ∷ ns) o) ≡ after (front ++ n ∷ []) o
     go None = refl
     go (Some ns) = ap Some (sym (append_assoc front (n ∷ []) ns))
 
@@ -74,21 +74,21 @@ one_more front w ws n e = rw e (go (numbers_of ws))
 
 pub record SoFar (all rest : List (List ℕ)) (kept : List ℕ) (too_many : Bool) : Type 0 where
   pub front : List ℕ
-  pub spelled : numbers_of all ≡ behind front (numbers_of rest)
+  pub spelled : numbers_of all ≡ after front (numbers_of rest)
   pub clipped : kept ≡ map clip (take 32 front)
   pub many : too_many ≡ ltb 32 (length front)
 
 pub start : (all : List (List ℕ)) → SoFar all all [] false
 start all = record { front = []; spelled = go (numbers_of all); clipped = refl; many = refl }
   where
-    go : (o : Option (List ℕ)) → o ≡ behind [] o
+    go : (o : Option (List ℕ)) → o ≡ after [] o
     go None = refl
     go (Some ns) = refl
 
 pub faulty : (all rest new : List (List ℕ)) (w : List ℕ) (kept : List ℕ) (too_many : Bool) → SoFar all rest kept too_many → rest ≡ w ∷ new
     → number_of w ≡ None → table_of_numbers (numbers_of all) ≡ Err BadLine
 faulty all rest new w kept too_many so_far parts none =
-    let no_numbers : numbers_of all ≡ None = so_far.spelled ∙ ap (λ ws. behind so_far.front (numbers_of ws)) parts ∙ ap (behind so_far.front) (none_first w new none) in
+    let no_numbers : numbers_of all ≡ None = so_far.spelled ∙ ap (λ ws. after so_far.front (numbers_of ws)) parts ∙ ap (after so_far.front) (none_first w new none) in
     rw no_numbers refl
 
 length_kept : (all rest : List (List ℕ)) (kept : List ℕ) (too_many : Bool) → (so_far : SoFar all rest kept too_many) → length kept ≡ min 32 (length so_far.front)
@@ -102,7 +102,7 @@ room all rest new w kept too_many n so_far parts some fits =
     let longer : length (so_far.front ++ n ∷ []) ≤ 32 = omega (arith, length-append so_far.front (n ∷ [])) in
     record {
       front = so_far.front ++ n ∷ [];
-      spelled = so_far.spelled ∙ ap (λ ws. behind so_far.front (numbers_of ws)) parts ∙ one_more so_far.front w new n some;
+      spelled = so_far.spelled ∙ ap (λ ws. after so_far.front (numbers_of ws)) parts ∙ one_more so_far.front w new n some;
       clipped = ap (λ k. k ++ clip n ∷ []) (so_far.clipped ∙ ap (map clip) (take_all 32 so_far.front (omega arith)))
           ∙ sym (map-append clip so_far.front (n ∷ [])) ∙ ap (map clip) (sym (take_all 32 (so_far.front ++ n ∷ []) longer));
       many = sym (le-ltb 32 (length (so_far.front ++ n ∷ [])) longer);
@@ -115,7 +115,7 @@ no_room all rest new w kept too_many n so_far parts some full =
     let len : 32 ≤ length so_far.front = omega (arith, length_kept all rest kept too_many so_far) in
     record {
       front = so_far.front ++ n ∷ [];
-      spelled = so_far.spelled ∙ ap (λ ws. behind so_far.front (numbers_of ws)) parts ∙ one_more so_far.front w new n some;
+      spelled = so_far.spelled ∙ ap (λ ws. after so_far.front (numbers_of ws)) parts ∙ one_more so_far.front w new n some;
       clipped = so_far.clipped ∙ ap (map clip) (sym (take-append-le 32 so_far.front (n ∷ []) len));
       many = sym (lt-ltb 32 (length (so_far.front ++ n ∷ [])) (omega (arith, length-append so_far.front (n ∷ []))));
     }

@@ -26,8 +26,8 @@ abbrev pub NoClassServes : Type 0
 NoClassServes = (n : ℕ) (classes : List ℕ) → class_for classes n ≡ None → All (λ class. IsFalse (serves n class)) classes
 
 -- The class of a size is the one at its number.
-abbrev pub NumberTellsClass : Type 0
-NumberTellsClass = (n : ℕ) (classes : List ℕ) → class_for classes n ≡ option_and_then (slice_get classes) (class_number_for classes n)
+abbrev pub NumberGivesClass : Type 0
+NumberGivesClass = (n : ℕ) (classes : List ℕ) → class_for classes n ≡ option_and_then (slice_get classes) (class_number_for classes n)
 
 -- ---- tables
 

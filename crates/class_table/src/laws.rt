@@ -1,5 +1,5 @@
 //! What holds for every size, table and class line. Each law is the contract of a function that does nothing.
-//! A crate above uses a law by calling its function. The call costs nothing, and its `ensures` are facts from there on.
+//! The proofs of a crate above cite the lemmas that the laws follow from; a program may call a law, which costs nothing.
 ghost use Rattle.class_table.specs.Laws.{
   FaultlessIsLegal,
   FaultyTextIsRefused,
@@ -9,15 +9,13 @@ ghost use Rattle.class_table.specs.Laws.{
   LineAloneIsRead,
   MissingLineIsFirstFault,
   NoClassServes,
-  NumberTellsClass,
+  NumberGivesClass,
   ReadLineIsSpelled,
   RefusedTextHasFirstFault,
   ServingIsNeed,
   SpelledTableIsRead,
   TableIsSpelled,
 };
-
-use line_text::laws::law_text;
 
 /// A class serves a request exactly if it has the granules that the request needs.
 pub fn law_need()
@@ -28,7 +26,7 @@ pub fn law_need()
 pub fn law_class_for()
     ensures least { FirstIsLeast }
     ensures none { NoClassServes }
-    ensures number { NumberTellsClass }
+    ensures number { NumberGivesClass }
 {}
 
 /// Classes have no fault exactly if they are a legal table.
@@ -43,9 +41,7 @@ pub fn law_class_line()
     ensures written { SpelledTableIsRead }
     ensures line { LineAloneIsRead }
     ensures spelled { ReadLineIsSpelled }
-{
-    law_text();
-}
+{}
 
 /// The first line of a text is refused exactly if no text with that first line begins with a table, whatever follows. A missing first
 /// line is a fault too. A text that should be one class line is refused at that line, or at the line after it.
@@ -54,6 +50,4 @@ pub fn law_class_line_fault()
     ensures missing { MissingLineIsFirstFault }
     ensures text { RefusedTextHasFirstFault }
     ensures refused { FaultyTextIsRefused }
-{
-    law_text();
-}
+{}

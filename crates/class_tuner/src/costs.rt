@@ -5,10 +5,8 @@ ghost use Rattle.class_table.specs.Steps.{IsStep};
 
 use crate::cost_source::{CostSource, number_at};
 use potential_check::Spans;
-use potential_check::laws::law_crossing_spans;
 use profile_count::Profile;
 use std::alloc::{AllocError, Global};
-use tuner_theory::laws::{law_places, law_spans_fit};
 
 /// The span wastes of a profile as a source of costs: what the requests of a span lose in the class of its last need, in bytes.
 #[derive(Debug, Drop)]
@@ -40,15 +38,13 @@ impl<'a> Costs<'a> {
     }
 
     // the costs of these spans
+    #[tactic(auto, using(tuner_theory::proofs::LawLemmas::few_places))]
     pub(crate) fn over(spans: Spans<'a>) -> Costs<'a>
         requires { IsSpanned spans }
         ensures spans { result.lawful.spans ≡ spans.entry }
         ensures calls { result.calls ≡ 0 }
         ensures few { places spans.entry.counts spans.entry.step ≤ 1023 }
     {
-        law_crossing_spans();
-        law_places();
-        law_spans_fit();
         let lawful = LawfulSpans { spans };
         Costs { lawful, calls: 0 }
     }

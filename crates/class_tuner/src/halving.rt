@@ -6,7 +6,6 @@ ghost use Rattle.tuner_theory.specs.Rows.{IsLeastEnd};
 
 use crate::cost_source::CostSource;
 use std::ops::Range;
-use tuner_theory::laws::law_ends_ascend;
 
 /// The window of ends from `low` to `high`.
 #[derive(Clone, Copy)]
@@ -30,7 +29,7 @@ pub(crate) fn fill_part<C: CostSource>(
     requires row_length { length row.old ≡ C.place_count costs.old }
     requires ends_length { length ends.old ≡ C.place_count costs.old }
     requires order { part.start ≤ part.end }
-    requires behind { part.end ≤ window.high }
+    requires after { part.end ≤ window.high }
     requires window { window.low ≤ window.high }
     requires within { window.high ≤ C.place_count costs.old }
     requires small { (j : ℕ) → slice_index before.now j ≤ 2 ^ 60 }
@@ -48,7 +47,6 @@ pub(crate) fn fill_part<C: CostSource>(
     ensures same_cost { C.cost costs.new ≡ C.cost costs.old }
     ensures same_places { C.place_count costs.new ≡ C.place_count costs.old }
 {
-    law_ends_ascend();
     if part.start < part.end {
         let middle = part.start + (part.end - part.start) / 2;
         let first = window.low.max(middle + 1);

@@ -6,11 +6,11 @@ ghost use Rattle.tuner_theory.specs.Spans.{places};
 ghost use Rattle.tuner_theory.specs.Tuned.{tuned_table};
 
 use arrayvec::ArrayVec;
-use class_table::laws::law_faults;
 use class_table::{ClassTable, MOST_CLASSES};
 use potential_check::Spans;
 
 // The table that the ends give: the need at the end of place 0 in the last row, then on from that end in the row before.
+#[tactic(auto, using(class_table::proofs::LawLemmas::legal_is_faultless))]
 pub(crate) fn table_of_ends(spans: &Spans<'_>, ends: &[Vec<usize>], limit: u8) -> ClassTable
     requires few { limit ≤ 32 }
     requires later { (k i : ℕ) → 1 ≤ k → k ≤ limit → i < places spans.now.counts spans.now.step
@@ -18,7 +18,6 @@ pub(crate) fn table_of_ends(spans: &Spans<'_>, ends: &[Vec<usize>], limit: u8) -
     requires legal { IsLegalTable 1 (tuned_table spans.now.counts spans.now.step limit (number_at (lists_of ends.now))) }
     ensures { result ≡ tuned_table spans.now.counts spans.now.step limit (number_at (lists_of ends.now)) }
 {
-    law_faults();
     let classes = classes_of_ends(spans, ends, limit);
     ClassTable::from_classes(&classes).unwrap()
 }

@@ -16,7 +16,6 @@ use potential_check::{Rows, Sheet, Spans};
 use profile_count::Profile;
 use std::alloc::{AllocError, Global};
 use std::marker::Model;
-use tuner_theory::laws::{law_least_rows, law_rests, law_tuned_table};
 
 /// The result of `tune`: a sheet, and how many span wastes it asked for.
 #[derive(Debug, Drop)]
@@ -82,9 +81,6 @@ fn sheet_of_rows(spans: &Spans<'_>, filled: Filled, limit: u8) -> Sheet
     ensures tuned { IsTuned spans.now.counts spans.now.step limit (sheet_of result) }
     ensures rows { result.rows ≡ lists_of filled.rows.items }
 {
-    law_least_rows();
-    law_rests();
-    law_tuned_table();
     let table = table_of_ends(spans, &filled.ends, limit);
     let rows = Rows::new(filled.rows);
     let waste = rows.number(limit as usize, 0);

@@ -9,11 +9,11 @@ use Rattle.machine_theory.specs.declared.fault.Fault.TheVariants.{Unmapped, Alig
 use Rattle.machine_theory.specs.Access.{IsMapped, IsTagFault, access_fault, is_mapped, stored, tag_fault, touched}
 use Rattle.machine_theory.specs.Address.{logical_tag, moved_by, Touches}
 use Rattle.machine_theory.specs.Memory.{tag_at}
+use Rattle.heap_theory.proofs.Below as laws
 use Rattle.heap_theory.specs.declared.event.Event.{Event}
 use Rattle.heap_theory.specs.declared.event.Event.TheVariants.{Load, Store}
 use Rattle.heap_theory.specs.declared.place.PlaceKind.{PlaceKind}
 use Rattle.heap_theory.specs.AccessLaws.{IsAnswerTo, LoadIsAnswered, StoreIsAnswered, StoreIsDone, AllAccessesAreAnswered}
-use Rattle.heap_theory.specs.Below.{LawsBelow}
 use Rattle.heap_theory.specs.Hardening.{IsFaultAnswer}
 use Rattle.heap_theory.specs.Places.{place_kind}
 use Rattle.heap_theory.specs.Run.{Replay, Answer, variable, store_with, store_step, heap_after, replay_after, access_answer, answer_of, answers, replay_of}
@@ -86,9 +86,9 @@ module _ (h : Heap) (address len : ℕ) (done : Answer) (no_fault : IsFaultAnswe
       differs : (g m p : ℕ) → IsTagFault h.memory address len g m p → ⊥
       differs g m p t = t.differs (t.memory_tag_is ∙ each g t.touches ∙ sym t.pointer_tag_is)
 
-  pub access_is_answered : LawsBelow → 0 < len → IsAnswerTo h address len done (access_answer h done (access_fault h.memory address len))
+  pub access_is_answered : 0 < len → IsAnswerTo h address len done (access_answer h done (access_fault h.memory address len))
   unfolding access_fault
-  access_is_answered laws some = elim (cases_Bool (is_mapped (length h.memory) address len)) [
+  access_is_answered some = elim (cases_Bool (is_mapped (length h.memory) address len)) [
     | inl t ↦ by_tags (mapped_test.0 t) (find (λ g. not (tag_at h.memory g == logical_tag address)) (touched address len))
         (cond-true (is_mapped (length h.memory) address len) tags (Some Unmapped) t)
     | inr f ↦ subst Answers (sym (cond-false (is_mapped (length h.memory) address len) tags (Some Unmapped) f))
@@ -121,13 +121,13 @@ module _ (h : Heap) (address len : ℕ) (done : Answer) (no_fault : IsFaultAnswe
 
 -- ---- loads and stores
 
-pub load_is_answered : LawsBelow → LoadIsAnswered
+pub load_is_answered : LoadIsAnswered
 unfolding answer_of
-load_is_answered laws r v off len some = access_is_answered r.heap (moved_by (variable r v) off) len _ (λ is. is) laws some
+load_is_answered r v off len some = access_is_answered r.heap (moved_by (variable r v) off) len _ (λ is. is) some
 
-pub store_is_answered : LawsBelow → StoreIsAnswered
+pub store_is_answered : StoreIsAnswered
 unfolding answer_of
-store_is_answered laws r v off len byte some = access_is_answered r.heap (moved_by (variable r v) off) len Silent (λ is. is) laws some
+store_is_answered r v off len byte some = access_is_answered r.heap (moved_by (variable r v) off) len Silent (λ is. is) some
 
 -- a fault is not silent
 not_silent : (h : Heap) (fault : Fault) → access_answer h Silent (Some fault) ≡ Silent → ⊥
@@ -156,17 +156,17 @@ unfolding answers replay_of
 answer_at first [] e after = refl
 answer_at first (event ∷ before) e after = answer_at (replay_after first event) before e after
 
-pub accesses_are_answered : LawsBelow → AllAccessesAreAnswered
-accesses_are_answered laws first events = record {
+pub accesses_are_answered : AllAccessesAreAnswered
+accesses_are_answered first events = record {
   loads = λ before after v off len is some. (
     answer_of (replay_of first before) (Load v off len),
     at before after (Load v off len) is,
-    load_is_answered laws (replay_of first before) v off len some,
+    load_is_answered (replay_of first before) v off len some,
   );
   stores = λ before after v off len byte is some. (
     answer_of (replay_of first before) (Store v off len byte),
     at before after (Store v off len byte) is,
-    store_is_answered laws (replay_of first before) v off len byte some,
+    store_is_answered (replay_of first before) v off len byte some,
   );
 }
   where

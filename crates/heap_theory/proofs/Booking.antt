@@ -14,7 +14,7 @@ use Rattle.heap_theory.specs.Sound.{IsSoundHeap}
 use Rattle.heap_theory.specs.State.{State, Heap, slot_in, state_at, last_tag, is_fresh, first_heap}
 use Rattle.heap_theory.specs.State.State.{Fresh, Live, Dead}
 use Rattle.heap_theory.proofs.FirstHeap.{get_or-replicate_any}
-use Rattle.heap_theory.proofs.Found.{Contains-head, Contains-behind, Contains-cases}
+use Rattle.heap_theory.proofs.Found.{Contains-head, Contains-tail, Contains-cases}
 use Rattle.heap_theory.proofs.HeapKept.{in_states}
 use Rattle.heap_theory.proofs.Marks.{one_mark, not_marked, chain_bytes, chain_mark, chain_dead, list_mark, list_dead, list_weaker, one_number, IsNumberOf, number_is}
 use Rattle.heap_theory.proofs.Releasing.{list_of-here, list_of-there}
@@ -75,7 +75,7 @@ module _ (h : Heap) (s : ℕ) (state : State) (memory : List Granule) (total see
     f.2,
     marked_there r f.0 (λ is. out (subst (Contains (r ∷ rest)) is (Contains-head r rest))) f.3,
     f.4,
-    list_stays class f.0 rest (λ there. out (Contains-behind r rest s there)) f.5,
+    list_stays class f.0 rest (λ there. out (Contains-tail r rest s there)) f.5,
   )
 
   chain_stays : (from : ℕ) (queue : List ℕ) → total ≡ h.total → (Contains queue s → ⊥) → IsChain h from queue → IsChain changed from queue
@@ -84,7 +84,7 @@ module _ (h : Heap) (s : ℕ) (state : State) (memory : List Granule) (total see
   chain_stays from (r ∷ rest) same out c = (
     c.0,
     marked_there r from (λ is. out (subst (Contains (r ∷ rest)) is (Contains-head r rest))) c.1,
-    chain_stays (from + block_bytes (slot_in h r)) rest same (λ there. out (Contains-behind r rest s there)) c.2,
+    chain_stays (from + block_bytes (slot_in h r)) rest same (λ there. out (Contains-tail r rest s there)) c.2,
   )
 
   bytes_same : (queue : List ℕ) → bytes_in changed queue ≡ bytes_in h queue
@@ -126,7 +126,7 @@ module _ (h : Heap) (s : ℕ) (state : State) (memory : List Granule) (total see
   chain_push from (r ∷ rest) in_range d grows out c = (
     c.0,
     marked_there r from (λ is. out (subst (Contains (r ∷ rest)) is (Contains-head r rest))) c.1,
-    chain_push (from + block_bytes (slot_in h r)) rest in_range d grows (λ there. out (Contains-behind r rest s there)) c.2,
+    chain_push (from + block_bytes (slot_in h r)) rest in_range d grows (λ there. out (Contains-tail r rest s there)) c.2,
   )
 
   made_dead : (queue : List ℕ) (lists : List (List ℕ)) → s < slot_count h.layout → HasMark state h.total → total ≡ h.total + block_bytes (slot_in h s) →
@@ -226,8 +226,8 @@ module _ (h : Heap) (queue : List ℕ) (lists : List (List ℕ)) (number class s
       let f = front in
       elim (cases_eq other number) [
         | inl same ↦
-            let behind : Contains rest s = subst (λ list. Contains list s) (list_of-here lists number rest inside) (subst (λ k. Contains (list_of (slice_set lists number rest) k) s) same there) in
-            let below : f.0 < f.0 = list_mark h class f.0 rest s f.0 f.5 behind f.3 in
+            let after : Contains rest s = subst (λ list. Contains list s) (list_of-here lists number rest inside) (subst (λ k. Contains (list_of (slice_set lists number rest) k) s) same there) in
+            let below : f.0 < f.0 = list_mark h class f.0 rest s f.0 f.5 after f.3 in
             omega arith
         | inr not ↦
             let in_lists : other < length lists = subst (λ k. other < k) (length-set lists number rest) within in
@@ -254,7 +254,7 @@ module _ (h : Heap) (queue : List ℕ) (lists : List (List ℕ)) (number class s
     | inl same ↦
         subst (λ k. Contains (list_of (slice_set lists number rest) k) r) (sym same)
         (subst (λ list. Contains list r) (sym (list_of-here lists number rest inside))
-        (⊎_elim (λ front. absurd (another (sym front))) (λ behind. behind)
+        (⊎_elim (λ front. absurd (another (sym front))) (λ after. after)
         (Contains-cases s rest r (subst (λ list. Contains list r) (ap (list_of lists) same ∙ is) there))))
     | inr not ↦ subst (λ list. Contains list r) (sym (list_of-there lists number other rest not)) there
   ]

@@ -11,7 +11,6 @@ use Rattle.machine_theory.specs.Memory.{written}
 use Rattle.class_table.specs.Layout.{Partition, slot_count}
 use Rattle.heap_theory.specs.declared.fault.FreeError.{FreeError}
 use Rattle.heap_theory.specs.declared.fault.NullCause.{NullCause}
-use Rattle.heap_theory.specs.Below.{LawsBelow}
 use Rattle.heap_theory.specs.Calls.{Step, next_tag, given_out, freed, resized, with_payload, payload_bytes, moved, malloc_with, malloc_step, calloc_with, calloc_step, free_with, free_step, stays_in_class, move_with, realloc_with, realloc_step}
 use Rattle.heap_theory.specs.Choice.{Chunk, IsReusable, IsGiven, IsLiveChunk, is_released, slot_for_request, chunk_at}
 use Rattle.heap_theory.specs.Generations.{slot_if_moved}
@@ -150,9 +149,9 @@ not_reusable h s size t reusable live = ⊎_elim
 
 -- ---- a chunk is moved
 
-module _ (laws : LawsBelow) where
+module _ where
   given_sound : (h : Heap) (n s : ℕ) → IsSoundHeap h → IsGiven h n s → IsSoundHeap (given_out h s n)
-  given_sound h n s sound given = IsSoundHeap-given_out laws h s n sound given.reusable.in_range given.room
+  given_sound h n s sound given = IsSoundHeap-given_out h s n sound given.reusable.in_range given.room
 
   -- what stands before the old chunk is freed
   module _ (h : Heap) (p : ℕ) (chunk : Chunk) (s n : ℕ) (sound : IsSoundHeap h) (c : IsLiveChunk h p chunk) (given : IsGiven h n s) where
@@ -161,7 +160,7 @@ module _ (laws : LawsBelow) where
 
     sound_copied : IsSoundHeap copied
     unfolding copied
-    sound_copied = IsSoundHeap-with_payload laws (given_out h s n) s (payload_bytes h chunk.slot (min chunk.size n)) (given_sound h n s sound given)
+    sound_copied = IsSoundHeap-with_payload (given_out h s n) s (payload_bytes h chunk.slot (min chunk.size n)) (given_sound h n s sound given)
 
     another : chunk.slot ≡ s → ⊥
     another is = not_reusable h chunk.slot chunk.size (logical_tag p) (subst (IsReusable h) (sym is) given.reusable) c.live
@@ -192,7 +191,7 @@ module _ (laws : LawsBelow) where
 
     pub IsSoundHeap-moved : IsSoundHeap (moved h chunk s n)
     unfolding moved copied
-    IsSoundHeap-moved = IsSoundHeap-freed laws copied chunk.slot chunk.size (logical_tag p) sound_copied in_range_copied live_copied
+    IsSoundHeap-moved = IsSoundHeap-freed copied chunk.slot chunk.size (logical_tag p) sound_copied in_range_copied live_copied
 
     IsKept-moved : IsKept h (moved h chunk s n) (Some s)
     IsKept-moved = record { sound = IsSoundHeap-moved; change = record { n = n; given = given; kept = KeepsGiven-moved; live = live_moved } }
@@ -221,7 +220,7 @@ module _ (laws : LawsBelow) where
       by_slot (Ok s) was =
           let given = slot_for_request-is h n s sound was in
           record {
-            sound = IsSoundHeap-with_payload laws (given_out h s n) s (replicate (16 * chunk_granules n) 0) (given_sound h n s sound given);
+            sound = IsSoundHeap-with_payload (given_out h s n) s (replicate (16 * chunk_granules n) 0) (given_sound h n s sound given);
             change = record {
               n = n;
               given = given;
@@ -244,7 +243,7 @@ module _ (laws : LawsBelow) where
       by_chunk (Ok chunk) was =
           let c = chunk_at-is h p chunk was in
           record {
-            sound = IsSoundHeap-freed laws h chunk.slot chunk.size (logical_tag p) sound c.in_range c.live;
+            sound = IsSoundHeap-freed h chunk.slot chunk.size (logical_tag p) sound c.in_range c.live;
             change = KeepsGiven-freed h chunk.slot chunk.size (logical_tag p) (in_states h chunk.slot sound c.in_range) c.live;
           }
 
@@ -267,7 +266,7 @@ module _ (laws : LawsBelow) where
           let c = chunk_at-is h p chunk was in
           IsKept-either h (stays_in_class h chunk n) _ _ None _
           (λ stays. record {
-            sound = IsSoundHeap-resized laws h chunk.slot n chunk.size (logical_tag p) sound c.in_range c.live (room_in_place h chunk n stays (sound.slots.wide chunk.slot c.in_range));
+            sound = IsSoundHeap-resized h chunk.slot n chunk.size (logical_tag p) sound c.in_range c.live (room_in_place h chunk n stays (sound.slots.wide chunk.slot c.in_range));
             change = KeepsGiven-resized h chunk.slot n chunk.size (logical_tag p) (in_states h chunk.slot sound c.in_range) c.live;
           })
           (λ _. by_slot chunk c (slot_for_request h n) refl)
@@ -277,5 +276,5 @@ module _ (laws : LawsBelow) where
   IsKept-store h address bytes sound = by_fault (access_fault h.memory address (length bytes))
     where
       by_fault : (o : Option Fault) → IsKept h (store_with h address bytes o) None
-      by_fault None = record { sound = IsSoundHeap-written laws h _ bytes sound; change = KeepsGiven-written h _ bytes }
+      by_fault None = record { sound = IsSoundHeap-written h _ bytes sound; change = KeepsGiven-written h _ bytes }
       by_fault (Some fault) = IsKept-refl h sound

@@ -1,5 +1,5 @@
 -- What `find`, `filter` and `position` give.
-use Rattle.std.proofs.Common.{◌≡◌, ◌⊎◌, ℕ, zero, suc, ◌<◌, Bool, true, false, cond, List, [], ◌∷◌, length, get_or, refl, sym, ap, ◌∙◌, subst, inl, inr, arith, Some, None, Option}
+use Rattle.std.proofs.Common.{◌≡◌, ◌⊎◌, ℕ, zero, suc, ◌<◌, Bool, true, false, cond, List, [], ◌∷◌, length, get_or, refl, sym, ap, ◌∙◌, subst, inl, inr, arith, Some, None, Option, ◌++◌, ⊎_elim}
 use Rattle.std.specs.Prelude.{slice_get, All, AllPairs, Contains}
 use Rattle.std.specs.List.{find, filter, list_all, position, position_or_len, range_with_len}
 use Rattle.std.proofs.lemmas.Bool.{both_ways, cases_Bool, cases_lt, cond_both, cond-true, and_from, and_parts, lt-ltb}
@@ -48,8 +48,8 @@ find_only {X} p xs x there passes only = by (find p xs) refl
 pub in_filter : {X : Type 0} (p : X → Bool) (xs : List X) (x : X) → Contains xs x → p x ≡ true → Contains (filter p xs) x
 in_filter {X} p xs x there passes = at xs there.0 there.1 there.2
   where
-    behind : (ys : List X) (y : X) → Contains ys x → Contains (y ∷ ys) x
-    behind ys y c = (suc c.0, omega (arith, c.1), c.2)
+    after : (ys : List X) (y : X) → Contains ys x → Contains (y ∷ ys) x
+    after ys y c = (suc c.0, omega (arith, c.1), c.2)
 
     at : (xs : List X) (k : ℕ) → k < length xs → get_or xs k x ≡ x → Contains (filter p xs) x
     at [] k within is = absurd (omega arith)
@@ -57,7 +57,7 @@ in_filter {X} p xs x there passes = at xs there.0 there.1 there.2
         subst (λ ys. Contains ys x) (sym (cond-true (p y) (y ∷ filter p ys) (filter p ys) (subst (λ z. p z ≡ true) (sym is) passes))) (0, omega arith, is)
     at (y ∷ ys) (suc k) within is =
         let rest : Contains (filter p ys) x = at ys k (omega arith) is in
-        cond_both (p y) (y ∷ filter p ys) (filter p ys) (λ zs. Contains zs x) (λ _. behind (filter p ys) y rest) (λ _. rest)
+        cond_both (p y) (y ∷ filter p ys) (filter p ys) (λ zs. Contains zs x) (λ _. after (filter p ys) y rest) (λ _. rest)
 
 -- the first element that passes a filter
 pub first_in_filter : {X : Type 0} (p : X → Bool) (xs : List X) → slice_get (filter p xs) 0 ≡ find p xs
@@ -90,8 +90,8 @@ Contains-range n s below = (s, subst (λ m. s < m) (sym (length-range_with_len 0
 pub Contains-head : {X : Type 0} (x : X) (xs : List X) → Contains (x ∷ xs) x
 Contains-head x xs = (0, omega arith, refl)
 
-pub Contains-behind : {X : Type 0} (y : X) (xs : List X) (x : X) → Contains xs x → Contains (y ∷ xs) x
-Contains-behind y xs x there = (suc there.0, omega (arith, there.1), there.2)
+pub Contains-tail : {X : Type 0} (y : X) (xs : List X) (x : X) → Contains xs x → Contains (y ∷ xs) x
+Contains-tail y xs x there = (suc there.0, omega (arith, there.1), there.2)
 
 pub Contains-cases : {X : Type 0} (y : X) (xs : List X) (x : X) → Contains (y ∷ xs) x → (y ≡ x) ⊎ Contains xs x
 Contains-cases {X} y xs x there = at there.0 there.1 there.2
@@ -102,6 +102,12 @@ Contains-cases {X} y xs x there = at there.0 there.1 there.2
 
 pub Contains-none : {X : Type 0} (x : X) → Contains [] x → ⊥
 Contains-none x there = omega (arith, there.1)
+
+pub Contains-last_cases : {X : Type 0} (xs : List X) (x y : X) → Contains (xs ++ x ∷ []) y → (x ≡ y) ⊎ Contains xs y
+Contains-last_cases [] x y there = Contains-cases x [] y there
+Contains-last_cases (z ∷ zs) x y there =
+    ⊎_elim (λ is. inr (0, omega arith, is)) (λ more. ⊎_elim inl (λ before. inr (Contains-tail z zs y before)) (Contains-last_cases zs x y more))
+    (Contains-cases z (zs ++ x ∷ []) y there)
 
 pub AllPairs-cons : {X : Type 0} (R : X → X → Type 0) (x : X) (xs : List X) → ((y : X) → Contains xs y → R x y) → AllPairs R xs → AllPairs R (x ∷ xs)
 AllPairs-cons R x xs front rest = pairs

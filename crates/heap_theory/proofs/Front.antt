@@ -53,7 +53,7 @@ module _ (h : Heap) (queue : List ℕ) (lists : List (List ℕ)) (number class :
           let here : mark_of (state_at h s) ≡ f.0 = mark_of-is (state_at h s) f.0 f.3 in
           elim (Contains-cases s rest r (subst (λ list. Contains list r) is (listed r c))) [
             | inl same ↦ subst (λ q. mark_of (state_at h q) ≤ mark_of (state_at h s)) same (omega arith)
-            | inr behind ↦ omega (arith, list_mark h class f.0 rest r (mark_of (state_at h r)) f.5 behind (marked r c))
+            | inr after ↦ omega (arith, list_mark h class f.0 rest r (mark_of (state_at h r)) f.5 after (marked r c))
           ]
 
       only : IsFreedList h class b.from (s ∷ rest) → Contains (slots_with h (is_released h) class) s → (r : ℕ) → IsCandidate h (is_released h) class r →

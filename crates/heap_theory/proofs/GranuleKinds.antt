@@ -4,9 +4,9 @@ use Rattle.std.specs.Prelude.{◌==◌, nat_le, nat_lt}
 use Rattle.std.proofs.lemmas.Bool.{and_from, cases_eq, cases_lt, cond-true, cond-false, eq-eqb, false_from_ne_true, le-leb, lt-ltb, ltb-true, and_parts, ne_eqb}
 use Rattle.machine_theory.specs.Memory.{is_among}
 use Rattle.class_table.specs.Layout.{Covers, slot_over}
+use Rattle.heap_theory.proofs.Below as laws
 use Rattle.heap_theory.specs.declared.place.PlaceKind.{PlaceKind}
 use Rattle.heap_theory.specs.declared.place.PlaceKind.TheVariants.{Slack, Header, Tail, Dead as DeadChunk, Other}
-use Rattle.heap_theory.specs.Below.{LawsBelow}
 use Rattle.heap_theory.specs.Hardening.{IsChunkGranule, IsPayloadGranule, IsLive, IsDead}
 use Rattle.heap_theory.specs.KindLaws.{IsOfItsKind, GranuleIsOfItsKind}
 use Rattle.heap_theory.specs.Places.{kind_of_chunk, kind_in_slot, kind_at, place_kind}
@@ -21,7 +21,7 @@ is_among-from first count n from to =
 is_among-to : (first count n : ℕ) → is_among first count n ≡ true → n < first + count
 is_among-to first count n among = ltb-true n (first + count) (and_parts (nat_le first n) (nat_lt n (first + count)) among).1
 
-module _ (laws : LawsBelow) (h : Heap) (sound : IsSoundHeap h) (g : ℕ) where
+module _ (h : Heap) (sound : IsSoundHeap h) (g : ℕ) where
   -- ---- the kind of a granule whose place is known
 
   slack_is : ((s : ℕ) → IsSlot h s → Covers (slot_in h s) g → ⊥) → place_kind h g ≡ Slack
@@ -130,5 +130,5 @@ module _ (laws : LawsBelow) (h : Heap) (sound : IsSoundHeap h) (g : ℕ) where
     tail = (λ is. subst Means is means, λ at. tail_is at.0 at.1 at.2);
   }
 
-pub is_of_its_kind : LawsBelow → GranuleIsOfItsKind
-is_of_its_kind laws h sound g = of_its_kind laws h sound g
+pub is_of_its_kind : GranuleIsOfItsKind
+is_of_its_kind h sound g = of_its_kind h sound g

@@ -4,7 +4,7 @@ use Rattle.std.specs.Prelude.{ℤ}
 use Rattle.machine_theory.specs.Address.{logical_tag, place_of, with_tag, moved_by, region_start, Touches}
 use Rattle.machine_theory.specs.Memory.{tag_at}
 use Rattle.class_table.specs.Layout.{end_of}
-use Rattle.heap_theory.specs.Below.{LawsBelow}
+use Rattle.heap_theory.proofs.Below as laws
 use Rattle.heap_theory.specs.Generations.{Run}
 use Rattle.heap_theory.specs.Hardening.{IsAccess, Faults, IsChunkGranule, IsLive, IsDead, HasGeneration, WasFreed, NullOrTagged, BookkeepingOutOfReach, InsideSucceeds, NeighboursFault, FreedFaults, ChunkTagsNotZero, ChunkTagsDiffer}
 use Rattle.heap_theory.specs.Run.{variable}
@@ -28,7 +28,7 @@ chunk_tags_not_zero w sound s g c = chunk_tag_some w.replay.heap s g sound.heap 
 pub chunk_tags_of_two : (w : Run) → IsSoundRun w → ChunkTagsDiffer w
 chunk_tags_of_two w sound s r g k parity c d = chunk_tags_differ w.replay.heap s r g k sound.heap parity c d
 
-module _ (laws : LawsBelow) (w : Run) (sound : IsSoundRun w) where
+module _ (w : Run) (sound : IsSoundRun w) where
   small : length w.replay.heap.memory ≤ 262144
   small = subst (λ n. n ≤ 262144) (sym sound.heap.long) sound.heap.region.most
 

@@ -8,7 +8,7 @@ use Rattle.std.proofs.lemmas.List.Quantifiers.{position-Some}
 use Rattle.std.proofs.lemmas.Option.{slice_get-get_or, slice_get_within}
 use Rattle.machine_theory.specs.Memory.{Granule, IsMemory, word_at, tag_at, tagged, written}
 use Rattle.class_table.specs.Layout.{Partition, IsPartition, slot_count, slot_of}
-use Rattle.heap_theory.specs.Below.{LawsBelow}
+use Rattle.heap_theory.proofs.Below as laws
 use Rattle.heap_theory.specs.Choice.{is_released, mark_of}
 use Rattle.heap_theory.specs.Header.{Standing, Header, FitsWords, code_of, standing_of, first_word, second_word, header_of, header_at, with_header, shown_state, size_of, standing_in, class_number, header_for}
 use Rattle.heap_theory.specs.Header.Standing.{Fresh, Live, Quarantined, Freed}
@@ -65,63 +65,63 @@ bytes_fit : (n : ℕ) → All (λ b. b < 256) (to_le_bytes w64 n)
 bytes_fit n = All-from_recursion (λ b. b < 256) (to_le_bytes w64 n)
     (omega arith, (omega arith, (omega arith, (omega arith, (omega arith, (omega arith, (omega arith, (omega arith, tt))))))))
 
-pub with_header-words : LawsBelow → (memory : List Granule) (g : ℕ) (header : Header) →
+pub with_header-words : (memory : List Granule) (g : ℕ) (header : Header) →
     with_header memory g header ≡ written (16 * g + 8) (to_le_bytes w64 (second_word header)) (written (16 * g) (to_le_bytes w64 (first_word header)) memory)
 unfolding with_header
-with_header-words laws memory g header = sym (laws.in_parts (16 * g) (to_le_bytes w64 (first_word header)) (to_le_bytes w64 (second_word header)) memory)
+with_header-words memory g header = sym (laws.in_parts (16 * g) (to_le_bytes w64 (first_word header)) (to_le_bytes w64 (second_word header)) memory)
 
-pub IsMemory-with_header : LawsBelow → (memory : List Granule) (g : ℕ) (header : Header) → IsMemory memory → IsMemory (with_header memory g header)
+pub IsMemory-with_header : (memory : List Granule) (g : ℕ) (header : Header) → IsMemory memory → IsMemory (with_header memory g header)
 unfolding with_header
-IsMemory-with_header laws memory g header is =
+IsMemory-with_header memory g header is =
     laws.memory_written (16 * g) (to_le_bytes w64 (first_word header) ++ to_le_bytes w64 (second_word header)) memory
     (All-append (λ b. b < 256) (to_le_bytes w64 (first_word header)) (to_le_bytes w64 (second_word header)) (bytes_fit (first_word header)) (bytes_fit (second_word header))) is
 
-pub header_at-with_header : LawsBelow → (memory : List Granule) (g : ℕ) (header : Header) → IsMemory memory → g < length memory → FitsWords header →
+pub header_at-with_header : (memory : List Granule) (g : ℕ) (header : Header) → IsMemory memory → g < length memory → FitsWords header →
     header_at (with_header memory g header) g ≡ header
 unfolding header_at word_at
-header_at-with_header laws memory g header is within fits =
+header_at-with_header memory g header is within fits =
     let fit = words_fit header fits in
     let inner_is : IsMemory (written (16 * g) (to_le_bytes w64 (first_word header)) memory) = laws.memory_written (16 * g) (to_le_bytes w64 (first_word header)) memory (bytes_fit (first_word header)) is in
     let long = laws.written_length (16 * g) (to_le_bytes w64 (first_word header)) memory in
     let first : word_at (with_header memory g header) (16 * g) ≡ first_word header =
-    ap (λ m. word_at m (16 * g)) (with_header-words laws memory g header)
+    ap (λ m. word_at m (16 * g)) (with_header-words memory g header)
     ∙ ap (from_le_bytes w64) (laws.other_bytes (16 * g + 8) (16 * g) 8 (to_le_bytes w64 (second_word header)) (written (16 * g) (to_le_bytes w64 (first_word header)) memory) (inl (omega arith)))
     ∙ laws.word_read (16 * g) (first_word header) memory is fit.0 (omega arith) in
     let second : word_at (with_header memory g header) (16 * g + 8) ≡ second_word header =
-    ap (λ m. word_at m (16 * g + 8)) (with_header-words laws memory g header)
+    ap (λ m. word_at m (16 * g + 8)) (with_header-words memory g header)
     ∙ laws.word_read (16 * g + 8) (second_word header) (written (16 * g) (to_le_bytes w64 (first_word header)) memory) inner_is fit.1 (omega arith) in
     (λ i. header_of (first i) (second i)) ∙ header_of-words header fits
 
 -- bytes outside of a granule leave its header as it is
-pub header_at-written : LawsBelow → (i g : ℕ) (new : List ℕ) (memory : List Granule) → (i + length new ≤ 16 * g) ⊎ (16 * g + 16 ≤ i) → header_at (written i new memory) g ≡ header_at memory g
+pub header_at-written : (i g : ℕ) (new : List ℕ) (memory : List Granule) → (i + length new ≤ 16 * g) ⊎ (16 * g + 16 ≤ i) → header_at (written i new memory) g ≡ header_at memory g
 unfolding header_at word_at
-header_at-written laws i g new memory out =
+header_at-written i g new memory out =
     λ j. header_of
     (from_le_bytes w64 (laws.other_bytes i (16 * g) 8 new memory (apart (16 * g) (omega arith, omega arith)) j))
     (from_le_bytes w64 (laws.other_bytes i (16 * g + 8) 8 new memory (apart (16 * g + 8) (omega arith, omega arith)) j))
   where
     apart : (at : ℕ) → (16 * g ≤ at) × (at + 8 ≤ 16 * g + 16) → (at + 8 ≤ i) ⊎ (i + length new ≤ at)
-    apart at inside = ⊎_elim (λ before. inr (omega (arith, inside.0))) (λ behind. inl (omega (arith, inside.1))) out
+    apart at inside = ⊎_elim (λ before. inr (omega (arith, inside.0))) (λ after. inl (omega (arith, inside.1))) out
 
-pub header_at-tagged : LawsBelow → (first count tag g : ℕ) (memory : List Granule) → header_at (tagged first count tag memory) g ≡ header_at memory g
+pub header_at-tagged : (first count tag g : ℕ) (memory : List Granule) → header_at (tagged first count tag memory) g ≡ header_at memory g
 unfolding header_at word_at
-header_at-tagged laws first count tag g memory =
+header_at-tagged first count tag g memory =
     λ j. header_of
     (from_le_bytes w64 (laws.bytes_under_tags first count tag (16 * g) 8 memory j))
     (from_le_bytes w64 (laws.bytes_under_tags first count tag (16 * g + 8) 8 memory j))
 
-pub header_at-elsewhere : LawsBelow → (memory : List Granule) (g k : ℕ) (header : Header) → k ≢ g → header_at (with_header memory g header) k ≡ header_at memory k
+pub header_at-elsewhere : (memory : List Granule) (g k : ℕ) (header : Header) → k ≢ g → header_at (with_header memory g header) k ≡ header_at memory k
 unfolding with_header
-header_at-elsewhere laws memory g k header differs =
-    header_at-written laws (16 * g) k (to_le_bytes w64 (first_word header) ++ to_le_bytes w64 (second_word header)) memory (elim (cases_order k g) [
+header_at-elsewhere memory g k header differs =
+    header_at-written (16 * g) k (to_le_bytes w64 (first_word header) ++ to_le_bytes w64 (second_word header)) memory (elim (cases_order k g) [
       | inl same ↦ absurd (differs same)
       | inr (inl before) ↦ inr (omega arith)
-      | inr (inr behind) ↦ inl (omega arith)
+      | inr (inr after) ↦ inl (omega arith)
     ])
 
-pub tag_at-with_header : LawsBelow → (memory : List Granule) (g k : ℕ) (header : Header) → tag_at (with_header memory g header) k ≡ tag_at memory k
+pub tag_at-with_header : (memory : List Granule) (g k : ℕ) (header : Header) → tag_at (with_header memory g header) k ≡ tag_at memory k
 unfolding with_header
-tag_at-with_header laws memory g k header = laws.tag_under_bytes (16 * g) k (to_le_bytes w64 (first_word header) ++ to_le_bytes w64 (second_word header)) memory
+tag_at-with_header memory g k header = laws.tag_under_bytes (16 * g) k (to_le_bytes w64 (first_word header) ++ to_le_bytes w64 (second_word header)) memory
 
 -- ---- the headers of a heap
 
@@ -138,8 +138,8 @@ shown_state-header_for h s next = by (state_at h s)
     ]
 
 -- the class at its number
-pub class_number-is : LawsBelow → (layout : Partition) (s : ℕ) → s < slot_count layout → slice_get layout.classes (class_number layout s) ≡ Some (slot_of layout s).class
-class_number-is laws layout s within = by (position (λ class. class == (slot_of layout s).class) layout.classes) refl
+pub class_number-is : (layout : Partition) (s : ℕ) → s < slot_count layout → slice_get layout.classes (class_number layout s) ≡ Some (slot_of layout s).class
+class_number-is layout s within = by (position (λ class. class == (slot_of layout s).class) layout.classes) refl
   where
     by : (o : Option ℕ) → position (λ class. class == (slot_of layout s).class) layout.classes ≡ o → slice_get layout.classes (unwrap_or o 0) ≡ Some (slot_of layout s).class
     by (Some number) was =
@@ -151,12 +151,12 @@ class_number-is laws layout s within = by (position (λ class. class == (slot_of
         position-None (λ class. class == (slot_of layout s).class) layout.classes was listed.0 (slot_of layout s).class listed.1 in
         absurd (both_ways _ no (eq-eqb _ _ listed.2))
 
-pub header_for-fits : LawsBelow → (h : Heap) (s next : ℕ) → IsSoundHeap h → s < slot_count h.layout → next < 2 ^ 32 → h.total < 2 ^ 64 → FitsWords (header_for h s next)
+pub header_for-fits : (h : Heap) (s next : ℕ) → IsSoundHeap h → s < slot_count h.layout → next < 2 ^ 32 → h.total < 2 ^ 64 → FitsWords (header_for h s next)
 unfolding header_for
-header_for-fits laws h s next sound within link total = record {
+header_for-fits h s next sound within link total = record {
   size = size_fits (state_at h s) (sound.tagged s within).room;
   tag = tag_fits (state_at h s) (sound.tagged s within).chunk_tag (sound.tagged s within).is_chunk_tag;
-  class = omega (arith, slice_get_within h.layout.classes (class_number h.layout s) (slot_in h s).class (class_number-is laws h.layout s within), sound.region.table.few);
+  class = omega (arith, slice_get_within h.layout.classes (class_number h.layout s) (slot_in h s).class (class_number-is h.layout s within), sound.region.table.few);
   next = link;
   mark = mark_fits (state_at h s) (sound.marks s);
 }
@@ -181,19 +181,19 @@ header_for-fits laws h s next sound within link total = record {
 
 -- ---- links
 
-pub next_in-own : LawsBelow → (layout : Partition) (memory : List Granule) (s : ℕ) (header : Header) → IsPartition layout → IsMemory memory → length memory ≡ layout.granules →
+pub next_in-own : (layout : Partition) (memory : List Granule) (s : ℕ) (header : Header) → IsPartition layout → IsMemory memory → length memory ≡ layout.granules →
     s < slot_count layout → FitsWords header → next_in layout (with_header memory (slot_of layout s).start header) s ≡ header.next
-next_in-own laws layout memory s header is memory_is long within fits =
+next_in-own layout memory s header is memory_is long within fits =
     let order = laws.in_order 1 layout is.table in
     ap (λ (header : Header). header.next)
-    (header_at-with_header laws memory (slot_of layout s).start header memory_is (omega (arith, order.inside s within, order.wide s within)) fits)
+    (header_at-with_header memory (slot_of layout s).start header memory_is (omega (arith, order.inside s within, order.wide s within)) fits)
 
-pub next_in-other : LawsBelow → (layout : Partition) (memory : List Granule) (s r : ℕ) (header : Header) → IsPartition layout → s < slot_count layout → r < slot_count layout → r ≢ s →
+pub next_in-other : (layout : Partition) (memory : List Granule) (s r : ℕ) (header : Header) → IsPartition layout → s < slot_count layout → r < slot_count layout → r ≢ s →
     next_in layout (with_header memory (slot_of layout s).start header) r ≡ next_in layout memory r
-next_in-other laws layout memory s r header is within there differs =
+next_in-other layout memory s r header is within there differs =
     let order = laws.in_order 1 layout is.table in
-    ap (λ (header : Header). header.next) (header_at-elsewhere laws memory (slot_of layout s).start (slot_of layout r).start header (λ same. elim (cases_order r s) [
+    ap (λ (header : Header). header.next) (header_at-elsewhere memory (slot_of layout s).start (slot_of layout r).start header (λ same. elim (cases_order r s) [
       | inl one ↦ differs one
       | inr (inl before) ↦ omega (arith, order.apart r s before within, order.wide r there)
-      | inr (inr behind) ↦ omega (arith, order.apart s r behind there, order.wide s within)
+      | inr (inr after) ↦ omega (arith, order.apart s r after there, order.wide s within)
     ]))

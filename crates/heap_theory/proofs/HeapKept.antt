@@ -6,7 +6,7 @@ use Rattle.std.proofs.lemmas.List.{get_or-set_same, get_or-set_other, length-set
 use Rattle.machine_theory.specs.Memory.{Granule, tag_at, tagged, written}
 use Rattle.machine_theory.specs.Seed.{next_seed}
 use Rattle.class_table.specs.Layout.{Slot, end_of, slot_count, Covers, block_bytes}
-use Rattle.heap_theory.specs.Below.{LawsBelow}
+use Rattle.heap_theory.proofs.Below as laws
 use Rattle.heap_theory.specs.Calls.{next_tag, chunk_tagged, given_out, freed, resized, with_payload}
 use Rattle.heap_theory.specs.Sound.{IsTagOf, IsChunkTag, IsTaggedSlot, IfDead, IsSoundHeap}
 use Rattle.heap_theory.specs.State.{State, Heap, slot_in, state_at, last_tag, chunk_granules, chunk_of, payload_start}
@@ -126,7 +126,7 @@ IsTagOf-live h s n t sound in_range live =
     let both : IsChunkTag s (Live n t) slot.chunk_tag = subst (λ x. IsChunkTag s x slot.chunk_tag) live slot.is_chunk_tag in
     subst (λ x. IsTagOf s (last_tag x)) (sym live) both.0
 
-module _ (laws : LawsBelow) where
+module _ where
   pub length-chunk_tagged : (slot : Slot) (n tag : ℕ) (memory : List Granule) → length (chunk_tagged slot n tag memory) ≡ length memory
   length-chunk_tagged slot n tag memory =
       laws.tagged_length _ _ 0 (tagged (payload_start slot) (chunk_granules n) tag memory) ∙ laws.tagged_length _ _ tag memory
@@ -168,7 +168,7 @@ module _ (laws : LawsBelow) where
   pub IsSoundHeap-given_out : (h : Heap) (s n : ℕ) → IsSoundHeap h → s < slot_count h.layout → chunk_granules n < (slot_in h s).class → IsSoundHeap (given_out h s n)
   unfolding given_out
   IsSoundHeap-given_out h s n sound in_range room =
-      let is_tag = IsTagOf-next_tag laws h s sound.tag_below in
+      let is_tag = IsTagOf-next_tag h s sound.tag_below in
       IsSoundHeap-live h s n (next_tag h s) (next_seed h.seed) (next_tag h s) sound in_range room is_tag is_tag.below
 
   pub IsSoundHeap-resized : (h : Heap) (s n m t : ℕ) → IsSoundHeap h → s < slot_count h.layout → state_at h s ≡ Live m t → chunk_granules n < (slot_in h s).class → IsSoundHeap (resized h s n)
@@ -182,7 +182,7 @@ module _ (laws : LawsBelow) where
       let inside = in_region h s sound in_range in
       let old = sound.tagged s in_range in
       let room : chunk_granules n < (slot_in h s).class = subst (λ x. chunk_of x < (slot_in h s).class) live old.room in
-      let is_tag = IsTagOf-next_tag laws h s sound.tag_below in
+      let is_tag = IsTagOf-next_tag h s sound.tag_below in
       IsSoundHeap-retagged h s (Dead n (last_tag (state_at h s)) h.total) (tagged (payload_start (slot_in h s)) (chunk_granules n) (next_tag h s) h.memory)
       (h.total + block_bytes (slot_in h s)) (next_seed h.seed) (next_tag h s) sound in_range
       (laws.tagged_length (payload_start (slot_in h s)) (chunk_granules n) (next_tag h s) h.memory)
@@ -190,7 +190,7 @@ module _ (laws : LawsBelow) where
       (record {
         room = room;
         chunk_tag = next_tag h s;
-        is_chunk_tag = (IsTagOf-live h s n t sound in_range live, is_tag, next_tag-differs laws h s sound.tag_below);
+        is_chunk_tag = (IsTagOf-live h s n t sound in_range live, is_tag, next_tag-differs h s sound.tag_below);
         header = laws.other_tag _ _ (next_tag h s) (slot_in h s).start h.memory (inl (omega arith)) ∙ old.header;
         chunk = λ g from to. laws.written_tag _ _ (next_tag h s) g h.memory (omega arith) (omega arith) (omega arith);
         tail = λ g from to. laws.other_tag _ _ (next_tag h s) g h.memory (inr (omega arith)) ∙ old.tail g (subst (λ x. (slot_in h s).start + chunk_of x < g) (sym live) from) to;

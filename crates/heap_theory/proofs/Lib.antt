@@ -1,5 +1,6 @@
 pub mod AccessAnswers
 pub mod Answered
+pub mod Below
 pub mod Booking
 pub mod CallsKept
 pub mod Choices
@@ -10,10 +11,11 @@ pub mod GranuleKinds
 pub mod GranuleTags
 pub mod Hardened
 pub mod HeaderWords
-pub mod HeadersTold
+pub mod HeadersAgree
 pub mod HeapKept
 pub mod Held
 pub mod LayoutStays
+pub mod LawLemmas
 pub mod Linked
 pub mod Lives
 pub mod Losses

@@ -2,13 +2,13 @@
 use Rattle.std.proofs.Common.{◌≡◌, ◌≢◌, ℕ, suc, ◌<◌, List, [], ◌∷◌, ◌++◌, length, refl, sym, ap, ◌∙◌, subst, inl, inr, arith}
 use Rattle.std.specs.Prelude.{AllPairs, Contains}
 use Rattle.heap_theory.specs.Links.{IsLinked, last_link}
-use Rattle.heap_theory.proofs.Found.{Contains-head, Contains-behind, Contains-cases, Contains-none, AllPairs-cons, AllPairs-nil}
+use Rattle.heap_theory.proofs.Found.{Contains-head, Contains-tail, Contains-cases, Contains-none, AllPairs-cons, AllPairs-nil}
 
 -- links that change outside the list leave it linked
 pub IsLinked-same : (next new : ℕ → ℕ) (front : ℕ) (list : List ℕ) → ((s : ℕ) → Contains list s → new s ≡ next s) → IsLinked next front list → IsLinked new front list
 IsLinked-same next new front [] same l = l
 IsLinked-same next new front (s ∷ rest) same l =
-    (l.0, subst (λ n. IsLinked new n rest) (sym (same s (Contains-head s rest))) (IsLinked-same next new (next s) rest (λ r there. same r (Contains-behind s rest r there)) l.1))
+    (l.0, subst (λ n. IsLinked new n rest) (sym (same s (Contains-head s rest))) (IsLinked-same next new (next s) rest (λ r there. same r (Contains-tail s rest r there)) l.1))
 
 -- from one front there is one list
 pub IsLinked-one : (next : ℕ → ℕ) (front : ℕ) (a b : List ℕ) → IsLinked next front a → IsLinked next front b → a ≡ b
@@ -25,7 +25,7 @@ from_there : (next : ℕ → ℕ) (front : ℕ) (list : List ℕ) (s : ℕ) → 
 from_there next front [] s l there = absurd (Contains-none s there)
 from_there next front (r ∷ rest) s l there = elim (Contains-cases r rest s there) [
   | inl is ↦ (rest, omega arith, subst (λ q. IsLinked next (next q) rest) is l.1)
-  | inr behind ↦ let more = from_there next (next r) rest s l.1 behind in (more.0, omega (arith, more.1), more.2)
+  | inr after ↦ let more = from_there next (next r) rest s l.1 after in (more.0, omega (arith, more.1), more.2)
 ]
 
 -- each slot is met once, since links do not go round
@@ -47,9 +47,9 @@ IsLinked-push next front s list is l = (refl, subst (λ n. IsLinked next n list)
 pub IsLinked-ends : (next : ℕ → ℕ) (front s : ℕ) (list : List ℕ) → IsLinked next front list → last_link list ≡ suc s → Contains list s × (next s ≡ 0)
 IsLinked-ends next front s [] l is = absurd (omega (arith, is))
 IsLinked-ends next front s (r ∷ []) l is = let same : r ≡ s = omega (arith, is) in (subst (Contains (r ∷ [])) same (Contains-head r []), subst (λ q. next q ≡ 0) same l.1)
-IsLinked-ends next front s (r ∷ q ∷ rest) l is = let more = IsLinked-ends next (next r) s (q ∷ rest) l.1 is in (Contains-behind r (q ∷ rest) s more.0, more.1)
+IsLinked-ends next front s (r ∷ q ∷ rest) l is = let more = IsLinked-ends next (next r) s (q ∷ rest) l.1 is in (Contains-tail r (q ∷ rest) s more.0, more.1)
 
--- a slot is put behind a list, where the list's last slot is linked to it
+-- a slot is put after a list, where the list's last slot is linked to it
 pub IsLinked-append : (next new : ℕ → ℕ) (front last s : ℕ) (list : List ℕ) → IsLinked next front list → last_link list ≡ suc last →
     ((r : ℕ) → Contains list r → r ≢ last → new r ≡ next r) → new last ≡ suc s → new s ≡ 0 → IsLinked new front (list ++ s ∷ [])
 IsLinked-append next new front last s [] l is others linked ends = absurd (omega (arith, is))
@@ -57,7 +57,7 @@ IsLinked-append next new front last s (r ∷ []) l is others linked ends =
     let same : r ≡ last = omega (arith, is) in
     (l.0, (ap new same ∙ linked, ends))
 IsLinked-append next new front last s (r ∷ q ∷ rest) l is others linked ends =
-    let more = IsLinked-append next new (next r) last s (q ∷ rest) l.1 is (λ p there. others p (Contains-behind r (q ∷ rest) p there)) linked ends in
+    let more = IsLinked-append next new (next r) last s (q ∷ rest) l.1 is (λ p there. others p (Contains-tail r (q ∷ rest) p there)) linked ends in
     let another : r ≢ last = λ same. let end = IsLinked-ends next front last (r ∷ q ∷ rest) l is in omega (arith, ap next same, end.1, l.1.0) in
     (l.0, subst (λ n. IsLinked new n ((q ∷ rest) ++ s ∷ [])) (sym (others r (Contains-head r (q ∷ rest)) another)) more)
 

@@ -3,7 +3,6 @@ use Rattle.std.proofs.Common.{◌≡◌, ℕ, suc, ◌-◌, ◌<◌, true, get_o
 use Rattle.std.proofs.lemmas.Bool.{cases_eq, both_ways, ltb-true, false≢true}
 use Rattle.std.proofs.lemmas.List.{get_or-set_same, get_or-set_other}
 use Rattle.heap_theory.specs.declared.event.Event.{Event}
-use Rattle.heap_theory.specs.Below.{LawsBelow}
 use Rattle.heap_theory.specs.Calls.{given_out}
 use Rattle.heap_theory.specs.Choice.{IsReusable, is_released}
 use Rattle.heap_theory.specs.Generations.{Run, times_of, slot_given, times_with, run_after}
@@ -53,9 +52,9 @@ not_live h s reusable Fresh was l = l
 not_live h s reusable (Dead n t m) was l = l
 not_live h s reusable (Live n t) was l = not_reusable h s n t reusable was
 
-module _ (laws : LawsBelow) (w : Run) (e : Event) (sound : IsSoundRun w) where
+module _ (w : Run) (e : Event) (sound : IsSoundRun w) where
   change : HeapChange w.replay.heap (heap_after w.replay e) (slot_given w.replay e)
-  change = (IsKept-event laws w.replay e sound.heap).change
+  change = (IsKept-event w.replay e sound.heap).change
 
   pub reuse_is_delayed : (quarantine : ℕ) → w.replay.heap.quarantine ≡ quarantine → ReuseIsDelayed quarantine w (run_after w e)
   unfolding run_after replay_after

@@ -64,7 +64,7 @@ pub chain_mark : (h : Heap) (from : ℕ) (queue : List ℕ) (s mark : ℕ) → I
 chain_mark h from [] s mark c there d = absurd (Contains-none s there)
 chain_mark h from (r ∷ rest) s mark c there d = elim (Contains-cases r rest s there) [
   | inl is ↦ omega (arith, one_mark (state_at h s) from mark (subst (λ r. HasMark (state_at h r) from) is c.1) d)
-  | inr behind ↦ omega (arith, chain_mark h (from + block_bytes (slot_in h r)) rest s mark c.2 behind d)
+  | inr after ↦ omega (arith, chain_mark h (from + block_bytes (slot_in h r)) rest s mark c.2 after d)
 ]
 
 -- each slot of a queue is dead
@@ -78,8 +78,8 @@ pub chain_dead : (h : Heap) (from : ℕ) (queue : List ℕ) (s : ℕ) → IsChai
 chain_dead h from [] s c there = absurd (Contains-none s there)
 chain_dead h from (r ∷ rest) s c there = elim (Contains-cases r rest s there) [
   | inl is ↦ subst (IsQueued h from) is (record { in_range = c.0; mark = from; marked = c.1; above = omega arith })
-  | inr behind ↦
-      let q = chain_dead h (from + block_bytes (slot_in h r)) rest s c.2 behind in
+  | inr after ↦
+      let q = chain_dead h (from + block_bytes (slot_in h r)) rest s c.2 after in
       record { in_range = q.in_range; mark = q.mark; marked = q.marked; above = omega (arith, q.above) }
 ]
 
@@ -91,7 +91,7 @@ list_mark h class bound (r ∷ rest) s mark f there d =
     let below : f.0 < bound = f.4 in
     elim (Contains-cases r rest s there) [
       | inl is ↦ omega (arith, one_mark (state_at h s) f.0 mark (subst (λ r. HasMark (state_at h r) f.0) is f.3) d)
-      | inr behind ↦ omega (arith, list_mark h class f.0 rest s mark f.5 behind d)
+      | inr after ↦ omega (arith, list_mark h class f.0 rest s mark f.5 after d)
     ]
 
 pub list_weaker : (h : Heap) (class a b : ℕ) (list : List ℕ) → a ≤ b → IsFreedList h class a list → IsFreedList h class b list
@@ -110,8 +110,8 @@ pub list_dead : (h : Heap) (class bound : ℕ) (list : List ℕ) (s : ℕ) → I
 list_dead h class bound [] s f there = absurd (Contains-none s there)
 list_dead h class bound (r ∷ rest) s f there = elim (Contains-cases r rest s there) [
   | inl is ↦ subst (IsListed h class bound) is (record { in_range = f.1; of_class = f.2; mark = f.0; marked = f.3; below = f.4 })
-  | inr behind ↦
-      let l = list_dead h class f.0 rest s f.5 behind in
+  | inr after ↦
+      let l = list_dead h class f.0 rest s f.5 after in
       let above : f.0 < bound = f.4 in
       record { in_range = l.in_range; of_class = l.of_class; mark = l.mark; marked = l.marked; below = omega (arith, l.below) }
 ]
@@ -123,7 +123,7 @@ pub one_number : (step : ℕ) (classes : List ℕ) (a b : ℕ) → IsLegalTable 
 one_number step classes a b legal in_a in_b same = elim (cases_order a b) [
   | inl is ↦ is
   | inr (inl before) ↦ absurd (omega (arith, AllPairs-from_increasing classes legal.ascending a b 0 before in_b))
-  | inr (inr behind) ↦ absurd (omega (arith, AllPairs-from_increasing classes legal.ascending b a 0 behind in_a))
+  | inr (inr after) ↦ absurd (omega (arith, AllPairs-from_increasing classes legal.ascending b a 0 after in_a))
 ]
 
 pub record IsNumberOf (classes : List ℕ) (number class : ℕ) : Type 0 where

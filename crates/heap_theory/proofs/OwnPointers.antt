@@ -10,7 +10,6 @@ use Rattle.class_table.specs.Layout.{Partition, slot_count, slot_of}
 use Rattle.heap_theory.specs.declared.fault.FreeError.{FreeError}
 use Rattle.heap_theory.specs.declared.fault.NullCause.{NullCause}
 use Rattle.heap_theory.specs.declared.fault.ReallocError.{ReallocError}
-use Rattle.heap_theory.specs.Below.{LawsBelow}
 use Rattle.heap_theory.specs.Calls.{Step, given_out, freed, resized, with_payload, payload_bytes, moved, malloc_with, malloc_step, calloc_with, calloc_step, free_with, free_step, stays_in_class, move_with, realloc_with, as_realloc, realloc_step}
 use Rattle.heap_theory.specs.Choice.{Chunk, IsReusable, IsGiven, IsLiveChunk, slot_for_request, chunk_at}
 use Rattle.heap_theory.specs.Generations.{Run}
@@ -34,10 +33,10 @@ live_is (Live n t) l = (n, t, refl)
 live_is (Dead n t m) l = absurd l
 
 -- the own pointer of a chunk names it
-names : LawsBelow → (h : Heap) (s p : ℕ) → IsSoundHeap h → IsOwnPointer h s p → (chunk : Chunk) × (chunk_at h p ≡ Ok chunk)
-names laws h s p sound own =
+names : (h : Heap) (s p : ℕ) → IsSoundHeap h → IsOwnPointer h s p → (chunk : Chunk) × (chunk_at h p ≡ Ok chunk)
+names h s p sound own =
     let l = live_is (state_at h s) own.live in
-    (record { slot = s; size = l.0 }, ap (chunk_at h) own.address ∙ chunk_at-pointer_to laws h s l.0 l.1 sound own.in_range l.2)
+    (record { slot = s; size = l.0 }, ap (chunk_at h) own.address ∙ chunk_at-pointer_to h s l.0 l.1 sound own.in_range l.2)
 
 parts : (p : ℕ) → p < 2 ^ 60 → p ≡ with_tag (place_of p) (logical_tag p)
 parts p plain = omega arith
@@ -66,8 +65,8 @@ free_some : (h : Heap) (p : ℕ) (r : Result Chunk FreeError) → p ≢ 0 → ch
 unfolding free_step
 free_some h p r some named = cond-false (p == 0) _ _ (false_from_ne_true _ (λ null. some (eqb-true _ _ null))) ∙ ap (free_with h) named
 
-pub free_accepts : LawsBelow → (h : Heap) (p : ℕ) → IsSoundHeap h → FreeAccepts h p ↔ IsNullOrOwn h p
-free_accepts laws h p sound = (
+pub free_accepts : (h : Heap) (p : ℕ) → IsSoundHeap h → FreeAccepts h p ↔ IsNullOrOwn h p
+free_accepts h p sound = (
   λ accepts. elim (cases_eq p 0) [
     | inl null ↦ inl null
     | inr some ↦ by_chunk some accepts (chunk_at h p) refl
@@ -76,7 +75,7 @@ free_accepts laws h p sound = (
     | inl null ↦ free_null h p null
     | inr some ↦ elim own [
       | inl null ↦ absurd (some null)
-      | inr is ↦ let named = names laws h is.0 p sound is.1 in ap answer_of_free (free_some h p (Ok named.0) some named.1)
+      | inr is ↦ let named = names h is.0 p sound is.1 in ap answer_of_free (free_some h p (Ok named.0) some named.1)
     ]
   ],
 )
@@ -97,11 +96,11 @@ not_null h s sound within null =
     let place : payload_place (slot_in h s) < 2 ^ 56 = omega arith in
     omega (arith, null)
 
-pub frees_chunk : LawsBelow → (h : Heap) (s n t : ℕ) → IsSoundHeap h → s < slot_count h.layout → state_at h s ≡ Live n t →
+pub frees_chunk : (h : Heap) (s n t : ℕ) → IsSoundHeap h → s < slot_count h.layout → state_at h s ≡ Live n t →
     free_step h (pointer_to h s) ≡ record { heap = freed h s n; answer = Ok tt }
-frees_chunk laws h s n t sound within live =
+frees_chunk h s n t sound within live =
     free_some h (pointer_to h s) (Ok (record { slot = s; size = n })) (not_null h s sound within)
-    (chunk_at-pointer_to laws h s n t sound within live)
+    (chunk_at-pointer_to h s n t sound within live)
 
 -- ---- realloc
 
@@ -131,8 +130,8 @@ not_refused h p n chunk = cond_both (stays_in_class h chunk n) _ _ Accepted (λ 
     by_slot (Ok s) = tt
     by_slot (Err cause) = tt
 
-pub realloc_accepts : LawsBelow → (h : Heap) (p n : ℕ) → IsSoundHeap h → ReallocAccepts h p n ↔ IsNullOrOwn h p
-realloc_accepts laws h p n sound = (
+pub realloc_accepts : (h : Heap) (p n : ℕ) → IsSoundHeap h → ReallocAccepts h p n ↔ IsNullOrOwn h p
+realloc_accepts h p n sound = (
   λ accepts. elim (cases_eq p 0) [
     | inl null ↦ inl null
     | inr some ↦ by_chunk some accepts (chunk_at h p) refl
@@ -142,7 +141,7 @@ realloc_accepts laws h p n sound = (
     | inr some ↦ elim own [
       | inl null ↦ absurd (some null)
       | inr is ↦
-          let named = names laws h is.0 p sound is.1 in
+          let named = names h is.0 p sound is.1 in
           subst Accepted (sym (realloc_some h p n (Ok named.0) some named.1)) (not_refused h p n named.0)
     ]
   ],
@@ -266,13 +265,13 @@ module _ (h : Heap) (s p : ℕ) (sound : IsSoundHeap h) (own : IsOwnPointer h s 
       by_fault None = refl
       by_fault (Some fault) = refl
 
-pub stays_own : LawsBelow → (h : Heap) (s p : ℕ) → IsSoundHeap h → IsOwnPointer h s p → StaysOwnPointer h s p
-stays_own laws h s p sound own = record {
-  malloc = λ n. own_stays h _ _ s p (IsKept-malloc laws h n sound).change own (live (state_after_malloc h s p sound own n));
-  calloc = λ n. own_stays h _ _ s p (IsKept-calloc laws h n sound).change own (live (state_after_calloc h s p sound own n));
-  free = λ q another. own_stays h _ None s p (IsKept-free laws h q sound).change own (live (state_after_free h s p sound own q another));
-  realloc = λ q n another. own_stays h _ _ s p (IsKept-realloc laws h q n sound).change own (live (state_after_realloc h s p sound own q n another));
-  store = λ address bytes. own_stays h _ None s p (IsKept-store laws h address bytes sound).change own (live (state_after_store h s p sound own address bytes));
+pub stays_own : (h : Heap) (s p : ℕ) → IsSoundHeap h → IsOwnPointer h s p → StaysOwnPointer h s p
+stays_own h s p sound own = record {
+  malloc = λ n. own_stays h _ _ s p (IsKept-malloc h n sound).change own (live (state_after_malloc h s p sound own n));
+  calloc = λ n. own_stays h _ _ s p (IsKept-calloc h n sound).change own (live (state_after_calloc h s p sound own n));
+  free = λ q another. own_stays h _ None s p (IsKept-free h q sound).change own (live (state_after_free h s p sound own q another));
+  realloc = λ q n another. own_stays h _ _ s p (IsKept-realloc h q n sound).change own (live (state_after_realloc h s p sound own q n another));
+  store = λ address bytes. own_stays h _ None s p (IsKept-store h address bytes sound).change own (live (state_after_store h s p sound own address bytes));
 }
   where
     live : {x : State} → x ≡ state_at h s → IsLive x
@@ -302,15 +301,15 @@ calloc_gives h n p sound (Ok s) was is =
     let own = own_kept (given_out h s n) (with_payload (given_out h s n) s zeroes) s _ kept before live in
     (s, subst (IsOwnPointer (with_payload (given_out h s n) s zeroes) s) same own)
 
-move_gives : LawsBelow → (h : Heap) (q n p : ℕ) (chunk : Chunk) → IsSoundHeap h → IsLiveChunk h q chunk →
+move_gives : (h : Heap) (q n p : ℕ) (chunk : Chunk) → IsSoundHeap h → IsLiveChunk h q chunk →
     (r : Result ℕ NullCause) → slot_for_request h n ≡ r →
     (move_with h chunk n r).answer ≡ Ok p → (s : ℕ) × IsOwnPointer (move_with h chunk n r).heap s p
-move_gives laws h q n p chunk sound c (Err cause) was is = absurd cc
-move_gives laws h q n p chunk sound c (Ok s) was is =
+move_gives h q n p chunk sound c (Err cause) was is = absurd cc
+move_gives h q n p chunk sound c (Ok s) was is =
     let same : pointer_to (given_out h s n) s ≡ p = cc in
     let given = slot_for_request-is h n s sound was in
-    let live = subst IsLive (sym (live_moved laws h q chunk s n sound c given)) tt in
-    let own = own_new h (moved h chunk s n) s n given (KeepsGiven-moved laws h q chunk s n sound c given) live in
+    let live = subst IsLive (sym (live_moved h q chunk s n sound c given)) tt in
+    let own = own_new h (moved h chunk s n) s n given (KeepsGiven-moved h q chunk s n sound c given) live in
     (s, subst (IsOwnPointer (moved h chunk s n) s) same own)
 
 state_at-resized : (h : Heap) (s n : ℕ) → IsSoundHeap h → s < slot_count h.layout →
@@ -332,13 +331,13 @@ resize_gives h q n p chunk sound named is =
     let own = own_kept h (resized h chunk.slot n) chunk.slot q kept (own_of h q chunk named) live in
     (chunk.slot, subst (IsOwnPointer (resized h chunk.slot n) chunk.slot) same own)
 
-chunk_gives : LawsBelow → (h : Heap) (q n p : ℕ) → IsSoundHeap h → (r : Result Chunk FreeError) → chunk_at h q ≡ r →
+chunk_gives : (h : Heap) (q n p : ℕ) → IsSoundHeap h → (r : Result Chunk FreeError) → chunk_at h q ≡ r →
     GivesOwn (realloc_with h q n r) p
-chunk_gives laws h q n p sound (Err error) was is = absurd cc
-chunk_gives laws h q n p sound (Ok chunk) was is =
+chunk_gives h q n p sound (Err error) was is = absurd cc
+chunk_gives h q n p sound (Ok chunk) was is =
     cond_both (stays_in_class h chunk n) _ _ (λ (step : Step (Result ℕ ReallocError)). GivesOwn step p)
     (λ _. resize_gives h q n p chunk sound was)
-    (λ _. move_gives laws h q n p chunk sound (chunk_at-is h q chunk was) (slot_for_request h n) refl) is
+    (λ _. move_gives h q n p chunk sound (chunk_at-is h q chunk was) (slot_for_request h n) refl) is
 
 malloc_own : (h : Heap) (n p : ℕ) → IsSoundHeap h → (malloc_step h n).answer ≡ Ok p → (s : ℕ) × IsOwnPointer (malloc_step h n).heap s p
 unfolding malloc_step
@@ -355,23 +354,23 @@ null_gives h n p sound is = malloc_own h n p sound (by (malloc_step h n).answer 
     by (Ok q) is = let same : q ≡ p = cc in ap Ok same
     by (Err cause) is = absurd cc
 
-realloc_own : LawsBelow → (h : Heap) (q n p : ℕ) → IsSoundHeap h → GivesOwn (realloc_step h q n) p
+realloc_own : (h : Heap) (q n p : ℕ) → IsSoundHeap h → GivesOwn (realloc_step h q n) p
 unfolding realloc_step
-realloc_own laws h q n p sound =
+realloc_own h q n p sound =
     cond_both (q == 0) _ _ (λ (step : Step (Result ℕ ReallocError)). GivesOwn step p) (λ _. null_gives h n p sound)
-    (λ _. chunk_gives laws h q n p sound (chunk_at h q) refl)
+    (λ _. chunk_gives h q n p sound (chunk_at h q) refl)
 
-pub gives_own : LawsBelow → (h : Heap) → IsSoundHeap h → GivesOwnPointers h
-gives_own laws h sound = record {
+pub gives_own : (h : Heap) → IsSoundHeap h → GivesOwnPointers h
+gives_own h sound = record {
   malloc = λ n p. malloc_own h n p sound;
   calloc = λ n p. calloc_own h n p sound;
-  realloc = λ q n p. realloc_own laws h q n p sound;
+  realloc = λ q n p. realloc_own h q n p sound;
 }
 
 -- ---- the variables of a run
 
-pub live_variables : LawsBelow → (w : Run) → IsSoundRun w → LiveVariablesAreAccepted w
-live_variables laws w sound v s time generation live =
+pub live_variables : (w : Run) → IsSoundRun w → LiveVariablesAreAccepted w
+live_variables w sound v s time generation live =
     let h = w.replay.heap in
     let p = variable w.replay v in
     let i : IsAddressOf h w.times p s time =
@@ -383,6 +382,6 @@ live_variables laws w sound v s time generation live =
     } in
     record {
       own = own;
-      by_free = (free_accepts laws h p sound.heap).1 (inr (s, own));
-      by_realloc = λ n. (realloc_accepts laws h p n sound.heap).1 (inr (s, own));
+      by_free = (free_accepts h p sound.heap).1 (inr (s, own));
+      by_realloc = λ n. (realloc_accepts h p n sound.heap).1 (inr (s, own));
     }

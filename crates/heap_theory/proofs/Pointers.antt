@@ -9,7 +9,7 @@ use Rattle.std.proofs.lemmas.List.Sums.{position_or_len_is}
 use Rattle.std.proofs.lemmas.Option.{slice_get-get_or}
 use Rattle.machine_theory.specs.Address.{logical_tag, place_of}
 use Rattle.class_table.specs.Layout.{no_slot, slots_of, slot_count}
-use Rattle.heap_theory.specs.Below.{LawsBelow}
+use Rattle.heap_theory.proofs.Below as laws
 use Rattle.heap_theory.specs.Choice.{chunk_in, chunk_in_slot, lowest_fresh, slot_of_pointer, chunk_at}
 use Rattle.heap_theory.specs.Sound.{IsChunkTag, IsSoundHeap}
 use Rattle.heap_theory.specs.State.{Heap, slot_in, state_at, is_fresh, last_tag, payload_place, pointer_to}
@@ -38,10 +38,10 @@ slot_of_pointer-iff h p s sound = (
 )
 
 -- the pointer to a live slot names its chunk
-pub chunk_at-pointer_to : LawsBelow → (h : Heap) (s n t : ℕ) → IsSoundHeap h → s < slot_count h.layout → state_at h s ≡ Live n t →
+pub chunk_at-pointer_to : (h : Heap) (s n t : ℕ) → IsSoundHeap h → s < slot_count h.layout → state_at h s ≡ Live n t →
     chunk_at h (pointer_to h s) ≡ Ok (record { slot = s; size = n })
 unfolding chunk_at
-chunk_at-pointer_to laws h s n t sound within live =
+chunk_at-pointer_to h s n t sound within live =
     let inside = sound.slots.inside s within in
     let wide = sound.slots.wide s within in
     let most = sound.region.most in

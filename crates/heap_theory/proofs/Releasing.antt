@@ -8,7 +8,7 @@ use Rattle.heap_theory.specs.Booked.{HasMark, IsFreedList, IsBookedFrom, bytes_i
 use Rattle.heap_theory.specs.Links.{list_of}
 use Rattle.heap_theory.specs.Sound.{IsSoundHeap}
 use Rattle.heap_theory.specs.State.{Heap, slot_in, state_at}
-use Rattle.heap_theory.proofs.Found.{Contains-head, Contains-behind, Contains-cases}
+use Rattle.heap_theory.proofs.Found.{Contains-head, Contains-tail, Contains-cases}
 use Rattle.heap_theory.proofs.Marks.{one_mark, bytes_in-cons, chain_bytes, chain_mark, list_weaker, one_number, IsNumberOf, number_is}
 
 -- a list for one class is another one
@@ -26,8 +26,8 @@ module _ (h : Heap) (from s number : ℕ) (queue : List ℕ) (lists : List (List
   within : number < length lists
   within = subst (λ n. number < n) (sym b.long) is_number.within
 
-  behind : ℕ
-  behind = from + block_bytes (slot_in h s)
+  after : ℕ
+  after = from + block_bytes (slot_in h s)
 
   wide : 0 < block_bytes (slot_in h s)
   wide = let two : 2 ≤ (slot_in h s).class = sound.slots.wide s b.chain.0 in omega arith
@@ -52,7 +52,7 @@ module _ (h : Heap) (from s number : ℕ) (queue : List ℕ) (lists : List (List
     | inl is ↦
         subst (λ n. Contains (list_of (slice_set lists number (s ∷ list_of lists number)) n) r) (sym is)
         (subst (λ list. Contains list r) (sym (list_of-here lists number (s ∷ list_of lists number) within))
-        (Contains-behind s (list_of lists number) r (subst (λ n. Contains (list_of lists n) r) is there)))
+        (Contains-tail s (list_of lists number) r (subst (λ n. Contains (list_of lists n) r) is there)))
     | inr not ↦ subst (λ list. Contains list r) (sym (list_of-there lists number other (s ∷ list_of lists number) not)) there
   ]
 

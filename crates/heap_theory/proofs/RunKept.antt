@@ -6,9 +6,9 @@ use Rattle.std.proofs.lemmas.List.{get_or-set_same, get_or-set_other, length-set
 use Rattle.machine_theory.specs.Address.{logical_tag, moved_by}
 use Rattle.machine_theory.specs.Instructions.{addg, subg}
 use Rattle.class_table.specs.Layout.{Partition, IsPartition, slot_count}
+use Rattle.heap_theory.proofs.Below as laws
 use Rattle.heap_theory.specs.declared.event.Event.{Event}
 use Rattle.heap_theory.specs.declared.event.Event.TheVariants.{Malloc, Calloc, Realloc, Free, Load, Store, Addg, Subg}
-use Rattle.heap_theory.specs.Below.{LawsBelow}
 use Rattle.heap_theory.specs.Generations.{Run, Generation, times_of, generation_of, slot_given, times_with, generations_after, run_after, first_run, run}
 use Rattle.heap_theory.specs.Run.{Replay, variable, heap_after, variables_after, replay_after, first_replay}
 use Rattle.heap_theory.specs.Sound.{IsSoundHeap}
@@ -74,16 +74,16 @@ holds_of_runs P w (e ∷ events) first each = holds_of_runs P (run_after w e) ev
 null_variable : (h : Heap) (times : List ℕ) (a : ℕ) (g : Option Generation) → a ≡ 0 → g ≡ None → IsSoundVariable h times a g
 null_variable h times a g null none = subst (λ x. IsSoundVariable h times a x) (sym none) (record { null_or_tagged = inl null; follows = tt })
 
-module _ (laws : LawsBelow) where
+module _ where
   -- an event keeps the heap sound, and gives out a slot or leaves what was given out
   pub IsKept-event : (r : Replay) (e : Event) → IsSoundHeap r.heap → IsKept r.heap (heap_after r e) (slot_given r e)
   unfolding heap_after slot_given
-  IsKept-event r (Malloc v n) sound = IsKept-malloc laws r.heap n sound
-  IsKept-event r (Calloc v n) sound = IsKept-calloc laws r.heap n sound
-  IsKept-event r (Realloc v n) sound = IsKept-realloc laws r.heap (variable r v) n sound
-  IsKept-event r (Free v) sound = IsKept-free laws r.heap (variable r v) sound
+  IsKept-event r (Malloc v n) sound = IsKept-malloc r.heap n sound
+  IsKept-event r (Calloc v n) sound = IsKept-calloc r.heap n sound
+  IsKept-event r (Realloc v n) sound = IsKept-realloc r.heap (variable r v) n sound
+  IsKept-event r (Free v) sound = IsKept-free r.heap (variable r v) sound
   IsKept-event r (Load v off len) sound = IsKept-refl r.heap sound
-  IsKept-event r (Store v off len byte) sound = IsKept-store laws r.heap (moved_by (variable r v) off) (replicate len byte) sound
+  IsKept-event r (Store v off len byte) sound = IsKept-store r.heap (moved_by (variable r v) off) (replicate len byte) sound
   IsKept-event r (Addg v x u6 u4) sound = IsKept-refl r.heap sound
   IsKept-event r (Subg v x u6 u4) sound = IsKept-refl r.heap sound
 
@@ -92,17 +92,17 @@ module _ (laws : LawsBelow) where
     kept = IsKept-event w.replay e sound.heap
 
     others : (u : ℕ) → IsSoundVariable (heap_after w.replay e) (times_with w (slot_given w.replay e)) (variable w.replay u) (generation_of w u)
-    others u = IsSoundVariable-other laws w sound (heap_after w.replay e) (slot_given w.replay e) (variable w.replay u) (generation_of w u) kept.change (sound.variables u)
+    others u = IsSoundVariable-other w sound (heap_after w.replay e) (slot_given w.replay e) (variable w.replay u) (generation_of w u) kept.change (sound.variables u)
 
   variables_kept : (w : Run) (e : Event) → IsSoundRun w → (u : ℕ) →
       IsSoundVariable (heap_after w.replay e) (times_with w (slot_given w.replay e)) (get_or (variables_after w.replay e) u 0) (get_or (generations_after w e) u None)
   unfolding variables_after generations_after heap_after slot_given
   variables_kept w (Malloc v n) sound u =
-      set_both (IsSoundVariable _ _) w.replay.variables w.generations v _ 0 _ None sound.generations (IsSoundVariable-malloc laws w sound n) (others w (Malloc v n) sound) u
+      set_both (IsSoundVariable _ _) w.replay.variables w.generations v _ 0 _ None sound.generations (IsSoundVariable-malloc w sound n) (others w (Malloc v n) sound) u
   variables_kept w (Calloc v n) sound u =
-      set_both (IsSoundVariable _ _) w.replay.variables w.generations v _ 0 _ None sound.generations (IsSoundVariable-calloc laws w sound n) (others w (Calloc v n) sound) u
+      set_both (IsSoundVariable _ _) w.replay.variables w.generations v _ 0 _ None sound.generations (IsSoundVariable-calloc w sound n) (others w (Calloc v n) sound) u
   variables_kept w (Realloc v n) sound u =
-      set_both (IsSoundVariable _ _) w.replay.variables w.generations v _ 0 _ None sound.generations (IsSoundVariable-realloc laws w sound v n) (others w (Realloc v n) sound) u
+      set_both (IsSoundVariable _ _) w.replay.variables w.generations v _ 0 _ None sound.generations (IsSoundVariable-realloc w sound v n) (others w (Realloc v n) sound) u
   variables_kept w (Free v) sound u = others w (Free v) sound u
   variables_kept w (Load v off len) sound u = others w (Load v off len) sound u
   variables_kept w (Store v off len byte) sound u = others w (Store v off len byte) sound u

@@ -9,7 +9,7 @@ use Rattle.machine_theory.specs.Access.{access_fault}
 use Rattle.machine_theory.specs.Address.{logical_tag, Touches}
 use Rattle.machine_theory.specs.Memory.{Granule, no_granule, new_granule, granule_at, tag_at, each_granule, is_among, tagged, byte_at, byte_after, bytes_after, written, IsMemory}
 use Rattle.class_table.specs.Layout.{Partition, Slot, no_slot, slots_of}
-use Rattle.heap_theory.specs.Below.{LawsBelow}
+use Rattle.heap_theory.proofs.Below as laws
 use Rattle.heap_theory.specs.Sound.{IsSoundHeap}
 use Rattle.heap_theory.specs.State.{Heap, slot_in, is_header, without_headers, first_memory}
 use Rattle.heap_theory.proofs.FirstHeap.{tag_at-past}
@@ -31,7 +31,7 @@ swap_bytes : (a : Bool) (i : ℕ) (new : List ℕ) (g : ℕ) (x : Granule) →
 swap_bytes true i new g x = refl
 swap_bytes false i new g x = refl
 
-module _ (laws : LawsBelow) (layout : Partition) where
+module _ (layout : Partition) where
   pub without_headers-tagged : (first count tag : ℕ) (memory : List Granule) → without_headers layout (tagged first count tag memory) ≡ tagged first count tag (without_headers layout memory)
   unfolding without_headers tagged
   without_headers-tagged first count tag memory =
@@ -100,10 +100,10 @@ module _ (laws : LawsBelow) (layout : Partition) where
 -- ---- header bytes are not seen
 
 -- a granule in which nothing is written stays
-granule_at-written : LawsBelow → (i g : ℕ) (new : List ℕ) (memory : List Granule) → IsMemory memory → (16 * g + 16 ≤ i) ⊎ (i + length new ≤ 16 * g) →
+granule_at-written : (i g : ℕ) (new : List ℕ) (memory : List Granule) → IsMemory memory → (16 * g + 16 ≤ i) ⊎ (i + length new ≤ 16 * g) →
     granule_at (written i new memory) g ≡ granule_at memory g
 unfolding written
-granule_at-written laws i g new memory is apart = elim (cases_lt g (length memory)) [
+granule_at-written i g new memory is apart = elim (cases_lt g (length memory)) [
   | inl within ↦
       let granule = is.granules g no_granule within in
       let same : bytes_after i new g (granule_at memory g).bytes ≡ (granule_at memory g).bytes = sym
@@ -120,18 +120,18 @@ granule_at-written laws i g new memory is apart = elim (cases_lt g (length memor
     outside : (k : ℕ) → k < 16 → is_among i (length new) (16 * g + k) ≡ false
     outside k below = ⊎_elim
         (λ before. and_left (nat_le i (16 * g + k)) (nat_lt (16 * g + k) (i + length new)) (lt-leb i (16 * g + k) (omega arith)))
-        (λ behind. and_right (nat_le i (16 * g + k)) (nat_lt (16 * g + k) (i + length new)) (le-ltb (16 * g + k) (i + length new) (omega arith)))
+        (λ after. and_right (nat_le i (16 * g + k)) (nat_lt (16 * g + k) (i + length new)) (le-ltb (16 * g + k) (i + length new) (omega arith)))
         apart
 
 -- bytes that are written in a header are not seen
-pub without_headers-in_header : LawsBelow → (layout : Partition) (g i : ℕ) (new : List ℕ) (memory : List Granule) → IsMemory memory → is_header layout g ≡ true →
+pub without_headers-in_header : (layout : Partition) (g i : ℕ) (new : List ℕ) (memory : List Granule) → IsMemory memory → is_header layout g ≡ true →
     16 * g ≤ i → i + length new ≤ 16 * g + 16 → without_headers layout (written i new memory) ≡ without_headers layout memory
-without_headers-in_header laws layout g i new memory is header from to =
-    without_headers-same laws layout memory (written i new memory) (laws.written_length i new memory) (λ k. laws.tag_under_bytes i k new memory)
-    (λ k none. granule_at-written laws i k new memory is (elim (cases_order k g) [
+without_headers-in_header layout g i new memory is header from to =
+    without_headers-same layout memory (written i new memory) (laws.written_length i new memory) (λ k. laws.tag_under_bytes i k new memory)
+    (λ k none. granule_at-written i k new memory is (elim (cases_order k g) [
       | inl same ↦ absurd (both_ways _ none (subst (λ n. is_header layout n ≡ true) (sym same) header))
       | inr (inl before) ↦ inl (omega arith)
-      | inr (inr behind) ↦ inr (omega arith)
+      | inr (inr after) ↦ inr (omega arith)
     ]))
 
 -- ---- headers are spared
@@ -145,9 +145,9 @@ header_tag h g sound is =
     subst (λ k. tag_at h.memory k ≡ 0) start (sound.tagged any.0 any.2).header
 
 -- an access that succeeds under another tag than 0 touches no header
-pub headers_spared : LawsBelow → (h : Heap) (address len g : ℕ) → IsSoundHeap h → logical_tag address ≢ 0 → access_fault h.memory address len ≡ None → Touches address len g →
+pub headers_spared : (h : Heap) (address len g : ℕ) → IsSoundHeap h → logical_tag address ≢ 0 → access_fault h.memory address len ≡ None → Touches address len g →
     is_header h.layout g ≡ false
-headers_spared laws h address len g sound tagged succeeds touches = false_from_ne_true (is_header h.layout g) (λ is.
+headers_spared h address len g sound tagged succeeds touches = false_from_ne_true (is_header h.layout g) (λ is.
     let fault = laws.other_tag_faults h.memory address len g touches (λ same. tagged (sym same ∙ header_tag h g sound is)) in
     let none : is_some (access_fault h.memory address len) ≡ false = ap is_some succeeds in
     both_ways _ none fault)

@@ -3,12 +3,12 @@ use Rattle.std.proofs.Common.{◌≡◌, ◌≢◌, ℕ, ◌%◌, ◌^◌, ◌<�
 use Rattle.std.specs.Prelude.{bit_or, ◌==◌}
 use Rattle.std.proofs.lemmas.Bool.{eqb-true, eqb-false}
 use Rattle.machine_theory.specs.Instructions.{drawn_tag}
-use Rattle.heap_theory.specs.Below.{LawsBelow}
+use Rattle.heap_theory.proofs.Below as laws
 use Rattle.heap_theory.specs.Calls.{parity_exclude, next_tag}
 use Rattle.heap_theory.specs.Sound.{IsTagOf}
 use Rattle.heap_theory.specs.State.{Heap, state_at, last_tag}
 
-module _ (laws : LawsBelow) where
+module _ where
   drawn : (s last tag seed : ℕ) → tag < 16 →
       IsTagOf s (drawn_tag tag seed (bit_or (parity_exclude s) (2 ^ last))) × (drawn_tag tag seed (bit_or (parity_exclude s) (2 ^ last)) ≢ last)
   drawn s last tag seed below = by_parity (s % 2 == 0) refl

@@ -6,10 +6,10 @@ use Rattle.std.proofs.lemmas.Bool.{cases_eq}
 use Rattle.std.proofs.lemmas.List.{get_or-set_same, get_or-set_other}
 use Rattle.machine_theory.specs.Address.{logical_tag, with_tag}
 use Rattle.class_table.specs.Layout.{Partition, slot_count, slot_of}
+use Rattle.heap_theory.proofs.Below as laws
 use Rattle.heap_theory.specs.declared.fault.FreeError.{FreeError}
 use Rattle.heap_theory.specs.declared.fault.NullCause.{NullCause}
 use Rattle.heap_theory.specs.declared.fault.ReallocError.{ReallocError}
-use Rattle.heap_theory.specs.Below.{LawsBelow}
 use Rattle.heap_theory.specs.Calls.{Step, next_tag, given_out, resized, with_payload, moved, malloc_with, malloc_step, calloc_with, calloc_step, stays_in_class, move_with, as_realloc, realloc_with, realloc_step}
 use Rattle.heap_theory.specs.Choice.{Chunk, IsReusable, IsGiven, IsLiveChunk, slot_for_request, chunk_at}
 use Rattle.heap_theory.specs.Generations.{Run, Generation, times_of, generation_of, slot_if_moved, times_with, begun_or}
@@ -36,7 +36,7 @@ IsAddressOf-kept h new times a s m kept i = record {
 }
 
 -- slot r is given out
-module _ (laws : LawsBelow) (h : Heap) (times : List ℕ) (r n : ℕ) (tag_below : h.tag < 16) (within : r < length h.states) (in_times : r < length times) where
+module _ (h : Heap) (times : List ℕ) (r n : ℕ) (tag_below : h.tag < 16) (within : r < length h.states) (in_times : r < length times) where
   times_now : (t : ℕ) → get_or (set times r t) r 0 ≡ t
   times_now t = get_or-set_same times r t 0 in_times
 
@@ -66,7 +66,7 @@ module _ (laws : LawsBelow) (h : Heap) (times : List ℕ) (r n : ℕ) (tag_below
           tag = i.tag;
           past = omega arith;
           last = λ is. absurd (omega arith);
-          last_but_one = λ is tags. next_tag-differs laws h r tag_below (sym (ap last_tag state) ∙ sym tags ∙ last_before (omega arith));
+          last_but_one = λ is tags. next_tag-differs h r tag_below (sym (ap last_tag state) ∙ sym tags ∙ last_before (omega arith));
         }
   ]
     where
@@ -80,7 +80,7 @@ module _ (laws : LawsBelow) (h : Heap) (times : List ℕ) (r n : ℕ) (tag_below
   IsAddressOf-new : r < slot_count h.layout →
       IsAddressOf (given_out h r n) (slice_set times r (suc (get_or times r 0))) (pointer_to (given_out h r n) r) r (suc (get_or times r 0))
   IsAddressOf-new in_range =
-      let is_tag : IsTagOf r (next_tag h r) = IsTagOf-next_tag laws h r tag_below in
+      let is_tag : IsTagOf r (next_tag h r) = IsTagOf-next_tag h r tag_below in
       let tag : last_tag (state_at (given_out h r n) r) ≡ next_tag h r = ap last_tag (state_at-given_out h r n within) in
       let shown : logical_tag (pointer_to (given_out h r n) r) ≡ last_tag (state_at (given_out h r n) r) =
       laws.tag_put (payload_place (slot_in (given_out h r n) r)) (last_tag (state_at (given_out h r n) r)) (subst (λ t. t < 16) (sym tag) is_tag.below) in
@@ -99,7 +99,7 @@ IsSoundVariable-kept : (h new : Heap) (times : List ℕ) (a : ℕ) (g : Option G
 IsSoundVariable-kept h new times a None kept i = record { null_or_tagged = i.null_or_tagged; follows = tt }
 IsSoundVariable-kept h new times a (Some g) kept i = record { null_or_tagged = i.null_or_tagged; follows = IsAddressOf-kept h new times a g.slot g.time kept i.follows }
 
-module _ (laws : LawsBelow) (w : Run) (sound : IsSoundRun w) where
+module _ (w : Run) (sound : IsSoundRun w) where
   in_states_of : (s : ℕ) → IsReusable w.replay.heap s → s < length w.replay.heap.states
   in_states_of s reusable = in_states w.replay.heap s sound.heap reusable.in_range
 
@@ -114,14 +114,14 @@ module _ (laws : LawsBelow) (w : Run) (sound : IsSoundRun w) where
   IsSoundVariable-other new (Some s) a (Some g) change i = record {
     null_or_tagged = i.null_or_tagged;
     follows = IsAddressOf-kept (given_out w.replay.heap s change.n) new (times_with w (Some s)) a g.slot g.time change.kept
-        (IsAddressOf-given_out laws w.replay.heap w.times s change.n sound.heap.tag_below (in_states_of s change.given.reusable) (in_times_of s change.given.reusable) a g.slot g.time i.follows);
+        (IsAddressOf-given_out w.replay.heap w.times s change.n sound.heap.tag_below (in_states_of s change.given.reusable) (in_times_of s change.given.reusable) a g.slot g.time i.follows);
   }
 
   -- a variable that an event sets to the address of a slot that it gives out
   IsSoundVariable-new : (new : Heap) (s n : ℕ) → IsGiven w.replay.heap n s → KeepsGiven (given_out w.replay.heap s n) new →
       IsSoundVariable new (times_with w (Some s)) (pointer_to (given_out w.replay.heap s n) s) (Some (record { slot = s; time = suc (times_of w s) }))
   IsSoundVariable-new new s n given kept =
-      let i = IsAddressOf-new laws w.replay.heap w.times s n sound.heap.tag_below (in_states_of s given.reusable) (in_times_of s given.reusable) given.reusable.in_range in
+      let i = IsAddressOf-new w.replay.heap w.times s n sound.heap.tag_below (in_states_of s given.reusable) (in_times_of s given.reusable) given.reusable.in_range in
       let some : 0 < logical_tag (pointer_to (given_out w.replay.heap s n) s) = i.tag.not_zero in
       record {
         null_or_tagged = inr (omega arith);
@@ -180,7 +180,7 @@ module _ (laws : LawsBelow) (w : Run) (sound : IsSoundRun w) where
       by_move chunk c (Err cause) was = sound.variables v
       by_move chunk c (Ok s) was =
           let given : IsGiven w.replay.heap n s = slot_for_request-is w.replay.heap n s sound.heap was in
-          IsSoundVariable-new (moved w.replay.heap chunk s n) s n given (KeepsGiven-moved laws w.replay.heap (variable w.replay v) chunk s n sound.heap c given)
+          IsSoundVariable-new (moved w.replay.heap chunk s n) s n given (KeepsGiven-moved w.replay.heap (variable w.replay v) chunk s n sound.heap c given)
 
       by_chunk : (r : Result Chunk FreeError) → chunk_at w.replay.heap (variable w.replay v) ≡ r →
           IsRight (realloc_with w.replay.heap (variable w.replay v) n r) (slot_if_moved w.replay.heap n r)

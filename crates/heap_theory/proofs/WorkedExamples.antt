@@ -108,10 +108,10 @@ store_over_a_header_writes_nothing :
 unfolding shown
 store_over_a_header_writes_nothing = refl
 
-dead_slot_is_told_before_a_wrong_tag :
+dead_slot_is_reported_before_a_wrong_tag :
     shown (2 ∷ []) 0 (Malloc 1 16 ∷ Addg 2 1 0 1 ∷ Free 1 ∷ Free 2 ∷ []) ≡ (Silent ∷ Silent ∷ Silent ∷ NotFreed NotLive ∷ [], totals 4 1 0 0 0 0 0 1 0)
 unfolding shown
-dead_slot_is_told_before_a_wrong_tag = refl
+dead_slot_is_reported_before_a_wrong_tag = refl
 
 calloc_zeroes_its_granules_alone :
     shown (3 ∷ []) 0 (Malloc 1 32 ∷ Store 1 (pos 0) 32 0xee ∷ Free 1 ∷ Calloc 2 1 ∷ Free 2 ∷ Malloc 3 32 ∷ Load 3 (pos 0) 32 ∷ [])

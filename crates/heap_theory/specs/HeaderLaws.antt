@@ -78,8 +78,8 @@ SlotHeaderFits =
     (heap : Heap) (s next : ℕ) → IsSoundHeap heap → IsSlot heap s → next < 2 ^ 32 → heap.total < 2 ^ 64 → FitsWords (header_for heap s next)
 
 -- Layout, slots, total and limit determine every word of every header: its link too, since they determine each list and its order.
-abbrev pub SlotsTellHeaderWords : Type 0
-SlotsTellHeaderWords = (heap other : Heap) → HaveSameSlots heap other → HeaderWordsStay heap other
+abbrev pub SlotsGiveHeaderWords : Type 0
+SlotsGiveHeaderWords = (heap other : Heap) → HaveSameSlots heap other → HeaderWordsStay heap other
 
 -- ---- links
 
@@ -120,13 +120,13 @@ abbrev pub PutInFront : Type 0
 PutInFront = (next : ℕ → ℕ) (front s : ℕ) (list : List ℕ) → next s ≡ front → IsLinked next front list → IsLinked next (suc s) (s ∷ list)
 
 -- and at the end of a list by the link of the last slot.
-abbrev pub PutBehind : Type 0
-PutBehind =
+abbrev pub PutAtEnd : Type 0
+PutAtEnd =
     (next new : ℕ → ℕ) (front last s : ℕ) (list : List ℕ) → IsLinked next front list → last_link list ≡ suc last →
     ((r : ℕ) → Contains list r → r ≢ last → new r ≡ next r) → new last ≡ suc s → new s ≡ 0 → IsLinked new front (list ++ s ∷ [])
 
-abbrev pub PutBehindIsLast : Type 0
-PutBehindIsLast = (list : List ℕ) (s : ℕ) → last_link (list ++ s ∷ []) ≡ suc s
+abbrev pub PutAtEndIsLast : Type 0
+PutAtEndIsLast = (list : List ℕ) (s : ℕ) → last_link (list ++ s ∷ []) ≡ suc s
 
 -- ---- what is seen of a memory
 

@@ -1,5 +1,4 @@
 pub mod AccessLaws
-pub mod Below
 pub mod Booked
 pub mod Calls
 pub mod Choice

@@ -1,22 +1,23 @@
 -- The ranges of an event's numbers: those of each event that a trace spells, and that a replay takes.
 use Rattle.std.specs.Prelude.{ℕ, ◌<◌, ◌≤◌, ◌^◌, ℤ, nat_abs}
+use Rattle.heap_theory.specs.declared.event.TheConstants.Event.{LAST_VARIABLE, LARGEST_REQUEST, LONGEST_ACCESS, FARTHEST_ACCESS, FARTHEST_MOVE, LARGEST_TAG_STEP}
 use Rattle.heap_theory.specs.declared.event.Event.{Event}
 use Rattle.heap_theory.specs.declared.event.Event.TheVariants.{Malloc, Calloc, Realloc, Free, Load, Store, Addg, Subg}
 
 abbrev pub IsVariable : ℕ → Type 0
-IsVariable v = v < 1024
+IsVariable v = v ≤ LAST_VARIABLE
 
--- A request, of less than 2^31 bytes, for a variable.
+-- A request for a variable.
 abbrev pub IsRequest : ℕ → ℕ → Type 0
-IsRequest v n = IsVariable v × (n < 2 ^ 31)
+IsRequest v n = IsVariable v × (n ≤ LARGEST_REQUEST)
 
--- An access of 1 to 64 bytes, at most 2^20 bytes from a variable's address.
+-- An access of at least one byte, near a variable's address.
 abbrev pub IsAccessOf : ℕ → ℤ → ℕ → Type 0
-IsAccessOf v off len = IsVariable v × (nat_abs off ≤ 1048576) × (1 ≤ len) × (len ≤ 64)
+IsAccessOf v off len = IsVariable v × (nat_abs off ≤ FARTHEST_ACCESS) × (1 ≤ len) × (len ≤ LONGEST_ACCESS)
 
 -- A variable that is set to another one's address, moved by granules and tags.
 abbrev pub IsMove : ℕ → ℕ → ℕ → ℕ → Type 0
-IsMove v w u6 u4 = IsVariable v × IsVariable w × (u6 ≤ 63) × (u4 ≤ 15)
+IsMove v w u6 u4 = IsVariable v × IsVariable w × (u6 ≤ FARTHEST_MOVE) × (u4 ≤ LARGEST_TAG_STEP)
 
 abbrev pub IsInRange : Event → Type 0
 IsInRange (Malloc v n) = IsRequest v n

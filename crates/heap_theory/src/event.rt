@@ -18,3 +18,24 @@ pub enum Event {
     /// Sets `v` to the SUBG of `w`, in the same ranges.
     Subg { v: u16, w: u16, u6: u8, u4: u8 },
 }
+
+/// The ranges of an event's numbers, which a trace spells and `Replay::step` takes.
+impl Event {
+    /// The last variable. Variables are numbered from 0.
+    pub const LAST_VARIABLE: u32 = 1023;
+
+    /// The most bytes that a request asks for.
+    pub const LARGEST_REQUEST: u32 = 2_147_483_647;
+
+    /// The most bytes that one load or store touches. It touches at least one.
+    pub const LONGEST_ACCESS: u32 = 64;
+
+    /// The most bytes from a variable's address to an access, in either direction.
+    pub const FARTHEST_ACCESS: u32 = 1_048_576;
+
+    /// The most granules by which ADDG and SUBG move an address.
+    pub const FARTHEST_MOVE: u32 = 63;
+
+    /// The most tags by which ADDG and SUBG step a tag.
+    pub const LARGEST_TAG_STEP: u32 = 15;
+}

@@ -20,31 +20,31 @@ unfolding number_of
 not_digits word other = rw other (grind (arith, nat_tests))
 
 -- digits that end before a byte which is none are those in front
-digits_before : (word behind : List ℕ) → list_all is_ascii_digit word ≡ true → prefix_len is_ascii_digit behind ≡ 0
-    → leading_digits (word ++ behind) ≡ word
-digits_before word behind all none =
-    ap (λ n. take n (word ++ behind)) (prefix_len-append is_ascii_digit word behind ∙ rw (all_digits_lead word all, none) (grind (arith, nat_tests)))
-    ∙ take-append_seam word behind
+digits_before : (word after : List ℕ) → list_all is_ascii_digit word ≡ true → prefix_len is_ascii_digit after ≡ 0
+    → leading_digits (word ++ after) ≡ word
+digits_before word after all none =
+    ap (λ n. take n (word ++ after)) (prefix_len-append is_ascii_digit word after ∙ rw (all_digits_lead word all, none) (grind (arith, nat_tests)))
+    ∙ take-append_seam word after
 
--- a first word of digits is the digits in front of the line, and the end of the line or a space is behind them
+-- a first word of digits is the digits in front of the line, and the end of the line or a space is after them
 record IsFirstOf (word line : List ℕ) : Type 0 where
-  pub behind : List ℕ
-  pub line_is : line ≡ word ++ behind
-  pub ends : (behind ≡ []) ⊎ (slice_get behind 0 ≡ Some 32)
+  pub after : List ℕ
+  pub line_is : line ≡ word ++ after
+  pub ends : (after ≡ []) ⊎ (slice_get after 0 ≡ Some 32)
 
 first_of : (line word : List ℕ) (ws : List (List ℕ)) → words line ≡ word ∷ ws → IsFirstOf word line
-first_of line word [] parts = record { behind = []; line_is = sym (line_of-words line) ∙ ap line_of parts ∙ sym (append-nil word); ends = inl refl }
-first_of line word (w ∷ ws) parts = record { behind = 32 ∷ line_of (w ∷ ws); line_is = sym (line_of-words line) ∙ ap line_of parts; ends = inr refl }
+first_of line word [] parts = record { after = []; line_is = sym (line_of-words line) ∙ ap line_of parts ∙ sym (append-nil word); ends = inl refl }
+first_of line word (w ∷ ws) parts = record { after = 32 ∷ line_of (w ∷ ws); line_is = sym (line_of-words line) ∙ ap line_of parts; ends = inr refl }
 
-no_digit_first : (behind : List ℕ) → (behind ≡ []) ⊎ (slice_get behind 0 ≡ Some 32) → prefix_len is_ascii_digit behind ≡ 0
+no_digit_first : (after : List ℕ) → (after ≡ []) ⊎ (slice_get after 0 ≡ Some 32) → prefix_len is_ascii_digit after ≡ 0
 no_digit_first [] ends = refl
-no_digit_first (b ∷ behind) (inl e) = absurd cc
-no_digit_first (b ∷ behind) (inr e) = let space : b ≡ 32 = cc in rw space refl
+no_digit_first (b ∷ after) (inl e) = absurd cc
+no_digit_first (b ∷ after) (inr e) = let space : b ≡ 32 = cc in rw space refl
 
 pub first_digits : (line word : List ℕ) (ws : List (List ℕ)) → words line ≡ word ∷ ws → list_all is_ascii_digit word ≡ true → leading_digits line ≡ word
 first_digits line word ws parts all =
     let first = first_of line word ws parts in
-    ap leading_digits first.line_is ∙ digits_before word first.behind all (no_digit_first first.behind first.ends)
+    ap leading_digits first.line_is ∙ digits_before word first.after all (no_digit_first first.after first.ends)
 
 abbrev pub first_number_of : List ℕ → Option ℕ
 first_number_of line = option_and_then short_number_of (slice_get (words line) 0)
@@ -65,9 +65,9 @@ no_space [] some other ends = absurd (omega (arith, some))
 no_space (b ∷ rest) some other (inl e) = absurd cc
 no_space (b ∷ rest) some other (inr e) = let space : b ≡ 32 = cc in other space
 
--- nor where a byte other than a space is behind it;
-pub no_word_end : (line behind : List ℕ) → line ≡ leading_digits line ++ behind → 0 < length behind → get_or behind 0 0 ≢ 32 → first_number_of line ≡ None
-no_word_end line behind cut some other = go (words line) refl
+-- nor where a byte other than a space is after it;
+pub no_word_end : (line after : List ℕ) → line ≡ leading_digits line ++ after → 0 < length after → get_or after 0 0 ≢ 32 → first_number_of line ≡ None
+no_word_end line after cut some other = go (words line) refl
   where
     go : (ws : List (List ℕ)) → words line ≡ ws → option_and_then short_number_of (slice_get ws 0) ≡ None
     go [] parts = refl
@@ -75,8 +75,8 @@ no_word_end line behind cut some other = go (words line) refl
       | inl all ↦
           let first = first_of line word ws parts in
           let digits = first_digits line word ws parts all in
-          let same : first.behind ≡ behind = append_cancel_left word first.behind behind (sym first.line_is ∙ cut ∙ ap (λ ds. ds ++ behind) digits) in
-          absurd (no_space behind some other (rw same at first.ends))
+          let same : first.after ≡ after = append_cancel_left word first.after after (sym first.line_is ∙ cut ∙ ap (λ ds. ds ++ after) digits) in
+          absurd (no_space after some other (rw same at first.ends))
       | inr none ↦ not_digits word none
     ]
 
@@ -85,15 +85,15 @@ are_a_word : (line : List ℕ) → IsWord (leading_digits line)
 are_a_word line = All-from_get_or (λ b. is_space b ≡ false) (leading_digits line) 0
     (λ i lt. other_byte (get_or (leading_digits line) i 0) 32 (digit_at (leading_digits line) i (are_digits line) lt) (omega arith))
 
-pub only_word : (line behind : List ℕ) → line ≡ leading_digits line ++ behind → length behind ≡ 0 → words line ≡ leading_digits line ∷ []
+pub only_word : (line after : List ℕ) → line ≡ leading_digits line ++ after → length after ≡ 0 → words line ≡ leading_digits line ∷ []
 unfolding words
 only_word line [] cut none =
     ap words (cut ∙ append-nil (leading_digits line)) ∙ slice_split_none is_space (leading_digits line) (are_a_word line)
-only_word line (b ∷ behind) cut none = absurd (omega (arith, none))
+only_word line (b ∷ after) cut none = absurd (omega (arith, none))
 
-pub word_before : (line behind : List ℕ) → line ≡ leading_digits line ++ behind → 0 < length behind → get_or behind 0 0 ≡ 32
-    → words line ≡ leading_digits line ∷ words (drop 1 behind)
+pub word_before : (line after : List ℕ) → line ≡ leading_digits line ++ after → 0 < length after → get_or after 0 0 ≡ 32
+    → words line ≡ leading_digits line ∷ words (drop 1 after)
 unfolding words
 word_before line [] cut some space = absurd (omega (arith, some))
-word_before line (b ∷ behind) cut some space =
-    ap words cut ∙ slice_split_at is_space (leading_digits line) b behind (are_a_word line) (rw space refl)
+word_before line (b ∷ after) cut some space =
+    ap words cut ∙ slice_split_at is_space (leading_digits line) b after (are_a_word line) (rw space refl)

@@ -78,9 +78,9 @@ leading_digits-front (b ∷ text) = elim (cases_Bool (is_newline b)) [
 ]
 
 -- what stands after the digits in the line
-cut_line : (text behind : List ℕ) → text ≡ leading_digits text ++ behind → front text ≡ leading_digits (front text) ++ front behind
-cut_line text behind cut =
-    ap front cut ∙ front-append (leading_digits text) behind (are_in_line text) ∙ ap (λ (ds : List ℕ). ds ++ front behind) (sym (leading_digits-front text))
+cut_line : (text tail : List ℕ) → text ≡ leading_digits text ++ tail → front text ≡ leading_digits (front text) ++ front tail
+cut_line text tail cut =
+    ap front cut ∙ front-append (leading_digits text) tail (are_in_line text) ∙ ap (λ (ds : List ℕ). ds ++ front tail) (sym (leading_digits-front text))
 
 no_number_in_front : (text : List ℕ) → leading_number_of text ≡ None → first_number_of (front text) ≡ None
 no_number_in_front text none = no_first_number (front text) (ap short_number_of (leading_digits-front text) ∙ none)
@@ -120,8 +120,8 @@ pub no_first : (text : List ℕ) → leading_number_of text ≡ None → first_p
 no_first text none = first_pair_is text ∙ first_is_none (words (front text)) (no_number_in_front text none)
 
 -- the byte after the digits is no space
-pub no_space : (text behind : List ℕ) → text ≡ leading_digits text ++ behind → slice_get behind 0 ≢ Some 32 → first_pair_of text ≡ None
-no_space text behind cut other = first_pair_is text ∙ go (front behind) refl
+pub no_space : (text tail : List ℕ) → text ≡ leading_digits text ++ tail → slice_get tail 0 ≢ Some 32 → first_pair_of text ≡ None
+no_space text tail cut other = first_pair_is text ∙ go (front tail) refl
   where
     differs : (bs : List ℕ) → slice_get bs 0 ≢ Some 32 → 0 < length (front bs) → get_or (front bs) 0 0 ≢ 32
     differs [] ne some = absurd (omega (arith, some))
@@ -130,11 +130,11 @@ no_space text behind cut other = first_pair_is text ∙ go (front behind) refl
       | inr goes_on ↦ rw goes_on (λ space. ne (ap Some space))
     ]
 
-    go : (left : List ℕ) → front behind ≡ left → short_pair_of (words (front text)) ≡ None
-    go [] none = ap short_pair_of (only_word (front text) (front behind) (cut_line text behind cut) (ap length none))
+    go : (left : List ℕ) → front tail ≡ left → short_pair_of (words (front text)) ≡ None
+    go [] none = ap short_pair_of (only_word (front text) (front tail) (cut_line text tail cut) (ap length none))
     go (b ∷ left) is =
-        let some : 0 < length (front behind) = omega (arith, ap length is) in
-        first_is_none (words (front text)) (no_word_end (front text) (front behind) (cut_line text behind cut) some (differs behind other some))
+        let some : 0 < length (front tail) = omega (arith, ap length is) in
+        first_is_none (words (front text)) (no_word_end (front text) (front tail) (cut_line text tail cut) some (differs tail other some))
 
 -- a space stands after the digits
 words_after : (text more : List ℕ) → text ≡ leading_digits text ++ 32 ∷ more → words (front text) ≡ leading_digits text ∷ words (front more)
@@ -148,25 +148,25 @@ no_second text more cut none =
     ∙ second_is_none (leading_digits text) (words (front more)) (no_number_in_front more none)
 
 -- neither the end nor a newline stands after the second number
-pub no_end : (text more behind : List ℕ) → text ≡ leading_digits text ++ 32 ∷ more → more ≡ leading_digits more ++ behind → 0 < length behind → slice_get behind 0 ≢ Some 10
+pub no_end : (text more tail : List ℕ) → text ≡ leading_digits text ++ 32 ∷ more → more ≡ leading_digits more ++ tail → 0 < length tail → slice_get tail 0 ≢ Some 10
     → first_pair_of text ≡ None
-no_end text more behind cut cut_more some other = first_pair_is text ∙ ap short_pair_of (words_after text more cut) ∙ go behind refl
+no_end text more tail cut cut_more some other = first_pair_is text ∙ ap short_pair_of (words_after text more cut) ∙ go tail refl
   where
-    go : (bs : List ℕ) → behind ≡ bs → short_pair_of (leading_digits text ∷ words (front more)) ≡ None
+    go : (bs : List ℕ) → tail ≡ bs → short_pair_of (leading_digits text ∷ words (front more)) ≡ None
     go [] none = absurd (omega (arith, some, ap length none))
     go (b ∷ bs) is = elim (cases_Bool (is_newline b)) [
       | inl ends ↦ absurd (other (rw is (ap Some (eqb-true b 10 ends))))
       | inr goes_on ↦
-          let left : front behind ≡ b ∷ front bs = ap front is ∙ rw goes_on refl in
-          let there : 0 < length (front behind) = omega (arith, ap length left) in
-          let first : get_or (front behind) 0 0 ≡ b = ap (λ (t : List ℕ). get_or t 0 0) left in
+          let left : front tail ≡ b ∷ front bs = ap front is ∙ rw goes_on refl in
+          let there : 0 < length (front tail) = omega (arith, ap length left) in
+          let first : get_or (front tail) 0 0 ≡ b = ap (λ (t : List ℕ). get_or t 0 0) left in
           elim (cases_Bool (is_space b)) [
             | inl space ↦
-                ap (λ (ws : List (List ℕ)). short_pair_of (leading_digits text ∷ ws)) (word_before (front more) (front behind) (cut_line more behind cut_more) there (first ∙ eqb-true b 32 space))
-                ∙ more_words (leading_digits text) (leading_digits (front more)) (drop 1 (front behind))
+                ap (λ (ws : List (List ℕ)). short_pair_of (leading_digits text ∷ ws)) (word_before (front more) (front tail) (cut_line more tail cut_more) there (first ∙ eqb-true b 32 space))
+                ∙ more_words (leading_digits text) (leading_digits (front more)) (drop 1 (front tail))
             | inr letter ↦
                 second_is_none (leading_digits text) (words (front more))
-                (no_word_end (front more) (front behind) (cut_line more behind cut_more) there (λ is_32. absurd (differs b (sym first ∙ is_32) letter)))
+                (no_word_end (front more) (front tail) (cut_line more tail cut_more) there (λ is_32. absurd (differs b (sym first ∙ is_32) letter)))
           ]
     ]
       where
@@ -174,18 +174,18 @@ no_end text more behind cut cut_more some other = first_pair_is text ∙ ap shor
         differs b e ne = let f = rw e at ne in absurd cc
 
 -- the line ends after the second number
-pub pair_ends : (text more behind : List ℕ) (m n : ℕ) → text ≡ leading_digits text ++ 32 ∷ more → more ≡ leading_digits more ++ behind → front behind ≡ []
+pub pair_ends : (text more tail : List ℕ) (m n : ℕ) → text ≡ leading_digits text ++ 32 ∷ more → more ≡ leading_digits more ++ tail → front tail ≡ []
     → Some m ≡ leading_number_of text → Some n ≡ leading_number_of more → Some (m, n) ≡ first_pair_of text
-pair_ends text more behind m n cut cut_more ends first second =
+pair_ends text more tail m n cut cut_more ends first second =
     let two : words (front text) ≡ leading_digits text ∷ leading_digits more ∷ [] =
     words_after text more cut
     ∙ ap (λ (ws : List (List ℕ)). leading_digits text ∷ ws)
-    (only_word (front more) (front behind) (cut_line more behind cut_more) (ap length ends) ∙ ap (λ (ds : List ℕ). ds ∷ []) (leading_digits-front more)) in
+    (only_word (front more) (front tail) (cut_line more tail cut_more) (ap length ends) ∙ ap (λ (ds : List ℕ). ds ∷ []) (leading_digits-front more)) in
     sym (first_pair_is text ∙ ap short_pair_of two ∙ rw (← first, ← second) refl)
 
-pub after_pair : (text more behind : List ℕ) → text ≡ leading_digits text ++ 32 ∷ more → more ≡ leading_digits more ++ behind → lines (after behind) ≡ drop 1 (lines text)
-after_pair text more behind cut cut_more =
-    ap lines (sym (ap after cut ∙ after-append (leading_digits text) (32 ∷ more) (are_in_line text) ∙ ap after cut_more ∙ after-append (leading_digits more) behind (are_in_line more)))
+pub after_pair : (text more tail : List ℕ) → text ≡ leading_digits text ++ 32 ∷ more → more ≡ leading_digits more ++ tail → lines (after tail) ≡ drop 1 (lines text)
+after_pair text more tail cut cut_more =
+    ap lines (sym (ap after cut ∙ after-append (leading_digits text) (32 ∷ more) (are_in_line text) ∙ ap after cut_more ∙ after-append (leading_digits more) tail (are_in_line more)))
     ∙ lines-after text
 
 -- where nothing is left, neither a line nor a text after it is

@@ -111,9 +111,9 @@ short_is_number word n is = elim (cases_Bool (leb (length word) 19)) [
   | inr many ↦ let none = rw many at is in absurd cc
 ]
 
--- digits with nothing behind them are a whole word
-pub whole_number : (word behind : List ℕ) (n : ℕ) → Some n ≡ leading_number_of word → word ≡ leading_digits word ++ behind → length behind ≡ 0 → number_of word ≡ Some n
+-- digits with nothing after them are a whole word
+pub whole_number : (word after : List ℕ) (n : ℕ) → Some n ≡ leading_number_of word → word ≡ leading_digits word ++ after → length after ≡ 0 → number_of word ≡ Some n
 whole_number word [] n is cut none =
     let all : leading_digits word ≡ word = sym (cut ∙ append-nil (leading_digits word)) in
     short_is_number word n (ap short_number_of (sym all) ∙ sym is)
-whole_number word (b ∷ behind) n is cut none = absurd (omega (arith, none))
+whole_number word (b ∷ after) n is cut none = absurd (omega (arith, none))

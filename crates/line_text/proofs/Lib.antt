@@ -1,3 +1,4 @@
+pub mod LawLemmas
 pub mod Cuts
 pub mod Digits
 pub mod FirstNumbers

@@ -30,7 +30,7 @@ signed_of-other (b ∷ word) other = let head : eqb b 45 ≡ false = sym (and-tr
 
 -- ---- the laws
 
--- which number stands behind a sign, and which stands without one
+-- which number stands after a sign, and which stands without one
 some_negated : (o : Option ℕ) (n : ℕ) → option_and_then negated o ≡ Some (negsuc n) → o ≡ Some (suc n)
 some_negated None n e = absurd cc
 some_negated (Some zero) n e = absurd cc

@@ -1,6 +1,12 @@
--- The first faulty line of a text, where some texts spell a value and the others don't.
-use Rattle.std.specs.Prelude.{◌≡◌, ℕ, suc, ◌-◌, ◌≤◌, List, length, take}
+-- Readings that stop at the first fault; and the first faulty line of a text, where some texts spell a value and the others don't.
+use Rattle.std.specs.Prelude.{◌≡◌, ℕ, suc, ◌-◌, ◌≤◌, List, length, take, Result, Ok, Err}
 use Rattle.line_text.specs.Lines.{lines}
+
+-- Goes on with what was read. The first fault decides.
+infixl 10 ◌>>=◌
+abbrev pub ◌>>=◌ : {A B E : Type 0} → Result A E → (A → Result B E) → Result B E
+(Ok x) >>= rest = rest x
+(Err fault) >>= rest = Err fault
 
 -- The first faulty line of a text has this number, counted from 1; a missing line has the number after the last line.
 pub record IsFirstFault {A : Type 0} (Spells : List ℕ → A → Type 0) (text : List ℕ) (number : ℕ) : Type 0 where

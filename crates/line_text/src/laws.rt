@@ -49,8 +49,4 @@ pub fn law_hex()
 /// The facts that a format of lines, words and numbers needs, in one record.
 pub fn law_text()
     ensures { TextLaws }
-{
-    law_lines();
-    law_words();
-    law_numbers();
-}
+{}

@@ -10,7 +10,7 @@ use crate::number::SHORT;
 #[inline(always)]
 pub(crate) fn leading_number(text: &[u8]) -> Option<(u64, &[u8])>
     ensures number { option_map (λ pair. pair.0) result ≡ leading_number_of text.now }
-    ensures behind { IfSome result (λ pair. text.now ≡ leading_digits text.now ++ pair.1.now) }
+    ensures after { IfSome result (λ pair. text.now ≡ leading_digits text.now ++ pair.1.now) }
 {
     let (value, end) = digits_in_front(text)?;
     if end == 0 || (text[0] == b'0' && 1 < end) {

@@ -40,15 +40,15 @@ impl<'a> Words<'a> {
         ensures taken { IfSome result (λ _. self.new ≡ drop 1 self.old) }
         ensures kept { IfNone result (self.new ≡ self.old) }
     {
-        let (value, behind) = leading_number(self.rest?)?;
-        if behind.is_empty() {
+        let (value, after) = leading_number(self.rest?)?;
+        if after.is_empty() {
             self.rest = None;
             return Some(value);
         }
-        if behind[0] != b' ' {
+        if after[0] != b' ' {
             return None;
         }
-        self.rest = Some(&behind[1..]);
+        self.rest = Some(&after[1..]);
         Some(value)
     }
 

@@ -66,7 +66,7 @@ bytes_at-written_outside i new memory j len out =
   where
     apart : (k : ℕ) → k < len → (j + len ≤ i) ⊎ (i + length new ≤ j) → (j + k < i) ⊎ (i + length new ≤ j + k)
     apart k h (inl before) = inl (omega arith)
-    apart k h (inr behind) = inr (omega arith)
+    apart k h (inr after) = inr (omega arith)
 
 pub byte_at-written_inside : (i : ℕ) (new : List ℕ) (memory : List Granule) (j : ℕ) → IsMemory memory → j < 16 * length memory → i ≤ j → j < i + length new → byte_at (written i new memory) j ≡ get_or new (j - i) 0
 unfolding written

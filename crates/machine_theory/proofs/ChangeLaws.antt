@@ -86,7 +86,7 @@ byte_after-append i a b j old =
         | inr second ↦ elim (cases_lt j (i + length a + length b)) [
           | inl within ↦ byte_after-inside (i + length a) b j (byte_after i a j old) second within
               ∙ ap (λ k. get_or b k 0) (omega arith) ∙ sym (get_or-append_right a b (length a) (j - i) 0 refl (omega arith)) ∙ sym (byte_after-inside i (a ++ b) j old from (omega arith))
-          | inr behind ↦ byte_after-outside (i + length a) b j (byte_after i a j old) (inr behind) ∙ byte_after-outside i a j old (inr second)
+          | inr after ↦ byte_after-outside (i + length a) b j (byte_after i a j old) (inr after) ∙ byte_after-outside i a j old (inr second)
               ∙ sym (byte_after-outside i (a ++ b) j old (inr (omega arith)))
         ]
       ]

@@ -1,3 +1,4 @@
+pub mod AddressLaws
 pub mod TagLaws
 pub mod StepLaws
 pub mod SeedLaws
@@ -5,6 +6,7 @@ pub mod MemoryLaws
 pub mod ChangeLaws
 pub mod ByteLaws
 pub mod KeptLaws
+pub mod LawLemmas
 pub mod AccessLaws
 pub mod InstructionLaws
 mod WorkedExamples

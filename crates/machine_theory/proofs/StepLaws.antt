@@ -45,7 +45,7 @@ record StandsAt (p : ℕ → Bool) (xs : List ℕ) (i : ℕ) : Type 0 where
   within : place < length xs
   is : get_or xs place 0 ≡ get_or (filter p xs) i 0
   before : filter p (take (suc place) xs) ≡ take (suc i) (filter p xs)
-  behind : filter p (drop (suc place) xs) ≡ drop (suc i) (filter p xs)
+  after : filter p (drop (suc place) xs) ≡ drop (suc i) (filter p xs)
 
 stands_at : (p : ℕ → Bool) (xs : List ℕ) (i : ℕ) → i < length (filter p xs) → StandsAt p xs i
 stands_at p [] i h = absurd (omega arith)
@@ -66,7 +66,7 @@ stands_at p (x ∷ xs) i h = by_head (p x) refl i h (stands_at p xs)
       within = omega arith;
       is = ap (λ ys. get_or ys 0 0) (sym (with_head xs e));
       before = one e ∙ ap (take 1) (sym (with_head xs e));
-      behind = ap (drop 1) (sym (with_head xs e));
+      after = ap (drop 1) (sym (with_head xs e));
     }
     by_head true e (suc i) h rest =
         let r = rest i (omega (arith, ap length (with_head xs e))) in
@@ -75,7 +75,7 @@ stands_at p (x ∷ xs) i h = by_head (p x) refl i h (stands_at p xs)
           within = omega (arith, r.within);
           is = r.is ∙ ap (λ ys. get_or ys (suc i) 0) (sym (with_head xs e));
           before = with_head (take (suc r.place) xs) e ∙ ap (λ ys. x ∷ ys) r.before ∙ ap (take (suc (suc i))) (sym (with_head xs e));
-          behind = r.behind ∙ ap (drop (suc (suc i))) (sym (with_head xs e));
+          after = r.after ∙ ap (drop (suc (suc i))) (sym (with_head xs e));
         }
     by_head false e i h rest =
         let r = rest i (omega (arith, ap length (without_head xs e))) in
@@ -84,7 +84,7 @@ stands_at p (x ∷ xs) i h = by_head (p x) refl i h (stands_at p xs)
           within = omega (arith, r.within);
           is = r.is ∙ ap (λ ys. get_or ys i 0) (sym (without_head xs e));
           before = without_head (take (suc r.place) xs) e ∙ r.before ∙ ap (take (suc i)) (sym (without_head xs e));
-          behind = r.behind ∙ ap (drop (suc i)) (sym (without_head xs e));
+          after = r.after ∙ ap (drop (suc i)) (sym (without_head xs e));
         }
 
 -- the allowed tags after an allowed tag are those after an earlier one, turned
@@ -98,7 +98,7 @@ allowed_turned tag exclude i h =
     ap (λ t. filter (λ t. not (is_excluded exclude t)) (tags_after t)) tag_is
     ∙ ap (filter (λ t. not (is_excluded exclude t))) (tags_after_turned tag r.place place_below)
     ∙ filter-append (λ t. not (is_excluded exclude t)) (drop (suc r.place) (tags_after tag)) (take (suc r.place) (tags_after tag))
-    ∙ (λ k. r.behind k ++ r.before k)
+    ∙ (λ k. r.after k ++ r.before k)
 
 -- the allowed tag after the i-th one is the one after it, and the first after the last
 next_in_turn : (tag exclude i : ℕ) → i < length (allowed_after tag exclude) →

@@ -3,7 +3,7 @@ use Rattle.std.proofs.Common.{◌≡◌, ℕ, ◌≤◌, false, ltb, List, ◌++
 use Rattle.std.specs.Io.KnownBytes.{Appends, Consumes, IsAtEnd}
 use Rattle.std.proofs.lemmas.Bool.{le-ltb}
 use Rattle.mte_engine.specs.Moving.{most_input}
-use Rattle.mte_engine.specs.Outcome.{Answer, AnswersInput, TellsFor}
+use Rattle.mte_engine.specs.Outcome.{Answer, AnswersInput, ReportsFor}
 use Rattle.mte_engine.specs.declared.engine.Status.{Status}
 use Rattle.mte_engine.specs.declared.fault.InputFault.{InputFault}
 use Rattle.mte_engine.specs.declared.fault.ToolFault.TheVariants.{WriteFault}
@@ -25,7 +25,7 @@ answers_input answers all input after answer bytes end short given =
 pub write_failed : (answers : List ℕ → Result Answer InputFault → Type 0) (source source' before after : Option (List ℕ)) (input text : List ℕ) (status : Status)
     (written rest : List ℕ) → length input ≤ most_input → Consumes source source' input → IsAtEnd source'
     → answers input (Ok (record { text = text; status = status })) → text ≡ written ++ rest → Appends before after written
-    → TellsFor answers source before after (Err WriteFault)
+    → ReportsFor answers source before after (Err WriteFault)
 write_failed answers None source' before after input text status written rest short read end given parts taken = tt
 write_failed answers (Some all) source' before after input text status written rest short read end given parts taken =
     let prefix : answers input (Ok (record { text = written ++ rest; status = status })) =

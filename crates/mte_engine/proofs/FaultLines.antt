@@ -6,7 +6,7 @@ use Rattle.std.specs.Fmt.{decimal}
 use Rattle.std.proofs.lemmas.Fmt.{decimal_digit}
 use Rattle.std.proofs.lemmas.List.{drop-take, length-drop}
 use Rattle.std.proofs.lemmas.List.Elements.{All-take, All-drop, All-from_recursion, All-head, All-tail}
-use Rattle.line_text.specs.FirstFault.{IsFirstFault}
+use Rattle.line_text.specs.FirstFault.{◌>>=◌, IsFirstFault}
 use Rattle.line_text.specs.Laws.{LineInFrontIsRead, LinesAreLines, WrittenLinesAreRead}
 use Rattle.line_text.specs.Lines.{lines, text_of, words, is_newline, IsLine}
 use Rattle.class_table.specs.ClassLine.{BeginsWithTable, numbers_of, table_of_line}
@@ -20,7 +20,7 @@ use Rattle.profile_count.specs.Laws.{ProfileIsSpelled, RefusedLineIsThere, Spell
 use Rattle.profile_count.specs.ProfileText.{SpellsProfile, profile_from, profile_of, profile_of_lines}
 use Rattle.profile_count.specs.declared.fault.ProfileFault.{ProfileFault}
 use Rattle.potential_check.specs.Laws.{SheetIsSpelled}
-use Rattle.potential_check.specs.Leading.{leading_lines, lines_behind}
+use Rattle.potential_check.specs.Leading.{leading_lines, lines_after}
 use Rattle.potential_check.specs.SheetText.{SpellsSheet, sheet_of_lines}
 use Rattle.heap_theory.specs.declared.event.Event.{Event}
 use Rattle.tagged_heap.specs.declared.heap.Config.{Config}
@@ -31,7 +31,7 @@ use Rattle.tuner_theory.specs.Waste.{Profile as Counted}
 use Rattle.mte_engine.specs.Check.{sheet_and_profile}
 use Rattle.mte_engine.specs.FaultLines.{IsAtFirstFault, SpellsSheetAndProfile, SpellsTableAndProfile, line_of_fault}
 use Rattle.mte_engine.specs.Outcome.{Answer}
-use Rattle.mte_engine.specs.Parts.{◌>>=◌, profile_part}
+use Rattle.mte_engine.specs.Parts.{profile_part}
 use Rattle.mte_engine.specs.Replay.{replay_answer, replay_of_lines, report_on}
 use Rattle.mte_engine.specs.Score.{score_of, score_of_lines}
 use Rattle.mte_engine.specs.Shown.{in_line, shown_input_fault}
@@ -42,7 +42,7 @@ use Rattle.mte_engine.specs.declared.fault.InputFault.TheVariants.{TooLong, Tabl
 use Rattle.class_table.specs.Shown.{shown_table_error}
 use Rattle.profile_count.specs.Shown.{shown_profile_fault}
 use Rattle.trace_reader.specs.Shown.{shown_trace_fault}
-use Rattle.mte_engine.proofs.LeadingSettled.{behind_alike, leading_lines-cut, leading_lines-lines, leading_lines-settled, take_twice}
+use Rattle.mte_engine.proofs.LeadingSettled.{after_alike, leading_lines-cut, leading_lines-lines, leading_lines-settled, take_twice}
 
 -- What is known of texts, tables, profiles and sheets.
 pub record PartLaws : Type 0 where
@@ -79,10 +79,10 @@ shown_with_line (Trace line fault) n e = (shown_trace_fault fault, ap (in_line (
 -- ---- lines
 
 -- what is alike with one line in front is alike without it
-alike_behind : (m : ℕ) (line : List ℕ) (ls rest : List (List ℕ)) → take (suc m) (line ∷ ls) ≡ take (suc m) rest
+alike_after : (m : ℕ) (line : List ℕ) (ls rest : List (List ℕ)) → take (suc m) (line ∷ ls) ≡ take (suc m) rest
     → take m ls ≡ take m (drop 1 rest)
-alike_behind m line ls [] e = absurd cc
-alike_behind m line ls (other ∷ rest) e = cc
+alike_after m line ls [] e = absurd cc
+alike_after m line ls (other ∷ rest) e = cc
 
 module _ (laws : PartLaws) where
   -- ---- a table in front of a profile
@@ -99,10 +99,10 @@ module _ (laws : PartLaws) where
   in_front line table text p is_line read spells =
       let parts : lines (line ++ 10 ∷ text) ≡ line ∷ lines text = laws.front line text is_line in
       let spelled = laws.table_line line table read in
-      let behind : drop 1 (lines (line ++ 10 ∷ text)) ≡ lines text = ap (drop 1) parts in
+      let after : drop 1 (lines (line ++ 10 ∷ text)) ≡ lines text = ap (drop 1) parts in
       record {
         table = record { legal = spelled.1; line = ap (take 1) parts ∙ ap (λ (l : List ℕ). l ∷ []) spelled.0 };
-        profile = rw behind (whole_lines text p spells);
+        profile = rw after (whole_lines text p spells);
       }
 
   -- ---- the fault of the table
@@ -140,7 +140,7 @@ module _ (laws : PartLaws) where
 
   -- ---- the fault of the profile
 
-  -- the first fault of the lines behind a table is that of the input, one line later
+  -- the first fault of the lines after a table is that of the input, one line later
   later_line : (text line table : List ℕ) (ls : List (List ℕ)) (m : ℕ) → lines text ≡ line ∷ ls
       → table_of_line line ≡ Ok table → IsFirstFault SpellsProfile (text_of ls) m → IsFirstFault SpellsTableAndProfile text (suc m)
   later_line text line table ls m parts read first =
@@ -162,8 +162,8 @@ module _ (laws : PartLaws) where
         none = λ next spelled spells alike_next.
             let rest = drop 1 (lines next) in
             let rest_lines = laws.written_lines rest (All-drop IsLine 1 (lines next) (laws.lines next)) in
-            let behind : take m ls ≡ take m rest = alike_behind m line ls (lines next) (rw parts at (sym alike_next)) in
-            first.none (text_of rest) spelled.1 spells.profile (rw (same, rest_lines) (sym behind));
+            let after : take m ls ≡ take m rest = alike_after m line ls (lines next) (rw parts at (sym alike_next)) in
+            first.none (text_of rest) spelled.1 spells.profile (rw (same, rest_lines) (sym after));
       }
 
   -- ---- what is refused
@@ -173,11 +173,11 @@ module _ (laws : PartLaws) where
   unfolding score_of
   score_at_first text fault e = go (lines text) refl e
     where
-      behind : (line table : List ℕ) (ls : List (List ℕ)) (read : Result Counted (ℕ × ProfileFault)) → lines text ≡ line ∷ ls
+      after : (line table : List ℕ) (ls : List (List ℕ)) (read : Result Counted (ℕ × ProfileFault)) → lines text ≡ line ∷ ls
           → table_of_line line ≡ Ok table → profile_of_lines ls ≡ read → score_of_lines (line ∷ ls) ≡ Err fault
           → IsAtFirstFault SpellsTableAndProfile text fault
-      behind line table ls (Ok p) parts is_table is_profile e = let none = rw (is_table, is_profile) at e in absurd cc
-      behind line table ls (Err refused) parts is_table is_profile e =
+      after line table ls (Ok p) parts is_table is_profile e = let none = rw (is_table, is_profile) at e in absurd cc
+      after line table ls (Err refused) parts is_table is_profile e =
           let is_fault : fault ≡ Profile (1 + refused.0) refused.1 = (let same = rw (is_table, is_profile) at e in cc) in
           let all : All IsLine (line ∷ ls) = rw parts at (laws.lines text) in
           let same : lines (text_of ls) ≡ ls = laws.written_lines ls (All-tail IsLine line ls all) in
@@ -189,7 +189,7 @@ module _ (laws : PartLaws) where
 
       with_line : (line : List ℕ) (ls : List (List ℕ)) (read : Result (List ℕ) TableError) → lines text ≡ line ∷ ls
           → table_of_line line ≡ read → score_of_lines (line ∷ ls) ≡ Err fault → IsAtFirstFault SpellsTableAndProfile text fault
-      with_line line ls (Ok table) parts is e = behind line table ls (profile_of_lines ls) parts is refl e
+      with_line line ls (Ok table) parts is e = after line table ls (profile_of_lines ls) parts is refl e
       with_line line ls (Err refused) parts is e =
           let is_fault : fault ≡ Table refused = (let same = rw is at e in cc) in
           (1, rw is_fault refl, first_line text (table_refused text line ls refused parts is))
@@ -212,12 +212,12 @@ module _ (laws : PartLaws) where
           let number : 0 + refused.0 ≡ refused.0 = omega arith in
           (refused.0, rw is_fault (ap (λ (n : ℕ). Some n) number), (laws.profile_fault text refused.0).0 (refused.1, is))
 
-  -- the first fault of the lines behind a sheet is that of the input, so many lines later
-  behind_sheet : (text : List ℕ) (sheet : Sheet) (m : ℕ) → sheet_of_lines (leading_lines (lines text)) ≡ Ok sheet
-      → IsRefusedAt m (text_of (lines_behind (lines text)))
+  -- the first fault of the lines after a sheet is that of the input, so many lines later
+  after_sheet : (text : List ℕ) (sheet : Sheet) (m : ℕ) → sheet_of_lines (leading_lines (lines text)) ≡ Ok sheet
+      → IsRefusedAt m (text_of (lines_after (lines text)))
       → IsFirstFault SpellsSheetAndProfile text (length (leading_lines (lines text)) + m)
-  unfolding lines_behind
-  behind_sheet text sheet m read refused =
+  unfolding lines_after
+  after_sheet text sheet m read refused =
       let ls = lines text in
       let front = leading_lines ls in
       let k = length front in
@@ -251,31 +251,31 @@ module _ (laws : PartLaws) where
             let others = lines next in
             let more : k < k + m = omega (arith, first.some) in
             let settled : leading_lines others ≡ front = leading_lines-settled (k + m) ls others more within (sym alike) in
-            let behind = drop k others in
-            let behind_lines : lines (text_of behind) ≡ behind = laws.written_lines behind (All-drop IsLine k others (laws.lines next)) in
-            let is_next : SpellsProfile (text_of behind) spelled.1 = rw settled at spells.profile in
-            first.none (text_of behind) spelled.1 is_next (rw (rest_lines, behind_lines) (behind_alike k m others ls alike));
+            let after = drop k others in
+            let after_lines : lines (text_of after) ≡ after = laws.written_lines after (All-drop IsLine k others (laws.lines next)) in
+            let is_next : SpellsProfile (text_of after) spelled.1 = rw settled at spells.profile in
+            first.none (text_of after) spelled.1 is_next (rw (rest_lines, after_lines) (after_alike k m others ls alike));
       }
 
   pub check_profile_at_first : (text : List ℕ) (n : ℕ) (fault : ProfileFault) → sheet_and_profile (lines text) ≡ Err (Profile n fault)
       → IsFirstFault SpellsSheetAndProfile text n
-  unfolding sheet_and_profile lines_behind
+  unfolding sheet_and_profile lines_after
   check_profile_at_first text n fault e = go (sheet_of_lines (leading_lines (lines text))) refl
     where
       with_sheet : (sheet : Sheet) (read : Result Counted (ℕ × ProfileFault)) → sheet_of_lines (leading_lines (lines text)) ≡ Ok sheet
-          → profile_of_lines (lines_behind (lines text)) ≡ read → IsFirstFault SpellsSheetAndProfile text n
+          → profile_of_lines (lines_after (lines text)) ≡ read → IsFirstFault SpellsSheetAndProfile text n
       with_sheet sheet (Ok profile) is_sheet is_profile = let none = rw (is_sheet, is_profile) at e in absurd cc
       with_sheet sheet (Err refused) is_sheet is_profile =
           let ls = lines text in
-          let rest = lines_behind ls in
+          let rest = lines_after ls in
           let is_n : length (leading_lines ls) + refused.0 ≡ n = (let same = rw (is_sheet, is_profile) at e in cc) in
           let rest_lines : lines (text_of rest) ≡ rest =
           laws.written_lines rest (All-drop IsLine (length (leading_lines ls)) ls (laws.lines text)) in
           let refused_text : profile_of (text_of rest) ≡ Err (refused.0, refused.1) = ap profile_of_lines rest_lines ∙ is_profile in
-          rw (← is_n) (behind_sheet text sheet refused.0 is_sheet (refused.1, refused_text))
+          rw (← is_n) (after_sheet text sheet refused.0 is_sheet (refused.1, refused_text))
 
       go : (read : Result Sheet ℕ) → sheet_of_lines (leading_lines (lines text)) ≡ read → IsFirstFault SpellsSheetAndProfile text n
-      go (Ok sheet) is = with_sheet sheet (profile_of_lines (lines_behind (lines text))) is refl
+      go (Ok sheet) is = with_sheet sheet (profile_of_lines (lines_after (lines text))) is refl
       go (Err number) is = let none = rw is at e in absurd cc
 
   pub replay_at_first : (config : Config) (text : List ℕ) (fault : TableError) → replay_answer config text ≡ Err (Table fault)

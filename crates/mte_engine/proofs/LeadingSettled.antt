@@ -35,13 +35,13 @@ take_twice zero xs = refl
 take_twice (suc n) [] = refl
 take_twice (suc n) (x ∷ xs) = ap (λ xs. x ∷ xs) (take_twice n xs)
 
--- what is alike behind lines that are alike
-pub behind_alike : {A : Type 0} (n m : ℕ) (xs ys : List A) → take (n + m) xs ≡ take (n + m) ys → take m (drop n xs) ≡ take m (drop n ys)
-behind_alike n m xs ys e = sym (drop-take n m xs) ∙ ap (drop n) e ∙ drop-take n m ys
+-- what is alike after lines that are alike
+pub after_alike : {A : Type 0} (n m : ℕ) (xs ys : List A) → take (n + m) xs ≡ take (n + m) ys → take m (drop n xs) ≡ take m (drop n ys)
+after_alike n m xs ys e = sym (drop-take n m xs) ∙ ap (drop n) e ∙ drop-take n m ys
 
 -- ---- elements that pass a test
 
--- are settled by the one behind them,
+-- are settled by the one after them,
 passing_settled : {A : Type 0} (p : A → Bool) (n : ℕ) (xs ys : List A) → length (take_while p xs) < n → n ≤ length xs
     → take n xs ≡ take n ys → take_while p ys ≡ take_while p xs
 passing_settled p zero xs ys few there e = absurd (omega (arith, few))
@@ -77,7 +77,7 @@ passing_cut p (suc n) (x ∷ xs) few = go (passing_cut p n xs) (p x) refl
         rw (take_while-cons p x (take n xs), take_while-cons p x xs, is, others (omega (arith, fewer))) refl
     go others false is = rw (take_while-cons p x (take n xs), take_while-cons p x xs, is) refl
 
--- ---- so many elements, and those behind them that pass a test
+-- ---- so many elements, and those after them that pass a test
 
 abbrev leading : {A : Type 0} → (A → Bool) → ℕ → List A → List A
 leading p h xs = take h xs ++ take_while p (drop h xs)
@@ -96,10 +96,10 @@ leading-settled p h n xs ys few there e =
     let size = leading-size p h xs (omega (arith, few, there)) in
     let parts : n ≡ h + (n - h) = omega (arith, few, size.0) in
     let head = take_fewer h n xs ys (omega (arith, few, size.0)) e in
-    let behind = behind_alike h (n - h) xs ys (rw parts at e) in
+    let after = after_alike h (n - h) xs ys (rw parts at e) in
     let fewer : length (take_while p (drop h xs)) < n - h = omega (arith, few, size.0) in
-    let there_behind : n - h ≤ length (drop h xs) = omega (arith, there, length-drop h xs) in
-    rw (← head, passing_settled p (n - h) (drop h xs) (drop h ys) fewer there_behind behind) refl
+    let there_after : n - h ≤ length (drop h xs) = omega (arith, there, length-drop h xs) in
+    rw (← head, passing_settled p (n - h) (drop h xs) (drop h ys) fewer there_after after) refl
 
 leading-cut : {A : Type 0} (p : A → Bool) (h n : ℕ) (xs : List A) → length (leading p h xs) ≤ n → length (leading p h xs) < length xs
     → leading p h (take n xs) ≡ leading p h xs
@@ -107,9 +107,9 @@ leading-cut p h n xs few short =
     let size = leading-size p h xs short in
     let parts : n ≡ h + (n - h) = omega (arith, few, size.0) in
     let head : take h (take n xs) ≡ take h xs = take_fewer h n (take n xs) xs (omega (arith, few, size.0)) (take_twice n xs) in
-    let behind : drop h (take n xs) ≡ take (n - h) (drop h xs) = ap (λ (n : ℕ). drop h (take n xs)) parts ∙ drop-take h (n - h) xs in
+    let after : drop h (take n xs) ≡ take (n - h) (drop h xs) = ap (λ (n : ℕ). drop h (take n xs)) parts ∙ drop-take h (n - h) xs in
     let rows = passing_cut p (n - h) (drop h xs) (omega (arith, few, size.0)) in
-    rw (head, behind, rows) refl
+    rw (head, after, rows) refl
 
 -- ---- the lines of a sheet
 
@@ -129,7 +129,7 @@ head_size-alike n ls other few e =
     let third : get_or other 2 [] ≡ get_or ls 2 [] = sym of_other ∙ ap (λ (front : List (List ℕ)). get_or front 2 []) (sym e) ∙ of_this in
     rw third refl
 
--- The lines of a sheet, where one is behind them, are those of each text that begins with them and that one,
+-- The lines of a sheet, where one is after them, are those of each text that begins with them and that one,
 pub leading_lines-settled : (n : ℕ) (ls other : List (List ℕ)) → length (leading_lines ls) < n → n ≤ length ls → take n ls ≡ take n other
     → leading_lines other ≡ leading_lines ls
 unfolding leading_lines
@@ -138,7 +138,7 @@ leading_lines-settled n ls other few there e =
     let head = head_size-alike n ls other (omega (arith, head_size-few ls, few, size.0)) e in
     ap (λ (h : ℕ). leading is_row_line h other) head ∙ leading-settled is_row_line (head_size ls) n ls other few there e
 
--- and of the lines that are left where only lines behind them are cut off.
+-- and of the lines that are left where only lines after them are cut off.
 pub leading_lines-cut : (n : ℕ) (ls : List (List ℕ)) → length (leading_lines ls) ≤ n → length (leading_lines ls) < length ls
     → leading_lines (take n ls) ≡ leading_lines ls
 unfolding leading_lines

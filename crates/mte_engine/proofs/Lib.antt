@@ -1,3 +1,4 @@
+pub mod LawLemmas
 pub mod Answering
 pub mod Counting
 pub mod FaultLines

@@ -7,7 +7,7 @@ use Rattle.line_text.specs.Lines.{lines, IsLine}
 use Rattle.class_table.specs.ClassLine.{table_of_line}
 use Rattle.class_table.specs.declared.fault.TableError.TheVariants.{BadLine}
 use Rattle.tagged_heap.specs.declared.heap.Config.{Config}
-use Rattle.trace_reader.specs.Laws.{FinishedBehindEvents, PiecesAreTheText}
+use Rattle.trace_reader.specs.Laws.{FinishedAfterEvents, PiecesAreTheText}
 use Rattle.trace_reader.specs.Reading.{Reading, finished, whole_reading}
 use Rattle.trace_reader.specs.TraceText.{trace_of}
 use Rattle.mte_engine.specs.Outcome.{GivesFault}
@@ -42,9 +42,9 @@ module _ (config : Config) (bytes line trace : List ℕ) (reading : Reading) (is
   table_refused OutOfMemory gives = tt
   table_refused (Input fault) gives = rw (is.parts, gives) refl
 
-  module _ (whole : PiecesAreTheText) (behind : FinishedBehindEvents) (table : List ℕ) (read : table_part (table_of_line line) ≡ Ok table) where
+  module _ (whole : PiecesAreTheText) (after : FinishedAfterEvents) (table : List ℕ) (read : table_part (table_of_line line) ≡ Ok table) where
     finished_is : finished reading ≡ whole_reading (trace_of trace)
-    finished_is = ap finished is.keeps ∙ finished_whole whole behind trace
+    finished_is = ap finished is.keeps ∙ finished_whole whole after trace
 
     pub replay_refused : (error : AnswerError) → HasEnded 1 (finished reading).state (Err error) → GivesFault (ReplayAnswers config bytes) error
     unfolding replay_answer

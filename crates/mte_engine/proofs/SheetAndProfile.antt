@@ -1,7 +1,7 @@
 -- From the parts of an input to the verdict on it.
 use Rattle.std.proofs.Common.{◌≡◌, ℕ, List, length, Ok, Err, refl}
 use Rattle.line_text.specs.Lines.{lines}
-use Rattle.potential_check.specs.Leading.{leading_lines, lines_behind}
+use Rattle.potential_check.specs.Leading.{leading_lines, lines_after}
 use Rattle.potential_check.specs.SheetText.{sheet_of_lines}
 use Rattle.profile_count.specs.ProfileText.{profile_of, profile_of_lines}
 use Rattle.tuner_theory.specs.Sheets.{Sheet}
@@ -19,8 +19,8 @@ sheet_refused text OutOfMemory gives = tt
 sheet_refused text (Input fault) gives = rw gives refl
 
 module _ (text rest : List ℕ) (sheet : Sheet) (size : ℕ) (read : sheet_part (sheet_of_lines (leading_lines (lines text))) ≡ Ok sheet)
-    (is_size : size ≡ length (leading_lines (lines text))) (is_rest : lines rest ≡ lines_behind (lines text)) where
-  same_part : profile_part (length (leading_lines (lines text))) (profile_of_lines (lines_behind (lines text))) ≡ profile_part size (profile_of rest)
+    (is_size : size ≡ length (leading_lines (lines text))) (is_rest : lines rest ≡ lines_after (lines text)) where
+  same_part : profile_part (length (leading_lines (lines text))) (profile_of_lines (lines_after (lines text))) ≡ profile_part size (profile_of rest)
   same_part = rw (is_size, is_rest) refl
 
   pub profile_refused : (fault : AnswerError) → GivesPart {A = Counted} (Err fault) (profile_part size (profile_of rest)) → GivesFault (CheckAnswers text) fault

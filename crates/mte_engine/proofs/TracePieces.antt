@@ -9,7 +9,7 @@ use Rattle.profile_count.specs.Counts.{nothing_counted}
 use Rattle.profile_count.specs.Laws.{AddedRequestsAreCounted}
 use Rattle.profile_count.specs.ProfileText.{profile_text}
 use Rattle.profile_count.specs.Requests.{profile_of_sizes}
-use Rattle.trace_reader.specs.Laws.{EventsAreFew, FedBehindEvents, FinishedBehindEvents, PiecesAreJoined, PiecesAreTheText, PiecesHaveFewEvents}
+use Rattle.trace_reader.specs.Laws.{EventsAreFew, FedAfterEvents, FinishedAfterEvents, PiecesAreJoined, PiecesAreTheText, PiecesHaveFewEvents}
 use Rattle.trace_reader.specs.Reading.{Reading, State, added, cut, ended_state, fed, finished, nothing_read, whole_reading}
 use Rattle.trace_reader.specs.Reading.State.{Failed, Finished}
 use Rattle.trace_reader.specs.TraceText.{Trace, trace_from, trace_of}
@@ -36,7 +36,7 @@ nothing_counted_yet added = record {
   counts = added [] ∙ ap (λ (r : Reading). profile_of_events r.events) (sym nothing_fed);
 }
 
-module _ (joined : PiecesAreJoined) (behind : FedBehindEvents) (few : PiecesHaveFewEvents) (bytes piece : List ℕ) where
+module _ (joined : PiecesAreJoined) (apart : FedAfterEvents) (few : PiecesHaveFewEvents) (bytes piece : List ℕ) where
   abbrev before : Reading
   before = fed nothing_read bytes
 
@@ -50,7 +50,7 @@ module _ (joined : PiecesAreJoined) (behind : FedBehindEvents) (few : PiecesHave
   split : after ≡ added before.events (fed emptied piece)
   split =
       let whole : before ≡ added before.events emptied = ap (λ (e : List Event). record { events = e; state = before.state }) (sym (append-nil before.events)) in
-      sym (joined nothing_read bytes piece) ∙ ap (λ (r : Reading). fed r piece) whole ∙ behind before.events emptied piece
+      sym (joined nothing_read bytes piece) ∙ ap (λ (r : Reading). fed r piece) whole ∙ apart before.events emptied piece
 
   -- one more piece was fed, and its events were counted and taken out
   pub counts_more : (reader fed_reader : Reading) (profile profile' : Counted) → KeepsCounts reader profile bytes → fed_reader ≡ fed reader piece
@@ -89,7 +89,7 @@ pub trace_refused : (lines : ℕ) (trace : Trace) (state : State) (refused : Inp
     → HasEnded lines state (Err (Input refused)) → trace_part lines trace ≡ Err refused
 trace_refused lines trace state refused is (number, fault, failed, same) = rw (the_fault trace.fault number fault (sym is ∙ failed), same) refl
 
-module _ (whole : PiecesAreTheText) (behind : FinishedBehindEvents) (bytes : List ℕ) where
+module _ (whole : PiecesAreTheText) (apart : FinishedAfterEvents) (bytes : List ℕ) where
   -- all events wait
   pub finished_whole : finished (fed nothing_read bytes) ≡ whole_reading (trace_of bytes)
   finished_whole = whole (bytes ∷ []) ∙ ap (λ (t : List ℕ). whole_reading (trace_of t)) (append-nil bytes)
@@ -102,7 +102,7 @@ module _ (whole : PiecesAreTheText) (behind : FinishedBehindEvents) (bytes : Lis
   finished_rest =
       let read = fed nothing_read bytes in
       let same : read ≡ added read.events left = ap (λ (e : List Event). record { events = e; state = read.state }) (sym (append-nil read.events)) in
-      sym (behind read.events left) ∙ ap finished (sym same) ∙ finished_whole
+      sym (apart read.events left) ∙ ap finished (sym same) ∙ finished_whole
 
   -- ---- the answer of `profile`
 

@@ -3,7 +3,7 @@ use Rattle.std.proofs.Common.{◌≡◌, ℕ, List, ◌++◌, Ok, Err, sym, ap, 
 use Rattle.class_tuner.specs.Tuned.{IsTuned}
 use Rattle.potential_check.specs.SheetText.{sheet_text}
 use Rattle.tagged_heap.specs.declared.heap.Config.{Config}
-use Rattle.trace_reader.specs.Laws.{FinishedBehindEvents, PiecesAreTheText}
+use Rattle.trace_reader.specs.Laws.{FinishedAfterEvents, PiecesAreTheText}
 use Rattle.trace_reader.specs.Reading.{Reading, finished, whole_reading}
 use Rattle.trace_reader.specs.TraceText.{trace_of}
 use Rattle.tuner_theory.specs.Sheets.{Sheet}
@@ -18,10 +18,10 @@ use Rattle.mte_engine.specs.declared.fault.AnswerError.{AnswerError}
 use Rattle.mte_engine.specs.declared.fault.AnswerError.TheVariants.{OutOfMemory, Input}
 use Rattle.mte_engine.proofs.TracePieces.{finished_whole, trace_ends, trace_refused}
 
-module _ (whole : PiecesAreTheText) (behind : FinishedBehindEvents) (limit step : ℕ) (config : Config) (reading : Reading) (bytes : List ℕ)
+module _ (whole : PiecesAreTheText) (after : FinishedAfterEvents) (limit step : ℕ) (config : Config) (reading : Reading) (bytes : List ℕ)
     (keeps : KeepsEvents reading bytes) where
   finished_is : finished reading ≡ whole_reading (trace_of bytes)
-  finished_is = ap finished keeps ∙ finished_whole whole behind bytes
+  finished_is = ap finished keeps ∙ finished_whole whole after bytes
 
   pub run_refused : (error : AnswerError) → HasEnded 0 (finished reading).state (Err error) → GivesFault (RunAnswers limit step config bytes) error
   run_refused OutOfMemory ended = tt

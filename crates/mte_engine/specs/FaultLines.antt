@@ -3,7 +3,7 @@ use Rattle.std.specs.Prelude.{◌≡◌, ℕ, List, Option, Some, None, drop}
 use Rattle.line_text.specs.FirstFault.{IsFirstFault}
 use Rattle.line_text.specs.Lines.{lines, text_of}
 use Rattle.class_table.specs.ClassLine.{BeginsWithTable}
-use Rattle.potential_check.specs.Leading.{leading_lines, lines_behind}
+use Rattle.potential_check.specs.Leading.{leading_lines, lines_after}
 use Rattle.potential_check.specs.SheetText.{SpellsSheet}
 use Rattle.profile_count.specs.ProfileText.{SpellsProfile}
 use Rattle.tuner_theory.specs.Sheets.{Sheet}
@@ -31,4 +31,4 @@ pub record SpellsTableAndProfile (text : List ℕ) (parts : List ℕ × Counted)
 -- The text spells a sheet in its leading lines, and a profile in those after them.
 pub record SpellsSheetAndProfile (text : List ℕ) (parts : Sheet × Counted) : Type 0 where
   pub sheet : SpellsSheet (text_of (leading_lines (lines text))) parts.0
-  pub profile : SpellsProfile (text_of (lines_behind (lines text))) parts.1
+  pub profile : SpellsProfile (text_of (lines_after (lines text))) parts.1

@@ -48,17 +48,17 @@ fault_of_answer (Refused fault) = Input fault
 
 -- What a call wrote, if these are the answers to its input. `before` and `after` are the bytes that the sink had taken, if it knows
 -- them. Where the engine finished, the sink took the whole text; after a failed write a prefix of it; after any other fault nothing.
-abbrev pub Tells : (Result Answer InputFault → Type 0) → Option (List ℕ) → Option (List ℕ) → Result Status ToolFault → Type 0
-Tells answers before after (Ok status) = (text : List ℕ) × answers (Ok (record { text = text; status = status })) × Appends before after text
-Tells answers before after (Err OutOfMemory) = after ≡ before
-Tells answers before after (Err (Input fault)) = answers (Err fault) × (after ≡ before)
-Tells answers before after (Err ReadFault) = after ≡ before
-Tells answers before after (Err WriteFault) = (written rest : List ℕ) × (status : Status) × answers (Ok (record { text = written ++ rest; status = status })) × Appends before after written
+abbrev pub Reports : (Result Answer InputFault → Type 0) → Option (List ℕ) → Option (List ℕ) → Result Status ToolFault → Type 0
+Reports answers before after (Ok status) = (text : List ℕ) × answers (Ok (record { text = text; status = status })) × Appends before after text
+Reports answers before after (Err OutOfMemory) = after ≡ before
+Reports answers before after (Err (Input fault)) = answers (Err fault) × (after ≡ before)
+Reports answers before after (Err ReadFault) = after ≡ before
+Reports answers before after (Err WriteFault) = (written rest : List ℕ) × (status : Status) × answers (Ok (record { text = written ++ rest; status = status })) × Appends before after written
 
 -- The same for an input that the source knows; nothing is said of one that it doesn't.
-abbrev pub TellsFor : (List ℕ → Result Answer InputFault → Type 0) → Option (List ℕ) → Option (List ℕ) → Option (List ℕ) → Result Status ToolFault → Type 0
-TellsFor answers None before after result = ⊤
-TellsFor answers (Some input) before after result = Tells (AnswersInput answers input) before after result
+abbrev pub ReportsFor : (List ℕ → Result Answer InputFault → Type 0) → Option (List ℕ) → Option (List ℕ) → Option (List ℕ) → Result Status ToolFault → Type 0
+ReportsFor answers None before after result = ⊤
+ReportsFor answers (Some input) before after result = Reports (AnswersInput answers input) before after result
 
 -- After any fault but that of a write the sink is the value that it was.
 abbrev pub IsQuiet : {W : Type 0} → W → W → Result Status ToolFault → Type 0
@@ -80,7 +80,7 @@ pub record Runs (answers : List ℕ → Result Answer InputFault → Type 0) (so
   pub read_fault : (result ≡ Err ReadFault) ↔ (source.failed < source'.failed)
   pub write_fault : (result ≡ Err WriteFault) ↔ ((state sink).failed < (state sink').failed)
   -- what was written is the answer to the bytes that were read, and all of them were read
-  pub answer : TellsFor answers source.remaining (state sink).taken (state sink').taken result
+  pub answer : ReportsFor answers source.remaining (state sink).taken (state sink').taken result
   pub consumed : IfOk result (λ _. IsAtEnd source'.remaining)
   -- nothing was written before a fault other than that of a write
   pub quiet : IsQuiet sink sink' result

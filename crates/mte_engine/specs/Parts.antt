@@ -9,12 +9,6 @@ use Rattle.mte_engine.specs.declared.fault.InputFault.TheVariants.{Table, BadShe
 use Rattle.mte_engine.specs.declared.fault.AnswerError.{AnswerError}
 use Rattle.mte_engine.specs.declared.fault.AnswerError.TheVariants.{OutOfMemory, Input}
 
--- One part after the other: the first fault is the fault of the whole.
-infixl 10 ◌>>=◌
-abbrev pub ◌>>=◌ : {A B : Type 0} → Result A InputFault → (A → Result B InputFault) → Result B InputFault
-(Ok part) >>= rest = rest part
-(Err fault) >>= rest = Err fault
-
 -- A class line, which is the first line of its input.
 abbrev pub table_part : Result (List ℕ) TableError → Result (List ℕ) InputFault
 table_part (Ok table) = Ok table

@@ -1,5 +1,6 @@
 -- The answers of `replay`: the report on a trace, replayed on the heap over a class table.
 use Rattle.std.specs.Prelude.{◌≡◌, ◌≢◌, ℕ, ◌≤◌, List, [], ◌∷◌, Result, Ok, Err}
+use Rattle.line_text.specs.FirstFault.{◌>>=◌}
 use Rattle.line_text.specs.Lines.{lines}
 use Rattle.class_table.specs.ClassLine.{table_of_line}
 use Rattle.class_table.specs.Layout.{Partition}
@@ -9,7 +10,7 @@ use Rattle.heap_theory.specs.declared.event.Event.{Event}
 use Rattle.tagged_heap.specs.declared.heap.Config.{Config}
 use Rattle.trace_reader.specs.TraceText.{trace_from}
 use Rattle.mte_engine.specs.Outcome.{Answer}
-use Rattle.mte_engine.specs.Parts.{◌>>=◌, table_part}
+use Rattle.mte_engine.specs.Parts.{table_part}
 use Rattle.mte_engine.specs.Traces.{trace_part}
 use Rattle.mte_engine.specs.declared.engine.Status.TheVariants.{Done}
 use Rattle.mte_engine.specs.declared.fault.InputFault.{InputFault}

@@ -5,20 +5,14 @@ ghost use Rattle.mte_engine.specs.Laws.{ReplayRefusesTheFirstLine, ScoreRefusesA
 
 use class_table::laws::{law_class_line, law_class_line_fault};
 use class_tuner::laws::law_one_sheet;
-use heap_theory::laws::losses::law_losses;
-use heap_theory::laws::run::law_accesses;
 use line_text::laws::law_lines;
 use potential_check::laws::law_sheet_text;
-use profile_count::laws::{law_profile_fault, law_profile_text, law_waste_of_sizes};
+use profile_count::laws::{law_profile_fault, law_profile_text};
 
 /// The headline holds for a sheet that is tuned for the profile of a trace, followed by the report on the replay over that sheet's table.
 pub fn law_headline()
     ensures { TunedRunIsHeadline }
-{
-    law_waste_of_sizes();
-    law_losses();
-    law_accesses();
-}
+{}
 
 /// What `tune` and `run` write is one function of their input and options.
 pub fn law_one_answer()

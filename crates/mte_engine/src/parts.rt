@@ -3,7 +3,7 @@ ghost use Rattle.std.specs.Prelude.{◌≡◌, ◌^◌, ◌<◌, length, Ok, Err
 ghost use Rattle.line_text.specs.Lines.{IsLine, lines};
 ghost use Rattle.class_table.specs.ClassLine.{table_of_line};
 ghost use Rattle.profile_count.specs.ProfileText.{profile_of};
-ghost use Rattle.potential_check.specs.Leading.{leading_lines, lines_behind};
+ghost use Rattle.potential_check.specs.Leading.{leading_lines, lines_after};
 ghost use Rattle.potential_check.specs.Sheets.{sheet_of};
 ghost use Rattle.potential_check.specs.SheetText.{sheet_of_lines};
 ghost use Rattle.tuner_theory.specs.Sheets.{Sheet};
@@ -11,17 +11,16 @@ ghost use Rattle.mte_engine.specs.Parts.{GivesPart, table_part, sheet_part, prof
 
 use crate::fault::{AnswerError, InputFault};
 use class_table::ClassTable;
-use class_table::laws::law_class_line;
 use potential_check::{LeadingSheet, SheetError, read_leading_sheet};
 use profile_count::{Profile, ProfileError};
 use std::alloc::Global;
 
 /// The table that the first line of an input spells. `line` is that line without its newline.
+#[tactic(auto, using(class_table::proofs::LawLemmas::line_alone_is_read))]
 pub fn read_table(line: &[u8]) -> Result<ClassTable, AnswerError>
     requires { IsLine line.now }
     ensures { GivesPart result (table_part (table_of_line line.now)) }
 {
-    law_class_line();
     match ClassTable::read_line(line) {
         Ok(table) => Ok(table),
         Err(fault) => Err(AnswerError::Input(InputFault::Table(fault))),
@@ -34,7 +33,7 @@ pub fn read_leading(alloc: Global, text: &[u8]) -> Result<LeadingSheet<'_>, Answ
         (λ leading. sheet_part (sheet_of_lines (leading_lines (lines text.now))) ≡ Ok (sheet_of leading.sheet))
         (λ fault. GivesPart {A = Sheet} (Err fault) (sheet_part (sheet_of_lines (leading_lines (lines text.now))))) }
     ensures lines { IfOk result (λ leading. (leading.lines ≡ length (leading_lines (lines text.now))) × (leading.lines < 2 ^ 63)) }
-    ensures rest { IfOk result (λ leading. lines leading.rest.now ≡ lines_behind (lines text.now)) }
+    ensures rest { IfOk result (λ leading. lines leading.rest.now ≡ lines_after (lines text.now)) }
 {
     match read_leading_sheet(alloc, text) {
         Ok(leading) => Ok(leading),

@@ -12,10 +12,8 @@ use crate::output::Text;
 use crate::streams::{ByteSink, ByteSource};
 use crate::traces::{count_out, end, feed};
 use profile_count::Profile;
-use profile_count::laws::law_profile_of_sizes;
 use std::alloc::{AllocError, Global};
 use trace_reader::TraceReader;
-use trace_reader::laws::{law_pieces, law_trace_text};
 
 /// Reads a trace, and writes the profile of its requests: how often each size was requested by a malloc, a calloc or a realloc, also where
 /// a replay would refuse it. Of the trace it keeps no more than the events of one piece and the unfinished line.
@@ -43,7 +41,6 @@ impl Engine for ProfileEngine {
     ghost answers = { λ _. ProfileAnswers };
 
     fn input(&self, alloc: Global) -> Result<CountedTrace, AllocError> {
-        law_profile_of_sizes();
         let profile = Profile::new(alloc)?;
         Ok(CountedTrace {
             reader: TraceReader::new(alloc),
@@ -69,7 +66,6 @@ impl Input for CountedTrace {
     ghost has_taken = { λ input bytes. KeepsCounts input.reader input.profile bytes };
 
     fn take(&mut self, piece: &[u8]) -> Result<(), AllocError> {
-        law_pieces();
         feed(&mut self.reader, piece)?;
         count_out(&mut self.reader, &mut self.profile);
         Ok(())
@@ -81,8 +77,6 @@ fn profile_of_trace(alloc: Global, input: CountedTrace) -> Result<(Vec<u8>, Stat
     ensures { (bytes : List ℕ) → KeepsCounts input.reader input.profile bytes →
         GivesAnswer (λ written. written.items) (ProfileAnswers bytes) result }
 {
-    law_pieces();
-    law_trace_text();
     let CountedTrace {
         mut reader,
         mut profile,

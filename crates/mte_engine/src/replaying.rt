@@ -16,11 +16,9 @@ use crate::streams::{ByteSink, ByteSource};
 use crate::traces::{end, feed};
 use class_table::TableError;
 use line_text::first_line;
-use line_text::laws::law_lines;
 use replay_core::Config;
 use std::alloc::{AllocError, Global};
 use trace_reader::TraceReader;
-use trace_reader::laws::law_pieces;
 
 /// Reads a class line and then a trace, replays the trace on a new heap over that table, and writes the report: a line for each event that
 /// has one, and the totals. A fault in the replay is a line of the report, and the replay goes on.
@@ -84,7 +82,6 @@ impl Input for LineAndTrace {
     ghost has_taken = { λ input bytes. KeepsLineAndEvents input.has_ended input.line.items input.reader bytes };
 
     fn take(&mut self, piece: &[u8]) -> Result<(), AllocError> {
-        law_pieces();
         if self.has_ended {
             return feed(&mut self.reader, piece);
         }
@@ -107,7 +104,6 @@ fn answer_to(
     ensures { (bytes : List ℕ) → KeepsLineAndEvents input.has_ended input.line.items input.reader bytes →
         GivesAnswer text_left (ReplayAnswers config bytes) result }
 {
-    law_lines();
     let LineAndTrace {
         line,
         has_ended,
@@ -131,7 +127,6 @@ fn answer_to_parts(
     requires open { is_finished reader ≡ false }
     ensures { (bytes trace : List ℕ) → IsLineAndTrace bytes line.now trace reader → GivesAnswer text_left (ReplayAnswers config bytes) result }
 {
-    law_pieces();
     let table = read_table(line)?;
     end(&mut reader, 1)?;
     let report = Report::new(alloc, &table, config, reader, Vec::new(alloc))?;

@@ -7,7 +7,6 @@ ghost use Rattle.std.specs.Prelude.{◌≡◌, ◌+◌, ◌^◌, ◌≤◌, ◌+
 use crate::output::Output;
 use arrayvec::ArrayVec;
 use class_table::ClassTable;
-use replay_core::laws::{law_report, law_stored};
 use replay_core::{Config, LINE_BYTES, Replay, TOTALS_BYTES};
 use std::alloc::{AllocError, Global};
 use trace_reader::TraceReader;
@@ -46,8 +45,6 @@ impl Report {
         requires few { length reader.events ≤ 1000000 }
         ensures { IfOk result (λ report. text_left report ≡ text.items ++ report_on config table.now reader.events) }
     {
-        law_stored();
-        law_report();
         let mut buffer = text;
         buffer.reserve(BUFFER)?;
         let mut replay = Replay::new(alloc, table, config)?;

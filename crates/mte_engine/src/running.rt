@@ -11,7 +11,6 @@ ghost use Rattle.trace_reader.specs.Reading.{is_finished};
 use crate::engine::{Engine, Status, run_engine};
 use crate::fault::{AnswerError, ToolFault};
 use crate::input::Input;
-use crate::laws::law_headline;
 use crate::report::Report;
 use crate::streams::{ByteSink, ByteSource};
 use crate::traces::{count_all, end, feed};
@@ -20,7 +19,6 @@ use potential_check::write_sheet;
 use replay_core::Config;
 use std::alloc::{AllocError, Global};
 use trace_reader::TraceReader;
-use trace_reader::laws::law_pieces;
 
 /// Reads a trace, and writes two things: the sheet that `tune` writes for the trace's profile, and then the report that `replay` writes on
 /// the trace with that sheet's table. So the table is legal for `step`, has at most `limit` classes and serves every counted request. Its
@@ -94,8 +92,8 @@ struct WholeTrace {
 impl Input for WholeTrace {
     ghost has_taken = { λ input bytes. KeepsEvents input.reader bytes };
 
+    #[tactic(auto, using(trace_reader::proofs::LawLemmas::pieces_are_joined))]
     fn take(&mut self, piece: &[u8]) -> Result<(), AllocError> {
-        law_pieces();
         feed(&mut self.reader, piece)
     }
 }
@@ -115,8 +113,6 @@ fn answer_to(
     requires open { is_finished reader ≡ false }
     ensures { (bytes : List ℕ) → KeepsEvents reader bytes → GivesAnswer text_left (RunAnswers limit step config bytes) result }
 {
-    law_pieces();
-    law_headline();
     end(&mut reader, 0)?;
     let profile = count_all(alloc, reader.events())?;
     let tuned = tune(alloc, &profile, limit, step)?;

@@ -12,7 +12,6 @@ use crate::parts::{read_profile, read_table};
 use crate::streams::{ByteSink, ByteSource};
 use class_table::{ClassTable, TableError};
 use itoa::Buffer;
-use line_text::laws::law_lines;
 use line_text::lines_in;
 use profile_count::Profile;
 use std::alloc::{AllocError, Global};
@@ -56,7 +55,6 @@ impl Engine for ScoreEngine {
 fn score_of_text(alloc: Global, text: &[u8]) -> Result<(Vec<u8>, Status), AnswerError>
     ensures { GivesAnswer (λ written. written.items) (ScoreAnswers text.now) result }
 {
-    law_lines();
     let mut lines = lines_in(text);
     let Some(line) = lines.next() else {
         return Err(AnswerError::Input(InputFault::Table(TableError::BadLine)));

@@ -7,7 +7,6 @@ ghost use Rattle.mte_engine.specs.Traces.{HasEnded, profile_of_events};
 
 use crate::fault::{AnswerError, InputFault};
 use profile_count::Profile;
-use profile_count::laws::law_profile_of_sizes;
 use replay_core::{Event, request_size};
 use std::alloc::{AllocError, Global};
 use std::collections::VecDeque;
@@ -59,7 +58,6 @@ pub fn count_all(alloc: Global, events: &VecDeque<Event>) -> Result<Profile, All
     requires { length events.now.items ≤ 1000000 }
     ensures { IfOk result (λ profile. profile ≡ profile_of_events events.now.items) }
 {
-    law_profile_of_sizes();
     let mut profile = Profile::new(alloc)?;
     for place in 0..events.len() {
         count(&mut profile, &events[place]);
@@ -68,11 +66,11 @@ pub fn count_all(alloc: Global, events: &VecDeque<Event>) -> Result<Profile, All
 }
 
 // Counts what an event requests.
+#[tactic(auto, using(profile_count::proofs::LawLemmas::one_more_is_counted, profile_count::proofs::LawLemmas::counts_are_few))]
 fn count(profile: &mut Profile, event: &Event)
     ensures { (sizes : List ℕ) → length sizes < 1000000000 → profile.old ≡ profile_of_sizes sizes →
         profile.new ≡ profile_of_sizes (sizes ++ requested_sizes (event.now ∷ [])) }
 {
-    law_profile_of_sizes();
     if let Some(n) = request_size(event) {
         // A trace has too few events to fill a count.
         let _ = profile.add(n);

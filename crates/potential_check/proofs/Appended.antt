@@ -13,17 +13,17 @@ use Rattle.potential_check.specs.Spaced.{spaced}
 -- ---- a text that goes on
 
 pub goes_on-same : (old new : List ℕ) → new ≡ old → GoesOn old new
-goes_on-same old new same = record { behind = []; is = same ∙ sym (append-nil old) }
+goes_on-same old new same = record { after = []; is = same ∙ sym (append-nil old) }
 
 pub goes_on-more : (old mid new more : List ℕ) → GoesOn old mid → new ≡ mid ++ more → GoesOn old new
-goes_on-more old mid new more goes_on is = record { behind = goes_on.behind ++ more; is = is ∙ rw goes_on.is (append_assoc old goes_on.behind more) }
+goes_on-more old mid new more goes_on is = record { after = goes_on.after ++ more; is = is ∙ rw goes_on.is (append_assoc old goes_on.after more) }
 
 pub goes_on-through : (old mid new : List ℕ) → GoesOn old mid → GoesOn mid new → GoesOn old new
-goes_on-through old mid new first second = goes_on-more old mid new second.behind first second.is
+goes_on-through old mid new first second = goes_on-more old mid new second.after first second.is
 
 -- what was there before is its front
 pub take-goes_on : (old new : List ℕ) → GoesOn old new → take (length old) new ≡ old
-take-goes_on old new goes_on = rw goes_on.is (take_at old goes_on.behind (length old) refl)
+take-goes_on old new goes_on = rw goes_on.is (take_at old goes_on.after (length old) refl)
 
 -- ---- a line's words, one after the other
 

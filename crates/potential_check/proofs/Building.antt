@@ -126,7 +126,7 @@ sums-add f step n total needs sums below s = record {
   total_is = omega (arith, s.total_is, sum_below-more f n);
 }
 
--- the total stands behind the sums, as the sum up to the last need
+-- the total stands after the sums, as the sum up to the last need
 pub sums-pushed : (f : ℕ → ℕ) (step n total : ℕ) (needs sums : List ℕ) → ((k : ℕ) → k < n → 0 < f k → rounded_need step k ≤ last_need needs)
     → AreSumsBefore f step n needs sums total → (i : ℕ) → i ≤ length needs → slice_index (sums ++ total ∷ []) i ≡ sum_up_to f step n (need_in needs i)
 sums-pushed f step n total needs sums covers s i le =

@@ -1,10 +1,11 @@
--- What reads lines one after another and tells the number of the first faulty one.
+-- What reads lines one after another and reports the number of the first faulty one.
 use Rattle.std.proofs.Common.{◌≡◌, ℕ, zero, suc, ◌+◌, ◌≤◌, Bool, true, false, List, [], ◌∷◌, length, take, Option, Some, None, Result, Ok, Err, refl, sym, ap, ◌∙◌, arith, codes}
 use Rattle.std.specs.Option.{ok_or, option_map}
 use Rattle.std.specs.Prelude.{All, option_and_then}
 use Rattle.std.proofs.lemmas.List.Elements.{All-nil, All-cons, All-head, All-tail}
+use Rattle.line_text.specs.FirstFault.{◌>>=◌}
 use Rattle.line_text.specs.Lines.{IsLine}
-use Rattle.potential_check.specs.SheetText.{◌>>=◌, is_named, line_at, numbers_in, only_one, row_in, rows_from, step_at, step_in, waste_number}
+use Rattle.potential_check.specs.SheetText.{is_named, line_at, numbers_in, only_one, row_in, rows_from, step_at, step_in, waste_number}
 use Rattle.potential_check.proofs.LeadingLines.{written_not_one}
 
 abbrev pub Lines : Type 0
@@ -31,13 +32,13 @@ pub record FaultAt {A : Type 0} (reading : Lines → Result A ℕ) (ls : Lines) 
   pub same : FaultOfAll reading ls (suc ahead) fault
 
 -- The fault of these lines, of which the first has this number, is at its line.
-abbrev pub Told : {A : Type 0} → ℕ → (Lines → Result A ℕ) → Lines → ℕ → Type 0
-Told number reading ls fault = (ahead : ℕ) × (fault ≡ number + ahead) × FaultAt reading ls ahead fault
+abbrev pub Reported : {A : Type 0} → ℕ → (Lines → Result A ℕ) → Lines → ℕ → Type 0
+Reported number reading ls fault = (ahead : ℕ) × (fault ≡ number + ahead) × FaultAt reading ls ahead fault
 
--- What reads lines, of which the first has this number, tells the number of the first fault.
-pub record Tells {A : Type 0} (number : ℕ) (reading : Lines → Result A ℕ) : Type 0 where
+-- What reads lines, of which the first has this number, reports the number of the first fault.
+pub record Reports {A : Type 0} (number : ℕ) (reading : Lines → Result A ℕ) : Type 0 where
   pub some : Sound reading
-  pub fault : (ls : Lines) (fault : ℕ) → All IsLine ls → reading ls ≡ Err fault → Told number reading ls fault
+  pub fault : (ls : Lines) (fault : ℕ) → All IsLine ls → reading ls ≡ Err fault → Reported number reading ls fault
 
 -- ---- first lines
 
@@ -59,19 +60,19 @@ module _ {A B C : Type 0} (number : ℕ) (reading : List ℕ → Option A) (more
   abbrev line_then : Lines → Result C ℕ
   line_then ls = (line_at number reading ls >>= more) >>= last
 
-  pub tells-line : (line : List ℕ) (x : A) → IsLine line → reading line ≡ Some x
-      → ((y : A) → Tells (suc number) (λ ls. more (y, ls) >>= last)) → Tells number line_then
-  tells-line line x is_line read behind = record { some = default; fault = fault }
+  pub reports-line : (line : List ℕ) (x : A) → IsLine line → reading line ≡ Some x
+      → ((y : A) → Reports (suc number) (λ ls. more (y, ls) >>= last)) → Reports number line_then
+  reports-line line x is_line read after = record { some = default; fault = fault }
     where
       default : Sound line_then
       default = record {
-        other = line ∷ (behind x).some.other;
-        value = (behind x).some.value;
-        all = All-cons IsLine line (behind x).some.other is_line (behind x).some.all;
-        read = rw read (behind x).some.read;
+        other = line ∷ (after x).some.other;
+        value = (after x).some.value;
+        all = All-cons IsLine line (after x).some.other is_line (after x).some.all;
+        read = rw read (after x).some.read;
       }
 
-      fault : (ls : Lines) (fault : ℕ) → All IsLine ls → line_then ls ≡ Err fault → Told number line_then ls fault
+      fault : (ls : Lines) (fault : ℕ) → All IsLine ls → line_then ls ≡ Err fault → Reported number line_then ls fault
       fault [] at all e = (
         0,
         (let same : number ≡ at = cc in omega arith),
@@ -83,7 +84,7 @@ module _ {A B C : Type 0} (number : ℕ) (reading : List ℕ → Option A) (more
           none (o ∷ os) t = no_first o [] (sym t)
       fault (l ∷ ls) at all e = go (reading l) refl
         where
-          go : (o : Option A) → reading l ≡ o → Told number line_then (l ∷ ls) at
+          go : (o : Option A) → reading l ≡ o → Reported number line_then (l ∷ ls) at
           go None f = (
             0,
             (let same : number ≡ at = (let is = rw f at e in cc) in omega arith),
@@ -94,7 +95,7 @@ module _ {A B C : Type 0} (number : ℕ) (reading : List ℕ → Option A) (more
               none [] t = no_first l [] t
               none (o ∷ os) t = rw ((same_first l o [] [] t).0, f) (rw f at e)
           go (Some y) f =
-              let later = (behind y).fault ls at (All-tail IsLine l ls all) (rw f at e) in (
+              let later = (after y).fault ls at (All-tail IsLine l ls all) (rw f at e) in (
                 suc later.0,
                 (let is = later.1 in omega arith),
                 record {
@@ -120,12 +121,12 @@ module _ {A B C : Type 0} (number : ℕ) (reading : List ℕ → Option A) (more
 -- ---- rows
 
 -- what is read can be put in another form
-pub tells-as : {A B : Type 0} (number : ℕ) (reading : Lines → Result A ℕ) (f : A → B) → Tells number reading
-    → Tells number (λ ls. reading ls >>= λ x. Ok (f x))
-tells-as {A = A} {B = B} number reading f tells = record {
-  some = as_sound tells.some;
+pub reports-as : {A B : Type 0} (number : ℕ) (reading : Lines → Result A ℕ) (f : A → B) → Reports number reading
+    → Reports number (λ ls. reading ls >>= λ x. Ok (f x))
+reports-as {A = A} {B = B} number reading f reports = record {
+  some = as_sound reports.some;
   fault = λ ls at all e.
-      let is = tells.fault ls at all (was_fault (reading ls) at e) in (
+      let is = reports.fault ls at all (was_fault (reading ls) at e) in (
         is.0,
         is.1,
         record {
@@ -144,21 +145,21 @@ tells-as {A = A} {B = B} number reading f tells = record {
     was_fault (Ok x) at e = absurd cc
     was_fault (Err number) at e = let same : number ≡ at = cc in ap Err same
 
-module _ (most number : ℕ) (later : Tells (suc number) (rows_from (suc number) most)) where
+module _ (most number : ℕ) (later : Reports (suc number) (rows_from (suc number) most)) where
   no_rows : (most number : ℕ) → Sound (rows_from number most)
   unfolding rows_from
   no_rows most number = record { other = []; value = []; all = All-nil IsLine; read = refl }
 
-  tells-row : Tells number (rows_from number (suc most))
+  reports-row : Reports number (rows_from number (suc most))
   unfolding rows_from
-  tells-row = record { some = no_rows (suc most) number; fault = fault }
+  reports-row = record { some = no_rows (suc most) number; fault = fault }
     where
       fault : (ls : Lines) (at : ℕ) → All IsLine ls → rows_from number (suc most) ls ≡ Err at
-          → Told number (rows_from number (suc most)) ls at
+          → Reported number (rows_from number (suc most)) ls at
       fault [] at all e = absurd cc
       fault (l ∷ ls) at all e = go (row_in l) refl
         where
-          go : (o : Option (List ℕ)) → row_in l ≡ o → Told number (rows_from number (suc most)) (l ∷ ls) at
+          go : (o : Option (List ℕ)) → row_in l ≡ o → Reported number (rows_from number (suc most)) (l ∷ ls) at
           go None f = (
             0,
             (let same : number ≡ at = (let is = rw f at e in cc) in omega arith),
@@ -169,7 +170,7 @@ module _ (most number : ℕ) (later : Tells (suc number) (rows_from (suc number)
               none [] t = no_first l [] t
               none (o ∷ os) t = rw ((same_first l o [] [] t).0, f) (rw f at e)
           go (Some row) f =
-              let more = tells-as (suc number) (rows_from (suc number) most) (λ (rows : List (List ℕ)). row ∷ rows) later in
+              let more = reports-as (suc number) (rows_from (suc number) most) (λ (rows : List (List ℕ)). row ∷ rows) later in
               let is = more.fault ls at (All-tail IsLine l ls all) (rw f at e) in (
                 suc is.0,
                 (let same = is.1 in omega arith),
@@ -189,20 +190,20 @@ module _ (most number : ℕ) (later : Tells (suc number) (rows_from (suc number)
               next : (ahead : ℕ)
                   → FaultOfAll (λ ls. rows_from (suc number) most ls >>= λ rows. Ok (row ∷ rows)) ls (suc ahead) at
                   → FaultOfAll (rows_from number (suc most)) (l ∷ ls) (suc (suc ahead)) at
-              next ahead behind [] t = no_first l (take (suc ahead) ls) t
-              next ahead behind (o ∷ os) t =
+              next ahead after [] t = no_first l (take (suc ahead) ls) t
+              next ahead after (o ∷ os) t =
                   let first = same_first l o (take (suc ahead) ls) (take (suc ahead) os) t in
-                  rw (first.0, f) (behind os first.1)
+                  rw (first.0, f) (after os first.1)
 
 -- a row more than there may be is faulty, whatever it says
-rows-full : (number : ℕ) → Tells number (rows_from number 0)
+rows-full : (number : ℕ) → Reports number (rows_from number 0)
 unfolding rows_from
 rows-full number = record { some = no_row; fault = fault }
   where
     no_row : Sound (rows_from number 0)
     no_row = record { other = []; value = []; all = All-nil IsLine; read = refl }
 
-    fault : (ls : Lines) (at : ℕ) → All IsLine ls → rows_from number 0 ls ≡ Err at → Told number (rows_from number 0) ls at
+    fault : (ls : Lines) (at : ℕ) → All IsLine ls → rows_from number 0 ls ≡ Err at → Reported number (rows_from number 0) ls at
     fault [] at all e = absurd cc
     fault (l ∷ ls) at all e = (
       0,
@@ -214,9 +215,9 @@ rows-full number = record { some = no_row; fault = fault }
         none [] t = no_first l [] t
         none (o ∷ os) t = e
 
-pub rows-tell : (most number : ℕ) → Tells number (rows_from number most)
-rows-tell zero number = rows-full number
-rows-tell (suc most) number = tells-row most number (rows-tell most (suc number))
+pub rows-report : (most number : ℕ) → Reports number (rows_from number most)
+rows-report zero number = rows-full number
+rows-report (suc most) number = reports-row most number (rows-report most (suc number))
 
 -- ---- the step, which may have no line
 
@@ -230,21 +231,21 @@ module _ {B C : Type 0} (more : ℕ × Lines → Result B ℕ) (last : B → Res
   unnamed n l ls [] e t = no_first l ls t
   unnamed n l ls (o ∷ os) e t = rw ((same_first l o ls (take n os) t).0, e) refl
 
-  pub tells-step : (line : List ℕ) (step : ℕ) → IsLine line → is_named (codes "step") line ≡ true → step_in line ≡ Some step
-      → ((s : ℕ) → Tells (waste_number s) (λ ls. more (s, ls) >>= last)) → Tells 3 step_then
-  tells-step line step is_line named read behind = record { some = default; fault = fault }
+  pub reports-step : (line : List ℕ) (step : ℕ) → IsLine line → is_named (codes "step") line ≡ true → step_in line ≡ Some step
+      → ((s : ℕ) → Reports (waste_number s) (λ ls. more (s, ls) >>= last)) → Reports 3 step_then
+  reports-step line step is_line named read after = record { some = default; fault = fault }
     where
       default : Sound step_then
       default = record {
-        other = line ∷ (behind step).some.other;
-        value = (behind step).some.value;
-        all = All-cons IsLine line (behind step).some.other is_line (behind step).some.all;
-        read = rw (named, read) (behind step).some.read;
+        other = line ∷ (after step).some.other;
+        value = (after step).some.value;
+        all = All-cons IsLine line (after step).some.other is_line (after step).some.all;
+        read = rw (named, read) (after step).some.read;
       }
 
-      fault : (ls : Lines) (at : ℕ) → All IsLine ls → step_then ls ≡ Err at → Told 3 step_then ls at
+      fault : (ls : Lines) (at : ℕ) → All IsLine ls → step_then ls ≡ Err at → Reported 3 step_then ls at
       fault [] at all e =
-          let is = (behind 1).fault [] at all e in
+          let is = (after 1).fault [] at all e in
           let first : is.0 ≡ 0 = (let within = is.2.within in omega arith) in (
             0,
             (let number = is.1 in omega arith),
@@ -257,7 +258,7 @@ module _ {B C : Type 0} (more : ℕ × Lines → Result B ℕ) (last : B → Res
       fault (l ∷ ls) at all e = go (is_named (codes "step") l) refl
         where
           unstepped : is_named (codes "step") l ≡ false → (k : ℕ) → at ≡ 3 + k → FaultAt (λ ls. more (1, ls) >>= last) (l ∷ ls) k at
-              → Told 3 step_then (l ∷ ls) at
+              → Reported 3 step_then (l ∷ ls) at
           unstepped f zero number is = (
             0,
             number,
@@ -284,14 +285,14 @@ module _ {B C : Type 0} (more : ℕ × Lines → Result B ℕ) (last : B → Res
             },
           )
 
-          go : (b : Bool) → is_named (codes "step") l ≡ b → Told 3 step_then (l ∷ ls) at
+          go : (b : Bool) → is_named (codes "step") l ≡ b → Reported 3 step_then (l ∷ ls) at
           go false f =
-              let is = (behind 1).fault (l ∷ ls) at all (rw f at e) in
+              let is = (after 1).fault (l ∷ ls) at all (rw f at e) in
               unstepped f is.0 is.1 is.2
           go true f = line_read (rw f at e) (step_in l) refl
             where
               line_read : ((ok_or (option_map (λ (s : ℕ). (s, ls)) (step_in l)) 3 >>= more) >>= last) ≡ Err at
-                  → (o : Option ℕ) → step_in l ≡ o → Told 3 step_then (l ∷ ls) at
+                  → (o : Option ℕ) → step_in l ≡ o → Reported 3 step_then (l ∷ ls) at
               line_read fault None g = (
                 0,
                 (let same : 3 ≡ at = (let is = rw g at fault in cc) in omega arith),
@@ -302,7 +303,7 @@ module _ {B C : Type 0} (more : ℕ × Lines → Result B ℕ) (last : B → Res
                   none is [] t = no_first l [] t
                   none is (o ∷ os) t = rw ((same_first l o [] [] t).0, f, g) is
               line_read fault (Some s) g =
-                  let is = (behind s).fault ls at (All-tail IsLine l ls all) (rw g at fault) in
+                  let is = (after s).fault ls at (All-tail IsLine l ls all) (rw g at fault) in
                   let four = written_not_one (option_and_then only_one (numbers_in (codes "step") l)) s g in (
                     suc is.0,
                     (let same = is.1 in omega (arith, four)),

@@ -55,22 +55,22 @@ module _ (ls : List (List ℕ)) where
   unfolding head_of_lines
   no_table none = rw none refl
 
-  module _ (table : List ℕ) (behind_table : List (List ℕ)) (is_table : line_at 1 table_in ls ≡ Ok (table, behind_table)) where
-    pub no_limit : line_at 2 limit_in behind_table ≡ Err 2 → head_of_lines ls ≡ Err 2
+  module _ (table : List ℕ) (after_table : List (List ℕ)) (is_table : line_at 1 table_in ls ≡ Ok (table, after_table)) where
+    pub no_limit : line_at 2 limit_in after_table ≡ Err 2 → head_of_lines ls ≡ Err 2
     unfolding head_of_lines
     no_limit none = rw (is_table, none) refl
 
-    module _ (limit : ℕ) (behind_limit : List (List ℕ)) (is_limit : line_at 2 limit_in behind_table ≡ Ok (limit, behind_limit)) where
-      pub no_step : step_at behind_limit ≡ None → head_of_lines ls ≡ Err 3
+    module _ (limit : ℕ) (after_limit : List (List ℕ)) (is_limit : line_at 2 limit_in after_table ≡ Ok (limit, after_limit)) where
+      pub no_step : step_at after_limit ≡ None → head_of_lines ls ≡ Err 3
       unfolding head_of_lines
       no_step none = rw (is_table, is_limit, none) refl
 
-      module _ (step : ℕ) (behind_step : List (List ℕ)) (is_step : step_at behind_limit ≡ Some (step, behind_step)) where
-        pub no_waste : line_at (waste_number step) waste_in behind_step ≡ Err (waste_number step) → head_of_lines ls ≡ Err (waste_number step)
+      module _ (step : ℕ) (after_step : List (List ℕ)) (is_step : step_at after_limit ≡ Some (step, after_step)) where
+        pub no_waste : line_at (waste_number step) waste_in after_step ≡ Err (waste_number step) → head_of_lines ls ≡ Err (waste_number step)
         unfolding head_of_lines
         no_waste none = rw (is_table, is_limit, is_step, none) refl
 
-        module _ (waste : ℕ) (behind_waste : List (List ℕ)) (is_waste : line_at (waste_number step) waste_in behind_step ≡ Ok (waste, behind_waste)) where
-          pub all_read : head_of_lines ls ≡ Ok (record { table = table; limit = limit; step = step; waste = waste }, behind_waste)
+        module _ (waste : ℕ) (after_waste : List (List ℕ)) (is_waste : line_at (waste_number step) waste_in after_step ≡ Ok (waste, after_waste)) where
+          pub all_read : head_of_lines ls ≡ Ok (record { table = table; limit = limit; step = step; waste = waste }, after_waste)
           unfolding head_of_lines
           all_read = rw (is_table, is_limit, is_step, is_waste) refl

@@ -3,9 +3,10 @@ use Rattle.std.proofs.Common.{◌≡◌, ℕ, zero, suc, ◌+◌, ◌≤◌, add
 use Rattle.std.specs.List.{take_while}
 use Rattle.std.proofs.lemmas.Bool.{cases_eq}
 use Rattle.std.proofs.lemmas.List.Sums.{take_while-cons}
+use Rattle.line_text.specs.FirstFault.{◌>>=◌}
 use Rattle.line_text.specs.Lines.{lines, words}
-use Rattle.potential_check.specs.Leading.{GivesLeading, IsLeading, is_row_line, leading_lines, lines_behind}
-use Rattle.potential_check.specs.SheetText.{◌>>=◌, Gives, head_of_lines, is_named, is_written_step, limit_in, numbers_in, only_one, passing, row_in, rows_from, sheet_of_lines, step_in, table_in, waste_in, waste_number, with_rows, words_behind}
+use Rattle.potential_check.specs.Leading.{GivesLeading, IsLeading, is_row_line, leading_lines, lines_after}
+use Rattle.potential_check.specs.SheetText.{Gives, head_of_lines, is_named, is_written_step, limit_in, numbers_in, only_one, passing, row_in, rows_from, sheet_of_lines, step_in, table_in, waste_in, waste_number, with_rows, words_after}
 use Rattle.potential_check.proofs.RowNumbers.{passing-some}
 use Rattle.potential_check.specs.declared.fault.SheetError.{SheetError}
 use Rattle.potential_check.specs.declared.fault.SheetError.TheVariants.{OutOfMemory, Line}
@@ -36,13 +37,13 @@ drop-line [] ls new line (suc n) e parts = absurd cc
 drop-line (first ∷ all) ls new line (suc n) e parts = drop-line all ls new line n e parts
 
 no_row : (line : List ℕ) → is_row_line line ≡ false → row_in line ≡ None
-no_row line e = go (words_behind (codes "row") (words line)) refl
+no_row line e = go (words_after (codes "row") (words line)) refl
   where
-    go : (behind : Option (List (List ℕ))) → words_behind (codes "row") (words line) ≡ behind → row_in line ≡ None
+    go : (after : Option (List (List ℕ))) → words_after (codes "row") (words line) ≡ after → row_in line ≡ None
     go None f = rw f refl
     go (Some ws) f = let row = rw f at e in absurd cc
 
--- a line behind the rows is faulty
+-- a line after the rows is faulty
 abbrev unless_more : List (List ℕ) → ℕ → Result (List (List ℕ)) ℕ → Result (List (List ℕ)) ℕ
 unless_more [] number read = read
 unless_more (line ∷ ls) number (Ok rows) = Err (number + length rows)
@@ -104,15 +105,15 @@ rows_from-length (line ∷ ls) number (suc most) rows e = go (rows_from-length l
 
 -- ---- the head
 
--- The head of the sheet's lines is the head of all lines, and the rows are behind it.
-pub record HeadIsFound (ls : List (List ℕ)) (head : Head) (behind : List (List ℕ)) : Type 0 where
-  pub leading : head_of_lines (leading_lines ls) ≡ Ok (head, rows_of behind)
-  pub size : length (leading_lines ls) ≡ waste_number head.step + length (rows_of behind)
-  pub rest : lines_behind ls ≡ rest_of behind
+-- The head of the sheet's lines is the head of all lines, and the rows are after it.
+pub record HeadIsFound (ls : List (List ℕ)) (head : Head) (after : List (List ℕ)) : Type 0 where
+  pub leading : head_of_lines (leading_lines ls) ≡ Ok (head, rows_of after)
+  pub size : length (leading_lines ls) ≡ waste_number head.step + length (rows_of after)
+  pub rest : lines_after ls ≡ rest_of after
 
 data Heading (ls : List (List ℕ)) : Type 0 where
   Faulty : (number : ℕ) → head_of_lines ls ≡ Err number → head_of_lines (leading_lines ls) ≡ Err number → Heading ls
-  Found : (head : Head) (behind : List (List ℕ)) → head_of_lines ls ≡ Ok (head, behind) → HeadIsFound ls head behind → Heading ls
+  Found : (head : Head) (after : List (List ℕ)) → head_of_lines ls ≡ Ok (head, after) → HeadIsFound ls head after → Heading ls
 
 -- a step that is written is not 1
 pub written_not_one : (o : Option ℕ) (step : ℕ) → passing is_written_step o ≡ Some step → waste_number step ≡ 4
@@ -124,7 +125,7 @@ written_not_one o step e = elim (cases_eq step 1) [
 module _ (a b c : List ℕ) (xs : List (List ℕ)) where
   -- without a step line
   three : is_named (codes "step") c ≡ false → Heading (a ∷ b ∷ c ∷ xs)
-  unfolding head_of_lines leading_lines lines_behind
+  unfolding head_of_lines leading_lines lines_after
   three e = go (table_in a) refl (limit_in b) refl (waste_in c) refl
     where
       go : (table : Option (List ℕ)) → table_in a ≡ table → (limit : Option ℕ) → limit_in b ≡ limit → (waste : Option ℕ) → waste_in c ≡ waste → Heading (a ∷ b ∷ c ∷ xs)
@@ -138,7 +139,7 @@ module _ (a b c : List ℕ) (xs : List (List ℕ)) where
 module _ (a b c d : List ℕ) (xs : List (List ℕ)) where
   -- with one
   four : is_named (codes "step") c ≡ true → Heading (a ∷ b ∷ c ∷ d ∷ xs)
-  unfolding head_of_lines leading_lines lines_behind
+  unfolding head_of_lines leading_lines lines_after
   four e = go (table_in a) refl (limit_in b) refl (step_in c) refl (waste_in d) refl
     where
       go : (table : Option (List ℕ)) → table_in a ≡ table → (limit : Option ℕ) → limit_in b ≡ limit → (step : Option ℕ) → step_in c ≡ step → (waste : Option ℕ) → waste_in d ≡ waste
@@ -227,7 +228,7 @@ heading (a ∷ b ∷ c ∷ d ∷ xs) = go (is_named (codes "step") c) refl
 -- ---- the sheet
 
 abbrev head_and : Head → List (List ℕ) → Result (Head × List (List ℕ)) ℕ
-head_and head behind = Ok (head, behind)
+head_and head after = Ok (head, after)
 
 abbrev head_fault : ℕ → Result (Head × List (List ℕ)) ℕ
 head_fault number = Err number
@@ -243,23 +244,23 @@ leading-faulty ls number e = elim (heading ls) [
   | Faulty k all leading ↦
       let same : k ≡ number = cc in
       rw (leading, same) refl
-  | Found head behind all found ↦ absurd cc
+  | Found head after all found ↦ absurd cc
 ]
 
-pub head-is_found : (ls : List (List ℕ)) (head : Head) (behind : List (List ℕ)) → head_of_lines ls ≡ head_and head behind → HeadIsFound ls head behind
-head-is_found ls head behind e = elim (heading ls) [
+pub head-is_found : (ls : List (List ℕ)) (head : Head) (after : List (List ℕ)) → head_of_lines ls ≡ head_and head after → HeadIsFound ls head after
+head-is_found ls head after e = elim (heading ls) [
   | Faulty k all leading ↦ absurd cc
   | Found h b all found ↦
-      let same = same_head h head b behind (sym all ∙ e) in
+      let same = same_head h head b after (sym all ∙ e) in
       rw (← same.0, ← same.1) found
 ]
 
-module _ (ls : List (List ℕ)) (head : Head) (behind : List (List ℕ)) (found : HeadIsFound ls head behind) where
-  pub leading-read : (rows : List (List ℕ)) → rows_from (waste_number head.step + 1) 32 (rows_of behind) ≡ Ok rows → sheet_of_lines (leading_lines ls) ≡ Ok (with_rows head rows)
+module _ (ls : List (List ℕ)) (head : Head) (after : List (List ℕ)) (found : HeadIsFound ls head after) where
+  pub leading-read : (rows : List (List ℕ)) → rows_from (waste_number head.step + 1) 32 (rows_of after) ≡ Ok rows → sheet_of_lines (leading_lines ls) ≡ Ok (with_rows head rows)
   unfolding sheet_of_lines
   leading-read rows e = rw (found.leading, ← add-one (waste_number head.step), e) refl
 
-  pub leading-row_fault : (number : ℕ) → rows_from (waste_number head.step + 1) 32 (rows_of behind) ≡ Err number → sheet_of_lines (leading_lines ls) ≡ Err number
+  pub leading-row_fault : (number : ℕ) → rows_from (waste_number head.step + 1) 32 (rows_of after) ≡ Err number → sheet_of_lines (leading_lines ls) ≡ Err number
   unfolding sheet_of_lines
   leading-row_fault number e = rw (found.leading, ← add-one (waste_number head.step), e) refl
 
@@ -270,28 +271,28 @@ pub head_fault_given : {A : Type 0} (view : A → Head × List (List ℕ)) (ls :
 head_fault_given view ls result y OutOfMemory is same given = rw (is, same) tt
 head_fault_given view ls result y (Line number) is same given = rw (is, same) (leading-faulty ls number given)
 
-pub row_fault_given : (ls : List (List ℕ)) (head : Head) (behind : List (List ℕ)) (result : Result LeadingSheet SheetError) (y e : SheetError) → HeadIsFound ls head behind
-    → result ≡ Err y → y ≡ e → Gives (λ (rows : List (List ℕ)). rows) (Err e) (rows_from (waste_number head.step + 1) 32 (rows_of behind)) → GivesLeading ls result
-row_fault_given ls head behind result y OutOfMemory found is same given = rw (is, same) tt
-row_fault_given ls head behind result y (Line number) found is same given = rw (is, same) (leading-row_fault ls head behind found number given)
+pub row_fault_given : (ls : List (List ℕ)) (head : Head) (after : List (List ℕ)) (result : Result LeadingSheet SheetError) (y e : SheetError) → HeadIsFound ls head after
+    → result ≡ Err y → y ≡ e → Gives (λ (rows : List (List ℕ)). rows) (Err e) (rows_from (waste_number head.step + 1) 32 (rows_of after)) → GivesLeading ls result
+row_fault_given ls head after result y OutOfMemory found is same given = rw (is, same) tt
+row_fault_given ls head after result y (Line number) found is same given = rw (is, same) (leading-row_fault ls head after found number given)
 
 -- ---- all lines
 
--- the sheet in front, unless there is a line behind it
+-- the sheet in front, unless there is a line after it
 abbrev pub unless_line : List (List ℕ) → ℕ → Result Sheet ℕ → Result Sheet ℕ
 unless_line [] size read = read
 unless_line (line ∷ ls) size (Ok s) = Err (size + 1)
 unless_line (line ∷ ls) size (Err number) = Err number
 
 -- What is read of all lines is the sheet in front of them, where it is all of them.
-pub sheet_of_all : (ls : List (List ℕ)) → sheet_of_lines ls ≡ unless_line (lines_behind ls) (length (leading_lines ls)) (sheet_of_lines (leading_lines ls))
+pub sheet_of_all : (ls : List (List ℕ)) → sheet_of_lines ls ≡ unless_line (lines_after ls) (length (leading_lines ls)) (sheet_of_lines (leading_lines ls))
 unfolding sheet_of_lines
 sheet_of_all ls = elim (heading ls) [
-  | Faulty k all leading ↦ rw (all, leading) (either (lines_behind ls) k)
-  | Found head behind all found ↦
-      rw (all, found.leading, found.rest, found.size, rows_from-all behind (suc (waste_number head.step)) 32)
-      (more head (rest_of behind) (length (rows_of behind)) (rows_from (suc (waste_number head.step)) 32 (rows_of behind))
-      (λ rows e. (rows_from-length (rows_of behind) (suc (waste_number head.step)) 32 rows e).0))
+  | Faulty k all leading ↦ rw (all, leading) (either (lines_after ls) k)
+  | Found head after all found ↦
+      rw (all, found.leading, found.rest, found.size, rows_from-all after (suc (waste_number head.step)) 32)
+      (more head (rest_of after) (length (rows_of after)) (rows_from (suc (waste_number head.step)) 32 (rows_of after))
+      (λ rows e. (rows_from-length (rows_of after) (suc (waste_number head.step)) 32 rows e).0))
 ]
   where
     either : (rest : List (List ℕ)) (k : ℕ) → Err k ≡ unless_line rest (length (leading_lines ls)) (Err k)
@@ -307,7 +308,7 @@ sheet_of_all ls = elim (heading ls) [
 
 pub all_fault_given : (ls : List (List ℕ)) (result : Result Held SheetError) (y e : SheetError) → result ≡ Err y → y ≡ e → GivesLeading ls (Err e) → Gives sheet_of result (sheet_of_lines ls)
 all_fault_given ls result y OutOfMemory is same given = rw (is, same) tt
-all_fault_given ls result y (Line number) is same given = rw (is, same) (sheet_of_all ls ∙ rw given (either (lines_behind ls)))
+all_fault_given ls result y (Line number) is same given = rw (is, same) (sheet_of_all ls ∙ rw given (either (lines_after ls)))
   where
     either : (rest : List (List ℕ)) → unless_line rest (length (leading_lines ls)) (Err number) ≡ Err number
     either [] = refl
@@ -315,11 +316,11 @@ all_fault_given ls result y (Line number) is same given = rw (is, same) (sheet_o
 
 pub all_read : (ls : List (List ℕ)) (leading : LeadingSheet) → IsLeading ls leading → lines leading.rest.now ≡ [] → sheet_of_lines ls ≡ Ok (sheet_of leading.sheet)
 all_read ls leading is none =
-    let rest : lines_behind ls ≡ [] = sym is.behind ∙ none in
+    let rest : lines_after ls ≡ [] = sym is.after ∙ none in
     sheet_of_all ls ∙ rw (rest, is.sheet) refl
 
-pub line_behind : (ls new : List (List ℕ)) (line : List ℕ) (leading : LeadingSheet) → IsLeading ls leading → lines leading.rest.now ≡ line ∷ new
+pub line_after : (ls new : List (List ℕ)) (line : List ℕ) (leading : LeadingSheet) → IsLeading ls leading → lines leading.rest.now ≡ line ∷ new
     → sheet_of_lines ls ≡ Err (leading.lines + 1)
-line_behind ls new line leading is some =
-    let rest : lines_behind ls ≡ line ∷ new = sym is.behind ∙ some in
+line_after ls new line leading is some =
+    let rest : lines_after ls ≡ line ∷ new = sym is.after ∙ some in
     sheet_of_all ls ∙ rw (rest, is.sheet, is.size) refl

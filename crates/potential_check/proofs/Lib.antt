@@ -4,6 +4,7 @@ pub mod Certified
 pub mod Crossing
 pub mod FirstFaults
 pub mod HeadLines
+pub mod LawLemmas
 pub mod LeadingLines
 pub mod NamedLines
 pub mod ReadIsSpelled
@@ -13,4 +14,4 @@ pub mod SheetFaults
 pub mod SheetLines
 pub mod SpelledIsRead
 pub mod TightEnds
-pub mod Told
+pub mod SpanSums

@@ -9,7 +9,7 @@ use Rattle.class_table.specs.ClassLine.{numbers_of}
 use Rattle.line_text.specs.Laws.{TextLaws}
 use Rattle.line_text.specs.Lines.{words, line_of, IsLine, IsWord}
 use Rattle.line_text.specs.Numbers.{number_of}
-use Rattle.potential_check.specs.SheetText.{named_line, number_in, numbers_in, only_one, words_behind}
+use Rattle.potential_check.specs.SheetText.{named_line, number_in, numbers_in, only_one, words_after}
 use Rattle.potential_check.proofs.RowNumbers.{passing-some}
 
 abbrev pub AreSmall : List ℕ → Type 0
@@ -82,7 +82,7 @@ first_number w ws ns e = go (number_of w) refl (numbers_of ws) refl
     go (Some n) f (Some others) g = let is = rw (f, g) at e in (n, others, f, g, sym (same_some (n ∷ others) ns is))
 
 decimals_more : (w : List ℕ) (ws : List (List ℕ)) (n : ℕ) (others ns : List ℕ) → w ≡ decimal n → ws ≡ map decimal others → ns ≡ n ∷ others → w ∷ ws ≡ map decimal ns
-decimals_more w ws n others ns word behind is = rw (is, word, behind) refl
+decimals_more w ws n others ns word after is = rw (is, word, after) refl
 
 -- words that are read as these numbers
 decimals-numbers_of : TextLaws → (ws : List (List ℕ)) (ns : List ℕ) → numbers_of ws ≡ Some ns → AreSmall ns → ws ≡ map decimal ns
@@ -94,14 +94,14 @@ decimals-numbers_of laws (w ∷ ws) ns e small =
     let others = first.1 in
     let all : AreSmall (n ∷ others) = rw first.4 at small in
     let word : w ≡ decimal n = laws.spelled w n (All-head (λ n. n < 2 ^ 64) n others all) first.2 in
-    let behind : ws ≡ map decimal others = decimals-numbers_of laws ws others first.3 (All-tail (λ n. n < 2 ^ 64) n others all) in
-    decimals_more w ws n others ns word behind first.4
+    let after : ws ≡ map decimal others = decimals-numbers_of laws ws others first.3 (All-tail (λ n. n < 2 ^ 64) n others all) in
+    decimals_more w ws n others ns word after first.4
 
 -- A line that is read as these numbers is their line.
 pub line-numbers_in : TextLaws → (name line ns : List ℕ) → numbers_in name line ≡ Some ns → AreSmall ns → line ≡ named_line name ns
 line-numbers_in laws name line ns e small = sym (laws.line line) ∙ ap line_of (go (words line) e)
   where
-    go : (ws : List (List ℕ)) → option_and_then numbers_of (words_behind name ws) ≡ Some ns → ws ≡ name ∷ map decimal ns
+    go : (ws : List (List ℕ)) → option_and_then numbers_of (words_after name ws) ≡ Some ns → ws ≡ name ∷ map decimal ns
     go [] e = absurd cc
     go (w ∷ ws) e = named (bytes_eq w name) refl
       where
@@ -109,8 +109,8 @@ line-numbers_in laws name line ns e small = sym (laws.line line) ∙ ap line_of 
         named false f = let none = rw f at e in absurd cc
         named true f =
             let name_is : w ≡ name = (bytes_eq-Decides w name).0 f in
-            let behind : ws ≡ map decimal ns = decimals-numbers_of laws ws ns (rw f at e) small in
-            rw (name_is, behind) refl
+            let after : ws ≡ map decimal ns = decimals-numbers_of laws ws ns (rw f at e) small in
+            rw (name_is, after) refl
 
 -- a single number
 one_number : (o : Option (List ℕ)) (n : ℕ) → option_and_then only_one o ≡ Some n → o ≡ Some (n ∷ [])

@@ -4,10 +4,11 @@ use Rattle.std.specs.Option.{ok_or}
 use Rattle.std.specs.Prelude.{All}
 use Rattle.std.proofs.lemmas.List.Elements.{All-nil, All-cons, All-head}
 use Rattle.std.proofs.lemmas.Option.{some_pair_parts}
+use Rattle.line_text.specs.FirstFault.{◌>>=◌}
 use Rattle.class_table.specs.Steps.{IsStep}
 use Rattle.line_text.specs.Laws.{TextLaws}
 use Rattle.line_text.specs.Lines.{IsLine, lines, text_of}
-use Rattle.potential_check.specs.SheetText.{◌>>=◌, IsRow, IsWithinLimits, SpellsSheet, head_of_lines, is_named, line_at, limit_in, named_line, row_in, rows_from, sheet_in, sheet_lines, sheet_of_lines, sheet_text, step_at, step_in, step_lines, table_in, waste_in, waste_number, with_rows}
+use Rattle.potential_check.specs.SheetText.{IsRow, IsWithinLimits, SpellsSheet, head_of_lines, is_named, line_at, limit_in, named_line, row_in, rows_from, sheet_in, sheet_lines, sheet_of_lines, sheet_text, step_at, step_in, step_lines, table_in, waste_in, waste_number, with_rows}
 use Rattle.potential_check.specs.declared.reading.Head.{Head}
 use Rattle.potential_check.proofs.SheetLines.{SheetLaws, line-limit_in, line-row_in, line-step_in, line-table_in, line-waste_in}
 use Rattle.tuner_theory.specs.Sheets.{Sheet}
@@ -28,38 +29,38 @@ ok_pair_parts {A = A} {B = B} a c b d e =
     (ap (λ (p : A × B). p.0) same, ap (λ (p : A × B). p.1) same)
 
 -- a line that was read
-record WasRead {A : Type 0} (reading : List ℕ → Option A) (ls behind : List (List ℕ)) (x : A) : Type 0 where
+record WasRead {A : Type 0} (reading : List ℕ → Option A) (ls after : List (List ℕ)) (x : A) : Type 0 where
   line : List ℕ
-  first : ls ≡ line ∷ behind
+  first : ls ≡ line ∷ after
   read : reading line ≡ Some x
 
-was_read : {A : Type 0} (number : ℕ) (reading : List ℕ → Option A) (ls behind : List (List ℕ)) (x : A) → line_at number reading ls ≡ Ok (x, behind) → WasRead reading ls behind x
-was_read {A = A} number reading [] behind x e = absurd cc
-was_read {A = A} number reading (line ∷ ls) behind x e = go (reading line) refl
+was_read : {A : Type 0} (number : ℕ) (reading : List ℕ → Option A) (ls after : List (List ℕ)) (x : A) → line_at number reading ls ≡ Ok (x, after) → WasRead reading ls after x
+was_read {A = A} number reading [] after x e = absurd cc
+was_read {A = A} number reading (line ∷ ls) after x e = go (reading line) refl
   where
-    go : (o : Option A) → reading line ≡ o → WasRead reading (line ∷ ls) behind x
+    go : (o : Option A) → reading line ≡ o → WasRead reading (line ∷ ls) after x
     go None f = let none = rw f at e in absurd cc
     go (Some y) f =
-        let parts = ok_pair_parts y x ls behind (rw f at e) in
+        let parts = ok_pair_parts y x ls after (rw f at e) in
         record { line = line; first = rw parts.1 refl; read = f ∙ ap Some parts.0 }
 
 -- ---- the lines of a sheet
 
 -- a step that was read, and whose line is there where it is not 1
-step_read : TextLaws → (ls behind : List (List ℕ)) (step : ℕ) → step_at ls ≡ Some (step, behind) → (ls ≡ step_lines step ++ behind) × IsStep step
-step_read laws [] behind step e = let parts = some_pair_parts 1 step [] behind e in rw (← parts.0, ← parts.1) (refl, refl)
-step_read laws (line ∷ ls) behind step e = go (is_named (codes "step") line) refl
+step_read : TextLaws → (ls after : List (List ℕ)) (step : ℕ) → step_at ls ≡ Some (step, after) → (ls ≡ step_lines step ++ after) × IsStep step
+step_read laws [] after step e = let parts = some_pair_parts 1 step [] after e in rw (← parts.0, ← parts.1) (refl, refl)
+step_read laws (line ∷ ls) after step e = go (is_named (codes "step") line) refl
   where
-    go : (named : Bool) → is_named (codes "step") line ≡ named → (line ∷ ls ≡ step_lines step ++ behind) × IsStep step
+    go : (named : Bool) → is_named (codes "step") line ≡ named → (line ∷ ls ≡ step_lines step ++ after) × IsStep step
     go false f =
-        let parts = some_pair_parts 1 step (line ∷ ls) behind (rw f at e) in
+        let parts = some_pair_parts 1 step (line ∷ ls) after (rw f at e) in
         rw (← parts.0, ← parts.1) (refl, refl)
     go true f = found (step_in line) refl
       where
-        found : (o : Option ℕ) → step_in line ≡ o → (line ∷ ls ≡ step_lines step ++ behind) × IsStep step
+        found : (o : Option ℕ) → step_in line ≡ o → (line ∷ ls ≡ step_lines step ++ after) × IsStep step
         found None g = let none = rw (f, g) at e in absurd cc
         found (Some s) g =
-            let parts = some_pair_parts s step ls behind (rw (f, g) at e) in
+            let parts = some_pair_parts s step ls after (rw (f, g) at e) in
             let spelled = line-step_in laws line step (g ∙ ap Some parts.0) in
             (rw (spelled.0, ne_eqb step 1 spelled.2, parts.1) refl, spelled.1)
 
@@ -81,7 +82,7 @@ rows_read laws (line ∷ ls) number (suc most) rows e = go (rows_read laws ls (s
         went_on (rows_from (suc number) most ls) (λ more. Ok (row ∷ more)) rows (rw f at e) (λ more is_more is.
         let same : row ∷ more ≡ rows = cc in
         let rest = others more is_more in
-        rw (← same, spelled.0) (ap (λ (behind : List (List ℕ)). named_line (codes "row") row ∷ behind) rest.0, omega (arith, rest.1), All-cons IsRow row more spelled.1 rest.2))
+        rw (← same, spelled.0) (ap (λ (after : List (List ℕ)). named_line (codes "row") row ∷ after) rest.0, omega (arith, rest.1), All-cons IsRow row more spelled.1 rest.2))
 
 abbrev as_read : Sheet → Result Sheet ℕ
 as_read s = Ok s
@@ -90,19 +91,19 @@ same_sheet : (s t : Sheet) → as_read s ≡ as_read t → s ≡ t
 same_sheet s t e = cc
 
 -- all that was read
-whole_read : SheetLaws → (ls behind_table behind_limit behind_step behind_waste : List (List ℕ)) (s : Sheet) → All IsLine ls → line_at 1 table_in ls ≡ Ok (s.table, behind_table)
-    → line_at 2 limit_in behind_table ≡ Ok (s.limit, behind_limit) → step_at behind_limit ≡ Some (s.step, behind_step)
-    → line_at (waste_number s.step) waste_in behind_step ≡ Ok (s.waste, behind_waste) → rows_from (suc (waste_number s.step)) 32 behind_waste ≡ Ok s.rows
+whole_read : SheetLaws → (ls after_table after_limit after_step after_waste : List (List ℕ)) (s : Sheet) → All IsLine ls → line_at 1 table_in ls ≡ Ok (s.table, after_table)
+    → line_at 2 limit_in after_table ≡ Ok (s.limit, after_limit) → step_at after_limit ≡ Some (s.step, after_step)
+    → line_at (waste_number s.step) waste_in after_step ≡ Ok (s.waste, after_waste) → rows_from (suc (waste_number s.step)) 32 after_waste ≡ Ok s.rows
     → (ls ≡ sheet_lines s) × IsWithinLimits s
-whole_read laws ls behind_table behind_limit behind_step behind_waste s all is_table is_limit is_step is_waste is_rows =
-    let first = was_read 1 table_in ls behind_table s.table is_table in
-    let table = line-table_in laws first.line s.table (All-head IsLine first.line behind_table (rw first.first at all)) first.read in
-    let second = was_read 2 limit_in behind_table behind_limit s.limit is_limit in
+whole_read laws ls after_table after_limit after_step after_waste s all is_table is_limit is_step is_waste is_rows =
+    let first = was_read 1 table_in ls after_table s.table is_table in
+    let table = line-table_in laws first.line s.table (All-head IsLine first.line after_table (rw first.first at all)) first.read in
+    let second = was_read 2 limit_in after_table after_limit s.limit is_limit in
     let limit = line-limit_in laws.text second.line s.limit second.read in
-    let step = step_read laws.text behind_limit behind_step s.step is_step in
-    let next = was_read (waste_number s.step) waste_in behind_step behind_waste s.waste is_waste in
+    let step = step_read laws.text after_limit after_step s.step is_step in
+    let next = was_read (waste_number s.step) waste_in after_step after_waste s.waste is_waste in
     let waste = line-waste_in laws.text next.line s.waste next.read in
-    let rows = rows_read laws.text behind_waste (suc (waste_number s.step)) 32 s.rows is_rows in (
+    let rows = rows_read laws.text after_waste (suc (waste_number s.step)) 32 s.rows is_rows in (
       rw (first.first, table.0, second.first, limit.0, step.0, next.first, waste.0, rows.0) refl,
       record { table = table.1; limit = (limit.1, limit.2); step = step.1; waste = waste.1; few = rows.1; rows = rows.2 },
     )
@@ -112,32 +113,32 @@ step_was_read None x e = absurd cc
 step_was_read (Some y) x e = let same : y ≡ x = cc in ap Some same
 
 -- the lines in front of the rows
-record HeadParts (ls behind : List (List ℕ)) (head : Head) : Type 0 where
-  behind_table : List (List ℕ)
-  behind_limit : List (List ℕ)
-  behind_step : List (List ℕ)
-  table : line_at 1 table_in ls ≡ Ok (head.table, behind_table)
-  limit : line_at 2 limit_in behind_table ≡ Ok (head.limit, behind_limit)
-  step : step_at behind_limit ≡ Some (head.step, behind_step)
-  waste : line_at (waste_number head.step) waste_in behind_step ≡ Ok (head.waste, behind)
+record HeadParts (ls after : List (List ℕ)) (head : Head) : Type 0 where
+  after_table : List (List ℕ)
+  after_limit : List (List ℕ)
+  after_step : List (List ℕ)
+  table : line_at 1 table_in ls ≡ Ok (head.table, after_table)
+  limit : line_at 2 limit_in after_table ≡ Ok (head.limit, after_limit)
+  step : step_at after_limit ≡ Some (head.step, after_step)
+  waste : line_at (waste_number head.step) waste_in after_step ≡ Ok (head.waste, after)
 
 abbrev head_and : Head → List (List ℕ) → Result (Head × List (List ℕ)) ℕ
-head_and head behind = Ok (head, behind)
+head_and head after = Ok (head, after)
 
-head_read : (ls behind : List (List ℕ)) (head : Head) → head_of_lines ls ≡ head_and head behind → HeadParts ls behind head
+head_read : (ls after : List (List ℕ)) (head : Head) → head_of_lines ls ≡ head_and head after → HeadParts ls after head
 unfolding head_of_lines
-head_read ls behind head e =
-    went_on (line_at 1 table_in ls) _ (head, behind) e (λ table is_table e.
-    went_on (line_at 2 limit_in table.1) _ (head, behind) e (λ limit is_limit e.
-    went_on (ok_or (step_at limit.1) 3) _ (head, behind) e (λ step is_step e.
-    went_on (line_at (waste_number step.0) waste_in step.1) _ (head, behind) e (λ waste is_waste e.
+head_read ls after head e =
+    went_on (line_at 1 table_in ls) _ (head, after) e (λ table is_table e.
+    went_on (line_at 2 limit_in table.1) _ (head, after) e (λ limit is_limit e.
+    went_on (ok_or (step_at limit.1) 3) _ (head, after) e (λ step is_step e.
+    went_on (line_at (waste_number step.0) waste_in step.1) _ (head, after) e (λ waste is_waste e.
     let read : Head = record { table = table.0; limit = limit.0; step = step.0; waste = waste.0 } in
-    let parts = ok_pair_parts read head waste.1 behind e in
+    let parts = ok_pair_parts read head waste.1 after e in
     rw (← parts.0, ← parts.1)
     (record {
-      behind_table = table.1;
-      behind_limit = limit.1;
-      behind_step = step.1;
+      after_table = table.1;
+      after_limit = limit.1;
+      after_step = step.1;
       table = is_table;
       limit = is_limit;
       step = step_was_read (step_at limit.1) step is_step;
@@ -151,7 +152,7 @@ lines_read laws ls s all e =
     went_on (head_of_lines ls) _ s e (λ head is_head e.
     went_on (rows_from (suc (waste_number head.0.step)) 32 head.1) _ s e (λ rows is_rows e.
     let parts = head_read ls head.1 head.0 is_head in
-    let read = whole_read laws ls parts.behind_table parts.behind_limit parts.behind_step head.1 (with_rows head.0 rows) all parts.table parts.limit parts.step parts.waste is_rows in
+    let read = whole_read laws ls parts.after_table parts.after_limit parts.after_step head.1 (with_rows head.0 rows) all parts.table parts.limit parts.step parts.waste is_rows in
     subst (λ (t : Sheet). (ls ≡ sheet_lines t) × IsWithinLimits t) (same_sheet (with_rows head.0 rows) s e) read))
 
 -- What is read as a sheet is its text, and the sheet is within the limits.

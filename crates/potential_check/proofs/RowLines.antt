@@ -1,14 +1,15 @@
 -- Reading the rows of a sheet, line by line.
 use Rattle.std.proofs.Common.{◌≡◌, ℕ, suc, ◌+◌, ◌-◌, ◌<◌, ◌≤◌, List, [], ◌∷◌, ◌++◌, length, Result, Ok, Err, Some, None, refl, sym, ap, ◌∙◌, arith, length-append, append_assoc, append-nil}
-use Rattle.potential_check.specs.SheetText.{◌>>=◌, row_in, rows_from}
+use Rattle.line_text.specs.FirstFault.{◌>>=◌}
+use Rattle.potential_check.specs.SheetText.{row_in, rows_from}
 
 -- What is read, where these rows were read before.
-abbrev pub behind : List (List ℕ) → Result (List (List ℕ)) ℕ → Result (List (List ℕ)) ℕ
-behind front (Ok rows) = Ok (front ++ rows)
-behind front (Err number) = Err number
+abbrev pub after : List (List ℕ) → Result (List (List ℕ)) ℕ → Result (List (List ℕ)) ℕ
+after front (Ok rows) = Ok (front ++ rows)
+after front (Err number) = Err number
 
 pub record RowsSoFar (first : ℕ) (all rest front : List (List ℕ)) : Type 0 where
-  pub read : rows_from first 32 all ≡ behind front (rows_from (first + length front) (32 - length front) rest)
+  pub read : rows_from first 32 all ≡ after front (rows_from (first + length front) (32 - length front) rest)
   pub few : length front ≤ 32
 
 -- a line more than there is room for
@@ -39,7 +40,7 @@ rows_from-more first all rest new front line row so_far parts room is_row =
       few = omega arith;
     }
   where
-    go : (r : Result (List (List ℕ)) ℕ) → behind front (r >>= λ rows. Ok (row ∷ rows)) ≡ behind (front ++ row ∷ []) r
+    go : (r : Result (List (List ℕ)) ℕ) → after front (r >>= λ rows. Ok (row ∷ rows)) ≡ after (front ++ row ∷ []) r
     go (Ok rows) = ap Ok (sym (append_assoc front (row ∷ []) rows))
     go (Err number) = refl
 

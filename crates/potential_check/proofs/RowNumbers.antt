@@ -9,7 +9,7 @@ use Rattle.line_text.specs.Lines.{words}
 use Rattle.line_text.specs.Numbers.{number_of, classified}
 use Rattle.line_text.specs.declared.number.Number.{Number}
 use Rattle.line_text.specs.declared.number.Number.TheVariants.{Value}
-use Rattle.potential_check.specs.SheetText.{fits, is_row, only_one, passing, row_in, words_behind}
+use Rattle.potential_check.specs.SheetText.{fits, is_row, only_one, passing, row_in, words_after}
 
 -- ---- what a word is
 
@@ -100,7 +100,7 @@ pub record RowSoFar (line : List ℕ) (rest : List (List ℕ)) (front : List ℕ
   pub few : length front ≤ 1023
   pub small : list_all fits front ≡ true
 
-pub row_on-start : (line : List ℕ) (ws : List (List ℕ)) → Some ws ≡ words_behind (codes "row") (words line) → RowSoFar line ws []
+pub row_on-start : (line : List ℕ) (ws : List (List ℕ)) → Some ws ≡ words_after (codes "row") (words line) → RowSoFar line ws []
 row_on-start line ws e = record { read = rw (← e) (go (numbers_of ws)); few = omega arith; small = refl }
   where
     go : (o : Option (List ℕ)) → passing is_row o ≡ passing is_row (option_map (λ ns. [] ++ ns) o)

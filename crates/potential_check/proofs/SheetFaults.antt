@@ -7,34 +7,34 @@ use Rattle.class_table.specs.ClassLine.{class_line}
 use Rattle.class_table.specs.Tables.{IsLegalTable}
 use Rattle.line_text.specs.Laws.{TextLaws}
 use Rattle.line_text.specs.Lines.{IsLine, lines, text_of}
-use Rattle.line_text.specs.FirstFault.{IsFirstFault}
-use Rattle.potential_check.specs.Laws.{FaultIsFirst, FirstFaultIsTold}
-use Rattle.potential_check.specs.SheetText.{SpellsSheet, ◌>>=◌, head_of_lines, is_named, line_at, limit_in, named_line, rows_from, sheet_in, sheet_of_lines, step_at, table_in, waste_in, waste_number, with_rows}
+use Rattle.line_text.specs.FirstFault.{◌>>=◌, IsFirstFault}
+use Rattle.potential_check.specs.Laws.{FaultIsFirst, FirstFaultIsReported}
+use Rattle.potential_check.specs.SheetText.{SpellsSheet, head_of_lines, is_named, line_at, limit_in, named_line, rows_from, sheet_in, sheet_of_lines, step_at, table_in, waste_in, waste_number, with_rows}
 use Rattle.potential_check.specs.declared.reading.Head.{Head}
-use Rattle.potential_check.proofs.FirstFaults.{Lines, Tells, rows-tell, tells-as, tells-line, tells-step}
+use Rattle.potential_check.proofs.FirstFaults.{Lines, Reports, rows-report, reports-as, reports-line, reports-step}
 use Rattle.potential_check.proofs.NamedLines.{IsName, named_line-is_line, words-named_line}
 use Rattle.potential_check.proofs.ReadIsSpelled.{spelled-sheet_in}
 use Rattle.potential_check.proofs.SheetLines.{SheetLaws, class_line-is_line, limit_in-line, limit_is_name, one_small, step_in-line, step_is_name, table_in-line, waste_in-line, waste_is_name}
 use Rattle.potential_check.proofs.SpelledIsRead.{sheet_in-spelled}
 use Rattle.tuner_theory.specs.Sheets.{Sheet}
 
-abbrev rows_behind : Head × Lines → Result Sheet ℕ
-rows_behind p = rows_from (suc (waste_number p.0.step)) 32 p.1 >>= λ rows. Ok (with_rows p.0 rows)
+abbrev rows_after : Head × Lines → Result Sheet ℕ
+rows_after p = rows_from (suc (waste_number p.0.step)) 32 p.1 >>= λ rows. Ok (with_rows p.0 rows)
 
 abbrev head_with : List ℕ → ℕ → ℕ → ℕ × Lines → Result (Head × Lines) ℕ
 head_with table limit step p = Ok (record { table = table; limit = limit; step = step; waste = p.0 }, p.1)
 
-abbrev waste_behind : List ℕ → ℕ → ℕ × Lines → Result (Head × Lines) ℕ
-waste_behind table limit p = line_at (waste_number p.0) waste_in p.1 >>= head_with table limit p.0
+abbrev waste_after : List ℕ → ℕ → ℕ × Lines → Result (Head × Lines) ℕ
+waste_after table limit p = line_at (waste_number p.0) waste_in p.1 >>= head_with table limit p.0
 
-abbrev step_behind : List ℕ → ℕ × Lines → Result (Head × Lines) ℕ
-step_behind table p = ok_or (step_at p.1) 3 >>= waste_behind table p.0
+abbrev step_after : List ℕ → ℕ × Lines → Result (Head × Lines) ℕ
+step_after table p = ok_or (step_at p.1) 3 >>= waste_after table p.0
 
-abbrev limit_behind : List ℕ × Lines → Result (Head × Lines) ℕ
-limit_behind p = line_at 2 limit_in p.1 >>= step_behind p.0
+abbrev limit_after : List ℕ × Lines → Result (Head × Lines) ℕ
+limit_after p = line_at 2 limit_in p.1 >>= step_after p.0
 
 abbrev sheet_by_lines : Lines → Result Sheet ℕ
-sheet_by_lines ls = (line_at 1 table_in ls >>= limit_behind) >>= rows_behind
+sheet_by_lines ls = (line_at 1 table_in ls >>= limit_after) >>= rows_after
 
 by_lines : (ls : Lines) → sheet_of_lines ls ≡ sheet_by_lines ls
 unfolding sheet_of_lines head_of_lines
@@ -54,30 +54,30 @@ line_of_one laws name n is_name small = named_line-is_line laws name (n ∷ []) 
 is_step_line : TextLaws → is_named (codes "step") (named_line (codes "step") (2 ∷ [])) ≡ true
 is_step_line laws = rw (words-named_line laws (codes "step") (2 ∷ []) step_is_name (one_small 2 (omega arith))) refl
 
-sheet-tells : SheetLaws → Tells 1 sheet_by_lines
-sheet-tells laws =
-    tells-line 1 table_in limit_behind rows_behind (class_line []) []
+sheet-reports : SheetLaws → Reports 1 sheet_by_lines
+sheet-reports laws =
+    reports-line 1 table_in limit_after rows_after (class_line []) []
     (class_line-is_line laws.text [] no_classes) (table_in-line laws [] no_classes)
     (λ table.
-    tells-line 2 limit_in (step_behind table) rows_behind (named_line (codes "limit") (1 ∷ [])) 1
+    reports-line 2 limit_in (step_after table) rows_after (named_line (codes "limit") (1 ∷ [])) 1
     (line_of_one laws.text (codes "limit") 1 limit_is_name (omega arith)) (limit_in-line laws.text 1 (omega arith, omega arith))
     (λ limit.
-    tells-step (waste_behind table limit) rows_behind (named_line (codes "step") (2 ∷ [])) 2
+    reports-step (waste_after table limit) rows_after (named_line (codes "step") (2 ∷ [])) 2
     (line_of_one laws.text (codes "step") 2 step_is_name (omega arith)) (is_step_line laws.text)
     (step_in-line laws.text 2 refl (λ one. omega arith))
     (λ step.
-    tells-line (waste_number step) waste_in (head_with table limit step) rows_behind (named_line (codes "waste") (0 ∷ [])) 0
+    reports-line (waste_number step) waste_in (head_with table limit step) rows_after (named_line (codes "waste") (0 ∷ [])) 0
     (line_of_one laws.text (codes "waste") 0 waste_is_name (omega arith)) (waste_in-line laws.text 0 (omega arith))
     (λ waste.
-    tells-as (suc (waste_number step)) (rows_from (suc (waste_number step)) 32)
-    (with_rows (record { table = table; limit = limit; step = step; waste = waste })) (rows-tell 32 (suc (waste_number step)))))))
+    reports-as (suc (waste_number step)) (rows_from (suc (waste_number step)) 32)
+    (with_rows (record { table = table; limit = limit; step = step; waste = waste })) (rows-report 32 (suc (waste_number step)))))))
 
 -- ---- the first fault
 
 module _ (laws : SheetLaws) where
   pub fault-first : FaultIsFirst
   fault-first text number e =
-      let at = (sheet-tells laws).fault (lines text) number (laws.text.lines text) (sym (by_lines (lines text)) ∙ e) in
+      let at = (sheet-reports laws).fault (lines text) number (laws.text.lines text) (sym (by_lines (lines text)) ∙ e) in
       let sound = at.2.sound in
       let next : number ≡ suc at.0 = (let is = at.1 in omega arith) in
       let front : suc at.0 - 1 ≡ at.0 = omega arith in
@@ -105,7 +105,7 @@ module _ (laws : SheetLaws) where
       let le : m ≤ n - 1 = omega arith in
       of_m.none b.0 b.1 b.2 (sym (take-take m (n - 1) (lines b.0) le) ∙ (ap (take m) b.3 ∙ take-take m (n - 1) (lines text) le))
 
-  pub first-fault : FirstFaultIsTold
+  pub first-fault : FirstFaultIsReported
   first-fault text number is = go (sheet_in text) refl
     where
       go : (read : Result Sheet ℕ) → sheet_in text ≡ read → sheet_in text ≡ Err number

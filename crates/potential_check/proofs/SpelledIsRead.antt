@@ -39,11 +39,11 @@ sheet_lines-full laws s within =
     let limit = full_line laws (codes "limit") (s.limit ∷ []) limit_is_name (one_small s.limit (omega (arith, within.limit.1))) in
     let waste = full_line laws (codes "waste") (s.waste ∷ []) waste_is_name (one_small s.waste within.waste) in
     let rows = map (named_line (codes "row")) s.rows in
-    let behind = named_line (codes "waste") (s.waste ∷ []) ∷ rows in
+    let after = named_line (codes "waste") (s.waste ∷ []) ∷ rows in
     let from_waste = All-cons IsFullLine (named_line (codes "waste") (s.waste ∷ [])) rows waste (rows-full laws s.rows within.rows) in
-    let from_step = All-append IsFullLine (step_lines s.step) behind (step_lines-full laws s.step within.step) from_waste in
-    let from_limit = All-cons IsFullLine (named_line (codes "limit") (s.limit ∷ [])) (step_lines s.step ++ behind) limit from_step in
-    All-cons IsFullLine (class_line s.table) (named_line (codes "limit") (s.limit ∷ []) ∷ step_lines s.step ++ behind) table from_limit
+    let from_step = All-append IsFullLine (step_lines s.step) after (step_lines-full laws s.step within.step) from_waste in
+    let from_limit = All-cons IsFullLine (named_line (codes "limit") (s.limit ∷ [])) (step_lines s.step ++ after) limit from_step in
+    All-cons IsFullLine (class_line s.table) (named_line (codes "limit") (s.limit ∷ []) ∷ step_lines s.step ++ after) table from_limit
 
 -- ---- they are read one after the other
 
@@ -66,11 +66,11 @@ rows_from-lines laws (row ∷ rows) number zero few all = absurd (omega arith)
 rows_from-lines laws (row ∷ rows) number (suc most) few all =
     rw (row_in-line laws row (All-head IsRow row rows all), rows_from-lines laws rows (suc number) most (omega arith) (All-tail IsRow row rows all)) refl
 
--- the rows behind a head are read
-read_on : (ls behind : List (List ℕ)) (head : Head) (rows : List (List ℕ)) → head_of_lines ls ≡ Ok (head, behind)
-    → rows_from (waste_number head.step + 1) 32 behind ≡ Ok rows → sheet_of_lines ls ≡ Ok (with_rows head rows)
+-- the rows after a head are read
+read_on : (ls after : List (List ℕ)) (head : Head) (rows : List (List ℕ)) → head_of_lines ls ≡ Ok (head, after)
+    → rows_from (waste_number head.step + 1) 32 after ≡ Ok rows → sheet_of_lines ls ≡ Ok (with_rows head rows)
 unfolding sheet_of_lines
-read_on ls behind head rows is_head is_rows = rw (is_head, ← add-one (waste_number head.step), is_rows) refl
+read_on ls after head rows is_head is_rows = rw (is_head, ← add-one (waste_number head.step), is_rows) refl
 
 -- The text of a sheet within the limits is read as that sheet.
 pub sheet_in-spelled : SheetLaws → (text : List ℕ) (s : Sheet) → SpellsSheet text s → sheet_in text ≡ Ok s

@@ -17,5 +17,5 @@ abbrev pub FaultIsFirst : Type 0
 FaultIsFirst = (text : List ℕ) (number : ℕ) → sheet_in text ≡ Err number → IsFirstFault SpellsSheet text number
 
 -- and it is there wherever there is such a line.
-abbrev pub FirstFaultIsTold : Type 0
-FirstFaultIsTold = (text : List ℕ) (number : ℕ) → IsFirstFault SpellsSheet text number → sheet_in text ≡ Err number
+abbrev pub FirstFaultIsReported : Type 0
+FirstFaultIsReported = (text : List ℕ) (number : ℕ) → IsFirstFault SpellsSheet text number → sheet_in text ≡ Err number

@@ -21,15 +21,15 @@ unfoldable pub leading_lines : List (List ℕ) → List (List ℕ)
 leading_lines ls = take (head_size ls) ls ++ take_while is_row_line (drop (head_size ls) ls)
 
 -- The lines after the sheet.
-unfoldable pub lines_behind : List (List ℕ) → List (List ℕ)
-lines_behind ls = drop (length (leading_lines ls)) ls
+unfoldable pub lines_after : List (List ℕ) → List (List ℕ)
+lines_after ls = drop (length (leading_lines ls)) ls
 
 -- The sheet that the lines spell, how many lines it has, and the text after them.
 pub record IsLeading (ls : List (List ℕ)) (leading : LeadingSheet) : Type 0 where
   pub sheet : sheet_of_lines (leading_lines ls) ≡ Ok (sheet_of leading.sheet)
   pub size : leading.lines ≡ length (leading_lines ls)
   pub few : leading.lines ≤ 36
-  pub behind : lines leading.rest.now ≡ lines_behind ls
+  pub after : lines leading.rest.now ≡ lines_after ls
 
 -- What was read of these lines, unless memory ran out.
 abbrev pub GivesLeading : List (List ℕ) → Result LeadingSheet SheetError → Type 0

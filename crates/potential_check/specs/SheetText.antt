@@ -5,6 +5,7 @@ use Rattle.std.specs.List.{list_all}
 use Rattle.std.specs.Option.{ok_or, option_map}
 use Rattle.std.specs.Result.{result_ok}
 use Rattle.std.specs.Str.{bytes_eq}
+use Rattle.line_text.specs.FirstFault.{◌>>=◌}
 use Rattle.class_table.specs.ClassLine.{class_line, numbers_of, table_of_line}
 use Rattle.class_table.specs.Steps.{IsStep}
 use Rattle.class_table.specs.Tables.{IsLegalTable}
@@ -59,13 +60,13 @@ passing test None = None
 passing test (Some x) = if test x then Some x else None
 
 -- The words of a line after this name; `None` if the first word is another.
-abbrev pub words_behind : List ℕ → List (List ℕ) → Option (List (List ℕ))
-words_behind name [] = None
-words_behind name (w ∷ ws) = if bytes_eq w name then Some ws else None
+abbrev pub words_after : List ℕ → List (List ℕ) → Option (List (List ℕ))
+words_after name [] = None
+words_after name (w ∷ ws) = if bytes_eq w name then Some ws else None
 
 -- The numbers of a line of this name and numbers.
 abbrev pub numbers_in : List ℕ → List ℕ → Option (List ℕ)
-numbers_in name line = option_and_then numbers_of (words_behind name (words line))
+numbers_in name line = option_and_then numbers_of (words_after name (words line))
 
 abbrev pub only_one : List ℕ → Option ℕ
 only_one (n ∷ []) = Some n
@@ -106,15 +107,9 @@ row_in line = passing is_row (numbers_in (codes "row") line)
 
 -- Whether a line's first word is this name.
 abbrev pub is_named : List ℕ → List ℕ → Bool
-is_named name line = is_some (words_behind name (words line))
+is_named name line = is_some (words_after name (words line))
 
 -- ---- reading line by line; a fault is the number of the first faulty line
-
--- Goes on with what was read, unless there was a fault.
-infixl 10 ◌>>=◌
-abbrev pub ◌>>=◌ : {A B : Type 0} → Result A ℕ → (A → Result B ℕ) → Result B ℕ
-(Ok x) >>= more = more x
-(Err number) >>= more = Err number
 
 -- What is read from the first of the lines, which has this number, and the lines after it. A missing line is faulty too.
 abbrev pub line_at : {A : Type 0} → ℕ → (List ℕ → Option A) → List (List ℕ) → Result (A × List (List ℕ)) ℕ

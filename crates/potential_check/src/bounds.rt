@@ -9,7 +9,6 @@ use crate::spans::Spans;
 use crate::tight_rows::is_tight_row;
 use std::cmp::Ordering;
 use std::ops::Range;
-use tuner_theory::laws::law_crossing_spans;
 
 /// Whether no number of a row is more than what one class for all needs above its place wastes.
 pub(crate) fn last_class_holds(spans: &Spans, row: &[u64]) -> bool
@@ -60,10 +59,9 @@ fn edges_hold_within(
     requires row { length row.now ≡ places spans.now.counts spans.now.step }
     requires some { ends.start < ends.end }
     requires within { ends.end ≤ places spans.now.counts spans.now.step + 1 }
-    requires behind { part.end < ends.end }
+    requires short { part.end < ends.end }
     ensures { IsTrue result ↔ EdgesHoldWithin spans.now before.now row.now part.start part.end ends.start ends.end }
 {
-    law_crossing_spans();
     if part.is_empty() {
         return true;
     }

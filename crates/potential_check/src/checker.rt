@@ -14,7 +14,6 @@ use crate::sheet::Sheet;
 use crate::spans::Spans;
 use profile_count::Profile;
 use std::alloc::{AllocError, Global};
-use tuner_theory::laws::law_optimal_is_best;
 use tuner_theory::{Refusal, Verdict};
 
 /// The verdict on a sheet, whoever wrote it and whatever it holds: optimal, or the first refusal that holds.
@@ -25,7 +24,6 @@ pub fn check(alloc: Global, profile: &Profile, sheet: &Sheet) -> Result<Verdict,
     ensures best { IfOk result
         (λ verdict. verdict ≡ Optimal → IsBest profile.now.counts sheet.now.step sheet.now.limit sheet.now.table) }
 {
-    law_optimal_is_best();
     if let Some(refusal) = table_refusal(profile, sheet) {
         return Ok(Verdict::Refused(refusal));
     }

@@ -7,13 +7,11 @@ ghost use Rattle.potential_check.specs.Sheets.{sheet_of};
 ghost use Rattle.potential_check.specs.SheetText.{Gives, IsWithinLimits, head_of_lines, is_named, rows_from, sheet_in, step_at, waste_number};
 
 use crate::fault::SheetError;
-use crate::laws::law_sheet_text;
 use crate::leading::LeadingSheet;
 use crate::rows::Rows;
 use crate::sheet::Sheet;
 use crate::sheet_line::{ROW, STEP, is_named, limit_in, row_in, step_in, table_in, waste_in};
 use class_table::{ClassTable, MOST_CLASSES};
-use line_text::laws::law_lines;
 use line_text::{Lines, lines_in};
 use std::alloc::Global;
 
@@ -27,7 +25,6 @@ pub fn read_sheet(alloc: Global, text: &[u8]) -> Result<Sheet, SheetError>
     ensures exact { Gives sheet_of result (sheet_in text.now) }
     ensures within { IfOk result (λ sheet. IsWithinLimits (sheet_of sheet)) }
 {
-    law_sheet_text();
     let leading = read_leading_sheet(alloc, text)?;
     match lines_in(leading.rest).next() {
         None => Ok(leading.sheet),
@@ -35,12 +32,12 @@ pub fn read_sheet(alloc: Global, text: &[u8]) -> Result<Sheet, SheetError>
     }
 }
 
-/// The sheet in front of a text, and the text behind it. Its lines are the first three, or four where the third begins with `step`, and all
-/// directly behind them whose first word is `row`. Errors are those of `read_sheet` over these lines.
+/// The sheet in front of a text, and the text after it. Its lines are the first three, or four where the third begins with `step`, and all
+/// directly after them whose first word is `row`. Errors are those of `read_sheet` over these lines.
+#[tactic(auto, using(line_text::proofs::LawLemmas::lines_are_lines))]
 pub fn read_leading_sheet(alloc: Global, text: &[u8]) -> Result<LeadingSheet<'_>, SheetError>
     ensures { GivesLeading (lines text.now) result }
 {
-    law_lines();
     let mut lines = lines_in(text);
     let head = head_in(&mut lines)?;
     let size = waste_number(head.step);
@@ -111,7 +108,7 @@ fn rows_in(alloc: Global, lines: &mut Lines<'_>, first: u64) -> Result<Rows, She
     requires { first ≤ 5 }
     ensures rows { Gives (λ rows. rows) result (rows_from first 32 (take_while is_row_line lines.old)) }
     ensures size { IfOk result (λ rows. (length rows ≡ length (take_while is_row_line lines.old)) × (length rows ≤ 32)) }
-    ensures behind { IfOk result (λ rows. lines.new ≡ drop (length rows) lines.old) }
+    ensures after { IfOk result (λ rows. lines.new ≡ drop (length rows) lines.old) }
 {
     let mut rows = Vec::new(alloc);
     while let Some(line) = next_named(ROW, lines) {

@@ -3,9 +3,8 @@ ghost use Rattle.std.specs.Prelude.{◌≡◌, IfOk, option_and_then};
 ghost use Rattle.std.specs.Option.{option_map};
 ghost use Rattle.line_text.specs.Lines.{IsLine, words};
 ghost use Rattle.class_table.specs.ClassLine.{numbers_of};
-ghost use Rattle.potential_check.specs.SheetText.{fits, is_named, limit_in, only_one, passing, row_in, step_in, table_in, waste_in, words_behind};
+ghost use Rattle.potential_check.specs.SheetText.{fits, is_named, limit_in, only_one, passing, row_in, step_in, table_in, waste_in, words_after};
 
-use class_table::laws::law_class_line;
 use class_table::{ClassTable, LARGEST_CLASS, MOST_CLASSES, SMALLEST_CLASS};
 use line_text::{Number, Words, number_in, words_in};
 use std::alloc::{AllocError, Global};
@@ -25,18 +24,18 @@ const MOST_LIMIT: u64 = MOST_CLASSES as u64;
 const MOST_NUMBERS: usize = (LARGEST_CLASS - SMALLEST_CLASS + 1) as usize;
 
 // the table that a line spells
+#[tactic(auto, using(class_table::proofs::LawLemmas::line_alone_is_read))]
 pub(crate) fn table_in(line: &[u8]) -> Option<ClassTable>
     requires { IsLine line.now }
     ensures { result ≡ table_in line.now }
 {
-    law_class_line();
     ClassTable::read_line(line).ok()
 }
 
 pub(crate) fn limit_in(line: &[u8]) -> Option<u8>
     ensures { result ≡ limit_in line.now }
 {
-    match only_number(words_behind(LIMIT, line)?)? {
+    match only_number(words_after(LIMIT, line)?)? {
         limit @ 1..=MOST_LIMIT => Some(limit as u8),
         _ => None,
     }
@@ -46,7 +45,7 @@ pub(crate) fn limit_in(line: &[u8]) -> Option<u8>
 pub(crate) fn step_in(line: &[u8]) -> Option<u8>
     ensures { result ≡ step_in line.now }
 {
-    match only_number(words_behind(STEP, line)?)? {
+    match only_number(words_after(STEP, line)?)? {
         2 => Some(2),
         4 => Some(4),
         8 => Some(8),
@@ -57,14 +56,14 @@ pub(crate) fn step_in(line: &[u8]) -> Option<u8>
 pub(crate) fn waste_in(line: &[u8]) -> Option<u64>
     ensures { result ≡ waste_in line.now }
 {
-    only_number(words_behind(WASTE, line)?)
+    only_number(words_after(WASTE, line)?)
 }
 
 // the numbers of a row
 pub(crate) fn row_in(alloc: Global, line: &[u8]) -> Result<Option<Vec<u64>>, AllocError>
     ensures { IfOk result (λ row. option_map (λ v. v.items) row ≡ row_in line.now) }
 {
-    let Some(mut words) = words_behind(ROW, line) else {
+    let Some(mut words) = words_after(ROW, line) else {
         return Ok(None);
     };
     let mut row = Vec::new(alloc);
@@ -84,12 +83,12 @@ pub(crate) fn row_in(alloc: Global, line: &[u8]) -> Result<Option<Vec<u64>>, All
 pub(crate) fn is_named(name: &[u8], line: &[u8]) -> bool
     ensures { result ≡ is_named name.now line.now }
 {
-    words_behind(name, line).is_some()
+    words_after(name, line).is_some()
 }
 
 // the words after a line's name
-fn words_behind<'a>(name: &[u8], line: &'a [u8]) -> Option<Words<'a>>
-    ensures { result ≡ words_behind name.now (words line.now) }
+fn words_after<'a>(name: &[u8], line: &'a [u8]) -> Option<Words<'a>>
+    ensures { result ≡ words_after name.now (words line.now) }
 {
     let mut words = words_in(line);
     if words.next()? != name {

@@ -8,7 +8,7 @@ use class_table::{GRANULE_BYTES, LARGEST_COUNTED, need, round_up};
 use profile_count::Profile;
 use std::alloc::{AllocError, Global};
 use std::marker::Model;
-use tuner_theory::laws::{law_places, law_prefix_sums, law_round_up, law_spans_fit};
+use tuner_theory::laws::law_places;
 
 /// The spans of a profile: its places, one for each distinct rounded need, and the waste of serving the needs from one place to another by
 /// the greatest of them. Each waste follows from two sums for each place, of requests and of bytes.
@@ -38,7 +38,6 @@ impl<'a> Spans<'a> {
         ensures spans { IfOk result (λ spans. spans ≡ record { counts = profile.now.counts; step = step }) }
         ensures valid { IfOk result IsSpanned }
     {
-        law_round_up();
         let mut needs = Vec::new(alloc);
         let mut counted = Vec::new(alloc);
         let mut bytes = Vec::new(alloc);
@@ -76,12 +75,12 @@ impl<'a> Spans<'a> {
     }
 
     /// How many places there are: one for each distinct need, 0 to 1,023. They are counted from 1; place 0 is below all needs.
+    #[tactic(auto, using(tuner_theory::proofs::LawLemmas::few_places))]
     pub fn places(&self) -> usize
         ensures places { result ≡ places self.now.counts self.now.step }
         ensures few { result ≤ 1023 }
         ensures valid { IsSpanned self.now }
     {
-        law_places();
         self.needs.len()
     }
 
@@ -92,7 +91,6 @@ impl<'a> Spans<'a> {
         ensures need { result ≡ need_at self.now.counts self.now.step place }
         ensures in_range { (2 ≤ result) × (result ≤ 1024) }
     {
-        law_places();
         self.needs[place - 1]
     }
 
@@ -103,9 +101,6 @@ impl<'a> Spans<'a> {
         ensures waste { result ≡ span_waste self.now.counts self.now.step i j }
         ensures small { result < 2 ^ 58 }
     {
-        law_places();
-        law_prefix_sums();
-        law_spans_fit();
         let payload = u64::from(GRANULE_BYTES) * (u64::from(self.need(j)) - 1);
         let (requests_before, requests) = (self.requests_up_to(i), self.requests_up_to(j));
         let (bytes_before, bytes) = (self.bytes_up_to(i), self.bytes_up_to(j));
@@ -145,6 +140,5 @@ fn rounded_need(n: u32, step: u8) -> u16
     ensures need { result ≡ rounded_need step n }
     ensures some { 0 < result }
 {
-    law_round_up();
     round_up(need(n), step) as u16
 }

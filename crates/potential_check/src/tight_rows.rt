@@ -9,7 +9,6 @@ ghost use Rattle.tuner_theory.specs.Spans.{places};
 use crate::bounds::edge_order;
 use crate::spans::Spans;
 use std::cmp::Ordering;
-use tuner_theory::laws::law_crossing_spans;
 
 /// Whether each number of a row is within its edges, and exactly what one of them allows.
 // Not inlined: in a large caller the walk's values would be kept in memory.
@@ -19,7 +18,6 @@ pub(crate) fn is_tight_row(spans: &Spans, before: &[u64], row: &[u64]) -> bool
     requires row { length row.now ≡ places spans.now.counts spans.now.step }
     ensures { IsTrue result ↔ (EdgesHold spans.now before.now row.now × AreTight spans.now before.now row.now) }
 {
-    law_crossing_spans();
     let mut end = spans.places();
     for place in (0..row.len()).rev() {
         match tight_end(spans, before, row, place, end) {

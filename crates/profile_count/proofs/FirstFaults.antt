@@ -73,7 +73,7 @@ faulty_first number reading line ls fault is = record {
       line_faulty number reading other begins.rest line fault begins.parts (sym is) ∙ ap (λ m. Err (m, fault)) (sym (add-zero number));
 }
 
--- a line behind the first is
+-- a line after the first is
 faulty_later : (number : ℕ) (reading : Reading) (line : List ℕ) (ls : List (List ℕ)) (entry : Entry) (fault : ProfileFault) (k : ℕ)
     → entry_of reading.next reading.profile.large (words line) ≡ Ok entry → IsFaultAt (number + 1) (with_entry reading entry) ls fault k
     → IsFaultAt number reading (line ∷ ls) fault (suc k)
@@ -113,8 +113,8 @@ fault_at (line ∷ ls) number reading n fault e = go (fault_at ls) (entry_of rea
         let same : f ≡ fault = ap (λ (pair : ℕ × ProfileFault). pair.1) both in
         (0, omega (arith, here), rw (← same) (faulty_first number reading line ls f is))
     go others (Ok entry) is =
-        let behind : profile_from (suc number) (with_entry reading entry) ls ≡ Err (n, fault) = rw is at e in
-        let later = others (number + 1) (with_entry reading entry) n fault (rw add-one behind) in
+        let after : profile_from (suc number) (with_entry reading entry) ls ≡ Err (n, fault) = rw is at e in
+        let later = others (number + 1) (with_entry reading entry) n fault (rw add-one after) in
         (suc later.0, omega (arith, later.1), faulty_later number reading line ls entry fault later.0 is later.2)
 
 -- ---- the first fault
@@ -123,7 +123,7 @@ fault_at (line ∷ ls) number reading n fault e = go (fault_at ls) (entry_of rea
 read_or_refused : (p : Profile) (fault : ℕ × ProfileFault) → Ok p ≡ refusal fault → ⊥
 read_or_refused p fault e = absurd cc
 
--- a text has one first fault at most: none is behind another
+-- a text has one first fault at most: none is after another
 not_after : (m n : ℕ) (text : List ℕ) → IsFirstFault SpellsProfile text m → IsFirstFault SpellsProfile text n → m ≤ n
 not_after m n text first second = elim (cases_lt n m) [
   | inl less ↦

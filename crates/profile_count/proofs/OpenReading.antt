@@ -24,7 +24,7 @@ is_open-nothing_read = record { counts = counts-zeros (zeros 16369) refl; large 
 pub other_count : (counts : List ℕ) (size count k : ℕ) → k ≢ size → get_or (set counts size count) k 0 ≡ get_or counts k 0
 other_count counts size count k other = get_or-set_other counts size k count 0 other
 
--- a reading stays open behind the line of a size
+-- a reading stays open after the line of a size
 pub is_open-size_read : (reading : Reading) (size count : ℕ) → IsOpen reading → IsNext reading.next 0 (Size size count) → IsOpen (with_entry reading (Size size count))
 is_open-size_read reading size count is_open next =
     record {

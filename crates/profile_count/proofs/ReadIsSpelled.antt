@@ -14,7 +14,7 @@ use Rattle.profile_count.proofs.OpenReading.{IsOpen, nothing_read, is_open-nothi
 use Rattle.profile_count.proofs.SizeLines.{size_lines_from, size_lines-none, size_lines-counted, size_lines-passed}
 use Rattle.line_text.specs.Laws.{TextLaws}
 
--- Behind a reading, lines spell a profile: what it counts from the next size on, and its large requests. Below that size it counts what was read.
+-- After a reading, lines spell a profile: what it counts from the next size on, and its large requests. Below that size it counts what was read.
 record SpellsRest (reading : Reading) (ls : List (List ℕ)) (p : Profile) : Type 0 where
   profile : IsProfile p
   kept : (k : ℕ) → k < reading.next → get_or p.counts k 0 ≡ get_or reading.profile.counts k 0
@@ -91,12 +91,12 @@ spells_rest-read laws (line ∷ ls) number reading p is_open e = go (spells_rest
     go others (Err fault) is = let none = rw is at e in absurd cc
     go others (Ok (Size size count)) is =
         let read = entry_line-read laws reading.next reading.profile.large line (Size size count) is in
-        let behind = others (suc number) (with_entry reading (Size size count)) p (is_open-size_read reading size count is_open read.1) (rw is at e) in
-        rw read.2 (spells_rest-size reading size count ls p is_open read.1 behind)
+        let after = others (suc number) (with_entry reading (Size size count)) p (is_open-size_read reading size count is_open read.1) (rw is at e) in
+        rw read.2 (spells_rest-size reading size count ls p is_open read.1 after)
     go others (Ok (Large count)) is =
         let read = entry_line-read laws reading.next reading.profile.large line (Large count) is in
-        let behind = nothing_after_large laws (suc number) (with_entry reading (Large count)) ls p (omega (arith, read.1)) (rw is at e) in
-        rw (read.2, behind.0, ← behind.1) (spells_rest-large reading count is_open read.1)
+        let after = nothing_after_large laws (suc number) (with_entry reading (Large count)) ls p (omega (arith, read.1)) (rw is at e) in
+        rw (read.2, after.0, ← after.1) (spells_rest-large reading count is_open read.1)
 
 -- What is read as a profile is its text.
 pub spelled-profile_of : TextLaws → (text : List ℕ) (p : Profile) → profile_of text ≡ Ok p → SpellsProfile text p

@@ -54,7 +54,7 @@ text_from-counted counts size within some =
 pub text_from-zero : (counts : List ℕ) (size : ℕ) → size < length counts → get_or counts size 0 ≡ 0 → text_from counts size ≡ text_from counts (size + 1)
 text_from-zero counts size within none = rw (drop-cons counts size 0 within, none, size_lines-zero, add-one) refl
 
--- and behind the last size there is nothing
+-- and after the last size there is nothing
 pub text_from-end : (counts : List ℕ) (size : ℕ) → length counts ≤ size → text_from counts size ≡ []
 unfolding size_lines
 text_from-end counts size past = rw (drop_all size counts past) refl

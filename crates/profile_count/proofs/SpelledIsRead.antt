@@ -28,7 +28,7 @@ one_more xs ys n below here k within = elim (cases_eq k n) [
   | inr other ↦ below k (omega arith)
 ]
 
--- the first element behind a place, and what is behind it
+-- the first element after a place, and what is after it
 drop_parts : (xs rest : List ℕ) (n x : ℕ) → drop n xs ≡ x ∷ rest → (n < length xs) × (get_or xs n 0 ≡ x) × (drop (suc n) xs ≡ rest)
 drop_parts xs rest n x e =
     let within : n < length xs = omega (arith, length-drop n xs, ap length e) in
@@ -71,10 +71,10 @@ profile_from-size_lines laws (suc n ∷ counts) size number reading p is_open is
     let within : size < length reading.profile.counts = omega (arith, first.0, is_open.counts.sizes, is_profile.counts.sizes) in
     let here : get_or (set reading.profile.counts size (suc n)) size 0 ≡ get_or p.counts size 0 = get_or-set_same reading.profile.counts size (suc n) 0 within ∙ sym first.1 in
     let below : AgreeBelow (set reading.profile.counts size (suc n)) p.counts size = λ k lower. other_count reading.profile.counts size (suc n) k (λ e. omega arith) ∙ same k lower in
-    let behind = profile_from-size_lines laws counts (suc size) (number + 1) (with_entry reading (Size size (suc n))) p (is_open-size_read reading size (suc n) is_open may_come) is_profile
+    let after = profile_from-size_lines laws counts (suc size) (number + 1) (with_entry reading (Size size (suc n))) p (is_open-size_read reading size (suc n) is_open may_come) is_profile
     (omega arith) (one_more (set reading.profile.counts size (suc n)) p.counts size below here) first.2 in
     rw (ne_eqb (suc n) 0 (λ e. omega arith))
-    (profile_from-entry_line laws number reading (Size size (suc n)) (size_lines (suc size) counts ++ large_lines p.large) is_open.large may_come ∙ behind)
+    (profile_from-entry_line laws number reading (Size size (suc n)) (size_lines (suc size) counts ++ large_lines p.large) is_open.large may_come ∙ after)
 
 -- ---- the lines of a profile are lines, and not empty
 

@@ -10,22 +10,22 @@ use Rattle.profile_count.specs.Counts.{unserved_from, unserved_of}
 
 -- ---- one size after the other
 
-abbrev pub unserved_behind : List ℕ → List ℕ → ℕ → Option ℕ
-unserved_behind counts classes n = unserved_from classes n (drop n counts)
+abbrev pub unserved_after : List ℕ → List ℕ → ℕ → Option ℕ
+unserved_after counts classes n = unserved_from classes n (drop n counts)
 
-pub unserved_here : (counts classes : List ℕ) (n : ℕ) → n < length counts → 0 < get_or counts n 0 → class_for classes n ≡ None → unserved_behind counts classes n ≡ Some n
+pub unserved_here : (counts classes : List ℕ) (n : ℕ) → n < length counts → 0 < get_or counts n 0 → class_for classes n ≡ None → unserved_after counts classes n ≡ Some n
 unfolding unserved_from
 unserved_here counts classes n within some none =
     let test : ltb 0 (get_or counts n 0) ≡ true = lt-ltb 0 _ some in
     rw (drop-cons counts n 0 within, test, none) refl
 
-pub not_counted_here : (counts classes : List ℕ) (n : ℕ) → n < length counts → get_or counts n 0 ≤ 0 → unserved_behind counts classes n ≡ unserved_behind counts classes (n + 1)
+pub not_counted_here : (counts classes : List ℕ) (n : ℕ) → n < length counts → get_or counts n 0 ≤ 0 → unserved_after counts classes n ≡ unserved_after counts classes (n + 1)
 unfolding unserved_from
 not_counted_here counts classes n within none =
     let test : ltb 0 (get_or counts n 0) ≡ false = le-ltb 0 _ none in
     rw (drop-cons counts n 0 within, test, add-one) refl
 
-pub served_here : (counts classes : List ℕ) (n class : ℕ) → n < length counts → class_for classes n ≡ Some class → unserved_behind counts classes n ≡ unserved_behind counts classes (n + 1)
+pub served_here : (counts classes : List ℕ) (n class : ℕ) → n < length counts → class_for classes n ≡ Some class → unserved_after counts classes n ≡ unserved_after counts classes (n + 1)
 unfolding unserved_from
 served_here counts classes n class within served =
     rw (drop-cons counts n 0 within, served, add-one) (go (ltb 0 (get_or counts n 0)))
@@ -34,9 +34,9 @@ served_here counts classes n class within served =
     go true = refl
     go false = refl
 
-pub none_behind : (counts classes : List ℕ) (n : ℕ) → length counts ≤ n → unserved_behind counts classes n ≡ None
+pub none_after : (counts classes : List ℕ) (n : ℕ) → length counts ≤ n → unserved_after counts classes n ≡ None
 unfolding unserved_from
-none_behind counts classes n past = rw (drop_all n counts past) refl
+none_after counts classes n past = rw (drop_all n counts past) refl
 
 -- ---- what the definition says
 
@@ -135,17 +135,17 @@ serving counts classes None e = λ n counted.
 serving counts classes (Some size) e = tt
 
 -- the walk begins where the classes end
-pub skips_served : (counts classes : List ℕ) (n : ℕ) → ((m : ℕ) → m < n → IsSome (class_for classes m)) → unserved_of counts classes ≡ unserved_behind counts classes n
+pub skips_served : (counts classes : List ℕ) (n : ℕ) → ((m : ℕ) → m < n → IsSome (class_for classes m)) → unserved_of counts classes ≡ unserved_after counts classes n
 skips_served counts classes zero served = refl
 skips_served counts classes (suc n) served =
     let before = skips_served counts classes n (λ m lt. served m (omega arith)) in
     let next : n + 1 ≡ suc n = omega arith in
     elim (cases_lt n (length counts)) [
-      | inl within ↦ before ∙ is_served counts classes n within (class_for classes n) refl (served n (omega arith)) ∙ ap (unserved_behind counts classes) next
-      | inr past ↦ before ∙ none_behind counts classes n past ∙ sym (none_behind counts classes (suc n) (omega arith))
+      | inl within ↦ before ∙ is_served counts classes n within (class_for classes n) refl (served n (omega arith)) ∙ ap (unserved_after counts classes) next
+      | inr past ↦ before ∙ none_after counts classes n past ∙ sym (none_after counts classes (suc n) (omega arith))
     ]
   where
     is_served : (counts classes : List ℕ) (n : ℕ) → n < length counts → (o : Option ℕ) → class_for classes n ≡ o → IsSome (class_for classes n)
-        → unserved_behind counts classes n ≡ unserved_behind counts classes (n + 1)
+        → unserved_after counts classes n ≡ unserved_after counts classes (n + 1)
     is_served counts classes n within None is some = let none = rw is at some in absurd cc
     is_served counts classes n within (Some class) is some = served_here counts classes n class within is

@@ -10,7 +10,7 @@ length-zeros : (n : ℕ) → length (zeros n) ≡ n
 unfolding zeros
 length-zeros n = length-replicate n 0
 
--- Each is 0, and so is what is read behind the last.
+-- Each is 0, and so is what is read after the last.
 pub get_or-zeros : (n k : ℕ) → get_or (zeros n) k 0 ≡ 0
 unfolding zeros
 get_or-zeros n k = elim (cases_lt k n) [

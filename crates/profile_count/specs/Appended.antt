@@ -3,5 +3,5 @@ use Rattle.std.specs.Prelude.{◌≡◌, ℕ, List, ◌++◌}
 
 -- The new text is the old one, perhaps with something after it.
 pub record GoesOn (old new : List ℕ) : Type 0 where
-  pub behind : List ℕ
-  pub is : new ≡ old ++ behind
+  pub after : List ℕ
+  pub is : new ≡ old ++ after

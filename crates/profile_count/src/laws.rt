@@ -3,15 +3,11 @@ ghost use Rattle.profile_count.specs.Laws.{AddedRequestsAreCounted, CountsAreFew
 ghost use Rattle.profile_count.specs.Laws.{FirstFaultIsRefused, LinesBeforeItSpell, RefusedLineIsThere};
 ghost use Rattle.profile_count.specs.RequestLosses.{ProfileOfSizesIsOne, ServesEachRequest, WasteIsTheSumOfLosses};
 
-use line_text::laws::law_text;
-
 /// A text that is read as a profile is that profile's text, and the text is read as the profile.
 pub fn law_profile_text()
     ensures read { ProfileIsSpelled }
     ensures written { SpelledProfileIsRead }
-{
-    law_text();
-}
+{}
 
 /// A text is refused as a profile exactly at its first fault: the lines before it spell a profile, and no text that begins with the lines
 /// up to it spells one. That line is a line of the text, since a profile never lacks a line.
@@ -19,9 +15,7 @@ pub fn law_profile_fault()
     ensures first { FirstFaultIsRefused }
     ensures line { RefusedLineIsThere }
     ensures before { LinesBeforeItSpell }
-{
-    law_text();
-}
+{}
 
 /// The profile of requests has the number of each size's requests and of the large ones, none above the number of all requests. Requests
 /// that are added one by one to the empty profile give it.

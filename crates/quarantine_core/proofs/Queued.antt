@@ -1,33 +1,15 @@
--- What putting a slot behind a queue, and taking one off its front, make of it.
-use Rattle.std.proofs.Common.{◌≡◌, ◌≢◌, ◌⊎◌, ℕ, zero, suc, ◌+◌, ◌-◌, ◌<◌, ◌≤◌, List, [], ◌∷◌, ◌++◌, length, get_or, drop, refl, sym, ap, ◌∙◌, subst, inl, inr, ⊎_elim, arith}
+-- What putting a slot after a queue, and taking one off its front, make of it.
+use Rattle.std.proofs.Common.{◌≡◌, ◌≢◌, ℕ, suc, ◌+◌, ◌-◌, ◌<◌, ◌≤◌, List, [], ◌∷◌, ◌++◌, get_or, drop, refl, sym, ap, ◌∙◌, subst, ⊎_elim, arith}
 use Rattle.std.specs.Prelude.{All, Contains}
 use Rattle.std.proofs.lemmas.List.Elements.{Contains-get_or}
 use Rattle.std.proofs.lemmas.List.Sums.{sum_by-cons, sum_by_push}
 use Rattle.machine_theory.specs.Memory.{Granule}
 use Rattle.class_table.specs.Layout.{Partition, block_bytes, slot_count, slot_of}
-use Rattle.heap_theory.specs.HeaderLaws.{EachSlotOnce, LastSlotEnds, LinksStay, PutBehind, PutBehindIsLast}
+use Rattle.heap_theory.specs.HeaderLaws.{EachSlotOnce, LastSlotEnds, LinksStay, PutAtEnd, PutAtEndIsLast}
 use Rattle.heap_theory.specs.Links.{IsLinked, last_link, next_in}
+use Rattle.heap_theory.proofs.Found.{Contains-cases, Contains-last_cases, Contains-tail}
 use Rattle.chunk_header.specs.Links.{SetsLink}
 use Rattle.quarantine_core.specs.Queue.{Queue, AreQueued, bytes_of}
-
--- ---- what a list contains
-
-pub first_or_behind : (x : ℕ) (xs : List ℕ) (y : ℕ) → Contains (x ∷ xs) y → (x ≡ y) ⊎ Contains xs y
-first_or_behind x xs y there = at there.0 there.1 there.2
-  where
-    at : (k : ℕ) → k < length (x ∷ xs) → get_or (x ∷ xs) k y ≡ y → (x ≡ y) ⊎ Contains xs y
-    at zero within is = inl is
-    at (suc k) within is = inr (k, omega arith, is)
-
-pub behind : (x : ℕ) (xs : List ℕ) (y : ℕ) → Contains xs y → Contains (x ∷ xs) y
-behind x xs y there = (suc there.0, omega (arith, there.1), there.2)
-
--- what a list contains with one element more
-pub last_or_before : (xs : List ℕ) (x y : ℕ) → Contains (xs ++ x ∷ []) y → (x ≡ y) ⊎ Contains xs y
-last_or_before [] x y there = first_or_behind x [] y there
-last_or_before (z ∷ zs) x y there =
-    ⊎_elim (λ is. inr (0, omega arith, is)) (λ more. ⊎_elim inl (λ before. inr (behind z zs y before)) (last_or_before zs x y more))
-    (first_or_behind z (zs ++ x ∷ []) y there)
 
 -- ---- a slot is put in
 
@@ -59,21 +41,21 @@ put_first value new layout memory queue slot bytes old none within ends is front
     let alone : bytes_of layout queue ≡ 0 = ap (bytes_of layout) empty in
     subst (λ q. AreQueued new layout memory (q ++ slot ∷ [])) (sym empty)
     (record {
-      slots = λ s there. ⊎_elim (λ same. subst (λ n. n < slot_count layout) same within) (λ none. absurd (omega (arith, none.1))) (first_or_behind slot [] s there);
+      slots = λ s there. ⊎_elim (λ same. subst (λ n. n < slot_count layout) same within) (λ none. absurd (omega (arith, none.1))) (Contains-cases slot [] s there);
       linked = (front, ends);
       back = back;
       held = held ∙ omega (arith, old.held, alone, is);
     })
 
-pub put_behind : PutBehind → PutBehindIsLast → LastSlotEnds → (value new : Queue) (layout : Partition) (memory after : List Granule) (queue : List ℕ) (last slot next bytes : ℕ) →
+pub put_at_end : PutAtEnd → PutAtEndIsLast → LastSlotEnds → (value new : Queue) (layout : Partition) (memory after : List Granule) (queue : List ℕ) (last slot next bytes : ℕ) →
     AreQueued value layout memory queue → value.back ≡ suc last → SetsLink layout memory after last next → next ≡ suc slot →
     slot < slot_count layout → (Contains queue slot → ⊥) → next_in layout memory slot ≡ 0 → bytes ≡ block_bytes (slot_of layout slot) →
     new.front ≡ value.front → new.back ≡ suc slot → new.held ≡ value.held + bytes → AreQueued new layout after (queue ++ slot ∷ [])
-put_behind behind is_last ends_at value new layout memory after queue last slot next bytes old some link to within outside ends is front back held = record {
-  slots = λ s there. ⊎_elim (λ same. subst (λ n. n < slot_count layout) same within) (old.slots s) (last_or_before queue slot s there);
+put_at_end tail is_last ends_at value new layout memory after queue last slot next bytes old some link to within outside ends is front back held = record {
+  slots = λ s there. ⊎_elim (λ same. subst (λ n. n < slot_count layout) same within) (old.slots s) (Contains-last_cases queue slot s there);
   linked =
       subst (λ f. IsLinked (next_in layout after) f (queue ++ slot ∷ [])) (sym front)
-      (behind (next_in layout memory) (next_in layout after) value.front last slot queue old.linked (sym old.back ∙ some)
+      (tail (next_in layout memory) (next_in layout after) value.front last slot queue old.linked (sym old.back ∙ some)
       (λ r there other. link.links r (old.slots r there) other)
       (link.own ∙ to)
       (link.links slot within another ∙ ends));
@@ -108,7 +90,7 @@ pub take_oldest : EachSlotOnce → LinksStay → (value new : Queue) (layout : P
     new.front ≡ next → (next ≡ 0 → new.back ≡ 0) → (next ≢ 0 → new.back ≡ value.back) →
     new.held + block_bytes (slot_of layout slot) ≡ value.held → AreQueued new layout after queue
 take_oldest once stay value new layout memory after slot next queue old link is front none some held = record {
-  slots = λ s there. old.slots s (behind slot queue s there);
+  slots = λ s there. old.slots s (Contains-tail slot queue s there);
   linked =
       subst (λ f. IsLinked (next_in layout after) f queue) (sym (front ∙ is))
       (stay (next_in layout memory) (next_in layout after) (next_in layout memory slot) queue same old.linked.1);
@@ -118,7 +100,7 @@ take_oldest once stay value new layout memory after slot next queue old link is 
   where
     same : (r : ℕ) → Contains queue r → next_in layout after r ≡ next_in layout memory r
     same r there =
-        link.links r (old.slots r (behind slot queue r there))
+        link.links r (old.slots r (Contains-tail slot queue r there))
         (λ is. once (next_in layout memory) value.front (slot ∷ queue) old.linked 0 (suc there.0) r (omega arith) (omega (arith, there.1)) (sym (there.2 ∙ is)))
 
     back : (queue : List ℕ) → IsLinked (next_in layout memory) (next_in layout memory slot) queue → value.back ≡ last_link (slot ∷ queue) → new.back ≡ last_link queue

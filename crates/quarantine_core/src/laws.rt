@@ -1,5 +1,5 @@
 //! What holds for the quarantine's queue. Each law is the contract of a function that does nothing.
-//! A crate above uses a law by calling its function. The call costs nothing, and its `ensures` are facts from there on.
+//! A program may call a law, which costs nothing.
 ghost use Rattle.quarantine_core.specs.QueueLaws.{
   NothingIsQueued,
   OneQueueIsShown,

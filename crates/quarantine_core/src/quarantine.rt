@@ -15,7 +15,6 @@ use crate::bounds::blocks_are_few;
 use chunk_header::{set_link, unlink};
 use class_table::{GRANULE_BYTES, Layout};
 use granule_memory::Memory;
-use heap_theory::laws::headers::law_links;
 use std::marker::Model;
 
 /// Freed slots that are held back, oldest first, and the bytes of their blocks. The queue stands in the slots' own headers: each slot's
@@ -62,6 +61,7 @@ impl Quarantine {
 
     /// Puts a slot of the layout in, after all others. Its block has `bytes` bytes. The slot must not be in the quarantine, and its link must
     /// be 0. Of the memory only the link of the slot that was put in before it changes.
+    #[tactic(auto, using(crate::proofs::Blocks::each_once))]
     pub fn put(&mut self, memory: &mut Memory, layout: &Layout, slot: u32, bytes: u32)
         requires region { length memory.old ≡ layout.now.granules }
         requires linked { LinksStand self.old layout.now memory.old }
@@ -75,12 +75,11 @@ impl Quarantine {
 
         // what changes in the memory
         ensures first { self.old.back ≡ 0 → memory.new ≡ memory.old }
-        ensures behind { (last : ℕ) → self.old.back ≡ suc last → SetsLink layout.now memory.old memory.new last (suc slot) }
+        ensures after { (last : ℕ) → self.old.back ≡ suc last → SetsLink layout.now memory.old memory.new last (suc slot) }
         ensures lists { (front : ℕ) (list : List ℕ) → ((s : ℕ) → Contains list s → s < slot_count layout.now) → ((s : ℕ) → Contains list s → self.old.back ≢ suc s) →
             IsLinked (next_in layout.now memory.old) front list → IsLinked (next_in layout.now memory.new) front list }
         ensures region { length memory.new ≡ layout.now.granules }
     {
-        law_links();
         blocks_are_few(layout);
         if self.back == 0 {
             self.front = slot + 1;
@@ -137,7 +136,6 @@ impl Quarantine {
         ensures link { SetsLink layout.now memory.old memory.new result 0 }
         ensures region { length memory.new ≡ layout.now.granules }
     {
-        law_links();
         let slot = self.front - 1;
         let place = layout.slot(slot);
         self.held -= u64::from(GRANULE_BYTES * place.class);

@@ -11,13 +11,13 @@ use Rattle.machine_theory.specs.Access.{IsMapped, is_mapped}
 use Rattle.machine_theory.specs.Address.{logical_tag, moved_by}
 use Rattle.heap_theory.specs.Sound.{IsSoundHeap}
 use Rattle.heap_theory.specs.State.{Heap}
-use Rattle.replay_core.specs.Below.{LawsBelow}
+use Rattle.replay_core.proofs.Below as laws
 
 -- an offset that is near, as the code reads it
 pub near_offset : (off : ℤ) → nat_abs off ≤ 1048576 → cast_signed w32 (cast_unsigned w32 off) ≡ off
 near_offset off near = to_z-of_z w32 off (fits_signed_from_abs w32 off (omega arith))
 
-module _ (laws : LawsBelow) (heap : Heap) (sound : IsSoundHeap heap) (a : ℕ) (off : ℤ) (len : ℕ) (near : nat_abs off ≤ 1048576) (some : 1 ≤ len) where
+module _ (heap : Heap) (sound : IsSoundHeap heap) (a : ℕ) (off : ℤ) (len : ℕ) (near : nat_abs off ≤ 1048576) (some : 1 ≤ len) where
   mapped_is_tagged : IsMapped (length heap.memory) (moved_by a off) len → (a ≡ 0) ⊎ (logical_tag a ≢ 0) → logical_tag (moved_by a off) ≢ 0
   mapped_is_tagged mapped (inl null) same =
       let at_null = subst (λ z. IsMapped (length heap.memory) (moved_by z off) len) null mapped in

@@ -1,3 +1,5 @@
+pub mod LawLemmas
+pub mod Below
 pub mod Accesses
 pub mod Losses
 pub mod Reached

@@ -6,7 +6,7 @@ use Rattle.heap_theory.specs.Generations.{Run, run_after}
 use Rattle.heap_theory.specs.Run.{Replay, Answer, variable, heap_after, variables_after, replay_after, answer_of, replay_of, first_replay}
 use Rattle.heap_theory.specs.State.{Heap}
 use Rattle.heap_theory.specs.Totals.{Totals, totals_after}
-use Rattle.replay_core.specs.Below.{LawsBelow}
+use Rattle.replay_core.proofs.Below as laws
 use Rattle.replay_core.specs.Shown.{AreNullOrTagged, over}
 use Rattle.replay_core.specs.Stored.{Stored, IsStored, stored_after, stored_of}
 use Rattle.replay_core.proofs.StoredMore.{stored_of-push}
@@ -15,19 +15,19 @@ replay_is : (stored : Stored) (i : IsStored stored) → stored.replay ≡ replay
 unfolding stored_of
 replay_is stored i = ap (λ (s : Stored). s.replay) i.stored_is
 
-pub null_or_tagged : (laws : LawsBelow) (stored : Stored) → IsStored stored → AreNullOrTagged stored.replay.variables
-null_or_tagged laws stored i v =
+pub null_or_tagged : (stored : Stored) → IsStored stored → AreNullOrTagged stored.replay.variables
+null_or_tagged stored i v =
     subst (λ (r : Replay). (variable r v ≡ 0) ⊎ (logical_tag (variable r v) ≢ 0)) (laws.stored_part i.layout i.seed i.quarantine i.events ∙ sym (replay_is stored i))
     (laws.variables i.layout i.seed i.quarantine i.events i.region v)
 
-pub IsStored-after : (laws : LawsBelow) (stored : Stored) (e : Event) → IsStored stored → IsStored (stored_after stored e)
-IsStored-after laws stored e i = record {
+pub IsStored-after : (stored : Stored) (e : Event) → IsStored stored → IsStored (stored_after stored e)
+IsStored-after stored e i = record {
   layout = i.layout;
   seed = i.seed;
   quarantine = i.quarantine;
   events = i.events ++ e ∷ [];
   region = i.region;
-  stored_is = ap (λ s. stored_after s e) i.stored_is ∙ sym (stored_of-push laws i.layout i.seed i.quarantine i.events e);
+  stored_is = ap (λ s. stored_after s e) i.stored_is ∙ sym (stored_of-push i.layout i.seed i.quarantine i.events e);
 }
 
 -- the parts of what is stored, each after the event

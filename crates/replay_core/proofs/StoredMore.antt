@@ -6,7 +6,7 @@ use Rattle.heap_theory.specs.declared.event.Event.{Event}
 use Rattle.heap_theory.specs.Report.{report, report_line, report_lines, totals_text}
 use Rattle.heap_theory.specs.Run.{Replay, Answer, answer_of, first_replay, answers, replay_of}
 use Rattle.heap_theory.specs.Totals.{totals_of, totals_after}
-use Rattle.replay_core.specs.Below.{LawsBelow}
+use Rattle.replay_core.proofs.Below as laws
 use Rattle.replay_core.specs.Stored.{first_stored, lines_of, stored_after, stored_of}
 use Rattle.heap_theory.proofs.LayoutStays.{layout_of_run}
 
@@ -20,14 +20,14 @@ zip-push [] (b ∷ ys) x y long = absurd (omega arith)
 zip-push (a ∷ xs) [] x y long = absurd (omega arith)
 zip-push (a ∷ xs) (b ∷ ys) x y long = ap (λ rest. (a, b) ∷ rest) (zip-push xs ys x y (omega arith))
 
-pub stored_of-none : (laws : LawsBelow) (layout : Partition) (seed quarantine : ℕ) → stored_of layout seed quarantine [] ≡ first_stored layout seed quarantine
+pub stored_of-none : (layout : Partition) (seed quarantine : ℕ) → stored_of layout seed quarantine [] ≡ first_stored layout seed quarantine
 unfolding stored_of first_stored replay_of answers
-stored_of-none laws layout seed quarantine = λ i. record { replay = first_replay layout seed quarantine; totals = laws.no_totals_first layout.classes i }
+stored_of-none layout seed quarantine = λ i. record { replay = first_replay layout seed quarantine; totals = laws.no_totals_first layout.classes i }
 
-pub stored_of-push : (laws : LawsBelow) (layout : Partition) (seed quarantine : ℕ) (events : List Event) (e : Event) →
+pub stored_of-push : (layout : Partition) (seed quarantine : ℕ) (events : List Event) (e : Event) →
     stored_of layout seed quarantine (events ++ e ∷ []) ≡ stored_after (stored_of layout seed quarantine events) e
 unfolding stored_of stored_after
-stored_of-push laws layout seed quarantine events e =
+stored_of-push layout seed quarantine events e =
     let first : Replay = first_replay layout seed quarantine in
     let given : List Answer = answers first events in
     let answer : Answer = answer_of (replay_of first events) e in
@@ -44,23 +44,23 @@ length-zip [] ys long = refl
 length-zip (x ∷ xs) [] long = absurd (omega arith)
 length-zip (x ∷ xs) (y ∷ ys) long = omega (arith, length-zip xs ys (omega arith))
 
-pub steps_are_events : (laws : LawsBelow) (layout : Partition) (seed quarantine : ℕ) (events : List Event) → (stored_of layout seed quarantine events).totals.events ≡ length events
+pub steps_are_events : (layout : Partition) (seed quarantine : ℕ) (events : List Event) → (stored_of layout seed quarantine events).totals.events ≡ length events
 unfolding stored_of totals_of
-steps_are_events laws layout seed quarantine events =
+steps_are_events layout seed quarantine events =
     length-zip events (answers (first_replay layout seed quarantine) events) (laws.as_many_answers (first_replay layout seed quarantine) events)
 
 pub lines_of-none : (layout : Partition) (seed quarantine : ℕ) → lines_of layout seed quarantine [] ≡ []
 unfolding lines_of answers report_lines
 lines_of-none layout seed quarantine = refl
 
-pub lines_of-push : (laws : LawsBelow) (layout : Partition) (seed quarantine : ℕ) (events : List Event) (e : Event) → let before = stored_of layout seed quarantine events in
+pub lines_of-push : (layout : Partition) (seed quarantine : ℕ) (events : List Event) (e : Event) → let before = stored_of layout seed quarantine events in
     lines_of layout seed quarantine (events ++ e ∷ []) ≡ lines_of layout seed quarantine events ++ report_line (before.totals.events + 1) (answer_of before.replay e)
 unfolding lines_of
-lines_of-push laws layout seed quarantine events e =
+lines_of-push layout seed quarantine events e =
     let first : Replay = first_replay layout seed quarantine in
     let given : List Answer = answers first events in
     let number : 1 + length given ≡ (stored_of layout seed quarantine events).totals.events + 1 =
-    omega (arith, steps_are_events laws layout seed quarantine events, laws.as_many_answers first events) in
+    omega (arith, steps_are_events layout seed quarantine events, laws.as_many_answers first events) in
     ap (report_lines 1) (laws.one_answer_more first events e) ∙ laws.one_line_more 1 given (answer_of (replay_of first events) e)
     ∙ ap (λ n. report_lines 1 given ++ report_line n (answer_of (replay_of first events) e)) number
     ∙ ap (λ r. report_lines 1 given ++ report_line ((stored_of layout seed quarantine events).totals.events + 1) (answer_of r e)) (stored_replay layout seed quarantine events)

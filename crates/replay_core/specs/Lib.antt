@@ -1,4 +1,3 @@
-pub mod Below
 pub mod Bounds
 pub mod Counted
 pub mod Inside

@@ -7,12 +7,12 @@ ghost use Rattle.replay_core.specs.Shown.{IsFilled, shown};
 ghost use Rattle.std.specs.Prelude.{◌≡◌, ◌≢◌, ◌⊎◌, ◌≤◌, IsFalse, List, length, replicate, ℕ};
 
 use crate::answer::Answer;
-use heap_theory::PlaceKind;
+use heap_theory::{Event, PlaceKind};
 use tag_machine::Fault;
 use tagged_heap::Heap;
 
 /// The most bytes of an access.
-pub(crate) const MOST_BYTES: usize = 64;
+pub(crate) const MOST_BYTES: usize = Event::LONGEST_ACCESS as usize;
 
 // The address `off` bytes after another one, modulo 2^64.
 pub(crate) fn moved_by(address: u64, off: i32) -> u64

@@ -2,7 +2,6 @@
 //! `Replay` is what is stored of some run (`law_reached`), so they hold for it.
 ghost use Rattle.replay_core.specs.Stored.{IsStored, LinesOfNone, LinesOfOneMore, ReportIsLinesAndTotals, StepsAreEvents, StoredOfNone, StoredOfOneMore};
 
-use crate::laws_below::laws_below;
 use crate::replay::Replay;
 pub use heap_theory::laws::hardening::{
     law_bookkeeping, law_chunk_tags, law_delay, law_freed, law_inside, law_life, law_neighbours,
@@ -16,9 +15,7 @@ pub fn law_stored()
     ensures none { StoredOfNone }
     ensures one_more { StoredOfOneMore }
     ensures steps { StepsAreEvents }
-{
-    laws_below();
-}
+{}
 
 /// What is stored before an event determines its line of the report, and what is stored after all events determines the lines of totals.
 /// So the lines that steps from a new replay on write, and then its totals, are the report.
@@ -26,9 +23,7 @@ pub fn law_report()
     ensures none { LinesOfNone }
     ensures one_more { LinesOfOneMore }
     ensures whole { ReportIsLinesAndTotals }
-{
-    laws_below();
-}
+{}
 
 impl Replay {
     /// It is what is stored of the run of some events.

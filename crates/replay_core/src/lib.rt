@@ -8,7 +8,6 @@
 mod access;
 mod answer;
 pub mod laws;
-mod laws_below;
 mod line;
 mod perform;
 mod ranges;

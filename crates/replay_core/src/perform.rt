@@ -8,7 +8,6 @@ ghost use Rattle.std.specs.Result.{result_unwrap_or};
 
 use crate::access::{MOST_BYTES, load, moved_by, store};
 use crate::answer::Answer;
-use crate::laws_below::laws_below;
 use heap_theory::{Event, NullCause, ReallocError};
 use tagged_heap::Heap;
 
@@ -30,7 +29,6 @@ pub(crate) fn perform(
     ensures filled { IsFilled result }
     ensures frees { heap.new.frees ≤ heap.old.frees + 1 }
 {
-    laws_below();
     heap.law_sound();
     match *event {
         Event::Malloc { v, n } => give(variables, v, heap.malloc(n)),

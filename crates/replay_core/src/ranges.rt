@@ -2,15 +2,7 @@
 ghost use Rattle.heap_theory.specs.Ranges.{IsAccessOf, IsInRange, IsMove, IsVariable};
 ghost use Rattle.std.specs.Prelude.{◌↔◌, IsTrue};
 
-use crate::access::MOST_BYTES;
-use crate::replay::VARIABLES;
 use heap_theory::Event;
-
-// a request has fewer bytes
-const REQUEST_END: u32 = 1 << 31;
-
-// the most bytes between a variable's address and an access
-const MOST_OFFSET: u32 = 1_048_576;
 
 /// Whether an event's numbers are in the ranges that `Event` names, as `Replay::step` asks.
 pub fn is_in_range(event: &Event) -> bool
@@ -18,7 +10,7 @@ pub fn is_in_range(event: &Event) -> bool
 {
     match *event {
         Event::Malloc { v, n } | Event::Calloc { v, n } | Event::Realloc { v, n } => {
-            is_variable(v) && n < REQUEST_END
+            is_variable(v) && n <= Event::LARGEST_REQUEST
         }
         Event::Free { v } => is_variable(v),
         Event::Load { v, off, len } => is_access(v, off, len),
@@ -35,20 +27,23 @@ pub fn is_in_range(event: &Event) -> bool
 fn is_variable(v: u16) -> bool
     ensures { IsTrue result ↔ IsVariable v }
 {
-    usize::from(v) < VARIABLES
+    u32::from(v) <= Event::LAST_VARIABLE
 }
 
 fn is_access(v: u16, off: i32, len: u8) -> bool
     ensures { IsTrue result ↔ IsAccessOf v off len }
 {
     is_variable(v)
-        && off.unsigned_abs() <= MOST_OFFSET
+        && off.unsigned_abs() <= Event::FARTHEST_ACCESS
         && len >= 1
-        && usize::from(len) <= MOST_BYTES
+        && u32::from(len) <= Event::LONGEST_ACCESS
 }
 
 fn is_move(v: u16, w: u16, u6: u8, u4: u8) -> bool
     ensures { IsTrue result ↔ IsMove v w u6 u4 }
 {
-    is_variable(v) && is_variable(w) && u6 <= 63 && u4 <= 15
+    is_variable(v)
+        && is_variable(w)
+        && u32::from(u6) <= Event::FARTHEST_MOVE
+        && u32::from(u4) <= Event::LARGEST_TAG_STEP
 }

@@ -6,7 +6,6 @@ ghost use Rattle.replay_core.specs.Stored.{first_stored, stored_after};
 ghost use Rattle.std.specs.Prelude.{◌≡◌, ◌≢◌, ◌+◌, ◌^◌, ◌<◌, ◌≤◌, IfOk};
 
 use crate::access::MOST_BYTES;
-use crate::laws_below::laws_below;
 use crate::line::write_line;
 use crate::perform::perform;
 use crate::totals::Totals;
@@ -21,7 +20,7 @@ use tagged_heap::{Config, Heap};
 pub const LINE_BYTES: usize = 160;
 
 // How many variables a trace has.
-pub(crate) const VARIABLES: usize = 1024;
+pub(crate) const VARIABLES: usize = Event::LAST_VARIABLE as usize + 1;
 
 /// The replay of a trace: a heap, and the 1,024 variables that the events of the trace set and use.
 ///
@@ -55,7 +54,6 @@ impl Replay {
         ensures { IfOk result (λ replay.
             replay ≡ first_stored (record { classes = table.now; granules = config.granules }) config.seed config.quarantine) }
     {
-        laws_below();
         // Its contract says that the table is legal.
         table.len();
         let variables = vec![in alloc; 0; VARIABLES]?;
@@ -76,7 +74,6 @@ impl Replay {
         ensures stored { self.new ≡ stored_after self.old event.now }
         ensures run { (run : Run) → run.replay ≡ self.old.replay → (run_after run event.now).replay ≡ self.new.replay }
     {
-        laws_below();
         let mut bytes = [0; MOST_BYTES];
         let answer = perform(&mut self.heap, &mut self.variables, event, &mut bytes);
         self.totals.count(&self.heap, event, &answer);

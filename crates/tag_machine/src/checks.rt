@@ -7,7 +7,6 @@ ghost use Rattle.std.specs.Prelude.{◌≡◌, ◌↔◌, ◌*◌, ◌%◌, ◌�
 use crate::addresses::{GRANULE_BYTES, REGION_START, granule_of, logical_tag, place_of};
 use granule_memory::Memory;
 use machine_theory::Fault;
-use machine_theory::laws::access::law_access;
 
 /// Whether all `len` bytes, 1 to 64, lie in the region, and bits 63 to 60 of the address are 0.
 pub(crate) fn is_mapped(memory: &Memory, address: u64, len: u64) -> bool
@@ -29,7 +28,6 @@ pub(crate) fn check_access(memory: &Memory, address: u64, len: u64) -> Result<()
     ensures ok { OnOk result (IsMapped (length memory.now) address len) }
     ensures memory { IsMemory memory.now }
 {
-    law_access();
     if !is_mapped(memory, address, len) {
         return Err(Fault::Unmapped);
     }

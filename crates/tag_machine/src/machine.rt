@@ -9,8 +9,6 @@ use crate::checks::{check_access, check_tag_store, is_mapped};
 use crate::draws::{choose_tag, next_offset, next_seed};
 use granule_memory::Memory;
 use machine_theory::Fault;
-use machine_theory::laws::memory::law_changes;
-use machine_theory::laws::seed::law_register;
 use std::marker::Model;
 
 /// The tags that no instruction chooses, as `GCR_EL1.Exclude`: bit 0, for tag 0.
@@ -61,7 +59,6 @@ impl Machine {
         ensures answer { result ≡ irg self.old xn xm }
         ensures register { self.new ≡ after_irg self.old xm }
     {
-        law_register();
         let exclude = (xm & 0xffff) as u16 | EXCLUDE;
         self.tag = choose_tag(self.tag, next_offset(self.seed), exclude);
         self.seed = next_seed(self.seed);
@@ -127,7 +124,6 @@ impl Machine {
         ensures ok { OnOk result (self.new ≡ record self.old { memory = st2g self.old.memory xt xn }) }
         ensures err { OnErr result (self.new ≡ self.old) }
     {
-        law_changes();
         check_tag_store(&self.memory, 2, xn)?;
         let granule = granule_of(xn);
         let tag = logical_tag(xt);

@@ -14,21 +14,21 @@ use Rattle.heap_theory.specs.Header.Standing.{Fresh as IsFresh, Live as IsLive, 
 use Rattle.heap_theory.specs.Places.{place_kind, kind_at, kind_in_slot, kind_of_chunk}
 use Rattle.heap_theory.specs.State.{State, Heap, slot_in, state_at, chunk_granules, chunk_of, payload_start, is_header, without_headers}
 use Rattle.heap_theory.specs.State.State.{Fresh, Live, Dead}
-use Rattle.tagged_heap.specs.Below.{LawsBelow}
+use Rattle.tagged_heap.proofs.Below as laws
 use Rattle.tagged_heap.specs.Inside.{state_of, seen, IsHeld}
 use Rattle.tagged_heap.specs.Keeping.{header_in}
 use Rattle.tagged_heap.specs.View.{Counted, shown_heap}
 use Rattle.tagged_heap.specs.declared.heap.Heap.TheInside.{Inside}
 use Rattle.tagged_heap.proofs.BytesInParts.{map_same}
-use Rattle.tagged_heap.proofs.HeaderPlaces.{length-without_headers}
+use Rattle.heap_theory.proofs.SeenMemory.{length-without_headers}
 use Rattle.tagged_heap.proofs.Opened.{header_shows}
 use Rattle.tagged_heap.proofs.PayloadWritten.{mapped_of}
 use Rattle.tagged_heap.proofs.TakingBack.{class_most, size_most}
 
 -- as many granules are seen as there are
-pub length_seen : LawsBelow → (i : Inside) (v : Counted) → seen i ≡ v → length i.machine.memory ≡ length v.state.memory
+pub length_seen : (i : Inside) (v : Counted) → seen i ≡ v → length i.machine.memory ≡ length v.state.memory
 unfolding shown_heap
-length_seen laws i v view = sym (length-without_headers laws i.layout i.machine.memory) ∙ ap (λ (v : Counted). length v.state.memory) view
+length_seen i v view = sym (length-without_headers i.layout i.machine.memory) ∙ ap (λ (v : Counted). length v.state.memory) view
 
 -- ---- an access that succeeds under another tag than 0 reads what is seen
 
@@ -36,10 +36,10 @@ in_access : (place base len j : ℕ) → base ≤ place → place - base ≤ j �
     (k : ℕ) × (k < len) × (base + 16 * (j / 16) ≤ place + k) × (place + k < base + 16 * (j / 16) + 16)
 in_access place base len j region from to = (j - (place - base), omega arith, omega arith, omega arith)
 
-pub load_seen : LawsBelow → (inside : Inside) → IsHeld inside → (address len : ℕ) → logical_tag address ≢ 0 → access_fault inside.machine.memory address len ≡ None →
+pub load_seen : (inside : Inside) → IsHeld inside → (address len : ℕ) → logical_tag address ≢ 0 → access_fault inside.machine.memory address len ≡ None →
     loaded inside.machine.memory address len ≡ loaded (state_of inside).memory address len
 unfolding shown_heap bytes_at
-load_seen laws inside held address len tagged none =
+load_seen inside held address len tagged none =
     map_same (byte_at inside.machine.memory) (byte_at (without_headers inside.layout inside.machine.memory)) (byte_of (place_of address)) len
     (λ j from to. ap (λ (granule : Granule). slice_index granule.bytes (j % 16)) (sym (laws.granules_seen inside.layout inside.machine.memory (j / 16) (no_header j from to))))
   where
@@ -73,8 +73,8 @@ module _ (h : Heap) (g : ℕ) where
   chunk_most (Live size tag) = omega arith
   chunk_most (Dead size tag mark) = omega arith
 
-  behind_chunk : (start chunk most : ℕ) → chunk ≤ most → most < g - start → is_among (start + 1) chunk g ≡ false
-  behind_chunk start chunk most few behind = and_right (nat_le (start + 1) g) (nat_lt g (start + 1 + chunk)) (le-ltb g (start + 1 + chunk) (omega arith))
+  after_chunk : (start chunk most : ℕ) → chunk ≤ most → most < g - start → is_among (start + 1) chunk g ≡ false
+  after_chunk start chunk most few after = and_right (nat_le (start + 1) g) (nat_lt g (start + 1 + chunk)) (le-ltb g (start + 1 + chunk) (omega arith))
 
   of_chunk : (start chunk : ℕ) → start ≤ g → (g ≡ start → ⊥) → g - start ≤ chunk → is_among (start + 1) chunk g ≡ true
   of_chunk start chunk from other within =
@@ -84,8 +84,8 @@ module _ (h : Heap) (g : ℕ) where
   not_start slot x other = cond-false (eqb slot.start g) _ _ (ne_eqb slot.start g (λ is. other (sym is)))
 
   pub kind_of_tail : (slot : Slot) (x : State) → (g ≡ slot.start → ⊥) → chunk_granules (size_of x) < g - slot.start → Tail ≡ kind_in_slot slot x g
-  kind_of_tail slot x other behind =
-      sym (not_start slot x other ∙ cond-false (is_among (payload_start slot) (chunk_of x) g) _ _ (behind_chunk slot.start (chunk_of x) (chunk_granules (size_of x)) (chunk_most x) behind))
+  kind_of_tail slot x other after =
+      sym (not_start slot x other ∙ cond-false (is_among (payload_start slot) (chunk_of x) g) _ _ (after_chunk slot.start (chunk_of x) (chunk_granules (size_of x)) (chunk_most x) after))
 
   -- the granules of a chunk, by how its slot stands
   abbrev pub kind_by : Standing → PlaceKind
@@ -122,9 +122,9 @@ pub record IsOver (i : Inside) (g s : ℕ) : Type 0 where
   pub within : s < slot_count i.layout
   pub from : (slot_of i.layout s).start ≤ g
 
-pub slot_is_over : LawsBelow → (i : Inside) → IsHeld i → (g s : ℕ) → Some s ≡ slot_over i.layout g → IsOver i g s
+pub slot_is_over : (i : Inside) → IsHeld i → (g s : ℕ) → Some s ≡ slot_over i.layout g → IsOver i g s
 unfolding shown_heap
-slot_is_over laws i held g s there =
+slot_is_over i held g s there =
     let over = (laws.covers 1 i.layout g s held.kept.sound.region.table).0 (sym there) in
     record { within = over.0; from = over.1.from }
 
@@ -136,11 +136,11 @@ pub size_shown : (i : Inside) → IsHeld i → (s : ℕ) → s < slot_count i.la
 unfolding header_for
 size_shown i held s within = ap (λ (x : TheHeader). x.size) (header_shows i s held within)
 
-pub size_few : LawsBelow → (i : Inside) → IsHeld i → (s : ℕ) → s < slot_count i.layout → (header_in i.layout i.machine.memory s).size ≤ 16368
+pub size_few : (i : Inside) → IsHeld i → (s : ℕ) → s < slot_count i.layout → (header_in i.layout i.machine.memory s).size ≤ 16368
 unfolding shown_heap
-size_few laws i held s within =
+size_few i held s within =
     subst (λ n. n ≤ 16368) (sym (size_shown i held s within))
-    (size_fits (state_at (state_of i) s) (slot_of i.layout s).class (held.kept.sound.tagged s within).room (class_most laws (state_of i) s held.kept.sound within))
+    (size_fits (state_at (state_of i) s) (slot_of i.layout s).class (held.kept.sound.tagged s within).room (class_most (state_of i) s held.kept.sound within))
 
 module _ (i : Inside) (v : Counted) (view : seen i ≡ v) where
   pub as_seen : (g : ℕ) → place_kind (state_of i) g ≡ place_kind v.state g
@@ -160,9 +160,9 @@ module _ (i : Inside) (v : Counted) (view : seen i ≡ v) where
 
     pub tail_seen : (held : IsHeld i) → s < slot_count i.layout → (g ≡ (slot_of i.layout s).start → ⊥) →
         chunk_granules (header_in i.layout i.machine.memory s).size < g - (slot_of i.layout s).start → Tail ≡ place_kind v.state g
-    tail_seen held within other behind =
+    tail_seen held within other after =
         kind_of_tail (state_of i) g (slot_of i.layout s) (state_at (state_of i) s) other
-        (subst (λ n. chunk_granules n < g - (slot_of i.layout s).start) (size_shown i held s within) behind)
+        (subst (λ n. chunk_granules n < g - (slot_of i.layout s).start) (size_shown i held s within) after)
         ∙ inside_seen
 
     pub chunk_seen : (held : IsHeld i) → (over : IsOver i g s) → (g ≡ (slot_of i.layout s).start → ⊥) →

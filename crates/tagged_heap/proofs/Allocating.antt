@@ -15,7 +15,6 @@ use Rattle.heap_theory.specs.Header.{Header, with_header}
 use Rattle.heap_theory.specs.Links.{IsLinked, next_in, list_of}
 use Rattle.heap_theory.specs.State.{last_tag, payload_place, pointer_to, state_at}
 use Rattle.heap_theory.specs.State.State.{Fresh, Live}
-use Rattle.tagged_heap.specs.Below.{LawsBelow}
 use Rattle.tagged_heap.specs.Chunks.{given_header, tag_for, HasRoom, HasClass, Takes}
 use Rattle.tagged_heap.specs.Inside.{state_of, IsHeld}
 use Rattle.tagged_heap.specs.Keeping.{header_in}
@@ -25,7 +24,8 @@ use Rattle.tagged_heap.proofs.Changed.{list_slot}
 use Rattle.tagged_heap.proofs.Giving.{IsTaken, give_held, tag_drawn, long, take_front, take_fresh, take_none}
 use Rattle.tagged_heap.proofs.Opened.{region_of}
 use Rattle.tagged_heap.proofs.Shown.{shown_is}
-use Rattle.tagged_heap.proofs.Slots.{class_few, Contains-head}
+use Rattle.heap_theory.proofs.Found.{Contains-head}
+use Rattle.tagged_heap.proofs.Slots.{class_few}
 
 -- a front is the link to a slot
 front_few : (i : Inside) (held : IsHeld i) (number : ℕ) → number < length held.lists → slice_index i.lists number ≤ slot_count i.layout
@@ -40,9 +40,9 @@ front_few i held number within = by (list_of held.lists number) refl (held.kept.
         let d = list_slot held.kept.booked number r within (subst (λ list. Contains list r) (sym is) (Contains-head r rest)) in
         omega (arith, first.0, d.in_range)
 
-pub has_class : LawsBelow → (i : Inside) → IsHeld i → (number : ℕ) → number < length i.layout.classes → HasClass i.layout i.machine.memory i.lists i.firsts.items number
+pub has_class : (i : Inside) → IsHeld i → (number : ℕ) → number < length i.layout.classes → HasClass i.layout i.machine.memory i.lists i.firsts.items number
 unfolding shown_heap
-has_class laws i held number within =
+has_class i held number within =
     let in_lists : number < length held.lists = subst (λ k. number < k) (sym held.kept.booked.booked.long) within in
     let in_firsts : number < length i.firsts.items = subst (λ k. number < k) (sym held.fresh.long) within in
     record {
@@ -51,11 +51,11 @@ has_class laws i held number within =
       front = front_few i held number in_lists;
       in_firsts = in_firsts;
       counter = held.fresh.to number in_firsts;
-      region = region_of laws i held;
+      region = region_of i held;
       memory_is = held.memory_is;
     }
 
-module _ (laws : LawsBelow) (i : Inside) (held : IsHeld i) (n number : ℕ) (few : n ≤ 16368) (numbered : class_number_for i.layout.classes n ≡ Some number) (within : number < length i.layout.classes)
+module _ (i : Inside) (held : IsHeld i) (n number : ℕ) (few : n ≤ 16368) (numbered : class_number_for i.layout.classes n ≡ Some number) (within : number < length i.layout.classes)
     (m1 : List Granule) (fronts firsts : List ℕ) where
   pub taken : (s : ℕ) → Takes i.layout i.machine.memory m1 i.lists fronts i.firsts.items firsts number (Some s) → IsMemory m1 →
       IsTaken (state_of i) i.machine.memory m1 i.quarantine.front held.queue fronts firsts s n
@@ -63,28 +63,28 @@ module _ (laws : LawsBelow) (i : Inside) (held : IsHeld i) (n number : ℕ) (few
   taken s (inl t) is =
       subst (λ x. IsTaken (state_of i) i.machine.memory m1 i.quarantine.front held.queue x firsts s n) (sym t.fronts_are)
       (subst (λ x. IsTaken (state_of i) i.machine.memory m1 i.quarantine.front held.queue (slice_set i.lists number (next_in i.layout i.machine.memory s)) x s n) (sym t.firsts_are)
-      (take_front laws (state_of i) i.frees i.machine.memory i.quarantine i.lists i.firsts.items held n number few numbered within m1 s t.front t.link is))
+      (take_front (state_of i) i.frees i.machine.memory i.quarantine i.lists i.firsts.items held n number few numbered within m1 s t.front t.link is))
   taken s (inr t) is =
       subst (λ x. IsTaken (state_of i) i.machine.memory m1 i.quarantine.front held.queue x firsts s n) (sym t.fronts_are)
       (subst (λ x. IsTaken (state_of i) i.machine.memory m1 i.quarantine.front held.queue i.lists x s n) (sym t.firsts_are)
       (subst (λ x. IsTaken (state_of i) i.machine.memory x i.quarantine.front held.queue i.lists (slice_set i.firsts.items number (s + 1)) s n) (sym t.memory_stays)
-      (take_fresh laws (state_of i) i.frees i.machine.memory i.quarantine i.lists i.firsts.items held n number few numbered within s t.empty t.counter t.below)))
+      (take_fresh (state_of i) i.frees i.machine.memory i.quarantine i.lists i.firsts.items held n number few numbered within s t.empty t.counter t.below)))
 
   pub exhausted : Takes i.layout i.machine.memory m1 i.lists fronts i.firsts.items firsts number None → slot_for_request (state_of i) n ≡ Err Exhausted
   unfolding shown_heap
-  exhausted t = take_none laws (state_of i) i.frees i.machine.memory i.quarantine i.lists i.firsts.items held n number few numbered within t.empty t.counter
+  exhausted t = take_none (state_of i) i.frees i.machine.memory i.quarantine i.lists i.firsts.items held n number few numbered within t.empty t.counter
 
-module _ (laws : LawsBelow) (i : Inside) (held : IsHeld i) (m1 : List Granule) (fronts firsts : List ℕ) (s n : ℕ) (t : IsTaken (state_of i) i.machine.memory m1 i.quarantine.front held.queue fronts firsts s n) where
+module _ (i : Inside) (held : IsHeld i) (m1 : List Granule) (fronts firsts : List ℕ) (s n : ℕ) (t : IsTaken (state_of i) i.machine.memory m1 i.quarantine.front held.queue fronts firsts s n) where
   pub taken_room : n ≤ 16368 → HasRoom i.layout m1 s n
   unfolding shown_heap
   taken_room few = record {
     slot = t.given.reusable.in_range;
-    region = long laws (state_of i) i.machine.memory m1 s n held.kept.sound t.given.reusable.in_range t.given.room held.fits t.before t.memory_is;
+    region = long (state_of i) i.machine.memory m1 s n held.kept.sound t.given.reusable.in_range t.given.room held.fits t.before t.memory_is;
     inside = held.kept.sound.slots.inside s t.given.reusable.in_range;
     memory_is = t.memory_is;
     size = few;
     room = t.given.room;
-    header = subst (λ (x : Header). x.class < 32) (sym t.before.own) (class_few laws (state_of i) s 0 held.kept.sound t.given.reusable.in_range);
+    header = subst (λ (x : Header). x.class < 32) (sym t.before.own) (class_few (state_of i) s 0 held.kept.sound t.given.reusable.in_range);
   }
 
   -- what giving out makes of the machine
@@ -101,8 +101,8 @@ module _ (laws : LawsBelow) (i : Inside) (held : IsHeld i) (m1 : List Granule) (
   unfolding shown_heap
   given_held machine given memory =
       let tag : tag_for i.layout (record i.machine { memory = m1 }) s ≡ next_tag (state_of i) s =
-      tag_drawn laws (state_of i) i.machine.memory m1 s n held.kept.sound t.given.reusable.in_range t.given.room held.fits t.before t.memory_is in
-      give_held laws (state_of i) i.frees i.machine.memory i.quarantine i.lists i.firsts.items held m1 machine.memory fronts firsts s n _ t tag
+      tag_drawn (state_of i) i.machine.memory m1 s n held.kept.sound t.given.reusable.in_range t.given.room held.fits t.before t.memory_is in
+      give_held (state_of i) i.frees i.machine.memory i.quarantine i.lists i.firsts.items held m1 machine.memory fronts firsts s n _ t tag
       (ap (λ (x : Machine). x.memory) given) memory
 
   pub given_shown : (machine : Machine) → IsGivenBy machine → IsMemory machine.memory →
@@ -110,12 +110,12 @@ module _ (laws : LawsBelow) (i : Inside) (held : IsHeld i) (m1 : List Granule) (
   unfolding shown_heap given_out
   given_shown machine given memory =
       let tag : tag_for i.layout (record i.machine { memory = m1 }) s ≡ next_tag (state_of i) s =
-      tag_drawn laws (state_of i) i.machine.memory m1 s n held.kept.sound t.given.reusable.in_range t.given.room held.fits t.before t.memory_is in
+      tag_drawn (state_of i) i.machine.memory m1 s n held.kept.sound t.given.reusable.in_range t.given.room held.fits t.before t.memory_is in
       let after = given_held machine given memory in
       let seed : machine.seed ≡ next_seed i.machine.seed = ap (λ (x : Machine). x.seed) given in
       let drawn : machine.tag ≡ next_tag (state_of i) s = ap (λ (x : Machine). x.tag) given ∙ tag in
       (λ k. shown_heap i.layout i.quarantine.limit machine.memory i.total (seed k) (drawn k))
-      ∙ shown_is laws (given_out (state_of i) s n) machine.memory i.quarantine.front fronts after.queue after.lists after.kept
+      ∙ shown_is (given_out (state_of i) s n) machine.memory i.quarantine.front fronts after.queue after.lists after.kept
 
   -- the address of the payload, under the tag that was drawn
   pub given_address : (address : ℕ) → address ≡ with_tag (payload_place (slot_of i.layout s)) (tag_for i.layout (record i.machine { memory = m1 }) s) → address ≡ pointer_to (given_out (state_of i) s n) s
@@ -123,7 +123,7 @@ module _ (laws : LawsBelow) (i : Inside) (held : IsHeld i) (m1 : List Granule) (
   given_address address is =
       let h = state_of i in
       let drawn : tag_for i.layout (record i.machine { memory = m1 }) s ≡ next_tag h s =
-      tag_drawn laws h i.machine.memory m1 s n held.kept.sound t.given.reusable.in_range t.given.room held.fits t.before t.memory_is in
+      tag_drawn h i.machine.memory m1 s n held.kept.sound t.given.reusable.in_range t.given.room held.fits t.before t.memory_is in
       let last : last_tag (state_at (given_out h s n) s) ≡ next_tag h s =
       ap last_tag (get_or-set_same h.states s (Live n (next_tag h s)) Fresh (subst (λ k. s < k) (sym held.kept.sound.states) t.given.reusable.in_range)) in
       is ∙ ap (with_tag (payload_place (slot_of i.layout s))) (drawn ∙ sym last)

@@ -7,12 +7,12 @@ use Rattle.heap_theory.specs.Links.{next_in, list_of}
 use Rattle.heap_theory.specs.Sound.{IsSoundHeap, IsTagOf, IsChunkTag}
 use Rattle.heap_theory.specs.State.{State, Heap, state_at, chunk_of}
 use Rattle.heap_theory.specs.State.State.{Fresh, Live, Dead}
-use Rattle.tagged_heap.specs.Below.{LawsBelow}
+use Rattle.tagged_heap.proofs.Below as laws
 use Rattle.tagged_heap.specs.Bookkeeping.{ChunksAreTagged, ParitiesDiffer}
 use Rattle.tagged_heap.specs.Keeping.{IsKeptBy}
 
-pub kept_said : LawsBelow → (h : Heap) (m : List Granule) (front : ℕ) (fronts queue : List ℕ) (lists : List (List ℕ)) → IsKeptBy h m front fronts queue lists → IsKeptIn h m
-kept_said laws h m front fronts queue lists k = record {
+pub kept_said : (h : Heap) (m : List Granule) (front : ℕ) (fronts queue : List ℕ) (lists : List (List ℕ)) → IsKeptBy h m front fronts queue lists → IsKeptIn h m
+kept_said h m front fronts queue lists k = record {
   seen = k.seen;
   headers = k.headers.headers;
   unlinked = k.headers.unlinked;

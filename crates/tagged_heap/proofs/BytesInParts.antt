@@ -82,7 +82,7 @@ module _ (in_parts : (i : ℕ) (a b : List ℕ) (memory : List Granule) → writ
   pub copied_more : (from + count ≤ to) ⊎ (to + count ≤ from) → new ≡ written (to + done) (take len (read ++ drop len piece)) now → new ≡ written to (bytes_at m from (done + len)) m
   copied_more apart is =
       let done_long : length (bytes_at m from done) ≡ done = length-bytes_at m from done in
-      let outside : (from + done + len ≤ to) ⊎ (to + length (bytes_at m from done) ≤ from + done) = elim apart [ inl before ↦ inl (omega arith) | inr behind ↦ inr (omega (arith, done_long)) ] in
+      let outside : (from + done + len ≤ to) ⊎ (to + length (bytes_at m from done) ≤ from + done) = elim apart [ inl before ↦ inl (omega arith) | inr after ↦ inr (omega (arith, done_long)) ] in
       let read_old : read ≡ bytes_at m (from + done) len =
       read_is ∙ ap (bytes_at now (from + done)) piece_long ∙ ap (λ x. bytes_at x (from + done) len) before ∙ other_bytes to (from + done) len (bytes_at m from done) m outside in
       is ∙ ap (λ bytes. written (to + done) bytes now) (front_is ∙ read_old)

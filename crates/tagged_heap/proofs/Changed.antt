@@ -12,7 +12,7 @@ use Rattle.heap_theory.specs.Links.{AreLinked, next_in, list_of}
 use Rattle.heap_theory.specs.Sound.{IsSoundHeap}
 use Rattle.heap_theory.specs.State.{State, Heap, state_at, last_tag, IsSlot}
 use Rattle.heap_theory.specs.State.State.{Fresh}
-use Rattle.tagged_heap.specs.Below.{LawsBelow}
+use Rattle.tagged_heap.proofs.Below as laws
 use Rattle.tagged_heap.specs.Keeping.{header_in, IsRewritten, IsKeptBy}
 use Rattle.tagged_heap.proofs.Slots.{IsDeadSlot, dead_of, in_chain, in_list, same_standing}
 
@@ -24,10 +24,10 @@ queue_slot {h} {queue} b s there = (in_chain h b.from queue s b.booked.chain the
 pub list_slot : {h : Heap} {queue : List ℕ} {lists : List (List ℕ)} → IsBooked h queue lists → (number s : ℕ) → number < length lists → Contains (list_of lists number) s → IsDeadSlot h s
 list_slot {h} {queue} {lists} b number s within there = (in_list h _ b.from (list_of lists number) s (b.booked.freed number within) there).0
 
-pub linked_same : LawsBelow → (next new : ℕ → ℕ) (front : ℕ) (fronts queue : List ℕ) (lists : List (List ℕ)) → AreLinked next front fronts queue lists →
+pub linked_same : (next new : ℕ → ℕ) (front : ℕ) (fronts queue : List ℕ) (lists : List (List ℕ)) → AreLinked next front fronts queue lists →
     ((s : ℕ) → Contains queue s → new s ≡ next s) → ((number s : ℕ) → number < length lists → Contains (list_of lists number) s → new s ≡ next s) →
     AreLinked new front fronts queue lists
-linked_same laws next new front fronts queue lists l in_queue in_lists = record {
+linked_same next new front fronts queue lists l in_queue in_lists = record {
   queue_linked = laws.links_stay next new front queue in_queue l.queue_linked;
   fronts_long = l.fronts_long;
   lists_linked = λ number within. laws.links_stay next new (slice_index fronts number) (list_of lists number) (λ s there. in_lists number s within there) (l.lists_linked number within);
@@ -65,17 +65,17 @@ unfolding header_for
 next_of_header h s next = refl
 
 -- A heap in which a slot that is not dead has a new state is kept in a memory with the slot's new header.
-pub kept_changed : LawsBelow → (h : Heap) (m : List Granule) (front : ℕ) (fronts queue : List ℕ) (lists : List (List ℕ)) → IsKeptBy h m front fronts queue lists →
+pub kept_changed : (h : Heap) (m : List Granule) (front : ℕ) (fronts queue : List ℕ) (lists : List (List ℕ)) → IsKeptBy h m front fronts queue lists →
     (s : ℕ) (state : State) (memory new : List Granule) (seed tag : ℕ) (fronts' : List ℕ) (lists' : List (List ℕ)) → IsSlot h s → is_dead state ≡ false →
     IsSoundHeap (changed h s state memory seed tag) → IsBooked (changed h s state memory seed tag) queue lists' →
     AreLinked (next_in h.layout m) front fronts' queue lists' →
     IsRewritten h.layout m new s (header_for (changed h s state memory seed tag) s 0) memory →
     IsKeptBy (changed h s state memory seed tag) new front fronts' queue lists'
-kept_changed laws h m front fronts queue lists kept s state memory new seed tag fronts' lists' in_range alive sound booked linked written = record {
+kept_changed h m front fronts queue lists kept s state memory new seed tag fronts' lists' in_range alive sound booked linked written = record {
   sound = sound;
   seen = written.seen_is;
   headers = record { headers = header; unlinked = unlinked };
-  linked = linked_same laws (next_in h.layout m) (next_in h.layout new) front fronts' queue lists' linked
+  linked = linked_same (next_in h.layout m) (next_in h.layout new) front fronts' queue lists' linked
       (λ r there. stays r (queue_slot booked r there)) (λ number r within there. stays r (list_slot booked number r within there));
   booked = booked;
 }

@@ -14,11 +14,11 @@ use Rattle.heap_theory.specs.declared.fault.NullCause.TheVariants.{Large, NoClas
 use Rattle.heap_theory.specs.Calls.{is_class_of}
 use Rattle.heap_theory.specs.Choice.{class_for_request}
 use Rattle.heap_theory.specs.State.{Heap, chunk_granules}
-use Rattle.tagged_heap.specs.Below.{LawsBelow}
+use Rattle.tagged_heap.proofs.Below as laws
 use Rattle.tagged_heap.specs.Chunks.{IsCauseFor}
 use Rattle.tagged_heap.proofs.Shares.{one_class}
 
-module _ (laws : LawsBelow) (h : Heap) (n : ℕ) where
+module _ (h : Heap) (n : ℕ) where
   pub class_for_is : (r : Result ℕ NullCause) → IfOk r (λ k. (n ≤ 16368) × (class_number_for h.layout.classes n ≡ Some k)) → IfErr r (IsCauseFor h.layout.classes n) →
       class_for_request h n ≡ result_map_both (λ k. slice_index h.layout.classes k) (λ e. e) r
   class_for_is (Ok k) ok err =

@@ -16,7 +16,7 @@ use Rattle.heap_theory.specs.Header.Standing.{Fresh as NeverGiven}
 use Rattle.heap_theory.specs.Links.{AreLinked, IsLinked, next_in, list_of}
 use Rattle.heap_theory.specs.State.{state_at, last_tag, is_fresh, first_heap, without_headers}
 use Rattle.heap_theory.specs.State.State.{Fresh}
-use Rattle.tagged_heap.specs.Below.{LawsBelow}
+use Rattle.tagged_heap.proofs.Below as laws
 use Rattle.tagged_heap.specs.Keeping.{header_in, IsKeptBy, AreFirstFresh}
 use Rattle.tagged_heap.specs.View.{shown_heap, IsHeldIn}
 use Rattle.tagged_heap.proofs.Shares.{first_slot-le, share_of_slot}
@@ -53,9 +53,9 @@ module _ (layout : Partition) (seed quarantine : ℕ) where
       }
 
 -- the number of a slot's class is one
-pub class_is_number : LawsBelow → (layout : Partition) (s number : ℕ) → IsLegalTable 1 layout.classes → s < slot_count layout →
+pub class_is_number : (layout : Partition) (s number : ℕ) → IsLegalTable 1 layout.classes → s < slot_count layout →
     slice_get layout.classes number ≡ Some (slot_of layout s).class → number ≡ class_number layout s
-class_is_number laws layout s number legal within listed =
+class_is_number layout s number legal within listed =
     let own = laws.class_number_is layout s within in
     one_number legal number (class_number layout s) (slice_get_within layout.classes number (slot_of layout s).class listed) (slice_get_within layout.classes (class_number layout s) (slot_of layout s).class own)
     (get_or_from_slice_get layout.classes number (slot_of layout s).class 0 listed ∙ sym (get_or_from_slice_get layout.classes (class_number layout s) (slot_of layout s).class 0 own))
@@ -71,7 +71,7 @@ class_is_number laws layout s number legal within listed =
 
 -- ---- the first heap
 
-module _ (laws : LawsBelow) (layout : Partition) (seed quarantine : ℕ) (is : IsPartition layout) where
+module _ (layout : Partition) (seed quarantine : ℕ) (is : IsPartition layout) where
   abbrev pub firsts : List ℕ
   firsts = map (first_slot layout) (range_with_len 0 (length layout.classes))
 
@@ -94,7 +94,7 @@ module _ (laws : LawsBelow) (layout : Partition) (seed quarantine : ℕ) (is : I
         let number' : number < length layout.classes = subst (λ n. number < n) firsts_long within in
         omega (arith, first_at number within, first_slot-le layout number (number + 1) (omega arith) (omega arith));
     given = λ number s within in_range class below.
-        let share = share_of_slot laws layout number s is.table (subst (λ n. number < n) firsts_long within) in_range class in
+        let share = share_of_slot layout number s is.table (subst (λ n. number < n) firsts_long within) in_range class in
         absurd (omega (arith, first_at number within, share.0));
     fresh = λ number s within in_range class above. all_fresh s;
   }
@@ -131,7 +131,7 @@ module _ (laws : LawsBelow) (layout : Partition) (seed quarantine : ℕ) (is : I
 
     pub shown_first : shown_heap layout quarantine m 0 seed 0 ≡ first_heap layout seed quarantine
     unfolding first_heap
-    shown_first = shown_is laws (first_heap layout seed quarantine) m 0 (replicate (length layout.classes) 0) [] (replicate (length layout.classes) []) kept_first
+    shown_first = shown_is (first_heap layout seed quarantine) m 0 (replicate (length layout.classes) 0) [] (replicate (length layout.classes) []) kept_first
 
     first_is : IsMemory m → IsHeldIn (first_heap layout seed quarantine) 0 m (record { front = 0; back = 0; held = 0; limit = quarantine }) (replicate (length layout.classes) 0) firsts
     unfolding first_heap

@@ -8,7 +8,7 @@ use Rattle.class_table.specs.Layout.{first_slot}
 use Rattle.heap_theory.specs.Choice.{lowest_fresh}
 use Rattle.heap_theory.specs.Sound.{IsSoundHeap}
 use Rattle.heap_theory.specs.State.{State, Heap, slot_in, state_at, is_fresh, IsSlot}
-use Rattle.tagged_heap.specs.Below.{LawsBelow}
+use Rattle.tagged_heap.proofs.Below as laws
 use Rattle.tagged_heap.specs.Keeping.{AreFirstFresh}
 use Rattle.tagged_heap.proofs.Shares.{in_share, share_of_slot, first_slot-le}
 
@@ -28,7 +28,7 @@ firsts_stay h states memory total seed tag firsts same f = record {
   fresh = λ number s within in_range class above. same s in_range ∙ f.fresh number s within in_range class above;
 }
 
-module _ (laws : LawsBelow) (h : Heap) (sound : IsSoundHeap h) (firsts : List ℕ) (f : AreFirstFresh h firsts) (number : ℕ) (within : number < length h.layout.classes) where
+module _ (h : Heap) (sound : IsSoundHeap h) (firsts : List ℕ) (f : AreFirstFresh h firsts) (number : ℕ) (within : number < length h.layout.classes) where
   in_firsts : number < length firsts
   in_firsts = subst (λ n. number < n) (sym f.long) within
 
@@ -37,7 +37,7 @@ module _ (laws : LawsBelow) (h : Heap) (sound : IsSoundHeap h) (firsts : List �
       (IsSlot h (slice_index firsts number)) × ((slot_in h (slice_index firsts number)).class ≡ slice_index h.layout.classes number)
       × (is_fresh (state_at h (slice_index firsts number)) ≡ true)
   counted below =
-      let own = in_share laws h.layout number (slice_index firsts number) within (f.from number in_firsts) below in
+      let own = in_share h.layout number (slice_index firsts number) within (f.from number in_firsts) below in
       (own.0, own.1, f.fresh number (slice_index firsts number) in_firsts own.0 own.1 (omega arith))
 
   pub lowest_counted : slice_index firsts number < first_slot h.layout (number + 1) → lowest_fresh h (slice_index h.layout.classes number) ≡ Some (slice_index firsts number)
@@ -51,7 +51,7 @@ module _ (laws : LawsBelow) (h : Heap) (sound : IsSoundHeap h) (firsts : List �
   lowest_none above =
       laws.none_fresh h (slice_index h.layout.classes number)
       (λ r in_range class.
-      let own = share_of_slot laws h.layout number r sound.region.table within in_range class in
+      let own = share_of_slot h.layout number r sound.region.table within in_range class in
       f.given number r in_firsts in_range class (omega (arith, own.1)))
 
   -- the lowest fresh slot is given out
@@ -91,7 +91,7 @@ module _ (laws : LawsBelow) (h : Heap) (sound : IsSoundHeap h) (firsts : List �
       -- a slot of another class is not the one
       of_another : (n s : ℕ) → n ≢ number → n < length firsts → IsSlot h s → (slot_in h s).class ≡ slice_index h.layout.classes n → s ≢ slice_index firsts number
       of_another n s other k in_range class is =
-          let own = share_of_slot laws h.layout n s sound.region.table (subst (λ m. n < m) f.long k) in_range class in
+          let own = share_of_slot h.layout n s sound.region.table (subst (λ m. n < m) f.long k) in_range class in
           let from' = f.from number in_firsts in
           let k' : n < length h.layout.classes = subst (λ m. n < m) f.long k in
           elim (cases_lt n number) [

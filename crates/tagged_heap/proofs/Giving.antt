@@ -23,30 +23,32 @@ use Rattle.heap_theory.specs.State.{State, Heap, slot_in, state_at, last_tag, is
 use Rattle.heap_theory.specs.State.State.{Fresh, Live, Dead}
 use Rattle.chunk_header.specs.Seen.{with_next}
 use Rattle.quarantine_core.specs.Queue.{Queue}
-use Rattle.tagged_heap.specs.Below.{LawsBelow}
+use Rattle.tagged_heap.proofs.Below as laws
 use Rattle.tagged_heap.specs.Chunks.{given_header, tag_for, IsCauseFor}
 use Rattle.tagged_heap.specs.Keeping.{header_in, IsRewritten, AreFirstFresh}
 use Rattle.tagged_heap.specs.View.{IsHeldIn}
 use Rattle.tagged_heap.proofs.Changed.{kept_changed, list_slot}
 use Rattle.tagged_heap.proofs.Firsts.{firsts_stay, firsts_step, counted, lowest_counted, lowest_none}
-use Rattle.tagged_heap.proofs.HeaderPlaces.{length-without_headers, then_tagged, then_written, written_header}
+use Rattle.heap_theory.proofs.SeenMemory.{length-without_headers}
+use Rattle.tagged_heap.proofs.HeaderPlaces.{then_tagged, then_written, written_header}
 use Rattle.tagged_heap.proofs.Releasing.{linked_header}
-use Rattle.tagged_heap.proofs.Slots.{IsDeadSlot, dead_of, Contains-head}
+use Rattle.heap_theory.proofs.Found.{Contains-head}
+use Rattle.tagged_heap.proofs.Slots.{IsDeadSlot, dead_of}
 
 -- ---- the request
 
-pub request_refused : LawsBelow → (h : Heap) (n : ℕ) (cause : NullCause) → IsCauseFor h.layout.classes n cause → slot_for_request h n ≡ Err cause
+pub request_refused : (h : Heap) (n : ℕ) (cause : NullCause) → IsCauseFor h.layout.classes n cause → slot_for_request h n ≡ Err cause
 unfolding slot_for_request
-request_refused laws h n Large large = ap (slot_in_class h) (cond-true (nat_lt largest_counted n) (Err Large) _ (lt-ltb _ _ large))
-request_refused laws h n NoClass none =
+request_refused h n Large large = ap (slot_in_class h) (cond-true (nat_lt largest_counted n) (Err Large) _ (lt-ltb _ _ large))
+request_refused h n NoClass none =
     let class : class_for h.layout.classes n ≡ None = laws.class_by_number n h.layout.classes ∙ ap (λ o. option_and_then (slice_get h.layout.classes) o) none.1 in
     ap (slot_in_class h) (cond-false (nat_lt largest_counted n) (Err Large) (ok_or (class_for h.layout.classes n) NoClass) (le-ltb _ _ none.0) ∙ ap (λ o. ok_or o NoClass) class)
-request_refused laws h n Exhausted none = absurd none
+request_refused h n Exhausted none = absurd none
 
-pub request_served : LawsBelow → (h : Heap) (n number class : ℕ) (found : Option ℕ) → n ≤ 16368 → class_number_for h.layout.classes n ≡ Some number →
+pub request_served : (h : Heap) (n number class : ℕ) (found : Option ℕ) → n ≤ 16368 → class_number_for h.layout.classes n ≡ Some number →
     slice_get h.layout.classes number ≡ Some class → slot_for h class ≡ found → slot_for_request h n ≡ ok_or found Exhausted
 unfolding slot_for_request
-request_served laws h n number class found few numbered listed given =
+request_served h n number class found few numbered listed given =
     let is : class_for h.layout.classes n ≡ Some class =
     laws.class_by_number n h.layout.classes ∙ ap (λ o. option_and_then (slice_get h.layout.classes) o) numbered ∙ listed in
     ap (slot_in_class h) (cond-false (nat_lt largest_counted n) (Err Large) (ok_or (class_for h.layout.classes n) NoClass) (le-ltb _ _ few) ∙ ap (λ o. ok_or o NoClass) is)
@@ -55,14 +57,14 @@ request_served laws h n number class found few numbered listed given =
 -- ---- the memory
 
 -- a slot's link is set
-pub link_set : LawsBelow → (h : Heap) (m : List Granule) (s next : ℕ) → IsSoundHeap h → IsSlot h s → next < 2 ^ 32 → h.total < 2 ^ 64 →
+pub link_set : (h : Heap) (m : List Granule) (s next : ℕ) → IsSoundHeap h → IsSlot h s → next < 2 ^ 32 → h.total < 2 ^ 64 →
     header_in h.layout m s ≡ header_for h s (next_in h.layout m s) → without_headers h.layout m ≡ h.memory → IsMemory m →
     IsRewritten h.layout m (with_next m (slot_in h s).start next) s (header_for h s next) (without_headers h.layout m)
-link_set laws h m s next sound in_range link fits header seen is =
+link_set h m s next sound in_range link fits header seen is =
     let after : record (header_in h.layout m s) { next = next } ≡ header_for h s next = ap (λ (x : Header). record x { next = next }) header ∙ linked_header h s (next_in h.layout m s) next in
-    let long : length m ≡ h.layout.granules = sym (length-without_headers laws h.layout m) ∙ ap length seen ∙ sound.long in
+    let long : length m ≡ h.layout.granules = sym (length-without_headers h.layout m) ∙ ap length seen ∙ sound.long in
     subst (λ x. IsRewritten h.layout m (with_header m (slot_in h s).start x) s (header_for h s next) (without_headers h.layout m)) (sym after)
-    (written_header laws h.layout m s (header_for h s next) is sound.slots long in_range (laws.header_fits h s next sound in_range link fits))
+    (written_header h.layout m s (header_for h s next) is sound.slots long in_range (laws.header_fits h s next sound in_range link fits))
 
 -- what the slot's header says of its last tag
 pub tag_is : (h : Heap) (s next : ℕ) → (header_for h s next).tag ≡ last_tag (state_at h s)
@@ -82,7 +84,7 @@ given_header_is h s n within =
       mark = mark_of (here i);
     }
 
-module _ (laws : LawsBelow) (h : Heap) (m m1 : List Granule) (s n : ℕ) (sound : IsSoundHeap h) (in_range : IsSlot h s) (room : chunk_granules n < (slot_in h s).class) (fits : h.total < 2 ^ 64)
+module _ (h : Heap) (m m1 : List Granule) (s n : ℕ) (sound : IsSoundHeap h) (in_range : IsSlot h s) (room : chunk_granules n < (slot_in h s).class) (fits : h.total < 2 ^ 64)
     (before : IsRewritten h.layout m m1 s (header_for h s 0) h.memory) (is : IsMemory m1) where
   within : s < length h.states
   within = subst (λ k. s < k) (sym sound.states) in_range
@@ -91,7 +93,7 @@ module _ (laws : LawsBelow) (h : Heap) (m m1 : List Granule) (s n : ℕ) (sound 
   tag_drawn = ap (λ t. drawn_tag h.tag h.seed (bit_or (parity_exclude s) (2 ^ t))) (ap (λ (x : Header). x.tag) before.own ∙ tag_is h s 0)
 
   pub long : length m1 ≡ h.layout.granules
-  long = sym (length-without_headers laws h.layout m1) ∙ ap length before.seen_is ∙ sound.long
+  long = sym (length-without_headers h.layout m1) ∙ ap length before.seen_is ∙ sound.long
 
   header_fits : FitsWords (header_for (given_out h s n) s 0)
   unfolding given_out
@@ -103,12 +105,12 @@ module _ (laws : LawsBelow) (h : Heap) (m m1 : List Granule) (s n : ℕ) (sound 
   given_memory tag tag_eq =
       let header : given_header (header_in h.layout m1 s) n tag ≡ header_for (given_out h s n) s 0 = (λ i. given_header (before.own i) n (tag_eq i)) ∙ given_header_is h s n within in
       let written : IsRewritten h.layout m1 (with_header m1 (slot_in h s).start (header_for (given_out h s n) s 0)) s (header_for (given_out h s n) s 0) (without_headers h.layout m1) =
-      written_header laws h.layout m1 s (header_for (given_out h s n) s 0) is sound.slots long in_range header_fits in
+      written_header h.layout m1 s (header_for (given_out h s n) s 0) is sound.slots long in_range header_fits in
       let seen : IsRewritten h.layout m1 (with_header m1 (slot_in h s).start (header_for (given_out h s n) s 0)) s (header_for (given_out h s n) s 0) h.memory =
       subst (IsRewritten h.layout m1 _ s _) before.seen_is written in
       let both = then_written before seen in
       let all =
-      then_tagged laws (payload_start (slot_in h s) + chunk_granules n) ((slot_in h s).class - 1 - chunk_granules n) 0 (then_tagged laws (payload_start (slot_in h s)) (chunk_granules n) (next_tag h s) both) in
+      then_tagged (payload_start (slot_in h s) + chunk_granules n) ((slot_in h s).class - 1 - chunk_granules n) 0 (then_tagged (payload_start (slot_in h s)) (chunk_granules n) (next_tag h s) both) in
       subst (λ t. IsRewritten h.layout m (chunk_tagged (slot_in h s) n t (with_header m1 (slot_in h s).start (given_header (header_in h.layout m1 s) n tag))) s (header_for (given_out h s n) s 0) (chunk_tagged (slot_in h s) n (next_tag h s) h.memory)) (sym tag_eq)
       (subst (λ x. IsRewritten h.layout m (chunk_tagged (slot_in h s) n (next_tag h s) (with_header m1 (slot_in h s).start x)) s (header_for (given_out h s n) s 0) (chunk_tagged (slot_in h s) n (next_tag h s) h.memory)) (sym header) all)
 
@@ -139,12 +141,12 @@ given_firsts h s n firsts sound in_range used f = firsts_stay h _ _ h.total _ _ 
     ]
 
 -- the lowest fresh slot is given out
-pub fresh_counted : (h : Heap) (s n : ℕ) (firsts : List ℕ) (number : ℕ) → LawsBelow → IsSoundHeap h → AreFirstFresh h firsts → number < length h.layout.classes → IsSlot h s →
+pub fresh_counted : (h : Heap) (s n : ℕ) (firsts : List ℕ) (number : ℕ) → IsSoundHeap h → AreFirstFresh h firsts → number < length h.layout.classes → IsSlot h s →
     s ≡ slice_index firsts number → slice_index firsts number < first_slot h.layout (number + 1) → AreFirstFresh (given_out h s n) (slice_set firsts number (s + 1))
 unfolding given_out
-fresh_counted h s n firsts number laws sound f within in_range counter below =
+fresh_counted h s n firsts number sound f within in_range counter below =
     subst (λ x. AreFirstFresh (given_out h s n) (slice_set firsts number (x + 1))) (sym counter)
-    (firsts_step laws h sound firsts f number within _ _ h.total _ _ below
+    (firsts_step h sound firsts f number within _ _ h.total _ _ below
     (λ r inside other. ap is_fresh (get_or-set_other h.states s r (Live n (next_tag h s)) Fresh (λ is. other (is ∙ counter))))
     (ap (λ q. is_fresh (state_at (given_out h s n) q)) (sym counter) ∙ ap is_fresh (get_or-set_same h.states s (Live n (next_tag h s)) Fresh (subst (λ k. s < k) (sym sound.states) in_range))))
 
@@ -192,19 +194,19 @@ pub record IsTaken (h : Heap) (m m1 : List Granule) (front : ℕ) (queue fronts'
   pub booked : IsBooked (given_out h s n) queue lists'
   pub fresh : AreFirstFresh (given_out h s n) firsts'
 
-module _ (laws : LawsBelow) (h : Heap) (frees : ℕ) (m : List Granule) (q : Queue) (fronts firsts : List ℕ) (k : IsHeldIn h frees m q fronts firsts) where
+module _ (h : Heap) (frees : ℕ) (m : List Granule) (q : Queue) (fronts firsts : List ℕ) (k : IsHeldIn h frees m q fronts firsts) where
   pub give_held : (m1 new : List Granule) (fronts' firsts' : List ℕ) (s n tag : ℕ) → (t : IsTaken h m m1 q.front k.queue fronts' firsts' s n) → tag ≡ next_tag h s →
       new ≡ chunk_tagged (slot_in h s) n tag (with_header m1 (slot_in h s).start (given_header (header_in h.layout m1 s) n tag)) → IsMemory new →
       IsHeldIn (given_out h s n) frees new q fronts' firsts'
   unfolding given_out
   give_held m1 new fronts' firsts' s n tag t tag_eq new_is is =
       let in_range = t.given.reusable.in_range in
-      let rewritten = given_memory laws h m m1 s n k.kept.sound in_range t.given.room k.fits t.before t.memory_is tag tag_eq in
+      let rewritten = given_memory h m m1 s n k.kept.sound in_range t.given.room k.fits t.before t.memory_is tag tag_eq in
       record {
         queue = k.queue;
         lists = t.lists';
         kept =
-            kept_changed laws h m q.front fronts k.queue k.lists k.kept s (Live n (next_tag h s)) (chunk_tagged (slot_in h s) n (next_tag h s) h.memory) new (next_seed h.seed) (next_tag h s) fronts' t.lists'
+            kept_changed h m q.front fronts k.queue k.lists k.kept s (Live n (next_tag h s)) (chunk_tagged (slot_in h s) n (next_tag h s) h.memory) new (next_seed h.seed) (next_tag h s) fronts' t.lists'
             in_range refl (laws.given_out_sound h s n k.kept.sound in_range t.given.room) t.booked t.linked
             (subst (λ x. IsRewritten h.layout m x s (header_for (given_out h s n) s 0) (chunk_tagged (slot_in h s) n (next_tag h s) h.memory)) (sym new_is) rewritten);
         back = k.back;
@@ -236,7 +238,7 @@ module _ (laws : LawsBelow) (h : Heap) (frees : ℕ) (m : List Granule) (q : Que
         let plus : s + 1 ≡ suc s = omega arith in
         let first = first_of (next_in h.layout m) (slice_index fronts number) s (list_of k.lists number) linked (front ∙ plus) in
         let slot : slot_for h (slice_index h.layout.classes number) ≡ Some s = laws.front_given h k.queue k.lists number (slice_index h.layout.classes number) s first.0 k.kept.sound k.kept.booked listed first.1 in
-        let request : slot_for_request h n ≡ Ok s = request_served laws h n number (slice_index h.layout.classes number) (Some s) few numbered listed slot in
+        let request : slot_for_request h n ≡ Ok s = request_served h n number (slice_index h.layout.classes number) (Some s) few numbered listed slot in
         let given : IsGiven h n s = laws.request h n s k.kept.sound request in
         let dead : IsDeadSlot h s = list_slot k.kept.booked number s in_lists (subst (λ list. Contains list s) (sym first.1) (Contains-head s first.0)) in
         record {
@@ -245,7 +247,7 @@ module _ (laws : LawsBelow) (h : Heap) (frees : ℕ) (m : List Granule) (q : Que
           before =
               subst (λ x. IsRewritten h.layout m x s (header_for h s 0) h.memory) (sym link)
               (subst (λ x. IsRewritten h.layout m (with_next m (slot_in h s).start 0) s (header_for h s 0) x) k.kept.seen
-              (link_set laws h m s 0 k.kept.sound dead.in_range (omega arith) k.fits (k.kept.headers.headers s dead.in_range) k.kept.seen k.memory_is));
+              (link_set h m s 0 k.kept.sound dead.in_range (omega arith) k.fits (k.kept.headers.headers s dead.in_range) k.kept.seen k.memory_is));
           memory_is = is;
           lists' = slice_set k.lists number first.0;
           linked = other_list (next_in h.layout m) q.front fronts k.queue k.lists number (next_in h.layout m s) first.0 k.kept.linked in_lists first.2;
@@ -262,10 +264,10 @@ module _ (laws : LawsBelow) (h : Heap) (frees : ℕ) (m : List Granule) (q : Que
     take_fresh s front counter below =
         let none : list_of k.lists number ≡ [] = none_of (next_in h.layout m) (slice_index fronts number) (list_of k.lists number) linked front in
         let below' : slice_index firsts number < first_slot h.layout (number + 1) = subst (λ x. x < first_slot h.layout (number + 1)) counter below in
-        let own = subst (λ x. IsSlot h x × ((slot_in h x).class ≡ slice_index h.layout.classes number) × (is_fresh (state_at h x) ≡ true)) (sym counter) (counted laws h k.kept.sound firsts k.fresh number within below') in
-        let lowest : lowest_fresh h (slice_index h.layout.classes number) ≡ Some s = lowest_counted laws h k.kept.sound firsts k.fresh number within below' ∙ ap Some (sym counter) in
+        let own = subst (λ x. IsSlot h x × ((slot_in h x).class ≡ slice_index h.layout.classes number) × (is_fresh (state_at h x) ≡ true)) (sym counter) (counted h k.kept.sound firsts k.fresh number within below') in
+        let lowest : lowest_fresh h (slice_index h.layout.classes number) ≡ Some s = lowest_counted h k.kept.sound firsts k.fresh number within below' ∙ ap Some (sym counter) in
         let slot : slot_for h (slice_index h.layout.classes number) ≡ Some s = laws.fresh_given h k.queue k.lists number (slice_index h.layout.classes number) k.kept.sound k.kept.booked listed none ∙ lowest in
-        let request : slot_for_request h n ≡ Ok s = request_served laws h n number (slice_index h.layout.classes number) (Some s) few numbered listed slot in
+        let request : slot_for_request h n ≡ Ok s = request_served h n number (slice_index h.layout.classes number) (Some s) few numbered listed slot in
         record {
           request = request;
           given = laws.request h n s k.kept.sound request;
@@ -278,7 +280,7 @@ module _ (laws : LawsBelow) (h : Heap) (frees : ℕ) (m : List Granule) (q : Que
           lists' = k.lists;
           linked = k.kept.linked;
           booked = laws.fresh_taken h k.queue k.lists s n k.kept.sound k.kept.booked own.0 own.2;
-          fresh = fresh_counted h s n firsts number laws k.kept.sound k.fresh within own.0 counter below';
+          fresh = fresh_counted h s n firsts number k.kept.sound k.fresh within own.0 counter below';
         }
 
     -- neither is there
@@ -287,5 +289,5 @@ module _ (laws : LawsBelow) (h : Heap) (frees : ℕ) (m : List Granule) (q : Que
         let none : list_of k.lists number ≡ [] = none_of (next_in h.layout m) (slice_index fronts number) (list_of k.lists number) linked front in
         let slot : slot_for h (slice_index h.layout.classes number) ≡ None =
         laws.fresh_given h k.queue k.lists number (slice_index h.layout.classes number) k.kept.sound k.kept.booked listed none
-        ∙ lowest_none laws h k.kept.sound firsts k.fresh number within (omega (arith, counter)) in
-        request_served laws h n number (slice_index h.layout.classes number) None few numbered listed slot
+        ∙ lowest_none h k.kept.sound firsts k.fresh number within (omega (arith, counter)) in
+        request_served h n number (slice_index h.layout.classes number) None few numbered listed slot

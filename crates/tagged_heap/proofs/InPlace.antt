@@ -11,7 +11,7 @@ use Rattle.heap_theory.specs.Header.{Header, FitsWords, header_for, with_header,
 use Rattle.heap_theory.specs.State.{Heap, slot_in, state_at, is_fresh, last_tag, chunk_granules, payload_start, IsSlot}
 use Rattle.heap_theory.specs.State.State.{Fresh, Live}
 use Rattle.quarantine_core.specs.Queue.{Queue}
-use Rattle.tagged_heap.specs.Below.{LawsBelow}
+use Rattle.tagged_heap.proofs.Below as laws
 use Rattle.tagged_heap.specs.Chunks.{HasRoom}
 use Rattle.tagged_heap.specs.Inside.{state_of, seen, IsHeld}
 use Rattle.tagged_heap.specs.Keeping.{header_in, IsRewritten}
@@ -20,11 +20,12 @@ use Rattle.tagged_heap.specs.declared.heap.Heap.TheInside.{Inside}
 use Rattle.tagged_heap.proofs.Changed.{kept_changed}
 use Rattle.tagged_heap.proofs.Firsts.{firsts_stay}
 use Rattle.tagged_heap.proofs.Giving.{tag_is}
-use Rattle.tagged_heap.proofs.HeaderPlaces.{length-without_headers, then_tagged, written_header}
+use Rattle.heap_theory.proofs.SeenMemory.{length-without_headers}
+use Rattle.tagged_heap.proofs.HeaderPlaces.{then_tagged, written_header}
 use Rattle.tagged_heap.proofs.Opened.{state_seen, region_of, ends_within, class_shown}
 use Rattle.tagged_heap.proofs.Shown.{shown_is}
 
-module _ (laws : LawsBelow) (h : Heap) (frees : ℕ) (m : List Granule) (q : Queue) (fronts firsts : List ℕ) (k : IsHeldIn h frees m q fronts firsts) (s size tag n : ℕ) (in_range : IsSlot h s)
+module _ (h : Heap) (frees : ℕ) (m : List Granule) (q : Queue) (fronts firsts : List ℕ) (k : IsHeldIn h frees m q fronts firsts) (s size tag n : ℕ) (in_range : IsSlot h s)
     (live : state_at h s ≡ Live size tag) (room : chunk_granules n < (slot_in h s).class) where
   within : s < length h.states
   within = subst (λ x. s < x) (sym k.kept.sound.states) in_range
@@ -50,7 +51,7 @@ module _ (laws : LawsBelow) (h : Heap) (frees : ℕ) (m : List Granule) (q : Que
       })
 
   long : length m ≡ h.layout.granules
-  long = sym (length-without_headers laws h.layout m) ∙ ap length k.kept.seen ∙ k.kept.sound.long
+  long = sym (length-without_headers h.layout m) ∙ ap length k.kept.seen ∙ k.kept.sound.long
 
   tag_before : (header_in h.layout m s).tag ≡ last_tag (state_at h s)
   tag_before = ap (λ (x : Header). x.tag) before_is ∙ tag_is h s 0
@@ -63,11 +64,11 @@ module _ (laws : LawsBelow) (h : Heap) (frees : ℕ) (m : List Granule) (q : Que
       new ≡ chunk_tagged (slot_in h s) n (header_in h.layout m s).tag (with_header m (slot_in h s).start (record (header_in h.layout m s) { size = n })) →
       IsRewritten h.layout m new s (header_for (resized h s n) s 0) (chunk_tagged (slot_in h s) n (last_tag (state_at h s)) h.memory)
   resized_memory new new_is =
-      let written = written_header laws h.layout m s (header_for (resized h s n) s 0) k.memory_is k.kept.sound.slots long in_range after_fits in
+      let written = written_header h.layout m s (header_for (resized h s n) s 0) k.memory_is k.kept.sound.slots long in_range after_fits in
       let seen = subst (IsRewritten h.layout m (with_header m (slot_in h s).start (header_for (resized h s n) s 0)) s (header_for (resized h s n) s 0)) k.kept.seen written in
       let all =
-      then_tagged laws (payload_start (slot_in h s) + chunk_granules n) ((slot_in h s).class - 1 - chunk_granules n) 0
-      (then_tagged laws (payload_start (slot_in h s)) (chunk_granules n) (last_tag (state_at h s)) seen) in
+      then_tagged (payload_start (slot_in h s) + chunk_granules n) ((slot_in h s).class - 1 - chunk_granules n) 0
+      (then_tagged (payload_start (slot_in h s)) (chunk_granules n) (last_tag (state_at h s)) seen) in
       let same : new ≡ chunk_tagged (slot_in h s) n (last_tag (state_at h s)) (with_header m (slot_in h s).start (header_for (resized h s n) s 0)) =
       new_is ∙ (λ i. chunk_tagged (slot_in h s) n (tag_before i) (with_header m (slot_in h s).start (header_is i))) in
       subst (λ x. IsRewritten h.layout m x s (header_for (resized h s n) s 0) (chunk_tagged (slot_in h s) n (last_tag (state_at h s)) h.memory)) (sym same) all
@@ -89,7 +90,7 @@ module _ (laws : LawsBelow) (h : Heap) (frees : ℕ) (m : List Granule) (q : Que
     queue = k.queue;
     lists = k.lists;
     kept =
-        kept_changed laws h m q.front fronts k.queue k.lists k.kept s (Live n (last_tag (state_at h s))) (chunk_tagged (slot_in h s) n (last_tag (state_at h s)) h.memory) new h.seed h.tag fronts k.lists
+        kept_changed h m q.front fronts k.queue k.lists k.kept s (Live n (last_tag (state_at h s))) (chunk_tagged (slot_in h s) n (last_tag (state_at h s)) h.memory) new h.seed h.tag fronts k.lists
         in_range refl (laws.resized_sound h s n size tag k.kept.sound in_range live room) (laws.resized_out h k.queue k.lists s n size tag k.kept.sound k.kept.booked in_range live) k.kept.linked
         (resized_memory new new_is);
     back = k.back;
@@ -111,7 +112,7 @@ IsResizedBy i s n machine =
           (with_header i.machine.memory (slot_of i.layout s).start (record (header_in i.layout i.machine.memory s) { size = n }));
     }
 
-module _ (laws : LawsBelow) (i : Inside) (v : Counted) (view : seen i ≡ v) (held : IsHeld i) (s size tag n : ℕ) (in_range : IsSlot v.state s) (live : state_at v.state s ≡ Live size tag)
+module _ (i : Inside) (v : Counted) (view : seen i ≡ v) (held : IsHeld i) (s size tag n : ℕ) (in_range : IsSlot v.state s) (live : state_at v.state s ≡ Live size tag)
     (room : chunk_granules n < (slot_in v.state s).class) where
   own_range : IsSlot (state_of i) s
   own_range = subst (λ h. IsSlot h s) (sym (state_seen i v view)) in_range
@@ -126,19 +127,19 @@ module _ (laws : LawsBelow) (i : Inside) (v : Counted) (view : seen i ≡ v) (he
   unfolding shown_heap
   resize_room few = record {
     slot = own_range;
-    region = region_of laws i held;
+    region = region_of i held;
     inside = ends_within i s held own_range;
     memory_is = held.memory_is;
     size = few;
     room = own_room;
-    header = class_shown laws i s held own_range;
+    header = class_shown i s held own_range;
   }
 
   module _ (machine : Machine) (is : IsResizedBy i s n machine) (memory : IsMemory machine.memory) where
     pub resized_held : IsHeldIn (resized (state_of i) s n) i.frees machine.memory i.quarantine i.lists i.firsts.items
     unfolding shown_heap
     resized_held =
-        resize_held laws (state_of i) i.frees i.machine.memory i.quarantine i.lists i.firsts.items held s size tag n own_range own_live own_room machine.memory
+        resize_held (state_of i) i.frees i.machine.memory i.quarantine i.lists i.firsts.items held s size tag n own_range own_live own_room machine.memory
         (ap (λ (x : Machine). x.memory) is) memory
 
     pub resized_shown : shown_heap i.layout i.quarantine.limit machine.memory i.total machine.seed machine.tag ≡ resized (state_of i) s n
@@ -146,4 +147,4 @@ module _ (laws : LawsBelow) (i : Inside) (v : Counted) (view : seen i ≡ v) (he
     resized_shown =
         let after = resized_held in
         (λ k. shown_heap i.layout i.quarantine.limit machine.memory i.total (ap (λ (x : Machine). x.seed) is k) (ap (λ (x : Machine). x.tag) is k))
-        ∙ shown_is laws (resized (state_of i) s n) machine.memory i.quarantine.front i.lists after.queue after.lists after.kept
+        ∙ shown_is (resized (state_of i) s n) machine.memory i.quarantine.front i.lists after.queue after.lists after.kept

@@ -11,20 +11,22 @@ use Rattle.heap_theory.specs.Links.{IsLinked, next_in, list_of}
 use Rattle.heap_theory.specs.State.{Heap, slot_in, without_headers, IsSlot}
 use Rattle.quarantine_core.specs.Queue.{Queue, AreQueued, LinksStand}
 use Rattle.chunk_header.specs.Links.{SetsLink}
-use Rattle.tagged_heap.specs.Below.{LawsBelow}
+use Rattle.tagged_heap.proofs.Below as laws
 use Rattle.tagged_heap.specs.Keeping.{header_in, IsReleasing, IsRewritten}
 use Rattle.tagged_heap.specs.View.{IsLettingGo}
-use Rattle.tagged_heap.proofs.HeaderPlaces.{length-without_headers, header_unseen, start_inside, first_or_more, starts_differ}
+use Rattle.heap_theory.proofs.SeenMemory.{length-without_headers}
+use Rattle.tagged_heap.proofs.HeaderPlaces.{header_unseen, start_inside, first_or_more, starts_differ}
 use Rattle.tagged_heap.proofs.Releasing.{as_quarantined, with_link, released_step}
-use Rattle.tagged_heap.proofs.Slots.{class_few, class_is, in_chain, in_list, Contains-head}
+use Rattle.heap_theory.proofs.Found.{Contains-head}
+use Rattle.tagged_heap.proofs.Slots.{class_few, class_is, in_chain, in_list}
 
 -- a header has its slot's class, however it stands
 class_of_quarantined : (h : Heap) (s next : ℕ) → (as_quarantined (header_for h s next)).class ≡ class_number h.layout s
 class_of_quarantined h s next = class_is h s next
 
-module _ (laws : LawsBelow) (h : Heap) (m : List Granule) (q : Queue) (fronts : List ℕ) (g : IsLettingGo h m q fronts) where
+module _ (h : Heap) (m : List Granule) (q : Queue) (fronts : List ℕ) (g : IsLettingGo h m q fronts) where
   pub region : length m ≡ h.layout.granules
-  region = sym (length-without_headers laws h.layout m) ∙ ap length g.releasing.seen ∙ g.releasing.sound.long
+  region = sym (length-without_headers h.layout m) ∙ ap length g.releasing.seen ∙ g.releasing.sound.long
 
   pub as_queue : AreQueued q h.layout m g.queue
   as_queue = record {
@@ -68,7 +70,7 @@ module _ (laws : LawsBelow) (h : Heap) (m : List Granule) (q : Queue) (fronts : 
         ap (λ (x : Header). x.class) (link.header ∙ ap (λ x. with_link x 0) (g.releasing.headers.queued s front_slot front_in)) ∙ class_of_quarantined h s (next_in h.layout m s)
 
     pub front_class_few : (header_in h.layout m1 s).class < 32
-    front_class_few = omega (arith, front_class, class_is h s 0, class_few laws h s 0 g.releasing.sound front_slot)
+    front_class_few = omega (arith, front_class, class_is h s 0, class_few h s 0 g.releasing.sound front_slot)
 
     pub class_found : slice_get h.layout.classes (header_in h.layout m1 s).class ≡ Some (slot_in h s).class
     class_found = ap (slice_get h.layout.classes) front_class ∙ laws.class_number_is h.layout s front_slot
@@ -96,10 +98,10 @@ module _ (laws : LawsBelow) (h : Heap) (m : List Granule) (q : Queue) (fronts : 
           releasing =
               subst (λ f. IsReleasing h m2 f (slice_set fronts number (s + 1)) rest (slice_set g.lists number (s ∷ list_of g.lists number))) (sym front)
               (subst (λ k. IsReleasing h m2 (next_in h.layout m s) (slice_set fronts number k) rest (slice_set g.lists number (s ∷ list_of g.lists number))) plus
-              (released_step laws h m m2 q.front s number fronts rest g.lists releasing class_found class_within held
+              (released_step h m m2 q.front s number fronts rest g.lists releasing class_found class_within held
               (listed.own ∙ ap (λ (x : Header). record x { standing = Freed; next = slice_index fronts number }) link.header)
               (λ r inside other. listed.others r inside other ∙ others r inside other)
-              (listed.seen_is ∙ ap (without_headers h.layout) link.written ∙ header_unseen laws h.layout m s _ is front_slot ∙ g.releasing.seen)));
+              (listed.seen_is ∙ ap (without_headers h.layout) link.written ∙ header_unseen h.layout m s _ is front_slot ∙ g.releasing.seen)));
           back = after.back;
           held = after.held;
           limit = limit ∙ g.limit;
@@ -136,22 +138,22 @@ Steps h fronts m m1 m2 q q1 s layout =
     IsRewritten layout m1 m2 s (record (header_in layout m1 s) { standing = Freed; next = slice_index fronts (header_in layout m1 s).class }) (without_headers layout m1) →
     IsMemory m2 → IsLettingGo h m2 q1 (slice_set fronts (header_in layout m1 s).class (s + 1))
 
-module _ (laws : LawsBelow) (h : Heap) (layout : Partition) (is : h.layout ≡ layout) (m : List Granule) (q : Queue) (fronts : List ℕ) (g : IsLettingGo h m q fronts) where
+module _ (h : Heap) (layout : Partition) (is : h.layout ≡ layout) (m : List Granule) (q : Queue) (fronts : List ℕ) (g : IsLettingGo h m q fronts) where
   pub region_at : length m ≡ layout.granules
-  region_at = region laws h m q fronts g ∙ ap (λ (x : Partition). x.granules) is
+  region_at = region h m q fronts g ∙ ap (λ (x : Partition). x.granules) is
 
   pub stands_at : LinksStand q layout m
-  stands_at = subst (λ x. LinksStand q x m) is (g.queue, as_queue laws h m q fronts g)
+  stands_at = subst (λ x. LinksStand q x m) is (g.queue, as_queue h m q fronts g)
 
   pub list_fits : (m1 : List Granule) (q1 : Queue) (s : ℕ) → Fits h fronts m m1 q q1 s layout
   list_fits m1 q1 s = subst (Fits h fronts m m1 q q1 s) is
-      (λ out. let oldest = out.oldest g.queue (as_queue laws h m q fronts g) in record {
-        few = front_class_few laws h m q fronts g m1 s oldest out.link;
-        listed = class_in_fronts laws h m q fronts g m1 s oldest out.link;
-        front = front_fits laws h m q fronts g _ (class_within laws h m q fronts g m1 s oldest out.link);
+      (λ out. let oldest = out.oldest g.queue (as_queue h m q fronts g) in record {
+        few = front_class_few h m q fronts g m1 s oldest out.link;
+        listed = class_in_fronts h m q fronts g m1 s oldest out.link;
+        front = front_fits h m q fronts g _ (class_within h m q fronts g m1 s oldest out.link);
       })
 
   pub step_at : (m1 m2 : List Granule) (q1 : Queue) (s : ℕ) → Steps h fronts m m1 m2 q q1 s layout
   step_at m1 m2 q1 s = subst (Steps h fronts m m1 m2 q q1 s) is
       (λ out listed memory.
-      let_go_step laws h m q fronts g m1 s (out.oldest g.queue (as_queue laws h m q fronts g)) out.link m2 q1 out.over out.front out.limit g.memory_is out.queued listed memory)
+      let_go_step h m q fronts g m1 s (out.oldest g.queue (as_queue h m q fronts g)) out.link m2 q1 out.over out.front out.limit g.memory_is out.queued listed memory)

@@ -1,3 +1,4 @@
+pub mod Below
 pub mod Accepted
 pub mod BytesInParts
 pub mod HeaderPlaces

@@ -10,7 +10,7 @@ use Rattle.heap_theory.specs.Header.Standing.{Live as IsLive, Quarantined, Freed
 use Rattle.heap_theory.specs.Sound.{IsSoundHeap}
 use Rattle.heap_theory.specs.State.{State, Heap, slot_in, state_at, last_tag, payload_place, IsSlot}
 use Rattle.heap_theory.specs.State.State.{Fresh, Live, Dead}
-use Rattle.tagged_heap.specs.Below.{LawsBelow}
+use Rattle.tagged_heap.proofs.Below as laws
 
 -- what the search by layout answers
 abbrev pub Names : Heap → ℕ → Option ℕ → Type 0
@@ -18,21 +18,21 @@ Names h p found =
     MatchOption found ((s : ℕ) → IsSlot h s → p < 2 ^ 60 → place_of p ≡ payload_place (slot_in h s) → ⊥)
     (λ s. IsSlot h s × (p < 2 ^ 60) × (place_of p ≡ payload_place (slot_in h s)))
 
-pub named_is : LawsBelow → (h : Heap) (p : ℕ) (found : Option ℕ) → IsSoundHeap h → Names h p found → slot_of_pointer h p ≡ found
-named_is laws h p (Some s) sound names = (laws.pointer h p s sound).1 names
-named_is laws h p None sound names = by (slot_of_pointer h p) refl
+pub named_is : (h : Heap) (p : ℕ) (found : Option ℕ) → IsSoundHeap h → Names h p found → slot_of_pointer h p ≡ found
+named_is h p (Some s) sound names = (laws.pointer h p s sound).1 names
+named_is h p None sound names = by (slot_of_pointer h p) refl
   where
     by : (found : Option ℕ) → slot_of_pointer h p ≡ found → slot_of_pointer h p ≡ None
     by None is = is
     by (Some s) is = let own = (laws.pointer h p s sound).0 is in absurd (names s own.0 own.1 own.2)
 
-pub chunk_misplaced : LawsBelow → (h : Heap) (p : ℕ) (found : Option ℕ) → IsSoundHeap h → Names h p found → found ≡ None → chunk_at h p ≡ Err Misplaced
+pub chunk_misplaced : (h : Heap) (p : ℕ) (found : Option ℕ) → IsSoundHeap h → Names h p found → found ≡ None → chunk_at h p ≡ Err Misplaced
 unfolding chunk_at
-chunk_misplaced laws h p found sound names none = ap (chunk_in_slot h p) (named_is laws h p found sound names ∙ none)
+chunk_misplaced h p found sound names none = ap (chunk_in_slot h p) (named_is h p found sound names ∙ none)
 
-chunk_slot : LawsBelow → (h : Heap) (p s : ℕ) (found : Option ℕ) → IsSoundHeap h → Names h p found → found ≡ Some s → chunk_at h p ≡ chunk_in p s (state_at h s)
+chunk_slot : (h : Heap) (p s : ℕ) (found : Option ℕ) → IsSoundHeap h → Names h p found → found ≡ Some s → chunk_at h p ≡ chunk_in p s (state_at h s)
 unfolding chunk_at
-chunk_slot laws h p s found sound names is = ap (chunk_in_slot h p) (named_is laws h p found sound names ∙ is)
+chunk_slot h p s found sound names is = ap (chunk_in_slot h p) (named_is h p found sound names ∙ is)
 
 -- the state of a slot whose header says that it is live
 live_state : (h : Heap) (s : ℕ) (x : State) (next : ℕ) → standing_in h x ≡ IsLive → x ≡ Live (size_of x) (last_tag x)
@@ -64,10 +64,10 @@ tag_of_header h s next = refl
 pub named_slot : (h : Heap) (p s : ℕ) (found : Option ℕ) → Names h p found → found ≡ Some s → IsSlot h s
 named_slot h p s found names is = (subst (Names h p) is names).0
 
-module _ (laws : LawsBelow) (h : Heap) (p s : ℕ) (found : Option ℕ) (header : Header) (next : ℕ) (sound : IsSoundHeap h) (names : Names h p found) (is : found ≡ Some s) (shows : header ≡ header_for h s next) where
+module _ (h : Heap) (p s : ℕ) (found : Option ℕ) (header : Header) (next : ℕ) (sound : IsSoundHeap h) (names : Names h p found) (is : found ≡ Some s) (shows : header ≡ header_for h s next) where
   pub chunk_not_live : header.standing ≢ IsLive → chunk_at h p ≡ Err NotLive
   chunk_not_live not =
-      chunk_slot laws h p s found sound names is
+      chunk_slot h p s found sound names is
       ∙ not_live h p s (state_at h s) (λ live. not (ap (λ (x : Header). x.standing) shows ∙ standing_is h s next ∙ live))
 
   live : header.standing ≡ IsLive → state_at h s ≡ Live header.size header.tag
@@ -77,8 +77,8 @@ module _ (laws : LawsBelow) (h : Heap) (p s : ℕ) (found : Option ℕ) (header 
 
   pub chunk_wrong_tag : header.standing ≡ IsLive → logical_tag p ≢ header.tag → chunk_at h p ≡ Err WrongTag
   chunk_wrong_tag standing differs =
-      chunk_slot laws h p s found sound names is ∙ ap (chunk_in p s) (live standing) ∙ cond-false (logical_tag p == header.tag) _ (Err WrongTag) (ne_eqb _ _ differs)
+      chunk_slot h p s found sound names is ∙ ap (chunk_in p s) (live standing) ∙ cond-false (logical_tag p == header.tag) _ (Err WrongTag) (ne_eqb _ _ differs)
 
   pub chunk_live : header.standing ≡ IsLive → logical_tag p ≡ header.tag → chunk_at h p ≡ Ok (record { slot = s; size = header.size })
   chunk_live standing same =
-      chunk_slot laws h p s found sound names is ∙ ap (chunk_in p s) (live standing) ∙ cond-true (logical_tag p == header.tag) (Ok (record { slot = s; size = header.size })) _ (eq-eqb _ _ same)
+      chunk_slot h p s found sound names is ∙ ap (chunk_in p s) (live standing) ∙ cond-true (logical_tag p == header.tag) (Ok (record { slot = s; size = header.size })) _ (eq-eqb _ _ same)

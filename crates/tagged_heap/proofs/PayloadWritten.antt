@@ -18,7 +18,7 @@ use Rattle.heap_theory.specs.Header.{Header, header_for, size_of, class_number}
 use Rattle.heap_theory.specs.Links.{next_in}
 use Rattle.heap_theory.specs.State.{Heap, slot_in, state_at, last_tag, payload_start, is_header, without_headers}
 use Rattle.quarantine_core.specs.Queue.{Queue}
-use Rattle.tagged_heap.specs.Below.{LawsBelow}
+use Rattle.tagged_heap.proofs.Below as laws
 use Rattle.tagged_heap.specs.Inside.{state_of, seen, IsHeld}
 use Rattle.tagged_heap.specs.Keeping.{header_in, IsKeptBy}
 use Rattle.tagged_heap.specs.View.{Counted, shown_heap, IsHeldIn}
@@ -26,7 +26,8 @@ use Rattle.tagged_heap.specs.declared.heap.Heap.TheInside.{Inside}
 use Rattle.tagged_heap.proofs.BytesInParts.{map_same}
 use Rattle.tagged_heap.proofs.Changed.{linked_same, queue_slot, list_slot}
 use Rattle.tagged_heap.proofs.Firsts.{firsts_stay}
-use Rattle.tagged_heap.proofs.HeaderPlaces.{start_is_header, length-without_headers}
+use Rattle.heap_theory.proofs.SeenMemory.{length-without_headers}
+use Rattle.tagged_heap.proofs.HeaderPlaces.{start_is_header}
 use Rattle.tagged_heap.proofs.Opened.{region_of, ends_within}
 use Rattle.tagged_heap.proofs.Shown.{shown_is}
 use Rattle.tagged_heap.proofs.Slots.{same_standing}
@@ -54,7 +55,7 @@ KeepsHeaders layout old new = (s : ℕ) → s < slot_count layout → header_in 
 
 -- ---- a heap stays kept
 
-module _ (laws : LawsBelow) (h : Heap) (frees : ℕ) (m : List Granule) (q : Queue) (fronts firsts : List ℕ) (held : IsHeldIn h frees m q fronts firsts) (i : ℕ) (bytes : List ℕ)
+module _ (h : Heap) (frees : ℕ) (m : List Granule) (q : Queue) (fronts firsts : List ℕ) (held : IsHeldIn h frees m q fronts firsts) (i : ℕ) (bytes : List ℕ)
     (same : KeepsHeaders h.layout m (written i bytes m)) where
   next_same : (s : ℕ) → s < slot_count h.layout → next_in h.layout (written i bytes m) s ≡ next_in h.layout m s
   next_same s within = ap (λ (x : Header). x.next) (same s within)
@@ -69,7 +70,7 @@ module _ (laws : LawsBelow) (h : Heap) (frees : ℕ) (m : List Granule) (q : Que
           ∙ ap (header_for (remembered h (written i bytes h.memory)) s) (sym (next_same s within));
       unlinked = λ s within alive. next_same s within ∙ held.kept.headers.unlinked s within alive;
     };
-    linked = linked_same laws (next_in h.layout m) (next_in h.layout (written i bytes m)) q.front fronts held.queue held.lists held.kept.linked
+    linked = linked_same (next_in h.layout m) (next_in h.layout (written i bytes m)) q.front fronts held.queue held.lists held.kept.linked
         (λ s there. next_same s (queue_slot held.kept.booked s there).in_range)
         (λ number s within there. next_same s (list_slot held.kept.booked number s within there).in_range);
     booked = laws.memory_not_booked h (written i bytes h.memory) held.queue held.lists held.kept.booked;
@@ -91,7 +92,7 @@ module _ (laws : LawsBelow) (h : Heap) (frees : ℕ) (m : List Granule) (q : Que
 
 -- ---- what stands in a heap
 
-module _ (laws : LawsBelow) (inside : Inside) (held : IsHeld inside) (new : List Granule) (i : ℕ) (bytes : List ℕ) (is : new ≡ written i bytes inside.machine.memory)
+module _ (inside : Inside) (held : IsHeld inside) (new : List Granule) (i : ℕ) (bytes : List ℕ) (is : new ≡ written i bytes inside.machine.memory)
     (same : KeepsHeaders inside.layout inside.machine.memory (written i bytes inside.machine.memory)) where
   abbrev shown : List Granule → Heap
   shown memory = shown_heap inside.layout inside.quarantine.limit memory inside.total inside.machine.seed inside.machine.tag
@@ -99,8 +100,8 @@ module _ (laws : LawsBelow) (inside : Inside) (held : IsHeld inside) (new : List
   shown_written : shown (written i bytes inside.machine.memory) ≡ remembered (state_of inside) (written i bytes (state_of inside).memory)
   unfolding shown_heap
   shown_written =
-      shown_is laws (remembered (state_of inside) (written i bytes (state_of inside).memory)) (written i bytes inside.machine.memory) inside.quarantine.front inside.lists held.queue held.lists
-      (kept_written laws (state_of inside) inside.frees inside.machine.memory inside.quarantine inside.lists inside.firsts.items held i bytes same)
+      shown_is (remembered (state_of inside) (written i bytes (state_of inside).memory)) (written i bytes inside.machine.memory) inside.quarantine.front inside.lists held.queue held.lists
+      (kept_written (state_of inside) inside.frees inside.machine.memory inside.quarantine inside.lists inside.firsts.items held i bytes same)
 
   pub shown_after : shown_heap inside.layout inside.quarantine.limit new inside.total inside.machine.seed inside.machine.tag
       ≡ remembered (state_of inside) (written i bytes (state_of inside).memory)
@@ -112,7 +113,7 @@ module _ (laws : LawsBelow) (inside : Inside) (held : IsHeld inside) (new : List
   held_after fit =
       subst (λ memory. IsHeldIn (shown memory) inside.frees memory inside.quarantine inside.lists inside.firsts.items) (sym is)
       (subst (λ h. IsHeldIn h inside.frees (written i bytes inside.machine.memory) inside.quarantine inside.lists inside.firsts.items) (sym shown_written)
-      (held_written laws (state_of inside) inside.frees inside.machine.memory inside.quarantine inside.lists inside.firsts.items held i bytes same
+      (held_written (state_of inside) inside.frees inside.machine.memory inside.quarantine inside.lists inside.firsts.items held i bytes same
       (laws.memory_written i bytes inside.machine.memory fit held.memory_is)))
 
 -- ---- what a slot has room for
@@ -122,9 +123,9 @@ unfolding shown_heap
 room_inside inside v s bytes view room = subst (λ (v : Counted). bytes + 16 ≤ 16 * (slot_in v.state s).class) (sym view) room
 
 -- the end of so many bytes from a slot's payload on
-pub payload_within : LawsBelow → (inside : Inside) (s bytes : ℕ) → IsHeld inside → s < slot_count inside.layout → bytes + 16 ≤ 16 * (slot_of inside.layout s).class →
+pub payload_within : (inside : Inside) (s bytes : ℕ) → IsHeld inside → s < slot_count inside.layout → bytes + 16 ≤ 16 * (slot_of inside.layout s).class →
     16 * payload_start (slot_of inside.layout s) + bytes ≤ 16 * length inside.machine.memory
-payload_within laws inside s bytes held within room = omega (arith, ends_within inside s held within, region_of laws inside held)
+payload_within inside s bytes held within room = omega (arith, ends_within inside s held within, region_of inside held)
 
 pub few_granules : (inside : Inside) → IsHeld inside → inside.layout.granules ≤ 262144
 unfolding shown_heap
@@ -136,9 +137,9 @@ in_order inside held = held.kept.sound.slots
 
 -- ---- which bytes are outside all headers: those of a slot's payload
 
-pub payload_spared : LawsBelow → (layout : Partition) (m : List Granule) (s : ℕ) (bytes : List ℕ) → AreInOrder layout → s < slot_count layout →
+pub payload_spared : (layout : Partition) (m : List Granule) (s : ℕ) (bytes : List ℕ) → AreInOrder layout → s < slot_count layout →
     length bytes + 16 ≤ 16 * (slot_of layout s).class → KeepsHeaders layout m (written (16 * payload_start (slot_of layout s)) bytes m)
-payload_spared laws layout m s bytes order in_s room r in_r =
+payload_spared layout m s bytes order in_s room r in_r =
     laws.bytes_keep_headers (16 * payload_start (slot_of layout s)) (slot_of layout r).start bytes m (elim (cases_lt r s) [
       | inl less ↦ inr (omega (arith, order.apart r s less in_s))
       | inr more ↦ elim (cases_eq r s) [
@@ -184,10 +185,10 @@ touch : (g place len base : ℕ) → base ≤ place → 1 ≤ len → 16 * g < p
     (k : ℕ) × (k < len) × (base + 16 * g ≤ place + k) × (place + k < base + 16 * g + 16)
 touch g place len base from some less more = (16 * g - (place - base), omega arith, omega arith, omega arith)
 
-pub access_spared : LawsBelow → (inside : Inside) → IsHeld inside → (address : ℕ) (bytes : List ℕ) → 1 ≤ length bytes → logical_tag address ≢ 0 →
+pub access_spared : (inside : Inside) → IsHeld inside → (address : ℕ) (bytes : List ℕ) → 1 ≤ length bytes → logical_tag address ≢ 0 →
     access_fault inside.machine.memory address (length bytes) ≡ None → KeepsHeaders inside.layout inside.machine.memory (stored inside.machine.memory address bytes)
 unfolding shown_heap
-access_spared laws inside held address bytes some tagged none r in_r =
+access_spared inside held address bytes some tagged none r in_r =
     laws.bytes_keep_headers (byte_of (place_of address)) (slot_of inside.layout r).start bytes inside.machine.memory outside
   where
     from : region_start ≤ place_of address
@@ -207,22 +208,22 @@ access_spared laws inside held address bytes some tagged none r in_r =
     outside = elim (cases_lt (16 * (slot_of inside.layout r).start) (byte_of (place_of address) + length bytes)) [
       | inr before ↦ inl before
       | inl less ↦ elim (cases_lt (byte_of (place_of address)) (16 * (slot_of inside.layout r).start + 16)) [
-        | inr behind ↦ inr behind
+        | inr after ↦ inr after
         | inl more ↦
             let k = touch (slot_of inside.layout r).start (place_of address) (length bytes) region_start from some less more in
             absurd (untouched (k.0, k.1, record { from = k.2; to = k.3 }))
       ]
     ]
 
-pub tagged_access : LawsBelow → (inside : Inside) (v : Counted) (address len : ℕ) → seen inside ≡ v →
+pub tagged_access : (inside : Inside) (v : Counted) (address len : ℕ) → seen inside ≡ v →
     (logical_tag address ≢ 0) ⊎ (is_mapped (length v.state.memory) address len ≡ false) → access_fault inside.machine.memory address len ≡ None → logical_tag address ≢ 0
 unfolding shown_heap
-tagged_access laws inside v address len view either none =
+tagged_access inside v address len view either none =
     elim (subst (λ (v : Counted). (logical_tag address ≢ 0) ⊎ (is_mapped (length v.state.memory) address len ≡ false)) (sym view) either) [
       | inl tagged ↦ tagged
       | inr not ↦
           let yes = mapped_of inside.machine.memory address len none in
-          let no = ap (λ n. is_mapped n address len) (sym (length-without_headers laws inside.layout inside.machine.memory)) ∙ not in
+          let no = ap (λ n. is_mapped n address len) (sym (length-without_headers inside.layout inside.machine.memory)) ∙ not in
           absurd (false-true (sym no ∙ yes))
     ]
   where
@@ -258,10 +259,10 @@ not_header layout s g order in_s from to = elim (cases_Bool (is_header layout g)
   | inr not ↦ not
 ]
 
-pub payload_seen : LawsBelow → (layout : Partition) (m : List Granule) (s n : ℕ) → AreInOrder layout → s < slot_count layout → n + 16 ≤ 16 * (slot_of layout s).class →
+pub payload_seen : (layout : Partition) (m : List Granule) (s n : ℕ) → AreInOrder layout → s < slot_count layout → n + 16 ≤ 16 * (slot_of layout s).class →
     bytes_at (without_headers layout m) (16 * payload_start (slot_of layout s)) n ≡ bytes_at m (16 * payload_start (slot_of layout s)) n
 unfolding bytes_at
-payload_seen laws layout m s n order in_s room =
+payload_seen layout m s n order in_s room =
     map_same (byte_at (without_headers layout m)) (byte_at m) (16 * payload_start (slot_of layout s)) n
     (λ j from to.
     ap (λ (granule : Granule). slice_index granule.bytes (j % 16))

@@ -3,9 +3,9 @@ use Rattle.std.proofs.Common.{◌≡◌, ℕ, ◌+◌, ◌-◌, ◌/◌, ◌%◌
 use Rattle.machine_theory.specs.Address.{region_start}
 use Rattle.class_table.specs.Layout.{Partition, IsPartition, slot_count, slot_of, slot_over}
 use Rattle.heap_theory.specs.State.{payload_place}
-use Rattle.tagged_heap.specs.Below.{LawsBelow}
+use Rattle.tagged_heap.proofs.Below as laws
 
-module _ (laws : LawsBelow) (layout : Partition) (is : IsPartition layout) where
+module _ (layout : Partition) (is : IsPartition layout) where
   -- the granule of a place at which a slot's payload begins
   pub payload_granule : (s place : ℕ) → s < slot_count layout → place ≡ payload_place (slot_of layout s) → (place - region_start) / 16 ≡ (slot_of layout s).start + 1
   payload_granule s place within at = omega (arith, at)

@@ -14,10 +14,12 @@ use Rattle.heap_theory.specs.Header.Standing.{Freed, Quarantined}
 use Rattle.heap_theory.specs.Links.{IsLinked, next_in, list_of}
 use Rattle.heap_theory.specs.State.{State, Heap, slot_in, state_at, last_tag, without_headers, IsSlot}
 use Rattle.heap_theory.specs.State.State.{Fresh, Live, Dead}
-use Rattle.tagged_heap.specs.Below.{LawsBelow}
+use Rattle.tagged_heap.proofs.Below as laws
 use Rattle.tagged_heap.specs.Keeping.{header_in, IsKeptBy, IsReleasing}
 use Rattle.tagged_heap.proofs.Changed.{queue_slot, list_slot}
-use Rattle.tagged_heap.proofs.Slots.{IsDeadSlot, dead_of, in_chain, in_list, one_mark, dead_with_mark, Contains-head, Contains-behind, Contains-cases}
+use Rattle.heap_theory.proofs.Found.{Contains-cases, Contains-head, Contains-tail}
+use Rattle.heap_theory.proofs.Marks.{dead_with_mark, one_mark}
+use Rattle.tagged_heap.proofs.Slots.{IsDeadSlot, dead_of, in_chain, in_list}
 
 -- ---- how slots stand
 
@@ -83,9 +85,9 @@ next_of_quarantined h s next = refl
 
 -- ---- at the end, all of the quarantine is held
 
-pub kept_at_last : LawsBelow → (h : Heap) (m : List Granule) (front : ℕ) (fronts queue : List ℕ) (lists : List (List ℕ)) → IsReleasing h m front fronts queue lists →
+pub kept_at_last : (h : Heap) (m : List Granule) (front : ℕ) (fronts queue : List ℕ) (lists : List (List ℕ)) → IsReleasing h m front fronts queue lists →
     bytes_in h queue ≤ h.quarantine → IsKeptBy h m front fronts queue lists
-kept_at_last laws h m front fronts queue lists r held = record {
+kept_at_last h m front fronts queue lists r held = record {
   sound = r.sound;
   seen = r.seen;
   headers = record { headers = header; unlinked = r.headers.unlinked };
@@ -119,14 +121,14 @@ kept_at_last laws h m front fronts queue lists r held = record {
 
 -- ---- the oldest slot of the quarantine is released
 
-pub released_step : LawsBelow → (h : Heap) (m new : List Granule) (front s number : ℕ) (fronts queue : List ℕ) (lists : List (List ℕ)) →
+pub released_step : (h : Heap) (m new : List Granule) (front s number : ℕ) (fronts queue : List ℕ) (lists : List (List ℕ)) →
     IsReleasing h m front fronts (s ∷ queue) lists → slice_get h.layout.classes number ≡ Some (slot_in h s).class → number < length lists →
     h.quarantine < bytes_in h (s ∷ queue) →
     header_in h.layout new s ≡ with_link (record (header_in h.layout m s) { standing = Freed }) (slice_index fronts number) →
     ((r : ℕ) → IsSlot h r → r ≢ s → header_in h.layout new r ≡ header_in h.layout m r) →
     without_headers h.layout new ≡ h.memory →
     IsReleasing h new (next_in h.layout m s) (slice_set fronts number (suc s)) queue (slice_set lists number (s ∷ list_of lists number))
-released_step laws h m new front s number fronts queue lists r numbered within over own others seen = record {
+released_step h m new front s number fronts queue lists r numbered within over own others seen = record {
   sound = r.sound;
   seen = seen;
   headers = record { queued = queued; others = elsewhere; unlinked = unlinked };
@@ -190,7 +192,7 @@ released_step laws h m new front s number fronts queue lists r numbered within o
     queued : (q : ℕ) → IsSlot h q → Contains queue q → header_in h.layout new q ≡ as_quarantined (header_for h q (next_in h.layout new q))
     queued q inside there =
         let other = rest_differs q there in
-        others q inside other ∙ r.headers.queued q inside (Contains-behind s queue q there)
+        others q inside other ∙ r.headers.queued q inside (Contains-tail s queue q there)
         ∙ ap (λ n. as_quarantined (header_for h q n)) (sym (next_there q inside other))
 
     elsewhere : (q : ℕ) → IsSlot h q → (Contains queue q → ⊥) → header_in h.layout new q ≡ header_for h q (next_in h.layout new q)
@@ -198,7 +200,7 @@ released_step laws h m new front s number fronts queue lists r numbered within o
       | inl is ↦ subst (λ p. header_in h.layout new p ≡ header_for h p (next_in h.layout new p)) (sym is) here
       | inr other ↦
           others q inside other
-          ∙ r.headers.others q inside (λ there. elim (Contains-cases s queue q there) [ inl is ↦ other (sym is) | inr behind ↦ out behind ])
+          ∙ r.headers.others q inside (λ there. elim (Contains-cases s queue q there) [ inl is ↦ other (sym is) | inr tail ↦ out tail ])
           ∙ ap (header_for h q) (sym (next_there q inside other))
     ]
 
@@ -231,9 +233,9 @@ released_step laws h m new front s number fronts queue lists r numbered within o
               (subst (IsLinked (next_in h.layout new) (slice_index fronts n)) (sym (get_or-set_other lists number n (s ∷ list_of lists number) [] other)) (old_list n inside'))
         ]
 
--- ---- a live slot is freed, and goes behind the quarantine
+-- ---- a live slot is freed, and goes after the quarantine
 
-pub queued_step : LawsBelow → (h : Heap) (m new : List Granule) (front front' s n tag : ℕ) (fronts queue : List ℕ) (lists : List (List ℕ)) →
+pub queued_step : (h : Heap) (m new : List Granule) (front front' s n tag : ℕ) (fronts queue : List ℕ) (lists : List (List ℕ)) →
     IsKeptBy h m front fronts queue lists → IsSlot h s → state_at h s ≡ Live n tag →
     header_in h.layout new s ≡ as_quarantined (header_for (freed h s n) s 0) →
     ((r : ℕ) → IsSlot h r → r ≢ s → header_in h.layout new r ≡ with_link (header_in h.layout m r) (next_in h.layout new r)) →
@@ -242,7 +244,7 @@ pub queued_step : LawsBelow → (h : Heap) (m new : List Granule) (front front' 
     IsLinked (next_in h.layout new) front' (queue ++ s ∷ []) →
     IsReleasing (freed h s n) new front' fronts (queue ++ s ∷ []) lists
 unfolding freed header_for
-queued_step laws h m new front front' s n tag fronts queue lists kept in_range live own others links seen linked = record {
+queued_step h m new front front' s n tag fronts queue lists kept in_range live own others links seen linked = record {
   sound = laws.freed_sound h s n tag kept.sound in_range live;
   seen = seen;
   headers = record { queued = queued; others = elsewhere; unlinked = unlinked };

@@ -11,7 +11,6 @@ use Rattle.heap_theory.specs.State.{state_at, chunk_granules, payload_start, IsS
 use Rattle.heap_theory.specs.State.State.{Live}
 use Rattle.chunk_header.specs.Links.{SetsLink}
 use Rattle.quarantine_core.specs.Queue.{Queue, AreQueued, IsOutside, LinksStand, with_newest}
-use Rattle.tagged_heap.specs.Below.{LawsBelow}
 use Rattle.tagged_heap.specs.Chunks.{HasRoom, retired_header, tag_for}
 use Rattle.tagged_heap.specs.Inside.{state_of, seen, IsHeld}
 use Rattle.tagged_heap.specs.Keeping.{header_in, IsRewritten}
@@ -32,7 +31,7 @@ IsRetiredBy i s machine =
       tag = tag_for i.layout i.machine s;
     }
 
-module _ (laws : LawsBelow) (i : Inside) (v : Counted) (view : seen i ≡ v) (held : IsHeld i) (s n tag : ℕ) (in_range : IsSlot v.state s) (live : state_at v.state s ≡ Live n tag) where
+module _ (i : Inside) (v : Counted) (view : seen i ≡ v) (held : IsHeld i) (s n tag : ℕ) (in_range : IsSlot v.state s) (live : state_at v.state s ≡ Live n tag) where
   own_range : IsSlot (state_of i) s
   own_range = subst (λ h. IsSlot h s) (sym (state_seen i v view)) in_range
 
@@ -41,7 +40,7 @@ module _ (laws : LawsBelow) (i : Inside) (v : Counted) (view : seen i ≡ v) (he
 
   pub room_for : HasRoom i.layout i.machine.memory s (header_in i.layout i.machine.memory s).size
   unfolding shown_heap
-  room_for = live_has_room laws (state_of i) i.frees i.machine.memory i.quarantine i.lists i.firsts.items held s n tag own_range own_live
+  room_for = live_has_room (state_of i) i.frees i.machine.memory i.quarantine i.lists i.firsts.items held s n tag own_range own_live
 
   module _ (v_few : v.frees < 2 ^ 48) (machine : Machine) (retired : IsRetiredBy i s machine) (memory : IsMemory machine.memory) where
     few : i.frees < 2 ^ 48
@@ -55,38 +54,38 @@ module _ (laws : LawsBelow) (i : Inside) (v : Counted) (view : seen i ≡ v) (he
           (tagged (payload_start (slot_of i.layout s)) (chunk_granules n) (next_tag (state_of i) s) (state_of i).memory)
       unfolding shown_heap
       rewritten =
-          retired_memory laws (state_of i) i.frees i.machine.memory i.quarantine i.lists i.firsts.items held s n tag own_range own_live few lent (tag_for i.layout i.machine s)
-          (drawn_is laws (state_of i) i.frees i.machine.memory i.quarantine i.lists i.firsts.items held s n tag own_range own_live)
+          retired_memory (state_of i) i.frees i.machine.memory i.quarantine i.lists i.firsts.items held s n tag own_range own_live few lent (tag_for i.layout i.machine s)
+          (drawn_is (state_of i) i.frees i.machine.memory i.quarantine i.lists i.firsts.items held s n tag own_range own_live)
           (lent_is ∙ ap (λ (x : Machine). x.memory) retired)
 
       pub lent_region : length lent ≡ i.layout.granules
       unfolding shown_heap
-      lent_region = retired_long laws (state_of i) i.frees i.machine.memory i.quarantine i.lists i.firsts.items held s n tag own_range own_live few lent rewritten lent_memory
+      lent_region = retired_long (state_of i) i.frees i.machine.memory i.quarantine i.lists i.firsts.items held s n tag own_range own_live few lent rewritten lent_memory
 
       pub lent_linked : LinksStand i.quarantine i.layout lent
       unfolding shown_heap
-      lent_linked = (held.queue, queued_before laws (state_of i) i.frees i.machine.memory i.quarantine i.lists i.firsts.items held s n tag own_range own_live few lent rewritten lent_memory)
+      lent_linked = (held.queue, queued_before (state_of i) i.frees i.machine.memory i.quarantine i.lists i.firsts.items held s n tag own_range own_live few lent rewritten lent_memory)
 
       pub lent_outside : IsOutside i.quarantine i.layout lent s
       unfolding shown_heap
-      lent_outside = outside laws (state_of i) i.frees i.machine.memory i.quarantine i.lists i.firsts.items held s n tag own_range own_live few lent rewritten lent_memory
+      lent_outside = outside (state_of i) i.frees i.machine.memory i.quarantine i.lists i.firsts.items held s n tag own_range own_live few lent rewritten lent_memory
 
       pub lent_unlinked : next_in i.layout lent s ≡ 0
       unfolding shown_heap
-      lent_unlinked = own_unlinked laws (state_of i) i.frees i.machine.memory i.quarantine i.lists i.firsts.items held s n tag own_range own_live few lent rewritten lent_memory
+      lent_unlinked = own_unlinked (state_of i) i.frees i.machine.memory i.quarantine i.lists i.firsts.items held s n tag own_range own_live few lent rewritten lent_memory
 
       pub put_letting_go : (m2 : List Granule) (q2 : Queue) (bytes : ℕ) →
           ((queue : List ℕ) → AreQueued i.quarantine i.layout lent queue → AreQueued q2 i.layout m2 (queue ++ s ∷ [])) → q2 ≡ with_newest i.quarantine s bytes → (i.quarantine.back ≡ 0 → m2 ≡ lent) →
           ((last : ℕ) → i.quarantine.back ≡ suc last → SetsLink i.layout lent m2 last (suc s)) → IsLettingGo (freed (state_of i) s n) m2 q2 i.lists
       unfolding shown_heap
-      put_letting_go m2 q2 bytes queued value first behind =
-          letting_go laws (state_of i) i.frees i.machine.memory i.quarantine i.lists i.firsts.items held s n tag own_range own_live few lent rewritten lent_memory m2 q2 bytes
-          (queued held.queue (queued_before laws (state_of i) i.frees i.machine.memory i.quarantine i.lists i.firsts.items held s n tag own_range own_live few lent rewritten lent_memory))
-          value first behind
+      put_letting_go m2 q2 bytes queued value first earlier =
+          letting_go (state_of i) i.frees i.machine.memory i.quarantine i.lists i.firsts.items held s n tag own_range own_live few lent rewritten lent_memory m2 q2 bytes
+          (queued held.queue (queued_before (state_of i) i.frees i.machine.memory i.quarantine i.lists i.firsts.items held s n tag own_range own_live few lent rewritten lent_memory))
+          value first earlier
 
     module _ (m3 : List Granule) (q3 : Queue) (fronts : List ℕ) (g : IsLettingGo (freed (state_of i) s n) m3 q3 fronts) (let_go : q3.held ≤ q3.limit) where
       pub retired_held : IsHeldIn (freed (state_of i) s n) (i.frees + 1) m3 q3 fronts i.firsts.items
-      retired_held = freed_held laws (state_of i) i.frees i.machine.memory i.quarantine i.lists i.firsts.items held s n tag own_range own_live few m3 q3 fronts g let_go
+      retired_held = freed_held (state_of i) i.frees i.machine.memory i.quarantine i.lists i.firsts.items held s n tag own_range own_live few m3 q3 fronts g let_go
 
       pub retired_shown : shown_heap i.layout q3.limit m3 (i.total + block_bytes (slot_of i.layout s)) machine.seed machine.tag ≡ freed (state_of i) s n
       unfolding shown_heap freed
@@ -94,6 +93,6 @@ module _ (laws : LawsBelow) (i : Inside) (v : Counted) (view : seen i ≡ v) (he
           let after = retired_held in
           let seed : machine.seed ≡ next_seed i.machine.seed = ap (λ (x : Machine). x.seed) retired in
           let drawn : machine.tag ≡ next_tag (state_of i) s =
-          ap (λ (x : Machine). x.tag) retired ∙ drawn_is laws (state_of i) i.frees i.machine.memory i.quarantine i.lists i.firsts.items held s n tag own_range own_live in
+          ap (λ (x : Machine). x.tag) retired ∙ drawn_is (state_of i) i.frees i.machine.memory i.quarantine i.lists i.firsts.items held s n tag own_range own_live in
           (λ k. shown_heap i.layout (after.limit k) m3 (i.total + block_bytes (slot_of i.layout s)) (seed k) (drawn k))
-          ∙ shown_is laws (freed (state_of i) s n) m3 q3.front fronts after.queue after.lists after.kept
+          ∙ shown_is (freed (state_of i) s n) m3 q3.front fronts after.queue after.lists after.kept

@@ -6,7 +6,7 @@ use Rattle.std.proofs.lemmas.List.Kept.{AllPairs-from_increasing}
 use Rattle.std.proofs.lemmas.List.Sums.{sum_by_more}
 use Rattle.class_table.specs.Layout.{Partition, Slot, share_of, slot_of, slot_count, first_slot}
 use Rattle.class_table.specs.Tables.{IsLegalTable}
-use Rattle.tagged_heap.specs.Below.{LawsBelow}
+use Rattle.tagged_heap.proofs.Below as laws
 
 pub first_slot-suc : (region : Partition) (number : ℕ) → number < length region.classes →
     first_slot region (number + 1) ≡ first_slot region number + share_of region / slice_index region.classes number
@@ -28,9 +28,9 @@ first_slot-le region number other le within =
     subst (λ n. first_slot region number ≤ first_slot region n) is (first_slot-more region number (other - number) (omega arith))
 
 -- the slots from a class's first one on are the class's
-pub in_share : LawsBelow → (region : Partition) (number s : ℕ) → number < length region.classes → first_slot region number ≤ s → s < first_slot region (number + 1) →
+pub in_share : (region : Partition) (number s : ℕ) → number < length region.classes → first_slot region number ≤ s → s < first_slot region (number + 1) →
     (s < slot_count region) × ((slot_of region s).class ≡ slice_index region.classes number)
-in_share laws region number s within from to =
+in_share region number s within from to =
     let step = first_slot-suc region number within in
     let all : first_slot region (number + 1) ≤ first_slot region (length region.classes) = first_slot-le region (number + 1) (length region.classes) (omega arith) (omega arith) in
     let is : first_slot region number + (s - first_slot region number) ≡ s = omega arith in
@@ -58,10 +58,10 @@ one_class classes a b legal in_a in_b same = elim (cases_lt a b) [
   ]
 ]
 
-pub share_of_slot : LawsBelow → (region : Partition) (number s : ℕ) → IsLegalTable 1 region.classes → number < length region.classes → s < slot_count region →
+pub share_of_slot : (region : Partition) (number s : ℕ) → IsLegalTable 1 region.classes → number < length region.classes → s < slot_count region →
     (slot_of region s).class ≡ slice_index region.classes number → (first_slot region number ≤ s) × (s < first_slot region (number + 1))
-share_of_slot laws region number s legal within in_range class =
+share_of_slot region number s legal within in_range class =
     let j = share_below region s (length region.classes) (omega arith) (omega (arith, laws.all_slots region)) in
-    let own = in_share laws region j.0 s j.1 j.2 j.3 in
+    let own = in_share region j.0 s j.1 j.2 j.3 in
     let same : j.0 ≡ number = one_class region.classes j.0 number legal j.1 within (sym own.1 ∙ class) in
     subst (λ n. (first_slot region n ≤ s) × (s < first_slot region (n + 1))) same (j.2, j.3)

@@ -17,22 +17,23 @@ use Rattle.heap_theory.specs.State.{Heap, slot_in, state_at, is_fresh, last_tag,
 use Rattle.heap_theory.specs.State.State.{Fresh, Live, Dead}
 use Rattle.chunk_header.specs.Links.{SetsLink}
 use Rattle.quarantine_core.specs.Queue.{Queue, AreQueued, IsOutside, with_newest}
-use Rattle.tagged_heap.specs.Below.{LawsBelow}
+use Rattle.tagged_heap.proofs.Below as laws
 use Rattle.tagged_heap.specs.Chunks.{HasRoom, retired_header, tag_for}
 use Rattle.tagged_heap.specs.Keeping.{header_in, IsRewritten, AreFirstFresh}
 use Rattle.tagged_heap.specs.View.{IsHeldIn, IsLettingGo}
 use Rattle.tagged_heap.proofs.Changed.{queue_slot}
 use Rattle.tagged_heap.proofs.Firsts.{firsts_stay}
 use Rattle.tagged_heap.proofs.Giving.{tag_is}
-use Rattle.tagged_heap.proofs.HeaderPlaces.{length-without_headers, header_unseen, starts_differ, then_tagged, written_header}
+use Rattle.heap_theory.proofs.SeenMemory.{length-without_headers}
+use Rattle.tagged_heap.proofs.HeaderPlaces.{header_unseen, starts_differ, then_tagged, written_header}
 use Rattle.tagged_heap.proofs.Releasing.{as_quarantined, with_link, queued_step, kept_at_last}
 use Rattle.tagged_heap.proofs.Slots.{class_few, dead_of}
 
 -- ---- sizes
 
 -- a class has at most 1024 granules
-pub class_most : LawsBelow → (h : Heap) (s : ℕ) → IsSoundHeap h → IsSlot h s → (slot_in h s).class ≤ 1024
-class_most laws h s sound in_range =
+pub class_most : (h : Heap) (s : ℕ) → IsSoundHeap h → IsSlot h s → (slot_in h s).class ≤ 1024
+class_most h s sound in_range =
     let found = laws.class_number_is h.layout s in_range in
     let is : get_or h.layout.classes (class_number h.layout s) 0 ≡ (slot_in h s).class = get_or_from_slice_get h.layout.classes (class_number h.layout s) _ 0 found in
     let range = sound.region.table.in_range (class_number h.layout s) 0 (slice_get_within h.layout.classes _ _ found) in
@@ -60,13 +61,13 @@ slot_freed : (h : Heap) (s n : ℕ) → IsSlot h s → IsSlot (freed h s n) s
 unfolding freed
 slot_freed h s n in_range = in_range
 
-module _ (laws : LawsBelow) (h : Heap) (frees : ℕ) (m : List Granule) (q : Queue) (fronts firsts : List ℕ) (k : IsHeldIn h frees m q fronts firsts) (s n tag : ℕ) (in_range : IsSlot h s)
+module _ (h : Heap) (frees : ℕ) (m : List Granule) (q : Queue) (fronts firsts : List ℕ) (k : IsHeldIn h frees m q fronts firsts) (s n tag : ℕ) (in_range : IsSlot h s)
     (live : state_at h s ≡ Live n tag) where
   header_size : (header_in h.layout m s).size ≡ n
   header_size = ap (λ (x : Header). x.size) (k.kept.headers.headers s in_range) ∙ size_is h s _ ∙ ap size_of live
 
   long : length m ≡ h.layout.granules
-  long = sym (length-without_headers laws h.layout m) ∙ ap length k.kept.seen ∙ k.kept.sound.long
+  long = sym (length-without_headers h.layout m) ∙ ap length k.kept.seen ∙ k.kept.sound.long
 
   pub live_has_room : HasRoom h.layout m s (header_in h.layout m s).size
   live_has_room =
@@ -77,9 +78,9 @@ module _ (laws : LawsBelow) (h : Heap) (frees : ℕ) (m : List Granule) (q : Que
         region = long;
         inside = k.kept.sound.slots.inside s in_range;
         memory_is = k.memory_is;
-        size = size_most n (slot_in h s).class room (class_most laws h s k.kept.sound in_range);
+        size = size_most n (slot_in h s).class room (class_most h s k.kept.sound in_range);
         room = room;
-        header = subst (λ (x : Header). x.class < 32) (sym (k.kept.headers.headers s in_range)) (class_few laws h s _ k.kept.sound in_range);
+        header = subst (λ (x : Header). x.class < 32) (sym (k.kept.headers.headers s in_range)) (class_few h s _ k.kept.sound in_range);
       })
 
   within : s < length h.states
@@ -104,7 +105,7 @@ module _ (laws : LawsBelow) (h : Heap) (frees : ℕ) (m : List Granule) (q : Que
       })
 
   pub bytes_most : block_bytes (slot_in h s) ≤ 16384
-  bytes_most = omega (arith, class_most laws h s k.kept.sound in_range)
+  bytes_most = omega (arith, class_most h s k.kept.sound in_range)
 
   pub total_after : frees < 2 ^ 48 → (freed h s n).total < 2 ^ 64
   unfolding freed
@@ -127,9 +128,9 @@ module _ (laws : LawsBelow) (h : Heap) (frees : ℕ) (m : List Granule) (q : Que
       m1 ≡ tagged (payload_start (slot_in h s)) (chunk_granules (header_in h.layout m s).size) drawn (with_header m (slot_in h s).start (retired_header (header_in h.layout m s) h.total)) →
       IsRewritten h.layout m m1 s (as_quarantined (header_for (freed h s n) s 0)) (tagged (payload_start (slot_in h s)) (chunk_granules n) (next_tag h s) h.memory)
   retired_memory few m1 drawn drawn_eq m1_is =
-      let written = written_header laws h.layout m s (as_quarantined (header_for (freed h s n) s 0)) k.memory_is k.kept.sound.slots long in_range (after_fits few) in
+      let written = written_header h.layout m s (as_quarantined (header_for (freed h s n) s 0)) k.memory_is k.kept.sound.slots long in_range (after_fits few) in
       let seen = subst (IsRewritten h.layout m (with_header m (slot_in h s).start (as_quarantined (header_for (freed h s n) s 0))) s (as_quarantined (header_for (freed h s n) s 0))) k.kept.seen written in
-      let all = then_tagged laws (payload_start (slot_in h s)) (chunk_granules n) (next_tag h s) seen in
+      let all = then_tagged (payload_start (slot_in h s)) (chunk_granules n) (next_tag h s) seen in
       let same : m1 ≡ tagged (payload_start (slot_in h s)) (chunk_granules n) (next_tag h s) (with_header m (slot_in h s).start (as_quarantined (header_for (freed h s n) s 0))) =
       m1_is ∙ (λ i. tagged (payload_start (slot_in h s)) (chunk_granules (header_size i)) (drawn_eq i) (with_header m (slot_in h s).start (retired_is i))) in
       subst (λ x. IsRewritten h.layout m x s (as_quarantined (header_for (freed h s n) s 0)) (tagged (payload_start (slot_in h s)) (chunk_granules n) (next_tag h s) h.memory)) (sym same) all
@@ -139,7 +140,7 @@ module _ (laws : LawsBelow) (h : Heap) (frees : ℕ) (m : List Granule) (q : Que
     pub retired_long : length m1 ≡ h.layout.granules
     unfolding freed
     retired_long =
-        sym (length-without_headers laws h.layout m1) ∙ ap length r.seen_is
+        sym (length-without_headers h.layout m1) ∙ ap length r.seen_is
         ∙ (laws.freed_sound h s n tag k.kept.sound in_range live).long
 
     queue_differs : (x : ℕ) → Contains k.queue x → x ≢ s
@@ -167,7 +168,7 @@ module _ (laws : LawsBelow) (h : Heap) (frees : ℕ) (m : List Granule) (q : Que
     own_unlinked = ap (λ (y : Header). y.next) r.own ∙ unlinked_header (freed h s n) s
 
     module _ (m2 : List Granule) (q2 : Queue) (bytes : ℕ) (queued : AreQueued q2 h.layout m2 (k.queue ++ s ∷ [])) (value : q2 ≡ with_newest q s bytes) (first : q.back ≡ 0 → m2 ≡ m1)
-        (behind : (last : ℕ) → q.back ≡ suc last → SetsLink h.layout m1 m2 last (suc s)) where
+        (after : (last : ℕ) → q.back ≡ suc last → SetsLink h.layout m1 m2 last (suc s)) where
       -- what the put leaves of headers
       record Put : Type 0 where
         pub own : header_in h.layout m2 s ≡ header_in h.layout m1 s
@@ -190,7 +191,7 @@ module _ (laws : LawsBelow) (h : Heap) (frees : ℕ) (m : List Granule) (q : Que
                 memory_is = subst IsMemory (sym same) is1;
               }
           by (suc last) is =
-              let set = behind last is in
+              let set = after last is in
               let there : Contains k.queue last = (laws.last_ends (next_in h.layout m) q.front last k.queue k.kept.linked.queue_linked (sym k.back ∙ is)).0 in
               let last_slot = (queue_slot k.kept.booked last there).in_range in
               let apart : (x : ℕ) → IsSlot h x → x ≢ last → header_in h.layout m2 x ≡ header_in h.layout m1 x =
@@ -204,7 +205,7 @@ module _ (laws : LawsBelow) (h : Heap) (frees : ℕ) (m : List Granule) (q : Que
                   | inr differ ↦ apart x inside differ ∙ ap (λ next. with_link (header_in h.layout m1 x) next) (sym (ap (λ (y : Header). y.next) (apart x inside differ)))
                 ];
                 links = λ x inside other out. ap (λ (y : Header). y.next) (apart x inside (λ is. out (subst (Contains k.queue) (sym is) there)));
-                seen_is = ap (without_headers h.layout) set.written ∙ header_unseen laws h.layout m1 last _ is1 last_slot;
+                seen_is = ap (without_headers h.layout) set.written ∙ header_unseen h.layout m1 last _ is1 last_slot;
                 memory_is = subst IsMemory (sym set.written) (laws.header_memory m1 (slot_of h.layout last).start _ is1);
               }
 
@@ -214,7 +215,7 @@ module _ (laws : LawsBelow) (h : Heap) (frees : ℕ) (m : List Granule) (q : Que
         queue = k.queue ++ s ∷ [];
         lists = k.lists;
         releasing =
-            queued_step laws h m m2 q.front q2.front s n tag fronts k.queue k.lists k.kept in_range live (put.own ∙ r.own)
+            queued_step h m m2 q.front q2.front s n tag fronts k.queue k.lists k.kept in_range live (put.own ∙ r.own)
             (λ x inside other. put.others x inside other ∙ ap (λ y. with_link y (next_in h.layout m2 x)) (r.others x inside other))
             (λ x inside other out. put.links x inside other out ∙ ap (λ (y : Header). y.next) (r.others x inside other))
             (put.seen_is ∙ r.seen_is) queued.linked;
@@ -239,18 +240,18 @@ freed_firsts h s n tag firsts sound in_range live f = firsts_stay h _ _ _ _ _ fi
     ]
 
 -- the quarantine has let go what it had too much
-pub freed_held : LawsBelow → (h : Heap) (frees : ℕ) (m : List Granule) (q : Queue) (fronts firsts : List ℕ) (k : IsHeldIn h frees m q fronts firsts) (s n tag : ℕ) → IsSlot h s →
+pub freed_held : (h : Heap) (frees : ℕ) (m : List Granule) (q : Queue) (fronts firsts : List ℕ) (k : IsHeldIn h frees m q fronts firsts) (s n tag : ℕ) → IsSlot h s →
     state_at h s ≡ Live n tag → frees < 2 ^ 48 → (m3 : List Granule) (q3 : Queue) (fronts3 : List ℕ) → IsLettingGo (freed h s n) m3 q3 fronts3 → q3.held ≤ q3.limit →
     IsHeldIn (freed h s n) (frees + 1) m3 q3 fronts3 firsts
-freed_held laws h frees m q fronts firsts k s n tag in_range live few m3 q3 fronts3 g held = record {
+freed_held h frees m q fronts firsts k s n tag in_range live few m3 q3 fronts3 g held = record {
   queue = g.queue;
   lists = g.lists;
-  kept = kept_at_last laws (freed h s n) m3 q3.front fronts3 g.queue g.lists g.releasing (omega (arith, held, g.held, g.limit));
+  kept = kept_at_last (freed h s n) m3 q3.front fronts3 g.queue g.lists g.releasing (omega (arith, held, g.held, g.limit));
   back = g.back;
   held = g.held;
   limit = g.limit;
   fresh = freed_firsts h s n tag firsts k.kept.sound in_range live k.fresh;
-  total = total_step h frees s n k.total (bytes_most laws h frees m q fronts firsts k s n tag in_range live);
-  fits = total_after laws h frees m q fronts firsts k s n tag in_range live few;
+  total = total_step h frees s n k.total (bytes_most h frees m q fronts firsts k s n tag in_range live);
+  fits = total_after h frees m q fronts firsts k s n tag in_range live few;
   memory_is = g.memory_is;
 }

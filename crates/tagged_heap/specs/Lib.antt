@@ -1,4 +1,3 @@
-pub mod Below
 pub mod Chunks
 pub mod Keeping
 pub mod View

@@ -7,12 +7,10 @@ ghost use Rattle.std.specs.Prelude.{◌≡◌, ◌≢◌, ◌↔◌, ◌⊎◌, 
 
 use crate::headers::header;
 use crate::heap::Heap;
-use crate::laws_below::laws_below;
 use crate::tags::chunk_granules;
 use chunk_header::State;
 use granule_memory::Memory;
 use heap_theory::PlaceKind;
-use heap_theory::laws::headers::law_header_words;
 use tag_machine::Fault;
 
 impl Heap {
@@ -21,6 +19,7 @@ impl Heap {
     ///
     /// Errors, after which `buf` is unchanged: `Unmapped` if a byte lies outside the region or bits 63 to 60 of the address are not 0;
     /// otherwise `TagCheck` with the lowest granule that the access touches and whose tag differs from the address's.
+    #[tactic(auto, using(crate::proofs::Below::accesses_seen))]
     pub fn load(&self, address: u64, buf: &mut [u8]) -> Result<(), Fault>
         requires len { (1 ≤ length buf.old) × (length buf.old ≤ 64) }
         requires tagged { (logical_tag address ≢ 0)
@@ -30,8 +29,6 @@ impl Heap {
         ensures err { OnErr result (buf.new ≡ buf.old) }
         ensures headers { HeaderWordsStay self.now.state self.now.state }
     {
-        laws_below();
-        law_header_words();
         self.machine.load(address, buf)
     }
 
@@ -39,6 +36,7 @@ impl Heap {
     /// so it writes no header. The header words of all slots stay the same.
     ///
     /// Its errors are those of `load`. After an error nothing has changed.
+    #[tactic(auto, using(crate::proofs::Below::accesses_seen))]
     pub fn store(&mut self, address: u64, bytes: &[u8]) -> Result<(), Fault>
         requires len { (1 ≤ length bytes.now) × (length bytes.now ≤ 64) }
         requires tagged { (logical_tag address ≢ 0)
@@ -50,8 +48,6 @@ impl Heap {
         ensures err { OnErr result (self.new ≡ self.old) }
         ensures headers { HeaderWordsStay self.old.state self.new.state }
     {
-        laws_below();
-        law_header_words();
         self.machine.store(address, bytes)
     }
 
@@ -61,7 +57,6 @@ impl Heap {
         ensures test { result ≡ is_mapped (length self.now.state.memory) address len }
         ensures mapped { IsTrue result ↔ IsMapped (length self.now.state.memory) address len }
     {
-        laws_below();
         self.machine.mapped(address, len)
     }
 
@@ -72,7 +67,6 @@ impl Heap {
     pub fn memory(&self) -> &Memory
         ensures { IsKeptIn self.now.state result.now }
     {
-        laws_below();
         self.machine.memory()
     }
 
@@ -80,7 +74,6 @@ impl Heap {
     pub fn place_kind(&self, granule: u32) -> PlaceKind
         ensures { result ≡ place_kind self.now.state granule }
     {
-        laws_below();
         let Some(slot) = self.layout.slot_at(granule) else {
             return PlaceKind::Slack;
         };

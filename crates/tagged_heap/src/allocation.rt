@@ -10,7 +10,6 @@ ghost use Rattle.std.specs.Prelude.{◌≡◌, ◌↔◌, ◌*◌, ◌<◌, ◌�
 use crate::bytes::zero;
 use crate::chunks::give_out;
 use crate::heap::Heap;
-use crate::laws_below::laws_below;
 use crate::tags::chunk_granules;
 use crate::taking::take_slot;
 use class_table::{LARGEST_COUNTED, Layout};
@@ -57,7 +56,6 @@ impl Heap {
         ensures frees { self.new.frees ≡ self.old.frees }
         ensures refused { OnErr result (self.new ≡ self.old) }
     {
-        laws_below();
         self.law_sound();
         let given = self.allocate(n)?;
         self.zero_chunk(given.slot, n);
@@ -72,7 +70,6 @@ impl Heap {
         ensures refused { OnErr result (self.new ≡ self.old) }
         ensures in_range { IfOk result (λ given. IsSlot self.old.state given.slot) }
     {
-        laws_below();
         let class = class_for(&self.layout, n)?;
         let memory = self.machine.memory_mut();
         let slot = take_slot(
@@ -94,7 +91,6 @@ impl Heap {
         requires room { chunk_granules n < (slot_in self.old.state slot).class }
         ensures { self.new ≡ record self.old { state = with_payload self.old.state slot (replicate (16 * chunk_granules n) 0) } }
     {
-        laws_below();
         let first = self.layout.start(slot) + 1;
         zero(self.machine.memory_mut(), first, chunk_granules(n));
     }

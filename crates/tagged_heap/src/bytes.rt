@@ -3,7 +3,7 @@ ghost use Rattle.machine_theory.specs.Memory.{bytes_at, written, IsMemory};
 ghost use Rattle.std.specs.Prelude.{◌≡◌, ◌⊎◌, ◌+◌, ◌*◌, ◌≤◌, length, replicate};
 
 use granule_memory::Memory;
-use machine_theory::laws::memory::{law_changes, law_memory, law_reads};
+use machine_theory::laws::memory::law_memory;
 
 // the bytes that are copied at once
 const PIECE: usize = 256;
@@ -14,8 +14,6 @@ pub(crate) fn zero(memory: &mut Memory, first: u32, count: u32)
     requires few { length memory.old ≤ 262144 }
     ensures { memory.new ≡ written (16 * first) (replicate (16 * count) 0) memory.old }
 {
-    law_changes();
-    law_memory();
     for done in 0..count {
         memory.zero_granule(first + done);
     }
@@ -29,9 +27,6 @@ pub(crate) fn copy(memory: &mut Memory, from: usize, to: usize, count: usize)
     requires apart { (from + count ≤ to) ⊎ (to + count ≤ from) }
     ensures { memory.new ≡ written to (bytes_at memory.old from count) memory.old }
 {
-    law_changes();
-    law_memory();
-    law_reads();
     let mut piece = [0; PIECE];
     let mut done = 0;
     while done < count {

@@ -17,7 +17,6 @@ use crate::pointers::payload_address;
 use crate::tags::{chunk_granules, draw, exclude, tag_chunk};
 use chunk_header::{Header, State, write};
 use class_table::Layout;
-use machine_theory::laws::memory::law_memory;
 use tag_machine::Machine;
 
 /// Gives a slot out for `n` bytes, at most 16,368, which it must have room for: draws a tag, writes the header and tags the chunk.
@@ -87,7 +86,6 @@ pub(crate) fn retire(machine: &mut Machine, layout: &Layout, slot: u32, start: u
         } }
     ensures memory { IsMemory machine.new.memory }
 {
-    law_memory();
     let before = header(machine.memory(), layout, slot, start);
     let other = draw(machine, exclude(slot, before.tag));
     let after = Header {

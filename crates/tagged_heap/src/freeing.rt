@@ -14,14 +14,12 @@ ghost use Rattle.tagged_heap.specs.View.{AreLettingGo, IsLettingGo};
 use crate::chunks::retire;
 use crate::headers::header;
 use crate::heap::Heap;
-use crate::laws_below::laws_below;
 use crate::pointers::{slot_of_pointer, start_at};
 use chunk_header::{Header, State, write};
 use class_lists::ClassLists;
 use class_table::{GRANULE_BYTES, Layout};
 use granule_memory::Memory;
 use heap_theory::FreeError;
-use heap_theory::laws::hardening::law_own_pointer;
 use quarantine_core::Quarantine;
 use tag_machine::logical_tag;
 
@@ -49,8 +47,6 @@ impl Heap {
         ensures refused { OnErr result (self.new ≡ self.old) }
         ensures accepted { (result ≡ Ok tt) ↔ IsNullOrOwn self.old.state p }
     {
-        laws_below();
-        law_own_pointer();
         self.law_sound();
         if p == 0 {
             return Ok(());
@@ -65,7 +61,6 @@ impl Heap {
         ensures ok { IfOk result (λ chunk. chunk_at self.now.state p ≡ Ok (record { slot = chunk.slot; size = chunk.size })) }
         ensures err { IfErr result (λ error. chunk_at self.now.state p ≡ Err error) }
     {
-        laws_below();
         let slot = slot_of_pointer(&self.layout, p).ok_or(FreeError::Misplaced)?;
         let start = start_at(&self.layout, slot, p);
         let header = header(self.machine.memory(), &self.layout, slot, start);
@@ -90,7 +85,6 @@ impl Heap {
         ensures { (n tag : ℕ) → state_at self.old.state slot ≡ Live n tag →
             self.new ≡ record { state = freed self.old.state slot n; frees = self.old.frees + 1 } }
     {
-        laws_below();
         let place = self.layout.slot(slot);
         let bytes = GRANULE_BYTES * place.class;
         retire(
@@ -115,7 +109,6 @@ fn let_go(memory: &mut Memory, layout: &Layout, quarantine: &mut Quarantine, lis
         IsLettingGo heap memory.new quarantine.new lists.new }
     ensures held { quarantine.new.held ≤ quarantine.new.limit }
 {
-    laws_below();
     while let Some(slot) = quarantine.next_out(memory, layout) {
         list_freed(memory, layout, lists, slot);
     }
@@ -136,7 +129,6 @@ fn list_freed(memory: &mut Memory, layout: &Layout, lists: &mut ClassLists, slot
     ensures front { lists.new ≡ slice_set lists.old (header_in layout.now memory.old slot).class (slot + 1) }
     ensures memory { IsMemory memory.new }
 {
-    laws_below();
     let start = layout.start(slot);
     let before = header(memory, layout, slot, start);
     let after = Header {

@@ -7,7 +7,6 @@ ghost use Rattle.std.specs.List.{range_with_len};
 ghost use Rattle.std.specs.Prelude.{◌≡◌, ◌+◌, ◌<◌, ◌≤◌, ℕ, length, map, slice_index, slice_set, IfNone, IfSome};
 ghost use Rattle.tagged_heap.specs.Keeping.{header_in};
 
-use crate::laws_below::laws_below;
 use arrayvec::ArrayVec;
 use chunk_header::{Header, State, write};
 use class_table::{Layout, MOST_CLASSES};
@@ -24,7 +23,6 @@ pub(crate) fn write_fresh_headers(memory: &mut Memory, layout: &Layout)
     // What any layout is known to be.
     ensures partition { IsPartition layout.now }
 {
-    laws_below();
     layout.granules();
     for slot in 0..layout.slots() {
         let header = Header {

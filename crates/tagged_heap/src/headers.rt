@@ -5,7 +5,6 @@ ghost use Rattle.class_table.specs.Layout.{slot_count, slot_of};
 ghost use Rattle.heap_theory.specs.Header.{FitsWords};
 ghost use Rattle.std.specs.Prelude.{◌≡◌, ◌<◌, ◌^◌, length};
 
-use crate::laws_below::laws_below;
 use chunk_header::{Header, read};
 use class_table::Layout;
 use granule_memory::Memory;
@@ -22,7 +21,6 @@ pub(crate) fn header(memory: &Memory, layout: &Layout, _slot: u32, start: u32) -
     ensures tag { result.tag < 16 }
     ensures class { result.class < 32 }
 {
-    laws_below();
     layout.granules();
     read(memory, start)
 }

@@ -4,7 +4,6 @@ ghost use Rattle.machine_theory.specs.Instructions.{addg, subg};
 ghost use Rattle.std.specs.Prelude.{◌≡◌, ◌≢◌, ◌≤◌, IfOk};
 
 use crate::fresh::{first_slots, write_fresh_headers};
-use crate::laws_below::laws_below;
 use arrayvec::ArrayVec;
 use class_lists::ClassLists;
 use class_table::{ClassTable, Layout, MOST_CLASSES};
@@ -63,7 +62,6 @@ impl Heap {
             heap.state ≡ first_heap (record { classes = table.now; granules = config.granules }) config.seed config.quarantine) }
         ensures frees { IfOk result (λ heap. heap.frees ≡ 0) }
     {
-        laws_below();
         let layout = Layout::new(table, config.granules);
         let mut memory = Memory::new(alloc, config.granules)?;
         write_fresh_headers(&mut memory, &layout);

@@ -4,7 +4,6 @@ ghost use Rattle.heap_theory.specs.Sound.{IsSoundHeap};
 ghost use Rattle.tagged_heap.specs.Bookkeeping.{ChunksAreTagged, ParitiesDiffer};
 
 use crate::heap::Heap;
-use crate::laws_below::laws_below;
 pub use heap_theory::laws::hardening::{
     law_bookkeeping, law_chunk_tags, law_delay, law_freed, law_inside, law_life, law_neighbours,
     law_own_pointer,
@@ -15,9 +14,7 @@ pub use heap_theory::laws::headers::law_header_words;
 /// changes them.
 pub fn law_headers_spared()
     ensures { HeadersAreSpared }
-{
-    laws_below();
-}
+{}
 
 impl Heap {
     /// Headers, slack and tails have tag 0. The chunk granules of a slot share one tag: the slot's tag while it is live, and after its free
@@ -33,7 +30,6 @@ impl Heap {
         ensures tagged { ChunksAreTagged self.now.state }
         ensures differ { ParitiesDiffer self.now.state }
     {
-        laws_below();
         let _ = &self.layout;
     }
 }

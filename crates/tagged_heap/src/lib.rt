@@ -14,7 +14,6 @@ mod fresh;
 mod headers;
 mod heap;
 pub mod laws;
-mod laws_below;
 mod pointers;
 mod resizing;
 mod tags;

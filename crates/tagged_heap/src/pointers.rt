@@ -4,7 +4,6 @@ ghost use Rattle.heap_theory.specs.State.{payload_place};
 ghost use Rattle.machine_theory.specs.Address.{place_of, region_start, with_tag};
 ghost use Rattle.std.specs.Prelude.{◌≡◌, ◌+◌, ◌*◌, ◌^◌, ◌<◌, MatchOption, ℕ};
 
-use crate::laws_below::laws_below;
 use class_table::Layout;
 use tag_machine::{GRANULE_BYTES, REGION_START, place_of, with_tag};
 
@@ -22,7 +21,6 @@ pub(crate) fn slot_of_pointer(layout: &Layout, p: u64) -> Option<u32>
         ((s : ℕ) → s < slot_count layout.now → p < 2 ^ 60 → place_of p ≡ payload_place (slot_of layout.now s) → ⊥)
         (λ s. (s < slot_count layout.now) × (p < 2 ^ 60) × (place_of p ≡ payload_place (slot_of layout.now s))) }
 {
-    laws_below();
     let place = place_of(p);
     if p >> 60 != 0 || place < REGION_START || place % GRANULE_BYTES != 0 {
         return None;
@@ -42,7 +40,6 @@ pub(crate) fn start_at(layout: &Layout, slot: u32, p: u64) -> u32
     requires place { place_of p ≡ payload_place (slot_of layout.now slot) }
     ensures { result ≡ (slot_of layout.now slot).start }
 {
-    laws_below();
     layout.granules();
     ((place_of(p) - REGION_START) / GRANULE_BYTES) as u32 - 1
 }

@@ -12,11 +12,8 @@ use crate::bytes::copy;
 use crate::chunks::resize;
 use crate::freeing::Chunk;
 use crate::heap::Heap;
-use crate::laws_below::laws_below;
 use class_table::GRANULE_BYTES;
-use heap_theory::laws::hardening::law_own_pointer;
 use heap_theory::{NullCause, ReallocError};
-use machine_theory::laws::memory::law_reads;
 
 impl Heap {
     /// Changes the size of the chunk at `p` to `n` bytes, and returns the chunk's address. The chunk stays in place, under its tag, if `n`
@@ -35,8 +32,6 @@ impl Heap {
         ensures refused { OnErr result (self.new ≡ self.old) }
         ensures accepted { IsNotRefused result ↔ IsNullOrOwn self.old.state p }
     {
-        laws_below();
-        law_own_pointer();
         self.law_sound();
         if p == 0 {
             return self.malloc(n).map_err(ReallocError::Null);
@@ -63,8 +58,6 @@ impl Heap {
         ensures err { IfErr result (λ cause. slot_for_request self.old.state n ≡ Err cause) }
         ensures refused { OnErr result (self.new ≡ self.old) }
     {
-        laws_below();
-        law_reads();
         self.law_sound();
         let given = self.allocate(n)?;
         self.copy_payload(chunk.slot, given.slot, chunk.size.min(n));
@@ -79,7 +72,6 @@ impl Heap {
         ensures size { IsTrue result → n ≤ 16368 }
         ensures room { IsTrue result → chunk_granules n < (slot_in self.now.state slot).class }
     {
-        laws_below();
         class_for(&self.layout, n) == Ok(self.layout.class_of(slot))
     }
 
@@ -91,7 +83,6 @@ impl Heap {
         requires room { chunk_granules n < (slot_in self.old.state slot).class }
         ensures { self.new ≡ record self.old { state = resized self.old.state slot n } }
     {
-        laws_below();
         resize(&mut self.machine, &self.layout, slot, n);
     }
 
@@ -104,7 +95,6 @@ impl Heap {
         requires target { count + 16 ≤ 16 * (slot_in self.old.state to).class }
         ensures { self.new ≡ record self.old { state = with_payload self.old.state to (payload_bytes self.old.state from count) } }
     {
-        laws_below();
         let source = GRANULE_BYTES * (self.layout.start(from) + 1);
         let target = GRANULE_BYTES * (self.layout.start(to) + 1);
         copy(

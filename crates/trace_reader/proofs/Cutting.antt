@@ -20,7 +20,7 @@ unfolding cut
 cut-ended [] text all = refl
 cut-ended (b ∷ line) text all = rw (All-head is_other b line all, cut-ended line text (All-tail is_other b line all)) refl
 
--- ---- one text behind another
+-- ---- one text after another
 
 -- The second text goes on with the unfinished line of the first.
 abbrev pub joined : Cut → Cut → Cut

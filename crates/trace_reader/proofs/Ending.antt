@@ -8,7 +8,7 @@ use Rattle.trace_reader.specs.declared.fault.TraceError.TheVariants.{Line}
 use Rattle.trace_reader.specs.declared.fault.TraceFault.{TraceFault}
 use Rattle.trace_reader.specs.declared.fault.TraceFault.TheVariants.{LineTooLong}
 use Rattle.trace_reader.specs.Reached.{HasReached, IsFrontOf, answer_of}
-use Rattle.trace_reader.specs.Reading.{Cut, State, Reading, added, cut, fed, fed_in, finished, finished_in, going_on, is_open, judged_in, judgement_in, line_ended, reading_of_cut, state_behind, whole_reading, with_judged, is_finished}
+use Rattle.trace_reader.specs.Reading.{Cut, State, Reading, added, cut, fed, fed_in, finished, finished_in, going_on, is_open, judged_in, judgement_in, line_ended, reading_of_cut, state_after, whole_reading, with_judged, is_finished}
 use Rattle.trace_reader.specs.Reading.State.{Open, Failed, Finished}
 use Rattle.trace_reader.specs.declared.status.Status.{Status}
 use Rattle.trace_reader.specs.declared.status.Status.TheVariants.{Failed as HasFailed}
@@ -80,16 +80,16 @@ line_ended-long old bytes error open_now line answer = go old.state open_now ans
     go (Failed error) open_now answer = absurd cc
     go Finished open_now answer = absurd cc
 
--- ---- a line with its newline, and what comes behind it
+-- ---- a line with its newline, and what comes after it
 
 fed_in-ended : (lines : ℕ) (rest line : List ℕ) → IsLine line → fed_in (Open lines rest) (line ++ 10 ∷ []) ≡ judged_in (Open lines rest) (event_of_line (suc lines) (rest ++ line))
 unfolding cut
 fed_in-ended lines rest line is_line =
     ap (λ (c : Cut). reading_of_cut lines (going_on rest c)) (cut-ended line [] is_line)
-    ∙ ap (λ (t : Trace). record { events = t.events; state = state_behind (lines + 1) [] t.fault }) (trace_from-one (suc lines) (rest ++ line))
+    ∙ ap (λ (t : Trace). record { events = t.events; state = state_after (lines + 1) [] t.fault }) (trace_from-one (suc lines) (rest ++ line))
     ∙ go (event_of_line (suc lines) (rest ++ line))
   where
-    go : (judged : Result Event TraceFault) → at (with_line (suc lines) judged no_lines).events (state_behind (lines + 1) [] (with_line (suc lines) judged no_lines).fault) ≡ judged_in (Open lines rest) judged
+    go : (judged : Result Event TraceFault) → at (with_line (suc lines) judged no_lines).events (state_after (lines + 1) [] (with_line (suc lines) judged no_lines).fault) ≡ judged_in (Open lines rest) judged
     go (Ok event) = rw (add-one lines) refl
     go (Err fault) = refl
 
@@ -102,9 +102,9 @@ fed-ended old line open_now is_line = go old.state open_now
     go (Failed error) open_now = absurd cc
     go Finished open_now = absurd cc
 
-pub fed-behind : (old : Reading) (line behind : List ℕ) → is_open old ≡ true → IsLine line → fed old (line ++ 10 ∷ behind) ≡ fed (line_ended old line) behind
-fed-behind old line behind open_now is_line =
-    ap (fed old) (sym (append_assoc line (10 ∷ []) behind)) ∙ sym (fed-append old (line ++ 10 ∷ []) behind) ∙ ap (λ (r : Reading). fed r behind) (fed-ended old line open_now is_line)
+pub fed-after : (old : Reading) (line after : List ℕ) → is_open old ≡ true → IsLine line → fed old (line ++ 10 ∷ after) ≡ fed (line_ended old line) after
+fed-after old line after open_now is_line =
+    ap (fed old) (sym (append_assoc line (10 ∷ []) after)) ∙ sym (fed-append old (line ++ 10 ∷ []) after) ∙ ap (λ (r : Reading). fed r after) (fed-ended old line open_now is_line)
 
 pub is_open-ended : (old : Reading) (line : List ℕ) → is_open old ≡ true → Ok tt ≡ answer_of (line_ended old line).state → is_open (line_ended old line) ≡ true
 unfolding with_judged
@@ -138,9 +138,9 @@ unfolding finished
 finished-failed r error failed = rw failed (ap (λ (es : List Event). at es (Failed error)) (append-nil r.events))
 
 -- a call that reads a piece does not finish
-unfinished_behind : (lines : ℕ) (rest : List ℕ) (fault : Option (ℕ × TraceFault)) → is_finished (at [] (state_behind lines rest fault)) ≡ false
-unfinished_behind lines rest (Some fault) = refl
-unfinished_behind lines rest None = go (ltb 80 (length rest))
+is_unfinished : (lines : ℕ) (rest : List ℕ) (fault : Option (ℕ × TraceFault)) → is_finished (at [] (state_after lines rest fault)) ≡ false
+is_unfinished lines rest (Some fault) = refl
+is_unfinished lines rest None = go (ltb 80 (length rest))
   where
     go : (v : Bool) → is_finished (at [] (cond v (Failed (Line (suc lines) LineTooLong)) (Open lines rest))) ≡ false
     go true = refl
@@ -153,7 +153,7 @@ is_finished-fed r piece unfinished = go r.state unfinished
     go : (state : State) → is_finished (at [] state) ≡ false → is_finished (fed_in state piece) ≡ false
     go (Open lines rest) unfinished =
         let c = going_on rest (cut piece) in
-        unfinished_behind (lines + length c.whole) c.unfinished (trace_from (suc lines) c.whole).fault
+        is_unfinished (lines + length c.whole) c.unfinished (trace_from (suc lines) c.whole).fault
     go (Failed error) unfinished = refl
     go Finished unfinished = absurd cc
 
@@ -163,16 +163,16 @@ unfinished_after old new piece (Err error) unfinished reached = ap (λ (s : Stat
 
 -- ---- where an error ends a call
 
-pub failed_on_the_way : (old mid new : Reading) (error : TraceError) (piece line behind : List ℕ) → is_open mid ≡ true → IsLine line
-    → fed old piece ≡ fed mid (line ++ 10 ∷ behind) → IsFrontOf old.events mid.events → HasReached mid (line_ended mid line) new (Err error) → HasReached old (fed old piece) new (Err error)
-failed_on_the_way old mid new error piece line behind open_now is_line same kept reached =
-    let rest : fed old piece ≡ fed (line_ended mid line) behind = same ∙ fed-behind mid line behind open_now is_line in
+pub failed_on_the_way : (old mid new : Reading) (error : TraceError) (piece line after : List ℕ) → is_open mid ≡ true → IsLine line
+    → fed old piece ≡ fed mid (line ++ 10 ∷ after) → IsFrontOf old.events mid.events → HasReached mid (line_ended mid line) new (Err error) → HasReached old (fed old piece) new (Err error)
+failed_on_the_way old mid new error piece line after open_now is_line same kept reached =
+    let rest : fed old piece ≡ fed (line_ended mid line) after = same ∙ fed-after mid line after open_now is_line in
     record {
       answer = reached.answer;
-      reading = λ other. sym (rest ∙ ap (λ (r : Reading). fed r behind) (sym (reached.reading other)) ∙ fed-failed new error behind (failed_at new error reached.answer));
+      reading = λ other. sym (rest ∙ ap (λ (r : Reading). fed r after) (sym (reached.reading other)) ∙ fed-failed new error after (failed_at new error reached.answer));
       kept = IsFrontOf-trans old.events mid.events new.events kept reached.kept;
       front = IsFrontOf-trans new.events (line_ended mid line).events (fed old piece).events reached.front
-          (IsFrontOf-trans (line_ended mid line).events (fed (line_ended mid line) behind).events (fed old piece).events (IsFrontOf-fed (line_ended mid line) behind) (IsFrontOf-is _ _ (sym (ap (λ (r : Reading). r.events) rest))));
+          (IsFrontOf-trans (line_ended mid line).events (fed (line_ended mid line) after).events (fed old piece).events (IsFrontOf-fed (line_ended mid line) after) (IsFrontOf-is _ _ (sym (ap (λ (r : Reading). r.events) rest))));
     }
 
 -- ---- from one reading to another

@@ -45,10 +45,10 @@ one_word_more {ws} word text others = record { lines = All-cons IsLine word ws t
 number_word : {ws : List (List ℕ)} → SpellingLaws → (n : ℕ) → n < 2 ^ 64 → AreTexts ws → AreTexts (decimal n ∷ ws)
 number_word laws n small others = one_word_more (decimal n) (laws.text.word n small) others
 
-request_texts : SpellingLaws → (name : List ℕ) (v n : ℕ) → IsText name → v < 1024 → n < 2 ^ 31 → AreTexts (request_words name v n)
+request_texts : SpellingLaws → (name : List ℕ) (v n : ℕ) → IsText name → v ≤ 1023 → n ≤ 2147483647 → AreTexts (request_words name v n)
 request_texts laws name v n text v_in n_in = one_word_more name text (number_word laws v (omega (arith, v_in)) (number_word laws n (omega (arith, n_in)) no_word))
 
-move_texts : SpellingLaws → (name : List ℕ) (v w u6 u4 : ℕ) → IsText name → v < 1024 → w < 1024 → u6 ≤ 63 → u4 ≤ 15 → AreTexts (move_words name v w u6 u4)
+move_texts : SpellingLaws → (name : List ℕ) (v w u6 u4 : ℕ) → IsText name → v ≤ 1023 → w ≤ 1023 → u6 ≤ 63 → u4 ≤ 15 → AreTexts (move_words name v w u6 u4)
 move_texts laws name v w u6 u4 text v_in w_in u6_in u4_in =
     one_word_more name text
     (number_word laws v (omega (arith, v_in)) (number_word laws w (omega (arith, w_in)) (number_word laws u6 (omega (arith, u6_in)) (number_word laws u4 (omega (arith, u4_in)) no_word))))
@@ -80,10 +80,10 @@ full_offset (negsuc n) near = ne_eqb (length (signed_decimal (negsuc n))) 0 (λ 
 number_read : SpellingLaws → (low high n : ℕ) → low ≤ n → n ≤ high → high < 2 ^ 64 → number_from low high (decimal n) ≡ Ok n
 number_read laws low high n above below small = rw (laws.text.read n (omega (arith, below, small)), le-leb low n above, le-leb n high below) refl
 
-variable_read : SpellingLaws → (v : ℕ) → v < 1024 → number_from 0 1023 (decimal v) ≡ Ok v
+variable_read : SpellingLaws → (v : ℕ) → v ≤ 1023 → number_from 0 1023 (decimal v) ≡ Ok v
 variable_read laws v v_in = number_read laws 0 1023 v (omega arith) (omega (arith, v_in)) (omega arith)
 
-size_read : SpellingLaws → (n : ℕ) → n < 2 ^ 31 → number_from 0 2147483647 (decimal n) ≡ Ok n
+size_read : SpellingLaws → (n : ℕ) → n ≤ 2147483647 → number_from 0 2147483647 (decimal n) ≡ Ok n
 size_read laws n n_in = number_read laws 0 2147483647 n (omega arith) (omega (arith, n_in)) (omega arith)
 
 offset_read : SpellingLaws → (z : ℤ) → nat_abs z ≤ 1048576 → offset_of (signed_decimal z) ≡ Ok z
@@ -147,10 +147,10 @@ event_read laws (Subg v w u6 u4) is =
 -- ---- the line
 
 -- so many digits at most
-variable_len : (v : ℕ) → v < 1024 → length (decimal v) ≤ 10
+variable_len : (v : ℕ) → v ≤ 1023 → length (decimal v) ≤ 10
 variable_len v v_in = length-decimal-le 10 v (omega arith) (omega (arith, v_in)) (omega (arith, v_in))
 
-number_len : (n : ℕ) → n < 2 ^ 31 → length (decimal n) ≤ 10
+number_len : (n : ℕ) → n ≤ 2147483647 → length (decimal n) ≤ 10
 number_len n n_in = length-decimal-le 10 n (omega arith) (omega (arith, n_in)) (omega (arith, n_in))
 
 offset_len : (z : ℤ) → nat_abs z ≤ 1048576 → length (signed_decimal z) ≤ 11
@@ -161,10 +161,10 @@ offset_len (negsuc n) near = omega (arith, number_len (suc n) (omega (arith, nea
 len_more : (k m : ℕ) (word next : List ℕ) (ws : List (List ℕ)) → length word ≤ k → length (line_of (next ∷ ws)) ≤ m → length (line_of (word ∷ next ∷ ws)) ≤ k + suc m
 len_more k m word next ws of_word of_line = omega (arith, length-append word (32 ∷ line_of (next ∷ ws)), of_word, of_line)
 
-request_len : (name : List ℕ) (v n : ℕ) → length name ≤ 7 → v < 1024 → n < 2 ^ 31 → length (line_of (request_words name v n)) ≤ 80
+request_len : (name : List ℕ) (v n : ℕ) → length name ≤ 7 → v ≤ 1023 → n ≤ 2147483647 → length (line_of (request_words name v n)) ≤ 80
 request_len name v n short v_in n_in = omega (arith, len_more 7 21 name (decimal v) (decimal n ∷ []) short (len_more 10 10 (decimal v) (decimal n) [] (number_len v (omega (arith, v_in))) (number_len n n_in)))
 
-move_len : (name : List ℕ) (v w u6 u4 : ℕ) → length name ≤ 7 → v < 1024 → w < 1024 → u6 ≤ 63 → u4 ≤ 15 → length (line_of (move_words name v w u6 u4)) ≤ 80
+move_len : (name : List ℕ) (v w u6 u4 : ℕ) → length name ≤ 7 → v ≤ 1023 → w ≤ 1023 → u6 ≤ 63 → u4 ≤ 15 → length (line_of (move_words name v w u6 u4)) ≤ 80
 move_len name v w u6 u4 short v_in w_in u6_in u4_in =
     let tags = len_more 10 10 (decimal u6) (decimal u4) [] (number_len u6 (omega (arith, u6_in))) (number_len u4 (omega (arith, u4_in))) in
     let other = len_more 10 21 (decimal w) (decimal u6) (decimal u4 ∷ []) (number_len w (omega (arith, w_in))) tags in

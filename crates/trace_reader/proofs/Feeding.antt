@@ -7,16 +7,16 @@ use Rattle.trace_reader.specs.declared.fault.TraceError.TheVariants.{Line}
 use Rattle.trace_reader.specs.declared.fault.TraceFault.{TraceFault}
 use Rattle.trace_reader.specs.declared.fault.TraceFault.TheVariants.{LineTooLong}
 use Rattle.trace_reader.specs.TraceText.{Trace, trace_from}
-use Rattle.trace_reader.specs.Reading.{Cut, State, Reading, added, cut, fed, fed_in, finished, finished_in, going_on, bytes_in_front, reading_of_cut, state_behind}
+use Rattle.trace_reader.specs.Reading.{Cut, State, Reading, added, cut, fed, fed_in, finished, finished_in, going_on, bytes_in_front, reading_of_cut, state_after}
 use Rattle.trace_reader.specs.Reading.State.{Open, Failed, Finished}
 use Rattle.trace_reader.proofs.Cutting.{joined, going_on-joined, cut-append}
 use Rattle.trace_reader.proofs.Traces.{followed_by, trace_from-append, trace_from-long, trace_from-none}
 
--- what a trace and the bytes behind it are, behind so many lines
+-- what a trace and the bytes after it are, after so many lines
 abbrev reading_of : ℕ → List ℕ → Trace → Reading
-reading_of lines rest t = record { events = t.events; state = state_behind lines rest t.fault }
+reading_of lines rest t = record { events = t.events; state = state_after lines rest t.fault }
 
--- an unfinished line that is too long is the fault, whatever comes behind it
+-- an unfinished line that is too long is the fault, whatever comes after it
 too_long : (lines : ℕ) (c d : Cut) → 80 < length c.unfinished
     → reading_of (lines + length (c.whole ++ (going_on c.unfinished d).whole)) (going_on c.unfinished d).unfinished (trace_from (suc lines + length c.whole) (going_on c.unfinished d).whole)
     ≡ record { events = []; state = Failed (Line (suc (lines + length c.whole)) LineTooLong) }
@@ -35,7 +35,7 @@ too_long lines c d long = go d.whole d.unfinished
 
 -- the whole lines of both
 both : (lines : ℕ) (c d : Cut) (piece : List ℕ) → cut piece ≡ d → (t : Trace) (fault : Option (ℕ × TraceFault)) → t.fault ≡ fault
-    → added t.events (fed_in (state_behind (lines + length c.whole) c.unfinished fault) piece)
+    → added t.events (fed_in (state_after (lines + length c.whole) c.unfinished fault) piece)
     ≡ reading_of (lines + length (joined c d).whole) (joined c d).unfinished (followed_by fault t.events (trace_from (suc lines + length c.whole) (going_on c.unfinished d).whole))
 both lines c d piece is t (Some fault) faulty = rw (append-nil t.events) refl
 both lines c d piece is t None faultless = go (ltb 80 (length c.unfinished)) refl

@@ -1,3 +1,4 @@
+pub mod LawLemmas
 pub mod BadWords
 pub mod Cutting
 pub mod Ending

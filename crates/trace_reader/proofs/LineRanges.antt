@@ -1,4 +1,5 @@
 -- The event of a line is in its ranges, and the line's number is not above the most events.
+use Rattle.line_text.specs.FirstFault.{◌>>=◌}
 use Rattle.trace_reader.specs.TraceText.{trace_from, trace_of, with_line}
 use Rattle.std.proofs.Common.{◌≡◌, ℕ, ◌<◌, ◌≤◌, Bool, true, false, cond, ◌&&◌, leb, ltb, List, [], ◌∷◌, length, Option, Some, None, Result, Ok, Err, IfOk, ◌^◌, refl, arith, nat_abs, suc, ◌+◌}
 use Rattle.std.specs.Str.{bytes_eq}
@@ -15,7 +16,7 @@ use Rattle.heap_theory.specs.declared.event.Event.TheVariants.{Malloc, Calloc, R
 use Rattle.trace_reader.specs.declared.fault.TraceFault.{TraceFault}
 use Rattle.trace_reader.specs.declared.fault.TraceFault.TheVariants.{BadWord, OutOfRange, LineTooLong, TooManyEvents}
 use Rattle.heap_theory.specs.Ranges.{IsInRange}
-use Rattle.trace_reader.specs.TraceLine.{◌>>=◌, ranged, number_from, variable_of, size_of, offset_of, len_of, byte_of, request_of, free_of, load_of, store_of, move_of, event_named, event_of_full_words, event_of_words, event_of_line, is_empty_word}
+use Rattle.trace_reader.specs.TraceLine.{ranged, number_from, variable_of, size_of, offset_of, len_of, byte_of, request_of, free_of, load_of, store_of, move_of, event_named, event_of_full_words, event_of_words, event_of_line, is_empty_word}
 
 -- ---- words
 
@@ -40,7 +41,7 @@ IfOk-number_from low high word =
 pub IfOk-offset_of : (word : List ℕ) → IfOk (offset_of word) (λ z. nat_abs z ≤ 1048576)
 IfOk-offset_of word = IfOk-ranged (λ z. nat_abs z ≤ 1048576) (λ z. leb (nat_abs z) 1048576) (λ z e. leb-true (nat_abs z) 1048576 e) (signed_of word)
 
--- ---- one value behind another
+-- ---- one value after another
 
 pub IfOk-and_then : {A B : Type 0} (P : A → Type 0) (Q : B → Type 0) (r : Result A TraceFault) (f : A → Result B TraceFault) → IfOk r P → ((x : A) → P x → IfOk (f x) Q) → IfOk (r >>= f) Q
 IfOk-and_then P Q (Ok x) f holds more = more x holds
@@ -53,9 +54,9 @@ IfOk-byte_of law word = go (hex_of word) refl
     go None is = tt
     go (Some n) is = law word n is
 
--- ---- the words behind a name
+-- ---- the words after a name
 
-IfOk-request_of : (event : ℕ → ℕ → Event) → ((v n : ℕ) → v < 1024 → n < 2 ^ 31 → IsInRange (event v n)) → (ws : List (List ℕ)) → IfOk (request_of event ws) IsInRange
+IfOk-request_of : (event : ℕ → ℕ → Event) → ((v n : ℕ) → v ≤ 1023 → n ≤ 2147483647 → IsInRange (event v n)) → (ws : List (List ℕ)) → IfOk (request_of event ws) IsInRange
 IfOk-request_of event within [] = tt
 IfOk-request_of event within (v ∷ []) = tt
 IfOk-request_of event within (v ∷ n ∷ []) =
@@ -88,7 +89,7 @@ IfOk-store_of law (v ∷ off ∷ len ∷ byte ∷ []) =
     (λ len len_in. IfOk-and_then _ IsInRange (byte_of byte) _ (IfOk-byte_of law byte) (λ byte byte_in. ((omega (arith, v_in.1), off_in, len_in.0, len_in.1), byte_in)))))
 IfOk-store_of law (v ∷ off ∷ len ∷ byte ∷ other ∷ ws) = tt
 
-IfOk-move_of : (event : ℕ → ℕ → ℕ → ℕ → Event) → ((v w u6 u4 : ℕ) → v < 1024 → w < 1024 → u6 ≤ 63 → u4 ≤ 15 → IsInRange (event v w u6 u4))
+IfOk-move_of : (event : ℕ → ℕ → ℕ → ℕ → Event) → ((v w u6 u4 : ℕ) → v ≤ 1023 → w ≤ 1023 → u6 ≤ 63 → u4 ≤ 15 → IsInRange (event v w u6 u4))
     → (ws : List (List ℕ)) → IfOk (move_of event ws) IsInRange
 IfOk-move_of event within [] = tt
 IfOk-move_of event within (v ∷ []) = tt
@@ -131,7 +132,7 @@ unfolding event_of_line
 IfOk-event_of_line law number line =
     IfOk-either (ltb 80 (length line)) (Err LineTooLong) _ tt (IfOk-either (ltb 1000000 number) (Err TooManyEvents) (event_of_words (words line)) tt (IfOk-event_of_words law (words line)))
 
--- the line of an event is not behind the most events
+-- the line of an event is not after the most events
 pub few_events : (number : ℕ) (line : List ℕ) → IfOk (event_of_line number line) (λ event. number ≤ 1000000)
 unfolding event_of_line
 few_events number line = go (ltb 80 (length line)) (ltb 1000000 number) refl (event_of_words (words line))

@@ -7,7 +7,7 @@ use Rattle.trace_reader.specs.declared.fault.TraceError.TheVariants.{Line}
 use Rattle.trace_reader.specs.declared.fault.TraceFault.{TraceFault}
 use Rattle.trace_reader.specs.declared.fault.TraceFault.TheVariants.{LineTooLong}
 use Rattle.trace_reader.specs.TraceText.{Trace, trace_from, trace_of}
-use Rattle.trace_reader.specs.Reading.{Cut, Reading, added, cut, fed, fed_all, finished, finished_in, last_line, nothing_read, reading_of_cut, state_behind, whole_reading}
+use Rattle.trace_reader.specs.Reading.{Cut, Reading, added, cut, fed, fed_all, finished, finished_in, last_line, nothing_read, reading_of_cut, state_after, whole_reading}
 use Rattle.trace_reader.specs.Reading.State.{Open, Failed}
 use Rattle.trace_reader.proofs.Cutting.{going_on-nil, last_lines, lines-cut}
 use Rattle.trace_reader.proofs.Feeding.{fed-append}
@@ -25,7 +25,7 @@ unfolding fed cut trace_from
 fed_all-concat [] = refl
 fed_all-concat (piece ∷ pieces) = fed_all-fed nothing_read piece pieces
 
--- the last line, behind so many whole ones
+-- the last line, after so many whole ones
 last_line-trace : (n : ℕ) (rest : List ℕ) → last_line n rest ≡ trace_from (suc n) (last_lines rest)
 last_line-trace n [] = sym (trace_from-none (suc n))
 last_line-trace n (b ∷ rest) = sym (trace_from-one (suc n) (b ∷ rest))
@@ -34,9 +34,9 @@ too_long-trace : (n : ℕ) (rest : List ℕ) → ltb 80 (length rest) ≡ true �
 too_long-trace n [] long = absurd cc
 too_long-trace n (b ∷ rest) long = trace_from-long (suc n) (b ∷ rest) [] (ltb-true 80 (length (b ∷ rest)) long)
 
--- the end behind a whole text
+-- the end after a whole text
 at_end : (n : ℕ) (c : Cut) (t : Trace) (fault : Option (ℕ × TraceFault)) → t.fault ≡ fault
-    → added t.events (finished_in (state_behind n c.unfinished fault)) ≡ whole_reading (followed_by fault t.events (trace_from (suc n) (last_lines c.unfinished)))
+    → added t.events (finished_in (state_after n c.unfinished fault)) ≡ whole_reading (followed_by fault t.events (trace_from (suc n) (last_lines c.unfinished)))
 at_end n c t (Some fault) is = rw (append-nil t.events) refl
 at_end n c t None is = go (ltb 80 (length c.unfinished)) refl
   where

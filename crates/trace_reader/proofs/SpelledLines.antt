@@ -42,7 +42,7 @@ spelled_offset laws word =
 spelled_byte : SpellingLaws → (word : List ℕ) → IfOk (byte_of word) (λ n. word ≡ hex n)
 spelled_byte laws word = IfOk-ranged_of (λ n. word ≡ hex n) (λ n. true) (hex_of word) (λ n is e. laws.hex word n is)
 
--- ---- the words behind a name
+-- ---- the words after a name
 
 spelled_request : SpellingLaws → (name : List ℕ) (event : ℕ → ℕ → Event) → ((v n : ℕ) → event_words (event v n) ≡ request_words name v n) → (ws : List (List ℕ)) → IfOk (request_of event ws) (λ e. name ∷ ws ≡ event_words e)
 spelled_request laws name event is [] = tt

@@ -75,29 +75,29 @@ offset_fits ws left off read =
     let near : nat_abs off ≤ 1048576 = rw read.is at range in
     fits_narrow off near
 
-pub load_read : (ws more behind left : List (List ℕ)) (v len : ℕ) (off : ℤ)
-    → IsRead (number_from 0 1023) ws more v → IsRead offset_of more behind off → IsRead (number_from 1 64) behind left len → left ≡ []
+pub load_read : (ws more third left : List (List ℕ)) (v len : ℕ) (off : ℤ)
+    → IsRead (number_from 0 1023) ws more v → IsRead offset_of more third off → IsRead (number_from 1 64) third left len → left ≡ []
     → AreRead load_of ws (Load v off len)
-load_read ws more behind left v len off a o b none = record {
+load_read ws more third left v len off a o b none = record {
   is = rw (a.words, o.words, b.words, none) (rw (a.is, o.is, b.is) refl);
   full = rw (a.words, o.words, b.words, none) (rw (full_number 0 1023 a.word v a.is, full_offset o.word off o.is, full_number 1 64 b.word len b.is) refl);
 }
 
-pub store_read : (ws more behind last_one left : List (List ℕ)) (v len byte : ℕ) (off : ℤ)
-    → IsRead (number_from 0 1023) ws more v → IsRead offset_of more behind off → IsRead (number_from 1 64) behind last_one len
+pub store_read : (ws more third last_one left : List (List ℕ)) (v len byte : ℕ) (off : ℤ)
+    → IsRead (number_from 0 1023) ws more v → IsRead offset_of more third off → IsRead (number_from 1 64) third last_one len
     → IsRead byte_of last_one left byte → left ≡ []
     → AreRead store_of ws (Store v off len byte)
-store_read ws more behind last_one left v len byte off a o b h none = record {
+store_read ws more third last_one left v len byte off a o b h none = record {
   is = rw (a.words, o.words, b.words, h.words, none) (rw (a.is, o.is, b.is, h.is) refl);
   full = rw (a.words, o.words, b.words, h.words, none)
       (rw (full_number 0 1023 a.word v a.is, full_offset o.word off o.is, full_number 1 64 b.word len b.is, full_byte h.word byte h.is) refl);
 }
 
-pub move_read : (ws more behind last_one left : List (List ℕ)) (v w u6 u4 : ℕ) (event : ℕ → ℕ → ℕ → ℕ → Event)
-    → IsRead (number_from 0 1023) ws more v → IsRead (number_from 0 1023) more behind w → IsRead (number_from 0 63) behind last_one u6
+pub move_read : (ws more third last_one left : List (List ℕ)) (v w u6 u4 : ℕ) (event : ℕ → ℕ → ℕ → ℕ → Event)
+    → IsRead (number_from 0 1023) ws more v → IsRead (number_from 0 1023) more third w → IsRead (number_from 0 63) third last_one u6
     → IsRead (number_from 0 15) last_one left u4 → left ≡ []
     → AreRead (move_of event) ws (event v w u6 u4)
-move_read ws more behind last_one left v w u6 u4 event a b c d none = record {
+move_read ws more third last_one left v w u6 u4 event a b c d none = record {
   is = rw (a.words, b.words, c.words, d.words, none) (rw (a.is, b.is, c.is, d.is) refl);
   full = rw (a.words, b.words, c.words, d.words, none)
       (rw (full_number 0 1023 a.word v a.is, full_number 0 1023 b.word w b.is, full_number 0 63 c.word u6 c.is, full_number 0 15 d.word u4 d.is) refl);

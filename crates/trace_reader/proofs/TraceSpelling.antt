@@ -107,8 +107,8 @@ events_before number (line ∷ ls) at fault is = go (event_of_line number line) 
     go (Ok e) is next = omega (arith, next is)
     go (Err f) is next = omega (arith, ap number_of_fault is)
 
-pub fault_is_behind : (text : List ℕ) (at : ℕ) (fault : TraceFault) → (trace_of text).fault ≡ Some (at, fault) → at ≡ suc (length (trace_of text).events)
-fault_is_behind text at fault is = omega (arith, events_before 1 (lines text) at fault is)
+pub fault_is_after : (text : List ℕ) (at : ℕ) (fault : TraceFault) → (trace_of text).fault ≡ Some (at, fault) → at ≡ suc (length (trace_of text).events)
+fault_is_after text at fault is = omega (arith, events_before 1 (lines text) at fault is)
 
 ranges_from : HexIsAByte → (number : ℕ) (ls : List (List ℕ)) → All IsInRange (trace_from number ls).events
 unfolding trace_from

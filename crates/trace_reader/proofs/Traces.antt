@@ -7,7 +7,7 @@ use Rattle.trace_reader.specs.declared.fault.TraceFault.TheVariants.{LineTooLong
 use Rattle.trace_reader.specs.TraceLine.{event_of_line}
 use Rattle.trace_reader.specs.TraceText.{Trace, no_lines, with_line, trace_from}
 
--- A trace behind another, which is the whole where that one has a fault.
+-- A trace after another, which is the whole where that one has a fault.
 abbrev pub followed_by : Option (ℕ × TraceFault) → List Event → Trace → Trace
 followed_by None events t = record { events = events ++ t.events; fault = t.fault }
 followed_by (Some fault) events t = record { events = events; fault = Some fault }

@@ -86,9 +86,9 @@ words_are_counted_before_they_are_read : shown (codes "malloc 01 1024 1") ≡ fa
 unfolding shown
 words_are_counted_before_they_are_read = refl
 
-empty_word_behind_a_faulty_number : shown (codes "malloc 01 ") ≡ fault_at 1 BadWord
+empty_word_after_a_faulty_number : shown (codes "malloc 01 ") ≡ fault_at 1 BadWord
 unfolding shown
-empty_word_behind_a_faulty_number = refl
+empty_word_after_a_faulty_number = refl
 
 leftmost_faulty_word : shown (codes "malloc 1024 01") ≡ fault_at 1 OutOfRange
 unfolding shown

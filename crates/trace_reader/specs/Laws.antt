@@ -28,8 +28,8 @@ abbrev pub TextSpellsOneTrace : Type 0
 TextSpellsOneTrace = (text : List ℕ) (a b : List Event) → SpellsTrace text a → SpellsTrace text b → a ≡ b
 
 -- The events before a fault are those of the lines before it; they are not too many, and are in their ranges, there too.
-abbrev pub FaultIsBehindItsEvents : Type 0
-FaultIsBehindItsEvents =
+abbrev pub FaultIsAfterItsEvents : Type 0
+FaultIsAfterItsEvents =
     (text : List ℕ) (number : ℕ) (fault : TraceFault) → (trace_of text).fault ≡ Some (number, fault) → number ≡ suc (length (trace_of text).events)
 
 abbrev pub EventsAreFew : Type 0
@@ -64,8 +64,8 @@ abbrev pub PiecesHaveFewEvents : Type 0
 PiecesHaveFewEvents = (pieces : List (List ℕ)) → length (fed_all nothing_read pieces).events ≤ most_events
 
 -- Events that were read, taken out or not, do not change what comes after them.
-abbrev pub FedBehindEvents : Type 0
-FedBehindEvents = (events : List Event) (reading : Reading) (piece : List ℕ) → fed (added events reading) piece ≡ added events (fed reading piece)
+abbrev pub FedAfterEvents : Type 0
+FedAfterEvents = (events : List Event) (reading : Reading) (piece : List ℕ) → fed (added events reading) piece ≡ added events (fed reading piece)
 
-abbrev pub FinishedBehindEvents : Type 0
-FinishedBehindEvents = (events : List Event) (reading : Reading) → finished (added events reading) ≡ added events (finished reading)
+abbrev pub FinishedAfterEvents : Type 0
+FinishedAfterEvents = (events : List Event) (reading : Reading) → finished (added events reading) ≡ added events (finished reading)

@@ -61,19 +61,19 @@ is_finished reading = is_finished_state reading.state
 abbrev pub added : List Event → Reading → Reading
 added events reading = record { events = events ++ reading.events; state = reading.state }
 
--- Behind whole lines without a fault: an unfinished line that is too long already is faulty.
+-- After whole lines without a fault: an unfinished line that is too long already is faulty.
 abbrev pub unfinished_state : ℕ → List ℕ → State
 unfinished_state lines rest = if nat_lt longest_line (length rest) then Failed (Line (suc lines) LineTooLong) else Open lines rest
 
-abbrev pub state_behind : ℕ → List ℕ → Option (ℕ × TraceFault) → State
-state_behind lines rest None = unfinished_state lines rest
-state_behind lines rest (Some (number, fault)) = Failed (Line number fault)
+abbrev pub state_after : ℕ → List ℕ → Option (ℕ × TraceFault) → State
+state_after lines rest None = unfinished_state lines rest
+state_after lines rest (Some (number, fault)) = Failed (Line number fault)
 
 -- The whole lines are judged up to the first fault, and the unfinished one is kept.
 abbrev pub reading_of_cut : ℕ → Cut → Reading
 reading_of_cut lines c =
     let trace = trace_from (suc lines) c.whole in
-    record { events = trace.events; state = state_behind (lines + length c.whole) c.unfinished trace.fault }
+    record { events = trace.events; state = state_after (lines + length c.whole) c.unfinished trace.fault }
 
 -- The piece goes on with the unfinished line. After an error it is not looked at.
 abbrev pub fed_in : State → List ℕ → Reading

@@ -3,10 +3,12 @@ use Rattle.std.specs.Prelude.{ℕ, ℤ, nat_abs, ◌&&◌, List, [], ◌∷◌, 
 use Rattle.std.specs.Fmt.{decimal, signed_decimal}
 use Rattle.std.specs.List.{list_any}
 use Rattle.std.specs.Str.{bytes_eq}
+use Rattle.line_text.specs.FirstFault.{◌>>=◌}
 use Rattle.line_text.specs.Lines.{words, line_of}
 use Rattle.line_text.specs.Numbers.{number_of}
 use Rattle.line_text.specs.Signed.{signed_of}
 use Rattle.line_text.specs.Hexadecimal.{hex_of, hex}
+use Rattle.heap_theory.specs.declared.event.TheConstants.Event.{LAST_VARIABLE, LARGEST_REQUEST, LONGEST_ACCESS, FARTHEST_ACCESS, FARTHEST_MOVE, LARGEST_TAG_STEP}
 use Rattle.heap_theory.specs.declared.event.Event.{Event}
 use Rattle.heap_theory.specs.declared.event.Event.TheVariants.{Malloc, Calloc, Realloc, Free, Load, Store, Addg, Subg}
 use Rattle.trace_reader.specs.declared.fault.TraceFault.{TraceFault}
@@ -44,12 +46,6 @@ event_line event = line_of (event_words event)
 
 -- ---- reading a word
 
--- What follows a value that was read. The first fault decides.
-infixl 10 ◌>>=◌
-abbrev pub ◌>>=◌ : {A B : Type 0} → Result A TraceFault → (A → Result B TraceFault) → Result B TraceFault
-(Ok x) >>= f = f x
-(Err fault) >>= f = Err fault
-
 abbrev pub ranged : {A : Type 0} → (A → Bool) → Option A → Result A TraceFault
 ranged test None = Err BadNumber
 ranged test (Some x) = if test x then Ok x else Err OutOfRange
@@ -59,16 +55,16 @@ abbrev pub number_from : ℕ → ℕ → List ℕ → Result ℕ TraceFault
 number_from low high word = ranged (λ n. nat_le low n && nat_le n high) (number_of word)
 
 abbrev pub variable_of : List ℕ → Result ℕ TraceFault
-variable_of word = number_from 0 1023 word
+variable_of word = number_from 0 LAST_VARIABLE word
 
 abbrev pub size_of : List ℕ → Result ℕ TraceFault
-size_of word = number_from 0 2147483647 word
+size_of word = number_from 0 LARGEST_REQUEST word
 
 abbrev pub offset_of : List ℕ → Result ℤ TraceFault
-offset_of word = ranged (λ z. nat_le (nat_abs z) 1048576) (signed_of word)
+offset_of word = ranged (λ z. nat_le (nat_abs z) FARTHEST_ACCESS) (signed_of word)
 
 abbrev pub len_of : List ℕ → Result ℕ TraceFault
-len_of word = number_from 1 64 word
+len_of word = number_from 1 LONGEST_ACCESS word
 
 abbrev pub byte_of : List ℕ → Result ℕ TraceFault
 byte_of word = ranged (λ n. Bool.true) (hex_of word)
@@ -109,8 +105,8 @@ abbrev pub move_of : (ℕ → ℕ → ℕ → ℕ → Event) → List (List ℕ)
 move_of event (v ∷ w ∷ u6 ∷ u4 ∷ []) = do
   v ← variable_of v
   w ← variable_of w
-  u6 ← number_from 0 63 u6
-  u4 ← number_from 0 15 u4
+  u6 ← number_from 0 FARTHEST_MOVE u6
+  u4 ← number_from 0 LARGEST_TAG_STEP u4
   Ok (event v w u6 u4)
 move_of event other = Err BadWord
 

@@ -1,7 +1,7 @@
 //! What holds for every trace's text, and for every text that comes in pieces. Each law is the contract of a function that does nothing.
 ghost use Rattle.trace_reader.specs.Below.{SpellingLaws};
-ghost use Rattle.trace_reader.specs.Laws.{TraceIsSpelled, SpelledTraceIsRead, TextSpellsOneTrace, FaultIsBehindItsEvents, EventsAreFew, EventsAreInRange};
-ghost use Rattle.trace_reader.specs.Laws.{TextIsItsCut, PiecesAreJoined, PiecesAreTheText, FedAddsEvents, FinishedAddsEvents, PiecesHaveFewEvents, FedBehindEvents, FinishedBehindEvents};
+ghost use Rattle.trace_reader.specs.Laws.{TraceIsSpelled, SpelledTraceIsRead, TextSpellsOneTrace, FaultIsAfterItsEvents, EventsAreFew, EventsAreInRange};
+ghost use Rattle.trace_reader.specs.Laws.{TextIsItsCut, PiecesAreJoined, PiecesAreTheText, FedAddsEvents, FinishedAddsEvents, PiecesHaveFewEvents, FedAfterEvents, FinishedAfterEvents};
 
 use line_text::laws::{law_hex, law_signed, law_text};
 
@@ -14,8 +14,8 @@ pub fn law_pieces()
     ensures adds { FedAddsEvents }
     ensures end_adds { FinishedAddsEvents }
     ensures few { PiecesHaveFewEvents }
-    ensures behind { FedBehindEvents }
-    ensures end_behind { FinishedBehindEvents }
+    ensures after { FedAfterEvents }
+    ensures end_after { FinishedAfterEvents }
 {}
 
 /// A text that is read as a trace without a fault is that trace's spelling, and the spelling is read as the trace. So no text spells two
@@ -24,7 +24,7 @@ pub fn law_trace_text()
     ensures spelled { TraceIsSpelled }
     ensures read { SpelledTraceIsRead }
     ensures one { TextSpellsOneTrace }
-    ensures fault { FaultIsBehindItsEvents }
+    ensures fault { FaultIsAfterItsEvents }
     ensures few { EventsAreFew }
     ensures range { EventsAreInRange }
 {

@@ -10,7 +10,6 @@ use crate::spelled::spelled_event;
 use crate::words::{are_full_words, byte_in, number_from, offset_in};
 use arrayvec::ArrayVec;
 use heap_theory::Event;
-use line_text::laws::law_hex;
 
 // the most bytes of a line, without its newline
 pub(crate) const LONGEST_LINE: usize = 80;
@@ -35,24 +34,12 @@ const ADDG: &[u8] = b"addg";
 
 const SUBG: &[u8] = b"subg";
 
-// the greatest number of each kind; those of a request and an access are in bytes
-pub(crate) const LAST_VARIABLE: u32 = 1023;
-
-pub(crate) const LARGEST_REQUEST: u32 = 2_147_483_647;
-
-pub(crate) const LONGEST_ACCESS: u32 = 64;
-
-pub(crate) const MOST_GRANULES: u32 = 63;
-
-pub(crate) const MOST_TAGS: u32 = 15;
-
 // the event that the line of this number spells, counted from 1, or the line's fault
 pub(crate) fn event_in(number: u32, line: &[u8]) -> Result<Event, TraceFault>
     ensures event { result ≡ event_of_line number line.now }
     ensures range { IfOk result (λ event. IsInRange event) }
     ensures few { IfOk result (λ event. number ≤ MOST_EVENTS) }
 {
-    law_hex();
     judged_line(number, line)
 }
 
@@ -128,7 +115,7 @@ fn event_named(name: &[u8], words: &[&[u8]]) -> Result<Event, TraceFault>
 fn variable_in(word: &[u8]) -> Result<u16, TraceFault>
     ensures { result ≡ variable_of word.now }
 {
-    Ok(number_from(0, LAST_VARIABLE, word)? as u16)
+    Ok(number_from(0, Event::LAST_VARIABLE, word)? as u16)
 }
 
 // the event of a line `free`, from the words after the first; so below
@@ -176,7 +163,7 @@ fn request_in(words: &[&[u8]]) -> Result<(u16, u32), TraceFault>
         return Err(TraceFault::BadWord);
     };
     let v = variable_in(v)?;
-    let n = number_from(0, LARGEST_REQUEST, n)?;
+    let n = number_from(0, Event::LARGEST_REQUEST, n)?;
     Ok((v, n))
 }
 
@@ -190,8 +177,8 @@ fn move_in(words: &[&[u8]]) -> Result<(u16, u16, u8, u8), TraceFault>
     };
     let v = variable_in(v)?;
     let w = variable_in(w)?;
-    let u6 = number_from(0, MOST_GRANULES, u6)? as u8;
-    let u4 = number_from(0, MOST_TAGS, u4)? as u8;
+    let u6 = number_from(0, Event::FARTHEST_MOVE, u6)? as u8;
+    let u4 = number_from(0, Event::LARGEST_TAG_STEP, u4)? as u8;
     Ok((v, w, u6, u4))
 }
 
@@ -199,5 +186,5 @@ fn move_in(words: &[&[u8]]) -> Result<(u16, u16, u8, u8), TraceFault>
 fn len_in(word: &[u8]) -> Result<u8, TraceFault>
     ensures { result ≡ len_of word.now }
 {
-    Ok(number_from(1, LONGEST_ACCESS, word)? as u8)
+    Ok(number_from(1, Event::LONGEST_ACCESS, word)? as u8)
 }

@@ -73,9 +73,9 @@ impl TraceReader {
             return Err(error);
         }
         let mut text = piece;
-        while let Some((line, behind)) = first_line(text) {
+        while let Some((line, after)) = first_line(text) {
             self.end_line(line)?;
-            text = behind;
+            text = after;
         }
         self.keep(text)
     }

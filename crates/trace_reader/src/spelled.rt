@@ -6,7 +6,6 @@ ghost use Rattle.line_text.specs.Lines.{words};
 ghost use Rattle.trace_reader.specs.Spelled.{AreAfter, AreRead, IsRead};
 ghost use Rattle.trace_reader.specs.TraceLine.{byte_of, event_of_words, free_of, load_of, move_of, number_from, offset_of, request_of, store_of};
 
-use crate::line::{LARGEST_REQUEST, LAST_VARIABLE, LONGEST_ACCESS, MOST_GRANULES, MOST_TAGS};
 use crate::words::{FARTHEST, byte_in, offset_in};
 use heap_theory::Event;
 use line_text::{Words, words_in};
@@ -61,7 +60,7 @@ fn request(mut words: Words<'_>) -> Option<(u16, u32)>
         → IfSome result (λ x. AreRead (request_of event) words.entry (event x.0 x.1)) }
 {
     let v = variable(&mut words)?;
-    let n = number(0, LARGEST_REQUEST, &mut words)?;
+    let n = number(0, Event::LARGEST_REQUEST, &mut words)?;
     last(&mut words)?;
     Some((v, n))
 }
@@ -79,7 +78,7 @@ fn load(mut words: Words<'_>) -> Option<Event>
 {
     let v = variable(&mut words)?;
     let off = offset(&mut words)?;
-    let len = number(1, LONGEST_ACCESS, &mut words)? as u8;
+    let len = number(1, Event::LONGEST_ACCESS, &mut words)? as u8;
     last(&mut words)?;
     Some(Event::Load { v, off, len })
 }
@@ -89,7 +88,7 @@ fn store(mut words: Words<'_>) -> Option<Event>
 {
     let v = variable(&mut words)?;
     let off = offset(&mut words)?;
-    let len = number(1, LONGEST_ACCESS, &mut words)? as u8;
+    let len = number(1, Event::LONGEST_ACCESS, &mut words)? as u8;
     let byte = byte(&mut words)?;
     last(&mut words)?;
     Some(Event::Store { v, off, len, byte })
@@ -102,16 +101,16 @@ fn move_pointer(mut words: Words<'_>) -> Option<(u16, u16, u8, u8)>
 {
     let v = variable(&mut words)?;
     let w = variable(&mut words)?;
-    let u6 = number(0, MOST_GRANULES, &mut words)? as u8;
-    let u4 = number(0, MOST_TAGS, &mut words)? as u8;
+    let u6 = number(0, Event::FARTHEST_MOVE, &mut words)? as u8;
+    let u4 = number(0, Event::LARGEST_TAG_STEP, &mut words)? as u8;
     last(&mut words)?;
     Some((v, w, u6, u4))
 }
 
 fn variable(words: &mut Words<'_>) -> Option<u16>
-    ensures { IfSome result (λ v. IsRead (number_from 0 1023) words.old words.new v) }
+    ensures { IfSome result (λ v. IsRead (number_from 0 Event.LAST_VARIABLE) words.old words.new v) }
 {
-    Some(number(0, LAST_VARIABLE, words)? as u16)
+    Some(number(0, Event::LAST_VARIABLE, words)? as u16)
 }
 
 fn number(low: u32, high: u32, words: &mut Words<'_>) -> Option<u32>

@@ -7,13 +7,14 @@ ghost use Rattle.trace_reader.specs.TraceLine.{byte_of, event_of_words, is_empty
 
 use crate::fault::TraceFault;
 use arrayvec::ArrayVec;
+use heap_theory::Event;
 use line_text::{Number, SignedNumber, hex_byte_in, number_in, signed_in, words_in};
 
 // the most words that an event's line has
 pub(crate) const MOST_WORDS: usize = 5;
 
 // the most bytes between a variable's address and an access
-pub(crate) const FARTHEST: u64 = 1_048_576;
+pub(crate) const FARTHEST: u64 = Event::FARTHEST_ACCESS as u64;
 
 // Collects the words of a line, and returns whether they are at most five and none is empty. Every other line has a bad word.
 pub(crate) fn are_full_words<'a>(line: &'a [u8], all: &mut ArrayVec<&'a [u8], MOST_WORDS>) -> bool

@@ -1,4 +1,4 @@
--- The table that least rows tell is best, and of the best tables whose every class is used the lexicographically least.
+-- The table that least rows give is best, and of the best tables whose every class is used the lexicographically least.
 use Rattle.std.proofs.Common.{◌≡◌, ℕ, zero, suc, ◌<◌, ◌≤◌, List, [], ◌∷◌, length, slice_index, ltb, Some, arith, refl, ap, sym, subst, ◌∙◌, inl, inr}
 use Rattle.std.specs.Bool.{⊤}
 use Rattle.std.specs.Prelude.{All}

@@ -75,7 +75,7 @@ waste_of_rest : waste_of (counts_above two_sizes 1 1) (4 ∷ []) ≡ 8
 unfolding sum_below
 waste_of_rest = refl
 
--- ---- the table that ends tell
+-- ---- the table that ends give
 
 table_of_two_rows :
     table_of_ends (need_at three_sizes 1) (number_at ((3 ∷ 3 ∷ 3 ∷ []) ∷ (1 ∷ 2 ∷ 3 ∷ []) ∷ [])) (places three_sizes 1) 2 0 ≡ 2 ∷ 4 ∷ []

@@ -1,4 +1,4 @@
--- Least rows: their ends are behind their places, and ascend where spans cross; their numbers are valid potentials.
+-- Least rows: their ends are after their places, and ascend where spans cross; their numbers are valid potentials.
 use Rattle.std.proofs.Common.{◌≡◌, ℕ, zero, suc, ◌+◌, ◌<◌, ◌≤◌, arith, ap, inl, inr}
 use Rattle.std.proofs.lemmas.Bool.{cases_lt}
 use Rattle.tuner_theory.specs.Potentials.{AreValidPotentials}

@@ -1,3 +1,4 @@
+pub mod LawLemmas
 pub mod Bound
 pub mod BoundRests
 pub mod Canonical

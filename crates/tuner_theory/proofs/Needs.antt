@@ -40,7 +40,7 @@ Ascends-places low xs zero (suc j) up lt le = Ascends-first low xs j up (omega a
 Ascends-places low [] (suc i) (suc j) up lt le = absurd (omega arith)
 Ascends-places low (x ∷ xs) (suc i) (suc j) up lt le = Ascends-places x xs i j up.1 (omega arith) (omega arith)
 
--- ---- what is in the list with a need behind it
+-- ---- what is in the list with a need after it
 
 abbrev HasAt : ℕ → List ℕ → ℕ → Type 0
 HasAt need xs i = (i < length xs) × (slice_index xs i ≡ need)

@@ -1,4 +1,4 @@
--- The waste between two needs: spans that cross, and the two sums that tell it.
+-- The waste between two needs: spans that cross, and the two sums that give it.
 use Rattle.std.proofs.Common.{◌≡◌, ℕ, ◌+◌, ◌-◌, ◌*◌, ◌^◌, ◌<◌, ◌≤◌, ◌&&◌, List, length, slice_index, cond, ltb, leb, arith, ap, inl, inr}
 use Rattle.std.proofs.lemmas.Bool.{cond_both, cases_lt, lt-ltb, le-ltb, le-leb, lt-leb}
 use Rattle.std.proofs.lemmas.Bool.Decides.{nat_tests}

@@ -132,7 +132,7 @@ module _ (counts : List ℕ) (step : ℕ) (pos : 0 < step) where
   ServesAbove-later low c cs one lt multiple served n counted above =
       subst (λ (class : Option ℕ). IsSome class) (class_for-later step pos n c cs (omega arith) multiple above) (served n counted (omega arith))
 
-  -- a class c behind low wastes at least what the span of the places between them does
+  -- a class c after low wastes at least what the span of the places between them does
   pub span-least : (low c i j : ℕ) → Reaches counts step low (places counts step) i → Reaches counts step c (places counts step) j
       → span_waste counts step i j ≤ waste_between counts step low c
   span-least low c i j ri rj =

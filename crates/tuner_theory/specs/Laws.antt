@@ -76,8 +76,8 @@ SpansFit = (counts : List ℕ) (step i j : ℕ) → IsStep step → AreCounts co
 -- ---- the waste of a span by two sums up to a need
 
 -- The waste between two needs: what the blocks of the greater one hold, less the requested bytes.
-abbrev pub SumsTellWaste : Type 0
-SumsTellWaste =
+abbrev pub SumsGiveWaste : Type 0
+SumsGiveWaste =
     (counts : List ℕ) (step low high : ℕ) → IsStep step → low ≤ high
     → waste_between counts step low high
     ≡ 16 * (high - 1) * (counted_up_to counts step high - counted_up_to counts step low)

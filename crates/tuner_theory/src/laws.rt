@@ -1,5 +1,5 @@
 //! What holds for every profile, table and certificate. Each law is the contract of a function that does nothing.
-//! A crate above uses a law by calling its function. The call costs nothing, and its `ensures` are facts from there on.
+//! The proofs of a crate above cite the lemmas that the laws follow from; a program may call a law, which costs nothing.
 ghost use Rattle.std.specs.Prelude.{ℕ, ◌^◌, ◌<◌, List};
 ghost use Rattle.class_table.specs.Tables.{IsLegalTable};
 ghost use Rattle.tuner_theory.specs.Laws.{
@@ -25,7 +25,7 @@ ghost use Rattle.tuner_theory.specs.Laws.{
   SpansFit,
   SumsAscend,
   SumsFit,
-  SumsTellWaste,
+  SumsGiveWaste,
   TunedRowsAreRests,
   TunedSheetIsOptimal,
   TunedTableIsCanonical,
@@ -71,7 +71,7 @@ pub fn law_spans_fit()
 
 /// The waste between two needs follows from two sums up to a need, and each step of that computation fits 64 bits.
 pub fn law_prefix_sums()
-    ensures waste { SumsTellWaste }
+    ensures waste { SumsGiveWaste }
     ensures ascend { SumsAscend }
     ensures fit { SumsFit }
 {}

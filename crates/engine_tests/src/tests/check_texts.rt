@@ -128,7 +128,7 @@ fn an_edge_over_a_place(rt: HostRuntime) -> Result<(), Fail> {
     run(&rt, AN_EDGE_OVER_A_PLACE)
 }
 
-// Each input breaks two conditions, one code after the other: the lesser is told.
+// Each input breaks two conditions, one code after the other: the lesser is reported.
 const THE_FIRST_OF_TWO: &[Case] = &[
     Refused(
         b"classes 3 4\nlimit 1\nstep 2\nwaste 0\nrow 0\n16 1\n",
@@ -227,7 +227,7 @@ fn small_inputs(rt: HostRuntime) -> Result<(), Fail> {
     run(&rt, SMALL_INPUTS)
 }
 
-// Where the sheet ends and the profile begins, and which line is told.
+// Where the sheet ends and the profile begins, and which line is reported.
 const LINES_OF_BOTH_PARTS: &[Case] = &[
     Fault(
         b"classes 4 2\nlimit 2\nwaste 8\n16 0\n",

@@ -122,7 +122,7 @@ const PROFILE_FAULTS: &[Case] = &[
     Case(b"classes 4\n-16 1\n", "", "error 30 BadLine line 2"),
     Case(b"classes 4\nLarge 1\n", "", "error 30 BadLine line 2"),
     Case(b"classes 4\nlarge x\n", "", "error 30 BadLine line 2"),
-    // a line behind the large requests, whatever it is
+    // a line after the large requests, whatever it is
     Case(b"classes 4\nlarge 1\n16 1\n", "", "error 30 BadLine line 3"),
     Case(
         b"classes 4\nlarge 1\nlarge 0\n",

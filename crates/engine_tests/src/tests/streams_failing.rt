@@ -3,6 +3,7 @@ use super::calls::{Call, call_on};
 use super::support::{Repeated, ended, sink, source};
 use mte_engine::{ByteSink, ByteSource, MOST_INPUT, StreamSink, StreamSource, score};
 use std::io::{ErrorKind, Read, Write};
+use std::process::Abort;
 use std::test::Fail;
 
 const INPUT: &[u8] = b"classes 4\n16 3\n40 1\n";
@@ -44,25 +45,62 @@ const CASES: [Case; 6] = [
     ),
 ];
 
+// the most bytes that a read and a write move, and how many reads and writes succeed before one fails
+#[derive(Debug, Clone, Copy)]
+struct Streams {
+    read: usize,
+    reads: Option<u64>,
+    write: usize,
+    writes: Option<u64>,
+}
+
+const WHOLE: Streams = Streams {
+    read: usize::MAX,
+    reads: None,
+    write: usize::MAX,
+    writes: None,
+};
+
+// Calls the engine over such streams: how it ends, how many reads and writes fail, and what is written.
+fn ends(
+    rt: &(impl Abort + AllocGlobal),
+    call: Call,
+    input: &str,
+    streams: Streams,
+    wanted: &str,
+    failures: (u64, u64),
+    written: &[u8],
+) -> Result<(), Fail> {
+    let mut from = source(input.as_bytes());
+    from.most = streams.read;
+    from.until_failure = streams.reads;
+    let mut to = sink(rt.alloc())?;
+    to.most = streams.write;
+    to.until_failure = streams.writes;
+    let end = call_on(rt, call, &mut from, &mut to);
+    let ends = ended(rt.alloc(), end)?;
+    assert_eq!(rt; ends.as_str(), wanted, "{call:?} over {streams:?}");
+    assert_eq!(rt;
+        (from.failures(), to.failures()),
+        failures,
+        "{call:?} over {streams:?}"
+    );
+    assert_eq!(rt; to.text.as_slice(), written, "{call:?} over {streams:?}");
+    Ok(())
+}
+
 // Each read fails in turn, of a byte each. A call of the sink would fail too.
 #[test]
 fn each_read_fails_in_turn(rt: HostRuntime) -> Result<(), Fail> {
     for Case(call, input, _) in CASES {
         for calls in 0..=input.len() as u64 {
-            let mut from = source(input.as_bytes());
-            from.most = 1;
-            from.until_failure = Some(calls);
-            let mut to = sink(rt.alloc())?;
-            to.until_failure = Some(0);
-            let end = call_on(&rt, call, &mut from, &mut to);
-            let ends = ended(rt.alloc(), end)?;
-            assert_eq!(rt;
-                ends.as_str(),
-                "error 81 ReadFault",
-                "{call:?} after {calls} reads"
-            );
-            assert_eq!(rt; from.failures(), 1, "{call:?} after {calls} reads");
-            assert_eq!(rt; to.failures(), 0, "{call:?} after {calls} reads");
+            let streams = Streams {
+                read: 1,
+                reads: Some(calls),
+                writes: Some(0),
+                ..WHOLE
+            };
+            ends(&rt, call, input, streams, "error 81 ReadFault", (1, 0), b"")?;
         }
     }
     Ok(())
@@ -73,23 +111,21 @@ fn each_read_fails_in_turn(rt: HostRuntime) -> Result<(), Fail> {
 fn each_write_fails_in_turn(rt: HostRuntime) -> Result<(), Fail> {
     for Case(call, input, written) in CASES {
         for calls in 0..written.len() {
-            let mut from = source(input.as_bytes());
-            let mut to = sink(rt.alloc())?;
-            to.most = 1;
-            to.until_failure = Some(calls as u64);
-            let end = call_on(&rt, call, &mut from, &mut to);
-            let ends = ended(rt.alloc(), end)?;
-            assert_eq!(rt;
-                ends.as_str(),
+            let streams = Streams {
+                write: 1,
+                writes: Some(calls as u64),
+                ..WHOLE
+            };
+            let before = &written.as_bytes()[..calls];
+            ends(
+                &rt,
+                call,
+                input,
+                streams,
                 "error 82 WriteFault",
-                "{call:?} after {calls} writes"
-            );
-            assert_eq!(rt; to.failures(), 1, "{call:?} after {calls} writes");
-            assert_eq!(rt;
-                to.text.as_slice(),
-                &written.as_bytes()[..calls],
-                "{call:?} after {calls} writes"
-            );
+                (0, 1),
+                before,
+            )?;
         }
     }
     Ok(())
@@ -98,13 +134,16 @@ fn each_write_fails_in_turn(rt: HostRuntime) -> Result<(), Fail> {
 #[test]
 fn a_write_that_takes_nothing_fails(rt: HostRuntime) -> Result<(), Fail> {
     for Case(call, input, _) in CASES {
-        let mut from = source(input.as_bytes());
-        let mut to = sink(rt.alloc())?;
-        to.most = 0;
-        let end = call_on(&rt, call, &mut from, &mut to);
-        let ends = ended(rt.alloc(), end)?;
-        assert_eq!(rt; ends.as_str(), "error 82 WriteFault", "{call:?}");
-        assert_eq!(rt; to.failures(), 1, "{call:?}");
+        let streams = Streams { write: 0, ..WHOLE };
+        ends(
+            &rt,
+            call,
+            input,
+            streams,
+            "error 82 WriteFault",
+            (0, 1),
+            b"",
+        )?;
     }
     Ok(())
 }
@@ -112,14 +151,20 @@ fn a_write_that_takes_nothing_fails(rt: HostRuntime) -> Result<(), Fail> {
 #[test]
 fn a_byte_at_a_time(rt: HostRuntime) -> Result<(), Fail> {
     for Case(call, input, written) in CASES {
-        let mut from = source(input.as_bytes());
-        from.most = 1;
-        let mut to = sink(rt.alloc())?;
-        to.most = 1;
-        let end = call_on(&rt, call, &mut from, &mut to);
-        let ends = ended(rt.alloc(), end)?;
-        assert_eq!(rt; ends.as_str(), "done", "{call:?}");
-        assert_eq!(rt; to.text.as_slice(), written.as_bytes(), "{call:?}");
+        let streams = Streams {
+            read: 1,
+            write: 1,
+            ..WHOLE
+        };
+        ends(
+            &rt,
+            call,
+            input,
+            streams,
+            "done",
+            (0, 0),
+            written.as_bytes(),
+        )?;
     }
     Ok(())
 }
@@ -185,7 +230,7 @@ impl Write for Broken {
 }
 
 #[test]
-fn failures_of_standard_streams_are_told(rt: HostRuntime) -> Result<(), Fail> {
+fn failures_of_standard_streams_are_reported(rt: HostRuntime) -> Result<(), Fail> {
     let mut from = StreamSource::new(Broken);
     let mut to = sink(rt.alloc())?;
     let end = score(rt.alloc(), &mut from, &mut to);

@@ -20,30 +20,22 @@ ghost use Rattle.heap_theory.specs.OwnPointers.{
   ReallocAcceptsOwnPointers,
 };
 
-use super::laws_below;
-
 /// No chunk granule has tag 0. A chunk granule of an even slot and one of an odd slot never have the same tag.
 pub fn law_chunk_tags()
     ensures not_zero { AfterEveryRun ChunkTagsNotZero }
     ensures differ { AfterEveryRun ChunkTagsDiffer }
-{
-    laws_below();
-}
+{}
 
 /// An access through any variable that touches slack, a header or a tail is a fault.
 pub fn law_bookkeeping()
     ensures variables { AfterEveryRun NullOrTagged }
     ensures faults { AfterEveryRun BookkeepingOutOfReach }
-{
-    laws_below();
-}
+{}
 
 /// Through a variable whose generation is live, an access of bytes of its chunk succeeds.
 pub fn law_inside()
     ensures { AfterEveryRun InsideSucceeds }
-{
-    laws_below();
-}
+{}
 
 /// `free` and `realloc` accept the pointer that was given out for a live chunk, and act on that chunk. They accept no other pointer but
 /// null. Malloc, calloc and realloc give out such a pointer, and it remains one until a free or a realloc of it. So a variable whose
@@ -56,35 +48,25 @@ pub fn law_own_pointer()
     ensures given { OwnPointersAreGiven }
     ensures stays { OwnPointersStay }
     ensures variables { AfterEveryRun LiveVariablesAreAccepted }
-{
-    laws_below();
-}
+{}
 
 /// Through a variable with a generation of a slot, an access that touches the payload of a slot of the other parity is a fault.
 pub fn law_neighbours()
     ensures { AfterEveryRun NeighboursFault }
-{
-    laws_below();
-}
+{}
 
 /// Through a variable whose generation was freed, an access that touches its slot is a fault, until the next generation was freed too.
 pub fn law_freed()
     ensures { AfterEveryRun FreedFaults }
-{
-    laws_below();
-}
+{}
 
 /// A dead slot is given out only after the bytes freed from its free on, those of its own block included, exceed the quarantine's limit.
 pub fn law_delay()
     ensures { AtEveryEvent ReuseIsDelayed }
-{
-    laws_below();
-}
+{}
 
 /// In an event each slot stays fresh, stays dead with its size, tag and mark, or stays live (a realloc in place may change its size); or it
 /// is freed; or it is given out.
 pub fn law_life()
     ensures { AtEveryEvent (λ quarantine. LivesOn) }
-{
-    laws_below();
-}
+{}

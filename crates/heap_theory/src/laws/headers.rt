@@ -19,20 +19,18 @@ ghost use Rattle.heap_theory.specs.HeaderLaws.{
   OtherHeadersStay,
   OtherLinksStay,
   OwnLinkIsSet,
-  PutBehind,
-  PutBehindIsLast,
+  PutAtEnd,
+  PutAtEndIsLast,
   PutInFront,
   ReadHeaderFits,
   SlotHeaderFits,
-  SlotsTellHeaderWords,
+  SlotsGiveHeaderWords,
   TagsAreSeen,
   TagsKeepHeaders,
   WordsAreOfHeader,
   WordsFit,
   WrittenHeaderIsRead,
 };
-
-use super::laws_below;
 
 /// A header that was written is read back, and nothing else changes.
 pub fn law_header()
@@ -47,26 +45,20 @@ pub fn law_header()
     ensures memory { HeaderKeepsMemory }
     ensures under_tags { TagsKeepHeaders }
     ensures under_bytes { OtherBytesKeepHeaders }
-{
-    laws_below();
-}
+{}
 
 /// What the header of a heap's slot says, and that its fields have room.
 pub fn law_slot_header()
     ensures state { HeaderShowsState }
     ensures class { ClassIsAtItsNumber }
     ensures fits { SlotHeaderFits }
-{
-    laws_below();
-}
+{}
 
 /// Two memories that keep heaps with the same layout, slots, total and limit have the same words in every slot's header: both words, all
 /// 128 bits. So a change that keeps these four keeps every header word.
 pub fn law_header_words()
-    ensures { SlotsTellHeaderWords }
-{
-    laws_below();
-}
+    ensures { SlotsGiveHeaderWords }
+{}
 
 /// Links depend on the slots of their list alone, and show one list. The law also says how they change as a slot goes to the front or to
 /// the end.
@@ -76,17 +68,15 @@ pub fn law_links()
     ensures once { EachSlotOnce }
     ensures ends { LastSlotEnds }
     ensures in_front { PutInFront }
-    ensures behind { PutBehind }
-    ensures last { PutBehindIsLast }
+    ensures after { PutAtEnd }
+    ensures last { PutAtEndIsLast }
 {}
 
 /// How the links of slots change with their headers.
 pub fn law_links_in_headers()
     ensures own { OwnLinkIsSet }
     ensures others { OtherLinksStay }
-{
-    laws_below();
-}
+{}
 
 /// What a heap's caller sees of the memory: all but the bytes of headers.
 pub fn law_seen_memory()
@@ -97,6 +87,4 @@ pub fn law_seen_memory()
     ensures granules { OtherGranulesAreSeen }
     ensures header_bytes { HeaderBytesAreNotSeen }
     ensures spared { HeadersAreSpared }
-{
-    laws_below();
-}
+{}

@@ -14,8 +14,6 @@ ghost use Rattle.heap_theory.specs.Laws.{
   WritingKeepsSound,
 };
 
-use super::laws_below;
-
 /// A new heap is sound, and each change that a call makes keeps it so.
 pub fn law_sound()
     ensures first { FirstHeapIsSound }
@@ -24,25 +22,19 @@ pub fn law_sound()
     ensures resized { ResizingKeepsSound }
     ensures moved { MovingKeepsSound }
     ensures written { WritingKeepsSound }
-{
-    laws_below();
-}
+{}
 
 /// Each call keeps a heap sound, even if it is refused.
 pub fn law_calls()
     ensures { EachCallKeepsSound }
-{
-    laws_below();
-}
+{}
 
 /// What holds for the slot that a request gets, and for the chunk that a pointer names.
 pub fn law_choices()
     ensures request { RequestIsGiven }
     ensures chunk { NamedChunkIsLive }
     ensures pointer { PointerIsOfSlot }
-{
-    laws_below();
-}
+{}
 
 /// Which fresh slot is the lowest of its class.
 pub fn law_lowest_fresh()
@@ -54,6 +46,4 @@ pub fn law_lowest_fresh()
 /// freed chunk, or a tail.
 pub fn law_kinds()
     ensures { GranuleIsOfItsKind }
-{
-    laws_below();
-}
+{}

@@ -13,15 +13,11 @@ ghost use Rattle.heap_theory.specs.Laws.{
 };
 ghost use Rattle.heap_theory.specs.SoundRun.{IsSoundRun};
 
-use super::laws_below;
-
 /// What holds for every state that a run reaches: its heap is sound, and each variable with a generation is its slot's address under
 /// that generation's tag.
 pub fn law_states()
     ensures { AfterEveryRun IsSoundRun }
-{
-    laws_below();
-}
+{}
 
 /// What is stored of a run determines the rest. One more event is one more step, one more answer and one more report line.
 pub fn law_run()
@@ -45,9 +41,7 @@ pub fn law_accesses()
     ensures store { StoreIsAnswered }
     ensures done { StoreIsDone }
     ensures trace { AllAccessesAreAnswered }
-{
-    laws_below();
-}
+{}
 
 /// Totals that are counted event by event are the counts and sums over all events.
 pub fn law_totals()

@@ -374,7 +374,7 @@ fn failing_streams(rt: HostRuntime) -> Result<(), Fail> {
 }
 
 #[test]
-fn a_terminal_is_told_what_is_waited_for(rt: HostRuntime) -> Result<(), Fail> {
+fn a_terminal_is_shown_what_is_waited_for(rt: HostRuntime) -> Result<(), Fail> {
     let cases = [
         ("score", 0, "mte_tool: reading standard input; "),
         ("score --help", 0, ""),

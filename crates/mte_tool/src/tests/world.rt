@@ -1,7 +1,6 @@
 //! A runtime with its words, its input and its outputs in memory.
 ghost use Rattle.std.specs.Prelude.{◌≤◌, IfOk, length};
 
-use crate::program;
 use std::alloc::{Alloc, AllocError, Allocator, Global};
 use std::cell::{Cell, RefCell};
 use std::env::FillError;
@@ -48,7 +47,7 @@ pub fn run(alloc: Global, given: Given) -> Result<Ran, AllocError> {
         out: RefCell::new(Vec::new(alloc)),
         err: RefCell::new(Vec::new(alloc)),
     };
-    let status = program::run(&world, given.at_terminal).status();
+    let status = command_line::run(&world, given.at_terminal).status();
     Ok(Ran {
         status,
         out: text_in(alloc, &world.out)?,

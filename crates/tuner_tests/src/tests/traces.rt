@@ -22,7 +22,7 @@ struct Seen {
     answer: Result<(), TraceError>,
 }
 
-// What pieces give, whose events are taken out behind each of them. An error stays to the end.
+// What pieces give, whose events are taken out after each of them. An error stays to the end.
 fn read_pieces(rt: &impl Abort, alloc: Global, pieces: &[&[u8]]) -> Result<Seen, Fail> {
     let mut reader = TraceReader::new(alloc);
     let mut events = Vec::new(alloc);
@@ -69,13 +69,8 @@ fn gives(
     let mut bytes = Vec::new(alloc);
     for place in 0..text.len() {
         bytes.push(&text[place..place + 1])?;
-        let (front, behind) = text.split_at(place);
-        agrees(
-            rt,
-            read_pieces(rt, alloc, &[front, behind])?,
-            events,
-            answer,
-        )?;
+        let (front, after) = text.split_at(place);
+        agrees(rt, read_pieces(rt, alloc, &[front, after])?, events, answer)?;
     }
     agrees(rt, read_pieces(rt, alloc, &bytes)?, events, answer)?;
     agrees(rt, read_pieces(rt, alloc, &[text])?, events, answer)

@@ -221,7 +221,7 @@ fn counts_what_it_asks(rt: HostRuntime) -> Result<(), Fail> {
 #[test]
 fn evaluations_of_small_profiles(rt: HostRuntime) -> Result<(), Fail> {
     let two = Profile::read(rt.alloc(), TWO_SIZES)?;
-    // two in row 1; in row 2 the one end behind place 1, and then both ends behind place 0
+    // two in row 1; in row 2 the one end after place 1, and then both ends after place 0
     assert_eq!(rt; tune(rt.alloc(), &two, 2, 1)?.evaluations(), 5);
     let none = Profile::read(rt.alloc(), b"")?;
     assert_eq!(rt; tune(rt.alloc(), &none, 1, 1)?.evaluations(), 0);

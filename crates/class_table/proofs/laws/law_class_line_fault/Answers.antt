@@ -1,17 +1,14 @@
-use Rattle.class_table.proofs.FirstFaults.{first_fault-missing, first_fault-refused, first_fault-refused_text}
-use Rattle.class_table.proofs.FirstFaults.{refused-first_fault, refused_text-first_fault}
+use Rattle.class_table.proofs.LawLemmas.{faulty_text_is_refused, first_fault_is_refused, missing_line_is_first_fault, refused_text_has_first_fault}
 use Rattle.class_table.proofs.laws.law_class_line_fault.Goals as goal
 
 pub returns-clause-first : goal.returns-clause-first
-returns-clause-first c =
-    let laws = c.law_text.ensures in
-    λ text line first. (first_fault-refused laws text line first, refused-first_fault laws text line first)
+returns-clause-first c = first_fault_is_refused
 
 pub returns-clause-missing : goal.returns-clause-missing
-returns-clause-missing c = first_fault-missing c.law_text.ensures
+returns-clause-missing c = missing_line_is_first_fault
 
 pub returns-clause-text : goal.returns-clause-text
-returns-clause-text c = first_fault-refused_text c.law_text.ensures
+returns-clause-text c = refused_text_has_first_fault
 
 pub returns-clause-refused : goal.returns-clause-refused
-returns-clause-refused c = refused_text-first_fault c.law_text.ensures
+returns-clause-refused c = faulty_text_is_refused

@@ -1,5 +1,5 @@
-use Rattle.class_table.proofs.Least.{serving-need}
+use Rattle.class_table.proofs.LawLemmas.{serving_is_need}
 use Rattle.class_table.proofs.laws.law_need.Goals as goal
 
 pub returns : goal.returns
-returns c = serving-need
+returns c = serving_is_need

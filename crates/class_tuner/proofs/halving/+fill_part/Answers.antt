@@ -1,5 +1,6 @@
 use Rattle.std.proofs.Common.{rules, ◌≡◌, ℕ, zero, suc, ◌+◌, ◌-◌, ◌*◌, ◌^◌, ◌/◌, ◌<◌, ◌≤◌, slice_index, slice_set, add-one, arith, refl, sym, ◌∙◌, inl, inr}
 use Rattle.std.proofs.lemmas.List.{get_or-set_same}
+use Rattle.tuner_theory.proofs.LawLemmas.{ends_ascend}
 use Rattle.class_tuner.specs.Filling.{AreEndsBetween, tried_within}
 use Rattle.class_tuner.proofs.Halves.{between-left, between-right, count-halves, half-digits}
 use Rattle.class_tuner.proofs.Tried.{tried-none, tried-part}
@@ -19,7 +20,7 @@ fill_part-requires g t c κs within =
     let asked = c.least_end-cost.new.costs in
     let between : AreEndsBetween (g.C.CostSource.cost asked) (g.C.CostSource.place_count asked) c.args.before.now part.start middle c.args.window.low end =
     rw (c.least_end-cost.ensures.same_cost, c.least_end-cost.ensures.same_places)
-    (between-left c.law_ends_ascend.ensures (g.C.CostSource.cost c.args.costs.now) (g.C.CostSource.place_count c.args.costs.now)
+    (between-left ends_ascend (g.C.CostSource.cost c.args.costs.now) (g.C.CostSource.place_count c.args.costs.now)
     (g.met.C.CostSource.is_crossing c.args.costs.now) c.args.before.now part.start part.end c.args.window.low c.args.window.high middle end
     c.requires.between c.least_end-cost.ensures.least (omega arith)) in
     search (rules, between)
@@ -32,7 +33,7 @@ fill_part-requires-then-part g t c κs within =
     let asked = c.fill_part.new.costs in
     let between : AreEndsBetween (g.C.CostSource.cost asked) (g.C.CostSource.place_count asked) c.args.before.now (middle + 1) part.end end c.args.window.high =
     rw (c.fill_part.ensures.same_cost, c.fill_part.ensures.same_places, c.least_end-cost.ensures.same_cost, c.least_end-cost.ensures.same_places, add-one)
-    (between-right c.law_ends_ascend.ensures (g.C.CostSource.cost c.args.costs.now) (g.C.CostSource.place_count c.args.costs.now)
+    (between-right ends_ascend (g.C.CostSource.cost c.args.costs.now) (g.C.CostSource.place_count c.args.costs.now)
     (g.met.C.CostSource.is_crossing c.args.costs.now) c.args.before.now part.start part.end c.args.window.low c.args.window.high middle end
     c.requires.between c.least_end-cost.ensures.least (omega arith)) in
     search (rules, between)

@@ -1,11 +1,11 @@
-use Rattle.line_text.proofs.Signs.{signed_decimal-signed_of, signed_of-signed_decimal, IsLine-signed_decimal, IsWord-signed_decimal}
+use Rattle.line_text.proofs.LawLemmas.{signed_is_spelled, spelled_signed_is_a_word, spelled_signed_is_read}
 use Rattle.line_text.proofs.laws.law_signed.Goals as goal
 
 pub returns-clause-spelled : goal.returns-clause-spelled
-returns-clause-spelled c = signed_decimal-signed_of
+returns-clause-spelled c = signed_is_spelled
 
 pub returns-clause-read : goal.returns-clause-read
-returns-clause-read c = signed_of-signed_decimal
+returns-clause-read c = spelled_signed_is_read
 
 pub returns-clause-word : goal.returns-clause-word
-returns-clause-word c = λ z fits. (IsLine-signed_decimal z fits, IsWord-signed_decimal z fits)
+returns-clause-word c = spelled_signed_is_a_word

@@ -3,6 +3,7 @@ use Rattle.std.proofs.lemmas.List.{take_more, length-take}
 use Rattle.heap_theory.specs.Losses.{requested_sizes}
 use Rattle.heap_theory.specs.declared.event.Event.{Event}
 use Rattle.profile_count.specs.Requests.{profile_of_sizes}
+use Rattle.profile_count.proofs.LawLemmas.{added_requests_are_counted}
 use Rattle.mte_engine.specs.Traces.{profile_of_events}
 use Rattle.mte_engine.proofs.Counting.{length-requested_sizes, one_requested}
 use Rattle.mte_engine.proofs.traces.count_all.Goals as goal
@@ -20,3 +21,6 @@ loop-place-preserved c =
     c.count.ensures (requested_sizes before) short c.loop-place.invariant
     ∙ ap profile_of_sizes (one_requested [] before event)
     ∙ ap profile_of_events (sym more)
+
+pub loop-place-init : goal.loop-place-init
+loop-place-init c = c.in_ok-profile.ensures ∙ added_requests_are_counted []

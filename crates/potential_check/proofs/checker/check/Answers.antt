@@ -1,3 +1,4 @@
+use Rattle.tuner_theory.proofs.LawLemmas.{optimal_is_best}
 use Rattle.potential_check.specs.Sheets.{sheet_of}
 use Rattle.potential_check.proofs.checker.check.Goals as goal
 
@@ -8,5 +9,5 @@ pub returns-clause-verdict : goal.returns-clause-verdict
 returns-clause-verdict c = rw (c.new-2.ensures, c.in_ok-spans.ensures.spans) at c.in-None.ensures.none
 
 pub returns-clause-best : goal.returns-clause-best
-returns-clause-best c = λ _. c.law_optimal_is_best.ensures c.args.profile.now.counts (sheet_of c.args.sheet.now) c.in_default.ensures.legal
+returns-clause-best c = λ _. optimal_is_best c.args.profile.now.counts (sheet_of c.args.sheet.now) c.in_default.ensures.legal
     (rw (c.new-2.ensures, c.in_ok-spans.ensures.spans) at c.in-None.ensures.none)

@@ -1,20 +1,8 @@
-use Rattle.potential_check.proofs.SheetFaults.{fault-first, first-fault}
+use Rattle.potential_check.proofs.LawLemmas.{fault_is_first, first_fault_is_reported}
 use Rattle.potential_check.proofs.laws.law_sheet_fault.Goals as goal
 
 pub returns-clause-first : goal.returns-clause-first
-returns-clause-first c =
-    fault-first (record {
-      text = c.law_text.ensures;
-      table_is_spelled = c.law_class_line.ensures.read;
-      spelled_table_is_read = c.law_class_line.ensures.written;
-      line_alone = c.law_class_line.ensures.line;
-    })
+returns-clause-first c = fault_is_first
 
-pub returns-clause-told : goal.returns-clause-told
-returns-clause-told c =
-    first-fault (record {
-      text = c.law_text.ensures;
-      table_is_spelled = c.law_class_line.ensures.read;
-      spelled_table_is_read = c.law_class_line.ensures.written;
-      line_alone = c.law_class_line.ensures.line;
-    })
+pub returns-clause-reported : goal.returns-clause-reported
+returns-clause-reported c = first_fault_is_reported

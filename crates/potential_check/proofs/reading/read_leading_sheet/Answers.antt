@@ -23,5 +23,5 @@ returns c =
       sheet = leading-read _ _ _ found _ (rw c.waste_number-size.ensures.number at rows.rows);
       size = omega (arith, found.size, rows.size, c.waste_number-size.ensures.number);
       few = omega (arith, rows.size, c.waste_number-size.ensures.small);
-      behind = c.rest.ensures ∙ rows.behind ∙ ap (λ n. drop n c.head_in.new.lines) rows.size.0 ∙ sym found.rest;
+      after = c.rest.ensures ∙ rows.after ∙ ap (λ n. drop n c.head_in.new.lines) rows.size.0 ∙ sym found.rest;
     }

@@ -33,7 +33,7 @@ loop-line-preserved c =
         c.loop-line.invariant.size,
         ap length (rows_of-row _ _ _ next.0 next.1),
       ));
-      behind = rw (pushed, length-append, add-one) (drop-line c.args.lines.now _ _ _ (length c.loop-line.rows.items) c.loop-line.invariant.behind next.0);
+      after = rw (pushed, length-append, add-one) (drop-line c.args.lines.now _ _ _ (length c.loop-line.rows.items) c.loop-line.invariant.after next.0);
     }
 
 pub returns-clause-rows : goal.returns-clause-rows

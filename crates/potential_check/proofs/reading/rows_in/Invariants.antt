@@ -9,7 +9,7 @@ abbrev pub invariant-loop-line : goal.invariant-loop-line
 invariant-loop-line l = record {
   rows : RowsSoFar l.first (take_while is_row_line l.fn.lines) (take_while is_row_line l.lines) (lists_of l.rows.items);
   size : length (take_while is_row_line l.fn.lines) ≡ length l.rows.items + length (take_while is_row_line l.lines);
-  behind : l.lines ≡ drop (length l.rows.items) l.fn.lines;
+  after : l.lines ≡ drop (length l.rows.items) l.fn.lines;
 }
 
 abbrev pub decreases-loop-line : goal.decreases-loop-line

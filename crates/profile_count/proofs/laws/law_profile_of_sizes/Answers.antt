@@ -1,14 +1,14 @@
-use Rattle.profile_count.proofs.CountedRequests.{count_for-le, profile_of_sizes-counts, with_more-nothing_counted, with_one_more-profile_of_sizes}
+use Rattle.profile_count.proofs.LawLemmas.{added_requests_are_counted, counts_are_few, one_more_is_counted, profile_counts_requests}
 use Rattle.profile_count.proofs.laws.law_profile_of_sizes.Goals as goal
 
 pub returns-clause-counts : goal.returns-clause-counts
-returns-clause-counts c = profile_of_sizes-counts
+returns-clause-counts c = profile_counts_requests
 
 pub returns-clause-added : goal.returns-clause-added
-returns-clause-added c = with_more-nothing_counted
+returns-clause-added c = added_requests_are_counted
 
 pub returns-clause-one_more : goal.returns-clause-one_more
-returns-clause-one_more c = with_one_more-profile_of_sizes
+returns-clause-one_more c = one_more_is_counted
 
 pub returns-clause-few : goal.returns-clause-few
-returns-clause-few c = count_for-le
+returns-clause-few c = counts_are_few

@@ -1,9 +1,8 @@
-use Rattle.profile_count.proofs.ReadIsSpelled.{spelled-profile_of}
-use Rattle.profile_count.proofs.SpelledIsRead.{profile_of-spelled}
+use Rattle.profile_count.proofs.LawLemmas.{profile_is_spelled, spelled_profile_is_read}
 use Rattle.profile_count.proofs.laws.law_profile_text.Goals as goal
 
 pub returns-clause-read : goal.returns-clause-read
-returns-clause-read c = spelled-profile_of c.law_text.ensures
+returns-clause-read c = profile_is_spelled
 
 pub returns-clause-written : goal.returns-clause-written
-returns-clause-written c = profile_of-spelled c.law_text.ensures
+returns-clause-written c = spelled_profile_is_read

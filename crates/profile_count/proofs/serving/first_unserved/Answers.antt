@@ -1,5 +1,5 @@
 use Rattle.std.proofs.Common.{◌∙◌, sym, arith}
-use Rattle.profile_count.proofs.Unserved.{unserved_here, not_counted_here, none_behind, skips_served}
+use Rattle.profile_count.proofs.Unserved.{unserved_here, not_counted_here, none_after, skips_served}
 use Rattle.profile_count.proofs.serving.first_unserved.Goals as goal
 
 pub loop-n-init : goal.loop-n-init
@@ -14,4 +14,4 @@ pub loop-n-preserved : goal.loop-n-preserved
 loop-n-preserved c = c.loop-n.invariant ∙ not_counted_here c.args.counts.now c.args.table.now c.loop-n.n (omega arith) c.if-counts-n-gt0.false
 
 pub returns : goal.returns
-returns c = sym (c.loop-n.invariant ∙ none_behind c.args.counts.now c.args.table.now c.loop-n.n (omega arith))
+returns c = sym (c.loop-n.invariant ∙ none_after c.args.counts.now c.args.table.now c.loop-n.n (omega arith))

@@ -1,11 +1,11 @@
-use Rattle.replay_core.proofs.StoredMore.{lines_of-none, lines_of-push, report_is}
+use Rattle.replay_core.proofs.LawLemmas.{lines_of_none, lines_of_one_more, report_is_lines_and_totals}
 use Rattle.replay_core.proofs.laws.law_report.Goals as goal
 
 pub returns-clause-none : goal.returns-clause-none
-returns-clause-none c = lines_of-none
+returns-clause-none c = lines_of_none
 
 pub returns-clause-one_more : goal.returns-clause-one_more
-returns-clause-one_more c = lines_of-push c.laws_below.ensures
+returns-clause-one_more c = lines_of_one_more
 
 pub returns-clause-whole : goal.returns-clause-whole
-returns-clause-whole c = report_is
+returns-clause-whole c = report_is_lines_and_totals

@@ -1,5 +1,7 @@
 use Rattle.std.proofs.Common.{◌≤◌, ◌+◌, refl, sym, ap, ◌∙◌, arith}
 use Rattle.machine_theory.specs.Memory.{written}
+use Rattle.machine_theory.proofs.ChangeLaws.{written-append}
+use Rattle.machine_theory.proofs.LawLemmas.{other_bytes}
 use Rattle.tagged_heap.proofs.BytesInParts.{written-none, bytes_at-none, copied_more, copied_long}
 use Rattle.tagged_heap.proofs.bytes.copy.Goals as goal
 
@@ -12,8 +14,8 @@ loop-done-preserved c =
     let i = c.loop-done.invariant in
     let few : c.min-len.result ≤ 256 = omega (arith, c.min-len.ensures) in
     let more : c.loop-done.done + c.min-len.result ≤ c.args.count = omega (arith, c.min-len.ensures, i.2) in
-    let parts = c.law_changes.ensures.bytes_in_parts in
-    let others = c.law_reads.ensures.other_bytes in (
+    let parts = written-append in
+    let others = other_bytes in (
       copied_more parts others c.args.memory.now c.loop-done.memory c.write_bytes.new.self c.args.from c.args.to c.loop-done.done c.min-len.result c.args.count c.loop-done.piece
           c.read_bytes.new.to i.0 i.3 few more c.read_bytes.ensures c.requires.apart c.write_bytes.ensures.written,
       c.write_bytes.ensures.others.len ∙ i.1,

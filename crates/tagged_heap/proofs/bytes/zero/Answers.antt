@@ -1,6 +1,7 @@
 use Rattle.std.proofs.Common.{◌≡◌, ℕ, ◌+◌, ◌*◌, length, replicate, refl, sym, ap, ◌∙◌, arith}
 use Rattle.std.proofs.lemmas.List.{length-replicate}
 use Rattle.machine_theory.specs.Memory.{written}
+use Rattle.machine_theory.proofs.ChangeLaws.{written-append}
 use Rattle.tagged_heap.proofs.BytesInParts.{written-none, zeros_more}
 use Rattle.tagged_heap.proofs.bytes.zero.Goals as goal
 
@@ -13,7 +14,7 @@ loop-done-preserved c =
     let before = c.loop-done.invariant.0 in
     let place : 16 * (c.args.first + c.loop-done.done) ≡ 16 * c.args.first + length (replicate (16 * c.loop-done.done) 0) = omega (arith, length-replicate {A = ℕ} (16 * c.loop-done.done) 0) in (
       c.zero_granule.ensures.written ∙ ap (λ k. written k (replicate 16 0) c.loop-done.memory) place ∙ ap (written _ (replicate 16 0)) before
-          ∙ c.law_changes.ensures.bytes_in_parts (16 * c.args.first) (replicate (16 * c.loop-done.done) 0) (replicate 16 0) m
+          ∙ written-append (16 * c.args.first) (replicate (16 * c.loop-done.done) 0) (replicate 16 0) m
           ∙ ap (λ zeros. written (16 * c.args.first) zeros m) (zeros_more c.loop-done.done),
       c.zero_granule.ensures.others.len ∙ c.loop-done.invariant.1,
     )

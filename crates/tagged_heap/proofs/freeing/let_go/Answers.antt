@@ -10,12 +10,12 @@ use Rattle.tagged_heap.proofs.freeing.let_go.Goals.{In-Some, After-list_freed}
 pub next_out-requires-clause-region : goal.next_out-requires-clause-region
 next_out-requires-clause-region c =
     let some = c.loop-slot.invariant.0 in
-    region_at c.laws_below.ensures some.0 c.args.layout.now some.1 c.loop-slot.memory c.loop-slot.quarantine c.loop-slot.lists some.2
+    region_at some.0 c.args.layout.now some.1 c.loop-slot.memory c.loop-slot.quarantine c.loop-slot.lists some.2
 
 pub next_out-requires-clause-linked : goal.next_out-requires-clause-linked
 next_out-requires-clause-linked c =
     let some = c.loop-slot.invariant.0 in
-    stands_at c.laws_below.ensures some.0 c.args.layout.now some.1 c.loop-slot.memory c.loop-slot.quarantine c.loop-slot.lists some.2
+    stands_at some.0 c.args.layout.now some.1 c.loop-slot.memory c.loop-slot.quarantine c.loop-slot.lists some.2
 
 -- what was taken off
 let_out : (c : In-Some) → IsLetOut c.args.layout.now c.loop-slot.memory c.next_out.new.memory c.loop-slot.quarantine c.next_out.new.self c.in-Some.slot
@@ -32,7 +32,7 @@ let_out c = record {
 listed : (c : In-Some) → IsListed c.loop-slot.lists (header_in c.args.layout.now c.next_out.new.memory c.in-Some.slot).class
 listed c =
     let some = c.loop-slot.invariant.0 in
-    list_fits c.laws_below.ensures some.0 c.args.layout.now some.1 c.loop-slot.memory c.loop-slot.quarantine c.loop-slot.lists some.2 c.next_out.new.memory c.next_out.new.self c.in-Some.slot (let_out c)
+    list_fits some.0 c.args.layout.now some.1 c.loop-slot.memory c.loop-slot.quarantine c.loop-slot.lists some.2 c.next_out.new.memory c.next_out.new.self c.in-Some.slot (let_out c)
 
 pub list_freed-requires-clause-few : goal.list_freed-requires-clause-few
 list_freed-requires-clause-few c = (listed (goal.at.list_freed-requires-clause-few c).In-Some).few
@@ -47,7 +47,7 @@ next : (c : After-list_freed) → (out : IsLetOut c.args.layout.now c.loop-slot.
     IsLettingGo heap c.list_freed.new.memory c.next_out.new.self c.list_freed.new.lists
 next c out heap is g =
     subst (IsLettingGo heap c.list_freed.new.memory c.next_out.new.self) (sym c.list_freed.ensures.front)
-    (step_at c.laws_below.ensures heap c.args.layout.now is c.loop-slot.memory c.loop-slot.quarantine c.loop-slot.lists g c.next_out.new.memory c.list_freed.new.memory c.next_out.new.self c.in-Some.slot
+    (step_at heap c.args.layout.now is c.loop-slot.memory c.loop-slot.quarantine c.loop-slot.lists g c.next_out.new.memory c.list_freed.new.memory c.next_out.new.self c.in-Some.slot
     out c.list_freed.ensures.header c.list_freed.ensures.memory)
 
 pub loop-slot-preserved : goal.loop-slot-preserved

@@ -3,6 +3,7 @@ use Rattle.std.proofs.lemmas.Bool.{cases_lt}
 use Rattle.class_table.specs.Layout.{AreInOrder, slot_of, slot_count}
 use Rattle.heap_theory.specs.Header.{header_at, header_for, with_header, class_number}
 use Rattle.heap_theory.specs.State.{first_heap, without_headers}
+use Rattle.tagged_heap.proofs.Below as laws
 use Rattle.tagged_heap.specs.Keeping.{header_in}
 use Rattle.tagged_heap.proofs.FirstHeld.{fresh_header, header_fresh, class_is_number}
 use Rattle.tagged_heap.proofs.HeaderPlaces.{header_unseen, starts_differ}
@@ -10,12 +11,11 @@ use Rattle.tagged_heap.proofs.fresh.write_fresh_headers.Goals as goal
 
 pub loop-slot-preserved : goal.loop-slot-preserved
 loop-slot-preserved c =
-    let laws = c.laws_below.ensures in
     let layout = c.args.layout.now in
     let slot = c.loop-slot.slot in
     let within : slot < slot_count layout = omega (arith, c.loop-slot-test.true, c.slots-slot-end.ensures.slots) in
     let order : AreInOrder layout = laws.in_order 1 layout c.granules.ensures.partition.table in
-    let class : c.class_of.result ≡ class_number layout slot = class_is_number laws layout slot c.class_of.result c.granules.ensures.partition.table within c.class_of.ensures.class in
+    let class : c.class_of.result ≡ class_number layout slot = class_is_number layout slot c.class_of.result c.granules.ensures.partition.table within c.class_of.ensures.class in
     let own : header_in layout c.write.new.memory slot ≡ fresh_header (class_number layout slot) =
     ap (header_at c.write.new.memory) (sym c.start.ensures.start) ∙ c.write.ensures.read ∙ ap fresh_header class in
     record {
@@ -29,7 +29,7 @@ loop-slot-preserved c =
       ];
       seen = ap (without_headers layout) c.write.ensures.written
           ∙ ap (λ start. without_headers layout (with_header c.loop-slot.memory start (fresh_header c.class_of.result))) c.start.ensures.start
-          ∙ header_unseen laws layout c.loop-slot.memory slot (fresh_header c.class_of.result) c.loop-slot.invariant.memory within
+          ∙ header_unseen layout c.loop-slot.memory slot (fresh_header c.class_of.result) c.loop-slot.invariant.memory within
           ∙ c.loop-slot.invariant.seen;
       memory = c.write.ensures.memory;
       long = c.write.ensures.others.len ∙ c.loop-slot.invariant.long;

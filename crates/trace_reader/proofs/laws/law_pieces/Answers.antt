@@ -1,29 +1,26 @@
-use Rattle.trace_reader.proofs.Cutting.{text_of-cut}
-use Rattle.trace_reader.proofs.Feeding.{fed-append, fed-added, finished-added}
-use Rattle.trace_reader.proofs.Pieces.{few_in_pieces, in_pieces}
-use Rattle.trace_reader.proofs.Reaching.{IsFrontOf-fed, IsFrontOf-finished}
+use Rattle.trace_reader.proofs.LawLemmas.{fed_adds_events, fed_after_events, finished_adds_events, finished_after_events, pieces_are_joined, pieces_are_the_text, pieces_have_few_events, text_is_its_cut}
 use Rattle.trace_reader.proofs.laws.law_pieces.Goals as goal
 
 pub returns-clause-cut : goal.returns-clause-cut
-returns-clause-cut c = text_of-cut
+returns-clause-cut c = text_is_its_cut
 
 pub returns-clause-joined : goal.returns-clause-joined
-returns-clause-joined c = fed-append
+returns-clause-joined c = pieces_are_joined
 
 pub returns-clause-text : goal.returns-clause-text
-returns-clause-text c = in_pieces
+returns-clause-text c = pieces_are_the_text
 
 pub returns-clause-adds : goal.returns-clause-adds
-returns-clause-adds c = IsFrontOf-fed
+returns-clause-adds c = fed_adds_events
 
 pub returns-clause-end_adds : goal.returns-clause-end_adds
-returns-clause-end_adds c = IsFrontOf-finished
+returns-clause-end_adds c = finished_adds_events
 
 pub returns-clause-few : goal.returns-clause-few
-returns-clause-few c = few_in_pieces
+returns-clause-few c = pieces_have_few_events
 
-pub returns-clause-behind : goal.returns-clause-behind
-returns-clause-behind c = fed-added
+pub returns-clause-after : goal.returns-clause-after
+returns-clause-after c = fed_after_events
 
-pub returns-clause-end_behind : goal.returns-clause-end_behind
-returns-clause-end_behind c = finished-added
+pub returns-clause-end_after : goal.returns-clause-end_after
+returns-clause-end_after c = finished_after_events

@@ -1,5 +1,5 @@
-use Rattle.trace_reader.proofs.LineRanges.{few_events_of}
-use Rattle.trace_reader.proofs.TraceSpelling.{events_in_range, fault_is_behind, one_trace, spelled_is_read, trace_is_spelled}
+use Rattle.trace_reader.proofs.TraceSpelling.{events_in_range, one_trace, spelled_is_read, trace_is_spelled}
+use Rattle.trace_reader.proofs.LawLemmas.{events_are_few, fault_is_after_its_events}
 use Rattle.trace_reader.proofs.laws.law_trace_text.Goals as goal
 
 pub returns-clause-spelled : goal.returns-clause-spelled
@@ -12,10 +12,10 @@ pub returns-clause-one : goal.returns-clause-one
 returns-clause-one c = one_trace c.spelling_laws.ensures
 
 pub returns-clause-fault : goal.returns-clause-fault
-returns-clause-fault c = fault_is_behind
+returns-clause-fault c = fault_is_after_its_events
+
+pub returns-clause-few : goal.returns-clause-few
+returns-clause-few c = events_are_few
 
 pub returns-clause-range : goal.returns-clause-range
 returns-clause-range c = events_in_range c.spelling_laws.ensures.byte
-
-pub returns-clause-few : goal.returns-clause-few
-returns-clause-few c = few_events_of

@@ -1,11 +1,8 @@
-use Rattle.tuner_theory.proofs.BoundRests.{potentials-bound, rests-bound}
-use Rattle.tuner_theory.proofs.Rounding.{step-positive}
+use Rattle.tuner_theory.proofs.LawLemmas.{potentials_bound, potentials_bound_rests}
 use Rattle.tuner_theory.proofs.laws.law_potentials_bound.Goals as goal
 
 pub returns-clause-bound : goal.returns-clause-bound
-returns-clause-bound c counts step limit potential classes is_step valid =
-    potentials-bound counts step (step-positive step is_step) limit potential valid classes
+returns-clause-bound c = potentials_bound
 
 pub returns-clause-everywhere : goal.returns-clause-everywhere
-returns-clause-everywhere c counts step limit potential k i classes is_step valid =
-    rests-bound counts step (step-positive step is_step) limit potential valid k i classes
+returns-clause-everywhere c = potentials_bound_rests

@@ -1,5 +1,5 @@
 use Rattle.std.proofs.Common.{◌+◌, ◌/◌, ◌%◌, refl, sym, ◌∙◌}
-use Rattle.class_table.proofs.SlotAt.{none_without_share, none_past_shares, some_in_share, place_in_share, none_behind_slots, place_fits, place_behind}
+use Rattle.class_table.proofs.SlotAt.{none_without_share, none_past_shares, some_in_share, place_in_share, none_after_slots, place_fits, place_after}
 use Rattle.class_table.proofs.layout.Layout.place_at.Goals as goal
 
 pub returns-then-share-eq0-clause-none : goal.returns-then-share-eq0-clause-none
@@ -29,8 +29,8 @@ returns-then-slot-first_slot-clause-place c =
 
 pub returns-else-slot-first_slot-clause-none : goal.returns-else-slot-first_slot-clause-none
 returns-else-slot-first_slot-clause-none c =
-    let behind = place_behind c.args.self.now c.share-share.result (c.args.granule / c.share-share.result) c.class-class.result (c.args.granule % c.share-share.result / c.class-class.result) c.first_slot.result c.first_slot-2.result
+    let after = place_after c.args.self.now c.share-share.result (c.args.granule / c.share-share.result) c.class-class.result (c.args.granule % c.share-share.result / c.class-class.result) c.first_slot.result c.first_slot-2.result
     c.share-share.ensures.share c.class-class.ensures.class (rw (← c.classes.ensures.classes) c.if-number-classes.false) c.first_slot.ensures.first c.first_slot-2.ensures.first c.if-slot-first_slot.false in
-    sym (none_behind_slots c.args.self.now c.args.granule c.share-share.ensures.partition
+    sym (none_after_slots c.args.self.now c.args.granule c.share-share.ensures.partition
     (rw (← c.share-share.ensures.share, ← c.classes.ensures.classes) c.if-number-classes.false)
-    (rw (← c.share-share.ensures.share, ← c.class-class.ensures.class) behind))
+    (rw (← c.share-share.ensures.share, ← c.class-class.ensures.class) after))

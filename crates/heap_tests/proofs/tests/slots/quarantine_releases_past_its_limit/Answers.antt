@@ -1,6 +1,7 @@
 use Rattle.std.proofs.Common.{[], ◌∷◌, ◌++◌, ⊎_elim, arith}
 use Rattle.std.specs.Prelude.{Contains}
-use Rattle.heap_tests.proofs.Queues.{first_or_behind, last_or_before, was_in}
+use Rattle.heap_theory.proofs.Found.{Contains-cases, Contains-last_cases}
+use Rattle.heap_tests.proofs.Queues.{was_in}
 use Rattle.heap_tests.proofs.tests.slots.quarantine_releases_past_its_limit.Goals as goal
 
 -- what is in the quarantine by then was put in: slots 0 and 1
@@ -18,5 +19,5 @@ put-requires-3-clause-outside g c = λ queue is there.
     was_in one c.put-2.new.self c.next_out-2.new.self layout c.put-2.new.memory c.next_out-2.new.memory c.next_out-2.result twice.same twice.untouched twice.oldest twice.queued
     (left ++ 1 ∷ []) queue (c.put-2.ensures.queued left once.linked.1) is 2 there in
     ⊎_elim (λ same. omega (arith, same))
-    (λ before. ⊎_elim (λ same. omega (arith, same)) (λ none. omega (arith, none.1)) (first_or_behind 0 [] 2 (early before)))
-    (last_or_before left 1 2 late)
+    (λ before. ⊎_elim (λ same. omega (arith, same)) (λ none. omega (arith, none.1)) (Contains-cases 0 [] 2 (early before)))
+    (Contains-last_cases left 1 2 late)

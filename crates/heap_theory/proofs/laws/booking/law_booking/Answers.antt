@@ -1,4 +1,5 @@
 use Rattle.heap_theory.proofs.Booking.{booked_first, booked_taken, booked_fresh, booked_resized, booked_over, booked_freed}
+use Rattle.heap_theory.proofs.LawLemmas.{rest_is_held}
 use Rattle.heap_theory.proofs.Releasing.{release}
 use Rattle.heap_theory.proofs.laws.booking.law_booking.Goals as goal
 
@@ -24,4 +25,4 @@ pub returns-clause-releases : goal.returns-clause-releases
 returns-clause-releases c = release
 
 pub returns-clause-holds : goal.returns-clause-holds
-returns-clause-holds c = λ h from queue lists booked held. record { from = from; booked = booked; held = held }
+returns-clause-holds c = rest_is_held

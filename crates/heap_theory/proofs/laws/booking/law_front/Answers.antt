@@ -1,8 +1,9 @@
-use Rattle.heap_theory.proofs.Front.{front_is_given, lowest_fresh_is_given}
+use Rattle.heap_theory.proofs.Front.{lowest_fresh_is_given}
+use Rattle.heap_theory.proofs.LawLemmas.{front_of_list_is_given}
 use Rattle.heap_theory.proofs.laws.booking.law_front.Goals as goal
 
 pub returns-clause-listed : goal.returns-clause-listed
-returns-clause-listed c = λ h queue lists number class s rest sound booked numbered. front_is_given h queue lists number class sound booked numbered s rest
+returns-clause-listed c = front_of_list_is_given
 
 pub returns-clause-fresh : goal.returns-clause-fresh
 returns-clause-fresh c = lowest_fresh_is_given

@@ -1,9 +1,10 @@
-use Rattle.heap_theory.proofs.Hardened.{null_or_tagged, bookkeeping_out_of_reach}
+use Rattle.heap_theory.proofs.Hardened.{bookkeeping_out_of_reach}
+use Rattle.heap_theory.proofs.LawLemmas.{variables_are_null_or_tagged}
 use Rattle.heap_theory.proofs.RunKept.{IsRunWith-run}
 use Rattle.heap_theory.proofs.laws.hardening.law_bookkeeping.Goals as goal
 
 pub returns-clause-variables : goal.returns-clause-variables
-returns-clause-variables c = λ layout seed quarantine events is. null_or_tagged _ (IsRunWith-run c.laws_below.ensures layout seed quarantine events is).sound
+returns-clause-variables c = variables_are_null_or_tagged
 
 pub returns-clause-faults : goal.returns-clause-faults
-returns-clause-faults c = λ layout seed quarantine events is. bookkeeping_out_of_reach c.laws_below.ensures _ (IsRunWith-run c.laws_below.ensures layout seed quarantine events is).sound
+returns-clause-faults c = λ layout seed quarantine events is. bookkeeping_out_of_reach _ (IsRunWith-run layout seed quarantine events is).sound

@@ -3,7 +3,7 @@ use Rattle.heap_theory.proofs.RunKept.{IsRunWith-run}
 use Rattle.heap_theory.proofs.laws.hardening.law_chunk_tags.Goals as goal
 
 pub returns-clause-not_zero : goal.returns-clause-not_zero
-returns-clause-not_zero c = λ layout seed quarantine events is. chunk_tags_not_zero _ (IsRunWith-run c.laws_below.ensures layout seed quarantine events is).sound
+returns-clause-not_zero c = λ layout seed quarantine events is. chunk_tags_not_zero _ (IsRunWith-run layout seed quarantine events is).sound
 
 pub returns-clause-differ : goal.returns-clause-differ
-returns-clause-differ c = λ layout seed quarantine events is. chunk_tags_of_two _ (IsRunWith-run c.laws_below.ensures layout seed quarantine events is).sound
+returns-clause-differ c = λ layout seed quarantine events is. chunk_tags_of_two _ (IsRunWith-run layout seed quarantine events is).sound

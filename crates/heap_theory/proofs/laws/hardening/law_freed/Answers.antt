@@ -3,4 +3,4 @@ use Rattle.heap_theory.proofs.RunKept.{IsRunWith-run}
 use Rattle.heap_theory.proofs.laws.hardening.law_freed.Goals as goal
 
 pub returns : goal.returns
-returns c = λ layout seed quarantine events is. freed_faults c.laws_below.ensures _ (IsRunWith-run c.laws_below.ensures layout seed quarantine events is).sound
+returns c = λ layout seed quarantine events is. freed_faults _ (IsRunWith-run layout seed quarantine events is).sound

@@ -3,4 +3,4 @@ use Rattle.heap_theory.proofs.RunKept.{IsRunWith-run}
 use Rattle.heap_theory.proofs.laws.hardening.law_neighbours.Goals as goal
 
 pub returns : goal.returns
-returns c = λ layout seed quarantine events is. neighbours_fault c.laws_below.ensures _ (IsRunWith-run c.laws_below.ensures layout seed quarantine events is).sound
+returns c = λ layout seed quarantine events is. neighbours_fault _ (IsRunWith-run layout seed quarantine events is).sound

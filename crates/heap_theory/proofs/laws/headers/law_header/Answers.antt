@@ -14,22 +14,22 @@ pub returns-clause-fits : goal.returns-clause-fits
 returns-clause-fits c = header_of-fits
 
 pub returns-clause-two_words : goal.returns-clause-two_words
-returns-clause-two_words c = with_header-words c.laws_below.ensures
+returns-clause-two_words c = with_header-words
 
 pub returns-clause-read : goal.returns-clause-read
-returns-clause-read c = header_at-with_header c.laws_below.ensures
+returns-clause-read c = header_at-with_header
 
 pub returns-clause-others : goal.returns-clause-others
-returns-clause-others c = header_at-elsewhere c.laws_below.ensures
+returns-clause-others c = header_at-elsewhere
 
 pub returns-clause-tags : goal.returns-clause-tags
-returns-clause-tags c = tag_at-with_header c.laws_below.ensures
+returns-clause-tags c = tag_at-with_header
 
 pub returns-clause-memory : goal.returns-clause-memory
-returns-clause-memory c = IsMemory-with_header c.laws_below.ensures
+returns-clause-memory c = IsMemory-with_header
 
 pub returns-clause-under_tags : goal.returns-clause-under_tags
-returns-clause-under_tags c = header_at-tagged c.laws_below.ensures
+returns-clause-under_tags c = header_at-tagged
 
 pub returns-clause-under_bytes : goal.returns-clause-under_bytes
-returns-clause-under_bytes c = header_at-written c.laws_below.ensures
+returns-clause-under_bytes c = header_at-written

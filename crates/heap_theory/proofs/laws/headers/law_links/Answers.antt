@@ -16,8 +16,8 @@ returns-clause-ends c = IsLinked-ends
 pub returns-clause-in_front : goal.returns-clause-in_front
 returns-clause-in_front c = IsLinked-push
 
-pub returns-clause-behind : goal.returns-clause-behind
-returns-clause-behind c = IsLinked-append
+pub returns-clause-after : goal.returns-clause-after
+returns-clause-after c = IsLinked-append
 
 pub returns-clause-last : goal.returns-clause-last
 returns-clause-last c = last_link-append

@@ -5,7 +5,7 @@ pub returns-clause-state : goal.returns-clause-state
 returns-clause-state c = shown_state-header_for
 
 pub returns-clause-class : goal.returns-clause-class
-returns-clause-class c = class_number-is c.laws_below.ensures
+returns-clause-class c = class_number-is
 
 pub returns-clause-fits : goal.returns-clause-fits
-returns-clause-fits c = header_for-fits c.laws_below.ensures
+returns-clause-fits c = header_for-fits

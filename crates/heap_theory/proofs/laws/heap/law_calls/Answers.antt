@@ -3,9 +3,9 @@ use Rattle.heap_theory.proofs.laws.heap.law_calls.Goals as goal
 
 pub returns : goal.returns
 returns c = λ h sound. record {
-  malloc = λ n. (IsKept-malloc c.laws_below.ensures h n sound).sound;
-  calloc = λ n. (IsKept-calloc c.laws_below.ensures h n sound).sound;
-  free = λ p. (IsKept-free c.laws_below.ensures h p sound).sound;
-  realloc = λ p n. (IsKept-realloc c.laws_below.ensures h p n sound).sound;
-  store = λ address bytes. (IsKept-store c.laws_below.ensures h address bytes sound).sound;
+  malloc = λ n. (IsKept-malloc h n sound).sound;
+  calloc = λ n. (IsKept-calloc h n sound).sound;
+  free = λ p. (IsKept-free h p sound).sound;
+  realloc = λ p n. (IsKept-realloc h p n sound).sound;
+  store = λ address bytes. (IsKept-store h address bytes sound).sound;
 }

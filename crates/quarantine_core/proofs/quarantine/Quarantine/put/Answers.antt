@@ -1,6 +1,7 @@
 use Rattle.std.proofs.Common.{◌≡◌, ◌≢◌, ◌+◌, ◌-◌, ◌<◌, [], ◌∷◌, ◌++◌, arith, sym, ap, ◌∙◌, subst}
 use Rattle.class_table.specs.Layout.{slot_count}
-use Rattle.quarantine_core.proofs.Queued.{last_within, put_first, put_behind}
+use Rattle.heap_theory.proofs.Linked.{IsLinked-append, IsLinked-ends, last_link-append}
+use Rattle.quarantine_core.proofs.Queued.{last_within, put_first, put_at_end}
 use Rattle.quarantine_core.proofs.quarantine.Quarantine.put.Goals as goal
 use Rattle.quarantine_core.proofs.quarantine.Quarantine.put.Goals.{then-self-eq0, else-self-eq0}
 
@@ -23,7 +24,7 @@ returns-clause-queued c = λ queue old.
           c.requires.slot c.requires.next c.requires.bytes (omega arith) (omega arith) held)
       | else-self-eq0 w ↦
           rw (w.self-inside-is, w.memory-is)
-          (put_behind c.law_links.ensures.behind c.law_links.ensures.last c.law_links.ensures.ends
+          (put_at_end IsLinked-append last_link-append IsLinked-ends
           c.args.self.now _ c.args.layout.now c.args.memory.now w.set_link.new.memory queue (c.self.inside.back - 1) c.args.slot (c.args.slot + 1) c.args.bytes old
           (omega (arith, back, w.if-self-eq0.false)) w.set_link.ensures.link (omega arith) c.requires.slot (c.requires.outside queue old) c.requires.next c.requires.bytes
           front (omega arith) held)

@@ -19,7 +19,7 @@ abbrev stayed : Stays f.ended.signature.params f.ended.kept
 stayed = (stay_dropped (mut_ref_to (0 ∷ []) tt (plain (λ _. R))) no, tt)
 
 module _ {M : Type 1} {𝓤 : Ura M} (𝓛 : Logic 𝓤) (xs : List ℕ) (h : Inside) (us : List Val) (rb ro b o : ℕ) (long : h.len ≡ length xs) (at : h.ptr ≡ block_ptr b o) where
-  -- what stays behind while the bytes are lent
+  -- what stays after while the bytes are lent
   abbrev Rest : Fml
   Rest = fsep (cell_at full_share R.mir us rb ro) (fsep (Deed h) (Parts h us))
 
@@ -54,7 +54,7 @@ as_mut_slice_spec 𝓤 𝓛 𝓜 𝓡 wired =
     sets ! (of_opd ! (get ! refl)) refl (tt, (tt, (record { fits = fn }, tt))) $
     rewrite ! 1 (λ (ws : List Val). ‵ (cell_at full_share R.mir ws rb ro)) (sym is) refl $
     use1 𝓛 (‵ (cells (mem u8) xs b o)) (whole_in 𝓛 u8 xs b o) $ move ! (2 ∷ 3 ∷ []) $ fjoin ! $ move ! (2 ∷ 0 ∷ []) $ fjoin ! $
-    -- [what stays behind; the bytes; the open borrow; obs; auth]
+    -- [what stays after; the bytes; the open borrow; obs; auth]
     move ! (2 ∷ 3 ∷ 4 ∷ 1 ∷ 0 ∷ []) $ group ! 5 $
     let Out = λ (γ' : GName). Elements 𝓛 R u8 (λ ws. ws) (named 0) κ q rb ro b o γ xs (roomy, fitting) (sem 𝓛 (Rest 𝓛 xs h us rb ro b o long e)) (back 𝓛 xs h us rb ro b o long e) γ' in
     use1 𝓛 (later (some (λ (γ' : GName). raw (Out γ')))) (lends_Elements 𝓛 R u8 (λ ws. ws) (named 0) κ q rb ro b o γ xs (roomy, fitting) (sem 𝓛 (Rest 𝓛 xs h us rb ro b o long e)) (back 𝓛 xs h us rb ro b o long e) (R.coded.code xs) (R.coded.code xs)) $ await ! tt $ pick ! (λ γ'.

@@ -28,7 +28,7 @@ invariant_of-result c = record {
       least = c.requires.granules.0;
       most = c.requires.granules.1;
     };
-    stored_is = returns c ∙ sym (stored_of-none c.laws_below.ensures _ _ _);
+    stored_is = returns c ∙ sym (stored_of-none _ _ _);
   };
   bounded = record {
     events = omega arith;

@@ -17,7 +17,7 @@ use Rattle.replay_core.proofs.replay.Replay.step.Goals as goal
 
 pub perform-answer-requires-clause-tagged : goal.perform-answer-requires-clause-tagged
 perform-answer-requires-clause-tagged c =
-    subst AreNullOrTagged (sym c.deref_mut.ensures.value) (null_or_tagged c.laws_below.ensures (stored c.self.inside) c.self.invariant.reached)
+    subst AreNullOrTagged (sym c.deref_mut.ensures.value) (null_or_tagged (stored c.self.inside) c.self.invariant.reached)
 
 -- no event changes the classes
 classes_stay : (replay : Replay) (event : Event) (after : Heap) → after ≡ heap_after replay event → after.layout.classes ≡ replay.heap.layout.classes
@@ -69,7 +69,7 @@ returns-clause-line c =
 
 pub invariant_of-self : goal.invariant_of-self
 invariant_of-self c = record {
-  reached = subst IsStored (sym (stored_is c)) (IsStored-after c.laws_below.ensures (stored c.self.inside) c.args.event.now c.self.invariant.reached);
+  reached = subst IsStored (sym (stored_is c)) (IsStored-after (stored c.self.inside) c.args.event.now c.self.invariant.reached);
   bounded = c.count.ensures.bounded;
   long = ap length (items_are c) ∙ c.perform-answer.auto.variables ∙ ap length c.deref_mut.ensures.value ∙ c.self.invariant.long;
   legal = subst (IsLegalTable 1) (sym (classes_are c)) c.self.invariant.legal;

@@ -1,6 +1,7 @@
 -- The slot that is given has room for its chunk, as in every heap, and decides the answer and the new state.
 use Rattle.std.proofs.Common.{◌∙◌, sym, ap, Ok}
 use Rattle.std.proofs.lemmas.Result.{err_from_is_err_and}
+use Rattle.tagged_heap.proofs.Below as laws
 use Rattle.tagged_heap.specs.View.{Counted}
 use Rattle.tagged_heap.proofs.CallSteps.{calloc_given, calloc_refused, slot_given, size_of_given, room_given}
 use Rattle.tagged_heap.proofs.heap.Heap.calloc.Goals as goal
@@ -22,7 +23,7 @@ zero_chunk-requires-clause-size c = size_of_given _ _ _ c.in_ok-given.ensures.sl
 
 pub zero_chunk-requires-clause-room : goal.zero_chunk-requires-clause-room
 zero_chunk-requires-clause-room c =
-    rw c.in_ok-given.ensures.given (room_given _ _ _ _ (c.laws_below.ensures.request _ _ _ c.law_sound.ensures (sym c.in_ok-given.ensures.slot)).room)
+    rw c.in_ok-given.ensures.given (room_given _ _ _ _ (laws.request _ _ _ c.law_sound.ensures (sym c.in_ok-given.ensures.slot)).room)
 
 pub returns-clause-answer : goal.returns-clause-answer
 returns-clause-answer c =

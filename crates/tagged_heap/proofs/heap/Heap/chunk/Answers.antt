@@ -38,14 +38,14 @@ returns-in_err-slot-clause-err c =
     let value : ◌≡◌ {A = Result ℕ FreeError} (Err Misplaced) (Err c.in_err-slot.field-0.0) = sym (c.in_err-slot.ensures.value ∙ ap (λ o. ok_or o Misplaced) none) in
     rw (p.1, p.2)
     (sym (ap (λ h. chunk_at h c.args.p) (state_seen i c.args.self.now c.self.view_is))
-    ∙ chunk_misplaced c.laws_below.ensures (state_of i) c.args.p c.slot_of_pointer.result c.self.invariant.kept.sound c.slot_of_pointer.ensures none ∙ (let same : Misplaced ≡ c.in_err-slot.field-0.0 = cc in ap Err same))
+    ∙ chunk_misplaced (state_of i) c.args.p c.slot_of_pointer.result c.self.invariant.kept.sound c.slot_of_pointer.ensures none ∙ (let same : Misplaced ≡ c.in_err-slot.field-0.0 = cc in ap Err same))
 
 pub header-header-requires-clause-region : goal.header-header-requires-clause-region
-header-header-requires-clause-region c = ap length c.memory.ensures ∙ region_of c.laws_below.ensures c.self.inside c.self.invariant
+header-header-requires-clause-region c = ap length c.memory.ensures ∙ region_of c.self.inside c.self.invariant
 
 pub header-header-requires-clause-class : goal.header-header-requires-clause-class
 header-header-requires-clause-class c =
-    rw c.memory.ensures (class_shown c.laws_below.ensures c.self.inside c.in_ok-slot.slot c.self.invariant (within (goal.at.header-header-requires-clause-class c).In_ok-slot))
+    rw c.memory.ensures (class_shown c.self.inside c.in_ok-slot.slot c.self.invariant (within (goal.at.header-header-requires-clause-class c).In_ok-slot))
 
 pub returns-in-Fresh : goal.returns-in-Fresh
 unfolding shown_heap
@@ -56,7 +56,7 @@ returns-in-Fresh c =
       ok = tt;
       err =
           sym (ap (λ h. chunk_at h c.args.p) (state_seen i c.args.self.now c.self.view_is))
-          ∙ chunk_not_live c.laws_below.ensures (state_of i) c.args.p c.in_ok-slot.slot c.slot_of_pointer.result (header_seen c.header-header.result) _ c.self.invariant.kept.sound c.slot_of_pointer.ensures c.in_ok-slot.ensures.ok_part header
+          ∙ chunk_not_live (state_of i) c.args.p c.in_ok-slot.slot c.slot_of_pointer.result (header_seen c.header-header.result) _ c.self.invariant.kept.sound c.slot_of_pointer.ensures c.in_ok-slot.ensures.ok_part header
           (λ live. elim c.in-Fresh.is [
             | inl is ↦ let e : ◌≡◌ {A = Standing} IsFresh IsLive = sym (ap standing_seen is) ∙ live in cc
             | inr (inl is) ↦ let e : ◌≡◌ {A = Standing} IsQuarantined IsLive = sym (ap standing_seen is) ∙ live in cc
@@ -70,7 +70,7 @@ returns-then-header-logical_tag-clause-err c =
     let i = c.self.inside in
     let header = shows (goal.at.returns-then-header-logical_tag-clause-err c).After-header-header (within (goal.at.returns-then-header-logical_tag-clause-err c).In_ok-slot) in
     sym (ap (λ h. chunk_at h c.args.p) (state_seen i c.args.self.now c.self.view_is))
-    ∙ chunk_wrong_tag c.laws_below.ensures (state_of i) c.args.p c.in_ok-slot.slot c.slot_of_pointer.result (header_seen c.header-header.result) _ c.self.invariant.kept.sound c.slot_of_pointer.ensures c.in_ok-slot.ensures.ok_part header
+    ∙ chunk_wrong_tag (state_of i) c.args.p c.in_ok-slot.slot c.slot_of_pointer.result (header_seen c.header-header.result) _ c.self.invariant.kept.sound c.slot_of_pointer.ensures c.in_ok-slot.ensures.ok_part header
     (ap standing_seen c.in-Live.is) (λ same. c.if-header-logical_tag.true (sym same ∙ sym c.logical_tag.ensures.tag))
 
 pub returns-clause-ok : goal.returns-clause-ok
@@ -79,6 +79,6 @@ returns-clause-ok c =
     let i = c.self.inside in
     let header = shows (goal.at.returns-clause-ok c).After-header-header (within (goal.at.returns-clause-ok c).In_ok-slot) in
     sym (ap (λ h. chunk_at h c.args.p) (state_seen i c.args.self.now c.self.view_is))
-    ∙ chunk_live c.laws_below.ensures (state_of i) c.args.p c.in_ok-slot.slot c.slot_of_pointer.result (header_seen c.header-header.result) _ c.self.invariant.kept.sound c.slot_of_pointer.ensures c.in_ok-slot.ensures.ok_part header
+    ∙ chunk_live (state_of i) c.args.p c.in_ok-slot.slot c.slot_of_pointer.result (header_seen c.header-header.result) _ c.self.invariant.kept.sound c.slot_of_pointer.ensures c.in_ok-slot.ensures.ok_part header
     (ap standing_seen c.in-Live.is) (sym c.logical_tag.ensures.tag ∙ sym c.if-header-logical_tag.false)
     ∙ ap (λ n. Ok (record { slot = c.in_ok-slot.slot; size = n })) (sym c.from.ensures)

@@ -33,7 +33,7 @@ pub copy-requires-clause-source : goal.copy-requires-clause-source
 copy-requires-clause-source c =
     omega (
       arith,
-      payload_within c.laws_below.ensures c.self.inside c.args.from c.args.count c.self.invariant
+      payload_within c.self.inside c.args.from c.args.count c.self.invariant
           (slot_within c.self.inside c.args.self.now c.args.from c.self.view_is c.requires.from)
           (room_inside c.self.inside c.args.self.now c.args.from c.args.count c.self.view_is c.requires.source),
       c.start.ensures.start,
@@ -44,7 +44,7 @@ pub copy-requires-clause-target : goal.copy-requires-clause-target
 copy-requires-clause-target c =
     omega (
       arith,
-      payload_within c.laws_below.ensures c.self.inside c.args.to c.args.count c.self.invariant
+      payload_within c.self.inside c.args.to c.args.count c.self.invariant
           (slot_within c.self.inside c.args.self.now c.args.to c.self.view_is c.requires.to)
           (room_inside c.self.inside c.args.self.now c.args.to c.args.count c.self.view_is c.requires.target),
       c.start-2.ensures.start,
@@ -78,23 +78,23 @@ spared : (c : goal.After-self-1) → KeepsHeaders c.self.inside.layout c.self.in
     (bytes_at c.self.inside.machine.memory (16 * payload_start (slot_of c.self.inside.layout c.args.from)) c.args.count) c.self.inside.machine.memory)
 spared c =
     let long = length-bytes_at c.self.inside.machine.memory (16 * payload_start (slot_of c.self.inside.layout c.args.from)) c.args.count in
-    payload_spared c.laws_below.ensures c.self.inside.layout c.self.inside.machine.memory c.args.to
+    payload_spared c.self.inside.layout c.self.inside.machine.memory c.args.to
     (bytes_at c.self.inside.machine.memory (16 * payload_start (slot_of c.self.inside.layout c.args.from)) c.args.count) (in_order c.self.inside c.self.invariant)
     (slot_within c.self.inside c.args.self.now c.args.to c.self.view_is c.requires.to)
     (omega (arith, long, room_inside c.self.inside c.args.self.now c.args.to c.args.count c.self.view_is c.requires.target))
 
 pub invariant_of-self : goal.invariant_of-self
 invariant_of-self c =
-    held_after c.laws_below.ensures c.self.inside c.self.invariant c.copy.new.memory (16 * payload_start (slot_of c.self.inside.layout c.args.to))
+    held_after c.self.inside c.self.invariant c.copy.new.memory (16 * payload_start (slot_of c.self.inside.layout c.args.to))
     (bytes_at c.self.inside.machine.memory (16 * payload_start (slot_of c.self.inside.layout c.args.from)) c.args.count) (memory_is c) (spared c)
     (bytes_fit c.self.inside.machine.memory c.self.invariant.memory_is (16 * payload_start (slot_of c.self.inside.layout c.args.from)) c.args.count)
 
 pub returns : goal.returns
 unfolding with_payload shown_heap
 returns c =
-    let shown = shown_after c.laws_below.ensures c.self.inside c.self.invariant c.copy.new.memory (16 * payload_start (slot_of c.self.inside.layout c.args.to))
+    let shown = shown_after c.self.inside c.self.invariant c.copy.new.memory (16 * payload_start (slot_of c.self.inside.layout c.args.to))
     (bytes_at c.self.inside.machine.memory (16 * payload_start (slot_of c.self.inside.layout c.args.from)) c.args.count) (memory_is c) (spared c) in
-    let read = payload_seen c.laws_below.ensures c.self.inside.layout c.self.inside.machine.memory c.args.from c.args.count (in_order c.self.inside c.self.invariant)
+    let read = payload_seen c.self.inside.layout c.self.inside.machine.memory c.args.from c.args.count (in_order c.self.inside c.self.invariant)
     (slot_within c.self.inside c.args.self.now c.args.from c.self.view_is c.requires.from)
     (room_inside c.self.inside c.args.self.now c.args.from c.args.count c.self.view_is c.requires.source) in
     let wanted : Counted → Counted = λ v. record v { state = with_payload v.state c.args.to (payload_bytes v.state c.args.from c.args.count) } in

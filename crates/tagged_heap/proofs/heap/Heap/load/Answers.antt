@@ -2,6 +2,8 @@
 use Rattle.std.proofs.Common.{◌≡◌, length, refl, sym, ap, ◌∙◌, subst, inl, inr}
 use Rattle.std.specs.Prelude.{OnOk}
 use Rattle.machine_theory.specs.Access.{access_fault, ok_unless, loaded}
+use Rattle.heap_theory.proofs.HeaderWords.{class_number-is}
+use Rattle.heap_theory.proofs.HeadersAgree.{header_words_stay}
 use Rattle.tagged_heap.specs.View.{Counted}
 use Rattle.tagged_heap.proofs.AccessSteps.{load_seen}
 use Rattle.tagged_heap.proofs.PayloadWritten.{tagged_access, fault_cases}
@@ -13,14 +15,14 @@ returns-clause-ok c =
     let len = length c.args.buf.now in
     elim (fault_cases (access_fault m c.args.address len)) [
       | inl none ↦
-          let tagged = tagged_access c.laws_below.ensures c.self.inside c.args.self.now c.args.address len c.self.view_is c.requires.tagged none in
+          let tagged = tagged_access c.self.inside c.args.self.now c.args.address len c.self.view_is c.requires.tagged none in
           let read = subst (λ r. OnOk r (c.load.new.buf ≡ loaded m c.args.address len)) (c.load.ensures.answer ∙ ap ok_unless none) c.load.ensures.ok in
           subst (λ r. OnOk r (c.load.new.buf ≡ loaded c.args.self.now.state.memory c.args.address len)) (sym (c.load.ensures.answer ∙ ap ok_unless none))
-          (read ∙ load_seen c.laws_below.ensures c.self.inside c.self.invariant c.args.address len tagged none ∙ ap (λ (v : Counted). loaded v.state.memory c.args.address len) c.self.view_is)
+          (read ∙ load_seen c.self.inside c.self.invariant c.args.address len tagged none ∙ ap (λ (v : Counted). loaded v.state.memory c.args.address len) c.self.view_is)
       | inr some ↦
           subst (λ r. OnOk r (c.load.new.buf ≡ loaded c.args.self.now.state.memory c.args.address len)) (sym (c.load.ensures.answer ∙ ap ok_unless some.1)) tt
     ]
 
 pub returns-clause-headers : goal.returns-clause-headers
 returns-clause-headers c =
-    c.law_header_words.ensures c.args.self.now.state c.args.self.now.state (record { layout = refl; states = refl; total = refl; quarantine = refl })
+    header_words_stay class_number-is c.args.self.now.state c.args.self.now.state (record { layout = refl; states = refl; total = refl; quarantine = refl })

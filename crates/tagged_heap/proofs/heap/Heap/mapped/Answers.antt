@@ -7,8 +7,8 @@ use Rattle.tagged_heap.proofs.heap.Heap.mapped.Goals as goal
 
 pub returns-clause-test : goal.returns-clause-test
 returns-clause-test c =
-    c.mapped.ensures.test ∙ ap (λ n. is_mapped n c.args.address c.args.len) (length_seen c.laws_below.ensures c.self.inside c.args.self.now c.self.view_is)
+    c.mapped.ensures.test ∙ ap (λ n. is_mapped n c.args.address c.args.len) (length_seen c.self.inside c.args.self.now c.self.view_is)
 
 pub returns-clause-mapped : goal.returns-clause-mapped
 returns-clause-mapped c =
-    subst (λ n. IsTrue c.mapped.result ↔ IsMapped n c.args.address c.args.len) (length_seen c.laws_below.ensures c.self.inside c.args.self.now c.self.view_is) c.mapped.ensures.mapped
+    subst (λ n. IsTrue c.mapped.result ↔ IsMapped n c.args.address c.args.len) (length_seen c.self.inside c.args.self.now c.self.view_is) c.mapped.ensures.mapped

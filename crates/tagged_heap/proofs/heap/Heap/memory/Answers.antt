@@ -11,4 +11,4 @@ returns c =
     let held = c.self.invariant in
     rw c.memory.ensures
     (subst (λ h. IsKeptIn h i.machine.memory) (state_seen i c.args.self.now c.self.view_is)
-    (kept_said c.laws_below.ensures (state_of i) i.machine.memory i.quarantine.front i.lists held.queue held.lists held.kept))
+    (kept_said (state_of i) i.machine.memory i.quarantine.front i.lists held.queue held.lists held.kept))

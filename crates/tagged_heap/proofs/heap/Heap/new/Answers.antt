@@ -23,7 +23,7 @@ invariant_of-result c =
     (subst (λ quarantine. held (record { memory = c.write_fresh_headers.new.memory; seed = c.args.config.seed; tag = 0 }) quarantine c.new-lists.result c.first_slots-firsts.result.items) (sym c.new-quarantine.ensures.value)
     (subst (λ lists. held (record { memory = c.write_fresh_headers.new.memory; seed = c.args.config.seed; tag = 0 }) queue lists c.first_slots-firsts.result.items) (sym c.new-lists.ensures.fronts)
     (subst (λ firsts. held (record { memory = c.write_fresh_headers.new.memory; seed = c.args.config.seed; tag = 0 }) queue (replicate (length layout.classes) 0) firsts) (sym c.first_slots-firsts.ensures)
-    (held_first c.laws_below.ensures layout c.args.config.seed c.args.config.quarantine c.write_fresh_headers.ensures.partition c.write_fresh_headers.new.memory c.write_fresh_headers.ensures.headers (memory_seen c)
+    (held_first layout c.args.config.seed c.args.config.quarantine c.write_fresh_headers.ensures.partition c.write_fresh_headers.new.memory c.write_fresh_headers.ensures.headers (memory_seen c)
     c.write_fresh_headers.ensures.memory))))
 
 pub returns-clause-state : goal.returns-clause-state
@@ -32,5 +32,5 @@ returns-clause-state c =
     let shown = λ (machine : Machine). shown_heap layout c.new-quarantine.result.limit machine.memory 0 machine.seed machine.tag in
     ap shown c.new-2.ensures
     ∙ ap (λ (quarantine : Queue). shown_heap layout quarantine.limit c.write_fresh_headers.new.memory 0 c.args.config.seed 0) c.new-quarantine.ensures.value
-    ∙ shown_first c.laws_below.ensures layout c.args.config.seed c.args.config.quarantine c.write_fresh_headers.ensures.partition c.write_fresh_headers.new.memory c.write_fresh_headers.ensures.headers (memory_seen c)
+    ∙ shown_first layout c.args.config.seed c.args.config.quarantine c.write_fresh_headers.ensures.partition c.write_fresh_headers.new.memory c.write_fresh_headers.ensures.headers (memory_seen c)
     ∙ ap (λ (layout : Partition). first_heap layout c.args.config.seed c.args.config.quarantine) c.new-layout.ensures

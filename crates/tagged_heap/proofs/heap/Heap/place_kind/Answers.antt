@@ -14,7 +14,7 @@ use Rattle.tagged_heap.proofs.heap.Heap.place_kind.Goals.{In-Some, After-header-
 
 -- the slot is over the granule,
 over : (c : In-Some) → IsOver c.self.inside c.args.granule c.in-Some.slot
-over c = slot_is_over c.laws_below.ensures c.self.inside c.self.invariant c.args.granule c.in-Some.slot c.in-Some.ensures
+over c = slot_is_over c.self.inside c.self.invariant c.args.granule c.in-Some.slot c.in-Some.ensures
 
 -- its header is read,
 shown : (c : After-header-header) → seen c.header-header.result ≡ header_in c.self.inside.layout c.self.inside.machine.memory c.in-Some.slot
@@ -51,29 +51,29 @@ pub header-header-requires-clause-slot : goal.header-header-requires-clause-slot
 header-header-requires-clause-slot c = (over (goal.at.header-header-requires-clause-slot c).In-Some).within
 
 pub header-header-requires-clause-region : goal.header-header-requires-clause-region
-header-header-requires-clause-region c = rw c.memory.ensures (region_of c.laws_below.ensures c.self.inside c.self.invariant)
+header-header-requires-clause-region c = rw c.memory.ensures (region_of c.self.inside c.self.invariant)
 
 pub header-header-requires-clause-class : goal.header-header-requires-clause-class
 header-header-requires-clause-class c =
     rw c.memory.ensures
-    (class_shown c.laws_below.ensures c.self.inside c.in-Some.slot c.self.invariant (over (goal.at.header-header-requires-clause-class c).In-Some).within)
+    (class_shown c.self.inside c.in-Some.slot c.self.invariant (over (goal.at.header-header-requires-clause-class c).In-Some).within)
 
 pub overflow_sub-granule : goal.overflow_sub-granule
 overflow_sub-granule c = let is = over (goal.at.overflow_sub-granule c).In-Some in omega (arith, is.from, c.start-start.ensures.start)
 
 pub chunk_granules-requires : goal.chunk_granules-requires
 chunk_granules-requires c =
-    let few = size_few c.laws_below.ensures c.self.inside c.self.invariant c.in-Some.slot (over (goal.at.chunk_granules-requires c).In-Some).within in
+    let few = size_few c.self.inside c.self.invariant c.in-Some.slot (over (goal.at.chunk_granules-requires c).In-Some).within in
     let size = ap (λ (x : Header). x.size) (shown (goal.at.chunk_granules-requires c).After-header-header) in
     omega (arith, few, size, c.from.ensures)
 
 pub returns-then-granule-start-2 : goal.returns-then-granule-start-2
 returns-then-granule-start-2 c =
     let at = (goal.at.returns-then-granule-start-2 c).After-chunk_granules in
-    let behind : chunk_granules (header_in c.self.inside.layout c.self.inside.machine.memory c.in-Some.slot).size < c.args.granule - (slot_of c.self.inside.layout c.in-Some.slot).start
+    let after : chunk_granules (header_in c.self.inside.layout c.self.inside.machine.memory c.in-Some.slot).size < c.args.granule - (slot_of c.self.inside.layout c.in-Some.slot).start
     = subst (λ n. n < c.args.granule - (slot_of c.self.inside.layout c.in-Some.slot).start) (chunk_is at) (subst (λ n. c.chunk_granules.result < c.args.granule - n) c.start-start.ensures.start c.if-granule-start-2.true) in
     tail_seen c.self.inside c.args.self.now c.self.view_is c.args.granule c.in-Some.slot c.in-Some.ensures c.self.invariant (over (goal.at.returns-then-granule-start-2 c).In-Some).within
-    (not_start at c.if-granule-start.false) behind
+    (not_start at c.if-granule-start.false) after
 
 pub returns-in-Fresh : goal.returns-in-Fresh
 returns-in-Fresh c =

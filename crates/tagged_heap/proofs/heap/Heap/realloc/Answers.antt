@@ -5,6 +5,8 @@ use Rattle.std.specs.Result.{result_map_both}
 use Rattle.heap_theory.specs.declared.fault.FreeError.{FreeError}
 use Rattle.heap_theory.specs.declared.fault.ReallocError.TheVariants.{Null, Refused}
 use Rattle.heap_theory.specs.Choice.{chunk_at}
+use Rattle.heap_theory.proofs.OwnPointers.{realloc_accepts}
+use Rattle.tagged_heap.proofs.Below as laws
 use Rattle.tagged_heap.specs.declared.freeing.Chunk.{Chunk as Found}
 use Rattle.tagged_heap.specs.View.{Counted}
 use Rattle.tagged_heap.proofs.Accepted.{realloc_accepted}
@@ -62,11 +64,11 @@ returns-in_err-chunk-clause-counted c =
 
 pub stays_in_class-requires : goal.stays_in_class-requires
 stays_in_class-requires c =
-    (c.laws_below.ensures.chunk _ _ _ (found (goal.at.stays_in_class-requires c).In_ok-chunk)).in_range
+    (laws.chunk _ _ _ (found (goal.at.stays_in_class-requires c).In_ok-chunk)).in_range
 
 pub resize-requires-clause-live : goal.resize-requires-clause-live
 resize-requires-clause-live c =
-    (_, _, (c.laws_below.ensures.chunk _ _ _ (found (goal.at.resize-requires-clause-live c).In_ok-chunk)).live)
+    (_, _, (laws.chunk _ _ _ (found (goal.at.resize-requires-clause-live c).In_ok-chunk)).live)
 
 pub returns-then-stays_in_class-clause-answer : goal.returns-then-stays_in_class-clause-answer
 returns-then-stays_in_class-clause-answer c =
@@ -83,11 +85,11 @@ returns-then-stays_in_class-clause-counted c =
 
 pub move_chunk-requires-clause-slot : goal.move_chunk-requires-clause-slot
 move_chunk-requires-clause-slot c =
-    (c.laws_below.ensures.chunk _ _ _ (found (goal.at.move_chunk-requires-clause-slot c).In_ok-chunk)).in_range
+    (laws.chunk _ _ _ (found (goal.at.move_chunk-requires-clause-slot c).In_ok-chunk)).in_range
 
 pub move_chunk-requires-clause-live : goal.move_chunk-requires-clause-live
 move_chunk-requires-clause-live c =
-    (_, (c.laws_below.ensures.chunk _ _ _ (found (goal.at.move_chunk-requires-clause-live c).In_ok-chunk)).live)
+    (_, (laws.chunk _ _ _ (found (goal.at.move_chunk-requires-clause-live c).In_ok-chunk)).live)
 
 pub returns-clause-answer : goal.returns-clause-answer
 returns-clause-answer c =
@@ -107,16 +109,16 @@ returns-clause-counted c =
 -- what is answered is the definition's answer, of which the law speaks
 pub returns-then-p-eq0-clause-accepted : goal.returns-then-p-eq0-clause-accepted
 returns-then-p-eq0-clause-accepted c =
-    realloc_accepted c.law_own_pointer.ensures.realloc c.args.self.now.state c.args.p c.args.n _ c.law_sound.ensures (returns-then-p-eq0-clause-answer c)
+    realloc_accepted realloc_accepts c.args.self.now.state c.args.p c.args.n _ c.law_sound.ensures (returns-then-p-eq0-clause-answer c)
 
 pub returns-in_err-chunk-clause-accepted : goal.returns-in_err-chunk-clause-accepted
 returns-in_err-chunk-clause-accepted c =
-    realloc_accepted c.law_own_pointer.ensures.realloc c.args.self.now.state c.args.p c.args.n _ c.law_sound.ensures (returns-in_err-chunk-clause-answer c)
+    realloc_accepted realloc_accepts c.args.self.now.state c.args.p c.args.n _ c.law_sound.ensures (returns-in_err-chunk-clause-answer c)
 
 pub returns-then-stays_in_class-clause-accepted : goal.returns-then-stays_in_class-clause-accepted
 returns-then-stays_in_class-clause-accepted c =
-    realloc_accepted c.law_own_pointer.ensures.realloc c.args.self.now.state c.args.p c.args.n _ c.law_sound.ensures (returns-then-stays_in_class-clause-answer c)
+    realloc_accepted realloc_accepts c.args.self.now.state c.args.p c.args.n _ c.law_sound.ensures (returns-then-stays_in_class-clause-answer c)
 
 pub returns-clause-accepted : goal.returns-clause-accepted
 returns-clause-accepted c =
-    realloc_accepted c.law_own_pointer.ensures.realloc c.args.self.now.state c.args.p c.args.n _ c.law_sound.ensures (returns-clause-answer c)
+    realloc_accepted realloc_accepts c.args.self.now.state c.args.p c.args.n _ c.law_sound.ensures (returns-clause-answer c)

@@ -11,35 +11,35 @@ slot-place-requires c = slot_within c.self.inside c.args.self.now c.args.slot c.
 
 pub retire-requires-clause-room : goal.retire-requires-clause-room
 retire-requires-clause-room c =
-    room_for c.laws_below.ensures c.self.inside c.args.self.now c.self.view_is c.self.invariant c.args.slot c.requires.live.0 c.requires.live.1 c.requires.slot c.requires.live.2
+    room_for c.self.inside c.args.self.now c.self.view_is c.self.invariant c.args.slot c.requires.live.0 c.requires.live.1 c.requires.slot c.requires.live.2
 
 pub put-requires-clause-region : goal.put-requires-clause-region
 put-requires-clause-region c =
-    lent_region c.laws_below.ensures c.self.inside c.args.self.now c.self.view_is c.self.invariant c.args.slot c.requires.live.0 c.requires.live.1 c.requires.slot c.requires.live.2
+    lent_region c.self.inside c.args.self.now c.self.view_is c.self.invariant c.args.slot c.requires.live.0 c.requires.live.1 c.requires.slot c.requires.live.2
     c.requires.few c.retire.new.machine c.retire.ensures.machine c.retire.ensures.memory c.memory_mut-memory.result.now c.memory_mut-memory.ensures.value
 
 pub put-requires-clause-linked : goal.put-requires-clause-linked
 put-requires-clause-linked c =
-    lent_linked c.laws_below.ensures c.self.inside c.args.self.now c.self.view_is c.self.invariant c.args.slot c.requires.live.0 c.requires.live.1 c.requires.slot c.requires.live.2
+    lent_linked c.self.inside c.args.self.now c.self.view_is c.self.invariant c.args.slot c.requires.live.0 c.requires.live.1 c.requires.slot c.requires.live.2
     c.requires.few c.retire.new.machine c.retire.ensures.machine c.retire.ensures.memory c.memory_mut-memory.result.now c.memory_mut-memory.ensures.value
 
 pub put-requires-clause-outside : goal.put-requires-clause-outside
 put-requires-clause-outside c =
-    lent_outside c.laws_below.ensures c.self.inside c.args.self.now c.self.view_is c.self.invariant c.args.slot c.requires.live.0 c.requires.live.1 c.requires.slot c.requires.live.2
+    lent_outside c.self.inside c.args.self.now c.self.view_is c.self.invariant c.args.slot c.requires.live.0 c.requires.live.1 c.requires.slot c.requires.live.2
     c.requires.few c.retire.new.machine c.retire.ensures.machine c.retire.ensures.memory c.memory_mut-memory.result.now c.memory_mut-memory.ensures.value
 
 pub put-requires-clause-next : goal.put-requires-clause-next
 put-requires-clause-next c =
-    lent_unlinked c.laws_below.ensures c.self.inside c.args.self.now c.self.view_is c.self.invariant c.args.slot c.requires.live.0 c.requires.live.1 c.requires.slot c.requires.live.2
+    lent_unlinked c.self.inside c.args.self.now c.self.view_is c.self.invariant c.args.slot c.requires.live.0 c.requires.live.1 c.requires.slot c.requires.live.2
     c.requires.few c.retire.new.machine c.retire.ensures.machine c.retire.ensures.memory c.memory_mut-memory.result.now c.memory_mut-memory.ensures.value
 
 pub let_go-requires : goal.let_go-requires
 unfolding shown_heap freed
 let_go-requires c =
     let letting =
-    put_letting_go c.laws_below.ensures c.self.inside c.args.self.now c.self.view_is c.self.invariant c.args.slot c.requires.live.0 c.requires.live.1 c.requires.slot c.requires.live.2
+    put_letting_go c.self.inside c.args.self.now c.self.view_is c.self.invariant c.args.slot c.requires.live.0 c.requires.live.1 c.requires.slot c.requires.live.2
     c.requires.few c.retire.new.machine c.retire.ensures.machine c.retire.ensures.memory c.memory_mut-memory.result.now c.memory_mut-memory.ensures.value
-    c.put.new.memory c.put.new.self (16 * c.slot-place.result.class) c.put.ensures.queued c.put.ensures.value c.put.ensures.first c.put.ensures.behind in
+    c.put.new.memory c.put.new.self (16 * c.slot-place.result.class) c.put.ensures.queued c.put.ensures.value c.put.ensures.first c.put.ensures.after in
     record { kept = (freed (state_of c.self.inside) c.args.slot c.requires.live.0, refl, letting) }
 
 pub overflow_add-self : goal.overflow_add-self
@@ -54,16 +54,16 @@ unfolding shown_heap freed
 invariant_of-self c =
     let letting =
     c.let_go.ensures.kept (freed (state_of c.self.inside) c.args.slot c.requires.live.0) refl
-    (put_letting_go c.laws_below.ensures c.self.inside c.args.self.now c.self.view_is c.self.invariant c.args.slot c.requires.live.0 c.requires.live.1 c.requires.slot c.requires.live.2
+    (put_letting_go c.self.inside c.args.self.now c.self.view_is c.self.invariant c.args.slot c.requires.live.0 c.requires.live.1 c.requires.slot c.requires.live.2
     c.requires.few c.retire.new.machine c.retire.ensures.machine c.retire.ensures.memory c.memory_mut-memory.result.now c.memory_mut-memory.ensures.value
-    c.put.new.memory c.put.new.self (16 * c.slot-place.result.class) c.put.ensures.queued c.put.ensures.value c.put.ensures.first c.put.ensures.behind) in
+    c.put.new.memory c.put.new.self (16 * c.slot-place.result.class) c.put.ensures.queued c.put.ensures.value c.put.ensures.first c.put.ensures.after) in
     let shown =
     ap (λ b. shown_heap c.self.inside.layout c.let_go.new.quarantine.limit c.let_go.new.memory (c.self.inside.total + b) c.retire.new.machine.seed c.retire.new.machine.tag)
     (c.from.ensures ∙ ap (λ n. 16 * n) c.slot-place.ensures.class)
-    ∙ retired_shown c.laws_below.ensures c.self.inside c.args.self.now c.self.view_is c.self.invariant c.args.slot c.requires.live.0 c.requires.live.1 c.requires.slot c.requires.live.2
+    ∙ retired_shown c.self.inside c.args.self.now c.self.view_is c.self.invariant c.args.slot c.requires.live.0 c.requires.live.1 c.requires.slot c.requires.live.2
     c.requires.few c.retire.new.machine c.retire.ensures.machine c.retire.ensures.memory c.let_go.new.memory c.let_go.new.quarantine c.let_go.new.lists letting c.let_go.ensures.held in
     subst (λ h. IsHeldIn h (c.self.inside.frees + 1) c.let_go.new.memory c.let_go.new.quarantine c.let_go.new.lists c.self.inside.firsts.items) (sym shown)
-    (retired_held c.laws_below.ensures c.self.inside c.args.self.now c.self.view_is c.self.invariant c.args.slot c.requires.live.0 c.requires.live.1 c.requires.slot c.requires.live.2
+    (retired_held c.self.inside c.args.self.now c.self.view_is c.self.invariant c.args.slot c.requires.live.0 c.requires.live.1 c.requires.slot c.requires.live.2
     c.requires.few c.retire.new.machine c.retire.ensures.machine c.retire.ensures.memory c.let_go.new.memory c.let_go.new.quarantine c.let_go.new.lists letting c.let_go.ensures.held)
 
 pub returns : goal.returns
@@ -71,13 +71,13 @@ unfolding shown_heap freed
 returns c n tag live =
     let letting =
     c.let_go.ensures.kept (freed (state_of c.self.inside) c.args.slot n) refl
-    (put_letting_go c.laws_below.ensures c.self.inside c.args.self.now c.self.view_is c.self.invariant c.args.slot n tag c.requires.slot live
+    (put_letting_go c.self.inside c.args.self.now c.self.view_is c.self.invariant c.args.slot n tag c.requires.slot live
     c.requires.few c.retire.new.machine c.retire.ensures.machine c.retire.ensures.memory c.memory_mut-memory.result.now c.memory_mut-memory.ensures.value
-    c.put.new.memory c.put.new.self (16 * c.slot-place.result.class) c.put.ensures.queued c.put.ensures.value c.put.ensures.first c.put.ensures.behind) in
+    c.put.new.memory c.put.new.self (16 * c.slot-place.result.class) c.put.ensures.queued c.put.ensures.value c.put.ensures.first c.put.ensures.after) in
     let shown =
     ap (λ b. shown_heap c.self.inside.layout c.let_go.new.quarantine.limit c.let_go.new.memory (c.self.inside.total + b) c.retire.new.machine.seed c.retire.new.machine.tag)
     (c.from.ensures ∙ ap (λ n. 16 * n) c.slot-place.ensures.class)
-    ∙ retired_shown c.laws_below.ensures c.self.inside c.args.self.now c.self.view_is c.self.invariant c.args.slot n tag c.requires.slot live
+    ∙ retired_shown c.self.inside c.args.self.now c.self.view_is c.self.invariant c.args.slot n tag c.requires.slot live
     c.requires.few c.retire.new.machine c.retire.ensures.machine c.retire.ensures.memory c.let_go.new.memory c.let_go.new.quarantine c.let_go.new.lists letting c.let_go.ensures.held in
     (λ k. record {
       state = (shown ∙ ap (λ h. freed h c.args.slot n) (state_seen c.self.inside c.args.self.now c.self.view_is)) k;

@@ -7,6 +7,8 @@ use Rattle.machine_theory.specs.Address.{byte_of, place_of}
 use Rattle.machine_theory.specs.Machine.{Machine}
 use Rattle.heap_theory.specs.Kept.{HaveSameSlots}
 use Rattle.heap_theory.specs.State.{Heap}
+use Rattle.heap_theory.proofs.HeaderWords.{class_number-is}
+use Rattle.heap_theory.proofs.HeadersAgree.{header_words_stay}
 use Rattle.tagged_heap.specs.View.{Counted, shown_heap, IsHeldIn}
 use Rattle.tagged_heap.proofs.PayloadWritten.{KeepsHeaders, access_spared, tagged_access, fault_cases, shown_after, held_after}
 use Rattle.tagged_heap.proofs.heap.Heap.store.Goals as goal
@@ -14,8 +16,8 @@ use Rattle.tagged_heap.proofs.heap.Heap.store.Goals as goal
 spared : (c : goal.After-store) → access_fault c.self.inside.machine.memory c.args.address (length c.args.bytes.now) ≡ None →
     KeepsHeaders c.self.inside.layout c.self.inside.machine.memory (stored c.self.inside.machine.memory c.args.address c.args.bytes.now)
 spared c none =
-    access_spared c.laws_below.ensures c.self.inside c.self.invariant c.args.address c.args.bytes.now c.requires.len.0
-    (tagged_access c.laws_below.ensures c.self.inside c.args.self.now c.args.address (length c.args.bytes.now) c.self.view_is c.requires.tagged none) none
+    access_spared c.self.inside c.self.invariant c.args.address c.args.bytes.now c.requires.len.0
+    (tagged_access c.self.inside c.args.self.now c.args.address (length c.args.bytes.now) c.self.view_is c.requires.tagged none) none
 
 machine_is : (c : goal.After-store) → access_fault c.self.inside.machine.memory c.args.address (length c.args.bytes.now) ≡ None →
     c.store.new.self ≡ record c.self.inside.machine { memory = stored c.self.inside.machine.memory c.args.address c.args.bytes.now }
@@ -36,7 +38,7 @@ invariant_of-self c =
     elim (fault_cases (access_fault c.self.inside.machine.memory c.args.address (length c.args.bytes.now))) [
       | inl none ↦
           subst held (sym (machine_is c none))
-          (held_after c.laws_below.ensures c.self.inside c.self.invariant (stored c.self.inside.machine.memory c.args.address c.args.bytes.now) (byte_of (place_of c.args.address)) c.args.bytes.now refl (spared c none) (fit c))
+          (held_after c.self.inside c.self.invariant (stored c.self.inside.machine.memory c.args.address c.args.bytes.now) (byte_of (place_of c.args.address)) c.args.bytes.now refl (spared c none) (fit c))
       | inr some ↦ subst held (sym (machine_stays c some.0 some.1)) c.self.invariant
     ]
 
@@ -54,7 +56,7 @@ is_stored : (c : goal.After-store) → access_fault c.self.inside.machine.memory
     around c c.store.new.self ≡ with_stored c c.args.self.now
 unfolding shown_heap
 is_stored c none =
-    let shown = shown_after c.laws_below.ensures c.self.inside c.self.invariant (stored c.self.inside.machine.memory c.args.address c.args.bytes.now) (byte_of (place_of c.args.address)) c.args.bytes.now refl (spared c none) in
+    let shown = shown_after c.self.inside c.self.invariant (stored c.self.inside.machine.memory c.args.address c.args.bytes.now) (byte_of (place_of c.args.address)) c.args.bytes.now refl (spared c none) in
     ap (around c) (machine_is c none) ∙ ap (λ (h : Heap). let counted : Counted = record { state = h; frees = c.self.inside.frees } in counted) shown ∙ ap (with_stored c) c.self.view_is
 
 stays : (c : goal.After-store) (f : Fault) → access_fault c.self.inside.machine.memory c.args.address (length c.args.bytes.now) ≡ Some f →
@@ -89,4 +91,4 @@ same_slots c = elim (fault_cases (access_fault c.self.inside.machine.memory c.ar
 ]
 
 pub returns-clause-headers : goal.returns-clause-headers
-returns-clause-headers c = c.law_header_words.ensures c.args.self.now.state (around c c.store.new.self).state (same_slots c)
+returns-clause-headers c = header_words_stay class_number-is c.args.self.now.state (around c c.store.new.self).state (same_slots c)

@@ -24,7 +24,7 @@ pub zero-requires-clause-granules : goal.zero-requires-clause-granules
 zero-requires-clause-granules c =
     omega (
       arith,
-      payload_within c.laws_below.ensures c.self.inside c.args.slot (16 * chunk_granules c.args.n) c.self.invariant
+      payload_within c.self.inside c.args.slot (16 * chunk_granules c.args.n) c.self.invariant
           (slot_within c.self.inside c.args.self.now c.args.slot c.self.view_is c.requires.slot) (room c),
       c.start-first.ensures.start,
       c.chunk_granules.ensures.granules,
@@ -41,18 +41,18 @@ spared : (c : goal.After-self-1) → KeepsHeaders c.self.inside.layout c.self.in
     (written (16 * payload_start (slot_of c.self.inside.layout c.args.slot)) (replicate (16 * chunk_granules c.args.n) 0) c.self.inside.machine.memory)
 spared c =
     let few = room_inside c.self.inside c.args.self.now c.args.slot (16 * chunk_granules c.args.n) c.self.view_is (omega (arith, c.requires.room)) in
-    payload_spared c.laws_below.ensures c.self.inside.layout c.self.inside.machine.memory c.args.slot (replicate (16 * chunk_granules c.args.n) 0) (in_order c.self.inside c.self.invariant)
+    payload_spared c.self.inside.layout c.self.inside.machine.memory c.args.slot (replicate (16 * chunk_granules c.args.n) 0) (in_order c.self.inside c.self.invariant)
     (slot_within c.self.inside c.args.self.now c.args.slot c.self.view_is c.requires.slot) (omega (arith, few, length-replicate {A = ℕ} (16 * chunk_granules c.args.n) 0))
 
 pub invariant_of-self : goal.invariant_of-self
 invariant_of-self c =
-    held_after c.laws_below.ensures c.self.inside c.self.invariant c.zero.new.memory (16 * payload_start (slot_of c.self.inside.layout c.args.slot)) (replicate (16 * chunk_granules c.args.n) 0) (memory_is c) (spared c)
+    held_after c.self.inside c.self.invariant c.zero.new.memory (16 * payload_start (slot_of c.self.inside.layout c.args.slot)) (replicate (16 * chunk_granules c.args.n) 0) (memory_is c) (spared c)
     (All-replicate (λ b. b < 256) (16 * chunk_granules c.args.n) 0 (omega arith))
 
 pub returns : goal.returns
 unfolding with_payload shown_heap
 returns c =
-    let shown = shown_after c.laws_below.ensures c.self.inside c.self.invariant c.zero.new.memory (16 * payload_start (slot_of c.self.inside.layout c.args.slot)) (replicate (16 * chunk_granules c.args.n) 0) (memory_is c) (spared c) in
+    let shown = shown_after c.self.inside c.self.invariant c.zero.new.memory (16 * payload_start (slot_of c.self.inside.layout c.args.slot)) (replicate (16 * chunk_granules c.args.n) 0) (memory_is c) (spared c) in
     subst (λ (v : Counted). seen (record {
       machine = record { memory = c.zero.new.memory; seed = c.self.inside.machine.seed; tag = c.self.inside.machine.tag };
       layout = c.self.inside.layout;

@@ -2,7 +2,7 @@ use Rattle.std.proofs.Common.{◌≡◌, ◌∙◌, sym, ap, Err, rules, true}
 use Rattle.std.proofs.lemmas.Result.{err_from_is_err_and}
 use Rattle.trace_reader.specs.Reached.{answer_of}
 use Rattle.trace_reader.specs.Reading.{Reading, fed, is_open, line_ended}
-use Rattle.trace_reader.proofs.Ending.{failed_on_the_way, fed-behind, fed-failed, is_open-ended, reached_ok, state_failed, unchanged_if_failed, unfinished_after}
+use Rattle.trace_reader.proofs.Ending.{failed_on_the_way, fed-after, fed-failed, is_open-ended, reached_ok, state_failed, unchanged_if_failed, unfinished_after}
 use Rattle.trace_reader.proofs.Reaching.{IsFrontOf-fed, IsFrontOf-trans, came}
 use Rattle.trace_reader.proofs.reader.TraceReader.feed.Goals as goal
 
@@ -19,10 +19,10 @@ returns-in_err-end_line c =
     let old = c.args.self.now in
     let mid = c.loop-line.self in
     let line = c.in-Some.line.now in
-    let behind = c.in-Some.behind.now in
+    let after = c.in-Some.after.now in
     let rest = c.loop-line.invariant.rest ∙ ap (fed mid) c.in-Some.ensures.cut in
     let p = err_from_is_err_and c.from_residual.result c.from_residual.ensures.1 in
-    let r = failed_on_the_way old mid c.end_line.new.self c.in_err-end_line.field-0.0 c.args.piece.now line behind c.loop-line.invariant.still_open c.in-Some.ensures.line rest c.loop-line.invariant.kept c.in_err-end_line.ensures in
+    let r = failed_on_the_way old mid c.end_line.new.self c.in_err-end_line.field-0.0 c.args.piece.now line after c.loop-line.invariant.still_open c.in-Some.ensures.line rest c.loop-line.invariant.kept c.in_err-end_line.ensures in
     let open_now : is_open old ≡ true = search rules in
     rw (p.1, p.2) (record { answer = r.answer; failed = unchanged_if_failed old c.end_line.new.self open_now; reading = r.reading; kept = r.kept; front = r.front; unfinished = unfinished_after old c.end_line.new.self c.args.piece.now (Err c.in_err-end_line.field-0.0) c.requires r })
 
@@ -31,13 +31,13 @@ loop-line-preserved c =
     let old = c.args.self.now in
     let mid = c.loop-line.self in
     let line = c.in-Some.line.now in
-    let behind = c.in-Some.behind.now in
+    let after = c.in-Some.after.now in
     let reached = c.in_ok-end_line.ensures in
     let now = reached_ok mid (line_ended mid line) c.end_line.new.self reached in
     let answer = reached.answer ∙ ap (λ (r : Reading). answer_of r.state) now in
     record {
       still_open = rw now (is_open-ended mid line c.loop-line.invariant.still_open answer);
-      rest = c.loop-line.invariant.rest ∙ ap (fed mid) c.in-Some.ensures.cut ∙ fed-behind mid line behind c.loop-line.invariant.still_open c.in-Some.ensures.line ∙ ap (λ (r : Reading). fed r behind) (sym now);
+      rest = c.loop-line.invariant.rest ∙ ap (fed mid) c.in-Some.ensures.cut ∙ fed-after mid line after c.loop-line.invariant.still_open c.in-Some.ensures.line ∙ ap (λ (r : Reading). fed r after) (sym now);
       kept = IsFrontOf-trans old.events mid.events c.end_line.new.self.events c.loop-line.invariant.kept reached.kept;
     }
 

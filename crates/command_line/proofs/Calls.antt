@@ -1,0 +1,36 @@
+-- The call that words mean is one that its engine takes.
+use Rattle.std.proofs.Common.{◌≡◌, arith, codes, List, Option, Some, None}
+use Rattle.std.specs.Prelude.{option_map}
+use Rattle.clap.specs.Words.{Row, Text}
+use Rattle.command_line.specs.Calls.{HasConfig, IsCall, IsValid, IsValidConfig, Names}
+use Rattle.command_line.specs.declared.commands.replay.Replay.{Replay as ReplayOptions}
+use Rattle.command_line.specs.declared.call.Call.{Call}
+use Rattle.command_line.specs.declared.call.Call.TheVariants.{Score, Tune, Check, Profile, Replay, Run}
+use Rattle.tagged_heap.specs.declared.heap.Config.{Config}
+
+valid_config : (options : List Row) (config : Config) → HasConfig options config → IsValidConfig config
+valid_config options config has = (has.0.1, has.0.2, λ zero. omega (arith, has.1.1), has.2.2)
+
+pub call_is_valid : (command : Option (Text × List Row)) (call : Call) → IsCall command call → IsValid call
+call_is_valid None call is = absurd is
+call_is_valid (Some command) Score is = tt
+call_is_valid (Some command) (Tune o) is = (is.1.1, is.1.2, is.2.1)
+call_is_valid (Some command) Check is = tt
+call_is_valid (Some command) Profile is = tt
+call_is_valid (Some command) (Replay o) is = valid_config command.1 o.config is.1
+call_is_valid (Some command) (Run o) is = (is.1.1, is.1.2, is.2.1, valid_config command.1 o.config is.3)
+
+-- `replay` is no call where its options are none
+pub no_replay : (options : List Row) → ((o : ReplayOptions) → Names (codes "replay") options (Replay o) → ⊥) → (call : Call) → Names (codes "replay") options call → ⊥
+no_replay options none Score named = cc
+no_replay options none (Tune o) named = let bad : codes "replay" ≡ codes "tune" = named.0 in cc
+no_replay options none Check named = cc
+no_replay options none Profile named = cc
+no_replay options none (Replay o) named = none o named
+no_replay options none (Run o) named = let bad : codes "replay" ≡ codes "run" = named.0 in cc
+
+-- a subcommand's name and its rows are those of one subcommand
+pub entered : {X : Type 0} (name_of : X → Text) (rows_in : X → List Row) (sub : Option X) (name : Text) (rows : List Row) → option_map name_of sub ≡ Some name
+    → option_map (λ (p : Text × List Row). p.1) (option_map {U = Text × List Row} (λ x. (name_of x, rows_in x)) sub) ≡ Some rows → option_map {U = Text × List Row} (λ x. (name_of x, rows_in x)) sub ≡ Some (name, rows)
+entered name_of rows_in None name rows is_name is_rows = cc
+entered name_of rows_in (Some x) name rows is_name is_rows = cc

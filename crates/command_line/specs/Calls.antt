@@ -1,0 +1,91 @@
+-- Which call the words of a command mean, and the answers of the call's engine.
+use Rattle.std.specs.Prelude.{◌≡◌, ◌≢◌, ℕ, ◌≤◌, List, Option, Some, None, Result, Ok, Err, codes, ⊤}
+use Rattle.std.specs.Str.Parse.{IsNumeral, without_leading_plus, digits_value}
+use Rattle.clap.specs.Words.{Row, Text, one_of}
+use Rattle.class_table.specs.Steps.{IsStep}
+use Rattle.mte_engine.specs.Check.{CheckAnswers}
+use Rattle.mte_engine.specs.Outcome.{Answer}
+use Rattle.mte_engine.specs.Score.{ScoreAnswers}
+use Rattle.mte_engine.specs.Profile.{ProfileAnswers}
+use Rattle.mte_engine.specs.Replay.{ReplayAnswers}
+use Rattle.mte_engine.specs.Run.{RunAnswers}
+use Rattle.mte_engine.specs.Tune.{TuneAnswers}
+use Rattle.mte_engine.specs.declared.fault.InputFault.{InputFault}
+use Rattle.command_line.specs.declared.call.Call.{Call}
+use Rattle.command_line.specs.declared.call.Call.TheVariants.{Score, Tune, Check, Profile, Replay, Run}
+use Rattle.tagged_heap.specs.declared.heap.Config.{Config}
+
+-- The option of this name has a value that spells the number: decimal digits, with or without a `+` before them.
+abbrev pub HasNumber : List Row → Text → ℕ → Type 0
+HasNumber options name n = (text : Text) × (one_of name options ≡ Some text)
+    × IsNumeral 10 (without_leading_plus text) × (digits_value 10 (without_leading_plus text) ≡ n)
+
+-- The number is within these bounds.
+abbrev pub HasNumberIn : List Row → Text → ℕ → ℕ → ℕ → Type 0
+HasNumberIn options name least most n = HasNumber options name n × (least ≤ n) × (n ≤ most)
+
+-- What was read of an option is such a number, or there is none.
+abbrev pub IsRead : {E : Type 0} → (ℕ → Type 0) → Result ℕ E → Type 0
+IsRead P (Ok n) = P n
+IsRead P (Err fault) = (n : ℕ) → P n → ⊥
+
+-- `--limit` and `--step`.
+abbrev pub HasLimit : List Row → ℕ → Type 0
+HasLimit options n = HasNumberIn options (codes "limit") 1 32 n
+
+abbrev pub HasStep : List Row → ℕ → Type 0
+HasStep options n = HasNumberIn options (codes "step") 1 8 n × IsStep n
+
+-- `--granules`, `--seed` and `--quarantine`.
+abbrev pub HasGranules : List Row → ℕ → Type 0
+HasGranules options n = HasNumberIn options (codes "granules") 64 262144 n
+
+abbrev pub HasSeed : List Row → ℕ → Type 0
+HasSeed options n = HasNumberIn options (codes "seed") 1 65535 n
+
+abbrev pub HasQuarantine : List Row → ℕ → Type 0
+HasQuarantine options n = HasNumberIn options (codes "quarantine") 0 4194304 n
+
+abbrev pub HasConfig : List Row → Config → Type 0
+HasConfig options config =
+    HasGranules options config.granules × HasSeed options config.seed × HasQuarantine options config.quarantine
+
+-- The words name this call: its command, and each of its numbers by the option's name.
+abbrev pub Names : Text → List Row → Call → Type 0
+Names name options Score = name ≡ codes "score"
+Names name options (Tune o) = (name ≡ codes "tune") × HasLimit options o.limit × HasStep options o.step
+Names name options Check = name ≡ codes "check"
+Names name options Profile = name ≡ codes "profile"
+Names name options (Replay o) = (name ≡ codes "replay") × HasConfig options o.config
+Names name options (Run o) = (name ≡ codes "run") × HasLimit options o.limit × HasStep options o.step × HasConfig options o.config
+
+-- This is the call of a command and its options, as clap finds them in the words.
+abbrev pub IsCall : Option (Text × List Row) → Call → Type 0
+IsCall None call = ⊥
+IsCall (Some command) call = Names command.0 command.1 call
+
+abbrev pub IsNoCall : Option (Text × List Row) → Type 0
+IsNoCall command = (call : Call) → IsCall command call → ⊥
+
+-- A heap can be set up so.
+abbrev pub IsValidConfig : Config → Type 0
+IsValidConfig config =
+    (64 ≤ config.granules) × (config.granules ≤ 262144) × (config.seed ≢ 0) × (config.quarantine ≤ 4194304)
+
+-- What each command's engine wants of its options.
+abbrev pub IsValid : Call → Type 0
+IsValid Score = ⊤
+IsValid (Tune o) = (1 ≤ o.limit) × (o.limit ≤ 32) × IsStep o.step
+IsValid Check = ⊤
+IsValid Profile = ⊤
+IsValid (Replay o) = IsValidConfig o.config
+IsValid (Run o) = (1 ≤ o.limit) × (o.limit ≤ 32) × IsStep o.step × IsValidConfig o.config
+
+-- The answers of a call's engine.
+abbrev pub answers_of : Call → List ℕ → Result Answer InputFault → Type 0
+answers_of Score = ScoreAnswers
+answers_of (Tune o) = TuneAnswers o.limit o.step
+answers_of Check = CheckAnswers
+answers_of Profile = ProfileAnswers
+answers_of (Replay o) = ReplayAnswers o.config
+answers_of (Run o) = RunAnswers o.limit o.step o.config

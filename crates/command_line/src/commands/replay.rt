@@ -1,0 +1,125 @@
+//! `replay`.
+ghost use Rattle.std.specs.Prelude.{IfOk, MatchResult, codes};
+ghost use Rattle.clap.specs.Words.{found_of, rows_of};
+ghost use Rattle.mte_engine.specs.Outcome.{IsReady, Runs};
+ghost use Rattle.mte_engine.specs.Replay.{ReplayAnswers};
+ghost use Rattle.command_line.specs.Calls.{IsValid, Names};
+ghost use Rattle.command_line.specs.Program.{HasWords, replay_words};
+ghost use Rattle.command_line.specs.declared.call.Call.TheVariants.{Replay as ReplayCall};
+
+use crate::options::{config_of, granules, quarantine, seed};
+use crate::refusal::OptionFault;
+use clap::{ArgMatches, Command};
+use mte_engine::{ByteSink, ByteSource, Status, ToolFault};
+use std::alloc::{AllocError, Global};
+use tagged_heap::Config;
+
+/// The command's name.
+pub const NAME: &str = "replay";
+
+const ABOUT: &str = "Run a trace on the heap with memory tags, with a given class table";
+
+const LONG: &str = "Run a trace on the heap with memory tags, with a given class table.";
+
+const AFTER: &str = "\
+Standard input is a class line, and then a trace, a line for each event:
+
+  classes C1 C2 ..   up to 32 block sizes in granules of 16 bytes, from 2 to 1024, ascending
+
+  malloc V N            calloc V N            realloc V N           free V
+  load V OFF LEN        store V OFF LEN HH    addg V W U6 U4        subg V W U6 U4
+
+  V, W    variables that hold pointers, 0 to 1023
+  N       a size in bytes, 0 to 2147483647
+  OFF     an offset in bytes, -1048576 to 1048576
+  LEN     bytes to load or store, 1 to 64
+  HH      the byte that is stored, two hexadecimal digits
+  U6, U4  granules, 0 to 63, and tags, 0 to 15, by which a pointer is moved
+
+A line has at most 80 bytes, and there are at most 1000000 events. docs/HEAP.md in the repository
+has the meaning of each event. The output has a line for each event E, counted from 1, that
+loaded, faulted or was refused:
+
+  E data HEX..          the bytes that a load read
+  E fault unmapped      an access reached outside the region; it did nothing
+  E fault tag granule G memory M pointer P in KIND
+                        granule G has the tag M, and the pointer the tag P; the access did nothing;
+                        KIND is what the granule is: slack, header, tail, dead or other
+  E null large          null was returned: more than 16368 bytes were requested,
+  E null no-class       no class serves the size,
+  E null exhausted      or no slot of its class is left
+  E refused misplaced   a free or realloc was refused: its pointer is no slot's first payload byte,
+  E refused not-live    its slot is not in use,
+  E refused wrong-tag   or its tag is not the slot's
+
+and then nine totals: `events`, `requests`, `null large`, `null no-class`, `null exhausted`,
+`faults tag`, `faults unmapped`, `refused frees`, and `loss`, the bytes of the served requests'
+payloads beyond what they asked for.
+
+Example:
+  printf 'classes 2\\nmalloc 1 5\\nfree 1\\nload 1 0 1\\n' | mte_tool replay --granules 64
+writes a line `3 fault tag granule 1 memory M pointer P in dead`, since the chunk was freed, and
+then the totals.
+
+Refused input, exit status 2; line 1 is the class line, the trace begins in line 2:
+  20 TooMany           line 1 has more than 32 classes
+  21 OutOfRange        a class of line 1 is not from 2 to 1024
+  22 NotAscending      a class of line 1 is not above the one before it
+  23 BadLine           line 1 is no class line
+  70 BadWord           a line is no event, or has a word too many or too few
+  71 BadNumber         a word is no number of its kind, or not in its one spelling
+  72 OutOfRange        a number is not in its range
+  73 LineTooLong       a line has more than 80 bytes
+  74 TooManyEvents     there is a line after 1000000 events
+  80 InputTooLong      there are more than 67108864 bytes
+Failures, exit status 3:
+  1 OutOfMemory, 81 ReadFault, 82 WriteFault";
+
+/// The command's words.
+pub fn words<'a>(alloc: Global) -> Result<Command<'a>, AllocError>
+    ensures { IfOk result (λ command. HasWords command replay_words) }
+{
+    let command = Command::new(alloc, NAME)
+        .about(ABOUT)
+        .long_about(LONG)
+        .after_help(AFTER);
+    command
+        .arg(granules(alloc))?
+        .arg(seed(alloc))?
+        .arg(quarantine(alloc))
+}
+
+/// The command's options.
+#[derive(Debug, Clone, Copy)]
+pub struct Replay {
+    /// The configuration of the heap.
+    pub config: Config,
+}
+
+impl Replay {
+    /// The options that clap found.
+    pub fn of_options(options: &ArgMatches<'_>) -> Result<Replay, OptionFault>
+        ensures { MatchResult result
+            (λ o. Names (codes "replay") (rows_of (found_of options.now)) (ReplayCall o))
+            (λ _. (o : Replay) → Names (codes "replay") (rows_of (found_of options.now)) (ReplayCall o) → ⊥) }
+    {
+        Ok(Replay {
+            config: config_of(options)?,
+        })
+    }
+
+    /// Runs the command.
+    pub fn run<R: ByteSource, W: ByteSink>(
+        self,
+        alloc: Global,
+        source: &mut R,
+        sink: &mut W,
+    ) -> Result<Status, ToolFault>
+        requires valid { IsValid (ReplayCall self) }
+        requires ready { IsReady (R.state source.old) (W.state sink.old) }
+        ensures { Runs (ReplayAnswers self.config) (R.state source.old) (R.state source.new)
+            W.state sink.old sink.new result }
+    {
+        mte_engine::replay(alloc, self.config, source, sink)
+    }
+}

@@ -1,0 +1,132 @@
+//! `run`.
+ghost use Rattle.std.specs.Prelude.{IfOk, MatchResult, codes};
+ghost use Rattle.clap.specs.Words.{found_of, rows_of};
+ghost use Rattle.mte_engine.specs.Outcome.{IsReady, Runs};
+ghost use Rattle.mte_engine.specs.Run.{RunAnswers};
+ghost use Rattle.command_line.specs.Calls.{IsValid, Names};
+ghost use Rattle.command_line.specs.Program.{HasWords, run_words};
+ghost use Rattle.command_line.specs.declared.call.Call.TheVariants.{Run as RunCall};
+
+use crate::options::{config_of, granules, limit, limit_of, quarantine, seed, step, step_of};
+use crate::refusal::OptionFault;
+use clap::{ArgMatches, Command};
+use mte_engine::{ByteSink, ByteSource, Status, ToolFault};
+use std::alloc::{AllocError, Global};
+use tagged_heap::Config;
+
+/// The command's name.
+pub const NAME: &str = "run";
+
+const ABOUT: &str = "Find the best class table for a trace, and run the trace with it";
+
+const LONG: &str = "\
+Find the class table that wastes least on the sizes that a trace requests, and run the trace on the
+heap with memory tags, with that table.";
+
+const AFTER: &str = "\
+Standard input is a trace, a line for each event:
+
+  malloc V N            calloc V N            realloc V N           free V
+  load V OFF LEN        store V OFF LEN HH    addg V W U6 U4        subg V W U6 U4
+
+  V, W    variables that hold pointers, 0 to 1023
+  N       a size in bytes, 0 to 2147483647
+  OFF     an offset in bytes, -1048576 to 1048576
+  LEN     bytes to load or store, 1 to 64
+  HH      the byte that is stored, two hexadecimal digits
+  U6, U4  granules, 0 to 63, and tags, 0 to 15, by which a pointer is moved
+
+A line has at most 80 bytes, and there are at most 1000000 lines. docs/HEAP.md in the repository
+has the meaning of each event. The output is the sheet that `tune` writes for the trace's profile:
+
+  classes C1 C2 ..   the table
+  limit K            the most classes that it was allowed
+  step S             each class is a multiple of it; no such line for 1
+  waste W            the bytes that all requests of up to 16368 bytes together leave unused in their
+                     blocks
+  row N1 N2 ..       K rows, which prove that no table of at most K classes that are multiples of S,
+                     and that serves each counted size, wastes less
+
+and then what `replay` writes with that table: a line for each event that loaded, faulted or was
+refused,
+
+  E data HEX..
+  E fault unmapped
+  E fault tag granule G memory M pointer P in KIND
+  E null large        or no-class, exhausted
+  E refused misplaced or not-live, wrong-tag
+
+and nine totals, `events` to `loss`. `mte_tool replay --help` explains these lines.
+
+Example:
+  printf 'malloc 1 16\\nfree 1\\nload 1 0 1\\n' | mte_tool run --limit 1 --granules 64
+writes the lines `classes 2`, `limit 1`, `waste 0` and `row 0`, then
+`3 fault tag granule 1 memory 3 pointer 1 in dead`, since the chunk was freed, and the totals.
+
+Refused, exit status 2:
+  83 BadOption         the step is not 1, 2, 4 or 8; nothing is read then
+  70 BadWord           a line is no event, or has a word too many or too few
+  71 BadNumber         a word is no number of its kind, or not in its one spelling
+  72 OutOfRange        a number is not in its range
+  73 LineTooLong       a line has more than 80 bytes
+  74 TooManyEvents     there is a line after 1000000
+  80 InputTooLong      there are more than 67108864 bytes
+Failures, exit status 3:
+  1 OutOfMemory, 81 ReadFault, 82 WriteFault";
+
+/// The command's words.
+pub fn words<'a>(alloc: Global) -> Result<Command<'a>, AllocError>
+    ensures { IfOk result (λ command. HasWords command run_words) }
+{
+    let command = Command::new(alloc, NAME)
+        .about(ABOUT)
+        .long_about(LONG)
+        .after_help(AFTER);
+    command
+        .arg(limit(alloc))?
+        .arg(step(alloc))?
+        .arg(granules(alloc))?
+        .arg(seed(alloc))?
+        .arg(quarantine(alloc))
+}
+
+/// The command's options.
+#[derive(Debug, Clone, Copy)]
+pub struct Run {
+    /// The most classes of the table, 1 to 32.
+    pub limit: u8,
+    /// The granules that each class is a multiple of: 1, 2, 4 or 8.
+    pub step: u8,
+    /// The configuration of the heap.
+    pub config: Config,
+}
+
+impl Run {
+    /// The options that clap found. `BadOption` if the step is not 1, 2, 4 or 8, or another number is outside its range.
+    pub fn of_options(options: &ArgMatches<'_>) -> Result<Run, OptionFault>
+        ensures { MatchResult result
+            (λ o. Names (codes "run") (rows_of (found_of options.now)) (RunCall o))
+            (λ _. (o : Run) → Names (codes "run") (rows_of (found_of options.now)) (RunCall o) → ⊥) }
+    {
+        Ok(Run {
+            limit: limit_of(options)?,
+            step: step_of(options)?,
+            config: config_of(options)?,
+        })
+    }
+
+    /// Runs the command.
+    pub fn run<R: ByteSource, W: ByteSink>(
+        self,
+        alloc: Global,
+        source: &mut R,
+        sink: &mut W,
+    ) -> Result<Status, ToolFault>
+        requires valid { IsValid (RunCall self) }
+        requires ready { IsReady (R.state source.old) (W.state sink.old) }
+        ensures { Runs (RunAnswers self.limit self.step self.config) (R.state source.old) (R.state source.new)
+            W.state sink.old sink.new result }
+    {
+        mte_engine::run(alloc, self.limit, self.step, self.config, source, sink)
+    }
+}

@@ -1,0 +1,108 @@
+//! `tune`.
+ghost use Rattle.std.specs.Prelude.{◌≡◌, ◌≤◌, IfOk, MatchResult, codes};
+ghost use Rattle.clap.specs.Words.{found_of, rows_of};
+ghost use Rattle.class_table.specs.Steps.{IsStep};
+ghost use Rattle.mte_engine.specs.Outcome.{IsReady, Runs};
+ghost use Rattle.mte_engine.specs.Tune.{TuneAnswers};
+ghost use Rattle.command_line.specs.Calls.{IsValid, Names};
+ghost use Rattle.command_line.specs.Program.{HasWords, tune_words};
+ghost use Rattle.command_line.specs.declared.call.Call.TheVariants.{Tune as TuneCall};
+
+use crate::options::{limit, limit_of, step, step_of};
+use crate::refusal::OptionFault;
+use clap::{ArgMatches, Command};
+use mte_engine::{ByteSink, ByteSource, Status, ToolFault};
+use std::alloc::{AllocError, Global};
+
+/// The command's name.
+pub const NAME: &str = "tune";
+
+const ABOUT: &str = "Find the class table that wastes least on a profile, with a certificate";
+
+const LONG: &str = "Find the class table that wastes least on a profile, with a certificate.";
+
+const AFTER: &str = "\
+Standard input is a profile:
+
+  SIZE COUNT         a size in bytes, 0 to 16368, and how often it was requested, 1 to 1000000000;
+                     sizes ascend
+  large COUNT        how often more than 16368 bytes were requested, if they were; it is the last
+                     line, and is not in the waste
+
+The output is a sheet:
+
+  classes C1 C2 ..   the table: of those that waste least and have no class without a request, the
+                     first in lexicographic order
+  limit K            the most classes that it was allowed
+  step S             each class is a multiple of it; no such line for 1
+  waste W            the bytes that all requests together leave unused in their blocks; no table of
+                     at most K classes that are multiples of S, and that serves each counted size,
+                     wastes less
+  row N1 N2 ..       K rows: row k, number i is the least that at most k classes waste on the
+                     requests without those of the i-1 smallest distinct needs
+
+The first numbers of the rows are the least wastes for at most 1, 2, .. K classes. The rows prove
+that the waste is the least: `check` tests them.
+
+Example:
+  printf '16 3\\n40 1\\n' | mte_tool tune --limit 2
+writes the lines `classes 2 4`, `limit 2`, `waste 8`, `row 104 8` and `row 8 8`: one class would
+waste 104 bytes, two waste 8.
+
+Refused, exit status 2:
+  83 BadOption         the step is not 1, 2, 4 or 8; nothing is read then
+  30 BadLine           a line of the profile is none of its two forms, or its size is above 16368
+  31 NotAscending      a size is not above the one before it
+  32 CountOutOfRange   a count is not from 1 to 1000000000
+  80 InputTooLong      there are more than 67108864 bytes
+Failures, exit status 3:
+  1 OutOfMemory, 81 ReadFault, 82 WriteFault";
+
+/// The command's words.
+pub fn words<'a>(alloc: Global) -> Result<Command<'a>, AllocError>
+    ensures { IfOk result (λ command. HasWords command tune_words) }
+{
+    let command = Command::new(alloc, NAME)
+        .about(ABOUT)
+        .long_about(LONG)
+        .after_help(AFTER);
+    command.arg(limit(alloc))?.arg(step(alloc))
+}
+
+/// The command's options.
+#[derive(Debug, Clone, Copy)]
+pub struct Tune {
+    /// The most classes of the table, 1 to 32.
+    pub limit: u8,
+    /// The granules that each class is a multiple of: 1, 2, 4 or 8.
+    pub step: u8,
+}
+
+impl Tune {
+    /// The options that clap found. `BadOption` if the step is not 1, 2, 4 or 8, or another number is outside its range.
+    pub fn of_options(options: &ArgMatches<'_>) -> Result<Tune, OptionFault>
+        ensures { MatchResult result
+            (λ o. Names (codes "tune") (rows_of (found_of options.now)) (TuneCall o))
+            (λ _. (o : Tune) → Names (codes "tune") (rows_of (found_of options.now)) (TuneCall o) → ⊥) }
+    {
+        Ok(Tune {
+            limit: limit_of(options)?,
+            step: step_of(options)?,
+        })
+    }
+
+    /// Runs the command.
+    pub fn run<R: ByteSource, W: ByteSink>(
+        self,
+        alloc: Global,
+        source: &mut R,
+        sink: &mut W,
+    ) -> Result<Status, ToolFault>
+        requires valid { IsValid (TuneCall self) }
+        requires ready { IsReady (R.state source.old) (W.state sink.old) }
+        ensures { Runs (TuneAnswers self.limit self.step) (R.state source.old) (R.state source.new)
+            W.state sink.old sink.new result }
+    {
+        mte_engine::tune(alloc, self.limit, self.step, source, sink)
+    }
+}

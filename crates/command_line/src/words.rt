@@ -1,0 +1,78 @@
+//! The words of the command line, and the call that they mean.
+ghost use Rattle.std.specs.Prelude.{◌≡◌, IfOk, IfErr, MatchResult, map, string_bytes};
+ghost use Rattle.clap.specs.Words.{app_of};
+ghost use Rattle.mte_engine.specs.Outcome.{IsReady, Runs};
+ghost use Rattle.command_line.specs.Calls.{answers_of};
+ghost use Rattle.command_line.specs.Program.{program};
+ghost use Rattle.command_line.specs.Words.{AreRefused, Mean};
+
+use crate::call::{Call, call_of};
+use crate::commands::{check, profile, replay, run, score, tune};
+use crate::refusal::Refusal;
+use clap::Command;
+use mte_engine::{ByteSink, ByteSource, Status, ToolFault};
+use std::alloc::{AllocError, Global};
+
+const ABOUT: &str = "\
+Find the size-class table that wastes least on what a program really allocates, prove that it does,
+and run the program's allocations on a heap with memory tags.";
+
+const AFTER: &str = "\
+All input is read from standard input; no file is opened. `mte_tool COMMAND --help` explains a
+command's input and output.
+
+A fault is one line on standard error, `error CODE NAME`, with ` line L` after it where it is in
+line L of the input; lines are counted from 1. Refused words are reported in clap's words.
+
+Exit status:
+  0  done
+  1  done, and the verdict is no
+  2  the words, an option or the input are refused
+  3  there is no memory, or a read or a write failed
+
+docs/FORMATS.md in the repository has the formats and all codes.";
+
+/// The program's words, with its commands.
+pub fn command<'a>(alloc: Global) -> Result<Command<'a>, AllocError>
+    ensures { IfOk result (λ command. app_of command ≡ program) }
+{
+    let command = Command::new(alloc, "mte_tool")
+        .version("0.1.0")
+        .about(ABOUT)
+        .after_help(AFTER)
+        .subcommand_required(true)
+        .arg_required_else_help(true);
+    command
+        .subcommand(score::words(alloc))?
+        .subcommand(tune::words(alloc)?)?
+        .subcommand(check::words(alloc))?
+        .subcommand(profile::words(alloc))?
+        .subcommand(replay::words(alloc)?)?
+        .subcommand(run::words(alloc)?)
+}
+
+/// The call that these words mean. The first word is the program's name.
+pub fn read_call(alloc: Global, words: &[String]) -> Result<Call, Refusal>
+    ensures { MatchResult result (Mean (map string_bytes words.now)) (AreRefused (map string_bytes words.now)) }
+{
+    let matches = command(alloc)?.try_get_matches_from(words)?;
+    Ok(call_of(&matches)?)
+}
+
+/// Runs the call that these words mean. The first word is the program's name. The error says why no call ran: the words mean none, or the
+/// allocator refused memory. After an error source and sink are unchanged.
+pub fn run_words<R: ByteSource, W: ByteSink>(
+    alloc: Global,
+    words: &[String],
+    source: &mut R,
+    sink: &mut W,
+) -> Result<Result<Status, ToolFault>, Refusal>
+    requires { IsReady (R.state source.old) (W.state sink.old) }
+    ensures ran { IfOk result (λ end. (call : Call) × Mean (map string_bytes words.now) call
+        × Runs (answers_of call) (R.state source.old) (R.state source.new) W.state sink.old sink.new end) }
+    ensures refused { IfErr result (λ refusal. AreRefused (map string_bytes words.now) refusal
+        × (source.new ≡ source.old) × (sink.new ≡ sink.old)) }
+{
+    let call = read_call(alloc, words)?;
+    Ok(call.run(alloc, source, sink))
+}

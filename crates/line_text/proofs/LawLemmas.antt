@@ -1,0 +1,82 @@
+-- The laws as lemmas, for the proofs of the crates above.
+use Rattle.std.proofs.Common.{[]}
+use Rattle.std.proofs.lemmas.List.{append-nil}
+use Rattle.line_text.specs.Laws.{TextLaws, CutLinesAreRead, FullLinesAreRead, HexIsAByte, HexIsSpelled, LineInFrontIsRead, LineIsItsWords, LinesAreLines, NumberIsSpelled, SignedIsSpelled, SpelledHexIsRead, SpelledNumberIsAWord, SpelledNumberIsRead, SpelledSignedIsAWord, SpelledSignedIsRead, TextIsItsLines, WordsAreWords, WordsMakeALine, WrittenLinesAreRead, WrittenWordsAreRead}
+use Rattle.line_text.specs.Lines.{lines}
+use Rattle.line_text.proofs.Cuts.{All-lines, All-words, IsLine-line_of, IsTextOf-lines, line_alone, line_of-words, lines-ended, lines-text_of, words-line_of}
+use Rattle.line_text.proofs.Digits.{IsLine-decimal, IsWord-decimal, decimal-number_of, number_of-decimal}
+use Rattle.line_text.proofs.FullLines.{full_lines-read}
+use Rattle.line_text.proofs.HexDigits.{hex-hex_of, hex_of-hex}
+use Rattle.line_text.proofs.Signs.{IsLine-signed_decimal, IsWord-signed_decimal, signed_decimal-signed_of, signed_of-signed_decimal}
+
+pub text_is_its_lines : TextIsItsLines
+text_is_its_lines = IsTextOf-lines
+
+pub lines_are_lines : LinesAreLines
+lines_are_lines = All-lines
+
+pub written_lines_are_read : WrittenLinesAreRead
+unfolding lines
+written_lines_are_read = λ ls all. simp append-nil at (lines-text_of ls [] all)
+
+pub cut_lines_are_read : CutLinesAreRead
+cut_lines_are_read = λ ls last all line some. rw (line_alone last some line) at (lines-text_of ls last all)
+
+pub full_lines_are_read : FullLinesAreRead
+full_lines_are_read = full_lines-read cut_lines_are_read written_lines_are_read
+
+pub line_in_front_is_read : LineInFrontIsRead
+line_in_front_is_read = lines-ended
+
+pub line_is_its_words : LineIsItsWords
+line_is_its_words = line_of-words
+
+pub words_are_words : WordsAreWords
+words_are_words = All-words
+
+pub written_words_are_read : WrittenWordsAreRead
+written_words_are_read = words-line_of
+
+pub words_make_a_line : WordsMakeALine
+words_make_a_line = IsLine-line_of
+
+pub number_is_spelled : NumberIsSpelled
+number_is_spelled = decimal-number_of
+
+pub spelled_number_is_read : SpelledNumberIsRead
+spelled_number_is_read = number_of-decimal
+
+pub spelled_number_is_a_word : SpelledNumberIsAWord
+spelled_number_is_a_word = λ n small. (IsLine-decimal n small, IsWord-decimal n small)
+
+pub signed_is_spelled : SignedIsSpelled
+signed_is_spelled = signed_decimal-signed_of
+
+pub spelled_signed_is_read : SpelledSignedIsRead
+spelled_signed_is_read = signed_of-signed_decimal
+
+pub spelled_signed_is_a_word : SpelledSignedIsAWord
+spelled_signed_is_a_word = λ z fits. (IsLine-signed_decimal z fits, IsWord-signed_decimal z fits)
+
+pub hex_is_a_byte : HexIsAByte
+hex_is_a_byte = λ word n read. (hex-hex_of word n read).0
+
+pub hex_is_spelled : HexIsSpelled
+hex_is_spelled = λ word n read. (hex-hex_of word n read).1
+
+pub spelled_hex_is_read : SpelledHexIsRead
+spelled_hex_is_read = hex_of-hex
+
+pub text_laws : TextLaws
+text_laws = record {
+  text = text_is_its_lines;
+  lines = lines_are_lines;
+  written_lines = written_lines_are_read;
+  full_lines = full_lines_are_read;
+  line = line_is_its_words;
+  written_words = written_words_are_read;
+  makes_line = words_make_a_line;
+  spelled = number_is_spelled;
+  read = spelled_number_is_read;
+  word = spelled_number_is_a_word;
+}

@@ -1,0 +1,35 @@
+-- Addresses: their tags and places, and what a short move leaves of them.
+use Rattle.std.proofs.Common.{◌≡◌, ℕ, ◌+◌, ◌<◌, ◌≤◌, ◌^◌, ℤ, pos, negsuc, arith}
+use Rattle.std.specs.Prelude.{nat_abs}
+use Rattle.machine_theory.specs.Address.{Holds, logical_tag, moved_by, place_of, region_start, with_tag}
+
+pub tag_put : (address tag : ℕ) → tag < 16 → logical_tag (with_tag address tag) ≡ tag
+tag_put address tag fits = omega (arith, fits)
+
+pub place_stays : (address tag : ℕ) → place_of (with_tag address tag) ≡ place_of address
+place_stays address tag = omega arith
+
+pub tag_fits : (address : ℕ) → logical_tag address < 16
+tag_fits address = omega arith
+
+-- a place lies in one granule
+pub one_granule : (g k place : ℕ) → Holds g place → Holds k place → g ≡ k
+one_granule g k place a b = omega (arith, a.from, a.to, b.from, b.to)
+
+-- an address near the region keeps its tag and its highest four bits when it is moved by at most 2 ^ 20 bytes
+pub moved_tag : (address : ℕ) (offset : ℤ) (i : ℕ) → nat_abs offset ≤ 2 ^ 20 → i < 64 →
+    region_start ≤ place_of (moved_by address offset) + i → place_of (moved_by address offset) < 2 ^ 37 →
+    logical_tag (moved_by address offset) ≡ logical_tag address
+moved_tag address (pos n) i near few from to = omega (arith, near, few, from, to)
+moved_tag address (negsuc n) i near few from to = omega (arith, near, few, from, to)
+
+pub moved_plain : (address : ℕ) (offset : ℤ) → nat_abs offset ≤ 2 ^ 20 → address < 2 ^ 60 →
+    region_start ≤ place_of (moved_by address offset) → place_of (moved_by address offset) < 2 ^ 37 → moved_by address offset < 2 ^ 60
+moved_plain address (pos n) near plain from to = omega (arith, near, plain, from, to)
+moved_plain address (negsuc n) near plain from to = omega (arith, near, plain, from, to)
+
+-- null is not near the region
+pub moved_null : (offset : ℤ) (i : ℕ) → nat_abs offset ≤ 2 ^ 20 → i < 64 →
+    region_start ≤ place_of (moved_by 0 offset) + i → place_of (moved_by 0 offset) < 2 ^ 37 → ⊥
+moved_null (pos n) i near few from to = omega (arith, near, few, from, to)
+moved_null (negsuc n) i near few from to = omega (arith, near, few, from, to)

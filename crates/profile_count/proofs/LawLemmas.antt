@@ -1,0 +1,46 @@
+-- The laws as lemmas, for the proofs of the crates above.
+use Rattle.profile_count.specs.Laws.{AddedRequestsAreCounted, CountsAreFew, FirstFaultIsRefused, LinesBeforeItSpell, OneMoreIsCounted, ProfileCountsRequests, ProfileIsSpelled, RefusedLineIsThere, SpelledProfileIsRead}
+use Rattle.profile_count.specs.RequestLosses.{ProfileOfSizesIsOne, ServesEachRequest, WasteIsTheSumOfLosses}
+use Rattle.line_text.proofs.LawLemmas.{text_laws}
+use Rattle.profile_count.proofs.CountedRequests.{count_for-le, profile_of_sizes-counts, with_more-nothing_counted, with_one_more-profile_of_sizes}
+use Rattle.profile_count.proofs.FirstFaults.{first_fault-refused, front-refused, refused-first_fault, within-refused}
+use Rattle.profile_count.proofs.ReadIsSpelled.{spelled-profile_of}
+use Rattle.profile_count.proofs.RequestLosses.{profile_of_sizes-is_profile, serves-profile_of_sizes, waste_of-profile_of_sizes}
+use Rattle.profile_count.proofs.SpelledIsRead.{profile_of-spelled}
+
+pub profile_is_spelled : ProfileIsSpelled
+profile_is_spelled = spelled-profile_of text_laws
+
+pub spelled_profile_is_read : SpelledProfileIsRead
+spelled_profile_is_read = profile_of-spelled text_laws
+
+pub first_fault_is_refused : FirstFaultIsRefused
+first_fault_is_refused =
+    λ text n. (first_fault-refused text_laws text n, refused-first_fault text_laws text n)
+
+pub refused_line_is_there : RefusedLineIsThere
+refused_line_is_there = within-refused
+
+pub lines_before_it_spell : LinesBeforeItSpell
+lines_before_it_spell = front-refused text_laws
+
+pub profile_counts_requests : ProfileCountsRequests
+profile_counts_requests = profile_of_sizes-counts
+
+pub added_requests_are_counted : AddedRequestsAreCounted
+added_requests_are_counted = with_more-nothing_counted
+
+pub one_more_is_counted : OneMoreIsCounted
+one_more_is_counted = with_one_more-profile_of_sizes
+
+pub counts_are_few : CountsAreFew
+counts_are_few = count_for-le
+
+pub waste_is_the_sum_of_losses : WasteIsTheSumOfLosses
+waste_is_the_sum_of_losses = waste_of-profile_of_sizes
+
+pub serves_each_request : ServesEachRequest
+serves_each_request = serves-profile_of_sizes
+
+pub profile_of_sizes_is_one : ProfileOfSizesIsOne
+profile_of_sizes_is_one = profile_of_sizes-is_profile

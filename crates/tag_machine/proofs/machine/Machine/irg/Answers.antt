@@ -1,0 +1,11 @@
+use Rattle.machine_theory.proofs.SeedLaws.{next_seed-below, next_seed-some}
+use Rattle.tag_machine.proofs.machine.Machine.irg.Goals as goal
+
+pub invariant_of-self : goal.invariant_of-self
+invariant_of-self c =
+    let register = c.self.invariant in
+    rw c.next_seed-self-inside.ensures (
+      next_seed-some _ register.0 register.1,
+      next_seed-below _ register.1,
+      c.choose_tag-self-inside.ensures.below,
+    )
