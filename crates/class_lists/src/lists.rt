@@ -32,7 +32,8 @@ impl ClassLists {
     /// An empty list for each class of the layout, whatever the memory holds.
     pub fn new(layout: &Layout) -> ClassLists
         ensures fronts { result ≡ replicate (length layout.now.classes) 0 }
-        ensures empty { (memory : List Granule) (class : ℕ) → ShowsList layout.now memory (slice_index result class) [] }
+        ensures empty { (memory : List Granule) (class : ℕ)
+            → ShowsList layout.now memory (slice_index result class) [] }
     {
         let mut fronts = ArrayVec::new();
         for _ in 0..layout.classes() {
@@ -74,10 +75,12 @@ impl ClassLists {
         ensures some { IfSome result (λ slot. slice_index self.old class ≡ slot + 1) }
         ensures same_fronts { IfNone result (self.new ≡ self.old) }
         ensures same_memory { IfNone result (memory.new ≡ memory.old) }
-        ensures front { IfSome result (λ slot. self.new ≡ slice_set self.old class (next_in layout.now memory.old slot)) }
+        ensures front { IfSome result
+            (λ slot. self.new ≡ slice_set self.old class (next_in layout.now memory.old slot)) }
         ensures link { IfSome result (λ slot. memory.new ≡ with_next memory.old (slot_of layout.now slot).start 0) }
         ensures unlinked { IfSome result (λ slot. next_in layout.now memory.new slot ≡ 0) }
-        ensures first { (list : List ℕ) → ShowsList layout.now memory.old (slice_index self.old class) list → result ≡ slice_get list 0 }
+        ensures first { (list : List ℕ) → ShowsList layout.now memory.old (slice_index self.old class) list
+            → result ≡ slice_get list 0 }
         ensures rest { (list : List ℕ) → ShowsList layout.now memory.old (slice_index self.old class) list →
             ShowsList layout.now memory.new (slice_index self.new class) (drop 1 list) }
         ensures others { (front : ℕ) (list : List ℕ) → ShowsList layout.now memory.old front list →

@@ -2,7 +2,6 @@
 use Rattle.std.proofs.Common.{◌≡◌, ℕ, List, [], ◌∷◌, length, take, Result, Ok, Err, refl, sym, ap, ◌∙◌, arith, ◌⊎◌, inl, inr}
 use Rattle.std.specs.Prelude.{IsErr}
 use Rattle.line_text.specs.FirstFault.{IsFirstFault}
-use Rattle.line_text.specs.Laws.{TextLaws}
 use Rattle.line_text.specs.Lines.{lines}
 use Rattle.class_table.specs.ClassLine.{BeginsWithTable, SpellsTable, class_line, table_of_lines, table_of_line, table_of}
 use Rattle.class_table.specs.Tables.{IsLegalTable}
@@ -26,37 +25,37 @@ spells-class_line : (table : List ℕ) → IsLegalTable 1 table → SpellsTable 
 spells-class_line table legal = record { legal = legal; line = inl refl }
 
 -- what spells a table begins with it
-begins-spelled : TextLaws → (text table : List ℕ) → SpellsTable text table → BeginsWithTable text table
-begins-spelled laws text table spells =
-    record { legal = spells.legal; line = ap (take 1) (lines-spelled laws text table spells) }
+begins-spelled : (text table : List ℕ) → SpellsTable text table → BeginsWithTable text table
+begins-spelled text table spells =
+    record { legal = spells.legal; line = ap (take 1) (lines-spelled text table spells) }
 
 -- lists of one line
 same_line : (x y : List ℕ) → x ∷ [] ≡ y ∷ [] → x ≡ y
 same_line x y e = cc
 
 -- the first line of what begins with a table is read as that table
-read-begins : TextLaws → (text line table : List ℕ) → take 1 (lines text) ≡ line ∷ [] → BeginsWithTable text table
+read-begins : (text line table : List ℕ) → take 1 (lines text) ≡ line ∷ [] → BeginsWithTable text table
     → table_of_line line ≡ Ok table
-read-begins laws text line table first begins =
+read-begins text line table first begins =
     let same = same_line line (class_line table) (sym first ∙ begins.line) in
-    ap table_of_line same ∙ table_of_line-legal laws table begins.legal
+    ap table_of_line same ∙ table_of_line-legal table begins.legal
 
 -- ---- line 1
 
 -- where nothing that begins with a table begins as the text does, its first fault is line 1
-first_line_fault : TextLaws → (text : List ℕ)
+first_line_fault : (text : List ℕ)
     → ((other table : List ℕ) → BeginsWithTable other table → take 1 (lines other) ≡ take 1 (lines text) → ⊥)
     → IsFirstFault BeginsWithTable text 1
-first_line_fault laws text none = record {
+first_line_fault text none = record {
   some = omega arith;
   within = omega arith;
-  before = (class_line [], [], begins-spelled laws (class_line []) [] (spells-class_line [] no_classes), refl);
+  before = (class_line [], [], begins-spelled (class_line []) [] (spells-class_line [] no_classes), refl);
   none = none;
 }
 
 -- A missing line is a fault.
-pub first_fault-missing : TextLaws → (text : List ℕ) → lines text ≡ [] → IsFirstFault BeginsWithTable text 1
-first_fault-missing laws text missing = first_line_fault laws text none
+pub first_fault-missing : (text : List ℕ) → lines text ≡ [] → IsFirstFault BeginsWithTable text 1
+first_fault-missing text missing = first_line_fault text none
   where
     none : (other table : List ℕ) → BeginsWithTable other table → take 1 (lines other) ≡ take 1 (lines text) → ⊥
     none other table begins alike =
@@ -64,50 +63,50 @@ first_fault-missing laws text missing = first_line_fault laws text none
         absurd cc
 
 -- A line that is refused is one,
-pub first_fault-refused : TextLaws → (text line : List ℕ) → take 1 (lines text) ≡ line ∷ [] → IsErr (table_of_line line)
+pub first_fault-refused : (text line : List ℕ) → take 1 (lines text) ≡ line ∷ [] → IsErr (table_of_line line)
     → IsFirstFault BeginsWithTable text 1
-first_fault-refused laws text line first refused = first_line_fault laws text none
+first_fault-refused text line first refused = first_line_fault text none
   where
     none : (other table : List ℕ) → BeginsWithTable other table → take 1 (lines other) ≡ take 1 (lines text) → ⊥
     none other table begins alike =
-        read_or_refused (table_of_line line) table refused (read-begins laws other line table (alike ∙ first) begins)
+        read_or_refused (table_of_line line) table refused (read-begins other line table (alike ∙ first) begins)
 
 -- and only such a one.
-pub refused-first_fault : TextLaws → (text line : List ℕ) → take 1 (lines text) ≡ line ∷ [] → IsFirstFault BeginsWithTable text 1
+pub refused-first_fault : (text line : List ℕ) → take 1 (lines text) ≡ line ∷ [] → IsFirstFault BeginsWithTable text 1
     → IsErr (table_of_line line)
-refused-first_fault laws text line first is_first = go (table_of_line line) refl
+refused-first_fault text line first is_first = go (table_of_line line) refl
   where
     go : (read : Result (List ℕ) TableError) → table_of_line line ≡ read → IsErr read
     go (Err fault) is = refl
     go (Ok table) is =
-        let spelled = line-table_of_line laws line table is in
+        let spelled = line-table_of_line line table is in
         let begins = first ∙ ap (λ line. line ∷ []) spelled.0 in
         absurd (is_first.none text table (record { legal = spelled.1; line = begins }) refl)
 
 -- ---- a text of one line
 
 -- a fault of what begins with a table is one of what spells one
-alone : TextLaws → (text : List ℕ) → IsFirstFault BeginsWithTable text 1 → IsFirstFault SpellsTable text 1
-alone laws text first = record {
+alone : (text : List ℕ) → IsFirstFault BeginsWithTable text 1 → IsFirstFault SpellsTable text 1
+alone text first = record {
   some = first.some;
   within = first.within;
   before = (class_line [], [], spells-class_line [] no_classes, refl);
-  none = λ other table spells alike. first.none other table (begins-spelled laws other table spells) alike;
+  none = λ other table spells alike. first.none other table (begins-spelled other table spells) alike;
 }
 
 -- no line follows the class line
-second_line_fault : TextLaws → (text line second table : List ℕ) (ls : List (List ℕ)) → lines text ≡ line ∷ second ∷ ls
+second_line_fault : (text line second table : List ℕ) (ls : List (List ℕ)) → lines text ≡ line ∷ second ∷ ls
     → table_of_line line ≡ Ok table → IsFirstFault SpellsTable text 2
-second_line_fault laws text line second table ls is read =
-    let spelled = line-table_of_line laws line table read in
+second_line_fault text line second table ls is read =
+    let spelled = line-table_of_line line table read in
     let spells = spells-class_line table spelled.1 in
     record {
       some = omega arith;
       within = omega (arith, ap length is);
-      before = (class_line table, table, spells, rw (is, lines-spelled laws (class_line table) table spells, spelled.0) refl);
+      before = (class_line table, table, spells, rw (is, lines-spelled (class_line table) table spells, spelled.0) refl);
       none = λ other value spells_other alike.
           let two = sym (ap (take 2) is) ∙ sym alike in
-          let too_long : line ∷ second ∷ [] ≡ class_line value ∷ [] = two ∙ ap (take 2) (lines-spelled laws other value spells_other) in
+          let too_long : line ∷ second ∷ [] ≡ class_line value ∷ [] = two ∙ ap (take 2) (lines-spelled other value spells_other) in
           absurd cc;
     }
 
@@ -115,28 +114,28 @@ abbrev IsFaulty : List ℕ → TableError → Type 0
 IsFaulty text fault = IsFirstFault SpellsTable text 1 ⊎ ((fault ≡ BadLine) × IsFirstFault SpellsTable text 2)
 
 -- A text that is refused has its first fault at line 1 or at line 2.
-pub first_fault-refused_text : TextLaws → (text : List ℕ) (fault : TableError) → table_of text ≡ Err fault → IsFaulty text fault
+pub first_fault-refused_text : (text : List ℕ) (fault : TableError) → table_of text ≡ Err fault → IsFaulty text fault
 unfolding table_of
-first_fault-refused_text laws text fault refused = go (lines text) refl refused
+first_fault-refused_text text fault refused = go (lines text) refl refused
   where
     bad_line : (line second : List ℕ) (ls : List (List ℕ)) → table_of_lines (line ∷ second ∷ ls) ≡ Err fault → fault ≡ BadLine
     bad_line line second ls e = cc
 
     two_lines : (line second : List ℕ) (ls : List (List ℕ)) → lines text ≡ line ∷ second ∷ ls → fault ≡ BadLine
         → (read : Result (List ℕ) TableError) → table_of_line line ≡ read → IsFaulty text fault
-    two_lines line second ls is bad (Ok table) read = inr (bad, second_line_fault laws text line second table ls is read)
+    two_lines line second ls is bad (Ok table) read = inr (bad, second_line_fault text line second table ls is read)
     two_lines line second ls is bad (Err other) read =
-        inl (alone laws text (first_fault-refused laws text line (ap (take 1) is) (rw read refl)))
+        inl (alone text (first_fault-refused text line (ap (take 1) is) (rw read refl)))
 
     go : (ls : List (List ℕ)) → lines text ≡ ls → table_of_lines ls ≡ Err fault → IsFaulty text fault
-    go [] is e = inl (alone laws text (first_fault-missing laws text is))
-    go (line ∷ []) is e = inl (alone laws text (first_fault-refused laws text line (ap (take 1) is) (rw e refl)))
+    go [] is e = inl (alone text (first_fault-missing text is))
+    go (line ∷ []) is e = inl (alone text (first_fault-refused text line (ap (take 1) is) (rw e refl)))
     go (line ∷ second ∷ ls) is e = two_lines line second ls is (bad_line line second ls e) (table_of_line line) refl
 
 -- A text with a first fault is refused.
-pub refused_text-first_fault : TextLaws → (text : List ℕ) (n : ℕ) → IsFirstFault SpellsTable text n → IsErr (table_of text)
-refused_text-first_fault laws text n first = go (table_of text) refl
+pub refused_text-first_fault : (text : List ℕ) (n : ℕ) → IsFirstFault SpellsTable text n → IsErr (table_of text)
+refused_text-first_fault text n first = go (table_of text) refl
   where
     go : (read : Result (List ℕ) TableError) → table_of text ≡ read → IsErr read
     go (Err fault) is = refl
-    go (Ok table) is = absurd (first.none text table (spelled-table_of laws text table is) refl)
+    go (Ok table) is = absurd (first.none text table (spelled-table_of text table is) refl)

@@ -1,5 +1,4 @@
 -- The laws as lemmas, for the proofs of the crates above.
-use Rattle.line_text.proofs.LawLemmas.{text_laws}
 use Rattle.class_table.specs.Laws.{FaultlessIsLegal, FaultyTextIsRefused, FirstFaultIsRefused, FirstIsLeast, LegalIsFaultless, LineAloneIsRead, MissingLineIsFirstFault, NoClassServes, NumberGivesClass, ReadLineIsSpelled, RefusedTextHasFirstFault, ServingIsNeed, SpelledTableIsRead, TableIsSpelled}
 use Rattle.class_table.proofs.FirstFaults.{first_fault-missing, first_fault-refused, first_fault-refused_text, refused-first_fault, refused_text-first_fault}
 use Rattle.class_table.proofs.Least.{class_at_number, least_class, none_serving, serving-need}
@@ -26,25 +25,25 @@ pub legal_is_faultless : LegalIsFaultless
 legal_is_faultless = faultless
 
 pub table_is_spelled : TableIsSpelled
-table_is_spelled = spelled-table_of text_laws
+table_is_spelled = spelled-table_of
 
 pub spelled_table_is_read : SpelledTableIsRead
-spelled_table_is_read = table_of-spelled text_laws
+spelled_table_is_read = table_of-spelled
 
 pub line_alone_is_read : LineAloneIsRead
-line_alone_is_read = table_of-line text_laws
+line_alone_is_read = table_of-line
 
 pub read_line_is_spelled : ReadLineIsSpelled
-read_line_is_spelled = line-table_of_line text_laws
+read_line_is_spelled = line-table_of_line
 
 pub first_fault_is_refused : FirstFaultIsRefused
-first_fault_is_refused text line first = (first_fault-refused text_laws text line first, refused-first_fault text_laws text line first)
+first_fault_is_refused text line first = (first_fault-refused text line first, refused-first_fault text line first)
 
 pub missing_line_is_first_fault : MissingLineIsFirstFault
-missing_line_is_first_fault = first_fault-missing text_laws
+missing_line_is_first_fault = first_fault-missing
 
 pub refused_text_has_first_fault : RefusedTextHasFirstFault
-refused_text_has_first_fault = first_fault-refused_text text_laws
+refused_text_has_first_fault = first_fault-refused_text
 
 pub faulty_text_is_refused : FaultyTextIsRefused
-faulty_text_is_refused = refused_text-first_fault text_laws
+faulty_text_is_refused = refused_text-first_fault

@@ -105,7 +105,8 @@ fn table_of_words(words: Words<'_>) -> Result<ClassTable, TableError>
 
 // appends the number, or reports that there is no room for it
 fn is_left_out(numbers: &mut ArrayVec<u16, MOST_CLASSES>, number: u16) -> bool
-    ensures room { length numbers.old.items < MOST_CLASSES → (result ≡ false) × (numbers.new.items ≡ numbers.old.items ++ number ∷ []) }
+    ensures room { length numbers.old.items < MOST_CLASSES
+        → (result ≡ false) × (numbers.new.items ≡ numbers.old.items ++ number ∷ []) }
     ensures full { MOST_CLASSES ≤ length numbers.old.items → (result ≡ true) × (numbers.new.items ≡ numbers.old.items) }
 {
     if numbers.is_full() {

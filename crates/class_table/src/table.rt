@@ -82,7 +82,8 @@ impl ClassTable {
     /// The number of the least class that serves a request of `n` bytes, counted from 0. `None` if no class serves it.
     pub fn find(&self, n: u32) -> Option<usize>
         ensures number { result ≡ class_number_for self.now n }
-        ensures least { IfSome result (λ number. (number < length self.now) × IsLeastServing self.now n (slice_index self.now number)) }
+        ensures least { IfSome result
+            (λ number. (number < length self.now) × IsLeastServing self.now n (slice_index self.now number)) }
         ensures none { IfNone result (All (λ class. IsFalse (serves n class)) self.now) }
     {
         number_for(&self.classes, n)

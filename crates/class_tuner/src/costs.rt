@@ -19,7 +19,8 @@ pub struct Costs<'a> {
 #[derive(Debug, Drop)]
 struct LawfulSpans<'a> {
     spans: Spans<'a>,
-    ghost small: { (i j : ℕ) → i < j → j ≤ places spans.counts spans.step → span_waste spans.counts spans.step i j ≤ 2 ^ 60 },
+    ghost small: { (i j : ℕ) → i < j → j ≤ places spans.counts spans.step
+        → span_waste spans.counts spans.step i j ≤ 2 ^ 60 },
     ghost crossing: { IsCrossing (span_waste spans.counts spans.step) (places spans.counts spans.step) },
 }
 
@@ -28,8 +29,10 @@ impl<'a> Costs<'a> {
     /// allocator refuses memory.
     pub fn new(alloc: Global, profile: &'a Profile, step: u8) -> Result<Costs<'a>, AllocError>
         requires { IsStep step }
-        ensures cost { IfOk result (λ costs. ⟦<Costs<'a> as CostSource>⟧.cost costs ≡ span_waste profile.now.counts step) }
-        ensures places { IfOk result (λ costs. ⟦<Costs<'a> as CostSource>⟧.place_count costs ≡ places profile.now.counts step) }
+        ensures cost { IfOk result
+            (λ costs. ⟦<Costs<'a> as CostSource>⟧.cost costs ≡ span_waste profile.now.counts step) }
+        ensures places { IfOk result
+            (λ costs. ⟦<Costs<'a> as CostSource>⟧.place_count costs ≡ places profile.now.counts step) }
         ensures calls { IfOk result (λ costs. ⟦<Costs<'a> as CostSource>⟧.call_count costs ≡ 0) }
         ensures few { IfOk result (λ costs. ⟦<Costs<'a> as CostSource>⟧.place_count costs ≤ 1023) }
     {

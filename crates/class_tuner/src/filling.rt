@@ -27,8 +27,10 @@ struct Row {
 impl Filled {
     // appends a row
     fn push(&mut self, row: Row) -> Result<(), AllocError>
-        ensures rows { OnOk result (lists_of self.new.rows.items ≡ lists_of self.old.rows.items ++ row.costs.items ∷ []) }
-        ensures ends { OnOk result (lists_of self.new.ends.items ≡ lists_of self.old.ends.items ++ row.ends.items ∷ []) }
+        ensures rows { OnOk result (lists_of self.new.rows.items
+            ≡ lists_of self.old.rows.items ++ row.costs.items ∷ []) }
+        ensures ends { OnOk result (lists_of self.new.ends.items
+            ≡ lists_of self.old.ends.items ++ row.ends.items ∷ []) }
     {
         self.rows.push(row.costs)?;
         self.ends.push(row.ends)?;
@@ -50,7 +52,8 @@ pub fn fill_rows<C: CostSource>(
     requires places { C.place_count costs.old ≤ 1023 }
     requires room { C.call_count costs.old < 2 ^ 62 }
     ensures filled { IfOk result
-        (λ f. IsFilled (C.cost costs.old) (C.place_count costs.old) limit (lists_of f.rows.items) (lists_of f.ends.items)) }
+        (λ f. IsFilled (C.cost costs.old) (C.place_count costs.old) limit (lists_of f.rows.items)
+        (lists_of f.ends.items)) }
     ensures counted { C.call_count costs.new ≤ C.call_count costs.old + most_calls limit (C.place_count costs.old) }
     ensures exact { let d = C.place_count costs.old in let before = C.call_count costs.old in
         IfOk result (λ f. C.call_count costs.new ≡ before + calls_of (number_at (lists_of f.ends.items)) d limit) }
@@ -73,8 +76,10 @@ pub fn fill_rows<C: CostSource>(
 fn first_row<C: CostSource>(alloc: Global, costs: &mut C) -> Result<Row, AllocError>
     requires few { C.place_count costs.old ≤ 1023 }
     requires room { C.call_count costs.old + C.place_count costs.old ≤ 2 ^ 63 }
-    ensures costs { let d = C.place_count costs.old in IfOk result (λ r. (i : ℕ) → i < d → slice_index r.costs.items i ≡ C.cost costs.old i d) }
-    ensures ends { let d = C.place_count costs.old in IfOk result (λ r. (i : ℕ) → i < d → slice_index r.ends.items i ≡ d) }
+    ensures costs { let d = C.place_count costs.old in IfOk result
+        (λ r. (i : ℕ) → i < d → slice_index r.costs.items i ≡ C.cost costs.old i d) }
+    ensures ends { let d = C.place_count costs.old in IfOk result
+        (λ r. (i : ℕ) → i < d → slice_index r.ends.items i ≡ d) }
     ensures costs_length { IfOk result (λ r. length r.costs.items ≡ C.place_count costs.old) }
     ensures ends_length { IfOk result (λ r. length r.ends.items ≡ C.place_count costs.old) }
     ensures counted { C.call_count costs.new ≤ C.call_count costs.old + C.place_count costs.old }
@@ -102,7 +107,8 @@ fn next_row<C: CostSource>(alloc: Global, costs: &mut C, before: &[u64]) -> Resu
         IfOk result (λ r. IsFilledWithin (C.cost costs.old) d before.now r.costs.items r.ends.items 0 d) }
     ensures costs_length { IfOk result (λ r. length r.costs.items ≡ C.place_count costs.old) }
     ensures ends_length { IfOk result (λ r. length r.ends.items ≡ C.place_count costs.old) }
-    ensures counted { let d = C.place_count costs.old in C.call_count costs.new ≤ C.call_count costs.old + ((d - 1) * bits d + d) }
+    ensures counted { let d = C.place_count costs.old in
+        C.call_count costs.new ≤ C.call_count costs.old + ((d - 1) * bits d + d) }
     ensures exact { let d = C.place_count costs.old in
         IfOk result (λ r. C.call_count costs.new ≡ C.call_count costs.old + tried_in_row (slice_index r.ends.items) d) }
     ensures kept { costs.new ≡ C.with_calls costs.old (C.call_count costs.new) }

@@ -34,8 +34,10 @@ pub(crate) fn fill_part<C: CostSource>(
     requires within { window.high ≤ C.place_count costs.old }
     requires small { (j : ℕ) → slice_index before.now j ≤ 2 ^ 60 }
     requires room { C.call_count costs.old + 1024 * (part.end - part.start) ≤ 2 ^ 63 }
-    requires between { AreEndsBetween (C.cost costs.old) (C.place_count costs.old) before.now part.start part.end window.low window.high }
-    ensures filled { IsFilledWithin (C.cost costs.old) (C.place_count costs.old) before.now row.new ends.new part.start part.end }
+    requires between { AreEndsBetween (C.cost costs.old) (C.place_count costs.old) before.now part.start part.end
+        window.low window.high }
+    ensures filled { IsFilledWithin (C.cost costs.old) (C.place_count costs.old) before.now row.new ends.new
+        part.start part.end }
     ensures row_kept { IsKeptOutside row.old row.new part.start part.end }
     ensures ends_kept { IsKeptOutside ends.old ends.new part.start part.end }
     ensures counted { (b : ℕ) → part.end - part.start < 2 ^ b
@@ -81,7 +83,9 @@ fn least_end<C: CostSource>(
     requires within { high ≤ C.place_count costs.old }
     requires small { (j : ℕ) → slice_index before.now j ≤ 2 ^ 60 }
     requires room { C.call_count costs.old + (high - low) + 1 ≤ 2 ^ 63 }
-    requires ends { (e : ℕ) → IsLeastEnd (end_cost (C.cost costs.old) before.now place) place (C.place_count costs.old) e → (low ≤ e) × (e ≤ high) }
+    requires ends { (e : ℕ)
+        → IsLeastEnd (end_cost (C.cost costs.old) before.now place) place (C.place_count costs.old) e
+        → (low ≤ e) × (e ≤ high) }
     ensures least { IsLeastEnd (end_cost (C.cost costs.old) before.now place) place (C.place_count costs.old) result.1 }
     ensures cost { result.0 ≡ end_cost (C.cost costs.old) before.now place result.1 }
     ensures window { (low ≤ result.1) × (result.1 ≤ high) }

@@ -14,8 +14,10 @@ use potential_check::Spans;
 pub(crate) fn table_of_ends(spans: &Spans<'_>, ends: &[Vec<usize>], limit: u8) -> ClassTable
     requires few { limit ≤ 32 }
     requires later { (k i : ℕ) → 1 ≤ k → k ≤ limit → i < places spans.now.counts spans.now.step
-        → (i < number_at (lists_of ends.now) k i) × (number_at (lists_of ends.now) k i ≤ places spans.now.counts spans.now.step) }
-    requires legal { IsLegalTable 1 (tuned_table spans.now.counts spans.now.step limit (number_at (lists_of ends.now))) }
+        → (i < number_at (lists_of ends.now) k i)
+        × (number_at (lists_of ends.now) k i ≤ places spans.now.counts spans.now.step) }
+    requires legal { IsLegalTable 1
+        (tuned_table spans.now.counts spans.now.step limit (number_at (lists_of ends.now))) }
     ensures { result ≡ tuned_table spans.now.counts spans.now.step limit (number_at (lists_of ends.now)) }
 {
     let classes = classes_of_ends(spans, ends, limit);
@@ -26,7 +28,8 @@ pub(crate) fn table_of_ends(spans: &Spans<'_>, ends: &[Vec<usize>], limit: u8) -
 fn classes_of_ends(spans: &Spans<'_>, ends: &[Vec<usize>], limit: u8) -> ArrayVec<u16, MOST_CLASSES>
     requires few { limit ≤ 32 }
     requires later { (k i : ℕ) → 1 ≤ k → k ≤ limit → i < places spans.now.counts spans.now.step
-        → (i < number_at (lists_of ends.now) k i) × (number_at (lists_of ends.now) k i ≤ places spans.now.counts spans.now.step) }
+        → (i < number_at (lists_of ends.now) k i)
+        × (number_at (lists_of ends.now) k i ≤ places spans.now.counts spans.now.step) }
     ensures { result.items ≡ tuned_table spans.now.counts spans.now.step limit (number_at (lists_of ends.now)) }
 {
     let mut classes = ArrayVec::new();

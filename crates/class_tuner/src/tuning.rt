@@ -77,7 +77,8 @@ fn sheet_of_rows(spans: &Spans<'_>, filled: Filled, limit: u8) -> Sheet
     requires some { 1 ≤ limit }
     requires few { limit ≤ 32 }
     requires filled { let d = places spans.now.counts spans.now.step in
-        IsFilled (span_waste spans.now.counts spans.now.step) d limit (lists_of filled.rows.items) (lists_of filled.ends.items) }
+        IsFilled (span_waste spans.now.counts spans.now.step) d limit (lists_of filled.rows.items)
+        (lists_of filled.ends.items) }
     ensures tuned { IsTuned spans.now.counts spans.now.step limit (sheet_of result) }
     ensures rows { result.rows ≡ lists_of filled.rows.items }
 {

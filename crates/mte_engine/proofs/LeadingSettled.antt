@@ -4,7 +4,7 @@ use Rattle.std.proofs.Common.{List, [], ◌∷◌, ◌++◌, length, take, drop,
 use Rattle.std.proofs.Common.{refl, sym, ap, ◌∙◌, arith, length-append}
 use Rattle.std.specs.List.{prefix_len, take_while}
 use Rattle.std.specs.Prelude.{All}
-use Rattle.std.proofs.lemmas.List.{drop-take, get_or-take, length-drop, length-take}
+use Rattle.std.proofs.lemmas.List.{drop-take, get_or-take, length-drop, length-take, take-take}
 use Rattle.std.proofs.lemmas.List.Elements.{All-append, All-drop, All-take}
 use Rattle.std.proofs.lemmas.List.Sums.{take_while-cons}
 use Rattle.line_text.specs.Lines.{IsLine}
@@ -20,20 +20,10 @@ cons_tail : {A : Type 0} (x y : A) (xs ys : List A) → x ∷ xs ≡ y ∷ ys �
 cons_tail x y xs ys e = cc
 
 take_fewer : {A : Type 0} (m n : ℕ) (xs ys : List A) → m ≤ n → take n xs ≡ take n ys → take m xs ≡ take m ys
-take_fewer zero n xs ys few e = refl
-take_fewer (suc m) zero xs ys few e = absurd (omega (arith, few))
-take_fewer (suc m) (suc n) [] [] few e = refl
-take_fewer (suc m) (suc n) [] (y ∷ ys) few e = absurd cc
-take_fewer (suc m) (suc n) (x ∷ xs) [] few e = absurd cc
-take_fewer (suc m) (suc n) (x ∷ xs) (y ∷ ys) few e =
-    let first = cons_head x y (take n xs) (take n ys) e in
-    let others = take_fewer m n xs ys (omega (arith, few)) (cons_tail x y (take n xs) (take n ys) e) in
-    rw (first, others) refl
+take_fewer m n xs ys few e = sym (take-take m n xs few) ∙ ap (take m) e ∙ take-take m n ys few
 
 pub take_twice : {A : Type 0} (n : ℕ) (xs : List A) → take n (take n xs) ≡ take n xs
-take_twice zero xs = refl
-take_twice (suc n) [] = refl
-take_twice (suc n) (x ∷ xs) = ap (λ xs. x ∷ xs) (take_twice n xs)
+take_twice n xs = take-take n n xs (omega arith)
 
 -- what is alike after lines that are alike
 pub after_alike : {A : Type 0} (n m : ℕ) (xs ys : List A) → take (n + m) xs ≡ take (n + m) ys → take m (drop n xs) ≡ take m (drop n ys)

@@ -32,7 +32,8 @@ pub fn read_leading(alloc: Global, text: &[u8]) -> Result<LeadingSheet<'_>, Answ
     ensures sheet { MatchResult result
         (λ leading. sheet_part (sheet_of_lines (leading_lines (lines text.now))) ≡ Ok (sheet_of leading.sheet))
         (λ fault. GivesPart {A = Sheet} (Err fault) (sheet_part (sheet_of_lines (leading_lines (lines text.now))))) }
-    ensures lines { IfOk result (λ leading. (leading.lines ≡ length (leading_lines (lines text.now))) × (leading.lines < 2 ^ 63)) }
+    ensures lines { IfOk result
+        (λ leading. (leading.lines ≡ length (leading_lines (lines text.now))) × (leading.lines < 2 ^ 63)) }
     ensures rest { IfOk result (λ leading. lines leading.rest.now ≡ lines_after (lines text.now)) }
 {
     match read_leading_sheet(alloc, text) {

@@ -125,7 +125,8 @@ fn answer_to_parts(
     requires config { IsConfig config }
     requires line { IsLine line.now }
     requires open { is_finished reader ≡ false }
-    ensures { (bytes trace : List ℕ) → IsLineAndTrace bytes line.now trace reader → GivesAnswer text_left (ReplayAnswers config bytes) result }
+    ensures { (bytes trace : List ℕ) → IsLineAndTrace bytes line.now trace reader
+        → GivesAnswer text_left (ReplayAnswers config bytes) result }
 {
     let table = read_table(line)?;
     end(&mut reader, 1)?;

@@ -42,7 +42,8 @@ pub fn run<R: ByteSource, W: ByteSink>(
     requires step { IsStep step }
     requires config { IsConfig config }
     requires ready { IsReady (R.state source.old) (W.state sink.old) }
-    ensures { Runs (RunAnswers limit step config) (R.state source.old) (R.state source.new) W.state sink.old sink.new result }
+    ensures { Runs (RunAnswers limit step config) (R.state source.old) (R.state source.new)
+        W.state sink.old sink.new result }
 {
     let engine = RunEngine {
         limit,
@@ -111,7 +112,8 @@ fn answer_to(
     requires step { IsStep step }
     requires config { IsConfig config }
     requires open { is_finished reader ≡ false }
-    ensures { (bytes : List ℕ) → KeepsEvents reader bytes → GivesAnswer text_left (RunAnswers limit step config bytes) result }
+    ensures { (bytes : List ℕ) → KeepsEvents reader bytes
+        → GivesAnswer text_left (RunAnswers limit step config bytes) result }
 {
     end(&mut reader, 0)?;
     let profile = count_all(alloc, reader.events())?;

@@ -70,7 +70,8 @@ fn score_of_profile(
     table: &ClassTable,
     profile: &Profile,
 ) -> Result<(Vec<u8>, Status), AllocError>
-    ensures { IfOk result (λ answered. record { text = answered.0.items; status = answered.1 } ≡ scored table.now profile.now) }
+    ensures { IfOk result
+        (λ answered. record { text = answered.0.items; status = answered.1 } ≡ scored table.now profile.now) }
 {
     match profile.unserved(table) {
         Some(size) => Ok((

@@ -45,7 +45,8 @@ pub fn end(reader: &mut TraceReader, lines: u64) -> Result<(), AnswerError>
 /// Takes all events out of the reader, and counts what they request.
 pub fn count_out(reader: &mut TraceReader, profile: &mut Profile)
     ensures state { reader.new ≡ record { events = []; state = reader.old.state } }
-    ensures counted { (sizes : List ℕ) → length sizes + length reader.old.events ≤ 1000000 → profile.old ≡ profile_of_sizes sizes →
+    ensures counted { (sizes : List ℕ) → length sizes + length reader.old.events ≤ 1000000
+        → profile.old ≡ profile_of_sizes sizes →
         profile.new ≡ profile_of_sizes (sizes ++ requested_sizes reader.old.events) }
 {
     while let Some(event) = reader.next_event() {

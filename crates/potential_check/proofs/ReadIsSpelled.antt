@@ -6,11 +6,11 @@ use Rattle.std.proofs.lemmas.List.Elements.{All-nil, All-cons, All-head}
 use Rattle.std.proofs.lemmas.Option.{some_pair_parts}
 use Rattle.line_text.specs.FirstFault.{◌>>=◌}
 use Rattle.class_table.specs.Steps.{IsStep}
-use Rattle.line_text.specs.Laws.{TextLaws}
 use Rattle.line_text.specs.Lines.{IsLine, lines, text_of}
+use Rattle.line_text.proofs.LawLemmas.{text_laws as laws}
 use Rattle.potential_check.specs.SheetText.{IsRow, IsWithinLimits, SpellsSheet, head_of_lines, is_named, line_at, limit_in, named_line, row_in, rows_from, sheet_in, sheet_lines, sheet_of_lines, sheet_text, step_at, step_in, step_lines, table_in, waste_in, waste_number, with_rows}
 use Rattle.potential_check.specs.declared.reading.Head.{Head}
-use Rattle.potential_check.proofs.SheetLines.{SheetLaws, line-limit_in, line-row_in, line-step_in, line-table_in, line-waste_in}
+use Rattle.potential_check.proofs.SheetLines.{line-limit_in, line-row_in, line-step_in, line-table_in, line-waste_in}
 use Rattle.tuner_theory.specs.Sheets.{Sheet}
 
 -- ---- what a step of the reading gave
@@ -47,9 +47,9 @@ was_read {A = A} number reading (line ∷ ls) after x e = go (reading line) refl
 -- ---- the lines of a sheet
 
 -- a step that was read, and whose line is there where it is not 1
-step_read : TextLaws → (ls after : List (List ℕ)) (step : ℕ) → step_at ls ≡ Some (step, after) → (ls ≡ step_lines step ++ after) × IsStep step
-step_read laws [] after step e = let parts = some_pair_parts 1 step [] after e in rw (← parts.0, ← parts.1) (refl, refl)
-step_read laws (line ∷ ls) after step e = go (is_named (codes "step") line) refl
+step_read : (ls after : List (List ℕ)) (step : ℕ) → step_at ls ≡ Some (step, after) → (ls ≡ step_lines step ++ after) × IsStep step
+step_read [] after step e = let parts = some_pair_parts 1 step [] after e in rw (← parts.0, ← parts.1) (refl, refl)
+step_read (line ∷ ls) after step e = go (is_named (codes "step") line) refl
   where
     go : (named : Bool) → is_named (codes "step") line ≡ named → (line ∷ ls ≡ step_lines step ++ after) × IsStep step
     go false f =
@@ -61,24 +61,24 @@ step_read laws (line ∷ ls) after step e = go (is_named (codes "step") line) re
         found None g = let none = rw (f, g) at e in absurd cc
         found (Some s) g =
             let parts = some_pair_parts s step ls after (rw (f, g) at e) in
-            let spelled = line-step_in laws line step (g ∙ ap Some parts.0) in
+            let spelled = line-step_in line step (g ∙ ap Some parts.0) in
             (rw (spelled.0, ne_eqb step 1 spelled.2, parts.1) refl, spelled.1)
 
 -- rows that were read
-rows_read : TextLaws → (ls : List (List ℕ)) (number most : ℕ) (rows : List (List ℕ)) → rows_from number most ls ≡ Ok rows
+rows_read : (ls : List (List ℕ)) (number most : ℕ) (rows : List (List ℕ)) → rows_from number most ls ≡ Ok rows
     → (ls ≡ map (named_line (codes "row")) rows) × (length rows ≤ most) × All IsRow rows
 unfolding rows_from
-rows_read laws [] number most rows e =
+rows_read [] number most rows e =
     let none : [] ≡ rows = cc in
     rw (← none) (refl, omega arith, All-nil IsRow)
-rows_read laws (line ∷ ls) number zero rows e = absurd cc
-rows_read laws (line ∷ ls) number (suc most) rows e = go (rows_read laws ls (suc number) most) (row_in line) refl
+rows_read (line ∷ ls) number zero rows e = absurd cc
+rows_read (line ∷ ls) number (suc most) rows e = go (rows_read ls (suc number) most) (row_in line) refl
   where
     go : ((rows : List (List ℕ)) → rows_from (suc number) most ls ≡ Ok rows → (ls ≡ map (named_line (codes "row")) rows) × (length rows ≤ most) × All IsRow rows)
         → (o : Option (List ℕ)) → row_in line ≡ o → (line ∷ ls ≡ map (named_line (codes "row")) rows) × (length rows ≤ suc most) × All IsRow rows
     go others None f = let none = rw f at e in absurd cc
     go others (Some row) f =
-        let spelled = line-row_in laws line row f in
+        let spelled = line-row_in line row f in
         went_on (rows_from (suc number) most ls) (λ more. Ok (row ∷ more)) rows (rw f at e) (λ more is_more is.
         let same : row ∷ more ≡ rows = cc in
         let rest = others more is_more in
@@ -91,19 +91,19 @@ same_sheet : (s t : Sheet) → as_read s ≡ as_read t → s ≡ t
 same_sheet s t e = cc
 
 -- all that was read
-whole_read : SheetLaws → (ls after_table after_limit after_step after_waste : List (List ℕ)) (s : Sheet) → All IsLine ls → line_at 1 table_in ls ≡ Ok (s.table, after_table)
+whole_read : (ls after_table after_limit after_step after_waste : List (List ℕ)) (s : Sheet) → All IsLine ls → line_at 1 table_in ls ≡ Ok (s.table, after_table)
     → line_at 2 limit_in after_table ≡ Ok (s.limit, after_limit) → step_at after_limit ≡ Some (s.step, after_step)
     → line_at (waste_number s.step) waste_in after_step ≡ Ok (s.waste, after_waste) → rows_from (suc (waste_number s.step)) 32 after_waste ≡ Ok s.rows
     → (ls ≡ sheet_lines s) × IsWithinLimits s
-whole_read laws ls after_table after_limit after_step after_waste s all is_table is_limit is_step is_waste is_rows =
+whole_read ls after_table after_limit after_step after_waste s all is_table is_limit is_step is_waste is_rows =
     let first = was_read 1 table_in ls after_table s.table is_table in
-    let table = line-table_in laws first.line s.table (All-head IsLine first.line after_table (rw first.first at all)) first.read in
+    let table = line-table_in first.line s.table (All-head IsLine first.line after_table (rw first.first at all)) first.read in
     let second = was_read 2 limit_in after_table after_limit s.limit is_limit in
-    let limit = line-limit_in laws.text second.line s.limit second.read in
-    let step = step_read laws.text after_limit after_step s.step is_step in
+    let limit = line-limit_in second.line s.limit second.read in
+    let step = step_read after_limit after_step s.step is_step in
     let next = was_read (waste_number s.step) waste_in after_step after_waste s.waste is_waste in
-    let waste = line-waste_in laws.text next.line s.waste next.read in
-    let rows = rows_read laws.text after_waste (suc (waste_number s.step)) 32 s.rows is_rows in (
+    let waste = line-waste_in next.line s.waste next.read in
+    let rows = rows_read after_waste (suc (waste_number s.step)) 32 s.rows is_rows in (
       rw (first.first, table.0, second.first, limit.0, step.0, next.first, waste.0, rows.0) refl,
       record { table = table.1; limit = (limit.1, limit.2); step = step.1; waste = waste.1; few = rows.1; rows = rows.2 },
     )
@@ -146,23 +146,23 @@ head_read ls after head e =
     })))))
 
 -- Lines that are read as a sheet are its lines, and it is within the limits.
-lines_read : SheetLaws → (ls : List (List ℕ)) (s : Sheet) → All IsLine ls → sheet_of_lines ls ≡ Ok s → (ls ≡ sheet_lines s) × IsWithinLimits s
+lines_read : (ls : List (List ℕ)) (s : Sheet) → All IsLine ls → sheet_of_lines ls ≡ Ok s → (ls ≡ sheet_lines s) × IsWithinLimits s
 unfolding sheet_of_lines
-lines_read laws ls s all e =
+lines_read ls s all e =
     went_on (head_of_lines ls) _ s e (λ head is_head e.
     went_on (rows_from (suc (waste_number head.0.step)) 32 head.1) _ s e (λ rows is_rows e.
     let parts = head_read ls head.1 head.0 is_head in
-    let read = whole_read laws ls parts.after_table parts.after_limit parts.after_step head.1 (with_rows head.0 rows) all parts.table parts.limit parts.step parts.waste is_rows in
+    let read = whole_read ls parts.after_table parts.after_limit parts.after_step head.1 (with_rows head.0 rows) all parts.table parts.limit parts.step parts.waste is_rows in
     subst (λ (t : Sheet). (ls ≡ sheet_lines t) × IsWithinLimits t) (same_sheet (with_rows head.0 rows) s e) read))
 
 -- What is read as a sheet is its text, and the sheet is within the limits.
-pub spelled-sheet_in : SheetLaws → (text : List ℕ) (s : Sheet) → sheet_in text ≡ Ok s → SpellsSheet text s
-spelled-sheet_in laws text s e =
-    let read = lines_read laws (lines text) s (laws.text.lines text) e in
+pub spelled-sheet_in : (text : List ℕ) (s : Sheet) → sheet_in text ≡ Ok s → SpellsSheet text s
+spelled-sheet_in text s e =
+    let read = lines_read (lines text) s (laws.lines text) e in
     let is : text_of (lines text) ≡ sheet_text s = ap text_of read.0 in
     record {
       limits = read.1;
-      spelled = elim (laws.text.text text) [
+      spelled = elim (laws.text text) [
         | inl whole ↦ inl (sym whole ∙ is)
         | inr cut ↦ inr (sym cut ∙ is)
       ];

@@ -5,16 +5,16 @@ use Rattle.std.proofs.lemmas.Bool.{cases_order}
 use Rattle.std.proofs.lemmas.List.{take-take}
 use Rattle.class_table.specs.ClassLine.{class_line}
 use Rattle.class_table.specs.Tables.{IsLegalTable}
-use Rattle.line_text.specs.Laws.{TextLaws}
 use Rattle.line_text.specs.Lines.{IsLine, lines, text_of}
 use Rattle.line_text.specs.FirstFault.{◌>>=◌, IsFirstFault}
+use Rattle.line_text.proofs.LawLemmas.{text_laws as laws}
 use Rattle.potential_check.specs.Laws.{FaultIsFirst, FirstFaultIsReported}
 use Rattle.potential_check.specs.SheetText.{SpellsSheet, head_of_lines, is_named, line_at, limit_in, named_line, rows_from, sheet_in, sheet_of_lines, step_at, table_in, waste_in, waste_number, with_rows}
 use Rattle.potential_check.specs.declared.reading.Head.{Head}
 use Rattle.potential_check.proofs.FirstFaults.{Lines, Reports, rows-report, reports-as, reports-line, reports-step}
 use Rattle.potential_check.proofs.NamedLines.{IsName, named_line-is_line, words-named_line}
 use Rattle.potential_check.proofs.ReadIsSpelled.{spelled-sheet_in}
-use Rattle.potential_check.proofs.SheetLines.{SheetLaws, class_line-is_line, limit_in-line, limit_is_name, one_small, step_in-line, step_is_name, table_in-line, waste_in-line, waste_is_name}
+use Rattle.potential_check.proofs.SheetLines.{class_line-is_line, limit_in-line, limit_is_name, one_small, step_in-line, step_is_name, table_in-line, waste_in-line, waste_is_name}
 use Rattle.potential_check.proofs.SpelledIsRead.{sheet_in-spelled}
 use Rattle.tuner_theory.specs.Sheets.{Sheet}
 
@@ -48,72 +48,71 @@ no_classes = record {
   fitting = λ k d lt. absurd (omega arith);
 }
 
-line_of_one : TextLaws → (name : List ℕ) (n : ℕ) → IsName name → n < 2 ^ 64 → IsLine (named_line name (n ∷ []))
-line_of_one laws name n is_name small = named_line-is_line laws name (n ∷ []) is_name (one_small n small)
+line_of_one : (name : List ℕ) (n : ℕ) → IsName name → n < 2 ^ 64 → IsLine (named_line name (n ∷ []))
+line_of_one name n is_name small = named_line-is_line name (n ∷ []) is_name (one_small n small)
 
-is_step_line : TextLaws → is_named (codes "step") (named_line (codes "step") (2 ∷ [])) ≡ true
-is_step_line laws = rw (words-named_line laws (codes "step") (2 ∷ []) step_is_name (one_small 2 (omega arith))) refl
+is_step_line : is_named (codes "step") (named_line (codes "step") (2 ∷ [])) ≡ true
+is_step_line = rw (words-named_line (codes "step") (2 ∷ []) step_is_name (one_small 2 (omega arith))) refl
 
-sheet-reports : SheetLaws → Reports 1 sheet_by_lines
-sheet-reports laws =
+sheet-reports : Reports 1 sheet_by_lines
+sheet-reports =
     reports-line 1 table_in limit_after rows_after (class_line []) []
-    (class_line-is_line laws.text [] no_classes) (table_in-line laws [] no_classes)
+    (class_line-is_line [] no_classes) (table_in-line [] no_classes)
     (λ table.
     reports-line 2 limit_in (step_after table) rows_after (named_line (codes "limit") (1 ∷ [])) 1
-    (line_of_one laws.text (codes "limit") 1 limit_is_name (omega arith)) (limit_in-line laws.text 1 (omega arith, omega arith))
+    (line_of_one (codes "limit") 1 limit_is_name (omega arith)) (limit_in-line 1 (omega arith, omega arith))
     (λ limit.
     reports-step (waste_after table limit) rows_after (named_line (codes "step") (2 ∷ [])) 2
-    (line_of_one laws.text (codes "step") 2 step_is_name (omega arith)) (is_step_line laws.text)
-    (step_in-line laws.text 2 refl (λ one. omega arith))
+    (line_of_one (codes "step") 2 step_is_name (omega arith)) (is_step_line)
+    (step_in-line 2 refl (λ one. omega arith))
     (λ step.
     reports-line (waste_number step) waste_in (head_with table limit step) rows_after (named_line (codes "waste") (0 ∷ [])) 0
-    (line_of_one laws.text (codes "waste") 0 waste_is_name (omega arith)) (waste_in-line laws.text 0 (omega arith))
+    (line_of_one (codes "waste") 0 waste_is_name (omega arith)) (waste_in-line 0 (omega arith))
     (λ waste.
     reports-as (suc (waste_number step)) (rows_from (suc (waste_number step)) 32)
     (with_rows (record { table = table; limit = limit; step = step; waste = waste })) (rows-report 32 (suc (waste_number step)))))))
 
 -- ---- the first fault
 
-module _ (laws : SheetLaws) where
-  pub fault-first : FaultIsFirst
-  fault-first text number e =
-      let at = (sheet-reports laws).fault (lines text) number (laws.text.lines text) (sym (by_lines (lines text)) ∙ e) in
-      let sound = at.2.sound in
-      let next : number ≡ suc at.0 = (let is = at.1 in omega arith) in
-      let front : suc at.0 - 1 ≡ at.0 = omega arith in
-      let written : lines (text_of sound.other) ≡ sound.other = laws.text.written_lines sound.other sound.all in
-      let read : sheet_in (text_of sound.other) ≡ Ok sound.value = ap sheet_of_lines written ∙ (by_lines sound.other ∙ sound.read) in
-      rw next (record {
-        some = omega arith;
-        within = omega (arith, at.2.within);
-        before = (
-          text_of sound.other,
-          sound.value,
-          spelled-sheet_in laws (text_of sound.other) sound.value read,
-          rw (front, written) at.2.before,
-        );
-        none = λ other s spells same.
-            let read = sheet_in-spelled laws other s spells in
-            let fault = by_lines (lines other) ∙ at.2.same (lines other) same in
-            cc;
-      })
+pub fault-first : FaultIsFirst
+fault-first text number e =
+    let at = sheet-reports.fault (lines text) number (laws.lines text) (sym (by_lines (lines text)) ∙ e) in
+    let sound = at.2.sound in
+    let next : number ≡ suc at.0 = (let is = at.1 in omega arith) in
+    let front : suc at.0 - 1 ≡ at.0 = omega arith in
+    let written : lines (text_of sound.other) ≡ sound.other = laws.written_lines sound.other sound.all in
+    let read : sheet_in (text_of sound.other) ≡ Ok sound.value = ap sheet_of_lines written ∙ (by_lines sound.other ∙ sound.read) in
+    rw next (record {
+      some = omega arith;
+      within = omega (arith, at.2.within);
+      before = (
+        text_of sound.other,
+        sound.value,
+        spelled-sheet_in (text_of sound.other) sound.value read,
+        rw (front, written) at.2.before,
+      );
+      none = λ other s spells same.
+          let read = sheet_in-spelled other s spells in
+          let fault = by_lines (lines other) ∙ at.2.same (lines other) same in
+          cc;
+    })
 
-  -- two first faults are one
-  earlier : (text : List ℕ) (m n : ℕ) → IsFirstFault SpellsSheet text m → IsFirstFault SpellsSheet text n → m < n → ⊥
-  earlier text m n of_m of_n lt =
-      let b = of_n.before in
-      let le : m ≤ n - 1 = omega arith in
-      of_m.none b.0 b.1 b.2 (sym (take-take m (n - 1) (lines b.0) le) ∙ (ap (take m) b.3 ∙ take-take m (n - 1) (lines text) le))
+-- two first faults are one
+earlier : (text : List ℕ) (m n : ℕ) → IsFirstFault SpellsSheet text m → IsFirstFault SpellsSheet text n → m < n → ⊥
+earlier text m n of_m of_n lt =
+    let b = of_n.before in
+    let le : m ≤ n - 1 = omega arith in
+    of_m.none b.0 b.1 b.2 (sym (take-take m (n - 1) (lines b.0) le) ∙ (ap (take m) b.3 ∙ take-take m (n - 1) (lines text) le))
 
-  pub first-fault : FirstFaultIsReported
-  first-fault text number is = go (sheet_in text) refl
-    where
-      go : (read : Result Sheet ℕ) → sheet_in text ≡ read → sheet_in text ≡ Err number
-      go (Ok s) e = absurd (is.none text s (spelled-sheet_in laws text s e) refl)
-      go (Err other) e =
-          let first = fault-first text other e in
-          elim (cases_order other number) [
-            | inl same ↦ e ∙ ap Err same
-            | inr (inl lt) ↦ absurd (earlier text other number first is lt)
-            | inr (inr gt) ↦ absurd (earlier text number other is first gt)
-          ]
+pub first-fault : FirstFaultIsReported
+first-fault text number is = go (sheet_in text) refl
+  where
+    go : (read : Result Sheet ℕ) → sheet_in text ≡ read → sheet_in text ≡ Err number
+    go (Ok s) e = absurd (is.none text s (spelled-sheet_in text s e) refl)
+    go (Err other) e =
+        let first = fault-first text other e in
+        elim (cases_order other number) [
+          | inl same ↦ e ∙ ap Err same
+          | inr (inl lt) ↦ absurd (earlier text other number first is lt)
+          | inr (inr gt) ↦ absurd (earlier text number other is first gt)
+        ]

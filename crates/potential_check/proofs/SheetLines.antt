@@ -7,22 +7,14 @@ use Rattle.std.proofs.lemmas.List.{get_or_at}
 use Rattle.std.proofs.lemmas.List.Elements.{All-nil, All-cons, All-head, All-tail, All-weaker}
 use Rattle.std.proofs.lemmas.List.Sums.{AllPass-from_list_all}
 use Rattle.class_table.specs.ClassLine.{class_line, table_of_line}
-use Rattle.class_table.specs.Laws.{LineAloneIsRead, SpelledTableIsRead, TableIsSpelled}
 use Rattle.class_table.specs.Steps.{IsStep}
 use Rattle.class_table.specs.Tables.{IsLegalTable}
 use Rattle.class_table.specs.declared.fault.TableError.{TableError}
-use Rattle.line_text.specs.Laws.{TextLaws}
 use Rattle.line_text.specs.Lines.{IsLine, ended, is_newline, is_space}
+use Rattle.class_table.proofs.LawLemmas.{line_alone_is_read, spelled_table_is_read, table_is_spelled}
 use Rattle.potential_check.specs.SheetText.{IsRow, fits, is_limit, is_row, is_written_step, limit_in, named_line, numbers_in, row_in, step_in, table_in, waste_in}
 use Rattle.potential_check.proofs.NamedLines.{AreSmall, IsName, named_line-is_line, line-number_in, line-numbers_in, number_in-named_line, numbers_in-named_line}
 use Rattle.potential_check.proofs.RowNumbers.{passing-some}
-
--- What is known of lines and class lines.
-pub record SheetLaws : Type 0 where
-  pub text : TextLaws
-  pub table_is_spelled : TableIsSpelled
-  pub spelled_table_is_read : SpelledTableIsRead
-  pub line_alone : LineAloneIsRead
 
 -- ---- the names
 
@@ -90,19 +82,19 @@ passed_row ns e = let both = and_parts (leb (length ns) 1023) (list_all fits ns)
 pub one_small : (n : ℕ) → n < 2 ^ 64 → AreSmall (n ∷ [])
 one_small n small = All-cons (λ n. n < 2 ^ 64) n [] small (All-nil (λ n. n < 2 ^ 64))
 
-pub limit_in-line : TextLaws → (k : ℕ) → (1 ≤ k) × (k ≤ 32) → limit_in (named_line (codes "limit") (k ∷ [])) ≡ Some k
-limit_in-line laws k within = number_in-named_line laws (codes "limit") is_limit k limit_is_name (omega (arith, within.1)) (limit_passes k within)
+pub limit_in-line : (k : ℕ) → (1 ≤ k) × (k ≤ 32) → limit_in (named_line (codes "limit") (k ∷ [])) ≡ Some k
+limit_in-line k within = number_in-named_line (codes "limit") is_limit k limit_is_name (omega (arith, within.1)) (limit_passes k within)
 
-pub step_in-line : TextLaws → (s : ℕ) → IsStep s → s ≢ 1 → step_in (named_line (codes "step") (s ∷ [])) ≡ Some s
-step_in-line laws s is_step other =
+pub step_in-line : (s : ℕ) → IsStep s → s ≢ 1 → step_in (named_line (codes "step") (s ∷ [])) ≡ Some s
+step_in-line s is_step other =
     let passes = step_passes s is_step other in
-    number_in-named_line laws (codes "step") is_written_step s step_is_name (omega (arith, (passed_step s passes).2)) passes
+    number_in-named_line (codes "step") is_written_step s step_is_name (omega (arith, (passed_step s passes).2)) passes
 
-pub waste_in-line : TextLaws → (w : ℕ) → w < 2 ^ 64 → waste_in (named_line (codes "waste") (w ∷ [])) ≡ Some w
-waste_in-line laws w small = number_in-named_line laws (codes "waste") fits w waste_is_name small (lt-ltb w (2 ^ 64) small)
+pub waste_in-line : (w : ℕ) → w < 2 ^ 64 → waste_in (named_line (codes "waste") (w ∷ [])) ≡ Some w
+waste_in-line w small = number_in-named_line (codes "waste") fits w waste_is_name small (lt-ltb w (2 ^ 64) small)
 
-pub row_in-line : TextLaws → (ns : List ℕ) → IsRow ns → row_in (named_line (codes "row") ns) ≡ Some ns
-row_in-line laws ns is = rw (numbers_in-named_line laws (codes "row") ns row_is_name is.1, row_passes ns is) refl
+pub row_in-line : (ns : List ℕ) → IsRow ns → row_in (named_line (codes "row") ns) ≡ Some ns
+row_in-line ns is = rw (numbers_in-named_line (codes "row") ns row_is_name is.1, row_passes ns is) refl
 
 pub legal_small : (table : List ℕ) → IsLegalTable 1 table → AreSmall table
 legal_small table legal = All-weaker (λ class. (2 ≤ class) × (class ≤ 1024)) (λ n. n < 2 ^ 64) (λ class within. omega (arith, within.1)) table legal.in_range
@@ -111,39 +103,39 @@ pub classes_is_name : IsName (codes "classes")
 unfolding is_plain
 classes_is_name = plain_name (codes "classes") refl (omega arith)
 
-pub class_line-is_line : TextLaws → (table : List ℕ) → IsLegalTable 1 table → IsLine (class_line table)
-class_line-is_line laws table legal = named_line-is_line laws (codes "classes") table classes_is_name (legal_small table legal)
+pub class_line-is_line : (table : List ℕ) → IsLegalTable 1 table → IsLine (class_line table)
+class_line-is_line table legal = named_line-is_line (codes "classes") table classes_is_name (legal_small table legal)
 
-pub table_in-line : SheetLaws → (table : List ℕ) → IsLegalTable 1 table → table_in (class_line table) ≡ Some table
-table_in-line laws table legal =
-    let alone = laws.line_alone (class_line table) (class_line-is_line laws.text table legal) in
-    let read = laws.spelled_table_is_read (class_line table) table (record { legal = legal; line = inl refl }) in
+pub table_in-line : (table : List ℕ) → IsLegalTable 1 table → table_in (class_line table) ≡ Some table
+table_in-line table legal =
+    let alone = line_alone_is_read (class_line table) (class_line-is_line table legal) in
+    let read = spelled_table_is_read (class_line table) table (record { legal = legal; line = inl refl }) in
     rw (← alone, read) refl
 
 -- ---- from a line to what it spells
 
-pub line-limit_in : TextLaws → (line : List ℕ) (k : ℕ) → limit_in line ≡ Some k → (line ≡ named_line (codes "limit") (k ∷ [])) × (1 ≤ k) × (k ≤ 32)
-line-limit_in laws line k e =
-    let read = line-number_in laws (codes "limit") is_limit line k e (λ m f. omega (arith, (passed_limit m f).1)) in
+pub line-limit_in : (line : List ℕ) (k : ℕ) → limit_in line ≡ Some k → (line ≡ named_line (codes "limit") (k ∷ [])) × (1 ≤ k) × (k ≤ 32)
+line-limit_in line k e =
+    let read = line-number_in (codes "limit") is_limit line k e (λ m f. omega (arith, (passed_limit m f).1)) in
     let within = passed_limit k read.1 in
     (read.0, within.0, within.1)
 
-pub line-step_in : TextLaws → (line : List ℕ) (s : ℕ) → step_in line ≡ Some s → (line ≡ named_line (codes "step") (s ∷ [])) × IsStep s × (s ≢ 1)
-line-step_in laws line s e =
-    let read = line-number_in laws (codes "step") is_written_step line s e (λ m f. omega (arith, (passed_step m f).2)) in
+pub line-step_in : (line : List ℕ) (s : ℕ) → step_in line ≡ Some s → (line ≡ named_line (codes "step") (s ∷ [])) × IsStep s × (s ≢ 1)
+line-step_in line s e =
+    let read = line-number_in (codes "step") is_written_step line s e (λ m f. omega (arith, (passed_step m f).2)) in
     let step = passed_step s read.1 in
     (read.0, step.0, λ one. omega (arith, step.1))
 
-pub line-waste_in : TextLaws → (line : List ℕ) (w : ℕ) → waste_in line ≡ Some w → (line ≡ named_line (codes "waste") (w ∷ [])) × (w < 2 ^ 64)
-line-waste_in laws line w e =
-    let read = line-number_in laws (codes "waste") fits line w e (λ m f. ltb-true m (2 ^ 64) f) in
+pub line-waste_in : (line : List ℕ) (w : ℕ) → waste_in line ≡ Some w → (line ≡ named_line (codes "waste") (w ∷ [])) × (w < 2 ^ 64)
+line-waste_in line w e =
+    let read = line-number_in (codes "waste") fits line w e (λ m f. ltb-true m (2 ^ 64) f) in
     (read.0, ltb-true w (2 ^ 64) read.1)
 
-pub line-row_in : TextLaws → (line ns : List ℕ) → row_in line ≡ Some ns → (line ≡ named_line (codes "row") ns) × IsRow ns
-line-row_in laws line ns e =
+pub line-row_in : (line ns : List ℕ) → row_in line ≡ Some ns → (line ≡ named_line (codes "row") ns) × IsRow ns
+line-row_in line ns e =
     let passed = passing-some is_row (numbers_in (codes "row") line) ns e in
     let is = passed_row ns passed.1 in
-    (line-numbers_in laws (codes "row") line ns passed.0 is.1, is)
+    (line-numbers_in (codes "row") line ns passed.0 is.1, is)
 
 -- a line holds no newline
 not_ended : (line front : List ℕ) → IsLine line → line ≡ ended front → ⊥
@@ -153,12 +145,12 @@ not_ended line front is_line e =
     let here = rw (get_or_at front 10 [] 0 (length front) refl) at newline in
     cc
 
-pub line-table_in : SheetLaws → (line table : List ℕ) → IsLine line → table_in line ≡ Some table → (line ≡ class_line table) × IsLegalTable 1 table
-line-table_in laws line table is_line e = go (table_of_line line) refl
+pub line-table_in : (line table : List ℕ) → IsLine line → table_in line ≡ Some table → (line ≡ class_line table) × IsLegalTable 1 table
+line-table_in line table is_line e = go (table_of_line line) refl
   where
     go : (read : Result (List ℕ) TableError) → table_of_line line ≡ read → (line ≡ class_line table) × IsLegalTable 1 table
     go (Err fault) f = let none = rw f at e in absurd cc
     go (Ok found) f =
         let same : found ≡ table = (let is = rw f at e in cc) in
-        let spelled = laws.table_is_spelled line table (laws.line_alone line is_line ∙ f ∙ ap (λ (t : List ℕ). Ok t) same) in
+        let spelled = table_is_spelled line table (line_alone_is_read line is_line ∙ f ∙ ap (λ (t : List ℕ). Ok t) same) in
         (elim spelled.line [ inl is ↦ is | inr whole ↦ absurd (not_ended line (class_line table) is_line whole) ], spelled.legal)

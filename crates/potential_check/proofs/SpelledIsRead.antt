@@ -5,43 +5,43 @@ use Rattle.std.proofs.lemmas.Bool.{cases_eq}
 use Rattle.std.proofs.lemmas.List.Elements.{All-nil, All-cons, All-head, All-tail, All-append}
 use Rattle.class_table.specs.ClassLine.{class_line}
 use Rattle.class_table.specs.Steps.{IsStep}
-use Rattle.line_text.specs.Laws.{TextLaws}
 use Rattle.line_text.specs.Lines.{IsFullLine, lines}
+use Rattle.line_text.proofs.LawLemmas.{text_laws as laws}
 use Rattle.potential_check.specs.SheetText.{IsRow, IsWithinLimits, SpellsSheet, head_of_lines, line_at, limit_in, named_line, rows_from, sheet_in, sheet_lines, sheet_of_lines, step_at, step_lines, table_in, waste_in, waste_number, with_rows}
 use Rattle.potential_check.specs.declared.reading.Head.{Head}
 use Rattle.potential_check.proofs.HeadLines.{all_read}
 use Rattle.potential_check.proofs.NamedLines.{AreSmall, IsName, named_line-is_line, named_line-some, words-named_line}
-use Rattle.potential_check.proofs.SheetLines.{SheetLaws, classes_is_name, legal_small, limit_is_name, limit_in-line, one_small, row_is_name, row_in-line, step_is_name, step_in-line, step_small, table_in-line, waste_is_name, waste_in-line}
+use Rattle.potential_check.proofs.SheetLines.{classes_is_name, legal_small, limit_is_name, limit_in-line, one_small, row_is_name, row_in-line, step_is_name, step_in-line, step_small, table_in-line, waste_is_name, waste_in-line}
 use Rattle.tuner_theory.specs.Sheets.{Sheet}
 
 -- ---- a sheet's lines are lines, and not empty
 
-full_line : TextLaws → (name ns : List ℕ) → IsName name → AreSmall ns → IsFullLine (named_line name ns)
-full_line laws name ns is_name small = (named_line-is_line laws name ns is_name small, named_line-some name ns is_name)
+full_line : (name ns : List ℕ) → IsName name → AreSmall ns → IsFullLine (named_line name ns)
+full_line name ns is_name small = (named_line-is_line name ns is_name small, named_line-some name ns is_name)
 
-rows-full : TextLaws → (rows : List (List ℕ)) → All IsRow rows → All IsFullLine (map (named_line (codes "row")) rows)
-rows-full laws [] all = All-nil IsFullLine
-rows-full laws (row ∷ rows) all =
-    All-cons IsFullLine (named_line (codes "row") row) (map (named_line (codes "row")) rows) (full_line laws (codes "row") row row_is_name (All-head IsRow row rows all).1)
-    (rows-full laws rows (All-tail IsRow row rows all))
+rows-full : (rows : List (List ℕ)) → All IsRow rows → All IsFullLine (map (named_line (codes "row")) rows)
+rows-full [] all = All-nil IsFullLine
+rows-full (row ∷ rows) all =
+    All-cons IsFullLine (named_line (codes "row") row) (map (named_line (codes "row")) rows) (full_line (codes "row") row row_is_name (All-head IsRow row rows all).1)
+    (rows-full rows (All-tail IsRow row rows all))
 
-step_lines-full : TextLaws → (step : ℕ) → IsStep step → All IsFullLine (step_lines step)
-step_lines-full laws step is_step = elim (cases_eq step 1) [
+step_lines-full : (step : ℕ) → IsStep step → All IsFullLine (step_lines step)
+step_lines-full step is_step = elim (cases_eq step 1) [
   | inl one ↦ rw one (All-nil IsFullLine)
   | inr other ↦
       rw (ne_eqb step 1 other)
-      (All-cons IsFullLine (named_line (codes "step") (step ∷ [])) [] (full_line laws (codes "step") (step ∷ []) step_is_name (one_small step (step_small step is_step))) (All-nil IsFullLine))
+      (All-cons IsFullLine (named_line (codes "step") (step ∷ [])) [] (full_line (codes "step") (step ∷ []) step_is_name (one_small step (step_small step is_step))) (All-nil IsFullLine))
 ]
 
-sheet_lines-full : TextLaws → (s : Sheet) → IsWithinLimits s → All IsFullLine (sheet_lines s)
-sheet_lines-full laws s within =
-    let table = full_line laws (codes "classes") s.table classes_is_name (legal_small s.table within.table) in
-    let limit = full_line laws (codes "limit") (s.limit ∷ []) limit_is_name (one_small s.limit (omega (arith, within.limit.1))) in
-    let waste = full_line laws (codes "waste") (s.waste ∷ []) waste_is_name (one_small s.waste within.waste) in
+sheet_lines-full : (s : Sheet) → IsWithinLimits s → All IsFullLine (sheet_lines s)
+sheet_lines-full s within =
+    let table = full_line (codes "classes") s.table classes_is_name (legal_small s.table within.table) in
+    let limit = full_line (codes "limit") (s.limit ∷ []) limit_is_name (one_small s.limit (omega (arith, within.limit.1))) in
+    let waste = full_line (codes "waste") (s.waste ∷ []) waste_is_name (one_small s.waste within.waste) in
     let rows = map (named_line (codes "row")) s.rows in
     let after = named_line (codes "waste") (s.waste ∷ []) ∷ rows in
-    let from_waste = All-cons IsFullLine (named_line (codes "waste") (s.waste ∷ [])) rows waste (rows-full laws s.rows within.rows) in
-    let from_step = All-append IsFullLine (step_lines s.step) after (step_lines-full laws s.step within.step) from_waste in
+    let from_waste = All-cons IsFullLine (named_line (codes "waste") (s.waste ∷ [])) rows waste (rows-full s.rows within.rows) in
+    let from_step = All-append IsFullLine (step_lines s.step) after (step_lines-full s.step within.step) from_waste in
     let from_limit = All-cons IsFullLine (named_line (codes "limit") (s.limit ∷ [])) (step_lines s.step ++ after) limit from_step in
     All-cons IsFullLine (class_line s.table) (named_line (codes "limit") (s.limit ∷ []) ∷ step_lines s.step ++ after) table from_limit
 
@@ -51,20 +51,20 @@ read_at : {A : Type 0} (number : ℕ) (reading : List ℕ → Option A) (line : 
 read_at number reading line ls x e = rw e refl
 
 -- the line of another name is no step line
-step_at-lines : TextLaws → (step waste : ℕ) (ls : List (List ℕ)) → IsStep step → waste < 2 ^ 64
+step_at-lines : (step waste : ℕ) (ls : List (List ℕ)) → IsStep step → waste < 2 ^ 64
     → step_at (step_lines step ++ named_line (codes "waste") (waste ∷ []) ∷ ls) ≡ Some (step, named_line (codes "waste") (waste ∷ []) ∷ ls)
-step_at-lines laws step waste ls is_step small = elim (cases_eq step 1) [
-  | inl one ↦ rw (one, words-named_line laws (codes "waste") (waste ∷ []) waste_is_name (one_small waste small)) refl
+step_at-lines step waste ls is_step small = elim (cases_eq step 1) [
+  | inl one ↦ rw (one, words-named_line (codes "waste") (waste ∷ []) waste_is_name (one_small waste small)) refl
   | inr other ↦
-      rw (ne_eqb step 1 other, step_in-line laws step is_step other, words-named_line laws (codes "step") (step ∷ []) step_is_name (one_small step (step_small step is_step))) refl
+      rw (ne_eqb step 1 other, step_in-line step is_step other, words-named_line (codes "step") (step ∷ []) step_is_name (one_small step (step_small step is_step))) refl
 ]
 
-rows_from-lines : TextLaws → (rows : List (List ℕ)) (number most : ℕ) → length rows ≤ most → All IsRow rows → rows_from number most (map (named_line (codes "row")) rows) ≡ Ok rows
+rows_from-lines : (rows : List (List ℕ)) (number most : ℕ) → length rows ≤ most → All IsRow rows → rows_from number most (map (named_line (codes "row")) rows) ≡ Ok rows
 unfolding rows_from
-rows_from-lines laws [] number most few all = refl
-rows_from-lines laws (row ∷ rows) number zero few all = absurd (omega arith)
-rows_from-lines laws (row ∷ rows) number (suc most) few all =
-    rw (row_in-line laws row (All-head IsRow row rows all), rows_from-lines laws rows (suc number) most (omega arith) (All-tail IsRow row rows all)) refl
+rows_from-lines [] number most few all = refl
+rows_from-lines (row ∷ rows) number zero few all = absurd (omega arith)
+rows_from-lines (row ∷ rows) number (suc most) few all =
+    rw (row_in-line row (All-head IsRow row rows all), rows_from-lines rows (suc number) most (omega arith) (All-tail IsRow row rows all)) refl
 
 -- the rows after a head are read
 read_on : (ls after : List (List ℕ)) (head : Head) (rows : List (List ℕ)) → head_of_lines ls ≡ Ok (head, after)
@@ -73,13 +73,13 @@ unfolding sheet_of_lines
 read_on ls after head rows is_head is_rows = rw (is_head, ← add-one (waste_number head.step), is_rows) refl
 
 -- The text of a sheet within the limits is read as that sheet.
-pub sheet_in-spelled : SheetLaws → (text : List ℕ) (s : Sheet) → SpellsSheet text s → sheet_in text ≡ Ok s
-sheet_in-spelled laws text s spells =
+pub sheet_in-spelled : (text : List ℕ) (s : Sheet) → SpellsSheet text s → sheet_in text ≡ Ok s
+sheet_in-spelled text s spells =
     let within = spells.limits in
-    let is : lines text ≡ sheet_lines s = laws.text.full_lines (sheet_lines s) text (sheet_lines-full laws.text s within) spells.spelled in
-    let table = read_at 1 table_in (class_line s.table) _ s.table (table_in-line laws s.table within.table) in
-    let limit = read_at 2 limit_in (named_line (codes "limit") (s.limit ∷ [])) _ s.limit (limit_in-line laws.text s.limit within.limit) in
-    let step = step_at-lines laws.text s.step s.waste (map (named_line (codes "row")) s.rows) within.step within.waste in
-    let waste = read_at (waste_number s.step) waste_in (named_line (codes "waste") (s.waste ∷ [])) _ s.waste (waste_in-line laws.text s.waste within.waste) in
-    let rows = rows_from-lines laws.text s.rows (waste_number s.step + 1) 32 within.few within.rows in
+    let is : lines text ≡ sheet_lines s = laws.full_lines (sheet_lines s) text (sheet_lines-full s within) spells.spelled in
+    let table = read_at 1 table_in (class_line s.table) _ s.table (table_in-line s.table within.table) in
+    let limit = read_at 2 limit_in (named_line (codes "limit") (s.limit ∷ [])) _ s.limit (limit_in-line s.limit within.limit) in
+    let step = step_at-lines s.step s.waste (map (named_line (codes "row")) s.rows) within.step within.waste in
+    let waste = read_at (waste_number s.step) waste_in (named_line (codes "waste") (s.waste ∷ [])) _ s.waste (waste_in-line s.waste within.waste) in
+    let rows = rows_from-lines s.rows (waste_number s.step + 1) 32 within.few within.rows in
     ap sheet_of_lines is ∙ read_on _ _ _ s.rows (all_read _ _ _ table _ _ limit _ _ step _ _ waste) rows

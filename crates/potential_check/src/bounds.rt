@@ -108,7 +108,8 @@ fn edge_bound(spans: &Spans, before: &[u64], i: usize, j: usize) -> u128
 pub(crate) fn edge_order(number: u64, spans: &Spans, before: &[u64], i: usize, j: usize) -> Ordering
     requires order { i < j }
     requires within { j ≤ places spans.now.counts spans.now.step }
-    ensures { let bound = edge_bound spans.now before.now i j in MatchOrdering result (number < bound) (number ≡ bound) (bound < number) }
+    ensures { let bound = edge_bound spans.now before.now i j in
+        MatchOrdering result (number < bound) (number ≡ bound) (bound < number) }
 {
     let waste = spans.waste(i, j);
     match number.checked_sub(number_in(before, j)) {

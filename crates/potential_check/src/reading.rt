@@ -107,7 +107,8 @@ fn waste_number(step: u8) -> u64
 fn rows_in(alloc: Global, lines: &mut Lines<'_>, first: u64) -> Result<Rows, SheetError>
     requires { first ≤ 5 }
     ensures rows { Gives (λ rows. rows) result (rows_from first 32 (take_while is_row_line lines.old)) }
-    ensures size { IfOk result (λ rows. (length rows ≡ length (take_while is_row_line lines.old)) × (length rows ≤ 32)) }
+    ensures size { IfOk result
+        (λ rows. (length rows ≡ length (take_while is_row_line lines.old)) × (length rows ≤ 32)) }
     ensures after { IfOk result (λ rows. lines.new ≡ drop (length rows) lines.old) }
 {
     let mut rows = Vec::new(alloc);
@@ -126,7 +127,8 @@ fn rows_in(alloc: Global, lines: &mut Lines<'_>, first: u64) -> Result<Rows, She
 
 // takes the next line if its first word is this name
 fn next_named<'a>(name: &[u8], lines: &mut Lines<'a>) -> Option<&'a [u8]>
-    ensures some { IfSome result (λ line. (lines.old ≡ line.now ∷ lines.new) × (is_named name.now line.now ≡ Bool.true)) }
+    ensures some { IfSome result
+        (λ line. (lines.old ≡ line.now ∷ lines.new) × (is_named name.now line.now ≡ Bool.true)) }
     ensures none { IfNone result ((lines.new ≡ lines.old) × (take_while (is_named name.now) lines.old ≡ [])) }
 {
     let mut ahead = lines_in(lines.rest());

@@ -110,7 +110,8 @@ impl<'a> Spans<'a> {
     // the number of requests counted up to a place
     fn requests_up_to(&self, place: usize) -> u64
         requires { place ≤ places self.now.counts self.now.step }
-        ensures requests { let high = need_at self.now.counts self.now.step place in result ≡ counted_up_to self.now.counts self.now.step high }
+        ensures requests { let high = need_at self.now.counts self.now.step place in
+            result ≡ counted_up_to self.now.counts self.now.step high }
         ensures valid { IsSpanned self.now }
     {
         self.counted[place]
@@ -119,7 +120,8 @@ impl<'a> Spans<'a> {
     // how many bytes they asked for
     fn bytes_up_to(&self, place: usize) -> u64
         requires { place ≤ places self.now.counts self.now.step }
-        ensures { let high = need_at self.now.counts self.now.step place in result ≡ bytes_up_to self.now.counts self.now.step high }
+        ensures { let high = need_at self.now.counts self.now.step place in
+            result ≡ bytes_up_to self.now.counts self.now.step high }
     {
         self.bytes[place]
     }

@@ -36,7 +36,8 @@ fn tight_end(spans: &Spans, before: &[u64], row: &[u64], place: usize, last: usi
     requires after { place < last }
     requires within { last ≤ places spans.now.counts spans.now.step }
     ensures some { IfSome result (IsTightEnd spans.now before.now row.now place last) }
-    ensures none { IfNone result (HasTightEnd spans.now before.now row.now place last → EdgesHold spans.now before.now row.now → ⊥) }
+    ensures none { IfNone result (HasTightEnd spans.now before.now row.now place last
+        → EdgesHold spans.now before.now row.now → ⊥) }
 {
     let mut end = last;
     loop {
@@ -59,7 +60,8 @@ fn tight_end(spans: &Spans, before: &[u64], row: &[u64], place: usize, last: usi
 fn first_edges_hold(spans: &Spans, before: &[u64], row: &[u64], end: usize) -> bool
     requires row { length row.now ≡ places spans.now.counts spans.now.step }
     requires within { end ≤ places spans.now.counts spans.now.step }
-    ensures { IsTrue result ↔ ((j : ℕ) → 0 < j → j < end → slice_index row.now 0 ≤ edge_bound spans.now before.now 0 j) }
+    ensures { IsTrue result
+        ↔ ((j : ℕ) → 0 < j → j < end → slice_index row.now 0 ≤ edge_bound spans.now before.now 0 j) }
 {
     for j in 1..end {
         if edge_order(row[0], spans, before, 0, j).is_gt() {

@@ -9,10 +9,10 @@ use Rattle.class_table.specs.Sizes.{largest_counted}
 use Rattle.line_text.specs.Lines.{words, line_of, IsLine, IsWord, is_newline, is_space}
 use Rattle.line_text.specs.Numbers.{number_of}
 use Rattle.tuner_theory.specs.Waste.{most_counted}
+use Rattle.line_text.proofs.LawLemmas.{text_laws as laws}
 use Rattle.profile_count.specs.ProfileText.{IsNext, entry_of, counted, size_entry, numbers_entry, large_entry}
 use Rattle.profile_count.specs.declared.entry.Entry.{Entry}
 use Rattle.profile_count.specs.declared.entry.Entry.TheVariants.{Size, Large}
-use Rattle.line_text.specs.Laws.{TextLaws}
 
 abbrev pub entry_words : Entry → List (List ℕ)
 entry_words (Size size count) = decimal size ∷ decimal count ∷ []
@@ -28,19 +28,19 @@ unfolding number_of
 large_is_no_number = refl
 
 -- no spelling of a number is the word `large`
-number_is_not_large : TextLaws → (n : ℕ) → n < 2 ^ 64 → bytes_eq (decimal n) (codes "large") ≡ false
-number_is_not_large laws n small = false_from_ne_true _ (λ same.
+number_is_not_large : (n : ℕ) → n < 2 ^ 64 → bytes_eq (decimal n) (codes "large") ≡ false
+number_is_not_large n small = false_from_ne_true _ (λ same.
     let word : decimal n ≡ codes "large" = (bytes_eq-Decides (decimal n) (codes "large")).0 same in
     let some : None ≡ Some n = sym large_is_no_number ∙ ap number_of (sym word) ∙ laws.read n small in
     cc)
 
 -- an entry is read from its words
-entry_of-words : TextLaws → (next : ℕ) (entry : Entry) → IsNext next 0 entry → entry_of next 0 (entry_words entry) ≡ Ok entry
-entry_of-words laws next (Size size count) is =
+entry_of-words : (next : ℕ) (entry : Entry) → IsNext next 0 entry → entry_of next 0 (entry_words entry) ≡ Ok entry
+entry_of-words next (Size size count) is =
     let small : size < 2 ^ 64 = omega (arith, is.2) in
     let small_count : count < 2 ^ 64 = omega (arith, is.4) in
-    rw (number_is_not_large laws size small, laws.read size small, laws.read count small_count, le-ltb largest_counted size is.2, le-ltb size next is.1, le-leb 1 count is.3, le-leb count most_counted is.4) refl
-entry_of-words laws next (Large count) is =
+    rw (number_is_not_large size small, laws.read size small, laws.read count small_count, le-ltb largest_counted size is.2, le-ltb size next is.1, le-leb 1 count is.3, le-leb count most_counted is.4) refl
+entry_of-words next (Large count) is =
     let small : count < 2 ^ 64 = omega (arith, is.2) in
     rw (laws.read count small, le-leb 1 count is.1, le-leb count most_counted is.2) refl
 
@@ -52,24 +52,24 @@ name_is_word = (
 )
 
 -- two words make a line, and are its words
-two_words : TextLaws → (a b : List ℕ) → IsLine a × IsWord a → IsLine b × IsWord b → IsLine (line_of (a ∷ b ∷ [])) × (words (line_of (a ∷ b ∷ [])) ≡ a ∷ b ∷ [])
-two_words laws a b of_a of_b = (
+two_words : (a b : List ℕ) → IsLine a × IsWord a → IsLine b × IsWord b → IsLine (line_of (a ∷ b ∷ [])) × (words (line_of (a ∷ b ∷ [])) ≡ a ∷ b ∷ [])
+two_words a b of_a of_b = (
   laws.makes_line (a ∷ b ∷ []) (All-cons IsLine a (b ∷ []) of_a.0 (All-cons IsLine b [] of_b.0 (All-nil IsLine))),
   laws.written_words a (b ∷ []) (All-cons IsWord a (b ∷ []) of_a.1 (All-cons IsWord b [] of_b.1 (All-nil IsWord))),
 )
 
 -- an entry's line is a line, and its words are the entry's
-line_of_entry : TextLaws → (next : ℕ) (entry : Entry) → IsNext next 0 entry → IsLine (entry_line entry) × (words (entry_line entry) ≡ entry_words entry)
-line_of_entry laws next (Size size count) is = two_words laws (decimal size) (decimal count) (laws.word size (omega (arith, is.2))) (laws.word count (omega (arith, is.4)))
-line_of_entry laws next (Large count) is = two_words laws (codes "large") (decimal count) name_is_word (laws.word count (omega (arith, is.2)))
+line_of_entry : (next : ℕ) (entry : Entry) → IsNext next 0 entry → IsLine (entry_line entry) × (words (entry_line entry) ≡ entry_words entry)
+line_of_entry next (Size size count) is = two_words (decimal size) (decimal count) (laws.word size (omega (arith, is.2))) (laws.word count (omega (arith, is.4)))
+line_of_entry next (Large count) is = two_words (codes "large") (decimal count) name_is_word (laws.word count (omega (arith, is.2)))
 
 -- An entry's line is one;
-pub entry_line-is_line : TextLaws → (next : ℕ) (entry : Entry) → IsNext next 0 entry → IsLine (entry_line entry)
-entry_line-is_line laws next entry is = (line_of_entry laws next entry is).0
+pub entry_line-is_line : (next : ℕ) (entry : Entry) → IsNext next 0 entry → IsLine (entry_line entry)
+entry_line-is_line next entry is = (line_of_entry next entry is).0
 
 -- the entry is read from it,
-pub entry_of-line : TextLaws → (next : ℕ) (entry : Entry) → IsNext next 0 entry → entry_of next 0 (words (entry_line entry)) ≡ Ok entry
-entry_of-line laws next entry is = ap (entry_of next 0) (line_of_entry laws next entry is).1 ∙ entry_of-words laws next entry is
+pub entry_of-line : (next : ℕ) (entry : Entry) → IsNext next 0 entry → entry_of next 0 (words (entry_line entry)) ≡ Ok entry
+entry_of-line next entry is = ap (entry_of next 0) (line_of_entry next entry is).1 ∙ entry_of-words next entry is
 
 -- and it is not empty.
 pub entry_line-some : (entry : Entry) → 0 < length (entry_line entry)
@@ -95,9 +95,9 @@ counted_parts entry count read e = go (leb 1 count) refl (leb count most_counted
         (is, leb-true 1 count f, leb-true count most_counted g)
 
 -- two numbers in range
-size_read : TextLaws → (next : ℕ) (first second : List ℕ) (size count : ℕ) (entry : Entry) → number_of first ≡ Some size → number_of second ≡ Some count
+size_read : (next : ℕ) (first second : List ℕ) (size count : ℕ) (entry : Entry) → number_of first ≡ Some size → number_of second ≡ Some count
     → size_entry next size count ≡ Ok entry → IsRead next first second entry
-size_read laws next first second size count entry is_size is_count e = go (ltb largest_counted size) refl (ltb size next) refl
+size_read next first second size count entry is_size is_count e = go (ltb largest_counted size) refl (ltb size next) refl
   where
     go : (large : Bool) → ltb largest_counted size ≡ large → (low : Bool) → ltb size next ≡ low → IsRead next first second entry
     go true f low g = let none = rw f at e in absurd cc
@@ -110,47 +110,47 @@ size_read laws next first second size count entry is_size is_count e = go (ltb l
         rw (← parts.0) (record { may_come = (refl, ltb-false size next g, within, parts.1, parts.2); spelled = cc })
 
 -- two numbers, where they are
-numbers_read : TextLaws → (next : ℕ) (first second : List ℕ) (o p : Option ℕ) (entry : Entry) → number_of first ≡ o → number_of second ≡ p
+numbers_read : (next : ℕ) (first second : List ℕ) (o p : Option ℕ) (entry : Entry) → number_of first ≡ o → number_of second ≡ p
     → numbers_entry next o p ≡ Ok entry → IsRead next first second entry
-numbers_read laws next first second None p entry is_size is_count e = absurd cc
-numbers_read laws next first second (Some size) None entry is_size is_count e = absurd cc
-numbers_read laws next first second (Some size) (Some count) entry is_size is_count e = size_read laws next first second size count entry is_size is_count e
+numbers_read next first second None p entry is_size is_count e = absurd cc
+numbers_read next first second (Some size) None entry is_size is_count e = absurd cc
+numbers_read next first second (Some size) (Some count) entry is_size is_count e = size_read next first second size count entry is_size is_count e
 
 -- the word `large` and a number
-large_read : TextLaws → (next : ℕ) (first second : List ℕ) (o : Option ℕ) (entry : Entry) → first ≡ codes "large" → number_of second ≡ o
+large_read : (next : ℕ) (first second : List ℕ) (o : Option ℕ) (entry : Entry) → first ≡ codes "large" → number_of second ≡ o
     → large_entry o ≡ Ok entry → IsRead next first second entry
-large_read laws next first second None entry is_name is_count e = absurd cc
-large_read laws next first second (Some count) entry is_name is_count e =
+large_read next first second None entry is_name is_count e = absurd cc
+large_read next first second (Some count) entry is_name is_count e =
     let parts = counted_parts Large count entry e in
     let count_word : second ≡ decimal count = laws.spelled second count (omega (arith, parts.2)) is_count in
     rw (← parts.0) (record { may_come = (refl, parts.1, parts.2); spelled = cc })
 
 -- two words of either kind
-two_words_read : TextLaws → (next large : ℕ) (first second : List ℕ) (entry : Entry) → entry_of next large (first ∷ second ∷ []) ≡ Ok entry
+two_words_read : (next large : ℕ) (first second : List ℕ) (entry : Entry) → entry_of next large (first ∷ second ∷ []) ≡ Ok entry
     → (large ≡ 0) × IsRead next first second entry
-two_words_read laws next large first second entry e = go (ltb 0 large) refl (bytes_eq first (codes "large")) refl
+two_words_read next large first second entry e = go (ltb 0 large) refl (bytes_eq first (codes "large")) refl
   where
     go : (ended : Bool) → ltb 0 large ≡ ended → (named : Bool) → bytes_eq first (codes "large") ≡ named → (large ≡ 0) × IsRead next first second entry
     go true f named g = let none = rw f at e in absurd cc
     go false f true g =
         let name : first ≡ codes "large" = (bytes_eq-Decides first (codes "large")).0 g in
-        (omega (arith, ltb-false 0 large f), large_read laws next first second (number_of second) entry name refl (rw (f, g) at e))
+        (omega (arith, ltb-false 0 large f), large_read next first second (number_of second) entry name refl (rw (f, g) at e))
     go false f false g =
-        (omega (arith, ltb-false 0 large f), numbers_read laws next first second (number_of first) (number_of second) entry refl refl (rw (f, g) at e))
+        (omega (arith, ltb-false 0 large f), numbers_read next first second (number_of first) (number_of second) entry refl refl (rw (f, g) at e))
 
 -- Words that are read as an entry are its words,
-entry_words-read : TextLaws → (next large : ℕ) (ws : List (List ℕ)) (entry : Entry) → entry_of next large ws ≡ Ok entry
+entry_words-read : (next large : ℕ) (ws : List (List ℕ)) (entry : Entry) → entry_of next large ws ≡ Ok entry
     → (large ≡ 0) × IsNext next 0 entry × (ws ≡ entry_words entry)
-entry_words-read laws next large [] entry e = absurd cc
-entry_words-read laws next large (first ∷ []) entry e = absurd cc
-entry_words-read laws next large (first ∷ second ∷ third ∷ ws) entry e = absurd cc
-entry_words-read laws next large (first ∷ second ∷ []) entry e =
-    let read = two_words_read laws next large first second entry e in
+entry_words-read next large [] entry e = absurd cc
+entry_words-read next large (first ∷ []) entry e = absurd cc
+entry_words-read next large (first ∷ second ∷ third ∷ ws) entry e = absurd cc
+entry_words-read next large (first ∷ second ∷ []) entry e =
+    let read = two_words_read next large first second entry e in
     (read.0, read.1.may_come, read.1.spelled)
 
 -- and a line is its line; no `large` line came before it.
-pub entry_line-read : TextLaws → (next large : ℕ) (line : List ℕ) (entry : Entry) → entry_of next large (words line) ≡ Ok entry
+pub entry_line-read : (next large : ℕ) (line : List ℕ) (entry : Entry) → entry_of next large (words line) ≡ Ok entry
     → (large ≡ 0) × IsNext next 0 entry × (line ≡ entry_line entry)
-entry_line-read laws next large line entry e =
-    let read = entry_words-read laws next large (words line) entry e in
+entry_line-read next large line entry e =
+    let read = entry_words-read next large (words line) entry e in
     (read.0, read.1, sym (laws.line line) ∙ ap line_of read.2)

@@ -1,12 +1,13 @@
 -- The line at which a text is refused as a profile is its first fault.
-use Rattle.std.proofs.Common.{◌≡◌, ℕ, zero, suc, ◌+◌, ◌-◌, ◌<◌, ◌≤◌, List, [], ◌∷◌, length, take, Result, Ok, Err}
+use Rattle.std.proofs.Common.{◌≡◌, ℕ, suc, ◌+◌, ◌-◌, ◌<◌, ◌≤◌, List, [], ◌∷◌, length, take, Result, Ok, Err}
 use Rattle.std.proofs.Common.{refl, sym, ap, ◌∙◌, arith, add-one, add-zero, inl, inr}
 use Rattle.std.proofs.lemmas.Bool.{cases_lt}
+use Rattle.std.proofs.lemmas.List.{take-take}
 use Rattle.std.proofs.lemmas.List.Elements.{All-take}
 use Rattle.line_text.specs.FirstFault.{IsFirstFault}
-use Rattle.line_text.specs.Laws.{TextLaws}
 use Rattle.line_text.specs.Lines.{lines, words, text_of, IsLine}
 use Rattle.tuner_theory.specs.Waste.{Profile}
+use Rattle.line_text.proofs.LawLemmas.{text_laws as laws}
 use Rattle.profile_count.specs.Laws.{IsRefusedAt}
 use Rattle.profile_count.specs.ProfileText.{Reading, SpellsProfile, entry_of, with_entry, profile_from, profile_of}
 use Rattle.profile_count.specs.declared.entry.Entry.{Entry}
@@ -26,20 +27,10 @@ cons_tail a b x y e = cc
 
 -- so they do up to an earlier place
 take_fewer : {A : Type 0} (m n : ℕ) (xs ys : List A) → m ≤ n → take n xs ≡ take n ys → take m xs ≡ take m ys
-take_fewer zero n xs ys few e = refl
-take_fewer (suc m) zero xs ys few e = absurd (omega (arith, few))
-take_fewer (suc m) (suc n) [] [] few e = refl
-take_fewer (suc m) (suc n) [] (y ∷ ys) few e = absurd cc
-take_fewer (suc m) (suc n) (x ∷ xs) [] few e = absurd cc
-take_fewer (suc m) (suc n) (x ∷ xs) (y ∷ ys) few e =
-    let first : x ≡ y = cons_head x y (take n xs) (take n ys) e in
-    let others = take_fewer m n xs ys (omega (arith, few)) (cons_tail x y (take n xs) (take n ys) e) in
-    rw (first, others) refl
+take_fewer m n xs ys few e = sym (take-take m n xs few) ∙ ap (take m) e ∙ take-take m n ys few
 
 take_twice : {A : Type 0} (n : ℕ) (xs : List A) → take n (take n xs) ≡ take n xs
-take_twice zero xs = refl
-take_twice (suc n) [] = refl
-take_twice (suc n) (x ∷ xs) = ap (λ xs. x ∷ xs) (take_twice n xs)
+take_twice n xs = take-take n n xs (omega arith)
 
 -- the parts of a list that begins as another
 record BeginsWith {A : Type 0} (x : A) (xs ys : List A) (k : ℕ) : Type 0 where
@@ -133,8 +124,8 @@ not_after m n text first second = elim (cases_lt n m) [
 ]
 
 -- some of a text's lines are the lines of their text
-front_lines : TextLaws → (k : ℕ) (text : List ℕ) → lines (text_of (take k (lines text))) ≡ take k (lines text)
-front_lines laws k text = laws.written_lines (take k (lines text)) (All-take IsLine k (lines text) (laws.lines text))
+front_lines : (k : ℕ) (text : List ℕ) → lines (text_of (take k (lines text))) ≡ take k (lines text)
+front_lines k text = laws.written_lines (take k (lines text)) (All-take IsLine k (lines text) (laws.lines text))
 
 -- The line of a fault is there,
 pub within-refused : (text : List ℕ) (n : ℕ) → IsRefusedAt n text → n ≤ length (lines text)
@@ -143,40 +134,40 @@ within-refused text n refused =
     omega (arith, at.1, at.2.within)
 
 -- the lines before it alone spell a profile,
-pub front-refused : TextLaws → (text : List ℕ) (n : ℕ) → IsRefusedAt n text
+pub front-refused : (text : List ℕ) (n : ℕ) → IsRefusedAt n text
     → (p : Profile) × SpellsProfile (text_of (take (n - 1) (lines text))) p
-front-refused laws text n refused =
+front-refused text n refused =
     let at = fault_at (lines text) 1 nothing_read n refused.0 refused.1 in
     let k = at.0 in
     let before : n - 1 ≡ k = omega (arith, at.1) in
-    let read : profile_of (text_of (take k (lines text))) ≡ Ok at.2.read.0 = rw (front_lines laws k text) at.2.read.1 in
-    (at.2.read.0, rw before (spelled-profile_of laws (text_of (take k (lines text))) at.2.read.0 read))
+    let read : profile_of (text_of (take k (lines text))) ≡ Ok at.2.read.0 = rw (front_lines k text) at.2.read.1 in
+    (at.2.read.0, rw before (spelled-profile_of (text_of (take k (lines text))) at.2.read.0 read))
 
 -- and it is the first fault of the text.
-pub first_fault-refused : TextLaws → (text : List ℕ) (n : ℕ) → IsRefusedAt n text → IsFirstFault SpellsProfile text n
-first_fault-refused laws text n refused =
+pub first_fault-refused : (text : List ℕ) (n : ℕ) → IsRefusedAt n text → IsFirstFault SpellsProfile text n
+first_fault-refused text n refused =
     let at = fault_at (lines text) 1 nothing_read n refused.0 refused.1 in
     let place : n ≡ suc at.0 = omega (arith, at.1) in
-    let front = front-refused laws text n refused in
+    let front = front-refused text n refused in
     let before = text_of (take (n - 1) (lines text)) in
     let alike_before : take (n - 1) (lines before) ≡ take (n - 1) (lines text) =
-    rw (front_lines laws (n - 1) text) (take_twice (n - 1) (lines text)) in
+    rw (front_lines (n - 1) text) (take_twice (n - 1) (lines text)) in
     record {
       some = omega (arith, place);
       within = omega (arith, place, at.2.within);
       before = (before, front.0, front.1, alike_before);
       none = λ other value spells alike.
           let is_refused = at.2.whatever_follows (lines other) (rw place at (sym alike)) in
-          read_or_refused value (1 + at.0, refused.0) (sym (profile_of-spelled laws other value spells) ∙ is_refused);
+          read_or_refused value (1 + at.0, refused.0) (sym (profile_of-spelled other value spells) ∙ is_refused);
     }
 
 -- The first fault of a text is refused.
-pub refused-first_fault : TextLaws → (text : List ℕ) (n : ℕ) → IsFirstFault SpellsProfile text n → IsRefusedAt n text
-refused-first_fault laws text n first = go (profile_of text) refl
+pub refused-first_fault : (text : List ℕ) (n : ℕ) → IsFirstFault SpellsProfile text n → IsRefusedAt n text
+refused-first_fault text n first = go (profile_of text) refl
   where
     go : (read : Result Profile (ℕ × ProfileFault)) → profile_of text ≡ read → IsRefusedAt n text
-    go (Ok p) is = absurd (first.none text p (spelled-profile_of laws text p is) refl)
+    go (Ok p) is = absurd (first.none text p (spelled-profile_of text p is) refl)
     go (Err fault) is =
-        let here = first_fault-refused laws text fault.0 (fault.1, is) in
+        let here = first_fault-refused text fault.0 (fault.1, is) in
         let same : fault.0 ≡ n = omega (arith, not_after fault.0 n text here first, not_after n fault.0 text first here) in
         (fault.1, is ∙ ap (λ m. Err (m, fault.1)) same)

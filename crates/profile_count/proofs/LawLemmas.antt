@@ -1,7 +1,6 @@
 -- The laws as lemmas, for the proofs of the crates above.
 use Rattle.profile_count.specs.Laws.{AddedRequestsAreCounted, CountsAreFew, FirstFaultIsRefused, LinesBeforeItSpell, OneMoreIsCounted, ProfileCountsRequests, ProfileIsSpelled, RefusedLineIsThere, SpelledProfileIsRead}
 use Rattle.profile_count.specs.RequestLosses.{ProfileOfSizesIsOne, ServesEachRequest, WasteIsTheSumOfLosses}
-use Rattle.line_text.proofs.LawLemmas.{text_laws}
 use Rattle.profile_count.proofs.CountedRequests.{count_for-le, profile_of_sizes-counts, with_more-nothing_counted, with_one_more-profile_of_sizes}
 use Rattle.profile_count.proofs.FirstFaults.{first_fault-refused, front-refused, refused-first_fault, within-refused}
 use Rattle.profile_count.proofs.ReadIsSpelled.{spelled-profile_of}
@@ -9,20 +8,20 @@ use Rattle.profile_count.proofs.RequestLosses.{profile_of_sizes-is_profile, serv
 use Rattle.profile_count.proofs.SpelledIsRead.{profile_of-spelled}
 
 pub profile_is_spelled : ProfileIsSpelled
-profile_is_spelled = spelled-profile_of text_laws
+profile_is_spelled = spelled-profile_of
 
 pub spelled_profile_is_read : SpelledProfileIsRead
-spelled_profile_is_read = profile_of-spelled text_laws
+spelled_profile_is_read = profile_of-spelled
 
 pub first_fault_is_refused : FirstFaultIsRefused
 first_fault_is_refused =
-    λ text n. (first_fault-refused text_laws text n, refused-first_fault text_laws text n)
+    λ text n. (first_fault-refused text n, refused-first_fault text n)
 
 pub refused_line_is_there : RefusedLineIsThere
 refused_line_is_there = within-refused
 
 pub lines_before_it_spell : LinesBeforeItSpell
-lines_before_it_spell = front-refused text_laws
+lines_before_it_spell = front-refused
 
 pub profile_counts_requests : ProfileCountsRequests
 profile_counts_requests = profile_of_sizes-counts

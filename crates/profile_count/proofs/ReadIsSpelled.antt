@@ -4,6 +4,7 @@ use Rattle.std.proofs.Math.Seq.{drop-cons}
 use Rattle.std.proofs.lemmas.List.{get_or-drop, get_or-set_same}
 use Rattle.line_text.specs.Lines.{lines, words, text_of}
 use Rattle.tuner_theory.specs.Waste.{Profile, IsProfile}
+use Rattle.line_text.proofs.LawLemmas.{text_laws as laws}
 use Rattle.profile_count.specs.Counts.{with_large}
 use Rattle.profile_count.specs.ProfileText.{Reading, SpellsProfile, IsNext, large_lines, profile_text, entry_of, with_entry, profile_from, profile_of}
 use Rattle.profile_count.specs.declared.entry.Entry.{Entry}
@@ -12,7 +13,6 @@ use Rattle.profile_count.specs.declared.fault.ProfileFault.{ProfileFault}
 use Rattle.profile_count.proofs.EntryLines.{entry_line, entry_line-read}
 use Rattle.profile_count.proofs.OpenReading.{IsOpen, nothing_read, is_open-nothing_read, other_count, is_open-size_read}
 use Rattle.profile_count.proofs.SizeLines.{size_lines_from, size_lines-none, size_lines-counted, size_lines-passed}
-use Rattle.line_text.specs.Laws.{TextLaws}
 
 -- After a reading, lines spell a profile: what it counts from the next size on, and its large requests. Below that size it counts what was read.
 record SpellsRest (reading : Reading) (ls : List (List ℕ)) (p : Profile) : Type 0 where
@@ -70,38 +70,38 @@ same_profile : (a b : Profile) → as_read a ≡ as_read b → a ≡ b
 same_profile a b e = cc
 
 -- no line follows a `large` line
-nothing_after_large : TextLaws → (number : ℕ) (reading : Reading) (ls : List (List ℕ)) (p : Profile) → 0 < reading.profile.large → profile_from number reading ls ≡ Ok p
+nothing_after_large : (number : ℕ) (reading : Reading) (ls : List (List ℕ)) (p : Profile) → 0 < reading.profile.large → profile_from number reading ls ≡ Ok p
     → (ls ≡ []) × (reading.profile ≡ p)
 unfolding profile_from
-nothing_after_large laws number reading [] p some e = (refl, same_profile reading.profile p e)
-nothing_after_large laws number reading (line ∷ ls) p some e = go (entry_of reading.next reading.profile.large (words line)) refl
+nothing_after_large number reading [] p some e = (refl, same_profile reading.profile p e)
+nothing_after_large number reading (line ∷ ls) p some e = go (entry_of reading.next reading.profile.large (words line)) refl
   where
     go : (read : Result Entry ProfileFault) → entry_of reading.next reading.profile.large (words line) ≡ read → (line ∷ ls ≡ []) × (reading.profile ≡ p)
     go (Err fault) is = let none = rw is at e in absurd cc
-    go (Ok entry) is = absurd (omega (arith, (entry_line-read laws reading.next reading.profile.large line entry is).0))
+    go (Ok entry) is = absurd (omega (arith, (entry_line-read reading.next reading.profile.large line entry is).0))
 
 -- lines that are read as a profile spell it
-spells_rest-read : TextLaws → (ls : List (List ℕ)) (number : ℕ) (reading : Reading) (p : Profile) → IsOpen reading → profile_from number reading ls ≡ Ok p → SpellsRest reading ls p
+spells_rest-read : (ls : List (List ℕ)) (number : ℕ) (reading : Reading) (p : Profile) → IsOpen reading → profile_from number reading ls ≡ Ok p → SpellsRest reading ls p
 unfolding profile_from
-spells_rest-read laws [] number reading p is_open e = rw (← same_profile reading.profile p e) (spells_rest-nil reading is_open)
-spells_rest-read laws (line ∷ ls) number reading p is_open e = go (spells_rest-read laws ls) (entry_of reading.next reading.profile.large (words line)) refl
+spells_rest-read [] number reading p is_open e = rw (← same_profile reading.profile p e) (spells_rest-nil reading is_open)
+spells_rest-read (line ∷ ls) number reading p is_open e = go (spells_rest-read ls) (entry_of reading.next reading.profile.large (words line)) refl
   where
     go : ((number : ℕ) (reading : Reading) (p : Profile) → IsOpen reading → profile_from number reading ls ≡ Ok p → SpellsRest reading ls p)
         → (read : Result Entry ProfileFault) → entry_of reading.next reading.profile.large (words line) ≡ read → SpellsRest reading (line ∷ ls) p
     go others (Err fault) is = let none = rw is at e in absurd cc
     go others (Ok (Size size count)) is =
-        let read = entry_line-read laws reading.next reading.profile.large line (Size size count) is in
+        let read = entry_line-read reading.next reading.profile.large line (Size size count) is in
         let after = others (suc number) (with_entry reading (Size size count)) p (is_open-size_read reading size count is_open read.1) (rw is at e) in
         rw read.2 (spells_rest-size reading size count ls p is_open read.1 after)
     go others (Ok (Large count)) is =
-        let read = entry_line-read laws reading.next reading.profile.large line (Large count) is in
-        let after = nothing_after_large laws (suc number) (with_entry reading (Large count)) ls p (omega (arith, read.1)) (rw is at e) in
+        let read = entry_line-read reading.next reading.profile.large line (Large count) is in
+        let after = nothing_after_large (suc number) (with_entry reading (Large count)) ls p (omega (arith, read.1)) (rw is at e) in
         rw (read.2, after.0, ← after.1) (spells_rest-large reading count is_open read.1)
 
 -- What is read as a profile is its text.
-pub spelled-profile_of : TextLaws → (text : List ℕ) (p : Profile) → profile_of text ≡ Ok p → SpellsProfile text p
-spelled-profile_of laws text p e =
-    let rest = spells_rest-read laws (lines text) 1 nothing_read p is_open-nothing_read e in
+pub spelled-profile_of : (text : List ℕ) (p : Profile) → profile_of text ≡ Ok p → SpellsProfile text p
+spelled-profile_of text p e =
+    let rest = spells_rest-read (lines text) 1 nothing_read p is_open-nothing_read e in
     let is : text_of (lines text) ≡ profile_text p = ap text_of rest.spelled in
     record {
       profile = rest.profile;

@@ -94,7 +94,8 @@ impl Profile {
     pub fn unserved(&self, table: &ClassTable) -> Option<u16>
         ensures size { result ≡ unserved_of self.now.counts table.now }
         ensures found { IfSome result (λ n. IsCounted self.now.counts n × (class_for table.now n ≡ None)) }
-        ensures least { IfSome result (λ n. (m : ℕ) → m < n → IsCounted self.now.counts m → IsSome (class_for table.now m)) }
+        ensures least { IfSome result
+            (λ n. (m : ℕ) → m < n → IsCounted self.now.counts m → IsSome (class_for table.now m)) }
         ensures none { IfNone result (Serves self.now.counts table.now) }
     {
         first_unserved(&self.counts, table)

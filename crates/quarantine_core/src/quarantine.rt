@@ -69,14 +69,17 @@ impl Quarantine {
         requires outside { IsOutside self.old layout.now memory.old slot }
         requires next { next_in layout.now memory.old slot ≡ 0 }
         requires bytes { bytes ≡ block_bytes (slot_of layout.now slot) }
-        ensures queued { (queue : List ℕ) → AreQueued self.old layout.now memory.old queue → AreQueued self.new layout.now memory.new (queue ++ slot ∷ []) }
+        ensures queued { (queue : List ℕ) → AreQueued self.old layout.now memory.old queue
+            → AreQueued self.new layout.now memory.new (queue ++ slot ∷ []) }
         ensures linked { LinksStand self.new layout.now memory.new }
         ensures value { self.new ≡ with_newest self.old slot bytes }
 
         // what changes in the memory
         ensures first { self.old.back ≡ 0 → memory.new ≡ memory.old }
-        ensures after { (last : ℕ) → self.old.back ≡ suc last → SetsLink layout.now memory.old memory.new last (suc slot) }
-        ensures lists { (front : ℕ) (list : List ℕ) → ((s : ℕ) → Contains list s → s < slot_count layout.now) → ((s : ℕ) → Contains list s → self.old.back ≢ suc s) →
+        ensures after { (last : ℕ) → self.old.back ≡ suc last
+            → SetsLink layout.now memory.old memory.new last (suc slot) }
+        ensures lists { (front : ℕ) (list : List ℕ) → ((s : ℕ) → Contains list s → s < slot_count layout.now)
+            → ((s : ℕ) → Contains list s → self.old.back ≢ suc s) →
             IsLinked (next_in layout.now memory.old) front list → IsLinked (next_in layout.now memory.new) front list }
         ensures region { length memory.new ≡ layout.now.granules }
     {
@@ -104,14 +107,17 @@ impl Quarantine {
 
         // the oldest slot leaves
         ensures slot { IfSome result (λ slot. slot < slot_count layout.now) }
-        ensures oldest { IfSome result (λ slot. (queue : List ℕ) → AreQueued self.old layout.now memory.old queue → queue ≡ slot ∷ drop 1 queue) }
+        ensures oldest { IfSome result
+            (λ slot. (queue : List ℕ) → AreQueued self.old layout.now memory.old queue → queue ≡ slot ∷ drop 1 queue) }
         ensures queued { IfSome
             result
             (λ slot.
-            (queue : List ℕ) → AreQueued self.old layout.now memory.old (slot ∷ queue) → AreQueued self.new layout.now memory.new queue) }
+            (queue : List ℕ) → AreQueued self.old layout.now memory.old (slot ∷ queue)
+            → AreQueued self.new layout.now memory.new queue) }
         ensures value { IfSome
             result
-            (λ slot. self.new ≡ without_oldest self.old (next_in layout.now memory.old slot) (block_bytes (slot_of layout.now slot))) }
+            (λ slot. self.new
+            ≡ without_oldest self.old (next_in layout.now memory.old slot) (block_bytes (slot_of layout.now slot))) }
         ensures held { IfSome result (λ slot. self.new.held + block_bytes (slot_of layout.now slot) ≡ self.old.held) }
         ensures link { IfSome result (λ slot. SetsLink layout.now memory.old memory.new slot 0) }
         ensures region { length memory.new ≡ layout.now.granules }
@@ -128,10 +134,13 @@ impl Quarantine {
         requires linked { LinksStand self.old layout.now memory.old }
         requires some { 0 < self.old.held }
         ensures slot { result < slot_count layout.now }
-        ensures oldest { (queue : List ℕ) → AreQueued self.old layout.now memory.old queue → queue ≡ result ∷ drop 1 queue }
-        ensures queued { (queue : List ℕ) → AreQueued self.old layout.now memory.old (result ∷ queue) → AreQueued self.new layout.now memory.new queue }
+        ensures oldest { (queue : List ℕ) → AreQueued self.old layout.now memory.old queue
+            → queue ≡ result ∷ drop 1 queue }
+        ensures queued { (queue : List ℕ) → AreQueued self.old layout.now memory.old (result ∷ queue)
+            → AreQueued self.new layout.now memory.new queue }
         ensures linked { LinksStand self.new layout.now memory.new }
-        ensures value { self.new ≡ without_oldest self.old (next_in layout.now memory.old result) (block_bytes (slot_of layout.now result)) }
+        ensures value { self.new
+            ≡ without_oldest self.old (next_in layout.now memory.old result) (block_bytes (slot_of layout.now result)) }
         ensures held { self.new.held + block_bytes (slot_of layout.now result) ≡ self.old.held }
         ensures link { SetsLink layout.now memory.old memory.new result 0 }
         ensures region { length memory.new ≡ layout.now.granules }

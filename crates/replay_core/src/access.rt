@@ -25,7 +25,8 @@ pub(crate) fn moved_by(address: u64, off: i32) -> u64
 pub(crate) fn load(heap: &Heap, address: u64, len: u8, bytes: &mut [u8; MOST_BYTES]) -> Answer
     requires len { (1 ≤ len) × (len ≤ 64) }
     requires tagged { (logical_tag address ≢ 0) ⊎ IsFalse (is_mapped (length heap.now.state.memory) address len) }
-    ensures answer { shown bytes.new result ≡ access_answer heap.now.state (Loaded (loaded heap.now.state.memory address len))
+    ensures answer { shown bytes.new result
+        ≡ access_answer heap.now.state (Loaded (loaded heap.now.state.memory address len))
         (access_fault heap.now.state.memory address len) }
     ensures filled { IsFilled result }
 {
@@ -40,7 +41,8 @@ pub(crate) fn load(heap: &Heap, address: u64, len: u8, bytes: &mut [u8; MOST_BYT
 pub(crate) fn store(heap: &mut Heap, address: u64, len: u8, byte: u8) -> Answer
     requires len { (1 ≤ len) × (len ≤ 64) }
     requires tagged { (logical_tag address ≢ 0) ⊎ IsFalse (is_mapped (length heap.old.state.memory) address len) }
-    ensures answer { (bytes : List ℕ) → shown bytes result ≡ access_answer heap.old.state Silent (access_fault heap.old.state.memory address len) }
+    ensures answer { (bytes : List ℕ)
+        → shown bytes result ≡ access_answer heap.old.state Silent (access_fault heap.old.state.memory address len) }
     ensures filled { IsFilled result }
     ensures state { heap.new.state ≡ store_step heap.old.state address (replicate len byte) }
     ensures frees { heap.new.frees ≡ heap.old.frees }

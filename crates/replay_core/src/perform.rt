@@ -77,8 +77,10 @@ fn reallocate(heap: &mut Heap, variables: &mut [u64], v: u16, n: u32) -> Answer
     requires few { heap.old.frees < 2 ^ 48 }
     ensures state { heap.new.state ≡ (realloc_step heap.old.state (slice_index variables.old v) n).heap }
     ensures variables { variables.new ≡ slice_set variables.old v
-        (result_unwrap_or (realloc_step heap.old.state (slice_index variables.old v) n).answer (slice_index variables.old v)) }
-    ensures answer { (bytes : List ℕ) → shown bytes result ≡ realloc_answer (realloc_step heap.old.state (slice_index variables.old v) n).answer }
+        (result_unwrap_or (realloc_step heap.old.state (slice_index variables.old v) n).answer
+        (slice_index variables.old v)) }
+    ensures answer { (bytes : List ℕ)
+        → shown bytes result ≡ realloc_answer (realloc_step heap.old.state (slice_index variables.old v) n).answer }
     ensures filled { IsFilled result }
     ensures frees { heap.new.frees ≤ heap.old.frees + 1 }
 {

@@ -52,7 +52,8 @@ impl Replay {
         requires seed { config.seed ≢ 0 }
         requires quarantine { config.quarantine ≤ 4194304 }
         ensures { IfOk result (λ replay.
-            replay ≡ first_stored (record { classes = table.now; granules = config.granules }) config.seed config.quarantine) }
+            replay
+            ≡ first_stored (record { classes = table.now; granules = config.granules }) config.seed config.quarantine) }
     {
         // Its contract says that the table is legal.
         table.len();

@@ -75,7 +75,8 @@ impl Totals {
         requires bounded { AreBounded (totals_in self.old) }
         requires legal { IsLegalTable 1 heap.now.state.layout.classes }
         ensures counted { (bytes : List ℕ) →
-            totals_in self.new ≡ totals_after heap.now.state.layout.classes (totals_in self.old) (event.now, shown bytes answer.now) }
+            totals_in self.new
+            ≡ totals_after heap.now.state.layout.classes (totals_in self.old) (event.now, shown bytes answer.now) }
         ensures bounded { AreBounded (totals_in self.new) }
     {
         self.count_answer(answer);
@@ -104,7 +105,8 @@ impl Totals {
         requires few { self.old.requests ≤ 2 ^ 40 }
         requires small { self.old.loss ≤ 16368 * 2 ^ 40 }
         ensures { (bytes : List ℕ) →
-            totals_in self.new ≡ with_request heap.now.state.layout.classes (totals_in self.old) size (shown bytes answer.now) }
+            totals_in self.new
+            ≡ with_request heap.now.state.layout.classes (totals_in self.old) size (shown bytes answer.now) }
     {
         let Some(n) = size else {
             return;

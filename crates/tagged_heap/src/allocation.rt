@@ -64,9 +64,12 @@ impl Heap {
 
     // Gives out the slot for a request of n bytes, or says why there is none.
     pub(crate) fn allocate(&mut self, n: u32) -> Result<Given, NullCause>
-        ensures slot { result_map_both (λ given. given.slot) (λ cause. cause) result ≡ slot_for_request self.old.state n }
-        ensures address { IfOk result (λ given. given.address ≡ pointer_to (given_out self.old.state given.slot n) given.slot) }
-        ensures given { IfOk result (λ given. self.new ≡ record self.old { state = given_out self.old.state given.slot n }) }
+        ensures slot { result_map_both (λ given. given.slot) (λ cause. cause) result
+            ≡ slot_for_request self.old.state n }
+        ensures address { IfOk result
+            (λ given. given.address ≡ pointer_to (given_out self.old.state given.slot n) given.slot) }
+        ensures given { IfOk result
+            (λ given. self.new ≡ record self.old { state = given_out self.old.state given.slot n }) }
         ensures refused { OnErr result (self.new ≡ self.old) }
         ensures in_range { IfOk result (λ given. IsSlot self.old.state given.slot) }
     {
@@ -89,7 +92,8 @@ impl Heap {
         requires slot { IsSlot self.old.state slot }
         requires size { n ≤ 16368 }
         requires room { chunk_granules n < (slot_in self.old.state slot).class }
-        ensures { self.new ≡ record self.old { state = with_payload self.old.state slot (replicate (16 * chunk_granules n) 0) } }
+        ensures { self.new
+            ≡ record self.old { state = with_payload self.old.state slot (replicate (16 * chunk_granules n) 0) } }
     {
         let first = self.layout.start(slot) + 1;
         zero(self.machine.memory_mut(), first, chunk_granules(n));

@@ -23,7 +23,8 @@ use tag_machine::Machine;
 /// Returns the address of its payload under that tag.
 pub(crate) fn give_out(machine: &mut Machine, layout: &Layout, slot: u32, n: u32) -> u64
     requires { HasRoom layout.now machine.old.memory slot n }
-    ensures address { result ≡ with_tag (payload_place (slot_of layout.now slot)) (tag_for layout.now machine.old slot) }
+    ensures address { result
+        ≡ with_tag (payload_place (slot_of layout.now slot)) (tag_for layout.now machine.old slot) }
     ensures machine { let tag = tag_for layout.now machine.old slot in
         let header = given_header (header_in layout.now machine.old.memory slot) n tag in
         let place = slot_of layout.now slot in
@@ -56,7 +57,8 @@ pub(crate) fn resize(machine: &mut Machine, layout: &Layout, slot: u32, n: u32)
     ensures machine { let before = header_in layout.now machine.old.memory slot in
         let place = slot_of layout.now slot in
         machine.new ≡ record machine.old {
-          memory = chunk_tagged place n before.tag (with_header machine.old.memory place.start (record before { size = n }));
+          memory = chunk_tagged place n before.tag
+              (with_header machine.old.memory place.start (record before { size = n }));
         } }
     ensures memory { IsMemory machine.new.memory }
 {

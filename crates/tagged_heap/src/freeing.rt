@@ -58,7 +58,8 @@ impl Heap {
 
     // The live chunk at p, or why there is none.
     pub(crate) fn chunk(&self, p: u64) -> Result<Chunk, FreeError>
-        ensures ok { IfOk result (λ chunk. chunk_at self.now.state p ≡ Ok (record { slot = chunk.slot; size = chunk.size })) }
+        ensures ok { IfOk result
+            (λ chunk. chunk_at self.now.state p ≡ Ok (record { slot = chunk.slot; size = chunk.size })) }
         ensures err { IfErr result (λ error. chunk_at self.now.state p ≡ Err error) }
     {
         let slot = slot_of_pointer(&self.layout, p).ok_or(FreeError::Misplaced)?;

@@ -59,7 +59,8 @@ impl Heap {
         requires seed { config.seed ≢ 0 }
         requires quarantine { config.quarantine ≤ 4194304 }
         ensures state { IfOk result (λ heap.
-            heap.state ≡ first_heap (record { classes = table.now; granules = config.granules }) config.seed config.quarantine) }
+            heap.state
+            ≡ first_heap (record { classes = table.now; granules = config.granules }) config.seed config.quarantine) }
         ensures frees { IfOk result (λ heap. heap.frees ≡ 0) }
     {
         let layout = Layout::new(table, config.granules);

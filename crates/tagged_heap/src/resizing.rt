@@ -93,7 +93,8 @@ impl Heap {
         requires apart { from ≢ to }
         requires source { count + 16 ≤ 16 * (slot_in self.old.state from).class }
         requires target { count + 16 ≤ 16 * (slot_in self.old.state to).class }
-        ensures { self.new ≡ record self.old { state = with_payload self.old.state to (payload_bytes self.old.state from count) } }
+        ensures { self.new
+            ≡ record self.old { state = with_payload self.old.state to (payload_bytes self.old.state from count) } }
     {
         let source = GRANULE_BYTES * (self.layout.start(from) + 1);
         let target = GRANULE_BYTES * (self.layout.start(to) + 1);

@@ -18,7 +18,8 @@ pub(crate) fn take_slot(
     number: usize,
 ) -> Option<u32>
     requires { HasClass layout.now memory.old lists.old firsts.old.items number }
-    ensures takes { Takes layout.now memory.old memory.new lists.old lists.new firsts.old.items firsts.new.items number result }
+    ensures takes { Takes layout.now memory.old memory.new lists.old lists.new firsts.old.items firsts.new.items
+        number result }
     ensures memory { IsMemory memory.new }
 {
     if let Some(slot) = lists.pop(memory, layout, number) {

@@ -37,7 +37,8 @@ use class_table::laws::law_class_for;
 
 /// The waste of a legal table fits 64 bits, for any profile.
 pub fn law_waste_fits()
-    ensures { (step : ℕ) (counts classes : List ℕ) → AreCounts counts → IsLegalTable step classes → waste_of counts classes < 2 ^ 58 }
+    ensures { (step : ℕ) (counts classes : List ℕ) → AreCounts counts → IsLegalTable step classes
+        → waste_of counts classes < 2 ^ 58 }
 {
     law_class_for();
 }

@@ -15,13 +15,17 @@ pub fn law_access()
     ensures unmapped { (memory : List Granule) (address len : ℕ) → (IsMapped (length memory) address len → ⊥) →
         access_fault memory address len ≡ Some Unmapped }
     ensures tag { (memory : List Granule) (address len g memory_tag pointer_tag : ℕ) → 0 < len →
-        (access_fault memory address len ≡ Some (TagCheck g memory_tag pointer_tag)) ↔ IsTagFault memory address len g memory_tag pointer_tag }
-    ensures faults { (memory : List Granule) (address len g : ℕ) → Touches address len g → tag_at memory g ≢ logical_tag address →
+        (access_fault memory address len ≡ Some (TagCheck g memory_tag pointer_tag))
+        ↔ IsTagFault memory address len g memory_tag pointer_tag }
+    ensures faults { (memory : List Granule) (address len g : ℕ) → Touches address len g
+        → tag_at memory g ≢ logical_tag address →
         IsSome (access_fault memory address len) }
     ensures succeeds { (memory : List Granule) (address len : ℕ) → 0 < len → IsMapped (length memory) address len →
-        ((g : ℕ) → Touches address len g → tag_at memory g ≡ logical_tag address) → access_fault memory address len ≡ None }
+        ((g : ℕ) → Touches address len g → tag_at memory g ≡ logical_tag address)
+        → access_fault memory address len ≡ None }
 
     // the result of an access depends on the length of the memory and its tags, and on no byte
     ensures by_tags { (memory other : List Granule) (address len : ℕ) → length other ≡ length memory →
-        ((g : ℕ) → tag_at other g ≡ tag_at memory g) → access_fault other address len ≡ access_fault memory address len }
+        ((g : ℕ) → tag_at other g ≡ tag_at memory g)
+        → access_fault other address len ≡ access_fault memory address len }
 {}

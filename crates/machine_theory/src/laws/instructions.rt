@@ -8,7 +8,8 @@ ghost use Rattle.std.specs.Prelude.{◌≡◌, ◌≢◌, ◌+◌, ◌*◌, ◌%
 
 /// IRG, ADDG and SUBG never give tag 0, IRG unless all other tags are excluded.
 pub fn law_never_zero()
-    ensures drawn { (tag seed exclude other : ℕ) → tag < 16 → 0 < other → other < 16 → IsFalse (is_excluded exclude other) →
+    ensures drawn { (tag seed exclude other : ℕ) → tag < 16 → 0 < other → other < 16
+        → IsFalse (is_excluded exclude other) →
         drawn_tag tag seed exclude ≢ 0 }
     ensures addg { (xn u6 u4 : ℕ) → logical_tag (addg xn u6 u4) ≢ 0 }
     ensures subg { (xn u6 u4 : ℕ) → logical_tag (subg xn u6 u4) ≢ 0 }
@@ -16,12 +17,15 @@ pub fn law_never_zero()
 
 /// When LDG and the three stores fault: a store first for its alignment, then if its granules are not all mapped.
 pub fn law_refusals()
-    ensures alignment { (memory : List Granule) (count xn : ℕ) → xn % 16 ≢ 0 → tag_store_fault memory count xn ≡ Some Alignment }
-    ensures unmapped { (memory : List Granule) (count xn : ℕ) → xn % 16 ≡ 0 → (IsMapped (length memory) xn (16 * count) → ⊥) →
+    ensures alignment { (memory : List Granule) (count xn : ℕ) → xn % 16 ≢ 0
+        → tag_store_fault memory count xn ≡ Some Alignment }
+    ensures unmapped { (memory : List Granule) (count xn : ℕ) → xn % 16 ≡ 0
+        → (IsMapped (length memory) xn (16 * count) → ⊥) →
         tag_store_fault memory count xn ≡ Some Unmapped }
     ensures succeeds { (memory : List Granule) (count xn : ℕ) → xn % 16 ≡ 0 → IsMapped (length memory) xn (16 * count) →
         tag_store_fault memory count xn ≡ None }
-    ensures ldg_unmapped { (memory : List Granule) (xt xn : ℕ) → (IsMapped (length memory) (aligned xn) 16 → ⊥) → ldg memory xt xn ≡ Err Unmapped }
+    ensures ldg_unmapped { (memory : List Granule) (xt xn : ℕ) → (IsMapped (length memory) (aligned xn) 16 → ⊥)
+        → ldg memory xt xn ≡ Err Unmapped }
     ensures ldg_succeeds { (memory : List Granule) (xt xn : ℕ) → IsMapped (length memory) (aligned xn) 16 →
         ldg memory xt xn ≡ Ok (with_tag xt (tag_at memory (granule_of (place_of xn)))) }
 {}

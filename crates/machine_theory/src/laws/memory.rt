@@ -4,11 +4,13 @@ ghost use Rattle.std.specs.Prelude.{◌≡◌, ◌⊎◌, ◌+◌, ◌*◌, ◌+
 
 /// What a change of each granule makes of a memory. Two changes may be made in either order if they may at each granule.
 pub fn law_each_granule()
-    ensures len { (change : ℕ → Granule → Granule) (memory : List Granule) → length (each_granule change memory) ≡ length memory }
+    ensures len { (change : ℕ → Granule → Granule) (memory : List Granule)
+        → length (each_granule change memory) ≡ length memory }
     ensures granule { (change : ℕ → Granule → Granule) (memory : List Granule) (g : ℕ) → g < length memory →
         granule_at (each_granule change memory) g ≡ change g (granule_at memory g) }
     ensures agreeing { (change : ℕ → Granule → Granule) (memory new : List Granule) → length new ≡ length memory →
-        ((g : ℕ) → g < length memory → granule_at new g ≡ change g (granule_at memory g)) → new ≡ each_granule change memory }
+        ((g : ℕ) → g < length memory → granule_at new g ≡ change g (granule_at memory g))
+        → new ≡ each_granule change memory }
     ensures in_either_order { (one other : ℕ → Granule → Granule) (memory : List Granule) →
         ((g : ℕ) (granule : Granule) → one g (other g granule) ≡ other g (one g granule)) →
         each_granule one (each_granule other memory) ≡ each_granule other (each_granule one memory) }
@@ -27,13 +29,16 @@ pub fn law_changes()
 
 /// What is read after a change: the tags and bytes that were written, and all others unchanged.
 pub fn law_reads()
-    ensures written_tag { (first count tag g : ℕ) (memory : List Granule) → first ≤ g → g < first + count → g < length memory →
+    ensures written_tag { (first count tag g : ℕ) (memory : List Granule) → first ≤ g → g < first + count
+        → g < length memory →
         tag_at (tagged first count tag memory) g ≡ tag }
     ensures other_tag { (first count tag g : ℕ) (memory : List Granule) → (g < first) ⊎ (first + count ≤ g) →
         tag_at (tagged first count tag memory) g ≡ tag_at memory g }
-    ensures tag_under_bytes { (i g : ℕ) (new : List ℕ) (memory : List Granule) → tag_at (written i new memory) g ≡ tag_at memory g }
+    ensures tag_under_bytes { (i g : ℕ) (new : List ℕ) (memory : List Granule)
+        → tag_at (written i new memory) g ≡ tag_at memory g }
 
-    ensures written_bytes { (i : ℕ) (new : List ℕ) (memory : List Granule) → IsMemory memory → i + length new ≤ 16 * length memory →
+    ensures written_bytes { (i : ℕ) (new : List ℕ) (memory : List Granule) → IsMemory memory
+        → i + length new ≤ 16 * length memory →
         bytes_at (written i new memory) i (length new) ≡ new }
     ensures other_bytes { (i j len : ℕ) (new : List ℕ) (memory : List Granule) → (j + len ≤ i) ⊎ (i + length new ≤ j) →
         bytes_at (written i new memory) j len ≡ bytes_at memory j len }
@@ -47,8 +52,12 @@ pub fn law_reads()
 /// After a change a memory is still a memory, with as many granules.
 pub fn law_memory()
     ensures new { (granules : ℕ) → 64 ≤ granules → granules ≤ 262144 → IsMemory (replicate granules new_granule) }
-    ensures tagged { (first count tag : ℕ) (memory : List Granule) → tag < 16 → IsMemory memory → IsMemory (tagged first count tag memory) }
-    ensures written { (i : ℕ) (new : List ℕ) (memory : List Granule) → All (λ b. b < 256) new → IsMemory memory → IsMemory (written i new memory) }
-    ensures tagged_length { (first count tag : ℕ) (memory : List Granule) → length (tagged first count tag memory) ≡ length memory }
-    ensures written_length { (i : ℕ) (new : List ℕ) (memory : List Granule) → length (written i new memory) ≡ length memory }
+    ensures tagged { (first count tag : ℕ) (memory : List Granule) → tag < 16 → IsMemory memory
+        → IsMemory (tagged first count tag memory) }
+    ensures written { (i : ℕ) (new : List ℕ) (memory : List Granule) → All (λ b. b < 256) new → IsMemory memory
+        → IsMemory (written i new memory) }
+    ensures tagged_length { (first count tag : ℕ) (memory : List Granule)
+        → length (tagged first count tag memory) ≡ length memory }
+    ensures written_length { (i : ℕ) (new : List ℕ) (memory : List Granule)
+        → length (written i new memory) ≡ length memory }
 {}

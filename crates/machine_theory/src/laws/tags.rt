@@ -18,7 +18,8 @@ pub fn law_parity()
     ensures odd { (tag seed last : ℕ) → tag < 16 →
         let drawn = drawn_tag tag seed (bit_or 0x5555 (2 ^ last)) in (drawn < 16) × (drawn % 2 ≡ 1) × (drawn ≢ last) }
     ensures even { (tag seed last : ℕ) → tag < 16 →
-        let drawn = drawn_tag tag seed (bit_or 0xAAAB (2 ^ last)) in (drawn < 16) × (drawn % 2 ≡ 0) × (0 < drawn) × (drawn ≢ last) }
+        let drawn = drawn_tag tag seed (bit_or 0xAAAB (2 ^ last)) in
+        (drawn < 16) × (drawn % 2 ≡ 0) × (0 < drawn) × (drawn ≢ last) }
 {}
 
 /// Steps from tag to tag, each one up modulo 16 and then on while the tag is excluded, choose the same tag, as in the Arm ARM's
@@ -31,7 +32,8 @@ pub fn law_steps()
         next_allowed exclude tag ≡ next_allowed exclude ((tag + 1) % 16) }
 
     // no step, unless the tag is excluded
-    ensures zero_free { (tag exclude : ℕ) → tag < 16 → IsFalse (is_excluded exclude tag) → choose_tag tag 0 exclude ≡ tag }
+    ensures zero_free { (tag exclude : ℕ) → tag < 16 → IsFalse (is_excluded exclude tag)
+        → choose_tag tag 0 exclude ≡ tag }
     ensures zero_excluded { (tag exclude : ℕ) → IsTrue (is_excluded exclude tag) →
         choose_tag tag 0 exclude ≡ next_allowed exclude tag }
 
