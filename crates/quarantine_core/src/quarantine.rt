@@ -78,9 +78,11 @@ impl Quarantine {
         ensures first { self.old.back ≡ 0 → memory.new ≡ memory.old }
         ensures after { (last : ℕ) → self.old.back ≡ suc last
             → SetsLink layout.now memory.old memory.new last (suc slot) }
-        ensures lists { (front : ℕ) (list : List ℕ) → ((s : ℕ) → Contains list s → s < slot_count layout.now)
-            → ((s : ℕ) → Contains list s → self.old.back ≢ suc s) →
-            IsLinked (next_in layout.now memory.old) front list → IsLinked (next_in layout.now memory.new) front list }
+        ensures lists { (front : ℕ) (list : List ℕ)
+            → ((s : ℕ) → Contains list s → s < slot_count layout.now)
+            → ((s : ℕ) → Contains list s → self.old.back ≢ suc s)
+            → IsLinked (next_in layout.now memory.old) front list
+            → IsLinked (next_in layout.now memory.new) front list }
         ensures region { length memory.new ≡ layout.now.granules }
     {
         blocks_are_few(layout);
