@@ -1,9 +1,8 @@
 //! Headers in the granules of a memory.
-ghost use Rattle.chunk_header.specs.Seen.{seen, with_next};
-ghost use Rattle.granule_memory.specs.Changes.{ChangesOnlyBytes};
-ghost use Rattle.heap_theory.specs.Header.{header_at, with_header};
-ghost use Rattle.machine_theory.specs.Memory.{IsMemory};
-ghost use Rattle.std.specs.Prelude.{◌≡◌, ◌≢◌, ◌↔◌, ◌+◌, ◌*◌, ◌<◌, ◌^◌, length, IsTrue, ℕ};
+ghost use Rattle.chunk_header.specs.Seen.{seen};
+ghost use Rattle.chunk_header.specs.Written.{WritesHeader};
+ghost use Rattle.heap_theory.specs.Header.{header_at};
+ghost use Rattle.std.specs.Prelude.{◌≡◌, ◌↔◌, ◌<◌, ◌^◌, length, IsTrue};
 
 use crate::header::Header;
 use crate::words::{class_of, first_word, header_of, next_of, with_next_in};
@@ -40,11 +39,7 @@ pub fn write(memory: &mut Memory, granule: u32, header: &Header)
     requires size { header.now.size < 2 ^ 14 }
     requires tag { header.now.tag < 16 }
     requires class { header.now.class < 32 }
-    ensures written { memory.new ≡ with_header memory.old granule (seen header.now) }
-    ensures read { header_at memory.new granule ≡ seen header.now }
-    ensures headers { (g : ℕ) → g ≢ granule → header_at memory.new g ≡ header_at memory.old g }
-    ensures others { ChangesOnlyBytes memory.old memory.new (16 * granule) (16 * granule + 16) }
-    ensures memory { IsMemory memory.new }
+    ensures { WritesHeader memory.old memory.new granule 16 (seen header.now) }
 {
     memory.set_word(granule, 0, first_word(header));
     memory.set_word(granule, 1, header.mark);
@@ -63,11 +58,8 @@ pub(crate) fn next(memory: &Memory, granule: u32) -> u32
 /// stay the same.
 pub(crate) fn set_next(memory: &mut Memory, granule: u32, next: u32)
     requires { granule < length memory.old }
-    ensures written { memory.new ≡ with_next memory.old granule next }
-    ensures read { header_at memory.new granule ≡ record (header_at memory.old granule) { next = next } }
-    ensures headers { (g : ℕ) → g ≢ granule → header_at memory.new g ≡ header_at memory.old g }
-    ensures others { ChangesOnlyBytes memory.old memory.new (16 * granule) (16 * granule + 8) }
-    ensures memory { IsMemory memory.new }
+    ensures { let before = header_at memory.old granule in
+        WritesHeader memory.old memory.new granule 8 (record before { next = next }) }
 {
     let word = with_next_in(memory.word(granule, 0), next);
     memory.set_word(granule, 0, word);

@@ -66,3 +66,11 @@ OtherFieldsKeepLists =
     (layout : Partition) (memory : List Granule) (front g : ℕ) (header : Header) (list : List ℕ) → IsMemory memory →
     g < length memory → FitsWords header → header.next ≡ (header_at memory g).next → ShowsList layout memory front list →
     ShowsList layout (with_header memory g header) front list
+
+-- A list stays the same under each of these changes.
+pub record ChangesKeepLists : Type 0 where
+  pub links : ListStays
+  pub tags : TagsKeepLists
+  pub bytes : OtherBytesKeepLists
+  pub headers : OtherHeadersKeepLists
+  pub fields : OtherFieldsKeepLists

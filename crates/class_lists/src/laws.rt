@@ -1,15 +1,11 @@
 //! What keeps a list, as the contract of a function that does nothing.
 ghost use Rattle.class_lists.specs.Laws.{
+  ChangesKeepLists,
   EachSlotIsOnce,
   EndIsEmptyList,
   FrontIsInLayout,
   ListIsOne,
   ListIsShort,
-  ListStays,
-  OtherBytesKeepLists,
-  OtherFieldsKeepLists,
-  OtherHeadersKeepLists,
-  TagsKeepLists,
 };
 
 use heap_theory::laws::headers::{law_header, law_links, law_links_in_headers};
@@ -22,11 +18,7 @@ pub fn law_lists()
     ensures once { EachSlotIsOnce }
     ensures short { ListIsShort }
     ensures front { FrontIsInLayout }
-    ensures links { ListStays }
-    ensures tags { TagsKeepLists }
-    ensures bytes { OtherBytesKeepLists }
-    ensures headers { OtherHeadersKeepLists }
-    ensures fields { OtherFieldsKeepLists }
+    ensures stays { ChangesKeepLists }
 {
     law_header();
     law_links();

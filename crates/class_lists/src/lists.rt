@@ -1,10 +1,8 @@
-ghost use Rattle.chunk_header.specs.Seen.{with_next};
-ghost use Rattle.class_lists.specs.Lists.{ShowsList};
-ghost use Rattle.class_table.specs.Layout.{slot_count, slot_of};
-ghost use Rattle.granule_memory.specs.Changes.{ChangesOnlyBytes};
-ghost use Rattle.heap_theory.specs.Links.{next_in};
-ghost use Rattle.machine_theory.specs.Memory.{IsMemory, Granule};
-ghost use Rattle.std.specs.Prelude.{◌≡◌, ◌+◌, ◌*◌, ◌<◌, ◌≤◌, ℕ, List, [], ◌∷◌, length, drop, replicate, slice_get, slice_index, slice_set, Contains, IfNone, IfSome};
+ghost use Rattle.chunk_header.specs.Links.{SetsLink};
+ghost use Rattle.class_lists.specs.Lists.{ShowsList, TakesFirst};
+ghost use Rattle.class_table.specs.Layout.{slot_count};
+ghost use Rattle.machine_theory.specs.Memory.{Granule};
+ghost use Rattle.std.specs.Prelude.{◌≡◌, ◌+◌, ◌<◌, ◌≤◌, ℕ, List, [], ◌∷◌, length, drop, replicate, slice_get, slice_index, slice_set, Contains, IfNone, IfSome};
 
 use arrayvec::ArrayVec;
 use chunk_header::{set_link, unlink};
@@ -50,15 +48,11 @@ impl ClassLists {
         requires slot { slot < slot_count layout.now }
         requires granules { length memory.old ≡ layout.now.granules }
         ensures front { self.new ≡ slice_set self.old class (slot + 1) }
-        ensures link { memory.new ≡ with_next memory.old (slot_of layout.now slot).start (slice_index self.old class) }
-        ensures linked { next_in layout.now memory.new slot ≡ slice_index self.old class }
+        ensures link { SetsLink layout.now memory.old memory.new slot (slice_index self.old class) }
         ensures pushed { (list : List ℕ) → ShowsList layout.now memory.old (slice_index self.old class) list →
             (Contains list slot → ⊥) → ShowsList layout.now memory.new (slot + 1) (slot ∷ list) }
         ensures others { (front : ℕ) (list : List ℕ) → ShowsList layout.now memory.old front list →
             (Contains list slot → ⊥) → ShowsList layout.now memory.new front list }
-        ensures bytes { let start = (slot_of layout.now slot).start in
-            ChangesOnlyBytes memory.old memory.new (16 * start) (16 * start + 8) }
-        ensures memory { IsMemory memory.new }
     {
         prove!(slot < layout.slots());
         set_link(memory, layout, slot, self.front(class));
@@ -72,22 +66,13 @@ impl ClassLists {
         requires front { slice_index self.old class ≤ slot_count layout.now }
         requires granules { length memory.old ≡ layout.now.granules }
         ensures none { IfNone result (slice_index self.old class ≡ 0) }
-        ensures some { IfSome result (λ slot. slice_index self.old class ≡ slot + 1) }
-        ensures same_fronts { IfNone result (self.new ≡ self.old) }
-        ensures same_memory { IfNone result (memory.new ≡ memory.old) }
-        ensures front { IfSome result
-            (λ slot. self.new ≡ slice_set self.old class (next_in layout.now memory.old slot)) }
-        ensures link { IfSome result (λ slot. memory.new ≡ with_next memory.old (slot_of layout.now slot).start 0) }
-        ensures unlinked { IfSome result (λ slot. next_in layout.now memory.new slot ≡ 0) }
-        ensures first { (list : List ℕ) → ShowsList layout.now memory.old (slice_index self.old class) list
-            → result ≡ slice_get list 0 }
-        ensures rest { (list : List ℕ) → ShowsList layout.now memory.old (slice_index self.old class) list →
-            ShowsList layout.now memory.new (slice_index self.new class) (drop 1 list) }
+        ensures same { IfNone result ((self.new ≡ self.old) × (memory.new ≡ memory.old)) }
+        ensures taken { IfSome result
+            (λ slot. TakesFirst layout.now memory.old memory.new self.old self.new class slot) }
+        ensures popped { (list : List ℕ) → ShowsList layout.now memory.old (slice_index self.old class) list
+            → (result ≡ slice_get list 0) × ShowsList layout.now memory.new (slice_index self.new class) (drop 1 list) }
         ensures others { (front : ℕ) (list : List ℕ) → ShowsList layout.now memory.old front list →
             IfSome result (λ slot. Contains list slot → ⊥) → ShowsList layout.now memory.new front list }
-        ensures bytes { IfSome result (λ slot. let start = (slot_of layout.now slot).start in
-            ChangesOnlyBytes memory.old memory.new (16 * start) (16 * start + 8)) }
-        ensures memory { IfSome result (λ slot. IsMemory memory.new) }
     {
         let front = self.front(class);
         if front == 0 {

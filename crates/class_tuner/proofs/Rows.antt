@@ -41,12 +41,12 @@ shape-one row d len = shape-pushed [] row 0 d (record { row_count = refl; row_le
 -- ---- one row
 
 -- at place i, `number` is the least cost, and `end` has it, where the row before has the numbers `before`
-record IsLeastAt (cost : ℕ → ℕ → ℕ) (d : ℕ) (before : ℕ → ℕ) (i number end : ℕ) : Type 0 where
+record IsLeastOver (cost : ℕ → ℕ → ℕ) (d : ℕ) (before : ℕ → ℕ) (i number end : ℕ) : Type 0 where
   least : IsLeastEnd (λ j. cost i j + before j) i d end
   is : number ≡ cost i end + before end
 
 least-same : (cost : ℕ → ℕ → ℕ) (d : ℕ) (before before' : ℕ → ℕ) (i number number' end end' : ℕ)
-    → ((j : ℕ) → before' j ≡ before j) → number' ≡ number → end' ≡ end → IsLeastAt cost d before i number end → IsLeastAt cost d before' i number' end'
+    → ((j : ℕ) → before' j ≡ before j) → number' ≡ number → end' ≡ end → IsLeastOver cost d before i number end → IsLeastOver cost d before' i number' end'
 least-same cost d before before' i number number' end end' same same_number same_end l =
     rw (same_number, same_end) (record {
       least = record {
@@ -89,7 +89,7 @@ filled-more cost d k rows ends row end one f row_len end_len within = record {
 }
   where
     later : (m i : ℕ) → 1 ≤ m → m < suc k → i < d
-        → IsLeastAt cost d (number_at (rows ++ row ∷ []) m) i (number_at (rows ++ row ∷ []) (suc m) i) (number_at (ends ++ end ∷ []) (suc m) i)
+        → IsLeastOver cost d (number_at (rows ++ row ∷ []) m) i (number_at (rows ++ row ∷ []) (suc m) i) (number_at (ends ++ end ∷ []) (suc m) i)
     later m i some few lt =
         let before : (j : ℕ) → number_at (rows ++ row ∷ []) m j ≡ number_at rows m j = (λ j. number_at-old rows row m j some (omega (arith, f.rows_shape.row_count))) in
         elim (cases_lt m k) [
@@ -103,7 +103,7 @@ filled-more cost d k rows ends row end one f row_len end_len within = record {
               let at_last : (j : ℕ) → number_at (rows ++ row ∷ []) m j ≡ slice_index (slice_index_or rows (k - 1) []) j = (λ j. before j ∙ ap (λ n. number_at rows n j) last) in
               least-same cost d (slice_index (slice_index_or rows (k - 1) [])) (number_at (rows ++ row ∷ []) m) i _ _ _ _ at_last
               (number_at-new rows row m i (omega (arith, f.rows_shape.row_count))) (number_at-new ends end m i (omega (arith, f.ends_shape.row_count)))
-              (record { least = new.0; is = new.1 }))
+              (record { least = new.least; is = new.number_is }))
         ]
 
 -- no number is above the largest cost of a span to the last place

@@ -1,6 +1,9 @@
 -- Rows that are filled in part, and the number of calls of a source for them.
-use Rattle.std.specs.Prelude.{◌≡◌, ℕ, zero, suc, ◌+◌, ◌-◌, ◌*◌, ◌/◌, ◌<◌, ◌≤◌, max, ◌⊎◌, nat_lt, if◌then◌else◌, List, length, slice_index}
+use Rattle.std.specs.Prelude.{◌≡◌, ℕ, zero, suc, ◌+◌, ◌-◌, ◌*◌, ◌/◌, ◌^◌, ◌<◌, ◌≤◌, max, ◌⊎◌, nat_lt, if◌then◌else◌, List, length, slice_index}
 use Rattle.std.specs.Int.Digits.{digits_of}
+use Rattle.std.specs.declared.ops.Range.{Range}
+use Rattle.class_tuner.specs.declared.filling.Row.{Row}
+use Rattle.class_tuner.specs.declared.halving.Window.{Window}
 use Rattle.tuner_theory.specs.Rows.{IsLeastEnd}
 
 -- How many binary digits a number has.
@@ -41,17 +44,66 @@ calls_of ends d (suc (suc k)) = calls_of ends d (suc k) + tried_in_row (ends (su
 abbrev pub end_cost : (ℕ → ℕ → ℕ) → List ℕ → ℕ → ℕ → ℕ
 end_cost cost before i j = cost i j + slice_index before j
 
--- From place start up to stop, the row has the least costs, and `ends` their least ends.
-abbrev pub IsFilledWithin : (ℕ → ℕ → ℕ) → ℕ → List ℕ → List ℕ → List ℕ → ℕ → ℕ → Type 0
-IsFilledWithin cost d before row ends start stop =
-    (i : ℕ) → start ≤ i → i < stop
-    → IsLeastEnd (end_cost cost before i) i d (slice_index ends i) × (slice_index row i ≡ end_cost cost before i (slice_index ends i))
+-- ---- what a later row is filled from
+
+-- A row of d places, whose numbers are small enough to add a cost to them.
+pub record IsSmallRow (d : ℕ) (row : List ℕ) : Type 0 where
+  pub few : d ≤ 1023
+  pub length : length row ≡ d
+  pub small : (j : ℕ) → slice_index row j ≤ 2 ^ 60
+
+-- A part of the places of a row and of its ends, which both have d places, and a window of ends for this part.
+pub record IsPart (d : ℕ) (row ends : List ℕ) (part : Range ℕ) (window : Window) : Type 0 where
+  pub row_length : length row ≡ d
+  pub ends_length : length ends ≡ d
+  pub order : part.start ≤ part.end
+  pub after : part.end ≤ window.high
+  pub some : window.low ≤ window.high
+  pub within : window.high ≤ d
 
 -- The least end of each place from start up to stop is between low and high.
 abbrev pub AreEndsBetween : (ℕ → ℕ → ℕ) → ℕ → List ℕ → ℕ → ℕ → ℕ → ℕ → Type 0
 AreEndsBetween cost d before start stop low high =
     (i e : ℕ) → start ≤ i → i < stop → IsLeastEnd (end_cost cost before i) i d e → (low ≤ e) × (e ≤ high)
 
+-- ---- what is filled
+
+-- `end` is the least end of place i, and `number` its cost.
+pub record IsLeastAt (cost : ℕ → ℕ → ℕ) (d : ℕ) (before : List ℕ) (i number end : ℕ) : Type 0 where
+  pub least : IsLeastEnd (end_cost cost before i) i d end
+  pub number_is : number ≡ end_cost cost before i end
+
+-- From place start up to stop, the row has the least costs, and `ends` their least ends.
+abbrev pub IsFilledWithin : (ℕ → ℕ → ℕ) → ℕ → List ℕ → List ℕ → List ℕ → ℕ → ℕ → Type 0
+IsFilledWithin cost d before row ends start stop =
+    (i : ℕ) → start ≤ i → i < stop → IsLeastAt cost d before i (slice_index row i) (slice_index ends i)
+
 -- Before start and from stop on nothing is changed.
 abbrev pub IsKeptOutside : List ℕ → List ℕ → ℕ → ℕ → Type 0
 IsKeptOutside old new start stop = (i : ℕ) → (i < start) ⊎ (stop ≤ i) → slice_index new i ≡ slice_index old i
+
+-- A row and its ends are kept at the places outside of a part.
+pub record KeepsOutside (row row' ends ends' : List ℕ) (part : Range ℕ) : Type 0 where
+  pub row_kept : IsKeptOutside row row' part.start part.end
+  pub ends_kept : IsKeptOutside ends ends' part.start part.end
+
+-- A source's count of calls before and after a part is filled. If b halvings leave no place, it rises by the ends that are tried in
+-- them, which are at most one for each step of the window in each halving, and one for each place. It rises by at most 1,024 a place.
+pub record AreCallsForPart (old new : ℕ) (ends : List ℕ) (part : Range ℕ) (window : Window) : Type 0 where
+  pub exact : (b : ℕ) → part.end - part.start < 2 ^ b
+      → new ≡ old + tried_within (slice_index ends) b part.start part.end window.low window.high
+  pub counted : (b : ℕ) → part.end - part.start < 2 ^ b → new ≤ old + (window.high - window.low) * b + (part.end - part.start)
+  pub most : new ≤ old + 1024 * (part.end - part.start)
+
+-- The row of one span: it goes from each of the d places to the last one.
+pub record IsFirstRow (cost : ℕ → ℕ → ℕ) (d : ℕ) (row : Row) : Type 0 where
+  pub costs_length : length row.costs.items ≡ d
+  pub ends_length : length row.ends.items ≡ d
+  pub costs : (i : ℕ) → i < d → slice_index row.costs.items i ≡ cost i d
+  pub ends : (i : ℕ) → i < d → slice_index row.ends.items i ≡ d
+
+-- The row of one span more than the row `before`: at each of the d places the least cost and its least end.
+pub record IsNextRow (cost : ℕ → ℕ → ℕ) (d : ℕ) (before : List ℕ) (row : Row) : Type 0 where
+  pub costs_length : length row.costs.items ≡ d
+  pub ends_length : length row.ends.items ≡ d
+  pub filled : IsFilledWithin cost d before row.costs.items row.ends.items 0 d

@@ -1,4 +1,5 @@
 pub mod Filling
 pub mod Laws
+pub mod Sources
 pub mod Tuned
 pub mod Windows

@@ -1,6 +1,6 @@
 ghost use Rattle.std.specs.Prelude.{◌≡◌, ℕ, ◌+◌, ◌-◌, ◌^◌, ◌<◌, ◌≤◌, length, slice_index};
 ghost use Rattle.class_tuner.specs.Filling.{end_cost};
-ghost use Rattle.class_tuner.specs.Windows.{IsLeastWithin};
+ghost use Rattle.class_tuner.specs.Windows.{IsLeastWithin, IsWindowAfter};
 ghost use Rattle.tuner_theory.specs.Spans.{IsCrossing};
 
 /// A source of the costs of spans, which counts its calls. A span goes from a place to a later one. Places are counted from 1, and place 0
@@ -39,9 +39,7 @@ pub trait CostSource {
     /// span to it plus the number of `before` at it, which must be at most 2^60; after the last number of `before` it is 0. Each of these
     /// ends counts as one call of `at`. Nothing else changes.
     fn least_end(&mut self, before: &[u64], place: usize, low: usize, high: usize) -> (u64, usize)
-        requires after { place < low }
-        requires some { low ≤ high }
-        requires within { high ≤ place_count self.old }
+        requires window { IsWindowAfter place low high (place_count self.old) }
         requires covered { high ≤ length before.now }
         requires small { (j : ℕ) → slice_index before.now j ≤ 2 ^ 60 }
         requires room { call_count self.old + (high - low) < 2 ^ 63 }
@@ -77,20 +75,6 @@ pub trait CostSource {
     ghost keeps_last: { (s : Self) (m n : ℕ) → with_calls (with_calls s m) n ≡ with_calls s n };
 
     ghost keeps_all: { (s : Self) → with_calls s (call_count s) ≡ s };
-}
-
-// The cost of the span from i to j, by one call of the source. Its clauses also say what stays the same, for callers that ask often.
-pub(crate) fn ask<C: CostSource>(costs: &mut C, i: usize, j: usize) -> u64
-    requires order { i < j }
-    requires within { j ≤ C.place_count costs.old }
-    requires room { C.call_count costs.old < 2 ^ 63 }
-    ensures cost { result ≡ C.cost costs.old i j }
-    ensures counted { C.call_count costs.new ≡ C.call_count costs.old + 1 }
-    ensures kept { costs.new ≡ C.with_calls costs.old (C.call_count costs.new) }
-    ensures same_cost { C.cost costs.new ≡ C.cost costs.old }
-    ensures same_places { C.place_count costs.new ≡ C.place_count costs.old }
-{
-    costs.at(i, j)
 }
 
 // the number of a row at a place, and 0 past its end

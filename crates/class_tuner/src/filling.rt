@@ -1,9 +1,10 @@
-ghost use Rattle.std.specs.Prelude.{◌≡◌, ℕ, ◌+◌, ◌-◌, ◌*◌, ◌^◌, ◌<◌, ◌≤◌, [], ◌∷◌, ◌++◌, length, slice_index, IfOk, OnOk};
-ghost use Rattle.class_tuner.specs.Filling.{IsFilledWithin, bits, calls_of, most_calls, tried_in_row};
+ghost use Rattle.std.specs.Prelude.{◌≡◌, ◌+◌, ◌-◌, ◌*◌, ◌^◌, ◌<◌, ◌≤◌, [], ◌∷◌, ◌++◌, slice_index, IfOk, OnOk};
+ghost use Rattle.class_tuner.specs.Filling.{IsFirstRow, IsNextRow, IsSmallRow, bits, calls_of, most_calls, tried_in_row};
+ghost use Rattle.class_tuner.specs.Sources.{OnlyCounts};
 ghost use Rattle.potential_check.specs.Lists.{lists_of};
 ghost use Rattle.tuner_theory.specs.Rows.{IsFilled, number_at};
 
-use crate::cost_source::{CostSource, ask};
+use crate::cost_source::CostSource;
 use crate::halving::{Window, fill_part};
 use std::alloc::{AllocError, Global};
 
@@ -76,17 +77,10 @@ pub fn fill_rows<C: CostSource>(
 fn first_row<C: CostSource>(alloc: Global, costs: &mut C) -> Result<Row, AllocError>
     requires few { C.place_count costs.old ≤ 1023 }
     requires room { C.call_count costs.old + C.place_count costs.old ≤ 2 ^ 63 }
-    ensures costs { let d = C.place_count costs.old in IfOk result
-        (λ r. (i : ℕ) → i < d → slice_index r.costs.items i ≡ C.cost costs.old i d) }
-    ensures ends { let d = C.place_count costs.old in IfOk result
-        (λ r. (i : ℕ) → i < d → slice_index r.ends.items i ≡ d) }
-    ensures costs_length { IfOk result (λ r. length r.costs.items ≡ C.place_count costs.old) }
-    ensures ends_length { IfOk result (λ r. length r.ends.items ≡ C.place_count costs.old) }
+    ensures first { IfOk result (IsFirstRow (C.cost costs.old) (C.place_count costs.old)) }
     ensures counted { C.call_count costs.new ≤ C.call_count costs.old + C.place_count costs.old }
-    ensures exact { IfOk result (λ r. C.call_count costs.new ≡ C.call_count costs.old + C.place_count costs.old) }
-    ensures kept { costs.new ≡ C.with_calls costs.old (C.call_count costs.new) }
-    ensures same_cost { C.cost costs.new ≡ C.cost costs.old }
-    ensures same_places { C.place_count costs.new ≡ C.place_count costs.old }
+    ensures exact { OnOk result (C.call_count costs.new ≡ C.call_count costs.old + C.place_count costs.old) }
+    ensures only_counts { OnlyCounts C.CostSource costs.old costs.new }
 {
     let places = costs.places();
     let mut row = Vec::new(alloc);
@@ -97,23 +91,28 @@ fn first_row<C: CostSource>(alloc: Global, costs: &mut C) -> Result<Row, AllocEr
     Ok(Row { costs: row, ends })
 }
 
+// The cost of the span from i to j, by one call of the source. Its clauses also say what stays the same, for callers that ask often.
+fn ask<C: CostSource>(costs: &mut C, i: usize, j: usize) -> u64
+    requires order { i < j }
+    requires within { j ≤ C.place_count costs.old }
+    requires room { C.call_count costs.old < 2 ^ 63 }
+    ensures cost { result ≡ C.cost costs.old i j }
+    ensures counted { C.call_count costs.new ≡ C.call_count costs.old + 1 }
+    ensures only_counts { OnlyCounts C.CostSource costs.old costs.new }
+{
+    costs.at(i, j)
+}
+
 // the row after another one
 fn next_row<C: CostSource>(alloc: Global, costs: &mut C, before: &[u64]) -> Result<Row, AllocError>
-    requires few { C.place_count costs.old ≤ 1023 }
-    requires before_length { length before.now ≡ C.place_count costs.old }
-    requires small { (j : ℕ) → slice_index before.now j ≤ 2 ^ 60 }
+    requires before { IsSmallRow (C.place_count costs.old) before.now }
     requires room { C.call_count costs.old + 1024 * C.place_count costs.old ≤ 2 ^ 63 }
-    ensures filled { let d = C.place_count costs.old in
-        IfOk result (λ r. IsFilledWithin (C.cost costs.old) d before.now r.costs.items r.ends.items 0 d) }
-    ensures costs_length { IfOk result (λ r. length r.costs.items ≡ C.place_count costs.old) }
-    ensures ends_length { IfOk result (λ r. length r.ends.items ≡ C.place_count costs.old) }
+    ensures next { IfOk result (IsNextRow (C.cost costs.old) (C.place_count costs.old) before.now) }
     ensures counted { let d = C.place_count costs.old in
         C.call_count costs.new ≤ C.call_count costs.old + ((d - 1) * bits d + d) }
-    ensures exact { let d = C.place_count costs.old in
-        IfOk result (λ r. C.call_count costs.new ≡ C.call_count costs.old + tried_in_row (slice_index r.ends.items) d) }
-    ensures kept { costs.new ≡ C.with_calls costs.old (C.call_count costs.new) }
-    ensures same_cost { C.cost costs.new ≡ C.cost costs.old }
-    ensures same_places { C.place_count costs.new ≡ C.place_count costs.old }
+    ensures exact { let d = C.place_count costs.old in let calls = C.call_count costs.old in
+        IfOk result (λ row. C.call_count costs.new ≡ calls + tried_in_row (slice_index row.ends.items) d) }
+    ensures only_counts { OnlyCounts C.CostSource costs.old costs.new }
 {
     let places = costs.places();
     let mut row = vec![in alloc; 0u64; places]?;

@@ -1,7 +1,9 @@
 //! One row by halving: the middle place first, then the places on either side of it, each with the ends on their side of its least end.
 //! If spans cross, a later place has no earlier least end, so no end is tried in vain on both sides.
-ghost use Rattle.std.specs.Prelude.{◌≡◌, ℕ, ◌+◌, ◌-◌, ◌*◌, ◌^◌, ◌<◌, ◌≤◌, length, slice_index};
-ghost use Rattle.class_tuner.specs.Filling.{AreEndsBetween, IsFilledWithin, IsKeptOutside, end_cost, tried_within};
+ghost use Rattle.std.specs.Prelude.{◌≡◌, ℕ, ◌+◌, ◌-◌, ◌*◌, ◌^◌, ◌≤◌};
+ghost use Rattle.class_tuner.specs.Filling.{AreCallsForPart, AreEndsBetween, IsFilledWithin, IsLeastAt, IsPart, IsSmallRow, KeepsOutside, end_cost};
+ghost use Rattle.class_tuner.specs.Sources.{OnlyCounts};
+ghost use Rattle.class_tuner.specs.Windows.{IsWindowAfter};
 ghost use Rattle.tuner_theory.specs.Rows.{IsLeastEnd};
 
 use crate::cost_source::CostSource;
@@ -24,30 +26,16 @@ pub(crate) fn fill_part<C: CostSource>(
     part: Range<usize>,
     window: Window,
 )
-    requires places { C.place_count costs.old ≤ 1023 }
-    requires before_length { length before.now ≡ C.place_count costs.old }
-    requires row_length { length row.old ≡ C.place_count costs.old }
-    requires ends_length { length ends.old ≡ C.place_count costs.old }
-    requires order { part.start ≤ part.end }
-    requires after { part.end ≤ window.high }
-    requires window { window.low ≤ window.high }
-    requires within { window.high ≤ C.place_count costs.old }
-    requires small { (j : ℕ) → slice_index before.now j ≤ 2 ^ 60 }
-    requires room { C.call_count costs.old + 1024 * (part.end - part.start) ≤ 2 ^ 63 }
+    requires before { IsSmallRow (C.place_count costs.old) before.now }
+    requires part { IsPart (C.place_count costs.old) row.old ends.old part window }
     requires between { AreEndsBetween (C.cost costs.old) (C.place_count costs.old) before.now part.start part.end
         window.low window.high }
+    requires room { C.call_count costs.old + 1024 * (part.end - part.start) ≤ 2 ^ 63 }
     ensures filled { IsFilledWithin (C.cost costs.old) (C.place_count costs.old) before.now row.new ends.new
         part.start part.end }
-    ensures row_kept { IsKeptOutside row.old row.new part.start part.end }
-    ensures ends_kept { IsKeptOutside ends.old ends.new part.start part.end }
-    ensures counted { (b : ℕ) → part.end - part.start < 2 ^ b
-        → C.call_count costs.new ≤ C.call_count costs.old + (window.high - window.low) * b + (part.end - part.start) }
-    ensures exact { (b : ℕ) → part.end - part.start < 2 ^ b → C.call_count costs.new
-        ≡ C.call_count costs.old + tried_within (slice_index ends.new) b part.start part.end window.low window.high }
-    ensures room { C.call_count costs.new ≤ C.call_count costs.old + 1024 * (part.end - part.start) }
-    ensures kept { costs.new ≡ C.with_calls costs.old (C.call_count costs.new) }
-    ensures same_cost { C.cost costs.new ≡ C.cost costs.old }
-    ensures same_places { C.place_count costs.new ≡ C.place_count costs.old }
+    ensures kept { KeepsOutside row.old row.new ends.old ends.new part }
+    ensures calls { AreCallsForPart (C.call_count costs.old) (C.call_count costs.new) ends.new part window }
+    ensures only_counts { OnlyCounts C.CostSource costs.old costs.new }
 {
     if part.start < part.end {
         let middle = part.start + (part.end - part.start) / 2;
@@ -76,23 +64,16 @@ fn least_end<C: CostSource>(
     low: usize,
     high: usize,
 ) -> (u64, usize)
-    requires places { C.place_count costs.old ≤ 1023 }
-    requires length { length before.now ≡ C.place_count costs.old }
-    requires order { place < low }
-    requires some { low ≤ high }
-    requires within { high ≤ C.place_count costs.old }
-    requires small { (j : ℕ) → slice_index before.now j ≤ 2 ^ 60 }
-    requires room { C.call_count costs.old + (high - low) + 1 ≤ 2 ^ 63 }
+    requires before { IsSmallRow (C.place_count costs.old) before.now }
+    requires window { IsWindowAfter place low high (C.place_count costs.old) }
     requires ends { (e : ℕ)
         → IsLeastEnd (end_cost (C.cost costs.old) before.now place) place (C.place_count costs.old) e
         → (low ≤ e) × (e ≤ high) }
-    ensures least { IsLeastEnd (end_cost (C.cost costs.old) before.now place) place (C.place_count costs.old) result.1 }
-    ensures cost { result.0 ≡ end_cost (C.cost costs.old) before.now place result.1 }
-    ensures window { (low ≤ result.1) × (result.1 ≤ high) }
+    requires room { C.call_count costs.old + (high - low) + 1 ≤ 2 ^ 63 }
+    ensures least { IsLeastAt (C.cost costs.old) (C.place_count costs.old) before.now place result.0 result.1 }
+    ensures inside { (low ≤ result.1) × (result.1 ≤ high) }
     ensures counted { C.call_count costs.new ≡ C.call_count costs.old + (high - low) + 1 }
-    ensures kept { costs.new ≡ C.with_calls costs.old (C.call_count costs.new) }
-    ensures same_cost { C.cost costs.new ≡ C.cost costs.old }
-    ensures same_places { C.place_count costs.new ≡ C.place_count costs.old }
+    ensures only_counts { OnlyCounts C.CostSource costs.old costs.new }
 {
     costs.least_end(before, place, low, high)
 }

@@ -1,6 +1,7 @@
 -- The quarantine: a queue of slots that is linked through their headers, and the bytes of their blocks.
-use Rattle.std.specs.Prelude.{◌≡◌, ℕ, suc, ◌+◌, ◌-◌, ◌<◌, ◌==◌, if◌then◌else◌, List, sum_by, Contains}
+use Rattle.std.specs.Prelude.{◌≡◌, ℕ, suc, ◌+◌, ◌-◌, ◌<◌, ◌==◌, if◌then◌else◌, List, ◌∷◌, drop, length, sum_by, Contains}
 use Rattle.machine_theory.specs.Memory.{Granule}
+use Rattle.chunk_header.specs.Links.{SetsLink}
 use Rattle.class_table.specs.Layout.{Partition, block_bytes, slot_count, slot_of}
 use Rattle.heap_theory.specs.Links.{IsLinked, last_link, next_in}
 
@@ -51,3 +52,25 @@ without_oldest value next bytes = record {
   held = value.held - bytes;
   limit = value.limit;
 }
+
+-- ---- a slot is put in, and the oldest is taken out
+
+-- Slot s can be put in: the memory has the layout's granules, and the links show a queue. The slot is of the layout and outside the queue,
+-- its link is 0, and its block has n bytes.
+pub record CanBePut (value : Queue) (layout : Partition) (memory : List Granule) (s n : ℕ) : Type 0 where
+  pub region : length memory ≡ layout.granules
+  pub linked : LinksStand value layout memory
+  pub slot : s < slot_count layout
+  pub outside : IsOutside value layout memory s
+  pub next : next_in layout memory s ≡ 0
+  pub bytes : n ≡ block_bytes (slot_of layout s)
+
+-- Slot s is taken out: it was the first of the queue, and the others stay in it. The bytes of its block are no longer held. Of the memory
+-- only its link changes: it becomes 0.
+pub record TakesOldest (old new : Queue) (layout : Partition) (memory after : List Granule) (s : ℕ) : Type 0 where
+  pub slot : s < slot_count layout
+  pub first : (queue : List ℕ) → AreQueued old layout memory queue → queue ≡ s ∷ drop 1 queue
+  pub queued : (queue : List ℕ) → AreQueued old layout memory (s ∷ queue) → AreQueued new layout after queue
+  pub value : new ≡ without_oldest old (next_in layout memory s) (block_bytes (slot_of layout s))
+  pub held : new.held + block_bytes (slot_of layout s) ≡ old.held
+  pub link : SetsLink layout memory after s 0

@@ -1,15 +1,15 @@
 ghost use Rattle.chunk_header.specs.Links.{SetsLink};
-ghost use Rattle.class_table.specs.Layout.{block_bytes, slot_count, slot_of};
+ghost use Rattle.class_table.specs.Layout.{slot_count};
 ghost use Rattle.heap_theory.specs.Links.{IsLinked, next_in};
 ghost use Rattle.machine_theory.specs.Memory.{Granule};
 ghost use Rattle.quarantine_core.specs.Queue.{
   AreQueued,
-  IsOutside,
+  CanBePut,
   LinksStand,
+  TakesOldest,
   with_newest,
-  without_oldest,
 };
-ghost use Rattle.std.specs.Prelude.{◌≡◌, ◌≢◌, ◌↔◌, ◌+◌, ◌<◌, [], ◌∷◌, ◌++◌, drop, length, suc, Contains, IfNone, IfSome, IsSome, List, ℕ};
+ghost use Rattle.std.specs.Prelude.{◌≡◌, ◌≢◌, ◌↔◌, ◌<◌, [], ◌∷◌, ◌++◌, length, suc, Contains, IfNone, IfSome, IsSome, List, ℕ};
 
 use crate::bounds::blocks_are_few;
 use chunk_header::{set_link, unlink};
@@ -63,12 +63,7 @@ impl Quarantine {
     /// be 0. Of the memory only the link of the slot that was put in before it changes.
     #[tactic(auto, using(crate::proofs::Blocks::each_once))]
     pub fn put(&mut self, memory: &mut Memory, layout: &Layout, slot: u32, bytes: u32)
-        requires region { length memory.old ≡ layout.now.granules }
-        requires linked { LinksStand self.old layout.now memory.old }
-        requires slot { slot < slot_count layout.now }
-        requires outside { IsOutside self.old layout.now memory.old slot }
-        requires next { next_in layout.now memory.old slot ≡ 0 }
-        requires bytes { bytes ≡ block_bytes (slot_of layout.now slot) }
+        requires { CanBePut self.old layout.now memory.old slot bytes }
         ensures queued { (queue : List ℕ) → AreQueued self.old layout.now memory.old queue
             → AreQueued self.new layout.now memory.new (queue ++ slot ∷ []) }
         ensures linked { LinksStand self.new layout.now memory.new }
@@ -102,26 +97,9 @@ impl Quarantine {
         requires linked { LinksStand self.old layout.now memory.old }
         ensures over { IsSome result ↔ (self.old.limit < self.old.held) }
         ensures linked { LinksStand self.new layout.now memory.new }
-
-        // no slot leaves
-        ensures same { IfNone result (self.new ≡ self.old) }
-        ensures untouched { IfNone result (memory.new ≡ memory.old) }
-
-        // the oldest slot leaves
-        ensures slot { IfSome result (λ slot. slot < slot_count layout.now) }
+        ensures same { IfNone result ((self.new ≡ self.old) × (memory.new ≡ memory.old)) }
         ensures oldest { IfSome result
-            (λ slot. (queue : List ℕ) → AreQueued self.old layout.now memory.old queue → queue ≡ slot ∷ drop 1 queue) }
-        ensures queued { IfSome
-            result
-            (λ slot.
-            (queue : List ℕ) → AreQueued self.old layout.now memory.old (slot ∷ queue)
-            → AreQueued self.new layout.now memory.new queue) }
-        ensures value { IfSome
-            result
-            (λ slot. self.new
-            ≡ without_oldest self.old (next_in layout.now memory.old slot) (block_bytes (slot_of layout.now slot))) }
-        ensures held { IfSome result (λ slot. self.new.held + block_bytes (slot_of layout.now slot) ≡ self.old.held) }
-        ensures link { IfSome result (λ slot. SetsLink layout.now memory.old memory.new slot 0) }
+            (λ slot. TakesOldest self.old self.new layout.now memory.old memory.new slot) }
         ensures region { length memory.new ≡ layout.now.granules }
     {
         if self.held <= u64::from(self.limit) {
@@ -135,16 +113,8 @@ impl Quarantine {
         requires region { length memory.old ≡ layout.now.granules }
         requires linked { LinksStand self.old layout.now memory.old }
         requires some { 0 < self.old.held }
-        ensures slot { result < slot_count layout.now }
-        ensures oldest { (queue : List ℕ) → AreQueued self.old layout.now memory.old queue
-            → queue ≡ result ∷ drop 1 queue }
-        ensures queued { (queue : List ℕ) → AreQueued self.old layout.now memory.old (result ∷ queue)
-            → AreQueued self.new layout.now memory.new queue }
+        ensures oldest { TakesOldest self.old self.new layout.now memory.old memory.new result }
         ensures linked { LinksStand self.new layout.now memory.new }
-        ensures value { self.new
-            ≡ without_oldest self.old (next_in layout.now memory.old result) (block_bytes (slot_of layout.now result)) }
-        ensures held { self.new.held + block_bytes (slot_of layout.now result) ≡ self.old.held }
-        ensures link { SetsLink layout.now memory.old memory.new result 0 }
         ensures region { length memory.new ≡ layout.now.granules }
     {
         let slot = self.front - 1;

@@ -1,5 +1,5 @@
 -- The types of the code, as the definitions see them.
-use Rattle.std.specs.Prelude.{◌≡◌, ◌≢◌, ◌⊎◌, ℕ, ◌≤◌, List, slice_index, take, ⊤}
+use Rattle.std.specs.Prelude.{◌≡◌, ◌≢◌, ◌⊎◌, ℕ, ◌≤◌, List, length, slice_index, take, ⊤}
 use Rattle.machine_theory.specs.Address.{logical_tag}
 use Rattle.heap_theory.specs.Run.{Replay, Answer}
 use Rattle.heap_theory.specs.Run.Answer.{Silent, Loaded, NotMapped, TagFault, NoPointer, NotFreed}
@@ -38,6 +38,11 @@ over heap variables = record { heap = heap; variables = variables }
 -- Each variable is null or tagged.
 abbrev pub AreNullOrTagged : List ℕ → Type 0
 AreNullOrTagged variables = (v : ℕ) → (slice_index variables v ≡ 0) ⊎ (logical_tag (slice_index variables v) ≢ 0)
+
+-- The 1,024 variables of a trace.
+pub record AreVariables (variables : List ℕ) : Type 0 where
+  pub long : length variables ≡ 1024
+  pub tagged : AreNullOrTagged variables
 
 -- The buffer, of 64 bytes, has as many as were loaded.
 abbrev pub IsFilled : TheAnswer → Type 0

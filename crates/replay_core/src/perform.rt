@@ -2,7 +2,7 @@
 ghost use Rattle.heap_theory.specs.Calls.{free_step, realloc_step};
 ghost use Rattle.heap_theory.specs.Ranges.{IsInRange};
 ghost use Rattle.heap_theory.specs.Run.{answer_of, free_answer, heap_after, malloc_answer, realloc_answer, variables_after};
-ghost use Rattle.replay_core.specs.Shown.{AreNullOrTagged, IsFilled, over, shown};
+ghost use Rattle.replay_core.specs.Shown.{AreVariables, IsFilled, over, shown};
 ghost use Rattle.std.specs.Prelude.{◌≡◌, ◌+◌, ◌^◌, ◌<◌, ◌≤◌, List, length, slice_index, slice_set, ℕ};
 ghost use Rattle.std.specs.Result.{result_unwrap_or};
 
@@ -20,8 +20,7 @@ pub(crate) fn perform(
     bytes: &mut [u8; MOST_BYTES],
 ) -> Answer
     requires in_range { IsInRange event.now }
-    requires variables { length variables.old ≡ 1024 }
-    requires tagged { AreNullOrTagged variables.old }
+    requires variables { AreVariables variables.old }
     requires few { heap.old.frees < 2 ^ 48 }
     ensures state { heap.new.state ≡ heap_after (over heap.old.state variables.old) event.now }
     ensures variables { variables.new ≡ variables_after (over heap.old.state variables.old) event.now }

@@ -9,9 +9,10 @@ use Rattle.heap_theory.specs.Header.{Header, header_for, class_number}
 use Rattle.heap_theory.specs.Header.Standing.{Freed}
 use Rattle.heap_theory.specs.Links.{IsLinked, next_in, list_of}
 use Rattle.heap_theory.specs.State.{Heap, slot_in, without_headers, IsSlot}
-use Rattle.quarantine_core.specs.Queue.{Queue, AreQueued, LinksStand}
+use Rattle.quarantine_core.specs.Queue.{Queue, AreQueued, LinksStand, TakesOldest}
 use Rattle.chunk_header.specs.Links.{SetsLink}
 use Rattle.tagged_heap.proofs.Below as laws
+use Rattle.tagged_heap.specs.Chunks.{IsListed}
 use Rattle.tagged_heap.specs.Keeping.{header_in, IsReleasing, IsRewritten}
 use Rattle.tagged_heap.specs.View.{IsLettingGo}
 use Rattle.heap_theory.proofs.SeenMemory.{length-without_headers}
@@ -113,20 +114,10 @@ module _ (h : Heap) (m : List Granule) (q : Queue) (fronts : List ℕ) (g : IsLe
 
 -- ---- the same for a layout that is the heap's
 
--- a slot that was taken off a queue
+-- a slot that was taken off a queue above its limit
 pub record IsLetOut (layout : Partition) (m m1 : List Granule) (q q1 : Queue) (s : ℕ) : Type 0 where
   pub over : q.limit < q.held
-  pub oldest : (queue : List ℕ) → AreQueued q layout m queue → queue ≡ s ∷ drop 1 queue
-  pub queued : (queue : List ℕ) → AreQueued q layout m (s ∷ queue) → AreQueued q1 layout m1 queue
-  pub front : q1.front ≡ next_in layout m s
-  pub limit : q1.limit ≡ q.limit
-  pub link : SetsLink layout m m1 s 0
-
--- the number of a class, with its front
-pub record IsListed (fronts : List ℕ) (class : ℕ) : Type 0 where
-  pub few : class < 32
-  pub listed : class < length fronts
-  pub front : slice_index fronts class < 2 ^ 32
+  pub out : TakesOldest q q1 layout m m1 s
 
 abbrev Fits : Heap → List ℕ → List Granule → List Granule → Queue → Queue → ℕ → Partition → Type 0
 Fits h fronts m m1 q q1 s layout =
@@ -147,7 +138,7 @@ module _ (h : Heap) (layout : Partition) (is : h.layout ≡ layout) (m : List Gr
 
   pub list_fits : (m1 : List Granule) (q1 : Queue) (s : ℕ) → Fits h fronts m m1 q q1 s layout
   list_fits m1 q1 s = subst (Fits h fronts m m1 q q1 s) is
-      (λ out. let oldest = out.oldest g.queue (as_queue h m q fronts g) in record {
+      (λ let_out. let out = let_out.out in let oldest = out.first g.queue (as_queue h m q fronts g) in record {
         few = front_class_few h m q fronts g m1 s oldest out.link;
         listed = class_in_fronts h m q fronts g m1 s oldest out.link;
         front = front_fits h m q fronts g _ (class_within h m q fronts g m1 s oldest out.link);
@@ -155,5 +146,7 @@ module _ (h : Heap) (layout : Partition) (is : h.layout ≡ layout) (m : List Gr
 
   pub step_at : (m1 m2 : List Granule) (q1 : Queue) (s : ℕ) → Steps h fronts m m1 m2 q q1 s layout
   step_at m1 m2 q1 s = subst (Steps h fronts m m1 m2 q q1 s) is
-      (λ out listed memory.
-      let_go_step h m q fronts g m1 s (out.oldest g.queue (as_queue h m q fronts g)) out.link m2 q1 out.over out.front out.limit g.memory_is out.queued listed memory)
+      (λ let_out listed memory.
+      let out = let_out.out in
+      let_go_step h m q fronts g m1 s (out.first g.queue (as_queue h m q fronts g)) out.link m2 q1 let_out.over
+      (ap (λ (x : Queue). x.front) out.value) (ap (λ (x : Queue). x.limit) out.value) g.memory_is out.queued listed memory)

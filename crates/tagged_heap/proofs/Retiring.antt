@@ -1,16 +1,15 @@
 -- The chunk of a live slot is taken back, in the parts of a heap.
-use Rattle.std.proofs.Common.{◌≡◌, ℕ, suc, ◌+◌, ◌^◌, ◌<◌, ◌≤◌, List, [], ◌∷◌, ◌++◌, length, sym, ap, ◌∙◌, subst}
+use Rattle.std.proofs.Common.{◌≡◌, ℕ, suc, ◌+◌, ◌^◌, ◌<◌, ◌≤◌, List, [], ◌∷◌, ◌++◌, sym, ap, ◌∙◌, subst}
 use Rattle.machine_theory.specs.Machine.{Machine}
 use Rattle.machine_theory.specs.Memory.{Granule, IsMemory, tagged}
 use Rattle.machine_theory.specs.Seed.{next_seed}
 use Rattle.class_table.specs.Layout.{slot_of, block_bytes}
 use Rattle.heap_theory.specs.Calls.{freed, next_tag}
 use Rattle.heap_theory.specs.Header.{header_for, with_header}
-use Rattle.heap_theory.specs.Links.{next_in}
 use Rattle.heap_theory.specs.State.{state_at, chunk_granules, payload_start, IsSlot}
 use Rattle.heap_theory.specs.State.State.{Live}
 use Rattle.chunk_header.specs.Links.{SetsLink}
-use Rattle.quarantine_core.specs.Queue.{Queue, AreQueued, IsOutside, LinksStand, with_newest}
+use Rattle.quarantine_core.specs.Queue.{Queue, AreQueued, CanBePut, with_newest}
 use Rattle.tagged_heap.specs.Chunks.{HasRoom, retired_header, tag_for}
 use Rattle.tagged_heap.specs.Inside.{state_of, seen, IsHeld}
 use Rattle.tagged_heap.specs.Keeping.{header_in, IsRewritten}
@@ -58,21 +57,27 @@ module _ (i : Inside) (v : Counted) (view : seen i ≡ v) (held : IsHeld i) (s n
           (drawn_is (state_of i) i.frees i.machine.memory i.quarantine i.lists i.firsts.items held s n tag own_range own_live)
           (lent_is ∙ ap (λ (x : Machine). x.memory) retired)
 
-      pub lent_region : length lent ≡ i.layout.granules
+      -- the slot can be put into the quarantine
+      pub lent_can_be_put : (bytes : ℕ) → bytes ≡ block_bytes (slot_of i.layout s) → CanBePut i.quarantine i.layout lent s bytes
       unfolding shown_heap
-      lent_region = retired_long (state_of i) i.frees i.machine.memory i.quarantine i.lists i.firsts.items held s n tag own_range own_live few lent rewritten lent_memory
-
-      pub lent_linked : LinksStand i.quarantine i.layout lent
-      unfolding shown_heap
-      lent_linked = (held.queue, queued_before (state_of i) i.frees i.machine.memory i.quarantine i.lists i.firsts.items held s n tag own_range own_live few lent rewritten lent_memory)
-
-      pub lent_outside : IsOutside i.quarantine i.layout lent s
-      unfolding shown_heap
-      lent_outside = outside (state_of i) i.frees i.machine.memory i.quarantine i.lists i.firsts.items held s n tag own_range own_live few lent rewritten lent_memory
-
-      pub lent_unlinked : next_in i.layout lent s ≡ 0
-      unfolding shown_heap
-      lent_unlinked = own_unlinked (state_of i) i.frees i.machine.memory i.quarantine i.lists i.firsts.items held s n tag own_range own_live few lent rewritten lent_memory
+      lent_can_be_put bytes is = record {
+        region =
+            retired_long (state_of i) i.frees i.machine.memory i.quarantine i.lists i.firsts.items held s n tag own_range own_live few
+            lent rewritten lent_memory;
+        linked = (
+          held.queue,
+          queued_before (state_of i) i.frees i.machine.memory i.quarantine i.lists i.firsts.items held s n tag own_range own_live few
+              lent rewritten lent_memory,
+        );
+        slot = own_range;
+        outside =
+            outside (state_of i) i.frees i.machine.memory i.quarantine i.lists i.firsts.items held s n tag own_range own_live few
+            lent rewritten lent_memory;
+        next =
+            own_unlinked (state_of i) i.frees i.machine.memory i.quarantine i.lists i.firsts.items held s n tag own_range own_live few
+            lent rewritten lent_memory;
+        bytes = is;
+      }
 
       pub put_letting_go : (m2 : List Granule) (q2 : Queue) (bytes : ℕ) →
           ((queue : List ℕ) → AreQueued i.quarantine i.layout lent queue → AreQueued q2 i.layout m2 (queue ++ s ∷ [])) → q2 ≡ with_newest i.quarantine s bytes → (i.quarantine.back ≡ 0 → m2 ≡ lent) →

@@ -3,6 +3,7 @@ use Rattle.std.specs.Prelude.{◌≡◌, ℕ, ◌^◌, ◌⊎◌, ◌+◌, ◌<�
 use Rattle.machine_theory.specs.Instructions.{drawn_tag}
 use Rattle.machine_theory.specs.Machine.{Machine}
 use Rattle.machine_theory.specs.Memory.{Granule, IsMemory}
+use Rattle.class_table.specs.Sizes.{largest_counted}
 use Rattle.class_table.specs.Layout.{Partition, slot_count, slot_of, end_of, first_slot}
 use Rattle.class_table.specs.Tables.{class_number_for}
 use Rattle.heap_theory.specs.declared.fault.NullCause.{NullCause}
@@ -29,8 +30,8 @@ retired_header header mark = record header { standing = Quarantined; next = 0; m
 
 -- why a request of n bytes has no class
 abbrev pub IsCauseFor : List ℕ → ℕ → NullCause → Type 0
-IsCauseFor classes n Large = 16368 < n
-IsCauseFor classes n NoClass = (n ≤ 16368) × (class_number_for classes n ≡ None)
+IsCauseFor classes n Large = largest_counted < n
+IsCauseFor classes n NoClass = (n ≤ largest_counted) × (class_number_for classes n ≡ None)
 IsCauseFor classes n Exhausted = ⊥
 
 -- a slot of the layout in this memory, with room for the chunk of n bytes
@@ -39,7 +40,7 @@ pub record HasRoom (layout : Partition) (memory : List Granule) (s n : ℕ) : Ty
   pub region : length memory ≡ layout.granules
   pub inside : end_of (slot_of layout s) ≤ layout.granules
   pub memory_is : IsMemory memory
-  pub size : n ≤ 16368
+  pub size : n ≤ largest_counted
   pub room : chunk_granules n < (slot_of layout s).class
   pub header : (header_in layout memory s).class < 32
 
@@ -83,3 +84,11 @@ abbrev pub Takes : Partition → List Granule → List Granule → List ℕ → 
 Takes layout memory new fronts fronts' firsts firsts' number None = TakesNone layout memory new fronts fronts' firsts firsts' number
 Takes layout memory new fronts fronts' firsts firsts' number (Some s) =
     TakesFront layout memory new fronts fronts' firsts firsts' number s ⊎ TakesFresh layout memory new fronts fronts' firsts firsts' number s
+
+-- ---- a slot is put into its class's list
+
+-- The class of this number has a front, and both fit their fields in a header.
+pub record IsListed (fronts : List ℕ) (number : ℕ) : Type 0 where
+  pub few : number < 32
+  pub listed : number < length fronts
+  pub front : slice_index fronts number < 2 ^ 32

@@ -8,6 +8,7 @@ ghost use Rattle.heap_theory.specs.State.{state_at, without_headers, Heap as The
 ghost use Rattle.heap_theory.specs.State.State.{Live};
 ghost use Rattle.machine_theory.specs.Memory.{IsMemory};
 ghost use Rattle.std.specs.Prelude.{◌≡◌, ◌≢◌, ◌↔◌, ◌+◌, ◌^◌, ◌<◌, ◌≤◌, length, slice_index, slice_set, IfErr, IfOk, Ok, OnErr, OnOk, ℕ};
+ghost use Rattle.tagged_heap.specs.Chunks.{IsListed};
 ghost use Rattle.tagged_heap.specs.Keeping.{header_in, IsRewritten};
 ghost use Rattle.tagged_heap.specs.View.{AreLettingGo, IsLettingGo};
 
@@ -121,9 +122,7 @@ fn list_freed(memory: &mut Memory, layout: &Layout, lists: &mut ClassLists, slot
     requires region { length memory.old ≡ layout.now.granules }
     requires memory { IsMemory memory.old }
     requires order { AreInOrder layout.now }
-    requires few { (header_in layout.now memory.old slot).class < 32 }
-    requires class { (header_in layout.now memory.old slot).class < length lists.old }
-    requires front { slice_index lists.old (header_in layout.now memory.old slot).class < 2 ^ 32 }
+    requires class { IsListed lists.old (header_in layout.now memory.old slot).class }
     ensures header { let before = header_in layout.now memory.old slot in
         let after = record before { standing = Freed; next = slice_index lists.old before.class } in
         IsRewritten layout.now memory.old memory.new slot after (without_headers layout.now memory.old) }

@@ -3,7 +3,7 @@ ghost use Rattle.chunk_header.specs.Seen.{seen};
 ghost use Rattle.tagged_heap.specs.Keeping.{header_in};
 ghost use Rattle.class_table.specs.Layout.{slot_count, slot_of};
 ghost use Rattle.heap_theory.specs.Header.{FitsWords};
-ghost use Rattle.std.specs.Prelude.{◌≡◌, ◌<◌, ◌^◌, length};
+ghost use Rattle.std.specs.Prelude.{◌≡◌, ◌<◌, length};
 
 use chunk_header::{Header, read};
 use class_table::Layout;
@@ -17,9 +17,6 @@ pub(crate) fn header(memory: &Memory, layout: &Layout, _slot: u32, start: u32) -
     requires class { (header_in layout.now memory.now _slot).class < 32 }
     ensures header { seen result ≡ header_in layout.now memory.now _slot }
     ensures fits { FitsWords (seen result) }
-    ensures size { result.size < 2 ^ 14 }
-    ensures tag { result.tag < 16 }
-    ensures class { result.class < 32 }
 {
     layout.granules();
     read(memory, start)

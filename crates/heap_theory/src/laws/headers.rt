@@ -32,12 +32,16 @@ ghost use Rattle.heap_theory.specs.HeaderLaws.{
   WrittenHeaderIsRead,
 };
 
-/// A header that was written is read back, and nothing else changes.
-pub fn law_header()
+/// Two words encode a header. A header that fits them is read back from them, and all bits of the words are its own.
+pub fn law_header_encoding()
     ensures words { HeaderIsReadFromWords }
     ensures all_bits { WordsAreOfHeader }
     ensures fit { WordsFit }
     ensures fits { ReadHeaderFits }
+{}
+
+/// A header that was written is read back, and nothing else changes.
+pub fn law_header()
     ensures two_words { HeaderIsTwoWords }
     ensures read { WrittenHeaderIsRead }
     ensures others { OtherHeadersStay }

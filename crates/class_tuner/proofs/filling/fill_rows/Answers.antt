@@ -2,74 +2,75 @@ use Rattle.std.proofs.Common.{[], ◌≡◌, ℕ, ◌+◌, ◌-◌, ◌^◌, add
 use Rattle.class_tuner.specs.Filling.{IsFilledWithin}
 use Rattle.potential_check.specs.Lists.{lists_of}
 use Rattle.tuner_theory.specs.Rows.{IsFilled, number_at}
-use Rattle.class_tuner.proofs.Asked.{kept-more}
+use Rattle.class_tuner.proofs.Asked.{OnlyCounts-more}
 use Rattle.class_tuner.proofs.Digits.{calls-more, room-left}
 use Rattle.class_tuner.proofs.Rows.{filled-first, filled-pushed, filled-small, row-read}
 use Rattle.class_tuner.proofs.Tried.{calls-first, calls-pushed}
 use Rattle.class_tuner.proofs.filling.fill_rows.Goals as goal
 
-pub next_row-requires-clause-small : goal.next_row-requires-clause-small
-next_row-requires-clause-small g c = λ j.
+pub next_row-requires-clause-before : goal.next_row-requires-clause-before
+next_row-requires-clause-before g c =
     let f = c.loop-k.invariant.filled in
     let d = g.C.CostSource.place_count c.args.costs.now in
-    let row = row-read _ _ c.loop-k.k (c.loop-k.k - 1) c.loop-k.filled.rows.items _ c.index.result.now c.deref.result.now (omega arith) f c.index.ensures c.deref.ensures.value in
-    rw row (filled-small _ d c.loop-k.k (2 ^ 60) _ _ f (λ i lt. g.met.C.CostSource.is_small c.args.costs.now i d lt (omega arith)) c.loop-k.k j (omega arith) (omega arith))
+    let row = row-read _ _ c.loop-k.k (c.loop-k.k - 1) c.loop-k.filled.rows.items _ c.index.result.now c.deref.result.now (omega arith) f
+    c.index.ensures c.deref.ensures.value in
+    record {
+      few = rw c.loop-k.invariant.only_counts.same_places c.requires.places;
+      length = rw (row, c.loop-k.invariant.only_counts.same_places)
+          (f.rows_shape.row_lengths (c.loop-k.k - 1) [] (omega (arith, f.rows_shape.row_count)));
+      small = λ j. rw row (filled-small _ d c.loop-k.k (2 ^ 60) _ _ f
+          (λ i lt. g.met.C.CostSource.is_small c.args.costs.now i d lt (omega arith)) c.loop-k.k j (omega arith) (omega arith));
+    }
 
 pub next_row-requires-clause-room : goal.next_row-requires-clause-room
 next_row-requires-clause-room g c =
-    rw c.loop-k.invariant.same_places
-    (room-left (g.C.CostSource.call_count c.args.costs.now) _ c.loop-k.k _ c.requires.room (omega arith) c.requires.places c.loop-k.invariant.counted)
-
-pub next_row-requires-clause-before_length : goal.next_row-requires-clause-before_length
-next_row-requires-clause-before_length g c =
-    let f = c.loop-k.invariant.filled in
-    let row = row-read _ _ c.loop-k.k (c.loop-k.k - 1) c.loop-k.filled.rows.items _ c.index.result.now c.deref.result.now (omega arith)
-    f c.index.ensures c.deref.ensures.value in
-    rw (row, c.loop-k.invariant.same_places) (f.rows_shape.row_lengths (c.loop-k.k - 1) [] (omega (arith, f.rows_shape.row_count)))
+    rw c.loop-k.invariant.only_counts.same_places
+    (room-left (g.C.CostSource.call_count c.args.costs.now) _ c.loop-k.k _ c.requires.room (omega arith) c.requires.places
+    c.loop-k.invariant.counted)
 
 pub loop-k-init : goal.loop-k-init
 loop-k-init g c = record {
   filled = rw (c.in_ok-push.ensures.rows, c.in_ok-push.ensures.ends, c.new.ensures.items, c.new-2.ensures.items)
-      (filled-first _ _ _ _ c.in_ok-first.ensures.costs_length c.in_ok-first.ensures.ends_length
-      c.in_ok-first.ensures.costs c.in_ok-first.ensures.ends);
+      (filled-first _ _ _ _ c.in_ok-first.ensures.first.costs_length c.in_ok-first.ensures.first.ends_length
+      c.in_ok-first.ensures.first.costs c.in_ok-first.ensures.first.ends);
   counted = omega (arith, c.first_row.ensures.counted);
   exact =
       let one = calls-first (number_at (lists_of c.push.new.self.ends.items)) (g.C.CostSource.place_count c.args.costs.now) in
       omega (arith, c.in_ok-first.ensures.exact);
-  kept = c.first_row.ensures.kept;
-  same_cost = c.first_row.ensures.same_cost;
-  same_places = c.first_row.ensures.same_places;
+  only_counts = c.first_row.ensures.only_counts;
 }
 
 pub returns-in_err-push-2-clause-counted : goal.returns-in_err-push-2-clause-counted
 returns-in_err-push-2-clause-counted g c =
-    calls-more (g.C.CostSource.call_count c.args.costs.now) (g.C.CostSource.call_count c.loop-k.costs) _ c.loop-k.k c.args.limit _ c.loop-k.invariant.counted
-    (rw c.loop-k.invariant.same_places at c.in_ok-next.ensures.counted) (omega arith)
+    calls-more (g.C.CostSource.call_count c.args.costs.now) (g.C.CostSource.call_count c.loop-k.costs) _ c.loop-k.k c.args.limit _
+    c.loop-k.invariant.counted (rw c.loop-k.invariant.only_counts.same_places at c.in_ok-next.ensures.counted) (omega arith)
 
 pub loop-k-preserved : goal.loop-k-preserved
 loop-k-preserved g c =
     let f = c.loop-k.invariant.filled in
     let d = g.C.CostSource.place_count c.args.costs.now in
-    let row = row-read _ _ c.loop-k.k (c.loop-k.k - 1) c.loop-k.filled.rows.items _ c.index.result.now c.deref.result.now (omega arith) f c.index.ensures c.deref.ensures.value in
-    let within : IsFilledWithin (g.C.CostSource.cost c.args.costs.now) d c.deref.result.now c.in_ok-next.next.costs.items c.in_ok-next.next.ends.items 0 d =
-    rw (c.loop-k.invariant.same_cost, c.loop-k.invariant.same_places) at c.in_ok-next.ensures.filled in
+    let row = row-read _ _ c.loop-k.k (c.loop-k.k - 1) c.loop-k.filled.rows.items _ c.index.result.now c.deref.result.now (omega arith) f
+    c.index.ensures c.deref.ensures.value in
+    let same = c.loop-k.invariant.only_counts in
+    let next = c.in_ok-next.next in
+    let within : IsFilledWithin (g.C.CostSource.cost c.args.costs.now) d c.deref.result.now next.costs.items next.ends.items 0 d =
+    rw (same.same_cost, same.same_places) at c.in_ok-next.ensures.next.filled in
     record {
       filled = rw add-one (filled-pushed _ d c.loop-k.k _ _ _ _ _ _ c.deref.result.now (omega arith) f
-          (c.in_ok-next.ensures.costs_length ∙ c.loop-k.invariant.same_places) (c.in_ok-next.ensures.ends_length ∙ c.loop-k.invariant.same_places)
+          (c.in_ok-next.ensures.next.costs_length ∙ same.same_places) (c.in_ok-next.ensures.next.ends_length ∙ same.same_places)
           row within c.in_ok-push-2.ensures.rows c.in_ok-push-2.ensures.ends);
-      counted = calls-more (g.C.CostSource.call_count c.args.costs.now) (g.C.CostSource.call_count c.loop-k.costs) _ c.loop-k.k (c.loop-k.k + 1) d c.loop-k.invariant.counted
-          (rw c.loop-k.invariant.same_places at c.in_ok-next.ensures.counted) (omega arith);
+      counted = calls-more (g.C.CostSource.call_count c.args.costs.now) (g.C.CostSource.call_count c.loop-k.costs) _
+          c.loop-k.k (c.loop-k.k + 1) d c.loop-k.invariant.counted (rw same.same_places at c.in_ok-next.ensures.counted) (omega arith);
       exact = rw add-one (calls-pushed _ _ _ d c.loop-k.k (g.C.CostSource.call_count c.args.costs.now)
           (g.C.CostSource.call_count c.loop-k.costs) _ (omega arith) f.ends_shape.row_count
           c.in_ok-push-2.ensures.ends c.loop-k.invariant.exact
-          (rw c.loop-k.invariant.same_places at c.in_ok-next.ensures.exact));
-      kept = kept-more g.C.CostSource.call_count g.C.CostSource.with_calls g.met.C.CostSource.keeps_last _ _ _ c.loop-k.invariant.kept c.in_ok-next.ensures.kept;
-      same_cost = c.in_ok-next.ensures.same_cost ∙ c.loop-k.invariant.same_cost;
-      same_places = c.in_ok-next.ensures.same_places ∙ c.loop-k.invariant.same_places;
+          (rw same.same_places at c.in_ok-next.ensures.exact));
+      only_counts = OnlyCounts-more g.C.CostSource g.met.C.CostSource.keeps_last _ _ _ same c.in_ok-next.ensures.only_counts;
     }
 
 pub returns-clause-filled : goal.returns-clause-filled
 returns-clause-filled g c =
     let all : c.loop-k.k ≡ c.args.limit = omega arith in
-    subst (λ (k : ℕ). IsFilled (g.C.CostSource.cost c.args.costs.now) (g.C.CostSource.place_count c.args.costs.now) k (lists_of c.loop-k.filled.rows.items) (lists_of c.loop-k.filled.ends.items))
+    subst (λ (k : ℕ). IsFilled (g.C.CostSource.cost c.args.costs.now) (g.C.CostSource.place_count c.args.costs.now) k
+    (lists_of c.loop-k.filled.rows.items) (lists_of c.loop-k.filled.ends.items))
     all c.loop-k.invariant.filled

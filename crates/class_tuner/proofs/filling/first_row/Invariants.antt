@@ -1,4 +1,5 @@
 use Rattle.std.proofs.Common.{◌≡◌, ℕ, ◌+◌, ◌<◌, length, slice_index}
+use Rattle.class_tuner.specs.Sources.{OnlyCounts}
 use Rattle.class_tuner.proofs.filling.first_row.Given as goal
 
 abbrev pub invariant-loop-i : goal.invariant-loop-i
@@ -6,7 +7,5 @@ invariant-loop-i g l = record {
   row : (i : ℕ) → i < l.i → slice_index l.row.items i ≡ g.C.CostSource.cost l.fn.costs i l.places;
   row_length : length l.row.items ≡ l.i;
   counted : g.C.CostSource.call_count l.costs ≡ g.C.CostSource.call_count l.fn.costs + l.i;
-  kept : l.costs ≡ g.C.CostSource.with_calls l.fn.costs (g.C.CostSource.call_count l.costs);
-  same_cost : g.C.CostSource.cost l.costs ≡ g.C.CostSource.cost l.fn.costs;
-  same_places : g.C.CostSource.place_count l.costs ≡ g.C.CostSource.place_count l.fn.costs;
+  only_counts : OnlyCounts g.C.CostSource l.fn.costs l.costs;
 }

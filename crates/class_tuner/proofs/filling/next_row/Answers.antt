@@ -10,7 +10,8 @@ pub returns-clause-counted : goal.returns-clause-counted
 returns-clause-counted g c =
     let d = c.places-places.result in
     elim c.if-places-gt0.branch [
-      | then-places-gt0 w ↦ (let digits = below-bits d in let calls = w.fill_part.ensures.counted (bits d) (omega arith) in grind (arith, c.places-places.ensures, w.costs-is))
+      | then-places-gt0 w ↦ (let digits = below-bits d in let calls = w.fill_part.ensures.calls.counted (bits d) (omega arith) in
+          grind (arith, c.places-places.ensures, w.costs-is))
       | else-places-gt0 w ↦ grind (arith, w.costs-is)
     ]
 
@@ -18,7 +19,7 @@ pub returns-clause-exact : goal.returns-clause-exact
 returns-clause-exact g c =
     let d = c.places-places.result in
     elim c.if-places-gt0.branch [
-      | then-places-gt0 w ↦ (let digits = below-bits d in let calls = w.fill_part.ensures.exact (bits d) (omega arith) in
+      | then-places-gt0 w ↦ (let digits = below-bits d in let calls = w.fill_part.ensures.calls.exact (bits d) (omega arith) in
           let filled = with_items_is c.in_ok-ends.ends w.fill_part.new.ends (omega (arith, w.fill_part.auto.ends)) in
           rw (w.costs-is, w.ends-is, filled, ← c.places-places.ensures) calls)
       | else-places-gt0 w ↦ (let none = tried-none (slice_index c.if-places-gt0.ends.items) (bits d) 0 d 1 d (omega arith) in

@@ -18,11 +18,13 @@ fill_part-requires g t c κs within =
     let middle : ℕ = part.start + (part.end - part.start) / 2 in
     let end = c.least_end-cost.result.1 in
     let asked = c.least_end-cost.new.costs in
-    let between : AreEndsBetween (g.C.CostSource.cost asked) (g.C.CostSource.place_count asked) c.args.before.now part.start middle c.args.window.low end =
-    rw (c.least_end-cost.ensures.same_cost, c.least_end-cost.ensures.same_places)
+    let between : AreEndsBetween (g.C.CostSource.cost asked) (g.C.CostSource.place_count asked) c.args.before.now part.start middle
+    c.args.window.low end =
+    let here = c.least_end-cost.ensures.only_counts in
+    rw (here.same_cost, here.same_places)
     (between-left ends_ascend (g.C.CostSource.cost c.args.costs.now) (g.C.CostSource.place_count c.args.costs.now)
     (g.met.C.CostSource.is_crossing c.args.costs.now) c.args.before.now part.start part.end c.args.window.low c.args.window.high middle end
-    c.requires.between c.least_end-cost.ensures.least (omega arith)) in
+    c.requires.between c.least_end-cost.ensures.least.least (omega arith)) in
     search (rules, between)
 
 pub fill_part-requires-then-part : goal.fill_part-requires-then-part
@@ -31,15 +33,18 @@ fill_part-requires-then-part g t c κs within =
     let middle : ℕ = part.start + (part.end - part.start) / 2 in
     let end = c.least_end-cost.result.1 in
     let asked = c.fill_part.new.costs in
-    let between : AreEndsBetween (g.C.CostSource.cost asked) (g.C.CostSource.place_count asked) c.args.before.now (middle + 1) part.end end c.args.window.high =
-    rw (c.fill_part.ensures.same_cost, c.fill_part.ensures.same_places, c.least_end-cost.ensures.same_cost, c.least_end-cost.ensures.same_places, add-one)
+    let here = c.least_end-cost.ensures.only_counts in
+    let left = c.fill_part.ensures.only_counts in
+    let between : AreEndsBetween (g.C.CostSource.cost asked) (g.C.CostSource.place_count asked) c.args.before.now (middle + 1) part.end end
+    c.args.window.high =
+    rw (left.same_cost, left.same_places, here.same_cost, here.same_places, add-one)
     (between-right ends_ascend (g.C.CostSource.cost c.args.costs.now) (g.C.CostSource.place_count c.args.costs.now)
     (g.met.C.CostSource.is_crossing c.args.costs.now) c.args.before.now part.start part.end c.args.window.low c.args.window.high middle end
-    c.requires.between c.least_end-cost.ensures.least (omega arith)) in
+    c.requires.between c.least_end-cost.ensures.least.least (omega arith)) in
     search (rules, between)
 
-pub returns-then-part-eq1-clause-counted : goal.returns-then-part-eq1-clause-counted
-returns-then-part-eq1-clause-counted g t c = counted
+pub returns-then-part-eq1-clause-calls : goal.returns-then-part-eq1-clause-calls
+returns-then-part-eq1-clause-calls g t c = record { counted = counted; exact = exact; most = omega arith }
   where
     counted : (b : ℕ) → c.args.part.end - c.args.part.start < 2 ^ b
         → g.C.CostSource.call_count c.least_end-cost.new.costs
@@ -47,9 +52,6 @@ returns-then-part-eq1-clause-counted g t c = counted
     counted zero lt = absurd (omega arith)
     counted (suc b) lt = omega (arith, c.least_end-cost.ensures.counted)
 
-pub returns-then-part-eq1-clause-exact : goal.returns-then-part-eq1-clause-exact
-returns-then-part-eq1-clause-exact g t c = exact
-  where
     exact : (b : ℕ) → c.args.part.end - c.args.part.start < 2 ^ b
         → let middle : ℕ = c.args.part.start + (c.args.part.end - c.args.part.start) / 2 in
         g.C.CostSource.call_count c.least_end-cost.new.costs
@@ -69,8 +71,8 @@ returns-then-part-eq1-clause-exact g t c = exact
         (omega (arith, tried-none ends b part.start middle c.args.window.low end (omega arith)))
         (omega (arith, tried-none ends b (middle + 1) part.end end c.args.window.high (omega arith)))
 
-pub returns-else-part-eq1-clause-counted : goal.returns-else-part-eq1-clause-counted
-returns-else-part-eq1-clause-counted g t c = counted
+pub returns-else-part-eq1-clause-calls : goal.returns-else-part-eq1-clause-calls
+returns-else-part-eq1-clause-calls g t c = record { counted = counted; exact = exact; most = omega arith }
   where
     counted : (b : ℕ) → c.args.part.end - c.args.part.start < 2 ^ b
         → g.C.CostSource.call_count c.fill_part-then-part.new.costs
@@ -81,16 +83,13 @@ returns-else-part-eq1-clause-counted g t c = counted
         let half = half-digits (part.end - part.start) b lt in
         let end = c.least_end-cost.result.1 in
         let middle : ℕ = part.start + (part.end - part.start) / 2 in
-        let window = c.least_end-cost.ensures.window in
+        let window = c.least_end-cost.ensures.inside in
         count-halves (part.end - part.start) (c.args.window.high - c.args.window.low) (end - c.args.window.low) (c.args.window.high - end)
         (middle - part.start) (part.end - (middle + 1)) b (g.C.CostSource.call_count c.args.costs.now)
         (c.args.window.high - c.max-first.result + 1) _ _ (omega arith) (omega arith) (omega arith)
-        (omega (arith, c.fill_part.ensures.counted b (omega arith), c.least_end-cost.ensures.counted))
-        (c.fill_part-then-part.ensures.counted b (omega arith))
+        (omega (arith, c.fill_part.ensures.calls.counted b (omega arith), c.least_end-cost.ensures.counted))
+        (c.fill_part-then-part.ensures.calls.counted b (omega arith))
 
-pub returns-else-part-eq1-clause-exact : goal.returns-else-part-eq1-clause-exact
-returns-else-part-eq1-clause-exact g t c = exact
-  where
     exact : (b : ℕ) → c.args.part.end - c.args.part.start < 2 ^ b
         → g.C.CostSource.call_count c.fill_part-then-part.new.costs
         ≡ g.C.CostSource.call_count c.args.costs.now
@@ -100,16 +99,20 @@ returns-else-part-eq1-clause-exact g t c = exact
         let part = c.args.part in
         let middle : ℕ = part.start + (part.end - part.start) / 2 in
         let end = c.least_end-cost.result.1 in
-        let kept = c.fill_part-then-part.ensures.ends_kept in
+        let kept = c.fill_part-then-part.ensures.kept.ends_kept in
         let is : slice_index c.fill_part-then-part.new.ends middle ≡ end =
         kept middle (inl (omega arith))
-        ∙ (c.fill_part.ensures.ends_kept middle (inr (omega arith)) ∙ get_or-set_same c.args.ends.now middle end 0 (omega arith)) in
-        tried-part (slice_index c.fill_part.new.ends) (slice_index c.fill_part-then-part.new.ends) b part.start part.end c.args.window.low c.args.window.high
-        c.max-first.result end (g.C.CostSource.call_count c.args.costs.now) _ _ _ (omega arith) (omega arith) (omega arith) is
-        (λ i from below. sym (kept i (inl (omega arith)))) c.least_end-cost.ensures.counted
-        (c.fill_part.ensures.exact b (omega arith)) (c.fill_part-then-part.ensures.exact b (omega arith))
+        ∙ (c.fill_part.ensures.kept.ends_kept middle (inr (omega arith)) ∙ get_or-set_same c.args.ends.now middle end 0 (omega arith)) in
+        tried-part (slice_index c.fill_part.new.ends) (slice_index c.fill_part-then-part.new.ends) b part.start part.end
+        c.args.window.low c.args.window.high c.max-first.result end (g.C.CostSource.call_count c.args.costs.now) _ _ _
+        (omega arith) (omega arith) (omega arith) is (λ i from below. sym (kept i (inl (omega arith)))) c.least_end-cost.ensures.counted
+        (c.fill_part.ensures.calls.exact b (omega arith)) (c.fill_part-then-part.ensures.calls.exact b (omega arith))
 
-pub returns-else-part-clause-exact : goal.returns-else-part-clause-exact
-returns-else-part-clause-exact g t c = λ b lt.
-    let part = c.args.part in
-    omega (arith, tried-none (slice_index c.args.ends.now) b part.start part.end c.args.window.low c.args.window.high (omega arith))
+pub returns-else-part-clause-calls : goal.returns-else-part-clause-calls
+returns-else-part-clause-calls g t c = record {
+  counted = λ b lt. omega arith;
+  exact = λ b lt.
+      let part = c.args.part in
+      omega (arith, tried-none (slice_index c.args.ends.now) b part.start part.end c.args.window.low c.args.window.high (omega arith));
+  most = omega arith;
+}

@@ -1,9 +1,9 @@
-use Rattle.std.proofs.Common.{◌≡◌, ap, refl, sym, subst}
+use Rattle.std.proofs.Common.{◌≡◌, refl, sym, subst}
 use Rattle.heap_theory.specs.State.{Heap}
-use Rattle.quarantine_core.specs.Queue.{Queue}
+use Rattle.tagged_heap.specs.Chunks.{IsListed}
 use Rattle.tagged_heap.specs.Keeping.{header_in}
 use Rattle.tagged_heap.specs.View.{IsLettingGo}
-use Rattle.tagged_heap.proofs.LettingGo.{IsLetOut, IsListed, region_at, stands_at, list_fits, step_at}
+use Rattle.tagged_heap.proofs.LettingGo.{IsLetOut, region_at, stands_at, list_fits, step_at}
 use Rattle.tagged_heap.proofs.freeing.let_go.Goals as goal
 use Rattle.tagged_heap.proofs.freeing.let_go.Goals.{In-Some, After-list_freed}
 
@@ -19,14 +19,7 @@ next_out-requires-clause-linked c =
 
 -- what was taken off
 let_out : (c : In-Some) → IsLetOut c.args.layout.now c.loop-slot.memory c.next_out.new.memory c.loop-slot.quarantine c.next_out.new.self c.in-Some.slot
-let_out c = record {
-  over = c.in-Some.ensures.over.0 refl;
-  oldest = c.in-Some.ensures.oldest;
-  queued = c.in-Some.ensures.queued;
-  front = ap (λ (q : Queue). q.front) c.in-Some.ensures.value;
-  limit = ap (λ (q : Queue). q.limit) c.in-Some.ensures.value;
-  link = c.in-Some.ensures.link;
-}
+let_out c = record { over = c.in-Some.ensures.over.0 refl; out = c.in-Some.ensures.oldest }
 
 -- where it is put
 listed : (c : In-Some) → IsListed c.loop-slot.lists (header_in c.args.layout.now c.next_out.new.memory c.in-Some.slot).class
@@ -34,14 +27,8 @@ listed c =
     let some = c.loop-slot.invariant.0 in
     list_fits some.0 c.args.layout.now some.1 c.loop-slot.memory c.loop-slot.quarantine c.loop-slot.lists some.2 c.next_out.new.memory c.next_out.new.self c.in-Some.slot (let_out c)
 
-pub list_freed-requires-clause-few : goal.list_freed-requires-clause-few
-list_freed-requires-clause-few c = (listed (goal.at.list_freed-requires-clause-few c).In-Some).few
-
 pub list_freed-requires-clause-class : goal.list_freed-requires-clause-class
-list_freed-requires-clause-class c = (listed (goal.at.list_freed-requires-clause-class c).In-Some).listed
-
-pub list_freed-requires-clause-front : goal.list_freed-requires-clause-front
-list_freed-requires-clause-front c = (listed (goal.at.list_freed-requires-clause-front c).In-Some).front
+list_freed-requires-clause-class c = listed (goal.at.list_freed-requires-clause-class c).In-Some
 
 next : (c : After-list_freed) → (out : IsLetOut c.args.layout.now c.loop-slot.memory c.next_out.new.memory c.loop-slot.quarantine c.next_out.new.self c.in-Some.slot) (heap : Heap) → heap.layout ≡ c.args.layout.now → IsLettingGo heap c.loop-slot.memory c.loop-slot.quarantine c.loop-slot.lists →
     IsLettingGo heap c.list_freed.new.memory c.next_out.new.self c.list_freed.new.lists

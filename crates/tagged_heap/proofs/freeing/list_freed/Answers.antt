@@ -12,6 +12,7 @@ returns-clause-header c =
     let layout = c.args.layout.now in
     let class = c.from.ensures ∙ ap (λ (x : Header). x.class) c.header-before.ensures.header in
     listed_header layout c.args.memory.now c.write.new.memory c.push.new.memory c.args.slot _ (seen c.header-before.result) c.requires.memory c.requires.order c.requires.region
-    c.requires.slot c.header-before.ensures.fits c.requires.front c.header-before.ensures.header
+    c.requires.slot c.header-before.ensures.fits c.requires.class.front c.header-before.ensures.header
     (c.write.ensures.written ∙ ap (λ g. with_header c.args.memory.now g (record (seen c.header-before.result) { standing = Freed })) c.start-start.ensures.start)
-    (c.push.ensures.link ∙ ap (λ k. with_next c.write.new.memory (slot_of layout c.args.slot).start (slice_index c.args.lists.now k)) class)
+    (c.push.ensures.link.written
+    ∙ ap (λ k. with_next c.write.new.memory (slot_of layout c.args.slot).start (slice_index c.args.lists.now k)) class)

@@ -1,17 +1,5 @@
-use Rattle.heap_theory.proofs.HeaderWords.{header_of-words, words-header_of, header_at-tagged, header_at-written, words_fit, header_of-fits, with_header-words, header_at-with_header, header_at-elsewhere, tag_at-with_header, IsMemory-with_header}
+use Rattle.heap_theory.proofs.HeaderWords.{header_at-tagged, header_at-written, with_header-words, header_at-with_header, header_at-elsewhere, tag_at-with_header, IsMemory-with_header}
 use Rattle.heap_theory.proofs.laws.headers.law_header.Goals as goal
-
-pub returns-clause-words : goal.returns-clause-words
-returns-clause-words c = header_of-words
-
-pub returns-clause-all_bits : goal.returns-clause-all_bits
-returns-clause-all_bits c = words-header_of
-
-pub returns-clause-fit : goal.returns-clause-fit
-returns-clause-fit c = words_fit
-
-pub returns-clause-fits : goal.returns-clause-fits
-returns-clause-fits c = header_of-fits
 
 pub returns-clause-two_words : goal.returns-clause-two_words
 returns-clause-two_words c = with_header-words

@@ -9,15 +9,16 @@ use Rattle.heap_theory.specs.Run.{Replay, heap_after, variables_after, answer_of
 use Rattle.heap_theory.specs.Totals.{Totals, totals_after}
 use Rattle.heap_theory.specs.State.{Heap}
 use Rattle.replay_core.specs.Inside.{stored}
-use Rattle.replay_core.specs.Shown.{AreNullOrTagged, over, shown, totals_in}
+use Rattle.replay_core.specs.Shown.{AreVariables, over, shown, totals_in}
 use Rattle.replay_core.specs.Stored.{Stored, IsStored, stored_after}
 use Rattle.heap_theory.proofs.LayoutStays.{layout_after}
 use Rattle.replay_core.proofs.Reached.{null_or_tagged, IsStored-after, stored_in_parts, run_goes_on}
 use Rattle.replay_core.proofs.replay.Replay.step.Goals as goal
 
-pub perform-answer-requires-clause-tagged : goal.perform-answer-requires-clause-tagged
-perform-answer-requires-clause-tagged c =
-    subst AreNullOrTagged (sym c.deref_mut.ensures.value) (null_or_tagged (stored c.self.inside) c.self.invariant.reached)
+pub perform-answer-requires-clause-variables : goal.perform-answer-requires-clause-variables
+perform-answer-requires-clause-variables c =
+    subst AreVariables (sym c.deref_mut.ensures.value)
+    (record { long = c.self.invariant.long; tagged = null_or_tagged (stored c.self.inside) c.self.invariant.reached })
 
 -- no event changes the classes
 classes_stay : (replay : Replay) (event : Event) (after : Heap) → after ≡ heap_after replay event → after.layout.classes ≡ replay.heap.layout.classes

@@ -3,7 +3,7 @@ use Rattle.heap_theory.specs.Calls.{freed}
 use Rattle.tagged_heap.specs.Inside.{state_of}
 use Rattle.tagged_heap.specs.View.{Counted, shown_heap, IsHeldIn}
 use Rattle.tagged_heap.proofs.Opened.{slot_within, state_seen}
-use Rattle.tagged_heap.proofs.Retiring.{room_for, lent_region, lent_linked, lent_outside, lent_unlinked, put_letting_go, retired_held, retired_shown}
+use Rattle.tagged_heap.proofs.Retiring.{room_for, lent_can_be_put, put_letting_go, retired_held, retired_shown}
 use Rattle.tagged_heap.proofs.heap.Heap.release.Goals as goal
 
 pub slot-place-requires : goal.slot-place-requires
@@ -13,25 +13,13 @@ pub retire-requires-clause-room : goal.retire-requires-clause-room
 retire-requires-clause-room c =
     room_for c.self.inside c.args.self.now c.self.view_is c.self.invariant c.args.slot c.requires.live.0 c.requires.live.1 c.requires.slot c.requires.live.2
 
-pub put-requires-clause-region : goal.put-requires-clause-region
-put-requires-clause-region c =
-    lent_region c.self.inside c.args.self.now c.self.view_is c.self.invariant c.args.slot c.requires.live.0 c.requires.live.1 c.requires.slot c.requires.live.2
-    c.requires.few c.retire.new.machine c.retire.ensures.machine c.retire.ensures.memory c.memory_mut-memory.result.now c.memory_mut-memory.ensures.value
-
-pub put-requires-clause-linked : goal.put-requires-clause-linked
-put-requires-clause-linked c =
-    lent_linked c.self.inside c.args.self.now c.self.view_is c.self.invariant c.args.slot c.requires.live.0 c.requires.live.1 c.requires.slot c.requires.live.2
-    c.requires.few c.retire.new.machine c.retire.ensures.machine c.retire.ensures.memory c.memory_mut-memory.result.now c.memory_mut-memory.ensures.value
-
-pub put-requires-clause-outside : goal.put-requires-clause-outside
-put-requires-clause-outside c =
-    lent_outside c.self.inside c.args.self.now c.self.view_is c.self.invariant c.args.slot c.requires.live.0 c.requires.live.1 c.requires.slot c.requires.live.2
-    c.requires.few c.retire.new.machine c.retire.ensures.machine c.retire.ensures.memory c.memory_mut-memory.result.now c.memory_mut-memory.ensures.value
-
-pub put-requires-clause-next : goal.put-requires-clause-next
-put-requires-clause-next c =
-    lent_unlinked c.self.inside c.args.self.now c.self.view_is c.self.invariant c.args.slot c.requires.live.0 c.requires.live.1 c.requires.slot c.requires.live.2
-    c.requires.few c.retire.new.machine c.retire.ensures.machine c.retire.ensures.memory c.memory_mut-memory.result.now c.memory_mut-memory.ensures.value
+pub put-requires : goal.put-requires
+put-requires c =
+    let live = c.requires.live in
+    lent_can_be_put c.self.inside c.args.self.now c.self.view_is c.self.invariant c.args.slot live.0 live.1 c.requires.slot live.2
+    c.requires.few c.retire.new.machine c.retire.ensures.machine c.retire.ensures.memory
+    c.memory_mut-memory.result.now c.memory_mut-memory.ensures.value
+    (16 * c.slot-place.result.class) (ap (λ n. 16 * n) c.slot-place.ensures.class)
 
 pub let_go-requires : goal.let_go-requires
 unfolding shown_heap freed
