@@ -2,14 +2,19 @@
 use Rattle.std.proofs.Common.{◌≡◌, arith, codes, List, Option, Some, None}
 use Rattle.std.specs.Prelude.{option_map}
 use Rattle.clap.specs.Words.{Row, Text}
-use Rattle.command_line.specs.Calls.{HasConfig, IsCall, IsValid, IsValidConfig, Names}
+use Rattle.command_line.specs.Calls.{HasConfig, IsCall, IsValid, Names}
 use Rattle.command_line.specs.declared.commands.replay.Replay.{Replay as ReplayOptions}
 use Rattle.command_line.specs.declared.call.Call.{Call}
 use Rattle.command_line.specs.declared.call.Call.TheVariants.{Score, Tune, Check, Profile, Replay, Run}
+use Rattle.tagged_heap.specs.Config.{IsConfig}
 use Rattle.tagged_heap.specs.declared.heap.Config.{Config}
 
-valid_config : (options : List Row) (config : Config) → HasConfig options config → IsValidConfig config
-valid_config options config has = (has.0.1, has.0.2, λ zero. omega (arith, has.1.1), has.2.2)
+valid_config : (options : List Row) (config : Config) → HasConfig options config → IsConfig config
+valid_config options config has = record {
+  granules = (has.0.1, has.0.2);
+  seed = λ zero. omega (arith, has.1.1);
+  quarantine = has.2.2;
+}
 
 pub call_is_valid : (command : Option (Text × List Row)) (call : Call) → IsCall command call → IsValid call
 call_is_valid None call is = absurd is

@@ -1,5 +1,5 @@
 -- Which call the words of a command mean, and the answers of the call's engine.
-use Rattle.std.specs.Prelude.{◌≡◌, ◌≢◌, ℕ, ◌≤◌, List, Option, Some, None, Result, Ok, Err, codes, ⊤}
+use Rattle.std.specs.Prelude.{◌≡◌, ℕ, ◌≤◌, List, Option, Some, None, Result, Ok, Err, codes, ⊤}
 use Rattle.std.specs.Str.Parse.{IsNumeral, without_leading_plus, digits_value}
 use Rattle.clap.specs.Words.{Row, Text, one_of}
 use Rattle.class_table.specs.Steps.{IsStep}
@@ -13,7 +13,10 @@ use Rattle.mte_engine.specs.Tune.{TuneAnswers}
 use Rattle.mte_engine.specs.declared.fault.InputFault.{InputFault}
 use Rattle.command_line.specs.declared.call.Call.{Call}
 use Rattle.command_line.specs.declared.call.Call.TheVariants.{Score, Tune, Check, Profile, Replay, Run}
+use Rattle.class_table.specs.declared.layout.TheConstants.{FEWEST_GRANULES, MOST_GRANULES}
+use Rattle.tagged_heap.specs.Config.{IsConfig}
 use Rattle.tagged_heap.specs.declared.heap.Config.{Config}
+use Rattle.tagged_heap.specs.declared.heap.TheConstants.Config.{MOST_QUARANTINE}
 
 -- The option of this name has a value that spells the number: decimal digits, with or without a `+` before them.
 abbrev pub HasNumber : List Row → Text → ℕ → Type 0
@@ -38,13 +41,13 @@ HasStep options n = HasNumberIn options (codes "step") 1 8 n × IsStep n
 
 -- `--granules`, `--seed` and `--quarantine`.
 abbrev pub HasGranules : List Row → ℕ → Type 0
-HasGranules options n = HasNumberIn options (codes "granules") 64 262144 n
+HasGranules options n = HasNumberIn options (codes "granules") FEWEST_GRANULES MOST_GRANULES n
 
 abbrev pub HasSeed : List Row → ℕ → Type 0
 HasSeed options n = HasNumberIn options (codes "seed") 1 65535 n
 
 abbrev pub HasQuarantine : List Row → ℕ → Type 0
-HasQuarantine options n = HasNumberIn options (codes "quarantine") 0 4194304 n
+HasQuarantine options n = HasNumberIn options (codes "quarantine") 0 MOST_QUARANTINE n
 
 abbrev pub HasConfig : List Row → Config → Type 0
 HasConfig options config =
@@ -67,19 +70,14 @@ IsCall (Some command) call = Names command.0 command.1 call
 abbrev pub IsNoCall : Option (Text × List Row) → Type 0
 IsNoCall command = (call : Call) → IsCall command call → ⊥
 
--- A heap can be set up so.
-abbrev pub IsValidConfig : Config → Type 0
-IsValidConfig config =
-    (64 ≤ config.granules) × (config.granules ≤ 262144) × (config.seed ≢ 0) × (config.quarantine ≤ 4194304)
-
 -- What each command's engine wants of its options.
 abbrev pub IsValid : Call → Type 0
 IsValid Score = ⊤
 IsValid (Tune o) = (1 ≤ o.limit) × (o.limit ≤ 32) × IsStep o.step
 IsValid Check = ⊤
 IsValid Profile = ⊤
-IsValid (Replay o) = IsValidConfig o.config
-IsValid (Run o) = (1 ≤ o.limit) × (o.limit ≤ 32) × IsStep o.step × IsValidConfig o.config
+IsValid (Replay o) = IsConfig o.config
+IsValid (Run o) = (1 ≤ o.limit) × (o.limit ≤ 32) × IsStep o.step × IsConfig o.config
 
 -- The answers of a call's engine.
 abbrev pub answers_of : Call → List ℕ → Result Answer InputFault → Type 0

@@ -72,10 +72,15 @@ run_words =
 abbrev pub top : App
 top = on_top (λ s. record s { has_version = true; subcommand_required = true; arg_required_else_help = true }) (new_app (codes "mte_tool"))
 
+-- The commands that read and write tables, and those that read a trace.
+abbrev pub with_table_commands : App → App
+with_table_commands a = with_subcommand (with_subcommand (with_subcommand a score_words.top) tune_words.top) check_words.top
+
+abbrev pub with_trace_commands : App → App
+with_trace_commands a = with_subcommand (with_subcommand (with_subcommand a profile_words.top) replay_words.top) run_words.top
+
 abbrev pub program : App
-program =
-    with_subcommand (with_subcommand (with_subcommand (with_subcommand (with_subcommand (with_subcommand top
-    score_words.top) tune_words.top) check_words.top) profile_words.top) replay_words.top) run_words.top
+program = with_trace_commands (with_table_commands top)
 
 -- An option, and a command without subcommands, with these words.
 abbrev pub IsOption : Arg → Rule → Type 0

@@ -6,6 +6,7 @@ ghost use Rattle.command_line.specs.Program.{IsOption, granules_rule, limit_rule
 
 use crate::refusal::OptionFault;
 use clap::{Arg, ArgMatches, value_parser};
+use class_table::{FEWEST_GRANULES, MOST_GRANULES};
 use std::alloc::Global;
 use tagged_heap::Config;
 
@@ -112,9 +113,9 @@ pub fn config_of(options: &ArgMatches<'_>) -> Result<Config, OptionFault>
         (λ _. (config : Config) → HasConfig (rows_of (found_of options.now)) config → ⊥) }
 {
     Ok(Config {
-        granules: number_in(options, GRANULES, 64, 262_144)?,
+        granules: number_in(options, GRANULES, FEWEST_GRANULES, MOST_GRANULES)?,
         seed: seed_of(options)?,
-        quarantine: number_in(options, QUARANTINE, 0, 4_194_304)?,
+        quarantine: number_in(options, QUARANTINE, 0, Config::MOST_QUARANTINE)?,
     })
 }
 

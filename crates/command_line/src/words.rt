@@ -3,7 +3,7 @@ ghost use Rattle.std.specs.Prelude.{◌≡◌, IfOk, IfErr, MatchResult, map, st
 ghost use Rattle.clap.specs.Words.{app_of};
 ghost use Rattle.mte_engine.specs.Outcome.{IsReady, Runs};
 ghost use Rattle.command_line.specs.Calls.{answers_of};
-ghost use Rattle.command_line.specs.Program.{program};
+ghost use Rattle.command_line.specs.Program.{program, top, with_table_commands, with_trace_commands};
 ghost use Rattle.command_line.specs.Words.{AreRefused, Mean};
 
 use crate::call::{Call, call_of};
@@ -36,16 +36,38 @@ docs/FORMATS.md in the repository has the formats and all codes.";
 pub fn command<'a>(alloc: Global) -> Result<Command<'a>, AllocError>
     ensures { IfOk result (λ command. app_of command ≡ program) }
 {
-    let command = Command::new(alloc, "mte_tool")
+    let command = top_words(alloc);
+    let command = add_table_commands(alloc, command)?;
+    add_trace_commands(alloc, command)
+}
+
+// the words of the program itself: one of its commands has to be named
+fn top_words<'a>(alloc: Global) -> Command<'a>
+    ensures { app_of result ≡ top }
+{
+    Command::new(alloc, "mte_tool")
         .version("0.1.0")
         .about(ABOUT)
         .after_help(AFTER)
         .subcommand_required(true)
-        .arg_required_else_help(true);
+        .arg_required_else_help(true)
+}
+
+// adds the commands that read and write tables
+fn add_table_commands<'a>(alloc: Global, command: Command<'a>) -> Result<Command<'a>, AllocError>
+    ensures { IfOk result (λ added. app_of added ≡ with_table_commands (app_of command.entry)) }
+{
     command
         .subcommand(score::words(alloc))?
         .subcommand(tune::words(alloc)?)?
-        .subcommand(check::words(alloc))?
+        .subcommand(check::words(alloc))
+}
+
+// adds the commands that read a trace
+fn add_trace_commands<'a>(alloc: Global, command: Command<'a>) -> Result<Command<'a>, AllocError>
+    ensures { IfOk result (λ added. app_of added ≡ with_trace_commands (app_of command.entry)) }
+{
+    command
         .subcommand(profile::words(alloc))?
         .subcommand(replay::words(alloc)?)?
         .subcommand(run::words(alloc)?)

@@ -1,5 +1,5 @@
 -- The answers of `replay`: the report on a trace, replayed on the heap over a class table.
-use Rattle.std.specs.Prelude.{◌≡◌, ◌≢◌, ℕ, ◌≤◌, List, [], ◌∷◌, Result, Ok, Err}
+use Rattle.std.specs.Prelude.{◌≡◌, ℕ, List, [], ◌∷◌, Result, Ok, Err}
 use Rattle.line_text.specs.FirstFault.{◌>>=◌}
 use Rattle.line_text.specs.Lines.{lines}
 use Rattle.class_table.specs.ClassLine.{table_of_line}
@@ -15,12 +15,6 @@ use Rattle.mte_engine.specs.Traces.{trace_part}
 use Rattle.mte_engine.specs.declared.engine.Status.TheVariants.{Done}
 use Rattle.mte_engine.specs.declared.fault.InputFault.{InputFault}
 use Rattle.mte_engine.specs.declared.fault.InputFault.TheVariants.{Table}
-
--- A heap can be set up so.
-pub record IsConfig (config : Config) : Type 0 where
-  pub granules : (64 ≤ config.granules) × (config.granules ≤ 262144)
-  pub seed : config.seed ≢ 0
-  pub quarantine : config.quarantine ≤ 4194304
 
 -- A region of this many granules for the classes of a table.
 abbrev pub region_for : Config → List ℕ → Partition

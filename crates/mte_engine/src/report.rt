@@ -1,6 +1,7 @@
 //! The report of a replay, as an engine writes it.
 ghost use Rattle.heap_theory.specs.Report.{totals_text};
-ghost use Rattle.mte_engine.specs.Replay.{IsConfig, report_on};
+ghost use Rattle.mte_engine.specs.Replay.{report_on};
+ghost use Rattle.tagged_heap.specs.Config.{IsConfig};
 ghost use Rattle.mte_engine.specs.Report.{report_from, report_unless};
 ghost use Rattle.std.specs.Prelude.{◌≡◌, ◌+◌, ◌^◌, ◌≤◌, ◌++◌, drop, length, vec_capacity, vec_len, true, IfOk};
 

@@ -1,7 +1,7 @@
 //! `run`: the class table of least waste for a trace, and the replay of the trace on the tagged heap over that table.
 ghost use Rattle.class_table.specs.Steps.{IsStep};
 ghost use Rattle.mte_engine.specs.Outcome.{GivesAnswer, IsReady, Runs};
-ghost use Rattle.mte_engine.specs.Replay.{IsConfig};
+ghost use Rattle.tagged_heap.specs.Config.{IsConfig};
 ghost use Rattle.mte_engine.specs.Reported.{text_left};
 ghost use Rattle.mte_engine.specs.Run.{RunAnswers};
 ghost use Rattle.mte_engine.specs.Traces.{KeepsEvents};

@@ -1,9 +1,6 @@
 //! `mte_tool`: size-class tables, and a heap with memory tags, on what a program really allocates.
 #![tactic(auto)]
 
-#[cfg(test)]
-mod tests;
-
 use command_line::End;
 use std::io::IsTerminal;
 

@@ -1,7 +1,13 @@
 -- Reading the rows of a sheet, line by line.
-use Rattle.std.proofs.Common.{◌≡◌, ℕ, suc, ◌+◌, ◌-◌, ◌<◌, ◌≤◌, List, [], ◌∷◌, ◌++◌, length, Result, Ok, Err, Some, None, refl, sym, ap, ◌∙◌, arith, length-append, append_assoc, append-nil}
+use Rattle.std.proofs.Common.{◌≡◌, ℕ, suc, ◌+◌, ◌-◌, ◌<◌, ◌≤◌, List, [], ◌∷◌, ◌++◌, length, Result, Ok, Err, Some, None, codes, true, refl, sym, ap, ◌∙◌, arith, length-append, append_assoc, append-nil}
 use Rattle.line_text.specs.FirstFault.{◌>>=◌}
-use Rattle.potential_check.specs.SheetText.{row_in, rows_from}
+use Rattle.line_text.specs.Lines.{words}
+use Rattle.potential_check.specs.Leading.{is_row_line}
+use Rattle.potential_check.specs.SheetText.{row_in, row_of_words, rows_from, words_after}
+
+-- A line with this name is a row line, and it is the row that its other words spell.
+pub named_row : (line : List ℕ) (rest : List (List ℕ)) → words_after (codes "row") (words line) ≡ Some rest → (is_row_line line ≡ true) × (row_in line ≡ row_of_words rest)
+named_row line rest named = (rw named refl, rw named refl)
 
 -- What is read, where these rows were read before.
 abbrev pub after : List (List ℕ) → Result (List (List ℕ)) ℕ → Result (List (List ℕ)) ℕ

@@ -1,15 +1,14 @@
 -- Reading the numbers of a line, word by word.
-use Rattle.std.proofs.Common.{◌≡◌, ℕ, ◌<◌, ◌≤◌, ◌^◌, Bool, true, false, List, [], ◌∷◌, ◌++◌, length, Option, Some, None, option_map, codes, drop, refl, ap, sym, slice_get, ◌∙◌, arith, ltb, leb, length-append, append_assoc, append-nil}
+use Rattle.std.proofs.Common.{◌≡◌, ℕ, ◌<◌, ◌≤◌, ◌^◌, Bool, true, false, List, [], ◌∷◌, ◌++◌, length, Option, Some, None, option_map, drop, refl, ap, sym, slice_get, ◌∙◌, arith, ltb, leb, length-append, append_assoc, append-nil}
 use Rattle.std.specs.List.{list_all}
 use Rattle.std.specs.Prelude.{option_and_then}
 use Rattle.std.proofs.lemmas.Bool.{and_left, and_right, lt-leb, le-leb}
 use Rattle.std.proofs.lemmas.List.Folds.{list_all-append}
 use Rattle.class_table.specs.ClassLine.{numbers_of}
-use Rattle.line_text.specs.Lines.{words}
 use Rattle.line_text.specs.Numbers.{number_of, classified}
 use Rattle.line_text.specs.declared.number.Number.{Number}
 use Rattle.line_text.specs.declared.number.Number.TheVariants.{Value}
-use Rattle.potential_check.specs.SheetText.{fits, is_row, only_one, passing, row_in, words_after}
+use Rattle.potential_check.specs.SheetText.{fits, is_row, only_one, passing, row_of_words}
 
 -- ---- what a word is
 
@@ -95,13 +94,13 @@ passing-some test (Some y) x e = go (test y) refl
 abbrev pub row_on : List ℕ → List (List ℕ) → Option (List ℕ)
 row_on front ws = passing is_row (option_map (λ ns. front ++ ns) (numbers_of ws))
 
-pub record RowSoFar (line : List ℕ) (rest : List (List ℕ)) (front : List ℕ) : Type 0 where
-  pub read : row_in line ≡ row_on front rest
+pub record RowSoFar (all rest : List (List ℕ)) (front : List ℕ) : Type 0 where
+  pub read : row_of_words all ≡ row_on front rest
   pub few : length front ≤ 1023
   pub small : list_all fits front ≡ true
 
-pub row_on-start : (line : List ℕ) (ws : List (List ℕ)) → Some ws ≡ words_after (codes "row") (words line) → RowSoFar line ws []
-row_on-start line ws e = record { read = rw (← e) (go (numbers_of ws)); few = omega arith; small = refl }
+pub row_on-start : (ws : List (List ℕ)) → RowSoFar ws ws []
+row_on-start ws = record { read = go (numbers_of ws); few = omega arith; small = refl }
   where
     go : (o : Option (List ℕ)) → passing is_row o ≡ passing is_row (option_map (λ ns. [] ++ ns) o)
     go None = refl
@@ -138,10 +137,10 @@ row_on-full front rest new w parts full = rw parts (go (number_of w) (numbers_of
     go (Some n) (Some ns) = rw (long n ns) refl
 
 -- a number more
-pub row_on-more : (line : List ℕ) (rest new : List (List ℕ)) (w front : List ℕ) (n : ℕ) → RowSoFar line rest front → rest ≡ w ∷ new → passing fits (number_of w) ≡ Some n
-    → length front < 1023 → RowSoFar line new (front ++ n ∷ [])
+pub row_on-more : (all rest new : List (List ℕ)) (w front : List ℕ) (n : ℕ) → RowSoFar all rest front → rest ≡ w ∷ new → passing fits (number_of w) ≡ Some n
+    → length front < 1023 → RowSoFar all new (front ++ n ∷ [])
 unfolding numbers_of
-row_on-more line rest new w front n so_far parts passes room =
+row_on-more all rest new w front n so_far parts passes room =
     let is = passing-some fits (number_of w) n passes in
     record {
       read = so_far.read ∙ rw (parts, is.0) (go (numbers_of new));
@@ -154,7 +153,7 @@ row_on-more line rest new w front n so_far parts passes room =
     go (Some ns) = rw (append_assoc front (n ∷ []) ns) refl
 
 -- no word more
-pub row_on-end : (line : List ℕ) (rest : List (List ℕ)) (front : List ℕ) → RowSoFar line rest front → rest ≡ [] → row_in line ≡ Some front
+pub row_on-end : (all rest : List (List ℕ)) (front : List ℕ) → RowSoFar all rest front → rest ≡ [] → row_of_words all ≡ Some front
 unfolding numbers_of
-row_on-end line rest front so_far none =
+row_on-end all rest front so_far none =
     so_far.read ∙ rw (none, append-nil front, le-leb (length front) 1023 so_far.few, so_far.small) refl

@@ -64,6 +64,12 @@ abbrev pub words_after : List ℕ → List (List ℕ) → Option (List (List ℕ
 words_after name [] = None
 words_after name (w ∷ ws) = if bytes_eq w name then Some ws else None
 
+-- The first of these lines has this name and then these words. The other lines come after it.
+pub record IsNextNamed (name : List ℕ) (before after : List (List ℕ)) (rest : List (List ℕ)) : Type 0 where
+  pub line : List ℕ
+  pub first : before ≡ line ∷ after
+  pub named : words_after name (words line) ≡ Some rest
+
 -- The numbers of a line of this name and numbers.
 abbrev pub numbers_in : List ℕ → List ℕ → Option (List ℕ)
 numbers_in name line = option_and_then numbers_of (words_after name (words line))
@@ -71,6 +77,10 @@ numbers_in name line = option_and_then numbers_of (words_after name (words line)
 abbrev pub only_one : List ℕ → Option ℕ
 only_one (n ∷ []) = Some n
 only_one numbers = None
+
+-- The number that words spell if they are just one number, where it passes the test.
+abbrev pub number_of_words : (ℕ → Bool) → List (List ℕ) → Option ℕ
+number_of_words test ws = passing test (option_and_then only_one (numbers_of ws))
 
 -- The number of a line of this name and just one number, where it passes the test.
 abbrev pub number_in : List ℕ → (ℕ → Bool) → List ℕ → Option ℕ
@@ -104,6 +114,13 @@ waste_in line = number_in (codes "waste") fits line
 
 abbrev pub row_in : List ℕ → Option (List ℕ)
 row_in line = passing is_row (numbers_in (codes "row") line)
+
+-- The same of a step and a row, from the words after the line's name.
+abbrev pub step_of_words : List (List ℕ) → Option ℕ
+step_of_words ws = number_of_words is_written_step ws
+
+abbrev pub row_of_words : List (List ℕ) → Option (List ℕ)
+row_of_words ws = passing is_row (numbers_of ws)
 
 -- Whether a line's first word is this name.
 abbrev pub is_named : List ℕ → List ℕ → Bool

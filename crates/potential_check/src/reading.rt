@@ -1,18 +1,18 @@
-ghost use Rattle.std.specs.Prelude.{◌≡◌, ◌≤◌, ◌∷◌, [], All, Bool, length, drop, IfNone, IfOk, IfSome};
+ghost use Rattle.std.specs.Prelude.{◌≡◌, ◌≤◌, [], All, length, drop, IfNone, IfOk, IfSome};
 ghost use Rattle.std.specs.List.{take_while};
 ghost use Rattle.std.specs.Option.{option_map};
 ghost use Rattle.line_text.specs.Lines.{IsLine, lines};
 ghost use Rattle.potential_check.specs.Leading.{GivesLeading, is_row_line};
 ghost use Rattle.potential_check.specs.Sheets.{sheet_of};
-ghost use Rattle.potential_check.specs.SheetText.{Gives, IsWithinLimits, head_of_lines, is_named, rows_from, sheet_in, step_at, waste_number};
+ghost use Rattle.potential_check.specs.SheetText.{Gives, IsNextNamed, IsWithinLimits, head_of_lines, is_named, rows_from, sheet_in, step_at, waste_number};
 
 use crate::fault::SheetError;
 use crate::leading::LeadingSheet;
 use crate::rows::Rows;
 use crate::sheet::Sheet;
-use crate::sheet_line::{ROW, STEP, is_named, limit_in, row_in, step_in, table_in, waste_in};
+use crate::sheet_line::{ROW, STEP, limit_in, row_in, step_in, table_in, waste_in, words_after};
 use class_table::{ClassTable, MOST_CLASSES};
-use line_text::{Lines, lines_in};
+use line_text::{Lines, Words, lines_in};
 use std::alloc::Global;
 
 // a sheet has a row for each number of classes up to its limit
@@ -90,7 +90,7 @@ fn step_at(lines: &mut Lines<'_>) -> Option<u8>
     ensures { step_at lines.old ≡ option_map (λ step. (step, lines.new)) result }
 {
     match next_named(STEP, lines) {
-        Some(line) => step_in(line),
+        Some(words) => step_in(words),
         None => Some(1),
     }
 }
@@ -112,12 +112,12 @@ fn rows_in(alloc: Global, lines: &mut Lines<'_>, first: u64) -> Result<Rows, She
     ensures after { IfOk result (λ rows. lines.new ≡ drop (length rows) lines.old) }
 {
     let mut rows = Vec::new(alloc);
-    while let Some(line) = next_named(ROW, lines) {
+    while let Some(words) = next_named(ROW, lines) {
         let number = first + rows.len() as u64;
         if rows.len() == MOST_ROWS {
             return Err(SheetError::Line(number));
         }
-        let Some(row) = row_in(alloc, line)? else {
+        let Some(row) = row_in(alloc, words)? else {
             return Err(SheetError::Line(number));
         };
         rows.push(row).map_err(|_| SheetError::OutOfMemory)?;
@@ -125,18 +125,13 @@ fn rows_in(alloc: Global, lines: &mut Lines<'_>, first: u64) -> Result<Rows, She
     Ok(Rows::new(rows))
 }
 
-// takes the next line if its first word is this name
-fn next_named<'a>(name: &[u8], lines: &mut Lines<'a>) -> Option<&'a [u8]>
-    ensures some { IfSome result
-        (λ line. (lines.old ≡ line.now ∷ lines.new) × (is_named name.now line.now ≡ Bool.true)) }
+// Takes the next line if its first word is this name, and gives the words after the name.
+fn next_named<'a>(name: &[u8], lines: &mut Lines<'a>) -> Option<Words<'a>>
+    ensures some { IfSome result (λ words. IsNextNamed name.now lines.old lines.new words) }
     ensures none { IfNone result ((lines.new ≡ lines.old) × (take_while (is_named name.now) lines.old ≡ [])) }
 {
     let mut ahead = lines_in(lines.rest());
-    match ahead.next() {
-        Some(line) if is_named(name, line) => {
-            *lines = ahead;
-            Some(line)
-        }
-        _ => None,
-    }
+    let words = words_after(name, ahead.next()?)?;
+    *lines = ahead;
+    Some(words)
 }

@@ -1,9 +1,8 @@
 //! What each line of a sheet spells.
-ghost use Rattle.std.specs.Prelude.{◌≡◌, IfOk, option_and_then};
+ghost use Rattle.std.specs.Prelude.{◌≡◌, IfOk};
 ghost use Rattle.std.specs.Option.{option_map};
 ghost use Rattle.line_text.specs.Lines.{IsLine, words};
-ghost use Rattle.class_table.specs.ClassLine.{numbers_of};
-ghost use Rattle.potential_check.specs.SheetText.{fits, is_named, limit_in, only_one, passing, row_in, step_in, table_in, waste_in, words_after};
+ghost use Rattle.potential_check.specs.SheetText.{fits, limit_in, number_of_words, row_of_words, step_of_words, table_in, waste_in, words_after};
 
 use class_table::{ClassTable, LARGEST_CLASS, MOST_CLASSES, SMALLEST_CLASS};
 use line_text::{Number, Words, number_in, words_in};
@@ -41,11 +40,11 @@ pub(crate) fn limit_in(line: &[u8]) -> Option<u8>
     }
 }
 
-// the step of a step line, which is never 1
-pub(crate) fn step_in(line: &[u8]) -> Option<u8>
-    ensures { result ≡ step_in line.now }
+// the step that the words after the name spell, which is never 1
+pub(crate) fn step_in(words: Words<'_>) -> Option<u8>
+    ensures { result ≡ step_of_words words.entry }
 {
-    match only_number(words_after(STEP, line)?)? {
+    match only_number(words)? {
         2 => Some(2),
         4 => Some(4),
         8 => Some(8),
@@ -59,13 +58,10 @@ pub(crate) fn waste_in(line: &[u8]) -> Option<u64>
     only_number(words_after(WASTE, line)?)
 }
 
-// the numbers of a row
-pub(crate) fn row_in(alloc: Global, line: &[u8]) -> Result<Option<Vec<u64>>, AllocError>
-    ensures { IfOk result (λ row. option_map (λ v. v.items) row ≡ row_in line.now) }
+// the numbers of a row, which are the words after the name
+pub(crate) fn row_in(alloc: Global, mut words: Words<'_>) -> Result<Option<Vec<u64>>, AllocError>
+    ensures { IfOk result (λ row. option_map (λ v. v.items) row ≡ row_of_words words.entry) }
 {
-    let Some(mut words) = words_after(ROW, line) else {
-        return Ok(None);
-    };
     let mut row = Vec::new(alloc);
     while let Some(read) = words.next_as_number() {
         let Number::Value(number) = read else {
@@ -79,15 +75,8 @@ pub(crate) fn row_in(alloc: Global, line: &[u8]) -> Result<Option<Vec<u64>>, All
     Ok(Some(row))
 }
 
-// whether a line's first word is this name
-pub(crate) fn is_named(name: &[u8], line: &[u8]) -> bool
-    ensures { result ≡ is_named name.now line.now }
-{
-    words_after(name, line).is_some()
-}
-
-// the words after a line's name
-fn words_after<'a>(name: &[u8], line: &'a [u8]) -> Option<Words<'a>>
+// the words of a line after this name, if it is the first word
+pub(crate) fn words_after<'a>(name: &[u8], line: &'a [u8]) -> Option<Words<'a>>
     ensures { result ≡ words_after name.now (words line.now) }
 {
     let mut words = words_in(line);
@@ -99,7 +88,7 @@ fn words_after<'a>(name: &[u8], line: &'a [u8]) -> Option<Words<'a>>
 
 // the number that the words spell, if they are one word
 fn only_number(mut words: Words<'_>) -> Option<u64>
-    ensures { result ≡ passing fits (option_and_then only_one (numbers_of words.entry)) }
+    ensures { result ≡ number_of_words fits words.entry }
 {
     let word = words.next()?;
     if let Some(_other) = words.next() {

@@ -1,5 +1,6 @@
 -- How large the totals are.
 use Rattle.std.specs.Prelude.{◌*◌, ◌^◌, ◌≤◌}
+use Rattle.class_table.specs.Sizes.{largest_counted}
 use Rattle.heap_theory.specs.Totals.{Totals}
 
 -- Each total is at most the number of events, and the loss at most 16,368 bytes for each; there are at most 2^40 events.
@@ -12,4 +13,4 @@ pub record AreBounded (t : Totals) : Type 0 where
   pub faults_tag : t.faults_tag ≤ t.events
   pub faults_unmapped : t.faults_unmapped ≤ t.events
   pub refused_frees : t.refused_frees ≤ t.events
-  pub loss : t.loss ≤ 16368 * t.requests
+  pub loss : t.loss ≤ largest_counted * t.requests

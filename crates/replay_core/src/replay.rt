@@ -3,7 +3,8 @@ ghost use Rattle.heap_theory.specs.Ranges.{IsInRange};
 ghost use Rattle.heap_theory.specs.Report.{report_line};
 ghost use Rattle.heap_theory.specs.Run.{answer_of};
 ghost use Rattle.replay_core.specs.Stored.{first_stored, stored_after};
-ghost use Rattle.std.specs.Prelude.{◌≡◌, ◌≢◌, ◌+◌, ◌^◌, ◌<◌, ◌≤◌, IfOk};
+ghost use Rattle.tagged_heap.specs.Config.{IsConfig};
+ghost use Rattle.std.specs.Prelude.{◌≡◌, ◌+◌, ◌^◌, ◌<◌, ◌≤◌, IfOk};
 
 use crate::access::MOST_BYTES;
 use crate::line::write_line;
@@ -48,9 +49,7 @@ impl Replay {
     /// A replay before its first event: a new heap over the classes of a table, with all variables null, which is 0. The only error is that
     /// the allocator refuses the block for the heap or the one for the variables. No other call takes memory.
     pub fn new(alloc: Global, table: &ClassTable, config: Config) -> Result<Replay, AllocError>
-        requires granules { (64 ≤ config.granules) × (config.granules ≤ 262144) }
-        requires seed { config.seed ≢ 0 }
-        requires quarantine { config.quarantine ≤ 4194304 }
+        requires { IsConfig config }
         ensures { IfOk result (λ replay.
             replay
             ≡ first_stored (record { classes = table.now; granules = config.granules }) config.seed config.quarantine) }

@@ -1,3 +1,4 @@
+ghost use Rattle.class_table.specs.Sizes.{largest_counted};
 ghost use Rattle.class_table.specs.Tables.{IsLegalTable};
 ghost use Rattle.heap_theory.specs.Report.{total_line, totals_text};
 ghost use Rattle.heap_theory.specs.Totals.{request_size, totals_after};
@@ -103,7 +104,7 @@ impl Totals {
     // Counts a request of this size, if there was one, and what it loses if it was not refused.
     fn count_request(&mut self, heap: &Heap, size: Option<u32>, answer: &Answer)
         requires few { self.old.requests ≤ 2 ^ 40 }
-        requires small { self.old.loss ≤ 16368 * 2 ^ 40 }
+        requires small { self.old.loss ≤ largest_counted * 2 ^ 40 }
         ensures { (bytes : List ℕ) →
             totals_in self.new
             ≡ with_request heap.now.state.layout.classes (totals_in self.old) size (shown bytes answer.now) }

@@ -1,3 +1,4 @@
+pub mod Config
 pub mod Chunks
 pub mod Keeping
 pub mod View

@@ -1,4 +1,5 @@
 //! The calls that give out a chunk.
+ghost use Rattle.class_table.specs.Sizes.{largest_counted};
 ghost use Rattle.heap_theory.specs.Calls.{calloc_step, given_out, malloc_step, with_payload};
 ghost use Rattle.class_table.specs.Tables.{class_number_for};
 ghost use Rattle.heap_theory.specs.Choice.{slot_for_request};
@@ -17,7 +18,7 @@ use heap_theory::NullCause;
 
 /// The number of the class that serves a request of `n` bytes, or why none does.
 pub(crate) fn class_for(layout: &Layout, n: u32) -> Result<usize, NullCause>
-    ensures ok { IfOk result (λ number. (n ≤ 16368) × (class_number_for layout.now.classes n ≡ Some number)) }
+    ensures ok { IfOk result (λ number. (n ≤ largest_counted) × (class_number_for layout.now.classes n ≡ Some number)) }
     ensures within { IfOk result (λ number. number < length layout.now.classes) }
     ensures err { IfErr result (IsCauseFor layout.now.classes n) }
 {
@@ -90,7 +91,7 @@ impl Heap {
     // Sets all bytes of the chunk granules for n bytes in a slot to 0.
     fn zero_chunk(&mut self, slot: u32, n: u32)
         requires slot { IsSlot self.old.state slot }
-        requires size { n ≤ 16368 }
+        requires size { n ≤ largest_counted }
         requires room { chunk_granules n < (slot_in self.old.state slot).class }
         ensures { self.new
             ≡ record self.old { state = with_payload self.old.state slot (replicate (16 * chunk_granules n) 0) } }

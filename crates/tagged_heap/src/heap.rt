@@ -1,7 +1,9 @@
+ghost use Rattle.class_table.specs.Sizes.{largest_counted};
 ghost use Rattle.heap_theory.specs.State.{first_heap};
 ghost use Rattle.heap_theory.specs.Totals.{loss_of_size};
 ghost use Rattle.machine_theory.specs.Instructions.{addg, subg};
-ghost use Rattle.std.specs.Prelude.{◌≡◌, ◌≢◌, ◌≤◌, IfOk};
+ghost use Rattle.tagged_heap.specs.Config.{IsConfig};
+ghost use Rattle.std.specs.Prelude.{◌≡◌, ◌≤◌, IfOk};
 
 use crate::fresh::{first_slots, write_fresh_headers};
 use arrayvec::ArrayVec;
@@ -20,8 +22,13 @@ pub struct Config {
     pub granules: u32,
     /// The seed of the random tags; not 0.
     pub seed: u16,
-    /// The limit of the quarantine, 0 to 4,194,304: the most bytes of freed blocks that it holds back from reuse.
+    /// The limit of the quarantine, 0 to `MOST_QUARANTINE`: the most bytes of freed blocks that it holds back from reuse.
     pub quarantine: u32,
+}
+
+impl Config {
+    /// The greatest limit of a quarantine, in bytes.
+    pub const MOST_QUARANTINE: u32 = 4_194_304;
 }
 
 /// A heap over one region of tagged memory. It gives out chunks under random tags, and holds freed chunks in quarantine.
@@ -55,9 +62,7 @@ impl Heap {
     /// An empty heap over the classes of a table. It takes one block of 17 bytes for each granule from the allocator. The only error is
     /// that the allocator refuses this block. No other call takes memory.
     pub fn new(alloc: Global, table: &ClassTable, config: Config) -> Result<Heap, AllocError>
-        requires granules { (64 ≤ config.granules) × (config.granules ≤ 262144) }
-        requires seed { config.seed ≢ 0 }
-        requires quarantine { config.quarantine ≤ 4194304 }
+        requires { IsConfig config }
         ensures state { IfOk result (λ heap.
             heap.state
             ≡ first_heap (record { classes = table.now; granules = config.granules }) config.seed config.quarantine) }
@@ -90,7 +95,7 @@ impl Heap {
     /// The bytes that a request of `n` bytes leaves unused in a block of its class, 0 to 16,368; 0 if no class serves it.
     pub fn loss(&self, n: u32) -> u32
         ensures loss { result ≡ loss_of_size self.now.state.layout.classes n }
-        ensures small { result ≤ 16368 }
+        ensures small { result ≤ largest_counted }
     {
         self.layout.loss(n)
     }

@@ -1,4 +1,5 @@
 //! The call that resizes a chunk.
+ghost use Rattle.class_table.specs.Sizes.{largest_counted};
 ghost use Rattle.heap_theory.specs.Calls.{given_out, is_class_of, moved, payload_bytes, realloc_step, resized, with_payload};
 ghost use Rattle.heap_theory.specs.Choice.{class_for_request, slot_for_request};
 ghost use Rattle.heap_theory.specs.OwnPointers.{IsNotRefused, IsNullOrOwn};
@@ -69,7 +70,7 @@ impl Heap {
     fn stays_in_class(&self, slot: u32, n: u32) -> bool
         requires { IsSlot self.now.state slot }
         ensures test { result ≡ is_class_of (slot_in self.now.state slot) (class_for_request self.now.state n) }
-        ensures size { IsTrue result → n ≤ 16368 }
+        ensures size { IsTrue result → n ≤ largest_counted }
         ensures room { IsTrue result → chunk_granules n < (slot_in self.now.state slot).class }
     {
         class_for(&self.layout, n) == Ok(self.layout.class_of(slot))
@@ -79,7 +80,7 @@ impl Heap {
     fn resize(&mut self, slot: u32, n: u32)
         requires slot { IsSlot self.old.state slot }
         requires live { (size : ℕ) × (tag : ℕ) × (state_at self.old.state slot ≡ Live size tag) }
-        requires size { n ≤ 16368 }
+        requires size { n ≤ largest_counted }
         requires room { chunk_granules n < (slot_in self.old.state slot).class }
         ensures { self.new ≡ record self.old { state = resized self.old.state slot n } }
     {

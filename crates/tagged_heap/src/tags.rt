@@ -1,4 +1,5 @@
 //! The tags of chunks: how one is drawn, and the granules that get it.
+ghost use Rattle.class_table.specs.Sizes.{largest_counted};
 ghost use Rattle.heap_theory.specs.Calls.{chunk_tagged, parity_exclude};
 ghost use Rattle.heap_theory.specs.State.{chunk_granules};
 ghost use Rattle.machine_theory.specs.Instructions.{drawn_tag};
@@ -11,7 +12,7 @@ use tag_machine::Machine;
 
 /// The granules of the chunk for a request of `n` bytes, at most 16,368.
 pub(crate) fn chunk_granules(n: u32) -> u32
-    requires { n ≤ 16368 }
+    requires { n ≤ largest_counted }
     ensures granules { result ≡ chunk_granules n }
     ensures some { 1 ≤ result }
     ensures most { result ≤ 1023 }
@@ -43,7 +44,7 @@ pub(crate) fn draw(machine: &mut Machine, exclude: u16) -> u8
 pub(crate) fn tag_chunk(machine: &mut Machine, slot: Slot, n: u32, tag: u8)
     requires inside { slot.start + slot.class ≤ length machine.old.memory }
     requires memory { IsMemory machine.old.memory }
-    requires size { n ≤ 16368 }
+    requires size { n ≤ largest_counted }
     requires room { chunk_granules n < slot.class }
     requires tag { tag < 16 }
     ensures tagged { machine.new ≡ record machine.old {

@@ -5,12 +5,12 @@ use Rattle.potential_check.specs.Lists.{lists_of}
 use Rattle.potential_check.proofs.RowLines.{RowsSoFar}
 use Rattle.potential_check.proofs.reading.rows_in.Given as goal
 
-abbrev pub invariant-loop-line : goal.invariant-loop-line
-invariant-loop-line l = record {
+abbrev pub invariant-loop-words : goal.invariant-loop-words
+invariant-loop-words l = record {
   rows : RowsSoFar l.first (take_while is_row_line l.fn.lines) (take_while is_row_line l.lines) (lists_of l.rows.items);
   size : length (take_while is_row_line l.fn.lines) ≡ length l.rows.items + length (take_while is_row_line l.lines);
   after : l.lines ≡ drop (length l.rows.items) l.fn.lines;
 }
 
-abbrev pub decreases-loop-line : goal.decreases-loop-line
-decreases-loop-line l = 33 - length l.rows.items
+abbrev pub decreases-loop-words : goal.decreases-loop-words
+decreases-loop-words l = 33 - length l.rows.items

@@ -1,7 +1,4 @@
 //! What the tests share.
-ghost use Rattle.std.specs.Prelude.{◌≡◌, IfOk};
-
-use mte_engine::{MemorySink, MemorySource};
 use profile_count::Profile;
 use std::process::Abort;
 use std::test::Fail;
@@ -20,29 +17,4 @@ pub fn profile(rt: &impl AllocGlobal) -> Result<Profile, Fail> {
 /// Where a call was refused memory in both of its attempts. The script refuses one growth alone, so the second one has all it wants.
 pub fn refused_twice(rt: &impl Abort) -> Result<(), Fail> {
     panic!(rt; "memory was refused twice")
-}
-
-/// A source over memory that gives all it has at once.
-pub fn source(input: &[u8]) -> MemorySource<'_>
-    ensures { result.failed ≡ 0 }
-{
-    MemorySource {
-        rest: input,
-        most: usize::MAX,
-        until_failure: None,
-        reads: 0,
-        failed: 0,
-    }
-}
-
-/// A sink with room for every text of the tests, so that it takes no memory later.
-pub fn sink(rt: &impl AllocGlobal) -> Result<MemorySink, Fail>
-    ensures { IfOk result (λ sink. sink.failed ≡ 0) }
-{
-    Ok(MemorySink {
-        text: Vec::with_capacity(rt.alloc(), 4096)?,
-        most: usize::MAX,
-        until_failure: None,
-        failed: 0,
-    })
 }

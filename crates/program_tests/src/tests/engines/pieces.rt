@@ -2,7 +2,8 @@
 ghost use Rattle.std.specs.Prelude.{Some};
 
 use super::calls::{Call, call_on};
-use super::support::{ended, sink_with_room};
+use super::support::ended;
+use crate::tests::streams::sink_with_room;
 use mte_engine::{ByteSource, Failure};
 use std::process::Abort;
 use std::test::Fail;

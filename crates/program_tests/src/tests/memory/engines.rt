@@ -1,5 +1,6 @@
 //! The six engines: where a growth is refused, the sink is as it was.
-use super::support::{PROFILE, SHEET, refused_twice, sink, source};
+use super::support::{PROFILE, SHEET, refused_twice};
+use crate::tests::streams::{sink, source};
 use mte_engine::{MemorySink, Status, ToolFault, check, profile, replay, run, score, tune};
 use replay_core::Config;
 use std::process::Abort;
@@ -20,7 +21,7 @@ const REPORT: &str =
 #[test]
 fn scoring(rt: HostRuntime) -> Result<(), Fail> {
     for _attempt in 0..2 {
-        let mut to = sink(&rt)?;
+        let mut to = sink(rt.alloc())?;
         let end = score(rt.alloc(), &mut source(b"classes 4\n16 3\n40 1\n"), &mut to);
         if answered(&rt, end, &to, "waste 104\n") {
             return Ok(());
@@ -32,7 +33,7 @@ fn scoring(rt: HostRuntime) -> Result<(), Fail> {
 #[test]
 fn tuning(rt: HostRuntime) -> Result<(), Fail> {
     for _attempt in 0..2 {
-        let mut to = sink(&rt)?;
+        let mut to = sink(rt.alloc())?;
         let end = tune(rt.alloc(), 2, 1, &mut source(PROFILE.as_bytes()), &mut to);
         if answered(&rt, end, &to, SHEET) {
             return Ok(());
@@ -46,7 +47,7 @@ fn checking(rt: HostRuntime) -> Result<(), Fail> {
     let mut input = String::from_str(rt.alloc(), SHEET)?;
     input.push_str(PROFILE)?;
     for _attempt in 0..2 {
-        let mut to = sink(&rt)?;
+        let mut to = sink(rt.alloc())?;
         let end = check(rt.alloc(), &mut source(input.as_bytes()), &mut to);
         if answered(&rt, end, &to, "optimal\n") {
             return Ok(());
@@ -58,7 +59,7 @@ fn checking(rt: HostRuntime) -> Result<(), Fail> {
 #[test]
 fn profiling(rt: HostRuntime) -> Result<(), Fail> {
     for _attempt in 0..2 {
-        let mut to = sink(&rt)?;
+        let mut to = sink(rt.alloc())?;
         let end = profile(rt.alloc(), &mut source(TRACE.as_bytes()), &mut to);
         if answered(&rt, end, &to, "0 1\n16 1\n") {
             return Ok(());
@@ -72,7 +73,7 @@ fn replaying(rt: HostRuntime) -> Result<(), Fail> {
     let mut input = String::from_str(rt.alloc(), "classes 2\n")?;
     input.push_str(TRACE)?;
     for _attempt in 0..2 {
-        let mut to = sink(&rt)?;
+        let mut to = sink(rt.alloc())?;
         let end = replay(rt.alloc(), CONFIG, &mut source(input.as_bytes()), &mut to);
         if answered(&rt, end, &to, REPORT) {
             return Ok(());
@@ -86,7 +87,7 @@ fn running(rt: HostRuntime) -> Result<(), Fail> {
     let mut written = String::from_str(rt.alloc(), "classes 2\nlimit 1\nwaste 16\nrow 16\n")?;
     written.push_str(REPORT)?;
     for _attempt in 0..2 {
-        let mut to = sink(&rt)?;
+        let mut to = sink(rt.alloc())?;
         let end = run(
             rt.alloc(),
             1,

@@ -1,8 +1,9 @@
 //! The six engines with their options, as values, so that one table runs them all.
 ghost use Rattle.mte_engine.specs.Outcome.{IsReady};
-ghost use Rattle.mte_engine.specs.Replay.{IsConfig};
+ghost use Rattle.tagged_heap.specs.Config.{IsConfig};
 
-use super::support::{ended, sink, source};
+use super::support::ended;
+use crate::tests::streams::{sink, source};
 use mte_engine::{
     ByteSink, ByteSource, Status, ToolFault, check, profile, replay, run, score, tune,
 };

@@ -1,5 +1,5 @@
 //! `tune` and `check` from text to text on what three real programs requested; the profiles are those in the folder `examples`.
-use super::support::{sink, sink_with_room, source};
+use crate::tests::streams::{sink, sink_with_room, source};
 use mte_engine::{Status, ToolFault, check as check_sheet, tune};
 use std::process::Abort;
 use std::test::Fail;

@@ -1,5 +1,6 @@
 //! With ample memory nothing is refused: at each limit and step, at sizes about each power of two, at each number of rows, at each line.
-use super::support::{profile as worked_profile, sink, source};
+use super::support::profile as worked_profile;
+use crate::tests::streams::{sink, source};
 use class_table::ClassTable;
 use class_tuner::tune;
 use granule_memory::Memory;
@@ -102,17 +103,17 @@ fn engines_about_each_power_of_two(rt: HostRuntime) -> Result<(), Fail> {
     for _digits in 0..20 {
         for lines in [power.saturating_sub(1), power, power.saturating_add(1)] {
             let text = "free 0\n".as_bytes().repeat(rt.alloc(), lines)?;
-            let mut to = sink(&rt)?;
+            let mut to = sink(rt.alloc())?;
             assert!(rt;
                 profile(rt.alloc(), &mut source(&text), &mut to).is_ok(),
                 "profile of {lines} lines"
             );
-            let mut to = sink(&rt)?;
+            let mut to = sink(rt.alloc())?;
             assert!(rt;
                 run(rt.alloc(), 1, 1, config, &mut source(&text), &mut to).is_ok(),
                 "run of {lines} lines"
             );
-            let mut to = sink(&rt)?;
+            let mut to = sink(rt.alloc())?;
             let end = score(rt.alloc(), &mut source(&text), &mut to);
             assert!(rt;
                 matches!(end, Err(ToolFault::Input(_))),

@@ -1,6 +1,7 @@
 //! Reads and writes that fail, or move a byte at a time, or never end.
 use super::calls::{Call, call_on};
-use super::support::{Repeated, ended, sink, source};
+use super::support::{Repeated, ended};
+use crate::tests::streams::{sink, source};
 use mte_engine::{ByteSink, ByteSource, MOST_INPUT, StreamSink, StreamSource, score};
 use std::io::{ErrorKind, Read, Write};
 use std::process::Abort;

@@ -1,5 +1,6 @@
 //! Traces of a million events, and inputs of the most bytes.
-use super::support::{Repeated, ended, sink, source};
+use super::support::{Repeated, ended};
+use crate::tests::streams::{sink, source};
 use mte_engine::{MOST_INPUT, profile, replay, run};
 use replay_core::Config;
 use std::alloc::{AllocError, Global};

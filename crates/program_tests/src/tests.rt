@@ -1,0 +1,4 @@
+mod engines;
+mod memory;
+mod program;
+mod streams;

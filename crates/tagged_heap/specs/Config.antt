@@ -1,0 +1,11 @@
+-- What a heap is set up with.
+use Rattle.std.specs.Prelude.{◌≢◌, ◌≤◌}
+use Rattle.class_table.specs.declared.layout.TheConstants.{FEWEST_GRANULES, MOST_GRANULES}
+use Rattle.tagged_heap.specs.declared.heap.Config.{Config}
+use Rattle.tagged_heap.specs.declared.heap.TheConstants.Config.{MOST_QUARANTINE}
+
+-- A heap can be set up so: each number is in its range.
+pub record IsConfig (config : Config) : Type 0 where
+  pub granules : (FEWEST_GRANULES ≤ config.granules) × (config.granules ≤ MOST_GRANULES)
+  pub seed : config.seed ≢ 0
+  pub quarantine : config.quarantine ≤ MOST_QUARANTINE
