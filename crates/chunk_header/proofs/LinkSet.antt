@@ -7,7 +7,7 @@ use Rattle.heap_theory.specs.Header.{header_at}
 use Rattle.heap_theory.specs.HeaderLaws.{LinksStay, OtherLinksStay}
 use Rattle.heap_theory.specs.Links.{next_in}
 use Rattle.chunk_header.specs.Links.{SetsLink}
-use Rattle.chunk_header.specs.Seen.{with_next}
+use Rattle.chunk_header.specs.HeaderView.{with_next}
 
 -- what a link that is set in a slot's header leaves as it was
 pub link_set : OtherLinksStay → LinksStay → (layout : Partition) (old new : List Granule) (s next : ℕ) → IsPartition layout → s < slot_count layout →

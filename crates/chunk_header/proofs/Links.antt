@@ -4,7 +4,7 @@ use Rattle.std.specs.Int.{w64, to_le_bytes}
 use Rattle.machine_theory.specs.Memory.{Granule, IsMemory, word_at, written}
 use Rattle.heap_theory.specs.Header.{Header, first_word, header_of, header_at}
 use Rattle.heap_theory.specs.HeaderLaws.{HeaderIsTwoWords}
-use Rattle.chunk_header.specs.Seen.{with_next}
+use Rattle.chunk_header.specs.HeaderView.{with_next}
 use Rattle.chunk_header.proofs.Codes.{header_of-with_next}
 use Rattle.chunk_header.proofs.Rewrites.{word_written_over}
 

@@ -1,3 +1,3 @@
-pub mod Seen
+pub mod HeaderView
 pub mod Links
-pub mod Written
+pub mod HeaderWrite

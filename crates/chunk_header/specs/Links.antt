@@ -5,7 +5,7 @@ use Rattle.granule_memory.specs.Changes.{ChangesOnlyBytes}
 use Rattle.class_table.specs.Layout.{Partition, slot_count, slot_of}
 use Rattle.heap_theory.specs.Header.{header_at}
 use Rattle.heap_theory.specs.Links.{IsLinked, next_in}
-use Rattle.chunk_header.specs.Seen.{with_next}
+use Rattle.chunk_header.specs.HeaderView.{with_next}
 
 -- The link of slot s is set to `next`: no other field of a header, no other link, no tag and no other byte changes, and so lists without
 -- this slot stay linked.

@@ -1,6 +1,6 @@
 //! Headers in the granules of a memory.
-ghost use Rattle.chunk_header.specs.Seen.{seen};
-ghost use Rattle.chunk_header.specs.Written.{WritesHeader};
+ghost use Rattle.chunk_header.specs.HeaderView.{seen};
+ghost use Rattle.chunk_header.specs.HeaderWrite.{WritesHeader};
 ghost use Rattle.heap_theory.specs.Header.{header_at};
 ghost use Rattle.std.specs.Prelude.{◌≡◌, ◌↔◌, ◌<◌, ◌^◌, length, IsTrue};
 

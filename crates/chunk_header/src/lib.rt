@@ -1,5 +1,4 @@
 //! The headers of slots: a slot's state, size, tag, class, link and mark, as two words in its first granule.
-//! A body that begins with a call of a law cites that law in its proof; the call does nothing.
 #![tactic(auto)]
 
 mod granule;

@@ -1,5 +1,4 @@
-//! The lists of freed slots, one for each class, linked through the headers of their slots: the slot freed last is first.
-//! A body that begins with a call of a law cites that law in its proof; the call does nothing.
+//! The lists of released slots, one for each class, linked through the headers of their slots: the slot freed last is first.
 #![tactic(auto)]
 
 pub mod laws;

@@ -4,7 +4,7 @@ pub mod Laws
 pub mod Layout
 pub mod LayoutLaws
 pub mod LayoutView
-pub mod Shown
+pub mod FaultText
 pub mod Sizes
 pub mod Steps
 pub mod Tables

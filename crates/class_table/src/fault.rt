@@ -1,5 +1,5 @@
 ghost use Rattle.std.specs.Prelude.{Some};
-ghost use Rattle.class_table.specs.Shown.{shown_table_error};
+ghost use Rattle.class_table.specs.FaultText.{shown_table_error};
 
 use std::fmt;
 

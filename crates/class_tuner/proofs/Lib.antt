@@ -1,4 +1,4 @@
-pub mod Asked
+pub mod CallCounts
 pub mod Digits
 pub mod Halves
 pub mod LeastEnds

@@ -1,5 +1,5 @@
 //! One row by halving: the middle place first, then the places on either side of it, each with the ends on their side of its least end.
-//! If spans cross, a later place has no earlier least end, so no end is tried in vain on both sides.
+//! Spans cross, so a later place has no earlier least end. So each half needs only the ends on its side of the middle place's least end.
 ghost use Rattle.std.specs.Prelude.{◌≡◌, ℕ, ◌+◌, ◌-◌, ◌*◌, ◌^◌, ◌≤◌};
 ghost use Rattle.class_tuner.specs.Filling.{AreCallsForPart, AreEndsBetween, IsFilledWithin, IsLeastAt, IsPart, IsSmallRow, KeepsOutside, end_cost};
 ghost use Rattle.class_tuner.specs.Sources.{OnlyCounts};
@@ -9,7 +9,7 @@ ghost use Rattle.tuner_theory.specs.Rows.{IsLeastEnd};
 use crate::cost_source::CostSource;
 use std::ops::Range;
 
-/// The window of ends from `low` to `high`.
+/// The window of ends from `low` to `high`, both included.
 #[derive(Clone, Copy)]
 pub(crate) struct Window {
     pub low: usize,

@@ -40,7 +40,7 @@ impl Tuned {
         &self.sheet
     }
 
-    /// How many span wastes `tune` asked for.
+    /// How many span wastes `tune` asked for. This is for callers of the library; the program does not print it.
     pub fn evaluations(&self) -> u64
         ensures { result ≡ self.now.evaluations }
     {
@@ -56,7 +56,7 @@ pub fn tune(alloc: Global, profile: &Profile, limit: u8, step: u8) -> Result<Tun
     requires few { limit ≤ 32 }
     requires step { IsStep step }
 
-    // the canonical table, its waste, and the least rests as its certificate
+    // the canonical table, its waste, and as its certificate the least wastes of the requests above each place
     ensures tuned { IfOk result (λ tuned. IsTuned profile.now.counts step limit (sheet_of tuned.sheet)) }
     // how often the span wastes were asked for, and the most that it can be
     ensures counted { IfOk result

@@ -1,3 +1,3 @@
 pub mod Granules
-pub mod Kept
+pub mod SameBytes
 pub mod Writes

@@ -11,7 +11,7 @@ use Rattle.raw_region.specs.Bytes.{with_bytes}
 use Rattle.granule_memory.specs.Layout.{granule_in, granules_of, IsLaidOut}
 use Rattle.granule_memory.specs.Changes.{ChangesOnlyBytes, ChangesOnlyTags}
 use Rattle.granule_memory.proofs.Granules.{granules_counted, granule_is, tag_is, bytes_are, slice_range_byte, slice_range_long}
-use Rattle.granule_memory.proofs.Kept.{changes_bytes, changes_tags}
+use Rattle.granule_memory.proofs.SameBytes.{changes_bytes, changes_tags}
 
 abbrev Below : ℕ → Type 0
 Below byte = byte < 256

@@ -9,7 +9,7 @@ use Rattle.machine_theory.specs.declared.fault.Fault.TheVariants.{Unmapped, Alig
 use Rattle.machine_theory.specs.Access.{IsMapped, IsTagFault, access_fault, is_mapped, stored, tag_fault, touched}
 use Rattle.machine_theory.specs.Address.{logical_tag, moved_by, Touches}
 use Rattle.machine_theory.specs.Memory.{tag_at}
-use Rattle.heap_theory.proofs.Below as laws
+use Rattle.heap_theory.proofs.TheoryLemmas as laws
 use Rattle.heap_theory.specs.declared.event.Event.{Event}
 use Rattle.heap_theory.specs.declared.event.Event.TheVariants.{Load, Store}
 use Rattle.heap_theory.specs.declared.place.PlaceKind.{PlaceKind}

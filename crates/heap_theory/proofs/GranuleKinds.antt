@@ -4,7 +4,7 @@ use Rattle.std.specs.Prelude.{◌==◌, nat_le, nat_lt}
 use Rattle.std.proofs.lemmas.Bool.{and_from, cases_eq, cases_lt, cond-true, cond-false, eq-eqb, false_from_ne_true, le-leb, lt-ltb, ltb-true, and_parts, ne_eqb}
 use Rattle.machine_theory.specs.Memory.{is_among}
 use Rattle.class_table.specs.Layout.{Covers, slot_over}
-use Rattle.heap_theory.proofs.Below as laws
+use Rattle.heap_theory.proofs.TheoryLemmas as laws
 use Rattle.heap_theory.specs.declared.place.PlaceKind.{PlaceKind}
 use Rattle.heap_theory.specs.declared.place.PlaceKind.TheVariants.{Slack, Header, Tail, Dead as DeadChunk, Other}
 use Rattle.heap_theory.specs.Hardening.{IsChunkGranule, IsPayloadGranule, IsLive, IsDead}

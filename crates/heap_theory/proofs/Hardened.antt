@@ -4,7 +4,7 @@ use Rattle.std.specs.Prelude.{ℤ}
 use Rattle.machine_theory.specs.Address.{logical_tag, place_of, with_tag, moved_by, region_start, Touches}
 use Rattle.machine_theory.specs.Memory.{tag_at}
 use Rattle.class_table.specs.Layout.{end_of}
-use Rattle.heap_theory.proofs.Below as laws
+use Rattle.heap_theory.proofs.TheoryLemmas as laws
 use Rattle.heap_theory.specs.Generations.{Run}
 use Rattle.heap_theory.specs.Hardening.{IsAccess, Faults, IsChunkGranule, IsLive, IsDead, HasGeneration, WasFreed, NullOrTagged, BookkeepingOutOfReach, InsideSucceeds, NeighboursFault, FreedFaults, ChunkTagsNotZero, ChunkTagsDiffer}
 use Rattle.heap_theory.specs.Run.{variable}

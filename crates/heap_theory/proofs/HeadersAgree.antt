@@ -8,7 +8,7 @@ use Rattle.class_table.specs.Layout.{slot_count, slot_of}
 use Rattle.heap_theory.specs.Choice.{is_dead, mark_of}
 use Rattle.heap_theory.specs.Header.{first_word, second_word, header_at, class_number, header_for}
 use Rattle.heap_theory.specs.HeaderLaws.{ClassIsAtItsNumber}
-use Rattle.heap_theory.specs.Kept.{IsKeptIn, HaveSameSlots, HeaderWordsStay}
+use Rattle.heap_theory.specs.HeapInMemory.{IsKeptIn, HaveSameSlots, HeaderWordsStay}
 use Rattle.heap_theory.specs.Links.{IsLinked, next_in, list_of}
 use Rattle.heap_theory.specs.State.{Heap, state_at}
 use Rattle.heap_theory.proofs.Found.{Contains-head, Contains-tail, Contains-cases, Contains-none}

@@ -1,7 +1,7 @@
 -- Laws as lemmas, where the law says it in another way than the lemma that it follows from.
 use Rattle.heap_theory.specs.Hardening.{NullOrTagged}
 use Rattle.heap_theory.specs.Laws.{AfterEveryRun, FirstHeapIsSound, FrontIsGiven, MovingKeepsSound, RestIsHeld}
-use Rattle.heap_theory.proofs.Below as laws
+use Rattle.heap_theory.proofs.TheoryLemmas as laws
 use Rattle.heap_theory.proofs.CallsKept.{IsSoundHeap-moved}
 use Rattle.heap_theory.proofs.FirstHeap.{IsSoundHeap-first}
 use Rattle.heap_theory.proofs.Front.{front_is_given}

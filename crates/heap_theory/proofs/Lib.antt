@@ -1,6 +1,6 @@
 pub mod AccessAnswers
 pub mod Answered
-pub mod Below
+pub mod TheoryLemmas
 pub mod Booking
 pub mod CallsKept
 pub mod Choices
@@ -26,7 +26,7 @@ pub mod ReallocExamples
 pub mod Releasing
 pub mod RunKept
 pub mod SeenMemory
-pub mod Shown
+pub mod ExampleAnswers
 pub mod Tags
 pub mod VariablesKept
 pub mod WorkedExamples

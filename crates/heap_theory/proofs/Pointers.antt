@@ -9,7 +9,7 @@ use Rattle.std.proofs.lemmas.List.Sums.{position_or_len_is}
 use Rattle.std.proofs.lemmas.Option.{slice_get-get_or}
 use Rattle.machine_theory.specs.Address.{logical_tag, place_of}
 use Rattle.class_table.specs.Layout.{no_slot, slots_of, slot_count}
-use Rattle.heap_theory.proofs.Below as laws
+use Rattle.heap_theory.proofs.TheoryLemmas as laws
 use Rattle.heap_theory.specs.Choice.{chunk_in, chunk_in_slot, lowest_fresh, slot_of_pointer, chunk_at}
 use Rattle.heap_theory.specs.Sound.{IsChunkTag, IsSoundHeap}
 use Rattle.heap_theory.specs.State.{Heap, slot_in, state_at, is_fresh, last_tag, payload_place, pointer_to}

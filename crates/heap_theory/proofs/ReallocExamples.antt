@@ -9,7 +9,7 @@ use Rattle.heap_theory.specs.declared.place.PlaceKind.TheVariants.{Tail, Dead as
 use Rattle.heap_theory.specs.Header.{first_word, header_for}
 use Rattle.heap_theory.specs.Header.Standing.{Quarantined, Freed}
 use Rattle.heap_theory.specs.Run.Answer.{Silent, Loaded, TagFault, NoPointer, NotFreed}
-use Rattle.heap_theory.proofs.Shown.{shown, heap_of, totals}
+use Rattle.heap_theory.proofs.ExampleAnswers.{shown, heap_of, totals}
 use Rattle.class_table.specs.Layout.{slots_of_classes, slots_of}
 
 in_place_moved_and_moved_back :

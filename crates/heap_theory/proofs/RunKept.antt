@@ -6,7 +6,7 @@ use Rattle.std.proofs.lemmas.List.{get_or-set_same, get_or-set_other, length-set
 use Rattle.machine_theory.specs.Address.{logical_tag, moved_by}
 use Rattle.machine_theory.specs.Instructions.{addg, subg}
 use Rattle.class_table.specs.Layout.{Partition, IsPartition, slot_count}
-use Rattle.heap_theory.proofs.Below as laws
+use Rattle.heap_theory.proofs.TheoryLemmas as laws
 use Rattle.heap_theory.specs.declared.event.Event.{Event}
 use Rattle.heap_theory.specs.declared.event.Event.TheVariants.{Malloc, Calloc, Realloc, Free, Load, Store, Addg, Subg}
 use Rattle.heap_theory.specs.Generations.{Run, Generation, times_of, generation_of, slot_given, times_with, generations_after, run_after, first_run, run}

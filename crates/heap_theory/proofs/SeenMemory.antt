@@ -9,7 +9,7 @@ use Rattle.machine_theory.specs.Access.{access_fault}
 use Rattle.machine_theory.specs.Address.{logical_tag, Touches}
 use Rattle.machine_theory.specs.Memory.{Granule, no_granule, new_granule, granule_at, tag_at, each_granule, is_among, tagged, byte_at, byte_after, bytes_after, written, IsMemory}
 use Rattle.class_table.specs.Layout.{Partition, Slot, no_slot, slots_of}
-use Rattle.heap_theory.proofs.Below as laws
+use Rattle.heap_theory.proofs.TheoryLemmas as laws
 use Rattle.heap_theory.specs.Sound.{IsSoundHeap}
 use Rattle.heap_theory.specs.State.{Heap, slot_in, is_header, without_headers, first_memory}
 use Rattle.heap_theory.proofs.FirstHeap.{tag_at-past}

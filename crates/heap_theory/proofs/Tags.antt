@@ -3,7 +3,7 @@ use Rattle.std.proofs.Common.{◌≡◌, ◌≢◌, ℕ, ◌%◌, ◌^◌, ◌<�
 use Rattle.std.specs.Prelude.{bit_or, ◌==◌}
 use Rattle.std.proofs.lemmas.Bool.{eqb-true, eqb-false}
 use Rattle.machine_theory.specs.Instructions.{drawn_tag}
-use Rattle.heap_theory.proofs.Below as laws
+use Rattle.heap_theory.proofs.TheoryLemmas as laws
 use Rattle.heap_theory.specs.Calls.{parity_exclude, next_tag}
 use Rattle.heap_theory.specs.Sound.{IsTagOf}
 use Rattle.heap_theory.specs.State.{Heap, state_at, last_tag}

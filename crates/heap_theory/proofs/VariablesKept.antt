@@ -6,7 +6,7 @@ use Rattle.std.proofs.lemmas.Bool.{cases_eq}
 use Rattle.std.proofs.lemmas.List.{get_or-set_same, get_or-set_other}
 use Rattle.machine_theory.specs.Address.{logical_tag, with_tag}
 use Rattle.class_table.specs.Layout.{Partition, slot_count, slot_of}
-use Rattle.heap_theory.proofs.Below as laws
+use Rattle.heap_theory.proofs.TheoryLemmas as laws
 use Rattle.heap_theory.specs.declared.fault.FreeError.{FreeError}
 use Rattle.heap_theory.specs.declared.fault.NullCause.{NullCause}
 use Rattle.heap_theory.specs.declared.fault.ReallocError.{ReallocError}

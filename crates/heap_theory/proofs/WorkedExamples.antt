@@ -6,7 +6,7 @@ use Rattle.heap_theory.specs.declared.fault.FreeError.TheVariants.{Misplaced, No
 use Rattle.heap_theory.specs.declared.fault.NullCause.TheVariants.{Large, NoClass, Exhausted}
 use Rattle.heap_theory.specs.declared.place.PlaceKind.TheVariants.{Slack, Header, Tail, Dead, Other}
 use Rattle.heap_theory.specs.Run.Answer.{Silent, Loaded, NotMapped, TagFault, NoPointer, NotFreed}
-use Rattle.heap_theory.proofs.Shown.{shown, totals}
+use Rattle.heap_theory.proofs.ExampleAnswers.{shown, totals}
 
 empty_table_serves_nothing : shown [] 0 (Malloc 1 16 ∷ []) ≡ (NoPointer NoClass ∷ [], totals 1 1 0 1 0 0 0 0 0)
 unfolding shown

@@ -6,7 +6,7 @@ use Rattle.machine_theory.specs.Address.{logical_tag, Touches}
 use Rattle.machine_theory.specs.Memory.{Granule, IsMemory, new_granule, granule_at, tag_at, tagged, written}
 use Rattle.class_table.specs.Layout.{Partition, IsPartition, slot_count, slot_of}
 use Rattle.heap_theory.specs.Header.{Header, FitsWords, first_word, second_word, header_of, header_at, with_header, shown_state, class_number, header_for}
-use Rattle.heap_theory.specs.Kept.{HaveSameSlots, HeaderWordsStay}
+use Rattle.heap_theory.specs.HeapInMemory.{HaveSameSlots, HeaderWordsStay}
 use Rattle.heap_theory.specs.Links.{IsLinked, last_link, next_in}
 use Rattle.heap_theory.specs.Sound.{IsSoundHeap}
 use Rattle.heap_theory.specs.State.{Heap, state_at, is_header, without_headers, first_memory, IsSlot}

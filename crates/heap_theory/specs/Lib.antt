@@ -6,7 +6,7 @@ pub mod Generations
 pub mod Hardening
 pub mod Header
 pub mod HeaderLaws
-pub mod Kept
+pub mod HeapInMemory
 pub mod KindLaws
 pub mod Laws
 pub mod Links

@@ -1,4 +1,4 @@
-//! The number at the start of a long text, in one pass over its digits.
+//! The digits at the start of a fixed number of bytes, in a loop that the compiler unrolls.
 ghost use Rattle.std.specs.Prelude.{◌≡◌, ◌<◌, Bool, IfNone, IfSome, take};
 ghost use Rattle.std.specs.Char.{is_ascii_digit};
 ghost use Rattle.std.specs.List.{list_all, prefix_len};

@@ -14,7 +14,7 @@ use Rattle.machine_theory.proofs.TagLaws.{choose_tag_allowed, choose_tag-one, is
 use Rattle.machine_theory.proofs.MemoryLaws.{length-tagged, length-written, tag_at-tagged_inside, tag_at-written}
 use Rattle.machine_theory.proofs.ChangeLaws.{tagged-more}
 use Rattle.machine_theory.proofs.ByteLaws.{bytes_at-written_same}
-use Rattle.machine_theory.proofs.KeptLaws.{IsMemory-tagged}
+use Rattle.machine_theory.proofs.ChangedMemories.{IsMemory-tagged}
 use Rattle.machine_theory.proofs.AccessLaws.{IsMapped-from, is_mapped-from}
 
 -- ---- no tag 0

@@ -5,7 +5,7 @@ pub mod SeedLaws
 pub mod MemoryLaws
 pub mod ChangeLaws
 pub mod ByteLaws
-pub mod KeptLaws
+pub mod ChangedMemories
 pub mod LawLemmas
 pub mod AccessLaws
 pub mod InstructionLaws

@@ -34,14 +34,14 @@ use Rattle.mte_engine.specs.Outcome.{Answer}
 use Rattle.mte_engine.specs.Parts.{profile_part}
 use Rattle.mte_engine.specs.Replay.{replay_answer, replay_of_lines, report_on}
 use Rattle.mte_engine.specs.Score.{score_of, score_of_lines}
-use Rattle.mte_engine.specs.Shown.{in_line, shown_input_fault}
+use Rattle.mte_engine.specs.FaultText.{in_line, shown_input_fault}
 use Rattle.mte_engine.specs.Traces.{events_unless}
 use Rattle.mte_engine.specs.declared.engine.Status.TheVariants.{Done}
 use Rattle.mte_engine.specs.declared.fault.InputFault.{InputFault}
 use Rattle.mte_engine.specs.declared.fault.InputFault.TheVariants.{TooLong, Table, BadSheet, Profile, Trace}
-use Rattle.class_table.specs.Shown.{shown_table_error}
-use Rattle.profile_count.specs.Shown.{shown_profile_fault}
-use Rattle.trace_reader.specs.Shown.{shown_trace_fault}
+use Rattle.class_table.specs.FaultText.{shown_table_error}
+use Rattle.profile_count.specs.FaultText.{shown_profile_fault}
+use Rattle.trace_reader.specs.FaultText.{shown_trace_fault}
 use Rattle.mte_engine.proofs.LeadingSettled.{after_alike, leading_lines-cut, leading_lines-lines, leading_lines-settled, take_twice}
 
 -- What is known of texts, tables, profiles and sheets.

@@ -6,7 +6,7 @@ use Rattle.heap_theory.specs.Report.{report, report_line, totals_text}
 use Rattle.heap_theory.specs.Run.{answer_of}
 use Rattle.heap_theory.specs.Totals.{totals_after}
 use Rattle.heap_theory.specs.declared.event.Event.{Event}
-use Rattle.replay_core.specs.Stored.{LinesOfNone, LinesOfOneMore, ReportIsLinesAndTotals, Stored, StoredOfNone, StoredOfOneMore, first_stored, lines_of, stored_after, stored_of}
+use Rattle.replay_core.specs.ReplayState.{LinesOfNone, LinesOfOneMore, ReportIsLinesAndTotals, Stored, StoredOfNone, StoredOfOneMore, first_stored, lines_of, stored_after, stored_of}
 use Rattle.class_table.specs.Layout.{Partition}
 use Rattle.mte_engine.specs.Report.{report_from}
 

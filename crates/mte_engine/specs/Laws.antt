@@ -16,7 +16,7 @@ use Rattle.mte_engine.specs.Outcome.{Answer}
 use Rattle.mte_engine.specs.Replay.{ReplayAnswers, report_on}
 use Rattle.mte_engine.specs.Run.{IsTunedRun, RunAnswers}
 use Rattle.mte_engine.specs.Score.{ScoreAnswers}
-use Rattle.mte_engine.specs.Shown.{in_line, shown_input_fault}
+use Rattle.mte_engine.specs.FaultText.{in_line, shown_input_fault}
 use Rattle.mte_engine.specs.Traces.{profile_of_events}
 use Rattle.mte_engine.specs.Tune.{TuneAnswers}
 use Rattle.mte_engine.specs.declared.engine.Status.TheVariants.{Done}

@@ -7,10 +7,10 @@ pub mod Parts
 pub mod Profile
 pub mod Replay
 pub mod Report
-pub mod Reported
+pub mod ReportText
 pub mod Run
 pub mod Score
-pub mod Shown
+pub mod FaultText
 pub mod Streams
 pub mod Traces
 pub mod Tune

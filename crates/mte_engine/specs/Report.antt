@@ -3,7 +3,7 @@ use Rattle.std.specs.Prelude.{ℕ, ◌+◌, Bool, true, false, List, [], ◌∷�
 use Rattle.heap_theory.specs.Report.{report_line, totals_text}
 use Rattle.heap_theory.specs.Run.{answer_of}
 use Rattle.heap_theory.specs.declared.event.Event.{Event}
-use Rattle.replay_core.specs.Stored.{Stored, stored_after}
+use Rattle.replay_core.specs.ReplayState.{Stored, stored_after}
 
 -- The lines of the events that are still to come, and then the totals after all of them.
 unfoldable pub report_from : Stored → List Event → List ℕ

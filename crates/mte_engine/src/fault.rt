@@ -1,7 +1,7 @@
 //! What can go wrong in an engine, and how it is shown.
 ghost use Rattle.std.specs.Prelude.{◌≡◌, Some};
 ghost use Rattle.mte_engine.specs.Outcome.{fault_of_answer, fault_of_read};
-ghost use Rattle.mte_engine.specs.Shown.{shown_fault, shown_input_fault};
+ghost use Rattle.mte_engine.specs.FaultText.{shown_fault, shown_input_fault};
 ghost use Rattle.mte_engine.specs.declared.fault.AnswerError.TheVariants.{OutOfMemory as NoMemoryToAnswer};
 ghost use Rattle.mte_engine.specs.declared.fault.ReadError.TheVariants.{OutOfMemory as NoMemoryToRead};
 ghost use Rattle.mte_engine.specs.declared.fault.ToolFault.TheVariants.{OutOfMemory, WriteFault};

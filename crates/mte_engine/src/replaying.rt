@@ -3,7 +3,7 @@ ghost use Rattle.line_text.specs.Lines.{IsLine};
 ghost use Rattle.mte_engine.specs.Outcome.{GivesAnswer, IsReady, Runs};
 ghost use Rattle.mte_engine.specs.Replay.{ReplayAnswers};
 ghost use Rattle.tagged_heap.specs.Config.{IsConfig};
-ghost use Rattle.mte_engine.specs.Reported.{text_left};
+ghost use Rattle.mte_engine.specs.ReportText.{text_left};
 ghost use Rattle.mte_engine.specs.Traces.{IsLineAndTrace, KeepsLineAndEvents};
 ghost use Rattle.std.specs.Prelude.{◌≡◌, List, ℕ, false};
 ghost use Rattle.trace_reader.specs.Reading.{is_finished};

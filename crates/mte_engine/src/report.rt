@@ -31,7 +31,7 @@ pub struct Report {
 }
 
 impl Report {
-    ghost use Rattle.mte_engine.specs.Reported.{text_left};
+    ghost use Rattle.mte_engine.specs.ReportText.{text_left};
 
     /// This text, and then the report on the events in the reader, on a new heap over the table. The call takes all memory that the report
     /// will need; the only error is that the allocator refuses it.
@@ -61,7 +61,7 @@ impl Report {
 }
 
 impl Output for Report {
-    ghost use Rattle.mte_engine.specs.Reported.{text_left};
+    ghost use Rattle.mte_engine.specs.ReportText.{text_left};
 
     ghost rest = { text_left };
 

@@ -2,7 +2,7 @@
 ghost use Rattle.class_table.specs.Steps.{IsStep};
 ghost use Rattle.mte_engine.specs.Outcome.{GivesAnswer, IsReady, Runs};
 ghost use Rattle.tagged_heap.specs.Config.{IsConfig};
-ghost use Rattle.mte_engine.specs.Reported.{text_left};
+ghost use Rattle.mte_engine.specs.ReportText.{text_left};
 ghost use Rattle.mte_engine.specs.Run.{RunAnswers};
 ghost use Rattle.mte_engine.specs.Traces.{KeepsEvents};
 ghost use Rattle.std.specs.Prelude.{◌≡◌, ◌≤◌, List, ℕ, false};

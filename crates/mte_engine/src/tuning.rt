@@ -16,7 +16,7 @@ use std::alloc::{AllocError, Global};
 
 /// Reads a profile, and writes the sheet of its table of least waste. Of all tables that have at most `limit` (1 to 32) classes, all of them
 /// multiples of `step` (1, 2, 4 or 8 granules), and that serve each counted size, it is the canonical best one. The sheet's certificate is
-/// the least rests.
+/// rows of least wastes: number i of row k is the least that at most k classes waste on the requests above place i.
 ///
 /// Faults: an input that is too long, then the profile's (`Input`); a failed read (`ReadFault`); out of memory (`OutOfMemory`): the sink took
 /// nothing then. A failed write (`WriteFault`): then the sink took a prefix of the text.

@@ -8,7 +8,6 @@ use class_table::{GRANULE_BYTES, LARGEST_COUNTED, need, round_up};
 use profile_count::Profile;
 use std::alloc::{AllocError, Global};
 use std::marker::Model;
-use tuner_theory::laws::law_places;
 
 /// The spans of a profile: its places, one for each distinct rounded need, and the waste of serving the needs from one place to another by
 /// the greatest of them. Each waste follows from two sums for each place, of requests and of bytes.

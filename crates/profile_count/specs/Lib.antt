@@ -4,4 +4,4 @@ pub mod Laws
 pub mod ProfileText
 pub mod RequestLosses
 pub mod Requests
-pub mod Shown
+pub mod FaultText

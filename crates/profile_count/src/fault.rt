@@ -1,5 +1,5 @@
 ghost use Rattle.std.specs.Prelude.{◌≡◌, Some};
-ghost use Rattle.profile_count.specs.Shown.{shown_profile_fault};
+ghost use Rattle.profile_count.specs.FaultText.{shown_profile_fault};
 ghost use Rattle.profile_count.specs.declared.fault.ProfileError.TheVariants.{OutOfMemory};
 
 use std::alloc::AllocError;

@@ -108,7 +108,7 @@ impl Quarantine {
         Some(self.take_oldest(memory, layout))
     }
 
-    // takes off the slot that was put in first, if the quarantine holds any bytes
+    // takes off the slot that was put in first; the quarantine must hold some bytes
     fn take_oldest(&mut self, memory: &mut Memory, layout: &Layout) -> u32
         requires region { length memory.old ≡ layout.now.granules }
         requires linked { LinksStand self.old layout.now memory.old }

@@ -1,4 +1,4 @@
 pub mod Steps
 pub mod Fields
-pub mod Heap
+pub mod Allocator
 pub mod Written

@@ -11,7 +11,7 @@ use Rattle.machine_theory.specs.Access.{IsMapped, is_mapped}
 use Rattle.machine_theory.specs.Address.{logical_tag, moved_by}
 use Rattle.heap_theory.specs.Sound.{IsSoundHeap}
 use Rattle.heap_theory.specs.State.{Heap}
-use Rattle.replay_core.proofs.Below as laws
+use Rattle.replay_core.proofs.TheoryLemmas as laws
 
 -- an offset that is near, as the code reads it
 pub near_offset : (off : ℤ) → nat_abs off ≤ 1048576 → cast_signed w32 (cast_unsigned w32 off) ≡ off

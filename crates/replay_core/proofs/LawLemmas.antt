@@ -1,5 +1,5 @@
 -- The laws as lemmas, for the proofs of the crates above.
-use Rattle.replay_core.specs.Stored.{LinesOfNone, LinesOfOneMore, ReportIsLinesAndTotals, StoredOfNone, StoredOfOneMore}
+use Rattle.replay_core.specs.ReplayState.{LinesOfNone, LinesOfOneMore, ReportIsLinesAndTotals, StoredOfNone, StoredOfOneMore}
 use Rattle.replay_core.proofs.StoredMore.{lines_of-none, lines_of-push, report_is, stored_of-none, stored_of-push}
 pub use Rattle.replay_core.proofs.StoredMore.{steps_are_events}
 

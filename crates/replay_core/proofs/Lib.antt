@@ -1,5 +1,5 @@
 pub mod LawLemmas
-pub mod Below
+pub mod TheoryLemmas
 pub mod Accesses
 pub mod Losses
 pub mod Reached

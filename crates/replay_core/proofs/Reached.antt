@@ -6,9 +6,9 @@ use Rattle.heap_theory.specs.Generations.{Run, run_after}
 use Rattle.heap_theory.specs.Run.{Replay, Answer, variable, heap_after, variables_after, replay_after, answer_of, replay_of, first_replay}
 use Rattle.heap_theory.specs.State.{Heap}
 use Rattle.heap_theory.specs.Totals.{Totals, totals_after}
-use Rattle.replay_core.proofs.Below as laws
-use Rattle.replay_core.specs.Shown.{AreNullOrTagged, over}
-use Rattle.replay_core.specs.Stored.{Stored, IsStored, stored_after, stored_of}
+use Rattle.replay_core.proofs.TheoryLemmas as laws
+use Rattle.replay_core.specs.TheoryValues.{AreNullOrTagged, over}
+use Rattle.replay_core.specs.ReplayState.{Stored, IsStored, stored_after, stored_of}
 use Rattle.replay_core.proofs.StoredMore.{stored_of-push}
 
 replay_is : (stored : Stored) (i : IsStored stored) → stored.replay ≡ replay_of (first_replay i.layout i.seed i.quarantine) i.events

@@ -1,5 +1,5 @@
 pub mod Bounds
-pub mod Counted
-pub mod Inside
-pub mod Shown
-pub mod Stored
+pub mod TotalsSteps
+pub mod Abstraction
+pub mod TheoryValues
+pub mod ReplayState

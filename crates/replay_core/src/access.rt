@@ -3,11 +3,11 @@ ghost use Rattle.heap_theory.specs.Run.{access_answer, fault_answer, store_step}
 ghost use Rattle.heap_theory.specs.Run.Answer.{Loaded, Silent};
 ghost use Rattle.machine_theory.specs.Access.{access_fault, is_mapped, loaded};
 ghost use Rattle.machine_theory.specs.Address.{logical_tag, moved_by};
-ghost use Rattle.replay_core.specs.Shown.{IsFilled, shown};
+ghost use Rattle.replay_core.specs.TheoryValues.{IsFilled, shown};
 ghost use Rattle.std.specs.Prelude.{◌≡◌, ◌≢◌, ◌⊎◌, ◌≤◌, IsFalse, List, length, replicate, ℕ};
 
 use crate::answer::Answer;
-use heap_theory::{Event, PlaceKind};
+use heap_theory::Event;
 use tag_machine::Fault;
 use tagged_heap::Heap;
 

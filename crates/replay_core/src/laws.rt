@@ -1,6 +1,6 @@
 //! What holds for every replay. Each law is the contract of a call that does nothing. The laws of whole runs come from `heap_theory`. A
 //! `Replay` is what is stored of some run (`law_reached`), so they hold for it.
-ghost use Rattle.replay_core.specs.Stored.{IsStored, LinesOfNone, LinesOfOneMore, ReportIsLinesAndTotals, StepsAreEvents, StoredOfNone, StoredOfOneMore};
+ghost use Rattle.replay_core.specs.ReplayState.{IsStored, LinesOfNone, LinesOfOneMore, ReportIsLinesAndTotals, StepsAreEvents, StoredOfNone, StoredOfOneMore};
 
 use crate::replay::Replay;
 pub use heap_theory::laws::hardening::{
@@ -26,7 +26,7 @@ pub fn law_report()
 {}
 
 impl Replay {
-    /// It is what is stored of the run of some events.
+    /// Every replay holds what the run of some list of events leaves.
     pub fn law_reached(&self)
         ensures { IsStored self.now }
     {

@@ -1,8 +1,8 @@
 //! The replay of a trace on the hardened heap: events over 1,024 variables, one after the other, each with its line of the report, and the
 //! totals over all of them.
 //!
-//! The rules stand in docs/HEAP.md and, as definitions, in `heap_theory`. A body that begins with a call of a law cites that law in its
-//! proof; the call does nothing.
+//! The rules stand in docs/HEAP.md and, as definitions, in `heap_theory`. The call `law_sound()` does nothing; it gives the proof
+//! that law.
 #![tactic(auto)]
 
 mod access;

@@ -2,7 +2,7 @@
 ghost use Rattle.heap_theory.specs.Report.{cause_word, error_word, kind_word, report_line};
 ghost use Rattle.heap_theory.specs.Run.Answer.{Loaded, TagFault};
 ghost use Rattle.line_text.specs.Lines.{ended, line_of};
-ghost use Rattle.replay_core.specs.Shown.{IsFilled, shown};
+ghost use Rattle.replay_core.specs.TheoryValues.{IsFilled, shown};
 ghost use Rattle.std.specs.Fmt.{decimal};
 ghost use Rattle.std.specs.Prelude.{◌≡◌, ◌∷◌, ◌+◌, ◌≤◌, [], length};
 

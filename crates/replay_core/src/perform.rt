@@ -2,7 +2,7 @@
 ghost use Rattle.heap_theory.specs.Calls.{free_step, realloc_step};
 ghost use Rattle.heap_theory.specs.Ranges.{IsInRange};
 ghost use Rattle.heap_theory.specs.Run.{answer_of, free_answer, heap_after, malloc_answer, realloc_answer, variables_after};
-ghost use Rattle.replay_core.specs.Shown.{AreVariables, IsFilled, over, shown};
+ghost use Rattle.replay_core.specs.TheoryValues.{AreVariables, IsFilled, over, shown};
 ghost use Rattle.std.specs.Prelude.{◌≡◌, ◌+◌, ◌^◌, ◌<◌, ◌≤◌, List, length, slice_index, slice_set, ℕ};
 ghost use Rattle.std.specs.Result.{result_unwrap_or};
 

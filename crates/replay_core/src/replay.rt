@@ -2,7 +2,7 @@ ghost use Rattle.heap_theory.specs.Generations.{Run, run_after};
 ghost use Rattle.heap_theory.specs.Ranges.{IsInRange};
 ghost use Rattle.heap_theory.specs.Report.{report_line};
 ghost use Rattle.heap_theory.specs.Run.{answer_of};
-ghost use Rattle.replay_core.specs.Stored.{first_stored, stored_after};
+ghost use Rattle.replay_core.specs.ReplayState.{first_stored, stored_after};
 ghost use Rattle.tagged_heap.specs.Config.{IsConfig};
 ghost use Rattle.std.specs.Prelude.{◌≡◌, ◌+◌, ◌^◌, ◌<◌, ◌≤◌, IfOk};
 
@@ -34,11 +34,11 @@ pub struct Replay {
 }
 
 impl Model for Replay {
-    ghost use Rattle.replay_core.specs.Stored.{Stored};
+    ghost use Rattle.replay_core.specs.ReplayState.{Stored};
 
     ghost Value = { Stored };
 
-    ghost use Rattle.replay_core.specs.Inside.{stored, IsKept};
+    ghost use Rattle.replay_core.specs.Abstraction.{stored, IsKept};
 
     ghost view = { stored };
 
@@ -54,7 +54,7 @@ impl Replay {
             replay
             ≡ first_stored (record { classes = table.now; granules = config.granules }) config.seed config.quarantine) }
     {
-        // Its contract says that the table is legal.
+        // called for its contract: the proof needs that the table is legal
         table.len();
         let variables = vec![in alloc; 0; VARIABLES]?;
         let heap = Heap::new(alloc, table, config)?;
@@ -65,8 +65,9 @@ impl Replay {
         })
     }
 
-    /// Performs the event, and replaces what `line` holds by its report line with its newline, or by nothing if it has none. The event's
-    /// numbers must be in their ranges (`Event`), and there must have been fewer than 2^40 steps (`steps`).
+    /// Performs the event, counts it in the totals, and replaces what `line` holds by its report line with its newline, or by nothing if it
+    /// has none. Afterwards the replay holds what a run leaves that has this event too. The event's numbers must be in their ranges
+    /// (`Event`), and there must have been fewer than 2^40 steps (`steps`).
     pub fn step(&mut self, event: &Event, line: &mut ArrayVec<u8, LINE_BYTES>)
         requires few { self.old.totals.events < 2 ^ 40 }
         requires in_range { IsInRange event.now }

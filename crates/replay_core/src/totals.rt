@@ -4,8 +4,8 @@ ghost use Rattle.heap_theory.specs.Report.{total_line, totals_text};
 ghost use Rattle.heap_theory.specs.Totals.{request_size, totals_after};
 ghost use Rattle.line_text.specs.Lines.{ended};
 ghost use Rattle.replay_core.specs.Bounds.{AreBounded};
-ghost use Rattle.replay_core.specs.Counted.{with_answer, with_request};
-ghost use Rattle.replay_core.specs.Shown.{shown, totals_in};
+ghost use Rattle.replay_core.specs.TotalsSteps.{with_answer, with_request};
+ghost use Rattle.replay_core.specs.TheoryValues.{shown, totals_in};
 ghost use Rattle.std.specs.Prelude.{◌≡◌, ◌++◌, ◌+◌, ◌*◌, ◌^◌, ◌<◌, ◌≤◌, List, length, ℕ};
 
 use crate::answer::Answer;

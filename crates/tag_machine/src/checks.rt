@@ -20,8 +20,8 @@ pub(crate) fn is_mapped(memory: &Memory, address: u64, len: u64) -> bool
     address >> 60 == 0 && place >= REGION_START && place + len <= end
 }
 
-/// The fault of a checked access of `len` bytes, 1 to 64: `Unmapped` if it is not mapped, otherwise that of the lowest granule whose tag
-/// differs from the address's.
+/// `Ok` if a checked access of `len` bytes, 1 to 64, succeeds. Its fault is `Unmapped` if it is not mapped, otherwise `TagCheck` at the
+/// lowest granule that it touches whose tag differs from the address's.
 pub(crate) fn check_access(memory: &Memory, address: u64, len: u64) -> Result<(), Fault>
     requires { (1 ≤ len) × (len ≤ 64) }
     ensures fault { result ≡ ok_unless (access_fault memory.now address len) }

@@ -1,7 +1,6 @@
 //! The modelled machine: memory with tags, the eight tag instructions, and loads and stores that check the tags first.
 //!
-//! Its rules stand in docs/MACHINE.md and, as definitions, in `machine_theory`. A body that begins with a call of a law cites that law in
-//! its proof; the call does nothing.
+//! Its rules stand in docs/MACHINE.md and, as definitions, in `machine_theory`.
 #![tactic(auto)]
 
 mod addresses;

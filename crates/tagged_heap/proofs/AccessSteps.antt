@@ -14,10 +14,10 @@ use Rattle.heap_theory.specs.Header.Standing.{Fresh as IsFresh, Live as IsLive, 
 use Rattle.heap_theory.specs.Places.{place_kind, kind_at, kind_in_slot, kind_of_chunk}
 use Rattle.heap_theory.specs.State.{State, Heap, slot_in, state_at, chunk_granules, chunk_of, payload_start, is_header, without_headers}
 use Rattle.heap_theory.specs.State.State.{Fresh, Live, Dead}
-use Rattle.tagged_heap.proofs.Below as laws
-use Rattle.tagged_heap.specs.Inside.{state_of, seen, IsHeld}
-use Rattle.tagged_heap.specs.Keeping.{header_in}
-use Rattle.tagged_heap.specs.View.{Counted, shown_heap}
+use Rattle.tagged_heap.proofs.TheoryLemmas as laws
+use Rattle.tagged_heap.specs.Abstraction.{state_of, seen, IsHeld}
+use Rattle.tagged_heap.specs.Representation.{header_in}
+use Rattle.tagged_heap.specs.HeapView.{Counted, shown_heap}
 use Rattle.tagged_heap.specs.declared.heap.Heap.TheInside.{Inside}
 use Rattle.tagged_heap.proofs.BytesInParts.{map_same}
 use Rattle.heap_theory.proofs.SeenMemory.{length-without_headers}

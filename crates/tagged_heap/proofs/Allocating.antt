@@ -16,14 +16,14 @@ use Rattle.heap_theory.specs.Links.{IsLinked, next_in, list_of}
 use Rattle.heap_theory.specs.State.{last_tag, payload_place, pointer_to, state_at}
 use Rattle.heap_theory.specs.State.State.{Fresh, Live}
 use Rattle.tagged_heap.specs.Chunks.{given_header, tag_for, HasRoom, HasClass, Takes}
-use Rattle.tagged_heap.specs.Inside.{state_of, IsHeld}
-use Rattle.tagged_heap.specs.Keeping.{header_in}
-use Rattle.tagged_heap.specs.View.{shown_heap, IsHeldIn}
+use Rattle.tagged_heap.specs.Abstraction.{state_of, IsHeld}
+use Rattle.tagged_heap.specs.Representation.{header_in}
+use Rattle.tagged_heap.specs.HeapView.{shown_heap, IsHeldIn}
 use Rattle.tagged_heap.specs.declared.heap.Heap.TheInside.{Inside}
 use Rattle.tagged_heap.proofs.Changed.{list_slot}
 use Rattle.tagged_heap.proofs.Giving.{IsTaken, give_held, tag_drawn, long, take_front, take_fresh, take_none}
 use Rattle.tagged_heap.proofs.Opened.{region_of}
-use Rattle.tagged_heap.proofs.Shown.{shown_is}
+use Rattle.tagged_heap.proofs.StateFromHeaders.{shown_is}
 use Rattle.heap_theory.proofs.Found.{Contains-head}
 use Rattle.tagged_heap.proofs.Slots.{class_few}
 

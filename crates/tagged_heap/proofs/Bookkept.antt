@@ -2,14 +2,14 @@
 use Rattle.std.proofs.Common.{ℕ, ◌<◌, List, length, sym, ◌∙◌, subst, arith}
 use Rattle.machine_theory.specs.Memory.{Granule, tag_at}
 use Rattle.heap_theory.specs.Hardening.{IsChunkGranule}
-use Rattle.heap_theory.specs.Kept.{IsKeptIn}
+use Rattle.heap_theory.specs.HeapInMemory.{IsKeptIn}
 use Rattle.heap_theory.specs.Links.{next_in, list_of}
 use Rattle.heap_theory.specs.Sound.{IsSoundHeap, IsTagOf, IsChunkTag}
 use Rattle.heap_theory.specs.State.{State, Heap, state_at, chunk_of}
 use Rattle.heap_theory.specs.State.State.{Fresh, Live, Dead}
-use Rattle.tagged_heap.proofs.Below as laws
-use Rattle.tagged_heap.specs.Bookkeeping.{ChunksAreTagged, ParitiesDiffer}
-use Rattle.tagged_heap.specs.Keeping.{IsKeptBy}
+use Rattle.tagged_heap.proofs.TheoryLemmas as laws
+use Rattle.tagged_heap.specs.ChunkTags.{ChunksAreTagged, ParitiesDiffer}
+use Rattle.tagged_heap.specs.Representation.{IsKeptBy}
 
 pub kept_said : (h : Heap) (m : List Granule) (front : ℕ) (fronts queue : List ℕ) (lists : List (List ℕ)) → IsKeptBy h m front fronts queue lists → IsKeptIn h m
 kept_said h m front fronts queue lists k = record {

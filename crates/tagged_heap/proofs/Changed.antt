@@ -12,8 +12,8 @@ use Rattle.heap_theory.specs.Links.{AreLinked, next_in, list_of}
 use Rattle.heap_theory.specs.Sound.{IsSoundHeap}
 use Rattle.heap_theory.specs.State.{State, Heap, state_at, last_tag, IsSlot}
 use Rattle.heap_theory.specs.State.State.{Fresh}
-use Rattle.tagged_heap.proofs.Below as laws
-use Rattle.tagged_heap.specs.Keeping.{header_in, IsRewritten, IsKeptBy}
+use Rattle.tagged_heap.proofs.TheoryLemmas as laws
+use Rattle.tagged_heap.specs.Representation.{header_in, IsRewritten, IsKeptBy}
 use Rattle.tagged_heap.proofs.Slots.{IsDeadSlot, dead_of, in_chain, in_list, same_standing}
 
 -- ---- lists whose slots' links stay

@@ -14,7 +14,7 @@ use Rattle.heap_theory.specs.declared.fault.NullCause.TheVariants.{Large, NoClas
 use Rattle.heap_theory.specs.Calls.{is_class_of}
 use Rattle.heap_theory.specs.Choice.{class_for_request}
 use Rattle.heap_theory.specs.State.{Heap, chunk_granules}
-use Rattle.tagged_heap.proofs.Below as laws
+use Rattle.tagged_heap.proofs.TheoryLemmas as laws
 use Rattle.tagged_heap.specs.Chunks.{IsCauseFor}
 use Rattle.tagged_heap.proofs.Shares.{one_class}
 

@@ -16,11 +16,11 @@ use Rattle.heap_theory.specs.Header.Standing.{Fresh as NeverGiven}
 use Rattle.heap_theory.specs.Links.{AreLinked, IsLinked, next_in, list_of}
 use Rattle.heap_theory.specs.State.{state_at, last_tag, is_fresh, first_heap, without_headers}
 use Rattle.heap_theory.specs.State.State.{Fresh}
-use Rattle.tagged_heap.proofs.Below as laws
-use Rattle.tagged_heap.specs.Keeping.{header_in, IsKeptBy, AreFirstFresh}
-use Rattle.tagged_heap.specs.View.{shown_heap, IsHeldIn}
+use Rattle.tagged_heap.proofs.TheoryLemmas as laws
+use Rattle.tagged_heap.specs.Representation.{header_in, IsKeptBy, AreFirstFresh}
+use Rattle.tagged_heap.specs.HeapView.{shown_heap, IsHeldIn}
 use Rattle.tagged_heap.proofs.Shares.{first_slot-le, share_of_slot}
-use Rattle.tagged_heap.proofs.Shown.{shown_is}
+use Rattle.tagged_heap.proofs.StateFromHeaders.{shown_is}
 
 same_everywhere : {X : Type 0} (n k : ℕ) (x : X) → get_or (replicate n x) k x ≡ x
 same_everywhere n k x = elim (cases_lt k n) [

@@ -8,8 +8,8 @@ use Rattle.class_table.specs.Layout.{first_slot}
 use Rattle.heap_theory.specs.Choice.{lowest_fresh}
 use Rattle.heap_theory.specs.Sound.{IsSoundHeap}
 use Rattle.heap_theory.specs.State.{State, Heap, slot_in, state_at, is_fresh, IsSlot}
-use Rattle.tagged_heap.proofs.Below as laws
-use Rattle.tagged_heap.specs.Keeping.{AreFirstFresh}
+use Rattle.tagged_heap.proofs.TheoryLemmas as laws
+use Rattle.tagged_heap.specs.Representation.{AreFirstFresh}
 use Rattle.tagged_heap.proofs.Shares.{in_share, share_of_slot, first_slot-le}
 
 -- a heap of the same layout

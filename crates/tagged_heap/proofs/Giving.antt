@@ -21,12 +21,12 @@ use Rattle.heap_theory.specs.Links.{AreLinked, IsLinked, next_in, list_of}
 use Rattle.heap_theory.specs.Sound.{IsSoundHeap}
 use Rattle.heap_theory.specs.State.{State, Heap, slot_in, state_at, last_tag, is_fresh, chunk_granules, payload_start, without_headers, IsSlot}
 use Rattle.heap_theory.specs.State.State.{Fresh, Live, Dead}
-use Rattle.chunk_header.specs.Seen.{with_next}
+use Rattle.chunk_header.specs.HeaderView.{with_next}
 use Rattle.quarantine_core.specs.Queue.{Queue}
-use Rattle.tagged_heap.proofs.Below as laws
+use Rattle.tagged_heap.proofs.TheoryLemmas as laws
 use Rattle.tagged_heap.specs.Chunks.{given_header, tag_for, IsCauseFor}
-use Rattle.tagged_heap.specs.Keeping.{header_in, IsRewritten, AreFirstFresh}
-use Rattle.tagged_heap.specs.View.{IsHeldIn}
+use Rattle.tagged_heap.specs.Representation.{header_in, IsRewritten, AreFirstFresh}
+use Rattle.tagged_heap.specs.HeapView.{IsHeldIn}
 use Rattle.tagged_heap.proofs.Changed.{kept_changed, list_slot}
 use Rattle.tagged_heap.proofs.Firsts.{firsts_stay, firsts_step, counted, lowest_counted, lowest_none}
 use Rattle.heap_theory.proofs.SeenMemory.{length-without_headers}

@@ -9,11 +9,11 @@ use Rattle.machine_theory.specs.Memory.{Granule, IsMemory, tagged}
 use Rattle.class_table.specs.Layout.{Partition, AreInOrder, no_slot, slots_of, slot_of, slot_count}
 use Rattle.heap_theory.specs.Header.{Header, FitsWords, with_header, first_word, second_word}
 use Rattle.heap_theory.specs.Header.Standing.{Freed}
-use Rattle.chunk_header.specs.Seen.{with_next}
+use Rattle.chunk_header.specs.HeaderView.{with_next}
 use Rattle.heap_theory.specs.State.{is_header, without_headers}
 use Rattle.heap_theory.proofs.SeenMemory.{length-without_headers}
-use Rattle.tagged_heap.proofs.Below as laws
-use Rattle.tagged_heap.specs.Keeping.{header_in, IsRewritten}
+use Rattle.tagged_heap.proofs.TheoryLemmas as laws
+use Rattle.tagged_heap.specs.Representation.{header_in, IsRewritten}
 
 pub start_is_header : (layout : Partition) (s : ℕ) → s < slot_count layout → is_header layout (slot_of layout s).start ≡ true
 start_is_header layout s within =

@@ -11,11 +11,11 @@ use Rattle.heap_theory.specs.Header.{Header, FitsWords, header_for, with_header,
 use Rattle.heap_theory.specs.State.{Heap, slot_in, state_at, is_fresh, last_tag, chunk_granules, payload_start, IsSlot}
 use Rattle.heap_theory.specs.State.State.{Fresh, Live}
 use Rattle.quarantine_core.specs.Queue.{Queue}
-use Rattle.tagged_heap.proofs.Below as laws
+use Rattle.tagged_heap.proofs.TheoryLemmas as laws
 use Rattle.tagged_heap.specs.Chunks.{HasRoom}
-use Rattle.tagged_heap.specs.Inside.{state_of, seen, IsHeld}
-use Rattle.tagged_heap.specs.Keeping.{header_in, IsRewritten}
-use Rattle.tagged_heap.specs.View.{Counted, shown_heap, IsHeldIn}
+use Rattle.tagged_heap.specs.Abstraction.{state_of, seen, IsHeld}
+use Rattle.tagged_heap.specs.Representation.{header_in, IsRewritten}
+use Rattle.tagged_heap.specs.HeapView.{Counted, shown_heap, IsHeldIn}
 use Rattle.tagged_heap.specs.declared.heap.Heap.TheInside.{Inside}
 use Rattle.tagged_heap.proofs.Changed.{kept_changed}
 use Rattle.tagged_heap.proofs.Firsts.{firsts_stay}
@@ -23,7 +23,7 @@ use Rattle.tagged_heap.proofs.Giving.{tag_is}
 use Rattle.heap_theory.proofs.SeenMemory.{length-without_headers}
 use Rattle.tagged_heap.proofs.HeaderPlaces.{then_tagged, written_header}
 use Rattle.tagged_heap.proofs.Opened.{state_seen, region_of, ends_within, class_shown}
-use Rattle.tagged_heap.proofs.Shown.{shown_is}
+use Rattle.tagged_heap.proofs.StateFromHeaders.{shown_is}
 
 module _ (h : Heap) (frees : ℕ) (m : List Granule) (q : Queue) (fronts firsts : List ℕ) (k : IsHeldIn h frees m q fronts firsts) (s size tag n : ℕ) (in_range : IsSlot h s)
     (live : state_at h s ≡ Live size tag) (room : chunk_granules n < (slot_in h s).class) where

@@ -11,10 +11,10 @@ use Rattle.heap_theory.specs.Links.{IsLinked, next_in, list_of}
 use Rattle.heap_theory.specs.State.{Heap, slot_in, without_headers, IsSlot}
 use Rattle.quarantine_core.specs.Queue.{Queue, AreQueued, LinksStand, TakesOldest}
 use Rattle.chunk_header.specs.Links.{SetsLink}
-use Rattle.tagged_heap.proofs.Below as laws
+use Rattle.tagged_heap.proofs.TheoryLemmas as laws
 use Rattle.tagged_heap.specs.Chunks.{IsListed}
-use Rattle.tagged_heap.specs.Keeping.{header_in, IsReleasing, IsRewritten}
-use Rattle.tagged_heap.specs.View.{IsLettingGo}
+use Rattle.tagged_heap.specs.Representation.{header_in, IsReleasing, IsRewritten}
+use Rattle.tagged_heap.specs.HeapView.{IsLettingGo}
 use Rattle.heap_theory.proofs.SeenMemory.{length-without_headers}
 use Rattle.tagged_heap.proofs.HeaderPlaces.{header_unseen, start_inside, first_or_more, starts_differ}
 use Rattle.tagged_heap.proofs.Releasing.{as_quarantined, with_link, released_step}

@@ -1,4 +1,4 @@
-pub mod Below
+pub mod TheoryLemmas
 pub mod Accepted
 pub mod BytesInParts
 pub mod HeaderPlaces
@@ -15,7 +15,7 @@ pub mod InPlace
 pub mod TakingBack
 pub mod Retiring
 pub mod Allocating
-pub mod Shown
+pub mod StateFromHeaders
 pub mod Giving
 pub mod PayloadWritten
 pub mod FirstHeld

@@ -10,7 +10,7 @@ use Rattle.heap_theory.specs.Header.Standing.{Live as IsLive, Quarantined, Freed
 use Rattle.heap_theory.specs.Sound.{IsSoundHeap}
 use Rattle.heap_theory.specs.State.{State, Heap, slot_in, state_at, last_tag, payload_place, IsSlot}
 use Rattle.heap_theory.specs.State.State.{Fresh, Live, Dead}
-use Rattle.tagged_heap.proofs.Below as laws
+use Rattle.tagged_heap.proofs.TheoryLemmas as laws
 
 -- what the search by layout answers
 abbrev pub Names : Heap → ℕ → Option ℕ → Type 0

@@ -4,9 +4,9 @@ use Rattle.class_table.specs.Layout.{slot_count, slot_of, end_of}
 use Rattle.heap_theory.specs.Header.{Header, header_for}
 use Rattle.heap_theory.specs.Links.{next_in}
 use Rattle.heap_theory.specs.State.{state_at, last_tag, IsSlot}
-use Rattle.tagged_heap.specs.Inside.{state_of, seen, IsHeld}
-use Rattle.tagged_heap.specs.Keeping.{header_in}
-use Rattle.tagged_heap.specs.View.{Counted, shown_heap}
+use Rattle.tagged_heap.specs.Abstraction.{state_of, seen, IsHeld}
+use Rattle.tagged_heap.specs.Representation.{header_in}
+use Rattle.tagged_heap.specs.HeapView.{Counted, shown_heap}
 use Rattle.tagged_heap.specs.declared.heap.Heap.TheInside.{Inside}
 use Rattle.heap_theory.proofs.SeenMemory.{length-without_headers}
 use Rattle.tagged_heap.proofs.Giving.{tag_is}

@@ -18,10 +18,10 @@ use Rattle.heap_theory.specs.Header.{Header, header_for, size_of, class_number}
 use Rattle.heap_theory.specs.Links.{next_in}
 use Rattle.heap_theory.specs.State.{Heap, slot_in, state_at, last_tag, payload_start, is_header, without_headers}
 use Rattle.quarantine_core.specs.Queue.{Queue}
-use Rattle.tagged_heap.proofs.Below as laws
-use Rattle.tagged_heap.specs.Inside.{state_of, seen, IsHeld}
-use Rattle.tagged_heap.specs.Keeping.{header_in, IsKeptBy}
-use Rattle.tagged_heap.specs.View.{Counted, shown_heap, IsHeldIn}
+use Rattle.tagged_heap.proofs.TheoryLemmas as laws
+use Rattle.tagged_heap.specs.Abstraction.{state_of, seen, IsHeld}
+use Rattle.tagged_heap.specs.Representation.{header_in, IsKeptBy}
+use Rattle.tagged_heap.specs.HeapView.{Counted, shown_heap, IsHeldIn}
 use Rattle.tagged_heap.specs.declared.heap.Heap.TheInside.{Inside}
 use Rattle.tagged_heap.proofs.BytesInParts.{map_same}
 use Rattle.tagged_heap.proofs.Changed.{linked_same, queue_slot, list_slot}
@@ -29,7 +29,7 @@ use Rattle.tagged_heap.proofs.Firsts.{firsts_stay}
 use Rattle.heap_theory.proofs.SeenMemory.{length-without_headers}
 use Rattle.tagged_heap.proofs.HeaderPlaces.{start_is_header}
 use Rattle.tagged_heap.proofs.Opened.{region_of, ends_within}
-use Rattle.tagged_heap.proofs.Shown.{shown_is}
+use Rattle.tagged_heap.proofs.StateFromHeaders.{shown_is}
 use Rattle.tagged_heap.proofs.Slots.{same_standing}
 
 -- a heap with another memory

@@ -3,7 +3,7 @@ use Rattle.std.proofs.Common.{◌≡◌, ℕ, ◌+◌, ◌-◌, ◌/◌, ◌%◌
 use Rattle.machine_theory.specs.Address.{region_start}
 use Rattle.class_table.specs.Layout.{Partition, IsPartition, slot_count, slot_of, slot_over}
 use Rattle.heap_theory.specs.State.{payload_place}
-use Rattle.tagged_heap.proofs.Below as laws
+use Rattle.tagged_heap.proofs.TheoryLemmas as laws
 
 module _ (layout : Partition) (is : IsPartition layout) where
   -- the granule of a place at which a slot's payload begins

@@ -13,7 +13,7 @@ use Rattle.heap_theory.specs.Choice.{Chunk, IsReusable, chunk_at, slot_for_reque
 use Rattle.heap_theory.specs.State.{Heap, slot_in, state_at, is_fresh, pointer_to}
 use Rattle.heap_theory.specs.State.State.{Fresh, Live}
 use Rattle.machine_theory.specs.Memory.{Granule, bytes_at, tagged}
-use Rattle.tagged_heap.specs.View.{Counted}
+use Rattle.tagged_heap.specs.HeapView.{Counted}
 use Rattle.tagged_heap.specs.Frees.{frees_for_slot, frees_for_chunk, frees_of_realloc}
 
 -- ---- a result whose error is another's, under a name

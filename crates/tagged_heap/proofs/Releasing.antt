@@ -14,8 +14,8 @@ use Rattle.heap_theory.specs.Header.Standing.{Freed, Quarantined}
 use Rattle.heap_theory.specs.Links.{IsLinked, next_in, list_of}
 use Rattle.heap_theory.specs.State.{State, Heap, slot_in, state_at, last_tag, without_headers, IsSlot}
 use Rattle.heap_theory.specs.State.State.{Fresh, Live, Dead}
-use Rattle.tagged_heap.proofs.Below as laws
-use Rattle.tagged_heap.specs.Keeping.{header_in, IsKeptBy, IsReleasing}
+use Rattle.tagged_heap.proofs.TheoryLemmas as laws
+use Rattle.tagged_heap.specs.Representation.{header_in, IsKeptBy, IsReleasing}
 use Rattle.tagged_heap.proofs.Changed.{queue_slot, list_slot}
 use Rattle.heap_theory.proofs.Found.{Contains-cases, Contains-head, Contains-tail}
 use Rattle.heap_theory.proofs.Marks.{dead_with_mark, one_mark}

@@ -11,13 +11,13 @@ use Rattle.heap_theory.specs.State.State.{Live}
 use Rattle.chunk_header.specs.Links.{SetsLink}
 use Rattle.quarantine_core.specs.Queue.{Queue, AreQueued, CanBePut, with_newest}
 use Rattle.tagged_heap.specs.Chunks.{HasRoom, retired_header, tag_for}
-use Rattle.tagged_heap.specs.Inside.{state_of, seen, IsHeld}
-use Rattle.tagged_heap.specs.Keeping.{header_in, IsRewritten}
-use Rattle.tagged_heap.specs.View.{Counted, shown_heap, IsHeldIn, IsLettingGo}
+use Rattle.tagged_heap.specs.Abstraction.{state_of, seen, IsHeld}
+use Rattle.tagged_heap.specs.Representation.{header_in, IsRewritten}
+use Rattle.tagged_heap.specs.HeapView.{Counted, shown_heap, IsHeldIn, IsLettingGo}
 use Rattle.tagged_heap.specs.declared.heap.Heap.TheInside.{Inside}
 use Rattle.tagged_heap.proofs.Opened.{state_seen}
 use Rattle.tagged_heap.proofs.Releasing.{as_quarantined}
-use Rattle.tagged_heap.proofs.Shown.{shown_is}
+use Rattle.tagged_heap.proofs.StateFromHeaders.{shown_is}
 use Rattle.tagged_heap.proofs.TakingBack.{drawn_is, retired_memory, retired_long, queued_before, outside, own_unlinked, letting_go, freed_held, live_has_room}
 
 -- what taking back makes of the machine

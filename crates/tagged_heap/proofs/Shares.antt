@@ -6,7 +6,7 @@ use Rattle.std.proofs.lemmas.List.Kept.{AllPairs-from_increasing}
 use Rattle.std.proofs.lemmas.List.Sums.{sum_by_more}
 use Rattle.class_table.specs.Layout.{Partition, Slot, share_of, slot_of, slot_count, first_slot}
 use Rattle.class_table.specs.Tables.{IsLegalTable}
-use Rattle.tagged_heap.proofs.Below as laws
+use Rattle.tagged_heap.proofs.TheoryLemmas as laws
 
 pub first_slot-suc : (region : Partition) (number : ℕ) → number < length region.classes →
     first_slot region (number + 1) ≡ first_slot region number + share_of region / slice_index region.classes number

@@ -11,7 +11,7 @@ use Rattle.heap_theory.specs.State.{State, Heap, slot_in, state_at, IsSlot}
 use Rattle.heap_theory.specs.State.State.{Fresh, Live, Dead}
 use Rattle.heap_theory.proofs.Found.{Contains-cases, Contains-none}
 use Rattle.heap_theory.proofs.Marks.{dead_with_mark}
-use Rattle.tagged_heap.proofs.Below as laws
+use Rattle.tagged_heap.proofs.TheoryLemmas as laws
 
 -- ---- slots with a mark
 

@@ -17,10 +17,10 @@ use Rattle.heap_theory.specs.State.{Heap, slot_in, state_at, is_fresh, last_tag,
 use Rattle.heap_theory.specs.State.State.{Fresh, Live, Dead}
 use Rattle.chunk_header.specs.Links.{SetsLink}
 use Rattle.quarantine_core.specs.Queue.{Queue, AreQueued, IsOutside, with_newest}
-use Rattle.tagged_heap.proofs.Below as laws
+use Rattle.tagged_heap.proofs.TheoryLemmas as laws
 use Rattle.tagged_heap.specs.Chunks.{HasRoom, retired_header, tag_for}
-use Rattle.tagged_heap.specs.Keeping.{header_in, IsRewritten, AreFirstFresh}
-use Rattle.tagged_heap.specs.View.{IsHeldIn, IsLettingGo}
+use Rattle.tagged_heap.specs.Representation.{header_in, IsRewritten, AreFirstFresh}
+use Rattle.tagged_heap.specs.HeapView.{IsHeldIn, IsLettingGo}
 use Rattle.tagged_heap.proofs.Changed.{queue_slot}
 use Rattle.tagged_heap.proofs.Firsts.{firsts_stay}
 use Rattle.tagged_heap.proofs.Giving.{tag_is}

@@ -12,9 +12,9 @@ use Rattle.heap_theory.specs.Calls.{parity_exclude}
 use Rattle.heap_theory.specs.Header.{Header}
 use Rattle.heap_theory.specs.Links.{next_in}
 use Rattle.heap_theory.specs.State.{chunk_granules}
-use Rattle.chunk_header.specs.Seen.{with_next}
+use Rattle.chunk_header.specs.HeaderView.{with_next}
 use Rattle.heap_theory.specs.Header.Standing.{Live, Quarantined}
-use Rattle.tagged_heap.specs.Keeping.{header_in}
+use Rattle.tagged_heap.specs.Representation.{header_in}
 
 -- the tag that the machine draws for a slot, by what its header says of its last one
 abbrev pub tag_for : Partition → Machine → ℕ → ℕ

@@ -1,7 +1,7 @@
 pub mod Config
 pub mod Chunks
-pub mod Keeping
-pub mod View
-pub mod Inside
+pub mod Representation
+pub mod HeapView
+pub mod Abstraction
 pub mod Frees
-pub mod Bookkeeping
+pub mod ChunkTags

@@ -1,5 +1,5 @@
 //! The calls that read and write the region, and that look at it.
-ghost use Rattle.heap_theory.specs.Kept.{HeaderWordsStay, IsKeptIn};
+ghost use Rattle.heap_theory.specs.HeapInMemory.{HeaderWordsStay, IsKeptIn};
 ghost use Rattle.heap_theory.specs.Places.{place_kind};
 ghost use Rattle.machine_theory.specs.Access.{IsMapped, access_fault, is_mapped, loaded, ok_unless, stored};
 ghost use Rattle.machine_theory.specs.Address.{logical_tag};
@@ -19,7 +19,7 @@ impl Heap {
     ///
     /// Errors, after which `buf` is unchanged: `Unmapped` if a byte lies outside the region or bits 63 to 60 of the address are not 0;
     /// otherwise `TagCheck` with the lowest granule that the access touches and whose tag differs from the address's.
-    #[tactic(auto, using(crate::proofs::Below::accesses_seen))]
+    #[tactic(auto, using(crate::proofs::TheoryLemmas::accesses_seen))]
     pub fn load(&self, address: u64, buf: &mut [u8]) -> Result<(), Fault>
         requires len { (1 ≤ length buf.old) × (length buf.old ≤ 64) }
         requires tagged { (logical_tag address ≢ 0)
@@ -36,7 +36,7 @@ impl Heap {
     /// so it writes no header. The header words of all slots stay the same.
     ///
     /// Its errors are those of `load`. After an error nothing has changed.
-    #[tactic(auto, using(crate::proofs::Below::accesses_seen))]
+    #[tactic(auto, using(crate::proofs::TheoryLemmas::accesses_seen))]
     pub fn store(&mut self, address: u64, bytes: &[u8]) -> Result<(), Fault>
         requires len { (1 ≤ length bytes.now) × (length bytes.now ≤ 64) }
         requires tagged { (logical_tag address ≢ 0)

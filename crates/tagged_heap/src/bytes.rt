@@ -3,7 +3,6 @@ ghost use Rattle.machine_theory.specs.Memory.{bytes_at, written, IsMemory};
 ghost use Rattle.std.specs.Prelude.{◌≡◌, ◌⊎◌, ◌+◌, ◌*◌, ◌≤◌, length, replicate};
 
 use granule_memory::Memory;
-use machine_theory::laws::memory::law_memory;
 
 // the bytes that are copied at once
 const PIECE: usize = 256;

@@ -10,7 +10,7 @@ ghost use Rattle.machine_theory.specs.Memory.{tagged, IsMemory};
 ghost use Rattle.machine_theory.specs.Seed.{next_seed};
 ghost use Rattle.std.specs.Prelude.{◌≡◌, ◌+◌, ◌^◌, ◌<◌, ◌≤◌, bit_or, length};
 ghost use Rattle.tagged_heap.specs.Chunks.{HasRoom, given_header, retired_header, tag_for};
-ghost use Rattle.tagged_heap.specs.Keeping.{header_in};
+ghost use Rattle.tagged_heap.specs.Representation.{header_in};
 
 use crate::headers::header;
 use crate::pointers::payload_address;

@@ -9,8 +9,8 @@ ghost use Rattle.heap_theory.specs.State.State.{Live};
 ghost use Rattle.machine_theory.specs.Memory.{IsMemory};
 ghost use Rattle.std.specs.Prelude.{◌≡◌, ◌≢◌, ◌↔◌, ◌+◌, ◌^◌, ◌<◌, ◌≤◌, length, slice_index, slice_set, IfErr, IfOk, Ok, OnErr, OnOk, ℕ};
 ghost use Rattle.tagged_heap.specs.Chunks.{IsListed};
-ghost use Rattle.tagged_heap.specs.Keeping.{header_in, IsRewritten};
-ghost use Rattle.tagged_heap.specs.View.{AreLettingGo, IsLettingGo};
+ghost use Rattle.tagged_heap.specs.Representation.{header_in, IsRewritten};
+ghost use Rattle.tagged_heap.specs.HeapView.{AreLettingGo, IsLettingGo};
 
 use crate::chunks::retire;
 use crate::headers::header;

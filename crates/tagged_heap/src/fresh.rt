@@ -5,7 +5,7 @@ ghost use Rattle.heap_theory.specs.State.{first_heap, without_headers};
 ghost use Rattle.machine_theory.specs.Memory.{IsMemory};
 ghost use Rattle.std.specs.List.{range_with_len};
 ghost use Rattle.std.specs.Prelude.{◌≡◌, ◌+◌, ◌<◌, ◌≤◌, ℕ, length, map, slice_index, slice_set, IfNone, IfSome};
-ghost use Rattle.tagged_heap.specs.Keeping.{header_in};
+ghost use Rattle.tagged_heap.specs.Representation.{header_in};
 
 use arrayvec::ArrayVec;
 use chunk_header::{Header, State, write};
@@ -23,6 +23,7 @@ pub(crate) fn write_fresh_headers(memory: &mut Memory, layout: &Layout)
     // What any layout is known to be.
     ensures partition { IsPartition layout.now }
 {
+    // called for its contract: the proof needs `IsPartition` of the layout
     layout.granules();
     for slot in 0..layout.slots() {
         let header = Header {

@@ -1,6 +1,6 @@
 //! The headers of slots.
-ghost use Rattle.chunk_header.specs.Seen.{seen};
-ghost use Rattle.tagged_heap.specs.Keeping.{header_in};
+ghost use Rattle.chunk_header.specs.HeaderView.{seen};
+ghost use Rattle.tagged_heap.specs.Representation.{header_in};
 ghost use Rattle.class_table.specs.Layout.{slot_count, slot_of};
 ghost use Rattle.heap_theory.specs.Header.{FitsWords};
 ghost use Rattle.std.specs.Prelude.{◌≡◌, ◌<◌, length};
@@ -18,6 +18,7 @@ pub(crate) fn header(memory: &Memory, layout: &Layout, _slot: u32, start: u32) -
     ensures header { seen result ≡ header_in layout.now memory.now _slot }
     ensures fits { FitsWords (seen result) }
 {
+    // called for its contract: the proof needs `IsPartition` of the layout
     layout.granules();
     read(memory, start)
 }

@@ -47,11 +47,11 @@ pub struct Heap {
 }
 
 impl Model for Heap {
-    ghost use Rattle.tagged_heap.specs.View.{Counted};
+    ghost use Rattle.tagged_heap.specs.HeapView.{Counted};
 
     ghost Value = { Counted };
 
-    ghost use Rattle.tagged_heap.specs.Inside.{seen, IsHeld};
+    ghost use Rattle.tagged_heap.specs.Abstraction.{seen, IsHeld};
 
     ghost view = { seen };
 

@@ -1,7 +1,7 @@
 //! What holds for every heap. Each law is the contract of a call that does nothing. The laws of whole runs come from `heap_theory`.
 ghost use Rattle.heap_theory.specs.HeaderLaws.{HeadersAreSpared};
 ghost use Rattle.heap_theory.specs.Sound.{IsSoundHeap};
-ghost use Rattle.tagged_heap.specs.Bookkeeping.{ChunksAreTagged, ParitiesDiffer};
+ghost use Rattle.tagged_heap.specs.ChunkTags.{ChunksAreTagged, ParitiesDiffer};
 
 use crate::heap::Heap;
 pub use heap_theory::laws::hardening::{

@@ -40,6 +40,7 @@ pub(crate) fn start_at(layout: &Layout, slot: u32, p: u64) -> u32
     requires place { place_of p ≡ payload_place (slot_of layout.now slot) }
     ensures { result ≡ (slot_of layout.now slot).start }
 {
+    // called for its contract: the proof needs `IsPartition` of the layout
     layout.granules();
     ((place_of(p) - REGION_START) / GRANULE_BYTES) as u32 - 1
 }

@@ -13,7 +13,7 @@ use Rattle.heap_theory.specs.declared.event.Event.TheVariants.{Malloc, Calloc, R
 use Rattle.heap_theory.specs.Ranges.{IsInRange}
 use Rattle.trace_reader.specs.TraceLine.{number_from, offset_of, byte_of, event_line, event_of_words, event_of_line, event_words, move_words, request_words}
 use Rattle.trace_reader.proofs.LineRanges.{both_pass}
-use Rattle.trace_reader.specs.Below.{SpellingLaws}
+use Rattle.trace_reader.specs.SpellingLaws.{SpellingLaws}
 use Rattle.trace_reader.proofs.Offsets.{fits_signed}
 
 -- ---- words

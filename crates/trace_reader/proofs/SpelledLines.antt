@@ -16,7 +16,7 @@ use Rattle.trace_reader.specs.declared.fault.TraceFault.{TraceFault}
 use Rattle.trace_reader.specs.declared.fault.TraceFault.TheVariants.{BadWord, OutOfRange, LineTooLong, TooManyEvents}
 use Rattle.trace_reader.specs.TraceLine.{ranged, number_from, variable_of, size_of, offset_of, len_of, byte_of, request_of, free_of, load_of, store_of, move_of, event_line, event_named, event_of_full_words, event_of_words, event_of_line, event_words, is_empty_word, move_words, request_words}
 use Rattle.trace_reader.proofs.LineRanges.{IfOk-and_then, both_pass}
-use Rattle.trace_reader.specs.Below.{SpellingLaws}
+use Rattle.trace_reader.specs.SpellingLaws.{SpellingLaws}
 use Rattle.trace_reader.proofs.Offsets.{fits_signed}
 
 -- ---- words

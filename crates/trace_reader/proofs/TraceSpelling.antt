@@ -12,7 +12,7 @@ use Rattle.trace_reader.specs.TraceText.{SpellsTrace, Trace, no_lines, trace_fro
 use Rattle.trace_reader.proofs.EventLines.{event_line-is_line, event_line-some, event_of_line-spelled}
 use Rattle.trace_reader.proofs.LineRanges.{IfOk-event_of_line, few_events}
 use Rattle.trace_reader.proofs.SpelledLines.{spelled_line}
-use Rattle.trace_reader.specs.Below.{SpellingLaws}
+use Rattle.trace_reader.specs.SpellingLaws.{SpellingLaws}
 
 abbrev pub whole : List Event → Trace
 whole events = record { events = events; fault = None }

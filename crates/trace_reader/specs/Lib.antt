@@ -1,8 +1,8 @@
-pub mod Below
+pub mod SpellingLaws
 pub mod Laws
 pub mod Reached
 pub mod Reading
-pub mod Shown
+pub mod FaultText
 pub mod Spelled
 pub mod Status
 pub mod TraceLine

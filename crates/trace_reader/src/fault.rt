@@ -1,5 +1,5 @@
 ghost use Rattle.std.specs.Prelude.{Some};
-ghost use Rattle.trace_reader.specs.Shown.{shown_trace_fault};
+ghost use Rattle.trace_reader.specs.FaultText.{shown_trace_fault};
 
 use std::fmt;
 use thiserror::Error;

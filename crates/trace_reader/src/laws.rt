@@ -1,5 +1,5 @@
 //! What holds for every trace's text, and for every text that comes in pieces. Each law is the contract of a function that does nothing.
-ghost use Rattle.trace_reader.specs.Below.{SpellingLaws};
+ghost use Rattle.trace_reader.specs.SpellingLaws.{SpellingLaws};
 ghost use Rattle.trace_reader.specs.Laws.{TraceIsSpelled, SpelledTraceIsRead, TextSpellsOneTrace, FaultIsAfterItsEvents, EventsAreFew, EventsAreInRange};
 ghost use Rattle.trace_reader.specs.Laws.{TextIsItsCut, PiecesAreJoined, PiecesAreTheText, FedAddsEvents, FinishedAddsEvents, PiecesHaveFewEvents, FedAfterEvents, FinishedAfterEvents};
 

@@ -4,7 +4,7 @@ pub mod Potentials
 pub mod Rests
 pub mod Rows
 pub mod Sheets
-pub mod Shown
+pub mod RefusalText
 pub mod Spans
 pub mod Tuned
 pub mod Waste

@@ -105,7 +105,8 @@ pub fn law_ends_ascend()
     ensures { EndsAscend }
 {}
 
-/// The numbers of least rows over the spans of a profile are the least rests, and a least rest is one number.
+/// The numbers of least rows over the spans of a profile are the least wastes of the requests above each place (the least rests). A least
+/// rest is one number.
 pub fn law_rests()
     ensures rows { TunedRowsAreRests }
     ensures one { OneRest }

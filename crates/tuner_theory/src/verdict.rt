@@ -1,5 +1,5 @@
 ghost use Rattle.std.specs.Prelude.{Some};
-ghost use Rattle.tuner_theory.specs.Shown.{shown_refusal};
+ghost use Rattle.tuner_theory.specs.RefusalText.{shown_refusal};
 
 use std::fmt;
 

@@ -4,7 +4,7 @@ use Rattle.granule_memory.specs.Changes.{ChangesOnlyBytes}
 use Rattle.heap_theory.specs.Header.{header_at}
 use Rattle.machine_theory.specs.Memory.{word_at, written}
 use Rattle.heap_theory.proofs.HeaderWords.{header_at-elsewhere, with_header-words}
-use Rattle.chunk_header.specs.Seen.{with_next}
+use Rattle.chunk_header.specs.HeaderView.{with_next}
 use Rattle.chunk_header.proofs.Links.{word_linked, link_written, link_read}
 use Rattle.chunk_header.proofs.granule.set_next.Goals as goal
 

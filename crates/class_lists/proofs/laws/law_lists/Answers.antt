@@ -3,7 +3,7 @@ use Rattle.std.specs.Prelude.{Contains}
 use Rattle.class_table.specs.Layout.{slot_of}
 use Rattle.heap_theory.specs.Header.{with_header}
 use Rattle.heap_theory.specs.Links.{next_in}
-use Rattle.class_lists.proofs.Shown.{shown_short, front_within}
+use Rattle.class_lists.proofs.ListChanges.{shown_short, front_within}
 use Rattle.class_lists.proofs.laws.law_lists.Goals as goal
 
 pub returns-clause-stays : goal.returns-clause-stays

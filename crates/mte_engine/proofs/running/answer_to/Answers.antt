@@ -6,7 +6,7 @@ use Rattle.potential_check.specs.declared.sheet.Sheet.{Sheet}
 use Rattle.trace_reader.proofs.LawLemmas.{finished_after_events, pieces_are_the_text}
 use Rattle.mte_engine.proofs.LawLemmas.{tuned_run_is_headline}
 use Rattle.mte_engine.specs.Replay.{report_on}
-use Rattle.mte_engine.specs.Reported.{text_left}
+use Rattle.mte_engine.specs.ReportText.{text_left}
 use Rattle.mte_engine.specs.Traces.{profile_of_events}
 use Rattle.mte_engine.proofs.TracedRun.{run_refused, run_written}
 use Rattle.mte_engine.proofs.running.answer_to.Goals as goal

@@ -1,8 +1,8 @@
 use Rattle.std.proofs.Common.{◌≡◌, refl, sym, subst}
 use Rattle.heap_theory.specs.State.{Heap}
 use Rattle.tagged_heap.specs.Chunks.{IsListed}
-use Rattle.tagged_heap.specs.Keeping.{header_in}
-use Rattle.tagged_heap.specs.View.{IsLettingGo}
+use Rattle.tagged_heap.specs.Representation.{header_in}
+use Rattle.tagged_heap.specs.HeapView.{IsLettingGo}
 use Rattle.tagged_heap.proofs.LettingGo.{IsLetOut, region_at, stands_at, list_fits, step_at}
 use Rattle.tagged_heap.proofs.freeing.let_go.Goals as goal
 use Rattle.tagged_heap.proofs.freeing.let_go.Goals.{In-Some, After-list_freed}

@@ -1,6 +1,6 @@
 use Rattle.std.proofs.Common.{◌≡◌}
 use Rattle.heap_theory.specs.State.{Heap}
-use Rattle.tagged_heap.specs.View.{AreLettingGo, IsLettingGo}
+use Rattle.tagged_heap.specs.HeapView.{AreLettingGo, IsLettingGo}
 use Rattle.tagged_heap.proofs.freeing.let_go.Given as goal
 
 abbrev pub invariant-loop-slot : goal.invariant-loop-slot

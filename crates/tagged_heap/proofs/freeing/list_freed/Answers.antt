@@ -3,7 +3,7 @@ use Rattle.std.specs.Prelude.{slice_index}
 use Rattle.heap_theory.specs.Header.{Header, with_header}
 use Rattle.class_table.specs.Layout.{slot_of}
 use Rattle.heap_theory.specs.Header.Standing.{Freed}
-use Rattle.chunk_header.specs.Seen.{seen, with_next}
+use Rattle.chunk_header.specs.HeaderView.{seen, with_next}
 use Rattle.tagged_heap.proofs.HeaderPlaces.{listed_header}
 use Rattle.tagged_heap.proofs.freeing.list_freed.Goals as goal
 

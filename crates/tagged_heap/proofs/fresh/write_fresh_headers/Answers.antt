@@ -3,8 +3,8 @@ use Rattle.std.proofs.lemmas.Bool.{cases_lt}
 use Rattle.class_table.specs.Layout.{AreInOrder, slot_of, slot_count}
 use Rattle.heap_theory.specs.Header.{header_at, header_for, with_header, class_number}
 use Rattle.heap_theory.specs.State.{first_heap, without_headers}
-use Rattle.tagged_heap.proofs.Below as laws
-use Rattle.tagged_heap.specs.Keeping.{header_in}
+use Rattle.tagged_heap.proofs.TheoryLemmas as laws
+use Rattle.tagged_heap.specs.Representation.{header_in}
 use Rattle.tagged_heap.proofs.FirstHeld.{fresh_header, header_fresh, class_is_number}
 use Rattle.tagged_heap.proofs.HeaderPlaces.{header_unseen, starts_differ}
 use Rattle.tagged_heap.proofs.fresh.write_fresh_headers.Goals as goal

@@ -2,7 +2,7 @@ use Rattle.std.proofs.Common.{◌≡◌, ℕ, ◌<◌, length}
 use Rattle.machine_theory.specs.Memory.{IsMemory}
 use Rattle.heap_theory.specs.Header.{header_for}
 use Rattle.heap_theory.specs.State.{first_heap, without_headers}
-use Rattle.tagged_heap.specs.Keeping.{header_in}
+use Rattle.tagged_heap.specs.Representation.{header_in}
 use Rattle.tagged_heap.proofs.fresh.write_fresh_headers.Given as goal
 
 abbrev pub invariant-loop-slot : goal.invariant-loop-slot

@@ -3,7 +3,7 @@ use Rattle.std.specs.Prelude.{slice_index, slice_get}
 use Rattle.heap_theory.specs.Links.{next_in}
 use Rattle.heap_theory.proofs.Linked.{IsLinked-once}
 use Rattle.class_lists.specs.Lists.{ShowsList}
-use Rattle.class_lists.proofs.Shown.{shown_none, shown_first, shown_rest, first_not_in_rest}
+use Rattle.class_lists.proofs.ListChanges.{shown_none, shown_first, shown_rest, first_not_in_rest}
 use Rattle.class_lists.proofs.lists.ClassLists.pop.Goals as goal
 
 pub returns-then-front-eq0-clause-popped : goal.returns-then-front-eq0-clause-popped

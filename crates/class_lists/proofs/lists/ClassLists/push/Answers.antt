@@ -1,7 +1,7 @@
 use Rattle.std.proofs.Common.{◌≡◌, ◌∙◌}
 use Rattle.std.specs.Prelude.{slice_index}
 use Rattle.heap_theory.specs.Links.{next_in}
-use Rattle.class_lists.proofs.Shown.{shown_pushed}
+use Rattle.class_lists.proofs.ListChanges.{shown_pushed}
 use Rattle.class_lists.proofs.lists.ClassLists.push.Goals as goal
 
 pub returns-clause-others : goal.returns-clause-others

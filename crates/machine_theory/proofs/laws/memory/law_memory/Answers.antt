@@ -1,4 +1,4 @@
-use Rattle.machine_theory.proofs.KeptLaws.{IsMemory-new, IsMemory-tagged, IsMemory-written}
+use Rattle.machine_theory.proofs.ChangedMemories.{IsMemory-new, IsMemory-tagged, IsMemory-written}
 use Rattle.machine_theory.proofs.MemoryLaws.{length-tagged, length-written}
 use Rattle.machine_theory.proofs.laws.memory.law_memory.Goals as goal
 

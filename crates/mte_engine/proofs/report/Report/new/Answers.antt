@@ -1,5 +1,5 @@
 use Rattle.std.proofs.Common.{◌++◌, arith, ap, ◌∙◌, List, ℕ}
-use Rattle.replay_core.specs.Stored.{Stored}
+use Rattle.replay_core.specs.ReplayState.{Stored}
 use Rattle.replay_core.proofs.LawLemmas.{lines_of_none, lines_of_one_more, report_is_lines_and_totals, stored_of_none, stored_of_one_more}
 use Rattle.mte_engine.specs.Replay.{region_for}
 use Rattle.mte_engine.specs.Report.{report_from}

@@ -13,7 +13,7 @@ use denote.Builtin.{u8}
 use Rattle.std.specs.contracts.impls.GlobalAllocator.TheImpl.{ghosts}
 use Rattle.std.proofs.impls.GlobalAllocator.deallocate.Met.{met}
 use Rattle.raw_region.proofs.Fields.{R, words, parts_out}
-use Rattle.raw_region.proofs.Heap.{lends_handle, takes_handle, Deallocates, deallocates, deallocate_goes, deallocate_gives}
+use Rattle.raw_region.proofs.Allocator.{lends_handle, takes_handle, Deallocates, deallocates, deallocate_goes, deallocate_gives}
 use Rattle.raw_region.specs.contracts.region.RawRegion.drop as f
 use Rattle.raw_region.proofs.region.RawRegion.drop.Statement.{statement}
 use Rattle.raw_region.proofs.region.RawRegion.drop.Code as code

@@ -26,7 +26,7 @@ use Rattle.std.specs.Prelude.{Ok, Err}
 use Rattle.std.specs.contracts.alloc.AllocError as AE
 use Rattle.std.specs.contracts.alloc.Global as HP
 use Rattle.raw_region.proofs.Fields.{R, Parts, words, parts_in, parts_made}
-use Rattle.raw_region.proofs.Heap.{Z, lends_handle, takes_handle, Allocates, allocates, allocate_goes, allocate_gives}
+use Rattle.raw_region.proofs.Allocator.{Z, lends_handle, takes_handle, Allocates, allocates, allocate_goes, allocate_gives}
 use Rattle.raw_region.proofs.region.RawRegion.new.Code as code
 use Rattle.raw_region.proofs.region.RawRegion.new.Statement.{statement}
 use Rattle.raw_region.proofs.zeros.write_zeros.Met as written

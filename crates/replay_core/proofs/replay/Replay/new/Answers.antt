@@ -4,7 +4,7 @@ use Rattle.class_table.specs.Tables.{IsLegalTable}
 use Rattle.heap_theory.specs.Run.{first_replay}
 use Rattle.heap_theory.specs.State.{Heap, first_heap}
 use Rattle.heap_theory.specs.Totals.{no_totals}
-use Rattle.replay_core.specs.Stored.{first_stored}
+use Rattle.replay_core.specs.ReplayState.{first_stored}
 use Rattle.replay_core.proofs.StoredMore.{stored_of-none}
 use Rattle.replay_core.proofs.replay.Replay.new.Goals as goal
 

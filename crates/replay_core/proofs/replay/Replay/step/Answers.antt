@@ -8,9 +8,9 @@ use Rattle.heap_theory.specs.declared.event.Event.{Event}
 use Rattle.heap_theory.specs.Run.{Replay, heap_after, variables_after, answer_of}
 use Rattle.heap_theory.specs.Totals.{Totals, totals_after}
 use Rattle.heap_theory.specs.State.{Heap}
-use Rattle.replay_core.specs.Inside.{stored}
-use Rattle.replay_core.specs.Shown.{AreVariables, over, shown, totals_in}
-use Rattle.replay_core.specs.Stored.{Stored, IsStored, stored_after}
+use Rattle.replay_core.specs.Abstraction.{stored}
+use Rattle.replay_core.specs.TheoryValues.{AreVariables, over, shown, totals_in}
+use Rattle.replay_core.specs.ReplayState.{Stored, IsStored, stored_after}
 use Rattle.heap_theory.proofs.LayoutStays.{layout_after}
 use Rattle.replay_core.proofs.Reached.{null_or_tagged, IsStored-after, stored_in_parts, run_goes_on}
 use Rattle.replay_core.proofs.replay.Replay.step.Goals as goal

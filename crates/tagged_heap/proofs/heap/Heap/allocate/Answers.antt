@@ -9,8 +9,8 @@ use Rattle.heap_theory.specs.Calls.{given_out}
 use Rattle.heap_theory.specs.Choice.{slot_for_request}
 use Rattle.heap_theory.specs.State.{IsSlot, pointer_to}
 use Rattle.tagged_heap.specs.Chunks.{HasClass, Takes}
-use Rattle.tagged_heap.specs.Inside.{state_of, IsHeld}
-use Rattle.tagged_heap.specs.View.{Counted, shown_heap, IsHeldIn}
+use Rattle.tagged_heap.specs.Abstraction.{state_of, IsHeld}
+use Rattle.tagged_heap.specs.HeapView.{Counted, shown_heap, IsHeldIn}
 use Rattle.tagged_heap.specs.declared.heap.Heap.TheInside.{Inside}
 use Rattle.tagged_heap.proofs.Allocating.{has_class, taken, exhausted, taken_room, given_held, given_shown, given_address}
 use Rattle.tagged_heap.proofs.Giving.{IsTaken, request_refused}

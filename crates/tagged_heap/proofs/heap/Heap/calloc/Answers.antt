@@ -1,8 +1,8 @@
 -- The slot that is given has room for its chunk, as in every heap, and decides the answer and the new state.
 use Rattle.std.proofs.Common.{◌∙◌, sym, ap, Ok}
 use Rattle.std.proofs.lemmas.Result.{err_from_is_err_and}
-use Rattle.tagged_heap.proofs.Below as laws
-use Rattle.tagged_heap.specs.View.{Counted}
+use Rattle.tagged_heap.proofs.TheoryLemmas as laws
+use Rattle.tagged_heap.specs.HeapView.{Counted}
 use Rattle.tagged_heap.proofs.CallSteps.{calloc_given, calloc_refused, slot_given, size_of_given, room_given}
 use Rattle.tagged_heap.proofs.heap.Heap.calloc.Goals as goal
 

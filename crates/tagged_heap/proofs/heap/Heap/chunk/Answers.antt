@@ -3,16 +3,16 @@ use Rattle.std.proofs.lemmas.Result.{err_from_is_err_and}
 use Rattle.std.specs.Prelude.{Result}
 use Rattle.std.specs.Option.{ok_or}
 use Rattle.class_table.specs.Layout.{slot_count}
-use Rattle.chunk_header.specs.Seen.{seen as header_seen, standing_seen}
+use Rattle.chunk_header.specs.HeaderView.{seen as header_seen, standing_seen}
 use Rattle.heap_theory.specs.declared.fault.FreeError.{FreeError}
 use Rattle.heap_theory.specs.declared.fault.FreeError.TheVariants.{Misplaced}
 use Rattle.heap_theory.specs.Choice.{chunk_at}
 use Rattle.heap_theory.specs.Header.{Standing, header_for}
 use Rattle.heap_theory.specs.Header.Standing.{Fresh as IsFresh, Live as IsLive, Quarantined as IsQuarantined, Freed as IsFreed}
 use Rattle.heap_theory.specs.Links.{next_in}
-use Rattle.tagged_heap.specs.Inside.{state_of}
-use Rattle.tagged_heap.specs.Keeping.{header_in}
-use Rattle.tagged_heap.specs.View.{shown_heap}
+use Rattle.tagged_heap.specs.Abstraction.{state_of}
+use Rattle.tagged_heap.specs.Representation.{header_in}
+use Rattle.tagged_heap.specs.HeapView.{shown_heap}
 use Rattle.tagged_heap.proofs.Opened.{region_of, state_seen, class_shown, header_shows}
 use Rattle.tagged_heap.proofs.NamedChunks.{named_slot, chunk_misplaced, chunk_not_live, chunk_wrong_tag, chunk_live}
 use Rattle.tagged_heap.proofs.heap.Heap.chunk.Goals as goal

@@ -4,8 +4,8 @@ use Rattle.machine_theory.specs.Memory.{Granule, bytes_at, written}
 use Rattle.class_table.specs.Layout.{slot_of}
 use Rattle.heap_theory.specs.Calls.{payload_bytes, with_payload}
 use Rattle.heap_theory.specs.State.{Heap, payload_start}
-use Rattle.tagged_heap.specs.Inside.{state_of}
-use Rattle.tagged_heap.specs.View.{Counted, shown_heap}
+use Rattle.tagged_heap.specs.Abstraction.{state_of}
+use Rattle.tagged_heap.specs.HeapView.{Counted, shown_heap}
 use Rattle.tagged_heap.proofs.BytesInParts.{length-bytes_at}
 use Rattle.tagged_heap.proofs.Opened.{slot_within}
 use Rattle.tagged_heap.proofs.PayloadWritten.{KeepsHeaders, room_inside, payload_within, few_granules, in_order, payload_spared, payload_seen, bytes_fit, shown_after, held_after}

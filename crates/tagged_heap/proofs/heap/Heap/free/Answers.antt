@@ -2,8 +2,8 @@
 use Rattle.std.proofs.Common.{◌∙◌, ap}
 use Rattle.std.proofs.lemmas.Result.{err_from_is_err_and}
 use Rattle.heap_theory.proofs.OwnPointers.{free_accepts}
-use Rattle.tagged_heap.proofs.Below as laws
-use Rattle.tagged_heap.specs.View.{Counted}
+use Rattle.tagged_heap.proofs.TheoryLemmas as laws
+use Rattle.tagged_heap.specs.HeapView.{Counted}
 use Rattle.tagged_heap.proofs.Accepted.{free_accepted}
 use Rattle.tagged_heap.proofs.CallSteps.{free_null, free_chunk, free_refused}
 use Rattle.tagged_heap.proofs.heap.Heap.free.Goals as goal

@@ -1,6 +1,6 @@
 use Rattle.std.proofs.Common.{subst}
-use Rattle.tagged_heap.specs.Bookkeeping.{ChunksAreTagged, ParitiesDiffer}
-use Rattle.tagged_heap.specs.Inside.{state_of}
+use Rattle.tagged_heap.specs.ChunkTags.{ChunksAreTagged, ParitiesDiffer}
+use Rattle.tagged_heap.specs.Abstraction.{state_of}
 use Rattle.tagged_heap.proofs.Bookkept.{chunks_tagged, parities_differ}
 use Rattle.tagged_heap.proofs.Opened.{state_seen}
 use Rattle.tagged_heap.proofs.heap.Heap.law_tags.Goals as goal

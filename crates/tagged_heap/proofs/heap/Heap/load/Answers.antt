@@ -4,7 +4,7 @@ use Rattle.std.specs.Prelude.{OnOk}
 use Rattle.machine_theory.specs.Access.{access_fault, ok_unless, loaded}
 use Rattle.heap_theory.proofs.HeaderWords.{class_number-is}
 use Rattle.heap_theory.proofs.HeadersAgree.{header_words_stay}
-use Rattle.tagged_heap.specs.View.{Counted}
+use Rattle.tagged_heap.specs.HeapView.{Counted}
 use Rattle.tagged_heap.proofs.AccessSteps.{load_seen}
 use Rattle.tagged_heap.proofs.PayloadWritten.{tagged_access, fault_cases}
 use Rattle.tagged_heap.proofs.heap.Heap.load.Goals as goal

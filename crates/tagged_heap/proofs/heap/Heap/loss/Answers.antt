@@ -1,6 +1,6 @@
 use Rattle.std.proofs.Common.{◌∙◌, ap}
 use Rattle.heap_theory.specs.Totals.{loss_of_size}
-use Rattle.tagged_heap.specs.View.{Counted, shown_heap}
+use Rattle.tagged_heap.specs.HeapView.{Counted, shown_heap}
 use Rattle.tagged_heap.proofs.heap.Heap.loss.Goals as goal
 
 pub returns-clause-loss : goal.returns-clause-loss

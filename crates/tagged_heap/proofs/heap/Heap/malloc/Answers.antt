@@ -1,7 +1,7 @@
 -- The slot that is given decides the answer and the new state; where none is given, nothing changes.
 use Rattle.std.proofs.Common.{◌∙◌, ap, Ok}
 use Rattle.std.proofs.lemmas.Result.{err_from_is_err_and}
-use Rattle.tagged_heap.specs.View.{Counted}
+use Rattle.tagged_heap.specs.HeapView.{Counted}
 use Rattle.tagged_heap.proofs.CallSteps.{malloc_given, malloc_refused}
 use Rattle.tagged_heap.proofs.heap.Heap.malloc.Goals as goal
 

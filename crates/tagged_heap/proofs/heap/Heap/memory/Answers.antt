@@ -1,6 +1,6 @@
 use Rattle.std.proofs.Common.{subst}
-use Rattle.heap_theory.specs.Kept.{IsKeptIn}
-use Rattle.tagged_heap.specs.Inside.{state_of}
+use Rattle.heap_theory.specs.HeapInMemory.{IsKeptIn}
+use Rattle.tagged_heap.specs.Abstraction.{state_of}
 use Rattle.tagged_heap.proofs.Bookkept.{kept_said}
 use Rattle.tagged_heap.proofs.Opened.{state_seen}
 use Rattle.tagged_heap.proofs.heap.Heap.memory.Goals as goal

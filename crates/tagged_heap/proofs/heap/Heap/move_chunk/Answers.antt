@@ -3,7 +3,7 @@ use Rattle.std.proofs.Common.{◌≡◌, sym, ap, arith}
 use Rattle.heap_theory.specs.State.{chunk_granules, chunk_of, state_at}
 use Rattle.heap_theory.specs.State.State.{Live}
 use Rattle.machine_theory.proofs.LawLemmas.{bytes_under_tags}
-use Rattle.tagged_heap.proofs.Below as laws
+use Rattle.tagged_heap.proofs.TheoryLemmas as laws
 use Rattle.tagged_heap.proofs.CallSteps.{slot_given, slot_written, state_written}
 use Rattle.tagged_heap.proofs.ReallocSteps.{live_given, move_is, live_apart, same_slot}
 use Rattle.tagged_heap.proofs.heap.Heap.move_chunk.Goals as goal

@@ -4,7 +4,7 @@ use Rattle.machine_theory.specs.Memory.{new_granule}
 use Rattle.class_table.specs.Layout.{Partition}
 use Rattle.heap_theory.specs.State.{first_heap, without_headers}
 use Rattle.quarantine_core.specs.Queue.{Queue}
-use Rattle.tagged_heap.specs.View.{shown_heap, IsHeldIn}
+use Rattle.tagged_heap.specs.HeapView.{shown_heap, IsHeldIn}
 use Rattle.tagged_heap.proofs.FirstHeld.{shown_first, held_first}
 use Rattle.tagged_heap.proofs.heap.Heap.new.Goals as goal
 

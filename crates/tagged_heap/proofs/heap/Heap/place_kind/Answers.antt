@@ -1,12 +1,12 @@
 -- What the header of the slot over a granule says decides what the granule is.
 use Rattle.std.proofs.Common.{◌≡◌, ◌-◌, ◌<◌, ◌≤◌, sym, ap, ◌∙◌, subst, inl, inr, arith}
 use Rattle.class_table.specs.Layout.{slot_of}
-use Rattle.chunk_header.specs.Seen.{standing_seen, seen}
+use Rattle.chunk_header.specs.HeaderView.{standing_seen, seen}
 use Rattle.heap_theory.specs.Header.{Header}
 use Rattle.heap_theory.specs.Places.{place_kind}
 use Rattle.heap_theory.specs.State.{chunk_granules}
-use Rattle.tagged_heap.specs.Inside.{state_of}
-use Rattle.tagged_heap.specs.Keeping.{header_in}
+use Rattle.tagged_heap.specs.Abstraction.{state_of}
+use Rattle.tagged_heap.specs.Representation.{header_in}
 use Rattle.tagged_heap.proofs.AccessSteps.{IsOver, slot_is_over, size_few, outside_seen, start_seen, tail_seen, chunk_seen, kind_by}
 use Rattle.tagged_heap.proofs.Opened.{region_of, class_shown}
 use Rattle.tagged_heap.proofs.heap.Heap.place_kind.Goals as goal

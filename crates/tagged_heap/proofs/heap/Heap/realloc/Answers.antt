@@ -6,9 +6,9 @@ use Rattle.heap_theory.specs.declared.fault.FreeError.{FreeError}
 use Rattle.heap_theory.specs.declared.fault.ReallocError.TheVariants.{Null, Refused}
 use Rattle.heap_theory.specs.Choice.{chunk_at}
 use Rattle.heap_theory.proofs.OwnPointers.{realloc_accepts}
-use Rattle.tagged_heap.proofs.Below as laws
+use Rattle.tagged_heap.proofs.TheoryLemmas as laws
 use Rattle.tagged_heap.specs.declared.freeing.Chunk.{Chunk as Found}
-use Rattle.tagged_heap.specs.View.{Counted}
+use Rattle.tagged_heap.specs.HeapView.{Counted}
 use Rattle.tagged_heap.proofs.Accepted.{realloc_accepted}
 use Rattle.tagged_heap.proofs.ReallocSteps.{err_named, ok_named, all_named, realloc_null, realloc_refused, realloc_stays, realloc_moves, frees_at_null, frees_refused, frees_in_place, frees_moved, move_answer, move_state, move_frees}
 use Rattle.tagged_heap.proofs.heap.Heap.realloc.Goals as goal

@@ -1,7 +1,7 @@
 use Rattle.std.proofs.Common.{◌≡◌, ◌+◌, ◌*◌, ◌≤◌, refl, sym, ap, ◌∙◌, subst, arith}
 use Rattle.heap_theory.specs.Calls.{freed}
-use Rattle.tagged_heap.specs.Inside.{state_of}
-use Rattle.tagged_heap.specs.View.{Counted, shown_heap, IsHeldIn}
+use Rattle.tagged_heap.specs.Abstraction.{state_of}
+use Rattle.tagged_heap.specs.HeapView.{Counted, shown_heap, IsHeldIn}
 use Rattle.tagged_heap.proofs.Opened.{slot_within, state_seen}
 use Rattle.tagged_heap.proofs.Retiring.{room_for, lent_can_be_put, put_letting_go, retired_held, retired_shown}
 use Rattle.tagged_heap.proofs.heap.Heap.release.Goals as goal

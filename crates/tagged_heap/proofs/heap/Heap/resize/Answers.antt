@@ -1,6 +1,6 @@
 use Rattle.std.proofs.Common.{◌≡◌, sym, ap, ◌∙◌, subst}
 use Rattle.heap_theory.specs.Calls.{resized}
-use Rattle.tagged_heap.specs.View.{Counted, shown_heap, IsHeldIn}
+use Rattle.tagged_heap.specs.HeapView.{Counted, shown_heap, IsHeldIn}
 use Rattle.tagged_heap.proofs.InPlace.{resize_room, resized_held, resized_shown}
 use Rattle.tagged_heap.proofs.Opened.{state_seen}
 use Rattle.tagged_heap.proofs.heap.Heap.resize.Goals as goal

@@ -5,11 +5,11 @@ use Rattle.machine_theory.specs.declared.fault.Fault.{Fault}
 use Rattle.machine_theory.specs.Access.{access_fault, ok_unless, stored}
 use Rattle.machine_theory.specs.Address.{byte_of, place_of}
 use Rattle.machine_theory.specs.Machine.{Machine}
-use Rattle.heap_theory.specs.Kept.{HaveSameSlots}
+use Rattle.heap_theory.specs.HeapInMemory.{HaveSameSlots}
 use Rattle.heap_theory.specs.State.{Heap}
 use Rattle.heap_theory.proofs.HeaderWords.{class_number-is}
 use Rattle.heap_theory.proofs.HeadersAgree.{header_words_stay}
-use Rattle.tagged_heap.specs.View.{Counted, shown_heap, IsHeldIn}
+use Rattle.tagged_heap.specs.HeapView.{Counted, shown_heap, IsHeldIn}
 use Rattle.tagged_heap.proofs.PayloadWritten.{KeepsHeaders, access_spared, tagged_access, fault_cases, shown_after, held_after}
 use Rattle.tagged_heap.proofs.heap.Heap.store.Goals as goal
 

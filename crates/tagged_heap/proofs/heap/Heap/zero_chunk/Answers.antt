@@ -5,8 +5,8 @@ use Rattle.machine_theory.specs.Memory.{written}
 use Rattle.class_table.specs.Layout.{slot_of}
 use Rattle.heap_theory.specs.Calls.{with_payload}
 use Rattle.heap_theory.specs.State.{Heap, chunk_granules, payload_start}
-use Rattle.tagged_heap.specs.Inside.{seen}
-use Rattle.tagged_heap.specs.View.{Counted, shown_heap}
+use Rattle.tagged_heap.specs.Abstraction.{seen}
+use Rattle.tagged_heap.specs.HeapView.{Counted, shown_heap}
 use Rattle.tagged_heap.proofs.Opened.{slot_within}
 use Rattle.tagged_heap.proofs.PayloadWritten.{KeepsHeaders, room_inside, payload_within, few_granules, in_order, payload_spared, shown_after, held_after}
 use Rattle.tagged_heap.proofs.heap.Heap.zero_chunk.Goals as goal

@@ -8,7 +8,7 @@ use Rattle.heap_theory.specs.Header.{shown_state}
 use Rattle.heap_theory.specs.Links.{last_link}
 use Rattle.heap_theory.specs.State.{Heap, without_headers}
 use Rattle.quarantine_core.specs.Queue.{Queue}
-use Rattle.tagged_heap.specs.Keeping.{header_in, IsKeptBy, IsReleasing, AreFirstFresh}
+use Rattle.tagged_heap.specs.Representation.{header_in, IsKeptBy, IsReleasing, AreFirstFresh}
 
 -- A heap's state, and how many chunks were freed.
 pub record Counted : Type 0 where

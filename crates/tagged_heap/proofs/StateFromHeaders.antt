@@ -8,9 +8,9 @@ use Rattle.heap_theory.specs.Header.{shown_state}
 use Rattle.heap_theory.specs.Links.{next_in}
 use Rattle.heap_theory.specs.State.{Heap}
 use Rattle.heap_theory.specs.State.State.{Fresh}
-use Rattle.tagged_heap.proofs.Below as laws
-use Rattle.tagged_heap.specs.Keeping.{header_in, IsKeptBy}
-use Rattle.tagged_heap.specs.View.{shown_heap}
+use Rattle.tagged_heap.proofs.TheoryLemmas as laws
+use Rattle.tagged_heap.specs.Representation.{header_in, IsKeptBy}
+use Rattle.tagged_heap.specs.HeapView.{shown_heap}
 
 pub shown_is : (h : Heap) (m : List Granule) (front : ℕ) (fronts queue : List ℕ) (lists : List (List ℕ)) → IsKeptBy h m front fronts queue lists →
     shown_heap h.layout h.quarantine m h.total h.seed h.tag ≡ h

@@ -1,7 +1,7 @@
 -- The fields of a heap, and what a contract sees of them.
 use Rattle.heap_theory.specs.State.{Heap}
 use Rattle.tagged_heap.specs.declared.heap.Heap.TheInside.{Inside}
-use Rattle.tagged_heap.specs.View.{Counted, shown_heap, IsHeldIn}
+use Rattle.tagged_heap.specs.HeapView.{Counted, shown_heap, IsHeldIn}
 
 abbrev pub state_of : Inside → Heap
 state_of heap = shown_heap heap.layout heap.quarantine.limit heap.machine.memory heap.total heap.machine.seed heap.machine.tag

@@ -20,7 +20,7 @@ pub use Rattle.heap_theory.proofs.Linked.{IsLinked-same as links_stay, IsLinked-
 pub use Rattle.heap_theory.proofs.SeenMemory.{without_headers-new as new_seen, without_headers-tagged as tags_seen, without_headers-written as bytes_seen, access_fault-without_headers as accesses_seen, granule_at-without_headers as granules_seen}
 pub use Rattle.heap_theory.proofs.SeenMemory.{without_headers-in_header as header_bytes_unseen, headers_spared as spared}
 -- memory
-pub use Rattle.machine_theory.proofs.KeptLaws.{IsMemory-written as memory_written}
+pub use Rattle.machine_theory.proofs.ChangedMemories.{IsMemory-written as memory_written}
 pub use Rattle.machine_theory.proofs.MemoryLaws.{length-each_granule as each_length, length-tagged as tagged_length, length-written as written_length}
 -- sizes and layouts
 pub use Rattle.class_table.proofs.LawLemmas.{legal_slots_are_in_order as in_order, slots_of_a_class as slots_of_class, slots_of_classes_are_all as all_slots, one_slot_covers as covers, number_gives_class as class_by_number}

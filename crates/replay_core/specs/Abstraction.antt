@@ -3,8 +3,8 @@ use Rattle.std.specs.Prelude.{◌≡◌, ◌≤◌, length}
 use Rattle.class_table.specs.Tables.{IsLegalTable}
 use Rattle.replay_core.specs.Bounds.{AreBounded}
 use Rattle.replay_core.specs.declared.replay.Replay.TheInside.{Inside}
-use Rattle.replay_core.specs.Shown.{over, totals_in}
-use Rattle.replay_core.specs.Stored.{Stored, IsStored}
+use Rattle.replay_core.specs.TheoryValues.{over, totals_in}
+use Rattle.replay_core.specs.ReplayState.{Stored, IsStored}
 
 abbrev pub stored : Inside → Stored
 stored replay = record { replay = over replay.heap.state replay.variables.items; totals = totals_in replay.totals }

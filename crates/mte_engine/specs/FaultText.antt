@@ -1,9 +1,9 @@
 -- How a fault is shown: by its code and its name, and by its line where it has one.
 use Rattle.std.specs.Prelude.{ℕ, List, ◌++◌, codes}
 use Rattle.std.specs.Fmt.{decimal}
-use Rattle.class_table.specs.Shown.{shown_table_error}
-use Rattle.profile_count.specs.Shown.{shown_profile_fault}
-use Rattle.trace_reader.specs.Shown.{shown_trace_fault}
+use Rattle.class_table.specs.FaultText.{shown_table_error}
+use Rattle.profile_count.specs.FaultText.{shown_profile_fault}
+use Rattle.trace_reader.specs.FaultText.{shown_trace_fault}
 use Rattle.mte_engine.specs.declared.fault.InputFault.{InputFault}
 use Rattle.mte_engine.specs.declared.fault.InputFault.TheVariants.{TooLong, Table, BadSheet, Profile, Trace}
 use Rattle.mte_engine.specs.declared.fault.ToolFault.{ToolFault}

@@ -4,7 +4,7 @@ pub use Rattle.machine_theory.proofs.AddressLaws.{tag_put, place_stays, tag_fits
 pub use Rattle.machine_theory.proofs.ByteLaws.{word_at-written as word_read}
 pub use Rattle.machine_theory.proofs.ChangeLaws.{each_granule_either as either_order, written-append as in_parts}
 pub use Rattle.machine_theory.proofs.InstructionLaws.{addg-some as addg_tagged, subg-some as subg_tagged}
-pub use Rattle.machine_theory.proofs.KeptLaws.{IsMemory-written as memory_written}
+pub use Rattle.machine_theory.proofs.ChangedMemories.{IsMemory-written as memory_written}
 pub use Rattle.machine_theory.proofs.LawLemmas.{mapped_test, tag_fault_names, written_tag, other_tag, tag_under_bytes, other_bytes, bytes_under_tags}
 pub use Rattle.machine_theory.proofs.MemoryLaws.{length-each_granule as each_length, granule_at-each_granule as each_at, length-tagged as tagged_length, length-written as written_length}
 pub use Rattle.machine_theory.proofs.TagLaws.{odd_drawn, even_drawn}

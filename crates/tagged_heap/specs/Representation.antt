@@ -6,7 +6,7 @@ use Rattle.heap_theory.specs.Booked.{IsBooked, IsBookedFrom}
 use Rattle.heap_theory.specs.Choice.{is_dead}
 use Rattle.heap_theory.specs.Header.{Header, header_at, header_for}
 use Rattle.heap_theory.specs.Header.Standing.{Quarantined}
-use Rattle.heap_theory.specs.Kept.{HasHeaders}
+use Rattle.heap_theory.specs.HeapInMemory.{HasHeaders}
 use Rattle.heap_theory.specs.Links.{AreLinked, next_in}
 use Rattle.heap_theory.specs.Sound.{IsSoundHeap}
 use Rattle.heap_theory.specs.State.{Heap, slot_in, state_at, is_fresh, without_headers, IsSlot}
