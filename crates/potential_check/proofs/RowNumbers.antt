@@ -99,13 +99,6 @@ pub record RowSoFar (all rest : List (List ℕ)) (front : List ℕ) : Type 0 whe
   pub few : length front ≤ 1023
   pub small : list_all fits front ≡ true
 
-pub row_on-start : (ws : List (List ℕ)) → RowSoFar ws ws []
-row_on-start ws = record { read = go (numbers_of ws); few = omega arith; small = refl }
-  where
-    go : (o : Option (List ℕ)) → passing is_row o ≡ passing is_row (option_map (λ ns. [] ++ ns) o)
-    go None = refl
-    go (Some ns) = refl
-
 -- a word that is no number of at most 64 bits
 pub row_on-no_number : (front : List ℕ) (rest new : List (List ℕ)) (w : List ℕ) → rest ≡ w ∷ new → passing fits (number_of w) ≡ None → row_on front rest ≡ None
 unfolding numbers_of

@@ -18,7 +18,8 @@ use heap_theory::NullCause;
 
 /// The number of the class that serves a request of `n` bytes, or why none does.
 pub(crate) fn class_for(layout: &Layout, n: u32) -> Result<usize, NullCause>
-    ensures ok { IfOk result (λ number. (n ≤ largest_counted) × (class_number_for layout.now.classes n ≡ Some number)) }
+    ensures ok { IfOk result
+        (λ number. (n ≤ largest_counted) × (class_number_for layout.now.classes n ≡ Some number)) }
     ensures within { IfOk result (λ number. number < length layout.now.classes) }
     ensures err { IfErr result (IsCauseFor layout.now.classes n) }
 {
