@@ -3,7 +3,7 @@ use Rattle.std.proofs.Common.{◌≡◌, ℕ, ◌+◌, ◌*◌, List, sym, ◌�
 use Rattle.std.specs.Int.{w64, to_le_bytes}
 use Rattle.machine_theory.specs.Memory.{Granule, IsMemory, word_at, written}
 use Rattle.heap_theory.specs.Header.{Header, first_word, header_of, header_at}
-use Rattle.heap_theory.specs.HeaderLaws.{HeaderIsTwoWords}
+use Rattle.heap_theory.proofs.HeaderWords.{with_header-words}
 use Rattle.chunk_header.specs.HeaderView.{with_next}
 use Rattle.chunk_header.proofs.Codes.{header_of-with_next}
 use Rattle.chunk_header.proofs.Rewrites.{word_written_over}
@@ -22,13 +22,13 @@ word_linked memory g next word second read =
     ∙ (λ i. first_word (record (header_of (word_at memory (at i)) second) { next = next }))
 
 -- the second word is not written, since it would not change
-pub link_written : HeaderIsTwoWords → (old new : List Granule) (g next : ℕ) → IsMemory new → word_at new (16 * g + 8) ≡ word_at old (16 * g + 8) →
+pub link_written : (old new : List Granule) (g next : ℕ) → IsMemory new → word_at new (16 * g + 8) ≡ word_at old (16 * g + 8) →
     new ≡ written (16 * g) (to_le_bytes w64 (first_word (linked old g next))) old → new ≡ with_next old g next
 unfolding header_at
-link_written two_words old new g next is stays first =
+link_written old new g next is stays first =
     sym (word_written_over new (16 * g + 8) is)
     ∙ (λ i. written (16 * g + 8) (to_le_bytes w64 (stays i)) (first i))
-    ∙ sym (two_words old g (linked old g next))
+    ∙ sym (with_header-words old g (linked old g next))
 
 -- the mark is the second word, whatever the first one is
 pub link_read : (old new : List Granule) (g next : ℕ) → word_at new (16 * g + 8) ≡ word_at old (16 * g + 8) →

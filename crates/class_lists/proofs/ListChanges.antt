@@ -8,8 +8,8 @@ use Rattle.std.proofs.lemmas.Map.Views.{Contains-from_any}
 use Rattle.std.proofs.lemmas.Map.Steps.{length-le_from_distinct_below}
 use Rattle.machine_theory.specs.Memory.{Granule}
 use Rattle.class_table.specs.Layout.{Partition, slot_count}
-use Rattle.heap_theory.specs.HeaderLaws.{EachSlotOnce}
 use Rattle.heap_theory.specs.Links.{IsLinked, next_in}
+pub use Rattle.heap_theory.proofs.Linked.{IsLinked-once as each_once, IsLinked-one as one_list}
 use Rattle.class_lists.specs.Lists.{ShowsList}
 
 first_or_after : (s : ℕ) (list : List ℕ) (r : ℕ) → Contains (s ∷ list) r → (s ≡ r) ⊎ Contains list r
@@ -45,17 +45,18 @@ pub shown_rest : (layout : Partition) (memory : List Granule) (s : ℕ) (rest : 
 shown_rest layout memory s rest shown = record { linked = shown.linked.1; slots = λ r there. shown.slots r (after s rest r there) }
 
 -- in which it isn't
-pub first_not_in_rest : EachSlotOnce → (layout : Partition) (memory : List Granule) (s : ℕ) (rest : List ℕ) → ShowsList layout memory (s + 1) (s ∷ rest) →
+pub first_not_in_rest : (layout : Partition) (memory : List Granule) (s : ℕ) (rest : List ℕ) → ShowsList layout memory (s + 1) (s ∷ rest) →
     Contains rest s → ⊥
-first_not_in_rest once layout memory s rest shown there =
-    let pairs = once (next_in layout memory) (s + 1) (s ∷ rest) shown.linked in
+first_not_in_rest layout memory s rest shown there =
+    let pairs = each_once (next_in layout memory) (s + 1) (s ∷ rest) shown.linked in
     pairs 0 (suc there.0) s (omega arith) (omega (arith, there.1)) (sym there.2)
 
 -- distinct numbers below the number of slots are no more than that
-pub shown_short : EachSlotOnce → (layout : Partition) (memory : List Granule) (front : ℕ) (list : List ℕ) → ShowsList layout memory front list → length list ≤ slot_count layout
-shown_short once layout memory front list shown =
+pub shown_short : (layout : Partition) (memory : List Granule) (front : ℕ) (list : List ℕ) → ShowsList layout memory front list
+    → length list ≤ slot_count layout
+shown_short layout memory front list shown =
     length-le_from_distinct_below list (slot_count layout)
-    (IsDistinct-from_AllPairs Decides-eqb list (once (next_in layout memory) front list shown.linked))
+    (IsDistinct-from_AllPairs Decides-eqb list (each_once (next_in layout memory) front list shown.linked))
     (λ s there. shown.slots s (Contains-from_any eqb-true s list there))
 
 pub front_within : (layout : Partition) (memory : List Granule) (front : ℕ) (list : List ℕ) → ShowsList layout memory front list → front ≤ slot_count layout

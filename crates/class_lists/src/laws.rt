@@ -8,10 +8,9 @@ ghost use Rattle.class_lists.specs.Laws.{
   ListIsShort,
 };
 
-use heap_theory::laws::headers::{law_header, law_links, law_links_in_headers};
-
 /// From a front the links show at most one list. It has each of its slots once, and it stays the same under each change that keeps the
 /// links of its slots.
+#[tactic(auto, using(crate::proofs::ListChanges::each_once, crate::proofs::ListChanges::one_list))]
 pub fn law_lists()
     ensures empty { EndIsEmptyList }
     ensures one { ListIsOne }
@@ -19,8 +18,4 @@ pub fn law_lists()
     ensures short { ListIsShort }
     ensures front { FrontIsInLayout }
     ensures stays { ChangesKeepLists }
-{
-    law_header();
-    law_links();
-    law_links_in_headers();
-}
+{}

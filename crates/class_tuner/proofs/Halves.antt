@@ -1,21 +1,25 @@
 -- The two halves of a part: where their least ends are, and how often the source is asked for them.
 use Rattle.std.proofs.Common.{◌≡◌, ℕ, suc, ◌+◌, ◌*◌, ◌^◌, ◌/◌, ◌<◌, ◌≤◌, List, slice_index, arith, ap}
 use Rattle.class_tuner.specs.Filling.{AreEndsBetween, end_cost}
-use Rattle.tuner_theory.specs.Laws.{EndsAscend}
 use Rattle.tuner_theory.specs.Rows.{IsLeastEnd}
 use Rattle.tuner_theory.specs.Spans.{IsCrossing}
+use Rattle.tuner_theory.proofs.LawLemmas.{ends_ascend}
 
-module _ (ascend : EndsAscend) (cost : ℕ → ℕ → ℕ) (d : ℕ) (crossing : IsCrossing cost d) (before : List ℕ) (start stop low high middle end : ℕ)
+module _ (cost : ℕ → ℕ → ℕ) (d : ℕ) (crossing : IsCrossing cost d) (before : List ℕ) (start stop low high middle end : ℕ)
     (between : AreEndsBetween cost d before start stop low high) (least : IsLeastEnd (end_cost cost before middle) middle d end) where
   -- the places left of the middle one end no later than it does,
   pub between-left : middle < stop → AreEndsBetween cost d before start middle low end
-  between-left lt i e from below is_least =
-      ((between i e from (omega arith) is_least).0, ascend cost (slice_index before) d i middle e end crossing (omega arith) is_least least)
+  between-left lt i e from below is_least = (
+    (between i e from (omega arith) is_least).0,
+    ends_ascend cost (slice_index before) d i middle e end crossing (omega arith) is_least least,
+  )
 
   -- and those right of it no earlier
   pub between-right : start ≤ middle → AreEndsBetween cost d before (suc middle) stop end high
-  between-right le i e from below is_least =
-      (ascend cost (slice_index before) d middle i end e crossing (omega arith) least is_least, (between i e (omega arith) below is_least).1)
+  between-right le i e from below is_least = (
+    ends_ascend cost (slice_index before) d middle i end e crossing (omega arith) least is_least,
+    (between i e (omega arith) below is_least).1,
+  )
 
 -- a half has one binary digit less
 pub half-digits : (n b : ℕ) → n < 2 ^ suc b → n / 2 < 2 ^ b

@@ -1,3 +1,4 @@
+pub mod LawLemmas
 pub mod CallCounts
 pub mod Digits
 pub mod Halves

@@ -4,9 +4,9 @@ use Rattle.std.specs.Prelude.{slice_index_or}
 use Rattle.std.proofs.lemmas.List.{ext_get_or}
 use Rattle.class_tuner.specs.Laws.{OneSheet}
 use Rattle.tuner_theory.specs.Sheets.{Sheet}
-use Rattle.tuner_theory.specs.Laws.{OneCanonical, OneRest}
 use Rattle.tuner_theory.specs.Rows.{HasShape, number_at}
 use Rattle.tuner_theory.specs.Waste.{waste_of}
+use Rattle.tuner_theory.proofs.LawLemmas.{one_canonical, one_rest}
 
 rows-same : (a b : List (List ℕ)) (limit d : ℕ) → HasShape a limit d → HasShape b limit d
     → ((k i : ℕ) → 1 ≤ k → k ≤ limit → i < d → number_at a k i ≡ number_at b k i) → a ≡ b
@@ -26,9 +26,9 @@ fields-same : (table table' : List ℕ) (limit limit' step step' waste waste' : 
     let b : Sheet = record { table = table'; limit = limit'; step = step'; waste = waste'; rows = rows' } in a ≡ b)
 fields-same table table' limit limit' step step' waste waste' rows rows' t l s w r = rw (t, l, s, w, r) refl
 
-pub one-sheet : OneCanonical → OneRest → OneSheet
-one-sheet one_table one_rest counts step limit a b of_a of_b =
-    let table = one_table counts step limit a.table b.table of_a.canonical of_b.canonical in
+pub one-sheet : OneSheet
+one-sheet counts step limit a b of_a of_b =
+    let table = one_canonical counts step limit a.table b.table of_a.canonical of_b.canonical in
     let wastes : waste_of counts a.table ≡ waste_of counts b.table = rw table refl in
     fields-same a.table b.table a.limit b.limit a.step b.step a.waste b.waste a.rows b.rows table (of_a.for_limit ∙ sym of_b.for_limit) (of_a.for_step ∙ sym of_b.for_step)
     (of_a.wasted ∙ (wastes ∙ sym of_b.wasted))

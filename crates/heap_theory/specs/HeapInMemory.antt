@@ -8,11 +8,6 @@ use Rattle.heap_theory.specs.Header.{header_at, header_for}
 use Rattle.heap_theory.specs.Links.{IsLinked, next_in, list_of}
 use Rattle.heap_theory.specs.State.{Heap, slot_in, state_at, without_headers, IsSlot}
 
--- Each header shows its slot's state, and the links of slots that are not dead are 0.
-pub record HasHeaders (heap : Heap) (memory : List Granule) : Type 0 where
-  pub headers : (s : ℕ) → IsSlot heap s → header_at memory (slot_in heap s).start ≡ header_for heap s (next_in heap.layout memory s)
-  pub unlinked : (s : ℕ) → IsSlot heap s → IsFalse (is_dead (state_at heap s)) → next_in heap.layout memory s ≡ 0
-
 -- The region of a heap: its headers, and the queue and lists that are linked through them.
 pub record IsKeptIn (heap : Heap) (memory : List Granule) : Type 0 where
   -- each header shows its slot's state

@@ -1,5 +1,5 @@
 -- Lists that are linked through the headers of their slots. A link is the number of a slot plus one, or 0 where a list ends.
-use Rattle.std.specs.Prelude.{◌≡◌, ℕ, suc, ◌<◌, List, [], ◌∷◌, length, slice_index, slice_index_or}
+use Rattle.std.specs.Prelude.{◌≡◌, ℕ, suc, List, [], ◌∷◌, slice_index_or}
 use Rattle.machine_theory.specs.Memory.{Granule}
 use Rattle.class_table.specs.Layout.{Partition, slot_of}
 use Rattle.heap_theory.specs.Header.{header_at}
@@ -22,9 +22,3 @@ last_link (s ∷ r ∷ rest) = last_link (r ∷ rest)
 -- the list of the class of this number
 abbrev pub list_of : List (List ℕ) → ℕ → List ℕ
 list_of lists number = slice_index_or lists number []
-
--- From the quarantine's front the links show its queue, and from each class's front its list.
-pub record AreLinked (next : ℕ → ℕ) (front : ℕ) (fronts : List ℕ) (queue : List ℕ) (lists : List (List ℕ)) : Type 0 where
-  pub queue_linked : IsLinked next front queue
-  pub fronts_long : length fronts ≡ length lists
-  pub lists_linked : (number : ℕ) → number < length lists → IsLinked next (slice_index fronts number) (list_of lists number)

@@ -1,4 +1,4 @@
--- Lines that are not empty are the lines of their text, with its last newline or without.
+-- Lines are read from the text that they make; where they are not empty, also without its last newline.
 use Rattle.std.proofs.Common.{◌≡◌, ℕ, List, [], ◌∷◌, ◌++◌, length, Some, refl, sym, ap, ◌∙◌, arith, ◌⊎◌, inl, inr, append_assoc, append-nil, length-append}
 use Rattle.std.specs.Prelude.{All}
 use Rattle.std.proofs.lemmas.Grind.{flat_map-append}
@@ -7,6 +7,14 @@ use Rattle.std.proofs.lemmas.List.Concat.{flat_map-cons}
 use Rattle.std.proofs.lemmas.List.Elements.{All-pop, All-weaker}
 use Rattle.line_text.specs.Laws.{CutLinesAreRead, WrittenLinesAreRead}
 use Rattle.line_text.specs.Lines.{lines, text_of, ended, IsFullLine, IsLine}
+use Rattle.line_text.proofs.Cuts.{line_alone, lines-text_of}
+
+pub lines-written : WrittenLinesAreRead
+unfolding lines
+lines-written = λ ls all. simp append-nil at (lines-text_of ls [] all)
+
+pub lines-cut : CutLinesAreRead
+lines-cut = λ ls last all line some. rw (line_alone last some line) at (lines-text_of ls last all)
 
 -- lines, with the last one apart
 record LastApart (ls : List (List ℕ)) : Type 0 where
@@ -31,15 +39,16 @@ text_of-last front last =
     ∙ ap (λ text. text_of front ++ text) (flat_map-cons ended last [] ∙ append-nil (ended last))
     ∙ sym (append_assoc (text_of front) last (10 ∷ []))
 
-lines-cut : CutLinesAreRead → (ls : List (List ℕ)) (text : List ℕ) → All IsFullLine ls → ended text ≡ text_of ls → lines text ≡ ls
-lines-cut cut [] text full e = absurd (omega (arith, length-append text (10 ∷ []), ap length e))
-lines-cut cut (line ∷ ls) text full e =
+lines-short : (ls : List (List ℕ)) (text : List ℕ) → All IsFullLine ls → ended text ≡ text_of ls → lines text ≡ ls
+lines-short [] text full e = absurd (omega (arith, length-append text (10 ∷ []), ap length e))
+lines-short (line ∷ ls) text full e =
     let apart = last_apart line ls in
     let both = All-pop IsFullLine (line ∷ ls) apart.front (Some apart.last) apart.is full in
     let whole : ended text ≡ ended (text_of apart.front ++ apart.last) = e ∙ ap text_of apart.is ∙ text_of-last apart.front apart.last in
     let same : text ≡ text_of apart.front ++ apart.last = append_cancel_right text (text_of apart.front ++ apart.last) (10 ∷ []) whole in
-    ap lines same ∙ cut apart.front apart.last (all_lines apart.front both.0) both.1.0 both.1.1 ∙ sym apart.is
+    ap lines same ∙ lines-cut apart.front apart.last (all_lines apart.front both.0) both.1.0 both.1.1 ∙ sym apart.is
 
-pub full_lines-read : CutLinesAreRead → WrittenLinesAreRead → (ls : List (List ℕ)) (text : List ℕ) → All IsFullLine ls → (text ≡ text_of ls) ⊎ (ended text ≡ text_of ls) → lines text ≡ ls
-full_lines-read cut written ls text full (inl whole) = ap lines whole ∙ written ls (all_lines ls full)
-full_lines-read cut written ls text full (inr short) = lines-cut cut ls text full short
+pub full_lines-read : (ls : List (List ℕ)) (text : List ℕ) → All IsFullLine ls → (text ≡ text_of ls) ⊎ (ended text ≡ text_of ls)
+    → lines text ≡ ls
+full_lines-read ls text full (inl whole) = ap lines whole ∙ lines-written ls (all_lines ls full)
+full_lines-read ls text full (inr short) = lines-short ls text full short

@@ -1,11 +1,9 @@
 -- The laws as lemmas, for the proofs of the crates above.
-use Rattle.std.proofs.Common.{[]}
-use Rattle.std.proofs.lemmas.List.{append-nil}
-use Rattle.line_text.specs.Laws.{TextLaws, CutLinesAreRead, FullLinesAreRead, HexIsAByte, HexIsSpelled, LineInFrontIsRead, LineIsItsWords, LinesAreLines, NumberIsSpelled, SignedIsSpelled, SpelledHexIsRead, SpelledNumberIsAWord, SpelledNumberIsRead, SpelledSignedIsAWord, SpelledSignedIsRead, TextIsItsLines, WordsAreWords, WordsMakeALine, WrittenLinesAreRead, WrittenWordsAreRead}
-use Rattle.line_text.specs.Lines.{lines}
-use Rattle.line_text.proofs.Cuts.{All-lines, All-words, IsLine-line_of, IsTextOf-lines, line_alone, line_of-words, lines-ended, lines-text_of, words-line_of}
+use Rattle.std.proofs.Common.{rules}
+use Rattle.line_text.specs.Laws.{TextLaws, CutLinesAreRead, FullLinesAreRead, HexIsAByte, HexIsSpelled, LineInFrontIsRead, LineIsItsWords, LinesAreLines, NumberIsSpelled, SignedIsSpelled, SpelledHexIsAWord, SpelledHexIsRead, SpelledNumberIsAWord, SpelledNumberIsRead, SpelledSignedIsAWord, SpelledSignedIsRead, TextIsItsLines, WordsAreWords, WordsMakeALine, WrittenLinesAreRead, WrittenWordsAreRead}
+use Rattle.line_text.proofs.Cuts.{All-lines, All-words, IsLine-line_of, IsTextOf-lines, line_of-words, lines-ended, words-line_of}
 use Rattle.line_text.proofs.Digits.{IsLine-decimal, IsWord-decimal, decimal-number_of, number_of-decimal}
-use Rattle.line_text.proofs.FullLines.{full_lines-read}
+use Rattle.line_text.proofs.FullLines.{full_lines-read, lines-cut, lines-written}
 use Rattle.line_text.proofs.HexDigits.{hex-hex_of, hex_of-hex}
 use Rattle.line_text.proofs.Signs.{IsLine-signed_decimal, IsWord-signed_decimal, signed_decimal-signed_of, signed_of-signed_decimal}
 
@@ -16,14 +14,13 @@ pub lines_are_lines : LinesAreLines
 lines_are_lines = All-lines
 
 pub written_lines_are_read : WrittenLinesAreRead
-unfolding lines
-written_lines_are_read = λ ls all. simp append-nil at (lines-text_of ls [] all)
+written_lines_are_read = lines-written
 
 pub cut_lines_are_read : CutLinesAreRead
-cut_lines_are_read = λ ls last all line some. rw (line_alone last some line) at (lines-text_of ls last all)
+cut_lines_are_read = lines-cut
 
 pub full_lines_are_read : FullLinesAreRead
-full_lines_are_read = full_lines-read cut_lines_are_read written_lines_are_read
+full_lines_are_read = full_lines-read
 
 pub line_in_front_is_read : LineInFrontIsRead
 line_in_front_is_read = lines-ended
@@ -66,6 +63,9 @@ hex_is_spelled = λ word n read. (hex-hex_of word n read).1
 
 pub spelled_hex_is_read : SpelledHexIsRead
 spelled_hex_is_read = hex_of-hex
+
+pub spelled_hex_is_a_word : SpelledHexIsAWord
+spelled_hex_is_a_word = search rules
 
 pub text_laws : TextLaws
 text_laws = record {

@@ -7,21 +7,22 @@ use Rattle.std.proofs.lemmas.Fmt.{decimal_digit}
 use Rattle.std.proofs.lemmas.List.{drop-take, length-drop}
 use Rattle.std.proofs.lemmas.List.Elements.{All-take, All-drop, All-from_recursion, All-head, All-tail}
 use Rattle.line_text.specs.FirstFault.{◌>>=◌, IsFirstFault}
-use Rattle.line_text.specs.Laws.{LineInFrontIsRead, LinesAreLines, WrittenLinesAreRead}
 use Rattle.line_text.specs.Lines.{lines, text_of, words, is_newline, IsLine}
+use Rattle.line_text.proofs.LawLemmas.{line_in_front_is_read, lines_are_lines, written_lines_are_read}
 use Rattle.class_table.specs.ClassLine.{BeginsWithTable, numbers_of, table_of_line}
 use Rattle.class_table.specs.Faults.{fault_from}
-use Rattle.class_table.specs.Laws.{FirstFaultIsRefused as TableFaultIsRefused, MissingLineIsFirstFault, ReadLineIsSpelled}
 use Rattle.class_table.specs.declared.fault.TableError.{TableError}
 use Rattle.class_table.specs.declared.fault.TableError.TheVariants.{BadLine}
+use Rattle.class_table.proofs.LawLemmas.{first_fault_is_refused as table_fault_is_refused, missing_line_is_first_fault, read_line_is_spelled}
 use Rattle.profile_count.specs.Counts.{nothing_counted}
-use Rattle.profile_count.specs.Laws.{FirstFaultIsRefused as ProfileFaultIsRefused, IsRefusedAt, LinesBeforeItSpell}
-use Rattle.profile_count.specs.Laws.{ProfileIsSpelled, RefusedLineIsThere, SpelledProfileIsRead}
+use Rattle.profile_count.specs.Laws.{IsRefusedAt}
 use Rattle.profile_count.specs.ProfileText.{SpellsProfile, profile_from, profile_of, profile_of_lines}
 use Rattle.profile_count.specs.declared.fault.ProfileFault.{ProfileFault}
-use Rattle.potential_check.specs.Laws.{SheetIsSpelled}
+use Rattle.profile_count.proofs.LawLemmas.{first_fault_is_refused as profile_fault_is_refused, lines_before_it_spell}
+use Rattle.profile_count.proofs.LawLemmas.{profile_is_spelled, refused_line_is_there, spelled_profile_is_read}
 use Rattle.potential_check.specs.Leading.{leading_lines, lines_after}
 use Rattle.potential_check.specs.SheetText.{SpellsSheet, sheet_of_lines}
+use Rattle.potential_check.proofs.LawLemmas.{sheet_is_spelled}
 use Rattle.heap_theory.specs.declared.event.Event.{Event}
 use Rattle.tagged_heap.specs.declared.heap.Config.{Config}
 use Rattle.trace_reader.specs.TraceText.{trace_from}
@@ -43,21 +44,6 @@ use Rattle.class_table.specs.FaultText.{shown_table_error}
 use Rattle.profile_count.specs.FaultText.{shown_profile_fault}
 use Rattle.trace_reader.specs.FaultText.{shown_trace_fault}
 use Rattle.mte_engine.proofs.LeadingSettled.{after_alike, leading_lines-cut, leading_lines-lines, leading_lines-settled, take_twice}
-
--- What is known of texts, tables, profiles and sheets.
-pub record PartLaws : Type 0 where
-  pub lines : LinesAreLines
-  pub written_lines : WrittenLinesAreRead
-  pub front : LineInFrontIsRead
-  pub table_line : ReadLineIsSpelled
-  pub table_fault : TableFaultIsRefused
-  pub missing : MissingLineIsFirstFault
-  pub profile_spelled : ProfileIsSpelled
-  pub profile_read : SpelledProfileIsRead
-  pub profile_fault : ProfileFaultIsRefused
-  pub profile_line : RefusedLineIsThere
-  pub profile_before : LinesBeforeItSpell
-  pub sheet_spelled : SheetIsSpelled
 
 -- ---- how a fault is shown
 
@@ -84,220 +70,220 @@ alike_after : (m : ℕ) (line : List ℕ) (ls rest : List (List ℕ)) → take (
 alike_after m line ls [] e = absurd cc
 alike_after m line ls (other ∷ rest) e = cc
 
-module _ (laws : PartLaws) where
-  -- ---- a table in front of a profile
+-- ---- a table in front of a profile
 
-  -- a profile is spelled by its lines, each with its newline
-  whole_lines : (text : List ℕ) (p : Counted) → SpellsProfile text p → SpellsProfile (text_of (lines text)) p
-  whole_lines text p spells =
-      let same = laws.written_lines (lines text) (laws.lines text) in
-      laws.profile_spelled (text_of (lines text)) p (ap profile_of_lines same ∙ laws.profile_read text p spells)
+-- a profile is spelled by its lines, each with its newline
+whole_lines : (text : List ℕ) (p : Counted) → SpellsProfile text p → SpellsProfile (text_of (lines text)) p
+whole_lines text p spells =
+    let same = written_lines_are_read (lines text) (lines_are_lines text) in
+    profile_is_spelled (text_of (lines text)) p (ap profile_of_lines same ∙ spelled_profile_is_read text p spells)
 
-  -- the line of a table in front of a profile
-  in_front : (line table text : List ℕ) (p : Counted) → IsLine line → table_of_line line ≡ Ok table → SpellsProfile text p
-      → SpellsTableAndProfile (line ++ 10 ∷ text) (table, p)
-  in_front line table text p is_line read spells =
-      let parts : lines (line ++ 10 ∷ text) ≡ line ∷ lines text = laws.front line text is_line in
-      let spelled = laws.table_line line table read in
-      let after : drop 1 (lines (line ++ 10 ∷ text)) ≡ lines text = ap (drop 1) parts in
-      record {
-        table = record { legal = spelled.1; line = ap (take 1) parts ∙ ap (λ (l : List ℕ). l ∷ []) spelled.0 };
-        profile = rw after (whole_lines text p spells);
-      }
+-- the line of a table in front of a profile
+in_front : (line table text : List ℕ) (p : Counted) → IsLine line → table_of_line line ≡ Ok table → SpellsProfile text p
+    → SpellsTableAndProfile (line ++ 10 ∷ text) (table, p)
+in_front line table text p is_line read spells =
+    let parts : lines (line ++ 10 ∷ text) ≡ line ∷ lines text = line_in_front_is_read line text is_line in
+    let spelled = read_line_is_spelled line table read in
+    let after : drop 1 (lines (line ++ 10 ∷ text)) ≡ lines text = ap (drop 1) parts in
+    record {
+      table = record { legal = spelled.1; line = ap (take 1) parts ∙ ap (λ (l : List ℕ). l ∷ []) spelled.0 };
+      profile = rw after (whole_lines text p spells);
+    }
 
-  -- ---- the fault of the table
+-- ---- the fault of the table
 
-  no_classes_line : IsLine (codes "classes")
-  no_classes_line =
-      All-from_recursion (λ b. is_newline b ≡ Bool.false) (codes "classes") (refl, (refl, (refl, (refl, (refl, (refl, (refl, tt)))))))
+no_classes_line : IsLine (codes "classes")
+no_classes_line =
+    All-from_recursion (λ b. is_newline b ≡ Bool.false) (codes "classes") (refl, (refl, (refl, (refl, (refl, (refl, (refl, tt)))))))
 
-  no_classes_read : table_of_line (codes "classes") ≡ Ok []
-  unfolding table_of_line words numbers_of fault_from
-  no_classes_read = refl
+no_classes_read : table_of_line (codes "classes") ≡ Ok []
+unfolding table_of_line words numbers_of fault_from
+no_classes_read = refl
 
-  nothing_spelled : SpellsProfile [] nothing_counted
-  unfolding lines profile_from
-  nothing_spelled = laws.profile_spelled [] nothing_counted refl
+nothing_spelled : SpellsProfile [] nothing_counted
+unfolding lines profile_from
+nothing_spelled = profile_is_spelled [] nothing_counted refl
 
-  -- an input with a fault in its table has its first fault there
-  first_line : (text : List ℕ) → IsFirstFault BeginsWithTable text 1 → IsFirstFault SpellsTableAndProfile text 1
-  first_line text first = record {
-    some = first.some;
-    within = first.within;
-    before = (
-      codes "classes" ++ 10 ∷ [],
-      ([], nothing_counted),
-      in_front (codes "classes") [] [] nothing_counted no_classes_line no_classes_read nothing_spelled,
-      refl,
-    );
-    none = λ other parts spells alike. first.none other parts.0 spells.table alike;
-  }
+-- an input with a fault in its table has its first fault there
+first_line : (text : List ℕ) → IsFirstFault BeginsWithTable text 1 → IsFirstFault SpellsTableAndProfile text 1
+first_line text first = record {
+  some = first.some;
+  within = first.within;
+  before = (
+    codes "classes" ++ 10 ∷ [],
+    ([], nothing_counted),
+    in_front (codes "classes") [] [] nothing_counted no_classes_line no_classes_read nothing_spelled,
+    refl,
+  );
+  none = λ other parts spells alike. first.none other parts.0 spells.table alike;
+}
 
-  -- the table of a text is refused at line 1
-  table_refused : (text line : List ℕ) (ls : List (List ℕ)) (fault : TableError) → lines text ≡ line ∷ ls
-      → table_of_line line ≡ Err fault → IsFirstFault BeginsWithTable text 1
-  table_refused text line ls fault parts read = (laws.table_fault text line (ap (take 1) parts)).0 (rw read refl)
+-- the table of a text is refused at line 1
+table_refused : (text line : List ℕ) (ls : List (List ℕ)) (fault : TableError) → lines text ≡ line ∷ ls
+    → table_of_line line ≡ Err fault → IsFirstFault BeginsWithTable text 1
+table_refused text line ls fault parts read = (table_fault_is_refused text line (ap (take 1) parts)).0 (rw read refl)
 
-  -- ---- the fault of the profile
+-- ---- the fault of the profile
 
-  -- the first fault of the lines after a table is that of the input, one line later
-  later_line : (text line table : List ℕ) (ls : List (List ℕ)) (m : ℕ) → lines text ≡ line ∷ ls
-      → table_of_line line ≡ Ok table → IsFirstFault SpellsProfile (text_of ls) m → IsFirstFault SpellsTableAndProfile text (suc m)
-  later_line text line table ls m parts read first =
-      let all : All IsLine (line ∷ ls) = rw parts at (laws.lines text) in
-      let same : lines (text_of ls) ≡ ls = laws.written_lines ls (All-tail IsLine line ls all) in
-      let other = first.before.0 in
-      let is_line = All-head IsLine line ls all in
-      let before : suc m - 1 ≡ suc (m - 1) = omega (arith, first.some) in
-      let alike : take (m - 1) (lines other) ≡ take (m - 1) ls = rw same at first.before.3 in
-      record {
-        some = omega arith;
-        within = omega (arith, first.within, ap length same, ap length parts);
-        before = (
-          line ++ 10 ∷ other,
-          (table, first.before.1),
-          in_front line table other first.before.1 is_line read first.before.2,
-          rw (before, parts, laws.front line other is_line) (ap (λ (front : List (List ℕ)). line ∷ front) alike),
-        );
-        none = λ next spelled spells alike_next.
-            let rest = drop 1 (lines next) in
-            let rest_lines = laws.written_lines rest (All-drop IsLine 1 (lines next) (laws.lines next)) in
-            let after : take m ls ≡ take m rest = alike_after m line ls (lines next) (rw parts at (sym alike_next)) in
-            first.none (text_of rest) spelled.1 spells.profile (rw (same, rest_lines) (sym after));
-      }
+-- the first fault of the lines after a table is that of the input, one line later
+later_line : (text line table : List ℕ) (ls : List (List ℕ)) (m : ℕ) → lines text ≡ line ∷ ls
+    → table_of_line line ≡ Ok table → IsFirstFault SpellsProfile (text_of ls) m → IsFirstFault SpellsTableAndProfile text (suc m)
+later_line text line table ls m parts read first =
+    let all : All IsLine (line ∷ ls) = rw parts at (lines_are_lines text) in
+    let same : lines (text_of ls) ≡ ls = written_lines_are_read ls (All-tail IsLine line ls all) in
+    let other = first.before.0 in
+    let is_line = All-head IsLine line ls all in
+    let before : suc m - 1 ≡ suc (m - 1) = omega (arith, first.some) in
+    let alike : take (m - 1) (lines other) ≡ take (m - 1) ls = rw same at first.before.3 in
+    record {
+      some = omega arith;
+      within = omega (arith, first.within, ap length same, ap length parts);
+      before = (
+        line ++ 10 ∷ other,
+        (table, first.before.1),
+        in_front line table other first.before.1 is_line read first.before.2,
+        rw (before, parts, line_in_front_is_read line other is_line) (ap (λ (front : List (List ℕ)). line ∷ front) alike),
+      );
+      none = λ next spelled spells alike_next.
+          let rest = drop 1 (lines next) in
+          let rest_lines = written_lines_are_read rest (All-drop IsLine 1 (lines next) (lines_are_lines next)) in
+          let after : take m ls ≡ take m rest = alike_after m line ls (lines next) (rw parts at (sym alike_next)) in
+          first.none (text_of rest) spelled.1 spells.profile (rw (same, rest_lines) (sym after));
+    }
 
-  -- ---- what is refused
+-- ---- what is refused
 
-  pub score_at_first : (text : List ℕ) (fault : InputFault) → score_of text ≡ Err fault
-      → IsAtFirstFault SpellsTableAndProfile text fault
-  unfolding score_of
-  score_at_first text fault e = go (lines text) refl e
-    where
-      after : (line table : List ℕ) (ls : List (List ℕ)) (read : Result Counted (ℕ × ProfileFault)) → lines text ≡ line ∷ ls
-          → table_of_line line ≡ Ok table → profile_of_lines ls ≡ read → score_of_lines (line ∷ ls) ≡ Err fault
-          → IsAtFirstFault SpellsTableAndProfile text fault
-      after line table ls (Ok p) parts is_table is_profile e = let none = rw (is_table, is_profile) at e in absurd cc
-      after line table ls (Err refused) parts is_table is_profile e =
-          let is_fault : fault ≡ Profile (1 + refused.0) refused.1 = (let same = rw (is_table, is_profile) at e in cc) in
-          let all : All IsLine (line ∷ ls) = rw parts at (laws.lines text) in
-          let same : lines (text_of ls) ≡ ls = laws.written_lines ls (All-tail IsLine line ls all) in
-          let refused_text : profile_of (text_of ls) ≡ Err (refused.0, refused.1) = ap profile_of_lines same ∙ is_profile in
-          let first = (laws.profile_fault (text_of ls) refused.0).0 (refused.1, refused_text) in
-          let number : 1 + refused.0 ≡ suc refused.0 = omega arith in
-          let later = later_line text line table ls refused.0 parts is_table first in
-          (suc refused.0, rw is_fault (ap (λ (n : ℕ). Some n) number), later)
+pub score_at_first : (text : List ℕ) (fault : InputFault) → score_of text ≡ Err fault
+    → IsAtFirstFault SpellsTableAndProfile text fault
+unfolding score_of
+score_at_first text fault e = go (lines text) refl e
+  where
+    after : (line table : List ℕ) (ls : List (List ℕ)) (read : Result Counted (ℕ × ProfileFault)) → lines text ≡ line ∷ ls
+        → table_of_line line ≡ Ok table → profile_of_lines ls ≡ read → score_of_lines (line ∷ ls) ≡ Err fault
+        → IsAtFirstFault SpellsTableAndProfile text fault
+    after line table ls (Ok p) parts is_table is_profile e = let none = rw (is_table, is_profile) at e in absurd cc
+    after line table ls (Err refused) parts is_table is_profile e =
+        let is_fault : fault ≡ Profile (1 + refused.0) refused.1 = (let same = rw (is_table, is_profile) at e in cc) in
+        let all : All IsLine (line ∷ ls) = rw parts at (lines_are_lines text) in
+        let same : lines (text_of ls) ≡ ls = written_lines_are_read ls (All-tail IsLine line ls all) in
+        let refused_text : profile_of (text_of ls) ≡ Err (refused.0, refused.1) = ap profile_of_lines same ∙ is_profile in
+        let first = (profile_fault_is_refused (text_of ls) refused.0).0 (refused.1, refused_text) in
+        let number : 1 + refused.0 ≡ suc refused.0 = omega arith in
+        let later = later_line text line table ls refused.0 parts is_table first in
+        (suc refused.0, rw is_fault (ap (λ (n : ℕ). Some n) number), later)
 
-      with_line : (line : List ℕ) (ls : List (List ℕ)) (read : Result (List ℕ) TableError) → lines text ≡ line ∷ ls
-          → table_of_line line ≡ read → score_of_lines (line ∷ ls) ≡ Err fault → IsAtFirstFault SpellsTableAndProfile text fault
-      with_line line ls (Ok table) parts is e = after line table ls (profile_of_lines ls) parts is refl e
-      with_line line ls (Err refused) parts is e =
-          let is_fault : fault ≡ Table refused = (let same = rw is at e in cc) in
-          (1, rw is_fault refl, first_line text (table_refused text line ls refused parts is))
+    with_line : (line : List ℕ) (ls : List (List ℕ)) (read : Result (List ℕ) TableError) → lines text ≡ line ∷ ls
+        → table_of_line line ≡ read → score_of_lines (line ∷ ls) ≡ Err fault → IsAtFirstFault SpellsTableAndProfile text fault
+    with_line line ls (Ok table) parts is e = after line table ls (profile_of_lines ls) parts is refl e
+    with_line line ls (Err refused) parts is e =
+        let is_fault : fault ≡ Table refused = (let same = rw is at e in cc) in
+        (1, rw is_fault refl, first_line text (table_refused text line ls refused parts is))
 
-      go : (ls : List (List ℕ)) → lines text ≡ ls → score_of_lines ls ≡ Err fault → IsAtFirstFault SpellsTableAndProfile text fault
-      go [] parts e =
-          let is_fault : fault ≡ Table BadLine = cc in
-          (1, rw is_fault refl, first_line text (laws.missing text parts))
-      go (line ∷ ls) parts e = with_line line ls (table_of_line line) parts refl e
+    go : (ls : List (List ℕ)) → lines text ≡ ls → score_of_lines ls ≡ Err fault → IsAtFirstFault SpellsTableAndProfile text fault
+    go [] parts e =
+        let is_fault : fault ≡ Table BadLine = cc in
+        (1, rw is_fault refl, first_line text (missing_line_is_first_fault text parts))
+    go (line ∷ ls) parts e = with_line line ls (table_of_line line) parts refl e
 
-  pub tune_at_first : (text : List ℕ) (fault : InputFault) → profile_part 0 (profile_of text) ≡ Err fault
-      → IsAtFirstFault SpellsProfile text fault
-  tune_at_first text fault e = go (profile_of text) refl e
-    where
-      go : (read : Result Counted (ℕ × ProfileFault)) → profile_of text ≡ read → profile_part 0 read ≡ Err fault
-          → IsAtFirstFault SpellsProfile text fault
-      go (Ok p) is e = absurd cc
-      go (Err refused) is e =
-          let is_fault : fault ≡ Profile (0 + refused.0) refused.1 = cc in
-          let number : 0 + refused.0 ≡ refused.0 = omega arith in
-          (refused.0, rw is_fault (ap (λ (n : ℕ). Some n) number), (laws.profile_fault text refused.0).0 (refused.1, is))
+pub tune_at_first : (text : List ℕ) (fault : InputFault) → profile_part 0 (profile_of text) ≡ Err fault
+    → IsAtFirstFault SpellsProfile text fault
+tune_at_first text fault e = go (profile_of text) refl e
+  where
+    go : (read : Result Counted (ℕ × ProfileFault)) → profile_of text ≡ read → profile_part 0 read ≡ Err fault
+        → IsAtFirstFault SpellsProfile text fault
+    go (Ok p) is e = absurd cc
+    go (Err refused) is e =
+        let is_fault : fault ≡ Profile (0 + refused.0) refused.1 = cc in
+        let number : 0 + refused.0 ≡ refused.0 = omega arith in
+        (refused.0, rw is_fault (ap (λ (n : ℕ). Some n) number), (profile_fault_is_refused text refused.0).0 (refused.1, is))
 
-  -- the first fault of the lines after a sheet is that of the input, so many lines later
-  after_sheet : (text : List ℕ) (sheet : Sheet) (m : ℕ) → sheet_of_lines (leading_lines (lines text)) ≡ Ok sheet
-      → IsRefusedAt m (text_of (lines_after (lines text)))
-      → IsFirstFault SpellsSheetAndProfile text (length (leading_lines (lines text)) + m)
-  unfolding lines_after
-  after_sheet text sheet m read refused =
-      let ls = lines text in
-      let front = leading_lines ls in
-      let k = length front in
-      let rest = drop k ls in
-      let all = laws.lines text in
-      let rest_lines : lines (text_of rest) ≡ rest = laws.written_lines rest (All-drop IsLine k ls all) in
-      let front_lines : lines (text_of front) ≡ front = laws.written_lines front (leading_lines-lines ls all) in
-      let first = (laws.profile_fault (text_of rest) m).0 refused in
-      let there : m ≤ length rest = rw rest_lines at (laws.profile_line (text_of rest) m refused) in
-      let within : k + m ≤ length ls = omega (arith, there, length-drop k ls, first.some) in
-      let number : k + m - 1 ≡ k + (m - 1) = omega (arith, first.some) in
-      let before = laws.profile_before (text_of rest) m refused in
-      let kept = take (k + (m - 1)) ls in
-      let other = text_of kept in
-      let kept_lines : lines other ≡ kept = laws.written_lines kept (All-take IsLine (k + (m - 1)) ls all) in
-      let same_front : leading_lines kept ≡ front =
-      leading_lines-cut (k + (m - 1)) ls (omega arith) (omega (arith, within, first.some)) in
-      let same_rest : drop k kept ≡ take (m - 1) rest = drop-take k (m - 1) ls in
-      let is_sheet : SpellsSheet (text_of front) sheet = laws.sheet_spelled (text_of front) sheet (ap sheet_of_lines front_lines ∙ read) in
-      let is_profile : SpellsProfile (text_of (take (m - 1) rest)) before.0 = rw rest_lines at before.1 in
-      record {
-        some = omega (arith, first.some);
-        within = omega (arith, within);
-        before = (
-          other,
-          (sheet, before.0),
-          record { sheet = rw (kept_lines, same_front) is_sheet; profile = rw (kept_lines, same_front, same_rest) is_profile },
-          rw (number, kept_lines) (take_twice (k + (m - 1)) ls),
-        );
-        none = λ next spelled spells alike.
-            let others = lines next in
-            let more : k < k + m = omega (arith, first.some) in
-            let settled : leading_lines others ≡ front = leading_lines-settled (k + m) ls others more within (sym alike) in
-            let after = drop k others in
-            let after_lines : lines (text_of after) ≡ after = laws.written_lines after (All-drop IsLine k others (laws.lines next)) in
-            let is_next : SpellsProfile (text_of after) spelled.1 = rw settled at spells.profile in
-            first.none (text_of after) spelled.1 is_next (rw (rest_lines, after_lines) (after_alike k m others ls alike));
-      }
+-- the first fault of the lines after a sheet is that of the input, so many lines later
+after_sheet : (text : List ℕ) (sheet : Sheet) (m : ℕ) → sheet_of_lines (leading_lines (lines text)) ≡ Ok sheet
+    → IsRefusedAt m (text_of (lines_after (lines text)))
+    → IsFirstFault SpellsSheetAndProfile text (length (leading_lines (lines text)) + m)
+unfolding lines_after
+after_sheet text sheet m read refused =
+    let ls = lines text in
+    let front = leading_lines ls in
+    let k = length front in
+    let rest = drop k ls in
+    let all = lines_are_lines text in
+    let rest_lines : lines (text_of rest) ≡ rest = written_lines_are_read rest (All-drop IsLine k ls all) in
+    let front_lines : lines (text_of front) ≡ front = written_lines_are_read front (leading_lines-lines ls all) in
+    let first = (profile_fault_is_refused (text_of rest) m).0 refused in
+    let there : m ≤ length rest = rw rest_lines at (refused_line_is_there (text_of rest) m refused) in
+    let within : k + m ≤ length ls = omega (arith, there, length-drop k ls, first.some) in
+    let number : k + m - 1 ≡ k + (m - 1) = omega (arith, first.some) in
+    let before = lines_before_it_spell (text_of rest) m refused in
+    let kept = take (k + (m - 1)) ls in
+    let other = text_of kept in
+    let kept_lines : lines other ≡ kept = written_lines_are_read kept (All-take IsLine (k + (m - 1)) ls all) in
+    let same_front : leading_lines kept ≡ front =
+    leading_lines-cut (k + (m - 1)) ls (omega arith) (omega (arith, within, first.some)) in
+    let same_rest : drop k kept ≡ take (m - 1) rest = drop-take k (m - 1) ls in
+    let is_sheet : SpellsSheet (text_of front) sheet = sheet_is_spelled (text_of front) sheet (ap sheet_of_lines front_lines ∙ read) in
+    let is_profile : SpellsProfile (text_of (take (m - 1) rest)) before.0 = rw rest_lines at before.1 in
+    record {
+      some = omega (arith, first.some);
+      within = omega (arith, within);
+      before = (
+        other,
+        (sheet, before.0),
+        record { sheet = rw (kept_lines, same_front) is_sheet; profile = rw (kept_lines, same_front, same_rest) is_profile },
+        rw (number, kept_lines) (take_twice (k + (m - 1)) ls),
+      );
+      none = λ next spelled spells alike.
+          let others = lines next in
+          let more : k < k + m = omega (arith, first.some) in
+          let settled : leading_lines others ≡ front = leading_lines-settled (k + m) ls others more within (sym alike) in
+          let after = drop k others in
+          let after_lines : lines (text_of after) ≡ after =
+          written_lines_are_read after (All-drop IsLine k others (lines_are_lines next)) in
+          let is_next : SpellsProfile (text_of after) spelled.1 = rw settled at spells.profile in
+          first.none (text_of after) spelled.1 is_next (rw (rest_lines, after_lines) (after_alike k m others ls alike));
+    }
 
-  pub check_profile_at_first : (text : List ℕ) (n : ℕ) (fault : ProfileFault) → sheet_and_profile (lines text) ≡ Err (Profile n fault)
-      → IsFirstFault SpellsSheetAndProfile text n
-  unfolding sheet_and_profile lines_after
-  check_profile_at_first text n fault e = go (sheet_of_lines (leading_lines (lines text))) refl
-    where
-      with_sheet : (sheet : Sheet) (read : Result Counted (ℕ × ProfileFault)) → sheet_of_lines (leading_lines (lines text)) ≡ Ok sheet
-          → profile_of_lines (lines_after (lines text)) ≡ read → IsFirstFault SpellsSheetAndProfile text n
-      with_sheet sheet (Ok profile) is_sheet is_profile = let none = rw (is_sheet, is_profile) at e in absurd cc
-      with_sheet sheet (Err refused) is_sheet is_profile =
-          let ls = lines text in
-          let rest = lines_after ls in
-          let is_n : length (leading_lines ls) + refused.0 ≡ n = (let same = rw (is_sheet, is_profile) at e in cc) in
-          let rest_lines : lines (text_of rest) ≡ rest =
-          laws.written_lines rest (All-drop IsLine (length (leading_lines ls)) ls (laws.lines text)) in
-          let refused_text : profile_of (text_of rest) ≡ Err (refused.0, refused.1) = ap profile_of_lines rest_lines ∙ is_profile in
-          rw (← is_n) (after_sheet text sheet refused.0 is_sheet (refused.1, refused_text))
+pub check_profile_at_first : (text : List ℕ) (n : ℕ) (fault : ProfileFault) → sheet_and_profile (lines text) ≡ Err (Profile n fault)
+    → IsFirstFault SpellsSheetAndProfile text n
+unfolding sheet_and_profile lines_after
+check_profile_at_first text n fault e = go (sheet_of_lines (leading_lines (lines text))) refl
+  where
+    with_sheet : (sheet : Sheet) (read : Result Counted (ℕ × ProfileFault)) → sheet_of_lines (leading_lines (lines text)) ≡ Ok sheet
+        → profile_of_lines (lines_after (lines text)) ≡ read → IsFirstFault SpellsSheetAndProfile text n
+    with_sheet sheet (Ok profile) is_sheet is_profile = let none = rw (is_sheet, is_profile) at e in absurd cc
+    with_sheet sheet (Err refused) is_sheet is_profile =
+        let ls = lines text in
+        let rest = lines_after ls in
+        let is_n : length (leading_lines ls) + refused.0 ≡ n = (let same = rw (is_sheet, is_profile) at e in cc) in
+        let rest_lines : lines (text_of rest) ≡ rest =
+        written_lines_are_read rest (All-drop IsLine (length (leading_lines ls)) ls (lines_are_lines text)) in
+        let refused_text : profile_of (text_of rest) ≡ Err (refused.0, refused.1) = ap profile_of_lines rest_lines ∙ is_profile in
+        rw (← is_n) (after_sheet text sheet refused.0 is_sheet (refused.1, refused_text))
 
-      go : (read : Result Sheet ℕ) → sheet_of_lines (leading_lines (lines text)) ≡ read → IsFirstFault SpellsSheetAndProfile text n
-      go (Ok sheet) is = with_sheet sheet (profile_of_lines (lines_after (lines text))) is refl
-      go (Err number) is = let none = rw is at e in absurd cc
+    go : (read : Result Sheet ℕ) → sheet_of_lines (leading_lines (lines text)) ≡ read → IsFirstFault SpellsSheetAndProfile text n
+    go (Ok sheet) is = with_sheet sheet (profile_of_lines (lines_after (lines text))) is refl
+    go (Err number) is = let none = rw is at e in absurd cc
 
-  pub replay_at_first : (config : Config) (text : List ℕ) (fault : TableError) → replay_answer config text ≡ Err (Table fault)
-      → IsAtFirstFault BeginsWithTable text (Table fault)
-  unfolding replay_answer
-  replay_at_first config text fault e = go (lines text) refl e
-    where
-      reported : List ℕ → List Event → Result Answer InputFault
-      reported table events = Ok (record { text = report_on config table events; status = Done })
+pub replay_at_first : (config : Config) (text : List ℕ) (fault : TableError) → replay_answer config text ≡ Err (Table fault)
+    → IsAtFirstFault BeginsWithTable text (Table fault)
+unfolding replay_answer
+replay_at_first config text fault e = go (lines text) refl e
+  where
+    reported : List ℕ → List Event → Result Answer InputFault
+    reported table events = Ok (record { text = report_on config table events; status = Done })
 
-      no_table : (table : List ℕ) (events : List Event) (trace : Option (ℕ × TraceFault))
-          → (events_unless 1 events trace >>= reported table) ≡ Err (Table fault) → ⊥
-      no_table table events None e = absurd cc
-      no_table table events (Some refused) e = absurd cc
+    no_table : (table : List ℕ) (events : List Event) (trace : Option (ℕ × TraceFault))
+        → (events_unless 1 events trace >>= reported table) ≡ Err (Table fault) → ⊥
+    no_table table events None e = absurd cc
+    no_table table events (Some refused) e = absurd cc
 
-      with_line : (line : List ℕ) (ls : List (List ℕ)) (read : Result (List ℕ) TableError) → lines text ≡ line ∷ ls
-          → table_of_line line ≡ read → replay_of_lines config (line ∷ ls) ≡ Err (Table fault) → IsFirstFault BeginsWithTable text 1
-      with_line line ls (Ok table) parts is e =
-          absurd (no_table table (trace_from 1 ls).events (trace_from 1 ls).fault (rw is at e))
-      with_line line ls (Err refused) parts is e = table_refused text line ls refused parts is
+    with_line : (line : List ℕ) (ls : List (List ℕ)) (read : Result (List ℕ) TableError) → lines text ≡ line ∷ ls
+        → table_of_line line ≡ read → replay_of_lines config (line ∷ ls) ≡ Err (Table fault) → IsFirstFault BeginsWithTable text 1
+    with_line line ls (Ok table) parts is e =
+        absurd (no_table table (trace_from 1 ls).events (trace_from 1 ls).fault (rw is at e))
+    with_line line ls (Err refused) parts is e = table_refused text line ls refused parts is
 
-      go : (ls : List (List ℕ)) → lines text ≡ ls → replay_of_lines config ls ≡ Err (Table fault)
-          → IsAtFirstFault BeginsWithTable text (Table fault)
-      go [] parts e = (1, refl, laws.missing text parts)
-      go (line ∷ ls) parts e = (1, refl, with_line line ls (table_of_line line) parts refl e)
+    go : (ls : List (List ℕ)) → lines text ≡ ls → replay_of_lines config ls ≡ Err (Table fault)
+        → IsAtFirstFault BeginsWithTable text (Table fault)
+    go [] parts e = (1, refl, missing_line_is_first_fault text parts)
+    go (line ∷ ls) parts e = (1, refl, with_line line ls (table_of_line line) parts refl e)

@@ -1,34 +1,37 @@
--- From a tuned sheet and the laws below to the headline.
+-- From a tuned sheet to the headline, by the laws of the crates below.
 use Rattle.std.proofs.Common.{◌≡◌, refl, sym, ◌∙◌}
-use Rattle.heap_theory.specs.AccessLaws.{AllAccessesAreAnswered}
-use Rattle.heap_theory.specs.Losses.{ServedRunLosesItsWaste, ServesEach, counted_sizes, requested_sizes, rounding_loss}
+use Rattle.heap_theory.specs.Losses.{ServesEach, counted_sizes, requested_sizes, rounding_loss}
 use Rattle.heap_theory.specs.Report.{report}
-use Rattle.profile_count.specs.RequestLosses.{ServesEachRequest, WasteIsTheSumOfLosses}
+use Rattle.heap_theory.proofs.AccessAnswers.{accesses_are_answered}
+use Rattle.heap_theory.proofs.Losses.{LosesAtMostItsWaste-run}
+use Rattle.profile_count.proofs.LawLemmas.{serves_each_request, waste_is_the_sum_of_losses}
 use Rattle.tuner_theory.specs.Best.{IsCandidate}
 use Rattle.mte_engine.specs.Laws.{TunedRunIsHeadline}
 use Rattle.mte_engine.specs.Replay.{region_for}
 use Rattle.mte_engine.specs.Run.{new_replay}
 use Rattle.mte_engine.specs.Traces.{profile_of_events}
 
-pub headline : WasteIsTheSumOfLosses → ServesEachRequest → ServedRunLosesItsWaste → AllAccessesAreAnswered → TunedRunIsHeadline
+pub headline : TunedRunIsHeadline
 unfolding report
-headline sum serves losses accesses limit step config events sheet tuned =
+headline limit step config events sheet tuned =
     let counts = (profile_of_events events).counts in
     let sizes = requested_sizes events in
     let best = tuned.canonical.best in
-    let each : ServesEach sheet.table events = (serves sizes sheet.table).0 best.candidate.serving in
-    let waste : sheet.waste ≡ rounding_loss sheet.table (counted_sizes events) = tuned.wasted ∙ sum sizes sheet.table in
-    let lost = losses (region_for config sheet.table) config.seed config.quarantine events each in
+    let each : ServesEach sheet.table events = (serves_each_request sizes sheet.table).0 best.candidate.serving in
+    let waste : sheet.waste ≡ rounding_loss sheet.table (counted_sizes events) =
+    tuned.wasted ∙ waste_is_the_sum_of_losses sizes sheet.table in
+    let lost = LosesAtMostItsWaste-run (region_for config sheet.table) config.seed config.quarantine events each in
     record {
       sheet = sheet;
       in_question = record { legal = best.candidate.legal; few = best.candidate.few; serves = each };
       waste = waste;
       least = λ other is.
-          let candidate : IsCandidate counts step limit other = record { legal = is.legal; few = is.few; serving = (serves sizes other).1 is.serves } in
-          rw (tuned.wasted, ← sum sizes other) (best.least other candidate);
+          let candidate : IsCandidate counts step limit other =
+          record { legal = is.legal; few = is.few; serving = (serves_each_request sizes other).1 is.serves } in
+          rw (tuned.wasted, ← waste_is_the_sum_of_losses sizes other) (best.least other candidate);
       tuned = tuned;
       written = refl;
-      accesses = accesses (new_replay config sheet.table) events;
+      accesses = accesses_are_answered (new_replay config sheet.table) events;
       no_class = lost.no_class;
       loss = rw waste lost.loss;
       all_loss = λ none_exhausted none_refused. lost.all_loss none_exhausted none_refused ∙ sym waste;

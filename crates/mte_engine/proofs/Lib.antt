@@ -1,4 +1,3 @@
-pub mod LawLemmas
 pub mod Answering
 pub mod Counting
 pub mod FaultLines

@@ -2,12 +2,11 @@
 use Rattle.std.proofs.Common.{◌≡◌, ℕ, ◌<◌, Bool, true, false, List, [], ◌∷◌, ◌++◌, length, Ok, Err, refl, sym, ap, ◌∙◌}
 use Rattle.std.proofs.lemmas.List.{nil_from_length}
 use Rattle.std.proofs.lemmas.List.Elements.{All-nil}
-use Rattle.line_text.specs.Laws.{CutLinesAreRead, LineInFrontIsRead}
 use Rattle.line_text.specs.Lines.{lines, IsLine}
+use Rattle.line_text.proofs.LawLemmas.{cut_lines_are_read, line_in_front_is_read}
 use Rattle.class_table.specs.ClassLine.{table_of_line}
 use Rattle.class_table.specs.declared.fault.TableError.TheVariants.{BadLine}
 use Rattle.tagged_heap.specs.declared.heap.Config.{Config}
-use Rattle.trace_reader.specs.Laws.{FinishedAfterEvents, PiecesAreTheText}
 use Rattle.trace_reader.specs.Reading.{Reading, finished, whole_reading}
 use Rattle.trace_reader.specs.TraceText.{trace_of}
 use Rattle.mte_engine.specs.Outcome.{GivesFault}
@@ -28,13 +27,14 @@ no_class_line config false line reading bytes keeps unended none = rw (sym keeps
 no_class_line config true line reading bytes keeps unended none = cc
 
 -- the first line of an input, and the trace after it
-pub line_and_trace : CutLinesAreRead → LineInFrontIsRead → (has_ended : Bool) (line : List ℕ) (reading : Reading) (bytes : List ℕ)
+pub line_and_trace : (has_ended : Bool) (line : List ℕ) (reading : Reading) (bytes : List ℕ)
     → KeepsLineAndEvents has_ended line reading bytes → (has_ended ≡ false → 0 < length line) → (trace : List ℕ) × IsLineAndTrace bytes line trace reading
 unfolding lines
-line_and_trace cut front false line reading bytes keeps some =
-    let whole : lines bytes ≡ bytes ∷ [] = cut [] bytes (All-nil IsLine) keeps.1 (rw keeps.0 at (some refl)) in
+line_and_trace false line reading bytes keeps some =
+    let whole : lines bytes ≡ bytes ∷ [] = cut_lines_are_read [] bytes (All-nil IsLine) keeps.1 (rw keeps.0 at (some refl)) in
     ([], record { parts = whole ∙ ap (λ (l : List ℕ). l ∷ []) (sym keeps.0); keeps = keeps.2 ∙ sym nothing_fed })
-line_and_trace cut front true line reading bytes keeps some = (keeps.0, record { parts = ap lines keeps.1 ∙ front line keeps.0 keeps.2; keeps = keeps.3 })
+line_and_trace true line reading bytes keeps some =
+    (keeps.0, record { parts = ap lines keeps.1 ∙ line_in_front_is_read line keeps.0 keeps.2; keeps = keeps.3 })
 
 module _ (config : Config) (bytes line trace : List ℕ) (reading : Reading) (is : IsLineAndTrace bytes line trace reading) where
   pub table_refused : (error : AnswerError) → GivesPart {A = List ℕ} (Err error) (table_part (table_of_line line)) → GivesFault (ReplayAnswers config bytes) error
@@ -42,9 +42,9 @@ module _ (config : Config) (bytes line trace : List ℕ) (reading : Reading) (is
   table_refused OutOfMemory gives = tt
   table_refused (Input fault) gives = rw (is.parts, gives) refl
 
-  module _ (whole : PiecesAreTheText) (after : FinishedAfterEvents) (table : List ℕ) (read : table_part (table_of_line line) ≡ Ok table) where
+  module _ (table : List ℕ) (read : table_part (table_of_line line) ≡ Ok table) where
     finished_is : finished reading ≡ whole_reading (trace_of trace)
-    finished_is = ap finished is.keeps ∙ finished_whole whole after trace
+    finished_is = ap finished is.keeps ∙ finished_whole trace
 
     pub replay_refused : (error : AnswerError) → HasEnded 1 (finished reading).state (Err error) → GivesFault (ReplayAnswers config bytes) error
     unfolding replay_answer

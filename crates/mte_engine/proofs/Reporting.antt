@@ -6,7 +6,8 @@ use Rattle.heap_theory.specs.Report.{report, report_line, totals_text}
 use Rattle.heap_theory.specs.Run.{answer_of}
 use Rattle.heap_theory.specs.Totals.{totals_after}
 use Rattle.heap_theory.specs.declared.event.Event.{Event}
-use Rattle.replay_core.specs.ReplayState.{LinesOfNone, LinesOfOneMore, ReportIsLinesAndTotals, Stored, StoredOfNone, StoredOfOneMore, first_stored, lines_of, stored_after, stored_of}
+use Rattle.replay_core.specs.ReplayState.{Stored, first_stored, lines_of, stored_after, stored_of}
+use Rattle.replay_core.proofs.LawLemmas.{lines_of_none, lines_of_one_more, report_is_lines_and_totals, stored_of_none, stored_of_one_more}
 use Rattle.class_table.specs.Layout.{Partition}
 use Rattle.mte_engine.specs.Report.{report_from}
 
@@ -35,25 +36,26 @@ unfolding stored_after totals_after
 events_after stored event = refl
 
 -- From a new replay on, the lines and the totals are the report.
-module _ (none : StoredOfNone) (one_more : StoredOfOneMore) (no_lines : LinesOfNone) (line_more : LinesOfOneMore) (whole : ReportIsLinesAndTotals)
-    (layout : Partition) (seed quarantine : ℕ) where
+module _ (layout : Partition) (seed quarantine : ℕ) where
   report_goes_on : (before rest : List Event)
       → lines_of layout seed quarantine before ++ report_from (stored_of layout seed quarantine before) rest ≡ report layout seed quarantine (before ++ rest)
   unfolding report_from
-  report_goes_on before [] = sym (whole layout seed quarantine before) ∙ ap (report layout seed quarantine) (sym (append-nil before))
+  report_goes_on before [] =
+      sym (report_is_lines_and_totals layout seed quarantine before) ∙ ap (report layout seed quarantine) (sym (append-nil before))
   report_goes_on before (event ∷ rest) =
       let stored = stored_of layout seed quarantine before in
       let line = report_line (stored.totals.events + 1) (answer_of stored.replay event) in
       sym (append_assoc (lines_of layout seed quarantine before) line (report_from (stored_after stored event) rest))
-      ∙ ap (λ (t : List ℕ). t ++ report_from (stored_after stored event) rest) (sym (line_more layout seed quarantine before event))
-      ∙ ap (λ (s : Stored). lines_of layout seed quarantine (before ++ event ∷ []) ++ report_from s rest) (sym (one_more layout seed quarantine before event))
+      ∙ ap (λ (t : List ℕ). t ++ report_from (stored_after stored event) rest) (sym (lines_of_one_more layout seed quarantine before event))
+      ∙ ap (λ (s : Stored). lines_of layout seed quarantine (before ++ event ∷ []) ++ report_from s rest)
+      (sym (stored_of_one_more layout seed quarantine before event))
       ∙ report_goes_on (before ++ event ∷ []) rest
       ∙ ap (report layout seed quarantine) (append_assoc before (event ∷ []) rest)
 
   pub whole_report : (events : List Event) → report_from (first_stored layout seed quarantine) events ≡ report layout seed quarantine events
   whole_report events =
-      ap (λ (s : Stored). report_from s events) (sym (none layout seed quarantine))
-      ∙ ap (λ (t : List ℕ). t ++ report_from (stored_of layout seed quarantine []) events) (sym (no_lines layout seed quarantine))
+      ap (λ (s : Stored). report_from s events) (sym (stored_of_none layout seed quarantine))
+      ∙ ap (λ (t : List ℕ). t ++ report_from (stored_of layout seed quarantine []) events) (sym (lines_of_none layout seed quarantine))
       ∙ report_goes_on [] events
 
 -- what is left of the buffer and what comes after it, once some of it was written

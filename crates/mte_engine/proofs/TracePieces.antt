@@ -1,4 +1,4 @@
--- What the engines over traces keep, piece by piece and at the end, from the laws of a trace in pieces.
+-- What the engines over traces keep, piece by piece and at the end, by the laws of a trace in pieces.
 use Rattle.std.proofs.Common.{◌≡◌, ℕ, ◌+◌, ◌≤◌, List, [], ◌∷◌, ◌++◌, length, Option, Some, None, Ok, Err, refl, sym, ap, ◌∙◌, arith, append-nil}
 use Rattle.std.proofs.lemmas.List.{length-append}
 use Rattle.std.proofs.lemmas.List.Elements.{filter_map-append}
@@ -6,15 +6,16 @@ use Rattle.heap_theory.specs.Losses.{requested_sizes}
 use Rattle.heap_theory.specs.Totals.{request_size}
 use Rattle.heap_theory.specs.declared.event.Event.{Event}
 use Rattle.profile_count.specs.Counts.{nothing_counted}
-use Rattle.profile_count.specs.Laws.{AddedRequestsAreCounted}
 use Rattle.profile_count.specs.ProfileText.{profile_text}
 use Rattle.profile_count.specs.Requests.{profile_of_sizes}
-use Rattle.trace_reader.specs.Laws.{EventsAreFew, FedAfterEvents, FinishedAfterEvents, PiecesAreJoined, PiecesAreTheText, PiecesHaveFewEvents}
+use Rattle.profile_count.proofs.LawLemmas.{added_requests_are_counted}
 use Rattle.trace_reader.specs.Reading.{Reading, State, added, cut, ended_state, fed, finished, nothing_read, whole_reading}
 use Rattle.trace_reader.specs.Reading.State.{Failed, Finished}
 use Rattle.trace_reader.specs.TraceText.{Trace, trace_from, trace_of}
 use Rattle.trace_reader.specs.declared.fault.TraceError.TheVariants.{Line}
 use Rattle.trace_reader.specs.declared.fault.TraceFault.{TraceFault}
+use Rattle.trace_reader.proofs.LawLemmas.{events_are_few, fed_after_events, finished_after_events}
+use Rattle.trace_reader.proofs.LawLemmas.{pieces_are_joined, pieces_are_the_text, pieces_have_few_events}
 use Rattle.tuner_theory.specs.Waste.{Profile as Counted}
 use Rattle.mte_engine.specs.Outcome.{GivesFault}
 use Rattle.mte_engine.specs.Profile.{ProfileAnswers, profile_answer}
@@ -30,13 +31,13 @@ pub nothing_fed : fed nothing_read [] ≡ nothing_read
 unfolding fed cut trace_from
 nothing_fed = refl
 
-pub nothing_counted_yet : AddedRequestsAreCounted → KeepsCounts nothing_read nothing_counted []
-nothing_counted_yet added = record {
+pub nothing_counted_yet : KeepsCounts nothing_read nothing_counted []
+nothing_counted_yet = record {
   state = ap (λ (r : Reading). record { events = []; state = r.state }) (sym nothing_fed);
-  counts = added [] ∙ ap (λ (r : Reading). profile_of_events r.events) (sym nothing_fed);
+  counts = added_requests_are_counted [] ∙ ap (λ (r : Reading). profile_of_events r.events) (sym nothing_fed);
 }
 
-module _ (joined : PiecesAreJoined) (apart : FedAfterEvents) (few : PiecesHaveFewEvents) (bytes piece : List ℕ) where
+module _ (bytes piece : List ℕ) where
   abbrev before : Reading
   before = fed nothing_read bytes
 
@@ -50,7 +51,8 @@ module _ (joined : PiecesAreJoined) (apart : FedAfterEvents) (few : PiecesHaveFe
   split : after ≡ added before.events (fed emptied piece)
   split =
       let whole : before ≡ added before.events emptied = ap (λ (e : List Event). record { events = e; state = before.state }) (sym (append-nil before.events)) in
-      sym (joined nothing_read bytes piece) ∙ ap (λ (r : Reading). fed r piece) whole ∙ apart before.events emptied piece
+      sym (pieces_are_joined nothing_read bytes piece) ∙ ap (λ (r : Reading). fed r piece) whole
+      ∙ fed_after_events before.events emptied piece
 
   -- one more piece was fed, and its events were counted and taken out
   pub counts_more : (reader fed_reader : Reading) (profile profile' : Counted) → KeepsCounts reader profile bytes → fed_reader ≡ fed reader piece
@@ -62,7 +64,7 @@ module _ (joined : PiecesAreJoined) (apart : FedAfterEvents) (few : PiecesHaveFe
       let all : after ≡ added before.events fed_reader = split ∙ ap (added before.events) (sym is) in
       let events : after.events ≡ before.events ++ fed_reader.events = ap (λ (r : Reading). r.events) all in
       let fits : length before.events + length fed_reader.events ≤ 1000000 =
-      omega (arith, few ((bytes ++ piece) ∷ []), ap length events, length-append before.events fed_reader.events) in
+      omega (arith, pieces_have_few_events ((bytes ++ piece) ∷ []), ap length events, length-append before.events fed_reader.events) in
       let room : length (requested_sizes before.events) + length fed_reader.events ≤ 1000000 = omega (arith, length-requested_sizes before.events) in
       record {
         state = ap (λ (s : State). record { events = []; state = s }) (sym (ap (λ (r : Reading). r.state) all));
@@ -89,10 +91,10 @@ pub trace_refused : (lines : ℕ) (trace : Trace) (state : State) (refused : Inp
     → HasEnded lines state (Err (Input refused)) → trace_part lines trace ≡ Err refused
 trace_refused lines trace state refused is (number, fault, failed, same) = rw (the_fault trace.fault number fault (sym is ∙ failed), same) refl
 
-module _ (whole : PiecesAreTheText) (apart : FinishedAfterEvents) (bytes : List ℕ) where
+module _ (bytes : List ℕ) where
   -- all events wait
   pub finished_whole : finished (fed nothing_read bytes) ≡ whole_reading (trace_of bytes)
-  finished_whole = whole (bytes ∷ []) ∙ ap (λ (t : List ℕ). whole_reading (trace_of t)) (append-nil bytes)
+  finished_whole = pieces_are_the_text (bytes ∷ []) ∙ ap (λ (t : List ℕ). whole_reading (trace_of t)) (append-nil bytes)
 
   -- the events of the pieces were taken out
   abbrev left : Reading
@@ -102,7 +104,7 @@ module _ (whole : PiecesAreTheText) (apart : FinishedAfterEvents) (bytes : List 
   finished_rest =
       let read = fed nothing_read bytes in
       let same : read ≡ added read.events left = ap (λ (e : List Event). record { events = e; state = read.state }) (sym (append-nil read.events)) in
-      sym (apart read.events left) ∙ ap finished (sym same) ∙ finished_whole
+      sym (finished_after_events read.events left) ∙ ap finished (sym same) ∙ finished_whole
 
   -- ---- the answer of `profile`
 
@@ -116,18 +118,18 @@ module _ (whole : PiecesAreTheText) (apart : FinishedAfterEvents) (bytes : List 
   profile_refused reader profile (Input refused) keeps ended =
       rw (trace_refused 0 (trace_of bytes) _ refused (state_of_rest reader profile keeps) ended) refl
 
-  pub profile_written : EventsAreFew → (reader : Reading) (profile profile' : Counted) (text : List ℕ) → KeepsCounts reader profile bytes
+  pub profile_written : (reader : Reading) (profile profile' : Counted) (text : List ℕ) → KeepsCounts reader profile bytes
       → HasEnded 0 (finished reader).state (Ok tt)
       → ((sizes : List ℕ) → length sizes + length (finished reader).events ≤ 1000000 → profile ≡ profile_of_sizes sizes
       → profile' ≡ profile_of_sizes (sizes ++ requested_sizes (finished reader).events))
       → text ≡ profile_text profile' → ProfileAnswers bytes (Ok (record { text = text; status = Done }))
   unfolding profile_answer
-  profile_written few reader profile profile' text keeps ended counted is =
+  profile_written reader profile profile' text keeps ended counted is =
       let before = (fed nothing_read bytes).events in
       let rest = (finished reader).events in
       let events : before ++ rest ≡ (trace_of bytes).events =
       ap (λ (r : Reading). before ++ (finished r).events) keeps.state ∙ ap (λ (r : Reading). r.events) finished_rest in
-      let fits : length before + length rest ≤ 1000000 = omega (arith, few bytes, ap length events, length-append before rest) in
+      let fits : length before + length rest ≤ 1000000 = omega (arith, events_are_few bytes, ap length events, length-append before rest) in
       let room : length (requested_sizes before) + length rest ≤ 1000000 = omega (arith, length-requested_sizes before) in
       let all : profile' ≡ profile_of_events (trace_of bytes).events =
       counted (requested_sizes before) room keeps.counts

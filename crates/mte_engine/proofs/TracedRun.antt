@@ -3,12 +3,10 @@ use Rattle.std.proofs.Common.{◌≡◌, ℕ, List, ◌++◌, Ok, Err, sym, ap, 
 use Rattle.class_tuner.specs.Tuned.{IsTuned}
 use Rattle.potential_check.specs.SheetText.{sheet_text}
 use Rattle.tagged_heap.specs.declared.heap.Config.{Config}
-use Rattle.trace_reader.specs.Laws.{FinishedAfterEvents, PiecesAreTheText}
 use Rattle.trace_reader.specs.Reading.{Reading, finished, whole_reading}
 use Rattle.trace_reader.specs.TraceText.{trace_of}
 use Rattle.tuner_theory.specs.Sheets.{Sheet}
 use Rattle.tuner_theory.specs.Waste.{Profile as Counted}
-use Rattle.mte_engine.specs.Laws.{TunedRunIsHeadline}
 use Rattle.mte_engine.specs.Outcome.{GivesFault}
 use Rattle.mte_engine.specs.Replay.{report_on}
 use Rattle.mte_engine.specs.Run.{RunAnswers}
@@ -16,22 +14,23 @@ use Rattle.mte_engine.specs.Traces.{HasEnded, KeepsEvents, profile_of_events}
 use Rattle.mte_engine.specs.declared.engine.Status.TheVariants.{Done}
 use Rattle.mte_engine.specs.declared.fault.AnswerError.{AnswerError}
 use Rattle.mte_engine.specs.declared.fault.AnswerError.TheVariants.{OutOfMemory, Input}
+use Rattle.mte_engine.proofs.Headline.{headline}
 use Rattle.mte_engine.proofs.TracePieces.{finished_whole, trace_ends, trace_refused}
 
-module _ (whole : PiecesAreTheText) (after : FinishedAfterEvents) (limit step : ℕ) (config : Config) (reading : Reading) (bytes : List ℕ)
+module _ (limit step : ℕ) (config : Config) (reading : Reading) (bytes : List ℕ)
     (keeps : KeepsEvents reading bytes) where
   finished_is : finished reading ≡ whole_reading (trace_of bytes)
-  finished_is = ap finished keeps ∙ finished_whole whole after bytes
+  finished_is = ap finished keeps ∙ finished_whole bytes
 
   pub run_refused : (error : AnswerError) → HasEnded 0 (finished reading).state (Err error) → GivesFault (RunAnswers limit step config bytes) error
   run_refused OutOfMemory ended = tt
   run_refused (Input refused) ended = trace_refused 0 (trace_of bytes) (finished reading).state refused (ap (λ (r : Reading). r.state) finished_is) ended
 
-  pub run_written : TunedRunIsHeadline → (reading' : Reading) (profile : Counted) (sheet : Sheet) (text : List ℕ) → HasEnded 0 (finished reading).state (Ok tt)
+  pub run_written : (reading' : Reading) (profile : Counted) (sheet : Sheet) (text : List ℕ) → HasEnded 0 (finished reading).state (Ok tt)
       → reading' ≡ finished reading → profile ≡ profile_of_events reading'.events → IsTuned profile.counts step limit sheet
       → text ≡ sheet_text sheet ++ report_on config sheet.table reading'.events
       → RunAnswers limit step config bytes (Ok (record { text = text; status = Done }))
-  run_written headline reading' profile sheet text ended same is_profile tuned is_text =
+  run_written reading' profile sheet text ended same is_profile tuned is_text =
       let events = reading'.events in
       let part = trace_ends 0 (trace_of bytes) (finished reading).state (ap (λ (r : Reading). r.state) finished_is) ended in
       let is_tuned : IsTuned (profile_of_events events).counts step limit sheet = subst (λ (p : Counted). IsTuned p.counts step limit sheet) is_profile tuned in

@@ -3,24 +3,17 @@ ghost use Rattle.mte_engine.specs.Laws.{RunHasOneAnswer, TuneHasOneAnswer, Tuned
 ghost use Rattle.mte_engine.specs.Laws.{CheckRefusesTheProfileAtItsFirstFault, FaultIsShownWithItsLine};
 ghost use Rattle.mte_engine.specs.Laws.{ReplayRefusesTheFirstLine, ScoreRefusesAtTheFirstFault, TuneRefusesAtTheFirstFault};
 
-use class_table::laws::{law_class_line, law_class_line_fault};
-use class_tuner::laws::law_one_sheet;
-use line_text::laws::law_lines;
-use potential_check::laws::law_sheet_text;
-use profile_count::laws::{law_profile_fault, law_profile_text};
-
 /// The headline holds for a sheet that is tuned for the profile of a trace, followed by the report on the replay over that sheet's table.
 pub fn law_headline()
     ensures { TunedRunIsHeadline }
 {}
 
 /// What `tune` and `run` write is one function of their input and options.
+#[tactic(auto, using(class_tuner::proofs::LawLemmas::one_sheet))]
 pub fn law_one_answer()
     ensures tune { TuneHasOneAnswer }
     ensures run { RunHasOneAnswer }
-{
-    law_one_sheet();
-}
+{}
 
 /// A fault in a class line or in a profile is shown with the line of the input's first fault. The profile is the whole input, or follows a
 /// class line or a sheet. Some input of that kind begins with the lines before that line, and none with the lines up to it.
@@ -30,11 +23,4 @@ pub fn law_fault_lines()
     ensures tune { TuneRefusesAtTheFirstFault }
     ensures check { CheckRefusesTheProfileAtItsFirstFault }
     ensures replay { ReplayRefusesTheFirstLine }
-{
-    law_lines();
-    law_sheet_text();
-    law_class_line();
-    law_class_line_fault();
-    law_profile_text();
-    law_profile_fault();
-}
+{}

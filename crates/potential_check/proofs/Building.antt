@@ -6,8 +6,8 @@ use Rattle.std.proofs.Math.Seq.{get_or-append_seam}
 use Rattle.std.proofs.Math.Nat.{mul-le-mul}
 use Rattle.class_table.specs.Sizes.{need_of}
 use Rattle.potential_check.specs.Spanned.{AreSumsUpTo, HoldsSums, last_need}
-use Rattle.tuner_theory.specs.Laws.{RoundingIsLeast}
 use Rattle.tuner_theory.specs.Spans.{needs_below, rounded_need, with_need}
+use Rattle.tuner_theory.proofs.LawLemmas.{rounding_is_least}
 use Rattle.class_table.specs.Steps.{IsStep}
 use Rattle.tuner_theory.specs.Waste.{AreCounts, sum_below}
 
@@ -152,15 +152,18 @@ product-some : (a b : ℕ) → 0 < a * b → 0 < a
 product-some zero b some = absurd (let none : 0 * b ≡ 0 = omega arith in omega arith)
 product-some (suc a) b some = omega arith
 
-module _ (rounding : RoundingIsLeast) (counts : List ℕ) (step : ℕ) (is_step : IsStep step) where
+module _ (counts : List ℕ) (step : ℕ) (is_step : IsStep step) where
   rounded-mono : (m n : ℕ) → m ≤ n → rounded_need step m ≤ rounded_need step n
   rounded-mono m n le =
-      let later = rounding step (need_of n) is_step in
+      let later = rounding_is_least step (need_of n) is_step in
       let no_less : need_of m ≤ need_of n = omega arith in
-      (rounding step (need_of m) is_step).least (rounded_need step n) later.multiple (omega (arith, later.above))
+      (rounding_is_least step (need_of m) is_step).least (rounded_need step n) later.multiple (omega (arith, later.above))
 
   rounded-positive : (n : ℕ) → 0 < rounded_need step n
-  rounded-positive n = let above = (rounding step (need_of n) is_step).above in let some : 0 < need_of n = omega arith in omega arith
+  rounded-positive n =
+      let above = (rounding_is_least step (need_of n) is_step).above in
+      let some : 0 < need_of n = omega arith in
+      omega arith
 
   pub built-none : IsBuilt counts step 0 [] [] [] 0 0
   built-none = record {

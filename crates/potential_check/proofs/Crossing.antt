@@ -3,8 +3,8 @@ use Rattle.std.proofs.Common.{ℕ, ◌+◌, ◌<◌, ◌≤◌, List, slice_inde
 use Rattle.std.proofs.lemmas.Bool.{cases_order, cases_lt}
 use Rattle.potential_check.specs.Bounds.{EdgesHoldWithin, edge_bound}
 use Rattle.potential_check.specs.Spanned.{Spanned}
-use Rattle.tuner_theory.specs.Laws.{PlacesCross}
 use Rattle.tuner_theory.specs.Spans.{places}
+use Rattle.tuner_theory.proofs.LawLemmas.{places_cross}
 use Rattle.class_table.specs.Steps.{IsStep}
 
 -- what stands over an end that is tightest for the middle place
@@ -14,7 +14,7 @@ pub record IsTightest (s : Spanned) (before : List ℕ) (middle low high end : �
   pub to : end < high
   pub least : (j : ℕ) → middle < j → low ≤ j → j < high → edge_bound s before middle end ≤ edge_bound s before middle j
 
-module _ (cross : PlacesCross) (s : Spanned) (is_step : IsStep s.step) (before row : List ℕ) (start stop low high middle end : ℕ) where
+module _ (s : Spanned) (is_step : IsStep s.step) (before row : List ℕ) (start stop low high middle end : ℕ) where
   pub edges-join : high ≤ places s.counts s.step + 1 → IsTightest s before middle low high end
       → slice_index row middle ≤ edge_bound s before middle end
       → EdgesHoldWithin s before row start middle low (end + 1) → EdgesHoldWithin s before row (middle + 1) stop end high
@@ -27,7 +27,7 @@ module _ (cross : PlacesCross) (s : Spanned) (is_step : IsStep s.step) (before r
             arith,
             left i end from earlier (omega (arith, tight.after)) tight.from (omega arith),
             tight.least j (omega (arith, tight.after)) above upto,
-            cross s.counts s.step i middle end j is_step (omega arith) (omega (arith, tight.after)) (omega arith) (omega arith),
+            places_cross s.counts s.step i middle end j is_step (omega arith) (omega (arith, tight.after)) (omega arith) (omega arith),
           )
           | inr not ↦ left i j from earlier lt above (omega arith)
         ]
@@ -36,7 +36,7 @@ module _ (cross : PlacesCross) (s : Spanned) (is_step : IsStep s.step) (before r
             arith,
             right i end (omega arith) below (omega arith) (omega arith) tight.to,
             tight.least j (omega arith) above upto,
-            cross s.counts s.step middle i j end is_step (omega arith) (omega arith) (omega arith) (omega (arith, tight.to)),
+            places_cross s.counts s.step middle i j end is_step (omega arith) (omega arith) (omega arith) (omega (arith, tight.to)),
           )
           | inr not ↦ right i j (omega arith) below lt not upto
         ]

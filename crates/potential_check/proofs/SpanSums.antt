@@ -4,16 +4,15 @@ use Rattle.std.proofs.lemmas.List.{get_or_default}
 use Rattle.std.proofs.Math.Nat.{mul-le-mul}
 use Rattle.tuner_theory.proofs.LawLemmas.{place_is_class, places_ascend, sums_ascend, sums_fit, sums_give_waste}
 use Rattle.potential_check.specs.Spanned.{HoldsSums, IsSpanned, Spanned}
-use Rattle.tuner_theory.specs.Laws.{PlaceIsClass}
 use Rattle.tuner_theory.specs.Spans.{bytes_up_to, counted_up_to, distinct_needs, need_at, places, span_waste}
 
 -- the need that is kept for a place is a class
-pub need-class : PlaceIsClass → (counts : List ℕ) (step place need : ℕ) (needs counted bytes : List ℕ) → HoldsSums counts step needs counted bytes
+pub need-class : (counts : List ℕ) (step place need : ℕ) (needs counted bytes : List ℕ) → HoldsSums counts step needs counted bytes
     → 0 < place → place ≤ places counts step → need ≡ get_or needs (place - 1) need → (2 ≤ need) × (need ≤ 1024)
-need-class class counts step zero need needs counted bytes held some le e = absurd (omega arith)
-need-class class counts step (suc i) need needs counted bytes held some le e =
+need-class counts step zero need needs counted bytes held some le e = absurd (omega arith)
+need-class counts step (suc i) need needs counted bytes held some le e =
     let front : suc i - 1 ≡ i = omega arith in
-    let at = class counts step (suc i) held.is_step held.are_counts some le in
+    let at = place_is_class counts step (suc i) held.is_step held.are_counts some le in
     let is : need ≡ need_at counts step (suc i) =
     e ∙ (ap (λ k. get_or needs k need) front ∙ (ap (λ (xs : List ℕ). get_or xs i need) held.needs_are ∙ get_or_default (distinct_needs counts step) i need 0 le)) in
     (omega (arith, at.0, is), omega (arith, at.1, is))

@@ -3,8 +3,8 @@ use Rattle.std.proofs.Common.{◌≡◌, ℕ, ◌+◌, ◌<◌, ◌≤◌, List,
 use Rattle.std.proofs.lemmas.Bool.{cases_lt}
 use Rattle.potential_check.specs.Bounds.{EdgesHold, HasTightEnd, IsTightEnd, edge_bound}
 use Rattle.potential_check.specs.Spanned.{Spanned}
-use Rattle.tuner_theory.specs.Laws.{PlacesCross}
 use Rattle.tuner_theory.specs.Spans.{places}
+use Rattle.tuner_theory.proofs.LawLemmas.{places_cross}
 use Rattle.class_table.specs.Steps.{IsStep}
 
 -- the numbers from place i on are within their edges to the ends from `end` on
@@ -20,7 +20,7 @@ pub record IsWalked (s : Spanned) (before row : List ℕ) (i end : ℕ) : Type 0
   pub last : length row ≤ i → end ≡ places s.counts s.step
   pub hold : HoldFrom s before row i end
 
-module _ (cross : PlacesCross) (s : Spanned) (is_step : IsStep s.step) (before row : List ℕ) (full : length row ≡ places s.counts s.step) where
+module _ (s : Spanned) (is_step : IsStep s.step) (before row : List ℕ) (full : length row ≡ places s.counts s.step) where
   pub walked-none : IsWalked s before row (length row) (places s.counts s.step)
   walked-none = record {
     within = omega (arith, full);
@@ -41,7 +41,7 @@ module _ (cross : PlacesCross) (s : Spanned) (is_step : IsStep s.step) (before r
         walked.tight some,
         here j (omega arith) above below,
         walked.hold k end from within (omega arith) (omega arith) walked.within,
-        cross s.counts s.step i k j end is_step (omega arith) (omega arith) (omega arith) walked.within,
+        places_cross s.counts s.step i k j end is_step (omega arith) (omega arith) (omega arith) walked.within,
       )
       | inr not ↦ (let same : k ≡ i = omega arith in omega (arith, ap (slice_index row) same, ap (λ m. edge_bound s before m j) same, here j (omega arith) above below))
     ]
@@ -68,7 +68,7 @@ module _ (cross : PlacesCross) (s : Spanned) (is_step : IsStep s.step) (before r
             found.here end found.within (omega arith),
             walked.tight more,
             walked.hold (i + 1) j (omega arith) more (omega (arith, walked.after more)) (omega arith) upto,
-            cross s.counts s.step i (i + 1) end j is_step (omega arith) (omega (arith, walked.after more)) (omega arith) upto,
+            places_cross s.counts s.step i (i + 1) end j is_step (omega arith) (omega (arith, walked.after more)) (omega arith) upto,
           )
         ]
       ])
@@ -95,7 +95,7 @@ module _ (cross : PlacesCross) (s : Spanned) (is_step : IsStep s.step) (before r
                 hold.each i end some (omega arith) walked.within,
                 hold.each (i + 1) j more (omega arith) upto,
                 walked.tight more,
-                cross s.counts s.step i (i + 1) end j is_step (omega arith) (omega arith) (omega arith) upto,
+                places_cross s.counts s.step i (i + 1) end j is_step (omega arith) (omega arith) (omega arith) upto,
               ) in
               (end, omega arith, omega arith, same))
         ]

@@ -9,9 +9,8 @@ use Rattle.std.proofs.lemmas.List.Sums.{sum_by-cons}
 use Rattle.std.proofs.lemmas.Map.Keys.{IsDistinct-from_apart}
 use Rattle.std.proofs.lemmas.Map.Steps.{length-le_from_distinct_below}
 use Rattle.class_table.specs.Layout.{Partition, IsPartition, block_bytes, slot_count, slot_of}
-use Rattle.class_table.specs.LayoutLaws.{SlotsHaveClasses}
+use Rattle.class_table.proofs.LawLemmas.{slots_have_classes}
 use Rattle.quarantine_core.specs.Queue.{bytes_of}
-pub use Rattle.heap_theory.proofs.Linked.{IsLinked-once as each_once}
 
 -- numbers below n that differ are at most n
 pub few_below : (n : ℕ) (xs : List ℕ) → All (λ x. x < n) xs → AllPairs (λ x y. x ≢ y) xs → length xs ≤ n
@@ -36,16 +35,17 @@ sum_by-le f m (x ∷ xs) all =
     omega (arith, sum_by-cons f x xs)
 
 -- a slot's block has at most 1,024 granules
-pub small_block : (layout : Partition) (s : ℕ) → IsPartition layout → SlotsHaveClasses → s < slot_count layout → block_bytes (slot_of layout s) ≤ 16384
-small_block layout s partition classes within =
-    let listed : Contains layout.classes (slot_of layout s).class = classes layout s within in
+pub small_block : (layout : Partition) (s : ℕ) → IsPartition layout → s < slot_count layout → block_bytes (slot_of layout s) ≤ 16384
+small_block layout s partition within =
+    let listed : Contains layout.classes (slot_of layout s).class = slots_have_classes layout s within in
     let small = subst (λ class. (2 ≤ class) × (class ≤ 1024)) listed.2 (partition.table.in_range listed.0 (slot_of layout s).class listed.1) in
     omega (arith, small.1)
 
-pub few_bytes : (layout : Partition) (slots : List ℕ) → IsPartition layout → SlotsHaveClasses → slot_count layout ≤ 131072 →
+pub few_bytes : (layout : Partition) (slots : List ℕ) → IsPartition layout → slot_count layout ≤ 131072 →
     ((s : ℕ) → Contains slots s → s < slot_count layout) → AllPairs (λ s r. s ≢ r) slots → bytes_of layout slots ≤ 2 ^ 31
-few_bytes layout slots partition classes few within apart =
+few_bytes layout slots partition few within apart =
     let long : length slots ≤ slot_count layout = few_below (slot_count layout) slots (λ k d at. within (get_or slots k d) (Contains-get_or slots k d at)) apart in
     let sum : bytes_of layout slots ≤ 16384 * length slots =
-    sum_by-le (λ s. block_bytes (slot_of layout s)) 16384 slots (λ k d at. small_block layout (get_or slots k d) partition classes (within (get_or slots k d) (Contains-get_or slots k d at))) in
+    sum_by-le (λ s. block_bytes (slot_of layout s)) 16384 slots (λ k d at. small_block layout (get_or slots k d) partition
+    (within (get_or slots k d) (Contains-get_or slots k d at))) in
     omega arith

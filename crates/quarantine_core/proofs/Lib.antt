@@ -1,2 +1,4 @@
+pub mod LawLemmas
 pub mod Blocks
 pub mod Queued
+pub mod TheoryLemmas

@@ -5,11 +5,11 @@ use Rattle.std.proofs.lemmas.List.Elements.{Contains-get_or}
 use Rattle.std.proofs.lemmas.List.Sums.{sum_by-cons, sum_by_push}
 use Rattle.machine_theory.specs.Memory.{Granule}
 use Rattle.class_table.specs.Layout.{Partition, block_bytes, slot_count, slot_of}
-use Rattle.heap_theory.specs.HeaderLaws.{EachSlotOnce, LastSlotEnds, LinksStay, PutAtEnd, PutAtEndIsLast}
 use Rattle.heap_theory.specs.Links.{IsLinked, last_link, next_in}
 use Rattle.heap_theory.proofs.Found.{Contains-cases, Contains-last_cases, Contains-tail}
 use Rattle.chunk_header.specs.Links.{SetsLink}
 use Rattle.quarantine_core.specs.Queue.{Queue, AreQueued, bytes_of}
+use Rattle.quarantine_core.proofs.TheoryLemmas.{each_once, last_ends, links_stay, put_after, put_is_last}
 
 -- ---- a slot is put in
 
@@ -47,24 +47,24 @@ put_first value new layout memory queue slot bytes old none within ends is front
       held = held ∙ omega (arith, old.held, alone, is);
     })
 
-pub put_at_end : PutAtEnd → PutAtEndIsLast → LastSlotEnds → (value new : Queue) (layout : Partition) (memory after : List Granule) (queue : List ℕ) (last slot next bytes : ℕ) →
+pub put_at_end : (value new : Queue) (layout : Partition) (memory after : List Granule) (queue : List ℕ) (last slot next bytes : ℕ) →
     AreQueued value layout memory queue → value.back ≡ suc last → SetsLink layout memory after last next → next ≡ suc slot →
     slot < slot_count layout → (Contains queue slot → ⊥) → next_in layout memory slot ≡ 0 → bytes ≡ block_bytes (slot_of layout slot) →
     new.front ≡ value.front → new.back ≡ suc slot → new.held ≡ value.held + bytes → AreQueued new layout after (queue ++ slot ∷ [])
-put_at_end tail is_last ends_at value new layout memory after queue last slot next bytes old some link to within outside ends is front back held = record {
+put_at_end value new layout memory after queue last slot next bytes old some link to within outside ends is front back held = record {
   slots = λ s there. ⊎_elim (λ same. subst (λ n. n < slot_count layout) same within) (old.slots s) (Contains-last_cases queue slot s there);
   linked =
       subst (λ f. IsLinked (next_in layout after) f (queue ++ slot ∷ [])) (sym front)
-      (tail (next_in layout memory) (next_in layout after) value.front last slot queue old.linked (sym old.back ∙ some)
+      (put_after (next_in layout memory) (next_in layout after) value.front last slot queue old.linked (sym old.back ∙ some)
       (λ r there other. link.links r (old.slots r there) other)
       (link.own ∙ to)
       (link.links slot within another ∙ ends));
-  back = back ∙ sym (is_last queue slot);
+  back = back ∙ sym (put_is_last queue slot);
   held = held ∙ omega (arith, old.held, is, sum_by_push (λ s. block_bytes (slot_of layout s)) queue slot);
 }
   where
     in_queue : Contains queue last
-    in_queue = (ends_at (next_in layout memory) value.front last queue old.linked (sym old.back ∙ some)).0
+    in_queue = (last_ends (next_in layout memory) value.front last queue old.linked (sym old.back ∙ some)).0
 
     another : slot ≢ last
     another same = outside (subst (Contains queue) (sym same) in_queue)
@@ -85,15 +85,15 @@ first_within value layout memory (s ∷ rest) old some =
     let within : s < slot_count layout = old.slots s (0, omega arith, refl) in
     (omega (arith, old.linked.0), omega (arith, old.linked.0))
 
-pub take_oldest : EachSlotOnce → LinksStay → (value new : Queue) (layout : Partition) (memory after : List Granule) (slot next : ℕ) (queue : List ℕ) →
+pub take_oldest : (value new : Queue) (layout : Partition) (memory after : List Granule) (slot next : ℕ) (queue : List ℕ) →
     AreQueued value layout memory (slot ∷ queue) → SetsLink layout memory after slot 0 → next ≡ next_in layout memory slot →
     new.front ≡ next → (next ≡ 0 → new.back ≡ 0) → (next ≢ 0 → new.back ≡ value.back) →
     new.held + block_bytes (slot_of layout slot) ≡ value.held → AreQueued new layout after queue
-take_oldest once stay value new layout memory after slot next queue old link is front none some held = record {
+take_oldest value new layout memory after slot next queue old link is front none some held = record {
   slots = λ s there. old.slots s (Contains-tail slot queue s there);
   linked =
       subst (λ f. IsLinked (next_in layout after) f queue) (sym (front ∙ is))
-      (stay (next_in layout memory) (next_in layout after) (next_in layout memory slot) queue same old.linked.1);
+      (links_stay (next_in layout memory) (next_in layout after) (next_in layout memory slot) queue same old.linked.1);
   back = back queue old.linked.1 old.back;
   held = omega (arith, old.held, held, sum_by-cons (λ s. block_bytes (slot_of layout s)) slot queue);
 }
@@ -101,7 +101,8 @@ take_oldest once stay value new layout memory after slot next queue old link is 
     same : (r : ℕ) → Contains queue r → next_in layout after r ≡ next_in layout memory r
     same r there =
         link.links r (old.slots r (Contains-tail slot queue r there))
-        (λ is. once (next_in layout memory) value.front (slot ∷ queue) old.linked 0 (suc there.0) r (omega arith) (omega (arith, there.1)) (sym (there.2 ∙ is)))
+        (λ is. each_once (next_in layout memory) value.front (slot ∷ queue) old.linked 0 (suc there.0) r (omega arith)
+        (omega (arith, there.1)) (sym (there.2 ∙ is)))
 
     back : (queue : List ℕ) → IsLinked (next_in layout memory) (next_in layout memory slot) queue → value.back ≡ last_link (slot ∷ queue) → new.back ≡ last_link queue
     back [] linked last = none (is ∙ linked)

@@ -11,9 +11,8 @@ ghost use Rattle.quarantine_core.specs.QueueLaws.{
   TagsKeepQueue,
 };
 
-use heap_theory::laws::headers::{law_header, law_links, law_links_in_headers};
-
 /// The links show one queue, and it ends. It stays the same under each change that keeps the links of its slots.
+#[tactic(auto, using(crate::proofs::TheoryLemmas::kept_links))]
 pub fn law_queue()
     ensures empty { NothingIsQueued }
     ensures one { OneQueueIsShown }
@@ -23,8 +22,4 @@ pub fn law_queue()
     ensures bytes { OtherBytesKeepQueue }
     ensures headers { OtherHeadersKeepQueue }
     ensures fields { OtherFieldsKeepQueue }
-{
-    law_header();
-    law_links();
-    law_links_in_headers();
-}
+{}

@@ -2,7 +2,6 @@
 //! freed first leaves first.
 #![tactic(auto)]
 
-mod bounds;
 pub mod laws;
 mod quarantine;
 

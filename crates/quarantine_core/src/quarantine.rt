@@ -11,7 +11,6 @@ ghost use Rattle.quarantine_core.specs.Queue.{
 };
 ghost use Rattle.std.specs.Prelude.{◌≡◌, ◌≢◌, ◌↔◌, ◌<◌, [], ◌∷◌, ◌++◌, length, suc, Contains, IfNone, IfSome, IsSome, List, ℕ};
 
-use crate::bounds::blocks_are_few;
 use chunk_header::{set_link, unlink};
 use class_table::{GRANULE_BYTES, Layout};
 use granule_memory::Memory;
@@ -61,7 +60,7 @@ impl Quarantine {
 
     /// Puts a slot of the layout in, after all others. Its block has `bytes` bytes. The slot must not be in the quarantine, and its link must
     /// be 0. Of the memory only the link of the slot that was put in before it changes.
-    #[tactic(auto, using(crate::proofs::Blocks::each_once))]
+    #[tactic(auto, using(crate::proofs::TheoryLemmas::each_once, crate::proofs::Blocks::few_bytes))]
     pub fn put(&mut self, memory: &mut Memory, layout: &Layout, slot: u32, bytes: u32)
         requires { CanBePut self.old layout.now memory.old slot bytes }
         ensures queued { (queue : List ℕ) → AreQueued self.old layout.now memory.old queue
@@ -80,7 +79,8 @@ impl Quarantine {
             → IsLinked (next_in layout.now memory.new) front list }
         ensures region { length memory.new ≡ layout.now.granules }
     {
-        blocks_are_few(layout);
+        prove!(layout.granules() >= 64);
+        prove!(layout.slots() <= 131_072);
         if self.back == 0 {
             self.front = slot + 1;
         } else {

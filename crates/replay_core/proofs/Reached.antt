@@ -4,6 +4,7 @@ use Rattle.machine_theory.specs.Address.{logical_tag}
 use Rattle.heap_theory.specs.declared.event.Event.{Event}
 use Rattle.heap_theory.specs.Generations.{Run, run_after}
 use Rattle.heap_theory.specs.Run.{Replay, Answer, variable, heap_after, variables_after, replay_after, answer_of, replay_of, first_replay}
+use Rattle.heap_theory.specs.Sound.{IsSoundHeap}
 use Rattle.heap_theory.specs.State.{Heap}
 use Rattle.heap_theory.specs.Totals.{Totals, totals_after}
 use Rattle.replay_core.proofs.TheoryLemmas as laws
@@ -14,6 +15,11 @@ use Rattle.replay_core.proofs.StoredMore.{stored_of-push}
 replay_is : (stored : Stored) (i : IsStored stored) → stored.replay ≡ replay_of (first_replay i.layout i.seed i.quarantine) i.events
 unfolding stored_of
 replay_is stored i = ap (λ (s : Stored). s.replay) i.stored_is
+
+pub sound_heap : (stored : Stored) → IsStored stored → IsSoundHeap stored.replay.heap
+sound_heap stored i =
+    subst (λ (r : Replay). IsSoundHeap r.heap) (laws.stored_part i.layout i.seed i.quarantine i.events ∙ sym (replay_is stored i))
+    (laws.run_is_sound i.layout i.seed i.quarantine i.events i.region).sound.heap
 
 pub null_or_tagged : (stored : Stored) → IsStored stored → AreNullOrTagged stored.replay.variables
 null_or_tagged stored i v =

@@ -6,12 +6,11 @@ ghost use Rattle.replay_core.specs.ReplayState.{first_stored, stored_after};
 ghost use Rattle.tagged_heap.specs.Config.{IsConfig};
 ghost use Rattle.std.specs.Prelude.{◌≡◌, ◌+◌, ◌^◌, ◌<◌, ◌≤◌, IfOk};
 
-use crate::access::MOST_BYTES;
 use crate::line::write_line;
 use crate::perform::perform;
 use crate::totals::Totals;
 use arrayvec::ArrayVec;
-use class_table::ClassTable;
+use class_table::{ClassTable, MOST_CLASSES};
 use heap_theory::Event;
 use std::alloc::{AllocError, Global};
 use std::marker::Model;
@@ -54,8 +53,8 @@ impl Replay {
             replay
             ≡ first_stored (record { classes = table.now; granules = config.granules }) config.seed config.quarantine) }
     {
-        // called for its contract: the proof needs that the table is legal
-        table.len();
+        // the proof needs that the table is legal, as the contract of `len` says
+        prove!(table.len() <= MOST_CLASSES);
         let variables = vec![in alloc; 0; VARIABLES]?;
         let heap = Heap::new(alloc, table, config)?;
         Ok(Replay {
@@ -75,10 +74,9 @@ impl Replay {
         ensures stored { self.new ≡ stored_after self.old event.now }
         ensures run { (run : Run) → run.replay ≡ self.old.replay → (run_after run event.now).replay ≡ self.new.replay }
     {
-        let mut bytes = [0; MOST_BYTES];
-        let answer = perform(&mut self.heap, &mut self.variables, event, &mut bytes);
+        let answer = perform(&mut self.heap, &mut self.variables, event);
         self.totals.count(&self.heap, event, &answer);
-        write_line(line, self.totals.events, &answer, &bytes);
+        write_line(line, self.totals.events, &answer);
     }
 
     /// How many events were performed.

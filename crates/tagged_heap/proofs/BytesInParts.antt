@@ -40,7 +40,8 @@ unfolding bytes_at
 bytes_at-none memory i = refl
 
 -- functions that agree on a range make the same list of it
-pub map_same : {X : Type 0} (f g : ℕ → X) (a n : ℕ) → ((j : ℕ) → a ≤ j → j < a + n → f j ≡ g j) → map f (range_with_len a n) ≡ map g (range_with_len a n)
+pub map_same : {X : Type 0} (f g : ℕ → X) (a n : ℕ) → ((j : ℕ) → a ≤ j → j < a + n → f j ≡ g j) →
+    map f (range_with_len a n) ≡ map g (range_with_len a n)
 map_same f g a zero same = refl
 map_same f g a (suc n) same =
     let first = same a (omega arith) (omega arith) in
@@ -48,24 +49,33 @@ map_same f g a (suc n) same =
     λ i. first i ∷ rest i
 
 range-append : (i a b : ℕ) → range_with_len i (a + b) ≡ range_with_len i a ++ range_with_len (i + a) b
-range-append i zero b = let same : 0 + b ≡ b = omega arith in let start : i ≡ i + 0 = omega arith in ap (range_with_len i) same ∙ ap (λ k. range_with_len k b) start
+range-append i zero b =
+    let same : 0 + b ≡ b = omega arith in
+    let start : i ≡ i + 0 = omega arith in
+    ap (range_with_len i) same ∙ ap (λ k. range_with_len k b) start
 range-append i (suc a) b =
     let same : suc a + b ≡ suc (a + b) = omega arith in
     let start : i + 1 + a ≡ i + suc a = omega arith in
-    ap (range_with_len i) same ∙ ap (λ xs. i ∷ xs) (range-append (i + 1) a b ∙ ap (λ k. range_with_len (i + 1) a ++ range_with_len k b) start)
+    ap (range_with_len i) same
+    ∙ ap (λ xs. i ∷ xs) (range-append (i + 1) a b ∙ ap (λ k. range_with_len (i + 1) a ++ range_with_len k b) start)
 
 pub bytes_at-append : (memory : List Granule) (i a b : ℕ) → bytes_at memory i (a + b) ≡ bytes_at memory i a ++ bytes_at memory (i + a) b
 unfolding bytes_at
-bytes_at-append memory i a b = ap (map (λ j. byte_at memory j)) (range-append i a b) ∙ map-append (λ j. byte_at memory j) (range_with_len i a) (range_with_len (i + a) b)
+bytes_at-append memory i a b =
+    ap (map (λ j. byte_at memory j)) (range-append i a b)
+    ∙ map-append (λ j. byte_at memory j) (range_with_len i a) (range_with_len (i + a) b)
 
 -- one granule more of zeros
 pub zeros_more : (n : ℕ) → replicate {A = ℕ} (16 * n) 0 ++ replicate 16 0 ≡ replicate (16 * (n + 1)) 0
 zeros_more n = replicate-append-replicate (16 * n) 16 0 ∙ ap (λ k. replicate k 0) (let e : 16 * n + 16 ≡ 16 * (n + 1) = omega arith in e)
 
 -- a run of bytes is copied in pieces, by way of a piece of 256 bytes
-module _ (in_parts : (i : ℕ) (a b : List ℕ) (memory : List Granule) → written (i + length a) b (written i a memory) ≡ written i (a ++ b) memory)
-    (other_bytes : (i j len : ℕ) (new : List ℕ) (memory : List Granule) → (j + len ≤ i) ⊎ (i + length new ≤ j) → bytes_at (written i new memory) j len ≡ bytes_at memory j len)
-    (m now new : List Granule) (from to done len count : ℕ) (piece read : List ℕ) (before : now ≡ written to (bytes_at m from done) m) (long : length piece ≡ 256) (few : len ≤ 256)
+module _
+    (in_parts : (i : ℕ) (a b : List ℕ) (memory : List Granule) → written (i + length a) b (written i a memory) ≡ written i (a ++ b) memory)
+    (other_bytes : (i j len : ℕ) (new : List ℕ) (memory : List Granule) → (j + len ≤ i) ⊎ (i + length new ≤ j) →
+    bytes_at (written i new memory) j len ≡ bytes_at memory j len)
+    (m now new : List Granule) (from to done len count : ℕ) (piece read : List ℕ) (before : now ≡ written to (bytes_at m from done) m)
+    (long : length piece ≡ 256) (few : len ≤ 256)
     (more : done + len ≤ count) (read_is : read ≡ bytes_at now (from + done) (length (take len piece))) where
   piece_long : length (take len piece) ≡ len
   piece_long = length-take len piece ∙ (let e : min len (length piece) ≡ len = omega (arith, long) in e)
@@ -79,12 +89,15 @@ module _ (in_parts : (i : ℕ) (a b : List ℕ) (memory : List Granule) → writ
   front_is : take len (read ++ drop len piece) ≡ read
   front_is = subst (λ n. take n (read ++ drop len piece) ≡ read) read_long (take-append_seam read (drop len piece))
 
-  pub copied_more : (from + count ≤ to) ⊎ (to + count ≤ from) → new ≡ written (to + done) (take len (read ++ drop len piece)) now → new ≡ written to (bytes_at m from (done + len)) m
+  pub copied_more : (from + count ≤ to) ⊎ (to + count ≤ from) → new ≡ written (to + done) (take len (read ++ drop len piece)) now →
+      new ≡ written to (bytes_at m from (done + len)) m
   copied_more apart is =
       let done_long : length (bytes_at m from done) ≡ done = length-bytes_at m from done in
-      let outside : (from + done + len ≤ to) ⊎ (to + length (bytes_at m from done) ≤ from + done) = elim apart [ inl before ↦ inl (omega arith) | inr after ↦ inr (omega (arith, done_long)) ] in
+      let outside : (from + done + len ≤ to) ⊎ (to + length (bytes_at m from done) ≤ from + done) =
+      elim apart [ inl before ↦ inl (omega arith) | inr after ↦ inr (omega (arith, done_long)) ] in
       let read_old : read ≡ bytes_at m (from + done) len =
-      read_is ∙ ap (bytes_at now (from + done)) piece_long ∙ ap (λ x. bytes_at x (from + done) len) before ∙ other_bytes to (from + done) len (bytes_at m from done) m outside in
+      read_is ∙ ap (bytes_at now (from + done)) piece_long ∙ ap (λ x. bytes_at x (from + done) len) before
+      ∙ other_bytes to (from + done) len (bytes_at m from done) m outside in
       is ∙ ap (λ bytes. written (to + done) bytes now) (front_is ∙ read_old)
       ∙ ap (written (to + done) (bytes_at m (from + done) len)) before
       ∙ ap (λ k. written (to + k) (bytes_at m (from + done) len) (written to (bytes_at m from done) m)) (sym done_long)

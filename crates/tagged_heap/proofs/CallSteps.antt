@@ -1,51 +1,26 @@
 -- What a call makes of a heap, by what is chosen for it.
-use Rattle.std.proofs.Common.{◌≡◌, ◌≢◌, ℕ, ◌*◌, ◌<◌, ◌≤◌, List, replicate, eqb, ltb, refl, sym, ap, ◌∙◌, inl, inr, Ok, Err}
-use Rattle.std.proofs.lemmas.Bool.{cases_lt, cond-true, cond-false, eq-eqb, ne_eqb, lt-ltb}
-use Rattle.heap_theory.specs.declared.fault.FreeError.{FreeError}
-use Rattle.heap_theory.specs.declared.fault.NullCause.{NullCause}
+use Rattle.std.proofs.Common.{◌≡◌, ℕ, ◌<◌, ◌≤◌, List, ltb, refl, ap, ◌∙◌, inl, inr, Ok, Err, ◌≢◌, ◌+◌, ◌⊎◌, true, false, sym, subst, arith, Result}
+use Rattle.std.proofs.lemmas.Bool.{cases_lt, cond-true, lt-ltb}
 use Rattle.heap_theory.specs.declared.fault.NullCause.TheVariants.{Large}
-use Rattle.heap_theory.specs.Calls.{refusal, malloc_with, malloc_step, calloc_with, calloc_step, free_with, free_step, given_out, freed, with_payload}
-use Rattle.heap_theory.specs.Choice.{Chunk, chunk_at, slot_for_request, slot_in_class, class_for_request}
-use Rattle.heap_theory.specs.State.{Heap, slot_in, state_at, chunk_granules, pointer_to, IsSlot}
-
--- ---- malloc and calloc
-
-pub malloc_given : (h : Heap) (n s : ℕ) → Ok s ≡ slot_for_request h n → record { heap = given_out h s n; answer = Ok (pointer_to (given_out h s n) s) } ≡ malloc_step h n
-unfolding malloc_step
-malloc_given h n s is = ap (malloc_with h n) is
-
-pub malloc_refused : (h : Heap) (n : ℕ) (cause : NullCause) → Err cause ≡ slot_for_request h n → refusal h cause ≡ malloc_step h n
-unfolding malloc_step
-malloc_refused h n cause is = ap (malloc_with h n) is
-
-pub calloc_given : (h : Heap) (n s : ℕ) → Ok s ≡ slot_for_request h n →
-    record { heap = with_payload (given_out h s n) s (replicate (16 * chunk_granules n) 0); answer = Ok (pointer_to (given_out h s n) s) } ≡ calloc_step h n
-unfolding calloc_step
-calloc_given h n s is = ap (calloc_with h n) is
-
-pub calloc_refused : (h : Heap) (n : ℕ) (cause : NullCause) → Err cause ≡ slot_for_request h n → refusal h cause ≡ calloc_step h n
-unfolding calloc_step
-calloc_refused h n cause is = ap (calloc_with h n) is
-
--- ---- free
-
-pub free_null : (h : Heap) (p : ℕ) → p ≡ 0 → record { heap = h; answer = Ok tt } ≡ free_step h p
-unfolding free_step
-free_null h p null = sym (cond-true (eqb p 0) _ _ (eq-eqb p 0 null))
-
-pub free_chunk : (h : Heap) (p : ℕ) (chunk : Chunk) → p ≢ 0 → chunk_at h p ≡ Ok chunk → record { heap = freed h chunk.slot chunk.size; answer = Ok tt } ≡ free_step h p
-unfolding free_step
-free_chunk h p chunk some is = ap (free_with h) (sym is) ∙ sym (cond-false (eqb p 0) _ _ (ne_eqb p 0 some))
-
-pub free_refused : (h : Heap) (p : ℕ) (error : FreeError) → p ≢ 0 → chunk_at h p ≡ Err error → refusal h error ≡ free_step h p
-unfolding free_step
-free_refused h p error some is = ap (free_with h) (sym is) ∙ sym (cond-false (eqb p 0) _ _ (ne_eqb p 0 some))
+use Rattle.heap_theory.specs.Calls.{given_out, with_payload, move_with, moved, payload_bytes, next_tag, free_step, realloc_step}
+use Rattle.heap_theory.specs.Choice.{slot_for_request, slot_in_class, class_for_request, Chunk, IsReusable, is_released}
+use Rattle.heap_theory.specs.State.{Heap, slot_in, state_at, chunk_granules, is_fresh, pointer_to}
+use Rattle.std.specs.Prelude.{MatchResult, IfOk, IfErr, OnErr, IsTrue, ◌↔◌}
+use Rattle.std.specs.Result.{result_map_both, IsErrAnd}
+use Rattle.std.proofs.lemmas.List.{get_or-set_other}
+use Rattle.heap_theory.specs.declared.fault.NullCause.{NullCause}
+use Rattle.heap_theory.specs.declared.fault.ReallocError.TheVariants.{Null}
+use Rattle.heap_theory.specs.State.State.{Fresh, Live}
+use Rattle.machine_theory.specs.Memory.{Granule, bytes_at, tagged}
+use Rattle.tagged_heap.specs.HeapView.{Counted}
+use Rattle.tagged_heap.specs.Frees.{frees_for_slot}
+use Rattle.heap_theory.specs.declared.fault.FreeError.{FreeError}
+use Rattle.heap_theory.specs.declared.fault.ReallocError.{ReallocError}
+use Rattle.heap_theory.proofs.OwnPointers.{free_accepts, realloc_accepts}
+use Rattle.heap_theory.specs.OwnPointers.{IsNotRefused, IsNullOrOwn}
+use Rattle.heap_theory.specs.Sound.{IsSoundHeap}
 
 -- ---- what a slot that is given out leaves
-
-pub slot_given : (h : Heap) (s n r : ℕ) → IsSlot h r → IsSlot (given_out h s n) r
-unfolding given_out
-slot_given h s n r within = within
 
 pub size_of_given : (h : Heap) (n s : ℕ) → Ok s ≡ slot_for_request h n → n ≤ 16368
 unfolding slot_for_request
@@ -63,14 +38,83 @@ room_given h n s r room = room
 
 -- ---- what bytes of a payload leave
 
-pub slot_written : (h : Heap) (s r : ℕ) (bytes : List ℕ) → IsSlot h r → IsSlot (with_payload h s bytes) r
-unfolding with_payload
-slot_written h s r bytes within = within
-
-pub pointer_written : (h : Heap) (s r : ℕ) (bytes : List ℕ) → pointer_to (with_payload h s bytes) r ≡ pointer_to h r
-unfolding with_payload
-pointer_written h s r bytes = refl
-
 pub state_written : (h : Heap) (s r : ℕ) (bytes : List ℕ) → state_at (with_payload h s bytes) r ≡ state_at h r
 unfolding with_payload
 state_written h s r bytes = refl
+
+-- ---- a result whose error is another's, under a name
+
+pub err_named : {T E D : Type 0} (Q : E → D → Type 0) (r : Result T E) (out : Result T D) (d : D) →
+    MatchResult r (λ x. out ≡ Ok x) (λ e. IsErrAnd out (Q e)) → out ≡ Err d → (e : E) × (r ≡ Err e) × Q e d
+err_named {T} {E} {D} Q (Ok x) out d cases is = let never : ◌≡◌ {A = Result T D} (Ok x) (Err d) = sym cases ∙ is in absurd cc
+err_named {T} {E} {D} Q (Err e) out d cases is = (e, refl, subst (λ o. IsErrAnd o (Q e)) is cases)
+
+pub ok_named : {T E D : Type 0} (Q : E → D → Type 0) (r : Result T E) (out : Result T D) (x : T) →
+    MatchResult r (λ x. out ≡ Ok x) (λ e. IsErrAnd out (Q e)) → out ≡ Ok x → r ≡ Ok x
+ok_named {T} {E} {D} Q (Ok y) out x cases is =
+    let same : ◌≡◌ {A = Result T D} (Ok y) (Ok x) = sym cases ∙ is in let equal : y ≡ x = cc in ap Ok equal
+ok_named {T} {E} {D} Q (Err e) out x cases is = absurd (subst (λ o. IsErrAnd o (Q e)) is cases)
+
+err_under : {T E D : Type 0} (f : E → D) (e : E) (o : Result T D) → IsErrAnd o (λ d. d ≡ f e) → o ≡ Err (f e)
+err_under f e (Ok x) never = absurd never
+err_under f e (Err d) is = ap Err is
+
+pub all_named : {T E D : Type 0} (f : E → D) (r : Result T E) (out : Result T D) →
+    MatchResult r (λ x. out ≡ Ok x) (λ e. IsErrAnd out (λ d. d ≡ f e)) → out ≡ result_map_both (λ x. x) f r
+all_named f (Ok x) out cases = cases
+all_named f (Err e) out cases = err_under f e out cases
+
+-- ---- a chunk that moves
+
+-- what a move leaves where it has a slot
+abbrev pub IsMoved : Counted → Chunk → ℕ → Counted → ℕ → Type 0
+IsMoved old chunk n new p =
+    (s : ℕ) × (slot_for_request old.state n ≡ Ok s) × (p ≡ pointer_to (given_out old.state s n) s) ×
+    (new ≡ record { state = moved old.state chunk s n; frees = old.frees + 1 })
+
+-- and what the call answers and leaves then, or where it has none
+pub moves : (old new : Counted) (chunk : Chunk) (n : ℕ) (r : Result ℕ NullCause) → IfOk r (IsMoved old chunk n new) →
+    IfErr r (λ cause. slot_for_request old.state n ≡ Err cause) → OnErr r (new ≡ old) → let step =
+    move_with old.state chunk n (slot_for_request old.state n) in
+    (result_map_both (λ p. p) Null r ≡ step.answer) × (new.state ≡ step.heap) ×
+    (new.frees ≡ old.frees + frees_for_slot (slot_for_request old.state n))
+moves old new chunk n (Ok p) ok err same = rw (ok.1, ok.2, ok.3) (refl, refl, refl)
+moves old new chunk n (Err cause) ok err same = rw (err, same) (refl, refl, omega arith)
+
+-- ---- the parts of a move
+
+-- tags are no bytes
+pub payload_given :
+    ((first count tag j len : ℕ) (memory : List Granule) → bytes_at (tagged first count tag memory) j len ≡ bytes_at memory j len) →
+    (h : Heap) (s n r count : ℕ) → payload_bytes (given_out h s n) r count ≡ payload_bytes h r count
+unfolding given_out
+payload_given law h s n r count = law _ _ _ _ _ _ ∙ law _ _ _ _ _ _
+
+pub live_given : (h : Heap) (s n r size tag : ℕ) → r ≢ s → state_at h r ≡ Live size tag → state_at (given_out h s n) r ≡ Live size tag
+unfolding given_out
+live_given h s n r size tag other live = get_or-set_other h.states s r (Live n (next_tag h s)) Fresh other ∙ live
+
+-- a live slot is no slot that is given
+pub live_apart : (h : Heap) (r s size tag : ℕ) → state_at h r ≡ Live size tag → IsReusable h s → r ≢ s
+live_apart h r s size tag live reusable is = free reusable.free
+  where
+    live_too : state_at h s ≡ Live size tag
+    live_too = ap (state_at h) (sym is) ∙ live
+
+    free : IsTrue (is_fresh (state_at h s)) ⊎ IsTrue (is_released h (state_at h s)) → ⊥
+    free (inl fresh) = let never : false ≡ true = sym (ap is_fresh live_too) ∙ fresh in cc
+    free (inr released) = let never : false ≡ true = sym (ap (is_released h) live_too) ∙ released in cc
+
+pub same_slot : (h : Heap) (s n r : ℕ) → slot_in (given_out h s n) r ≡ slot_in h r
+unfolding given_out
+same_slot h s n r = refl
+
+-- ---- what a call answers is its definition's answer, and so says which pointers it accepts
+
+pub free_accepted : (h : Heap) (p : ℕ) (r : Result (Unit {0}) FreeError) → IsSoundHeap h →
+    r ≡ (free_step h p).answer → (r ≡ Ok tt) ↔ IsNullOrOwn h p
+free_accepted h p r sound is = subst (λ r. (r ≡ Ok tt) ↔ IsNullOrOwn h p) (sym is) (free_accepts h p sound)
+
+pub realloc_accepted : (h : Heap) (p n : ℕ) (r : Result ℕ ReallocError) → IsSoundHeap h →
+    r ≡ (realloc_step h p n).answer → IsNotRefused r ↔ IsNullOrOwn h p
+realloc_accepted h p n r sound is = subst (λ r. IsNotRefused r ↔ IsNullOrOwn h p) (sym is) (realloc_accepts h p n sound)

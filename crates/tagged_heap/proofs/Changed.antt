@@ -1,113 +1,190 @@
 -- A heap stays kept as the state of one slot changes, with its header and its lists.
-use Rattle.std.proofs.Common.{◌≡◌, ◌≢◌, ℕ, ◌<◌, false, List, length, refl, sym, ap, ◌∙◌, subst, inl, inr}
+use Rattle.std.proofs.Common.{◌≡◌, ◌≢◌, ℕ, ◌+◌, ◌-◌, ◌^◌, ◌<◌, false, List, length, refl, sym, ap, ◌∙◌, subst, inl, inr, arith}
 use Rattle.std.specs.Prelude.{Contains, slice_set, slice_index}
 use Rattle.std.proofs.lemmas.Bool.{cases_eq}
-use Rattle.std.proofs.lemmas.List.{get_or-set_same, get_or-set_other}
-use Rattle.machine_theory.specs.Memory.{Granule}
-use Rattle.class_table.specs.Layout.{slot_count}
-use Rattle.heap_theory.specs.Booked.{IsBooked}
-use Rattle.heap_theory.specs.Choice.{is_dead, mark_of}
-use Rattle.heap_theory.specs.Header.{Header, header_for, standing_in, size_of, class_number}
-use Rattle.heap_theory.specs.Links.{AreLinked, next_in, list_of}
+use Rattle.std.proofs.lemmas.List.{get_or-set_same, get_or-set_other, length-set}
+use Rattle.machine_theory.specs.Memory.{Granule, IsMemory}
+use Rattle.heap_theory.specs.Booked.{HasMark, IsBooked}
+use Rattle.heap_theory.specs.Calls.{chunk_tagged}
+use Rattle.heap_theory.specs.Choice.{is_dead}
+use Rattle.heap_theory.specs.Header.{Standing, Header, FitsWords, with_header}
+use Rattle.heap_theory.specs.Links.{IsLinked, next_in, list_of}
 use Rattle.heap_theory.specs.Sound.{IsSoundHeap}
-use Rattle.heap_theory.specs.State.{State, Heap, state_at, last_tag, IsSlot}
-use Rattle.heap_theory.specs.State.State.{Fresh}
+use Rattle.heap_theory.specs.State.{State, Heap, slot_in, state_at, is_fresh, chunk_granules, payload_start, without_headers, IsSlot}
+use Rattle.heap_theory.specs.State.State.{Fresh, Live}
+use Rattle.heap_theory.proofs.Marks.{chain_dead, list_dead, not_marked}
+use Rattle.heap_theory.proofs.Releasing.{list_of-here, list_of-there}
+use Rattle.heap_theory.proofs.SeenMemory.{length-without_headers}
 use Rattle.tagged_heap.proofs.TheoryLemmas as laws
-use Rattle.tagged_heap.specs.Representation.{header_in, IsRewritten, IsKeptBy}
-use Rattle.tagged_heap.proofs.Slots.{IsDeadSlot, dead_of, in_chain, in_list, same_standing}
+use Rattle.tagged_heap.specs.Representation.{header_in, header_from, IsRewritten, HasHeaders, AreListed, AreFirstFresh, Parts, IsKept}
+use Rattle.tagged_heap.proofs.HeaderPlaces.{then_tagged, then_written, written_header}
+use Rattle.tagged_heap.proofs.Kept.{header_fits, within_states, booked_same}
 
--- ---- lists whose slots' links stay
+-- ---- lists
 
-pub queue_slot : {h : Heap} {queue : List ℕ} {lists : List (List ℕ)} → IsBooked h queue lists → (s : ℕ) → Contains queue s → IsDeadSlot h s
-queue_slot {h} {queue} b s there = (in_chain h b.from queue s b.booked.chain there).0
+pub listed_same : {next new : ℕ → ℕ} {fronts : List ℕ} {lists : List (List ℕ)} → AreListed next fronts lists →
+    ((number s : ℕ) → number < length lists → Contains (list_of lists number) s → new s ≡ next s) → AreListed new fronts lists
+listed_same {next} {new} {fronts} {lists} l same = record {
+  long = l.long;
+  linked =
+      λ number within. laws.links_stay next new (slice_index fronts number) (list_of lists number) (λ s. same number s within)
+      (l.linked number within);
+}
 
-pub list_slot : {h : Heap} {queue : List ℕ} {lists : List (List ℕ)} → IsBooked h queue lists → (number s : ℕ) → number < length lists → Contains (list_of lists number) s → IsDeadSlot h s
-list_slot {h} {queue} {lists} b number s within there = (in_list h _ b.from (list_of lists number) s (b.booked.freed number within) there).0
-
-pub linked_same : (next new : ℕ → ℕ) (front : ℕ) (fronts queue : List ℕ) (lists : List (List ℕ)) → AreLinked next front fronts queue lists →
-    ((s : ℕ) → Contains queue s → new s ≡ next s) → ((number s : ℕ) → number < length lists → Contains (list_of lists number) s → new s ≡ next s) →
-    AreLinked new front fronts queue lists
-linked_same next new front fronts queue lists l in_queue in_lists = record {
-  queue_linked = laws.links_stay next new front queue in_queue l.queue_linked;
-  fronts_long = l.fronts_long;
-  lists_linked = λ number within. laws.links_stay next new (slice_index fronts number) (list_of lists number) (λ s there. in_lists number s within there) (l.lists_linked number within);
+-- one list is another
+pub other_list : {next : ℕ → ℕ} {fronts : List ℕ} {lists : List (List ℕ)} → AreListed next fronts lists →
+    (number front : ℕ) (list : List ℕ) → number < length lists →
+    IsLinked next front list → AreListed next (slice_set fronts number front) (slice_set lists number list)
+other_list {next} {fronts} {lists} l number front list within linked = record {
+  long = length-set fronts number front ∙ l.long ∙ sym (length-set lists number list);
+  linked = λ n inside. elim (cases_eq n number) [
+    | inl is ↦
+        subst (λ n. IsLinked next (slice_index (slice_set fronts number front) n) (list_of (slice_set lists number list) n)) (sym is)
+        (subst (λ x. IsLinked next x (list_of (slice_set lists number list) number))
+        (sym (get_or-set_same fronts number front 0 (subst (λ k. number < k) (sym l.long) within)))
+        (subst (IsLinked next front) (sym (list_of-here lists number list within)) linked))
+    | inr other ↦
+        subst (λ x. IsLinked next x (list_of (slice_set lists number list) n)) (sym (get_or-set_other fronts number n front 0 other))
+        (subst (IsLinked next (slice_index fronts n)) (sym (list_of-there lists number n list other))
+        (l.linked n (subst (λ k. n < k) (length-set lists number list) inside)))
+  ];
 }
 
 -- ---- the state of one slot
 
-abbrev pub changed : Heap → ℕ → State → List Granule → ℕ → ℕ → Heap
-changed h s state memory seed tag = record h { states = slice_set h.states s state; memory = memory; seed = seed; tag = tag }
+abbrev pub with_link : Header → ℕ → Header
+with_link header next = record header { next = next }
 
-module _ (h : Heap) (s : ℕ) (state : State) (memory : List Granule) (seed tag : ℕ) where
-  pub state_here : s < length h.states → state_at (changed h s state memory seed tag) s ≡ state
-  state_here within = get_or-set_same h.states s state Fresh within
+abbrev pub with_standing : Header → Standing → Header
+with_standing header standing = record header { standing = standing }
 
-  pub state_there : (r : ℕ) → r ≢ s → state_at (changed h s state memory seed tag) r ≡ state_at h r
+abbrev pub changed : Heap → ℕ → State → List Granule → ℕ → ℕ → ℕ → Heap
+changed h s state memory total seed tag =
+    record h { states = slice_set h.states s state; memory = memory; total = total; seed = seed; tag = tag }
+
+module _ (h : Heap) (s : ℕ) (state : State) (memory : List Granule) (total seed tag : ℕ) (within : s < length h.states) where
+  pub state_here : state_at (changed h s state memory total seed tag) s ≡ state
+  state_here = get_or-set_same h.states s state Fresh within
+
+  pub state_there : (r : ℕ) → r ≢ s → state_at (changed h s state memory total seed tag) r ≡ state_at h r
   state_there r other = get_or-set_other h.states s r state Fresh other
 
-  pub header_there : (r next : ℕ) → r ≢ s → header_for (changed h s state memory seed tag) r next ≡ header_for h r next
-  unfolding header_for
-  header_there r next other =
-      let same = state_there r other in
-      let standing = same_standing h (changed h s state memory seed tag) (state_at h r) refl refl in
-      λ i. record {
-        standing = (ap (standing_in (changed h s state memory seed tag)) same ∙ standing) i;
-        size = size_of (same i);
-        tag = last_tag (same i);
-        class = class_number h.layout r;
-        next = next;
-        mark = mark_of (same i);
-      }
-
--- the header of a slot that is not dead has no link
-pub next_of_header : (h : Heap) (s next : ℕ) → (header_for h s next).next ≡ next
-unfolding header_for
-next_of_header h s next = refl
-
--- A heap in which a slot that is not dead has a new state is kept in a memory with the slot's new header.
-pub kept_changed : (h : Heap) (m : List Granule) (front : ℕ) (fronts queue : List ℕ) (lists : List (List ℕ)) → IsKeptBy h m front fronts queue lists →
-    (s : ℕ) (state : State) (memory new : List Granule) (seed tag : ℕ) (fronts' : List ℕ) (lists' : List (List ℕ)) → IsSlot h s → is_dead state ≡ false →
-    IsSoundHeap (changed h s state memory seed tag) → IsBooked (changed h s state memory seed tag) queue lists' →
-    AreLinked (next_in h.layout m) front fronts' queue lists' →
-    IsRewritten h.layout m new s (header_for (changed h s state memory seed tag) s 0) memory →
-    IsKeptBy (changed h s state memory seed tag) new front fronts' queue lists'
-kept_changed h m front fronts queue lists kept s state memory new seed tag fronts' lists' in_range alive sound booked linked written = record {
-  sound = sound;
-  seen = written.seen_is;
-  headers = record { headers = header; unlinked = unlinked };
-  linked = linked_same (next_in h.layout m) (next_in h.layout new) front fronts' queue lists' linked
-      (λ r there. stays r (queue_slot booked r there)) (λ number r within there. stays r (list_slot booked number r within there));
-  booked = booked;
-}
-  where
-    within : s < length h.states
-    within = subst (λ n. s < n) (sym kept.sound.states) in_range
-
-    own_next : next_in h.layout new s ≡ 0
-    own_next = ap (λ (x : Header). x.next) written.own ∙ next_of_header (changed h s state memory seed tag) s 0
-
-    other_next : (r : ℕ) → r < slot_count h.layout → r ≢ s → next_in h.layout new r ≡ next_in h.layout m r
-    other_next r inside other = ap (λ (x : Header). x.next) (written.others r inside other)
-
-    stays : (r : ℕ) → IsDeadSlot (changed h s state memory seed tag) r → next_in h.layout new r ≡ next_in h.layout m r
-    stays r d = other_next r d.in_range
-        (λ is. let dead = sym alive ∙ sym (ap is_dead (state_here h s state memory seed tag within)) ∙ ap (λ q. is_dead (state_at (changed h s state memory seed tag) q)) (sym is) ∙ dead_of d in
-        cc)
-
-    header : (r : ℕ) → r < slot_count h.layout → header_in h.layout new r ≡ header_for (changed h s state memory seed tag) r (next_in h.layout new r)
-    header r inside = elim (cases_eq r s) [
+  -- the slot's header is that of its new state, and in other headers at most the links change
+  pub headers_changed : {m new : List Granule} {from : ℕ} → HasHeaders h m from →
+      header_in h.layout new s ≡ header_from h.layout from s state (next_in h.layout new s) →
+      ((r : ℕ) → IsSlot h r → r ≢ s → header_in h.layout new r ≡ with_link (header_in h.layout m r) (next_in h.layout new r)) →
+      (is_dead state ≡ false → next_in h.layout new s ≡ 0) →
+      ((r : ℕ) → IsSlot h r → r ≢ s → is_dead (state_at h r) ≡ false → next_in h.layout new r ≡ next_in h.layout m r) →
+      HasHeaders (changed h s state memory total seed tag) new from
+  headers_changed {m} {new} {from} before own others link links = record {
+    headers = λ r in_range. elim (cases_eq r s) [
       | inl is ↦
-          subst (λ q. header_in h.layout new q ≡ header_for (changed h s state memory seed tag) q (next_in h.layout new q)) (sym is)
-          (written.own ∙ ap (header_for (changed h s state memory seed tag) s) (sym own_next))
+          subst (λ q. header_in h.layout new q ≡ header_from h.layout from q (state_at (changed h s state memory total seed tag) q)
+          (next_in h.layout new q)) (sym is)
+          (own ∙ ap (λ x. header_from h.layout from s x (next_in h.layout new s)) (sym state_here))
       | inr other ↦
-          written.others r inside other ∙ kept.headers.headers r inside ∙ sym (header_there h s state memory seed tag r (next_in h.layout m r) other)
-          ∙ ap (header_for (changed h s state memory seed tag) r) (sym (other_next r inside other))
-    ]
+          others r in_range other ∙ ap (λ x. with_link x (next_in h.layout new r)) (before.headers r in_range)
+          ∙ ap (λ x. header_from h.layout from r x (next_in h.layout new r)) (sym (state_there r other))
+    ];
+    unlinked = λ r in_range alive. elim (cases_eq r s) [
+      | inl is ↦
+          ap (next_in h.layout new) is
+          ∙ link (sym (ap is_dead state_here) ∙ ap (λ q. is_dead (state_at (changed h s state memory total seed tag) q)) (sym is) ∙ alive)
+      | inr other ↦
+          let alive' : is_dead (state_at h r) ≡ false = ap is_dead (sym (state_there r other)) ∙ alive in
+          links r in_range other alive' ∙ before.unlinked r in_range alive'
+    ];
+  }
 
-    unlinked : (r : ℕ) → r < slot_count h.layout → is_dead (state_at (changed h s state memory seed tag) r) ≡ false → next_in h.layout new r ≡ 0
-    unlinked r inside not = elim (cases_eq r s) [
-      | inl is ↦ ap (next_in h.layout new) is ∙ own_next
-      | inr other ↦
-          other_next r inside other
-          ∙ kept.headers.unlinked r inside (sym (ap is_dead (state_there h s state memory seed tag r other)) ∙ not)
-    ]
+  -- no slot becomes fresh, or stops to be
+  pub firsts_changed : {firsts : List ℕ} → is_fresh state ≡ is_fresh (state_at h s) → AreFirstFresh h firsts →
+      AreFirstFresh (changed h s state memory total seed tag) firsts
+  firsts_changed same f = record {
+    long = f.long;
+    from = f.from;
+    to = f.to;
+    given = λ number r inside in_range class below. fresh_same r ∙ f.given number r inside in_range class below;
+    fresh = λ number r inside in_range class above. fresh_same r ∙ f.fresh number r inside in_range class above;
+  }
+    where
+      fresh_same : (r : ℕ) → is_fresh (state_at (changed h s state memory total seed tag) r) ≡ is_fresh (state_at h r)
+      fresh_same r = elim (cases_eq r s) [
+        | inl is ↦
+            ap (λ q. is_fresh (state_at (changed h s state memory total seed tag) q)) is ∙ ap is_fresh state_here ∙ same
+            ∙ ap (λ q. is_fresh (state_at h q)) (sym is)
+        | inr other ↦ ap is_fresh (state_there r other)
+      ]
+
+-- ---- a slot is live with n bytes under a tag: it is given out, or resized
+
+abbrev pub alive : Heap → ℕ → ℕ → ℕ → ℕ → ℕ → Heap
+alive h s n tag seed drawn = changed h s (Live n tag) (chunk_tagged (slot_in h s) n tag h.memory) h.total seed drawn
+
+module _ {h : Heap} {p : Parts} (k : IsKept h p) (s n tag seed drawn : ℕ) (in_range : IsSlot h s) (fits : h.total < 2 ^ 64)
+    (sound : IsSoundHeap (alive h s n tag seed drawn)) where
+  -- its header is written in a memory that had another of its headers, and then its tags
+  pub alive_memory : {m1 new : List Granule} {old header : Header} {tag' : ℕ} → IsRewritten h.layout p.memory m1 s old h.memory →
+      IsMemory m1 → header ≡ header_from h.layout k.from s (Live n tag) 0 → tag' ≡ tag →
+      new ≡ chunk_tagged (slot_in h s) n tag' (with_header m1 (slot_in h s).start header) →
+      IsRewritten h.layout p.memory new s (header_from h.layout k.from s (Live n tag) 0) (alive h s n tag seed drawn).memory
+  alive_memory {m1} {new} {old} {header} {tag'} before is header_is tag_is new_is =
+      let own = header_from h.layout k.from s (Live n tag) 0 in
+      let here = state_here h s (Live n tag) (alive h s n tag seed drawn).memory h.total seed drawn (within_states k s in_range) in
+      let long : length m1 ≡ h.layout.granules = sym (length-without_headers h.layout m1) ∙ ap length before.seen_is ∙ k.sound.long in
+      let written : IsRewritten h.layout m1 (with_header m1 (slot_in h s).start own) s own (without_headers h.layout m1) =
+      written_header h.layout m1 s own is k.sound.slots long in_range
+      (subst (λ x. FitsWords (header_from h.layout k.from s x 0)) here
+      (header_fits (alive h s n tag seed drawn) k.from s 0 sound in_range (omega arith) fits)) in
+      let seen = subst (IsRewritten h.layout m1 (with_header m1 (slot_in h s).start own) s own) before.seen_is written in
+      let all =
+      then_tagged (payload_start (slot_in h s) + chunk_granules n) ((slot_in h s).class - 1 - chunk_granules n) 0
+      (then_tagged (payload_start (slot_in h s)) (chunk_granules n) tag (then_written before seen)) in
+      subst (λ x. IsRewritten h.layout p.memory x s own (alive h s n tag seed drawn).memory)
+      (sym (new_is ∙ (λ i. chunk_tagged (slot_in h s) n (tag_is i) (with_header m1 (slot_in h s).start (header_is i))))) all
+
+  pub kept_alive : {new : List Granule} {fronts : List ℕ} {lists : List (List ℕ)} → AreListed (next_in h.layout p.memory) fronts lists →
+      IsBooked (alive h s n tag seed drawn) k.queue lists →
+      IsRewritten h.layout p.memory new s (header_from h.layout k.from s (Live n tag) 0) (alive h s n tag seed drawn).memory →
+      IsMemory new → IsKept (alive h s n tag seed drawn) (record p { memory = new; fronts = fronts })
+  kept_alive {new} {fronts} {lists} listed b written is = record {
+    from = k.from;
+    queue = k.queue;
+    lists = lists;
+    sound = sound;
+    memory_is = is;
+    seen = written.seen_is;
+    headers =
+        headers_changed h s (Live n tag) now.memory h.total seed drawn (within_states k s in_range) k.headers
+        (written.own ∙ ap (header_from h.layout k.from s (Live n tag)) (sym own_next))
+        (λ r inside other. written.others r inside other ∙ ap (with_link (header_in h.layout p.memory r)) (sym (other_next r inside other)))
+        (λ _. own_next) (λ r inside other _. other_next r inside other);
+    queued = record {
+      slots = k.queued.slots;
+      linked = laws.links_stay _ _ _ k.queue
+          (λ r there. let d = chain_dead now b.from k.queue r b.booked.chain there in dead_next r d.mark d.in_range d.marked)
+          k.queued.linked;
+      back = k.queued.back;
+      held = k.queued.held;
+    };
+    listed = listed_same listed
+        (λ number r inside there.
+        let d = list_dead now _ b.from (list_of lists number) r (b.booked.freed number inside) there in
+        dead_next r d.mark d.in_range d.marked);
+    booked = booked_same k refl refl b;
+    limit = k.limit;
+  }
+    where
+      now : Heap
+      now = alive h s n tag seed drawn
+
+      own_next : next_in h.layout new s ≡ 0
+      own_next = ap (λ (x : Header). x.next) written.own
+
+      other_next : (r : ℕ) → IsSlot h r → r ≢ s → next_in h.layout new r ≡ next_in h.layout p.memory r
+      other_next r inside other = ap (λ (x : Header). x.next) (written.others r inside other)
+
+      dead_next : (r mark : ℕ) → IsSlot h r → HasMark (state_at now r) mark → next_in h.layout new r ≡ next_in h.layout p.memory r
+      dead_next r mark inside marked =
+          let here = state_here h s (Live n tag) now.memory h.total seed drawn (within_states k s in_range) in
+          let live = λ (is : r ≡ s). subst (λ x. HasMark x mark) here (subst (λ q. HasMark (state_at now q) mark) is marked) in
+          other_next r inside (λ is. not_marked (Live n tag) mark refl (live is))

@@ -14,17 +14,18 @@ use Rattle.heap_theory.specs.declared.fault.NullCause.TheVariants.{Large, NoClas
 use Rattle.heap_theory.specs.Calls.{is_class_of}
 use Rattle.heap_theory.specs.Choice.{class_for_request}
 use Rattle.heap_theory.specs.State.{Heap, chunk_granules}
+use Rattle.heap_theory.proofs.Marks.{one_number}
 use Rattle.tagged_heap.proofs.TheoryLemmas as laws
 use Rattle.tagged_heap.specs.Chunks.{IsCauseFor}
-use Rattle.tagged_heap.proofs.Shares.{one_class}
 
 module _ (h : Heap) (n : ℕ) where
-  pub class_for_is : (r : Result ℕ NullCause) → IfOk r (λ k. (n ≤ 16368) × (class_number_for h.layout.classes n ≡ Some k)) → IfErr r (IsCauseFor h.layout.classes n) →
-      class_for_request h n ≡ result_map_both (λ k. slice_index h.layout.classes k) (λ e. e) r
+  pub class_for_is : (r : Result ℕ NullCause) → IfOk r (λ k. (n ≤ 16368) × (class_number_for h.layout.classes n ≡ Some k)) →
+      IfErr r (IsCauseFor h.layout.classes n) → class_for_request h n ≡ result_map_both (λ k. slice_index h.layout.classes k) (λ e. e) r
   class_for_is (Ok k) ok err =
       let there = position-Some (serves n) h.layout.classes k 0 ok.1 in
       cond-false (ltb 16368 n) _ _ (le-ltb 16368 n ok.0)
-      ∙ ap (λ o. ok_or o NoClass) (laws.class_by_number n h.layout.classes ∙ ap (option_and_then (slice_get h.layout.classes)) ok.1 ∙ slice_get-get_or h.layout.classes k 0 there.0)
+      ∙ ap (λ o. ok_or o NoClass) (laws.class_by_number n h.layout.classes ∙ ap (option_and_then (slice_get h.layout.classes)) ok.1
+      ∙ slice_get-get_or h.layout.classes k 0 there.0)
   class_for_is (Err Large) ok err = cond-true (ltb 16368 n) _ _ (lt-ltb 16368 n err)
   class_for_is (Err NoClass) ok err =
       cond-false (ltb 16368 n) _ _ (le-ltb 16368 n err.0)
@@ -32,14 +33,19 @@ module _ (h : Heap) (n : ℕ) where
   class_for_is (Err Exhausted) ok err = absurd err
 
   -- a number is that of a slot's class exactly where its class is the slot's
-  same_test : (classes : List ℕ) (slot : Slot) (k number : ℕ) → IsLegalTable 1 classes → k < length classes → slice_get classes number ≡ Some slot.class →
-      eqb k number ≡ eqb (slice_index classes k) slot.class
+  same_test : (classes : List ℕ) (slot : Slot) (k number : ℕ) → IsLegalTable 1 classes → k < length classes →
+      slice_get classes number ≡ Some slot.class → eqb k number ≡ eqb (slice_index classes k) slot.class
   same_test classes slot k number legal within at = elim (cases_eq k number) [
     | inl is ↦ eq-eqb k number is ∙ sym (eq-eqb _ _ (ap (slice_index classes) is ∙ get_or_from_slice_get classes number slot.class 0 at))
-    | inr other ↦ ne_eqb k number other ∙ sym (ne_eqb _ _ (λ same. other (one_class classes k number legal within (slice_get_within classes number slot.class at) (same ∙ sym (get_or_from_slice_get classes number slot.class 0 at)))))
+    | inr other ↦
+        ne_eqb k number other
+        ∙ sym (ne_eqb _ _ (λ same. other
+        (one_number 1 classes k number legal within (slice_get_within classes number slot.class at)
+        (same ∙ sym (get_or_from_slice_get classes number slot.class 0 at)))))
   ]
 
-  pub stays_is : (slot : Slot) (number : ℕ) (cause_eq : NullCause → NullCause → Bool) (r : Result ℕ NullCause) → IsLegalTable 1 h.layout.classes →
+  pub stays_is : (slot : Slot) (number : ℕ) (cause_eq : NullCause → NullCause → Bool) (r : Result ℕ NullCause) →
+      IsLegalTable 1 h.layout.classes →
       slice_get h.layout.classes number ≡ Some slot.class → IfOk r (λ k. (n ≤ 16368) × (class_number_for h.layout.classes n ≡ Some k)) →
       IfErr r (IsCauseFor h.layout.classes n) → result_eq nat_eq cause_eq r (Ok number) ≡ is_class_of slot (class_for_request h n)
   stays_is slot number cause_eq (Ok k) legal at ok err =
@@ -52,7 +58,8 @@ module _ (h : Heap) (n : ℕ) where
       result_eq nat_eq cause_eq r (Ok number) ≡ true → chunk_granules n < slot.class
   room_in_class slot number cause_eq (Ok k) wide at ok same =
       let there = position-Some (serves n) h.layout.classes k 0 ok.1 in
-      let is : slice_index h.layout.classes k ≡ slot.class = ap (slice_index h.layout.classes) (eqb-true k number same) ∙ get_or_from_slice_get h.layout.classes number slot.class 0 at in
+      let is : slice_index h.layout.classes k ≡ slot.class =
+      ap (slice_index h.layout.classes) (eqb-true k number same) ∙ get_or_from_slice_get h.layout.classes number slot.class 0 at in
       let fits : n ≤ 16 * slice_index h.layout.classes k - 16 = leb-true _ _ there.1 in
       omega arith
   room_in_class slot number cause_eq (Err e) wide at ok same = cc

@@ -1,5 +1,5 @@
 -- Headers of slots in a memory that changes.
-use Rattle.std.proofs.Common.{◌≡◌, ◌≢◌, ℕ, zero, suc, ◌*◌, ◌^◌, ◌<◌, ◌≤◌, true, List, ◌++◌, length, refl, sym, ap, ◌∙◌, subst, inl, inr, arith}
+use Rattle.std.proofs.Common.{◌≡◌, ◌≢◌, ℕ, ◌*◌, ◌<◌, true, List, ◌++◌, length, refl, ap, ◌∙◌, inl, inr, arith}
 use Rattle.std.specs.Int.{w64, to_le_bytes}
 use Rattle.std.specs.Prelude.{◌==◌}
 use Rattle.std.proofs.lemmas.Bool.{cases_lt, eq-eqb}
@@ -8,12 +8,9 @@ use Rattle.std.proofs.lemmas.List.Folds.{list_any-from_Any}
 use Rattle.machine_theory.specs.Memory.{Granule, IsMemory, tagged}
 use Rattle.class_table.specs.Layout.{Partition, AreInOrder, no_slot, slots_of, slot_of, slot_count}
 use Rattle.heap_theory.specs.Header.{Header, FitsWords, with_header, first_word, second_word}
-use Rattle.heap_theory.specs.Header.Standing.{Freed}
-use Rattle.chunk_header.specs.HeaderView.{with_next}
 use Rattle.heap_theory.specs.State.{is_header, without_headers}
-use Rattle.heap_theory.proofs.SeenMemory.{length-without_headers}
 use Rattle.tagged_heap.proofs.TheoryLemmas as laws
-use Rattle.tagged_heap.specs.Representation.{header_in, IsRewritten}
+use Rattle.tagged_heap.specs.Representation.{IsRewritten}
 
 pub start_is_header : (layout : Partition) (s : ℕ) → s < slot_count layout → is_header layout (slot_of layout s).start ≡ true
 start_is_header layout s within =
@@ -25,10 +22,12 @@ pub header_unseen : (layout : Partition) (memory : List Granule) (s : ℕ) (head
     without_headers layout (with_header memory (slot_of layout s).start header) ≡ without_headers layout memory
 unfolding with_header
 header_unseen layout memory s header is within =
-    laws.header_bytes_unseen layout (slot_of layout s).start (16 * (slot_of layout s).start) (to_le_bytes w64 (first_word header) ++ to_le_bytes w64 (second_word header)) memory is
+    laws.header_bytes_unseen layout (slot_of layout s).start (16 * (slot_of layout s).start)
+    (to_le_bytes w64 (first_word header) ++ to_le_bytes w64 (second_word header)) memory is
     (start_is_header layout s within) (omega arith) (omega arith)
 
-pub starts_differ : (layout : Partition) (s r : ℕ) → AreInOrder layout → s < slot_count layout → r < slot_count layout → r ≢ s → (slot_of layout r).start ≢ (slot_of layout s).start
+pub starts_differ : (layout : Partition) (s r : ℕ) → AreInOrder layout → s < slot_count layout → r < slot_count layout → r ≢ s →
+    (slot_of layout r).start ≢ (slot_of layout s).start
 starts_differ layout s r order in_s in_r other is = elim (cases_lt r s) [
   | inl less ↦ omega (arith, order.apart r s less in_s, order.wide r in_r)
   | inr more ↦ elim (cases_lt s r) [
@@ -37,72 +36,34 @@ starts_differ layout s r order in_s in_r other is = elim (cases_lt r s) [
   ]
 ]
 
-pub first_or_more : (layout : Partition) (s : ℕ) → AreInOrder layout → s < slot_count layout → s ≤ (slot_of layout s).start
-first_or_more layout zero order within = omega arith
-first_or_more layout (suc s) order within =
-    omega (arith, first_or_more layout s order (omega arith), order.apart s (suc s) (omega arith) within, order.wide s (omega arith))
-
 pub start_inside : (layout : Partition) (s : ℕ) → AreInOrder layout → s < slot_count layout → (slot_of layout s).start < layout.granules
 start_inside layout s order within = omega (arith, order.inside s within, order.wide s within)
 
 -- ---- a header is rewritten
 
-pub written_header : (layout : Partition) (m : List Granule) (s : ℕ) (header : Header) → IsMemory m → AreInOrder layout → length m ≡ layout.granules →
-    s < slot_count layout → FitsWords header → IsRewritten layout m (with_header m (slot_of layout s).start header) s header (without_headers layout m)
+pub written_header : (layout : Partition) (m : List Granule) (s : ℕ) (header : Header) → IsMemory m → AreInOrder layout →
+    length m ≡ layout.granules → s < slot_count layout → FitsWords header →
+    IsRewritten layout m (with_header m (slot_of layout s).start header) s header (without_headers layout m)
 written_header layout m s header is order long within fits = record {
   own = laws.header_read m (slot_of layout s).start header is (omega (arith, long, start_inside layout s order within)) fits;
-  others = λ r inside other. laws.other_headers m (slot_of layout s).start (slot_of layout r).start header (starts_differ layout s r order within inside other);
+  others =
+      λ r inside other. laws.other_headers m (slot_of layout s).start (slot_of layout r).start header
+      (starts_differ layout s r order within inside other);
   seen_is = header_unseen layout m s header is within;
 }
 
-pub then_written : {layout : Partition} {a b c x y : List Granule} {s : ℕ} {one other : Header} → IsRewritten layout a b s one x → IsRewritten layout b c s other y →
-    IsRewritten layout a c s other y
+pub then_written : {layout : Partition} {a b c x y : List Granule} {s : ℕ} {one other : Header} → IsRewritten layout a b s one x →
+    IsRewritten layout b c s other y → IsRewritten layout a c s other y
 then_written first second = record {
   own = second.own;
   others = λ r inside other. second.others r inside other ∙ first.others r inside other;
   seen_is = second.seen_is;
 }
 
-pub then_tagged : {layout : Partition} {a b x : List Granule} {s : ℕ} {header : Header} → (first count tag : ℕ) → IsRewritten layout a b s header x →
-    IsRewritten layout a (tagged first count tag b) s header (tagged first count tag x)
+pub then_tagged : {layout : Partition} {a b x : List Granule} {s : ℕ} {header : Header} → (first count tag : ℕ) →
+    IsRewritten layout a b s header x → IsRewritten layout a (tagged first count tag b) s header (tagged first count tag x)
 then_tagged {layout} {a} {b} {x} {s} {header} first count tag r = record {
   own = laws.tags_keep_headers first count tag (slot_of layout s).start b ∙ r.own;
   others = λ q inside other. laws.tags_keep_headers first count tag (slot_of layout q).start b ∙ r.others q inside other;
   seen_is = laws.tags_seen layout first count tag b ∙ ap (tagged first count tag) r.seen_is;
 }
-
-pub freed_fits : (header : Header) → FitsWords header → FitsWords (record header { standing = Freed })
-freed_fits header fits = record { size = fits.size; tag = fits.tag; class = fits.class; next = fits.next; mark = fits.mark }
-
--- a header is written as that of a freed slot, and then its link is set
-pub listed_header : (layout : Partition) (m one two : List Granule) (s front : ℕ) (header : Header) → IsMemory m → AreInOrder layout → length m ≡ layout.granules →
-    s < slot_count layout → FitsWords header → front < 2 ^ 32 → header ≡ header_in layout m s → one ≡ with_header m (slot_of layout s).start (record header { standing = Freed }) →
-    two ≡ with_next one (slot_of layout s).start front →
-    IsRewritten layout m two s (record (header_in layout m s) { standing = Freed; next = front }) (without_headers layout m)
-listed_header layout m one two s front header is order long within fits front_fits header_is one_is two_is =
-    subst (λ x. IsRewritten layout m x s (record (header_in layout m s) { standing = Freed; next = front }) (without_headers layout m)) (sym two_is)
-    (subst (λ h. IsRewritten layout m (with_next one (slot_of layout s).start front) s (record h { standing = Freed; next = front }) (without_headers layout m)) header_is
-    (record {
-      own = second.own;
-      others = λ r inside other. second.others r inside other ∙ first.others r inside other;
-      seen_is = second.seen_is ∙ first.seen_is;
-    }))
-  where
-    first : IsRewritten layout m one s (record header { standing = Freed }) (without_headers layout m)
-    first =
-        subst (λ x. IsRewritten layout m x s (record header { standing = Freed }) (without_headers layout m)) (sym one_is)
-        (written_header layout m s (record header { standing = Freed }) is order long within (freed_fits header fits))
-
-    one_memory : IsMemory one
-    one_memory = subst IsMemory (sym one_is) (laws.header_memory m (slot_of layout s).start (record header { standing = Freed }) is)
-
-    one_long : length one ≡ layout.granules
-    one_long = sym (length-without_headers layout one) ∙ ap length first.seen_is ∙ length-without_headers layout m ∙ long
-
-    linked_fits : FitsWords (record header { standing = Freed; next = front })
-    linked_fits = record { size = fits.size; tag = fits.tag; class = fits.class; next = front_fits; mark = fits.mark }
-
-    second : IsRewritten layout one (with_next one (slot_of layout s).start front) s (record header { standing = Freed; next = front }) (without_headers layout one)
-    second =
-        subst (λ h. IsRewritten layout one (with_header one (slot_of layout s).start (record h { next = front })) s (record header { standing = Freed; next = front }) (without_headers layout one)) (sym first.own)
-        (written_header layout one s (record header { standing = Freed; next = front }) one_memory order one_long within linked_fits)

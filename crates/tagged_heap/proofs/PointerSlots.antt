@@ -7,23 +7,28 @@ use Rattle.tagged_heap.proofs.TheoryLemmas as laws
 
 module _ (layout : Partition) (is : IsPartition layout) where
   -- the granule of a place at which a slot's payload begins
-  pub payload_granule : (s place : ℕ) → s < slot_count layout → place ≡ payload_place (slot_of layout s) → (place - region_start) / 16 ≡ (slot_of layout s).start + 1
+  pub payload_granule : (s place : ℕ) → s < slot_count layout → place ≡ payload_place (slot_of layout s) →
+      (place - region_start) / 16 ≡ (slot_of layout s).start + 1
   payload_granule s place within at = omega (arith, at)
 
-  pub payload_inside : (s place : ℕ) → s < slot_count layout → place ≡ payload_place (slot_of layout s) → (place - region_start) / 16 < layout.granules
+  pub payload_inside : (s place : ℕ) → s < slot_count layout → place ≡ payload_place (slot_of layout s) →
+      (place - region_start) / 16 < layout.granules
   payload_inside s place within at =
       let order = laws.in_order 1 layout is.table in
       omega (arith, at, order.inside s within, order.wide s within)
 
-  pub payload_covered : (s place : ℕ) → s < slot_count layout → place ≡ payload_place (slot_of layout s) → slot_over layout ((place - region_start) / 16) ≡ Some s
+  pub payload_covered : (s place : ℕ) → s < slot_count layout → place ≡ payload_place (slot_of layout s) →
+      slot_over layout ((place - region_start) / 16) ≡ Some s
   payload_covered s place within at =
       let order = laws.in_order 1 layout is.table in
       let granule = payload_granule s place within at in
-      (laws.covers 1 layout ((place - region_start) / 16) s is.table).1 (within, record { from = omega (arith, granule); to = omega (arith, granule, order.wide s within) })
+      (laws.covers 1 layout ((place - region_start) / 16) s is.table).1
+      (within, record { from = omega (arith, granule); to = omega (arith, granule, order.wide s within) })
 
   pub covered_within : (g s : ℕ) (found : Option ℕ) → found ≡ slot_over layout g → found ≡ Some s → s < slot_count layout
   covered_within g s found over is_found = ((laws.covers 1 layout g s is.table).0 (sym over ∙ is_found)).0
 
   -- a slot that covers the granule and begins just before it
-  pub payload_begins : (s place : ℕ) → region_start ≤ place → place % 16 ≡ 0 → (slot_of layout s).start + 1 ≡ (place - region_start) / 16 → place ≡ payload_place (slot_of layout s)
+  pub payload_begins : (s place : ℕ) → region_start ≤ place → place % 16 ≡ 0 → (slot_of layout s).start + 1 ≡ (place - region_start) / 16 →
+      place ≡ payload_place (slot_of layout s)
   payload_begins s place above whole begins = omega (arith, begins, whole)

@@ -1,6 +1,6 @@
 -- What the proofs of this crate cite of the theory below it.
 -- every change keeps a heap sound
-pub use Rattle.heap_theory.proofs.LawLemmas.{first_heap_is_sound as first_sound, moving_keeps_sound as moved_sound}
+pub use Rattle.heap_theory.proofs.LawLemmas.{first_heap_is_sound as first_sound}
 pub use Rattle.heap_theory.proofs.HeapKept.{IsSoundHeap-given_out as given_out_sound, IsSoundHeap-freed as freed_sound, IsSoundHeap-resized as resized_sound, IsSoundHeap-written as written_sound}
 -- what is chosen
 pub use Rattle.heap_theory.proofs.Choices.{slot_for_request-is as request, chunk_at-is as chunk}
@@ -10,17 +10,15 @@ pub use Rattle.heap_theory.proofs.Front.{lowest_fresh_is_given as fresh_given}
 -- queue and lists
 pub use Rattle.heap_theory.proofs.Booking.{booked_first as first_booked, booked_taken as front_taken, booked_fresh as fresh_taken, booked_resized as resized_out, booked_over as memory_not_booked, booked_freed as queues}
 pub use Rattle.heap_theory.proofs.Releasing.{release as releases}
-pub use Rattle.heap_theory.proofs.LawLemmas.{rest_is_held as holds}
 pub use Rattle.heap_theory.proofs.Held.{holds_quarantined as queue_holds, holds_released as lists_hold, one_list_has, queue_or_list as queue_apart}
 -- headers
-pub use Rattle.heap_theory.proofs.HeaderWords.{shown_state-header_for as shows_state, class_number-is as class_number_is, header_for-fits as header_fits}
-pub use Rattle.heap_theory.proofs.HeaderWords.{header_at-with_header as header_read, header_at-elsewhere as other_headers, IsMemory-with_header as header_memory, header_at-tagged as tags_keep_headers, header_at-written as bytes_keep_headers}
+pub use Rattle.heap_theory.proofs.HeaderWords.{class_number-is as class_number_is, header_for-fits as header_fits}
+pub use Rattle.heap_theory.proofs.HeaderWords.{header_at-with_header as header_read, header_at-elsewhere as other_headers, header_at-tagged as tags_keep_headers, header_at-written as bytes_keep_headers}
 pub use Rattle.heap_theory.proofs.Linked.{IsLinked-same as links_stay, IsLinked-ends as last_ends, IsLinked-one as one_list, IsLinked-once as each_once}
 -- what is seen of a memory
 pub use Rattle.heap_theory.proofs.SeenMemory.{without_headers-new as new_seen, without_headers-tagged as tags_seen, without_headers-written as bytes_seen, access_fault-without_headers as accesses_seen, granule_at-without_headers as granules_seen}
 pub use Rattle.heap_theory.proofs.SeenMemory.{without_headers-in_header as header_bytes_unseen, headers_spared as spared}
 -- memory
 pub use Rattle.machine_theory.proofs.ChangedMemories.{IsMemory-written as memory_written}
-pub use Rattle.machine_theory.proofs.MemoryLaws.{length-each_granule as each_length, length-tagged as tagged_length, length-written as written_length}
 -- sizes and layouts
 pub use Rattle.class_table.proofs.LawLemmas.{legal_slots_are_in_order as in_order, slots_of_a_class as slots_of_class, slots_of_classes_are_all as all_slots, one_slot_covers as covers, number_gives_class as class_by_number}

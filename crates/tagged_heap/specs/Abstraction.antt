@@ -1,13 +1,18 @@
 -- The fields of a heap, and what a contract sees of them.
 use Rattle.heap_theory.specs.State.{Heap}
 use Rattle.tagged_heap.specs.declared.heap.Heap.TheInside.{Inside}
+use Rattle.tagged_heap.specs.Representation.{Parts}
 use Rattle.tagged_heap.specs.HeapView.{Counted, shown_heap, IsHeldIn}
 
 abbrev pub state_of : Inside → Heap
-state_of heap = shown_heap heap.layout heap.quarantine.limit heap.machine.memory heap.total heap.machine.seed heap.machine.tag
+state_of heap =
+    shown_heap heap.layout heap.quarantine.limit heap.machine.memory heap.total heap.machine.seed heap.machine.tag
 
 abbrev pub seen : Inside → Counted
 seen heap = record { state = state_of heap; frees = heap.frees }
 
+abbrev pub parts_of : Inside → Parts
+parts_of heap = record { memory = heap.machine.memory; quarantine = heap.quarantine; fronts = heap.lists }
+
 abbrev pub IsHeld : Inside → Type 0
-IsHeld heap = IsHeldIn (state_of heap) heap.frees heap.machine.memory heap.quarantine heap.lists heap.firsts.items
+IsHeld heap = IsHeldIn (state_of heap) heap.frees (parts_of heap) heap.firsts.items

@@ -11,4 +11,5 @@ ChunksAreTagged heap = (s g : ℕ) → IsChunkGranule heap s g → tag_at heap.m
 -- and those of a slot with an even number and of one with an odd number never have the same tag.
 abbrev pub ParitiesDiffer : Heap → Type 0
 ParitiesDiffer heap =
-    (s r g k : ℕ) → IsChunkGranule heap s g → IsChunkGranule heap r k → (s + r) % 2 ≡ 1 → tag_at heap.memory g ≢ tag_at heap.memory k
+    (s r g k : ℕ) → IsChunkGranule heap s g → IsChunkGranule heap r k → (s + r) % 2 ≡ 1 →
+    tag_at heap.memory g ≢ tag_at heap.memory k

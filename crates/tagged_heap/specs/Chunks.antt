@@ -18,7 +18,8 @@ use Rattle.tagged_heap.specs.Representation.{header_in}
 
 -- the tag that the machine draws for a slot, by what its header says of its last one
 abbrev pub tag_for : Partition → Machine → ℕ → ℕ
-tag_for layout machine s = drawn_tag machine.tag machine.seed (bit_or (parity_exclude s) (2 ^ (header_in layout machine.memory s).tag))
+tag_for layout machine s =
+    drawn_tag machine.tag machine.seed (bit_or (parity_exclude s) (2 ^ (header_in layout machine.memory s).tag))
 
 -- the header once the slot is given out
 abbrev pub given_header : Header → ℕ → ℕ → Header
@@ -57,14 +58,16 @@ pub record HasClass (layout : Partition) (memory : List Granule) (fronts firsts 
   pub memory_is : IsMemory memory
 
 -- The first slot of the class's list is taken off it,
-pub record TakesFront (layout : Partition) (memory new : List Granule) (fronts fronts' firsts firsts' : List ℕ) (number s : ℕ) : Type 0 where
+pub record TakesFront (layout : Partition) (memory new : List Granule) (fronts fronts' firsts firsts' : List ℕ)
+    (number s : ℕ) : Type 0 where
   pub front : slice_index fronts number ≡ s + 1
   pub link : new ≡ with_next memory (slot_of layout s).start 0
   pub fronts_are : fronts' ≡ slice_set fronts number (next_in layout memory s)
   pub firsts_are : firsts' ≡ firsts
 
 -- or where the list is empty the class's next fresh slot,
-pub record TakesFresh (layout : Partition) (memory new : List Granule) (fronts fronts' firsts firsts' : List ℕ) (number s : ℕ) : Type 0 where
+pub record TakesFresh (layout : Partition) (memory new : List Granule) (fronts fronts' firsts firsts' : List ℕ)
+    (number s : ℕ) : Type 0 where
   pub empty : slice_index fronts number ≡ 0
   pub counter : s ≡ slice_index firsts number
   pub below : s < first_slot layout (number + 1)
@@ -73,7 +76,8 @@ pub record TakesFresh (layout : Partition) (memory new : List Granule) (fronts f
   pub firsts_are : firsts' ≡ slice_set firsts number (s + 1)
 
 -- or there is none.
-pub record TakesNone (layout : Partition) (memory new : List Granule) (fronts fronts' firsts firsts' : List ℕ) (number : ℕ) : Type 0 where
+pub record TakesNone (layout : Partition) (memory new : List Granule) (fronts fronts' firsts firsts' : List ℕ)
+    (number : ℕ) : Type 0 where
   pub empty : slice_index fronts number ≡ 0
   pub counter : slice_index firsts number ≡ first_slot layout (number + 1)
   pub memory_stays : new ≡ memory
@@ -81,14 +85,15 @@ pub record TakesNone (layout : Partition) (memory new : List Granule) (fronts fr
   pub firsts_are : firsts' ≡ firsts
 
 abbrev pub Takes : Partition → List Granule → List Granule → List ℕ → List ℕ → List ℕ → List ℕ → ℕ → Option ℕ → Type 0
-Takes layout memory new fronts fronts' firsts firsts' number None = TakesNone layout memory new fronts fronts' firsts firsts' number
+Takes layout memory new fronts fronts' firsts firsts' number None =
+    TakesNone layout memory new fronts fronts' firsts firsts' number
 Takes layout memory new fronts fronts' firsts firsts' number (Some s) =
-    TakesFront layout memory new fronts fronts' firsts firsts' number s ⊎ TakesFresh layout memory new fronts fronts' firsts firsts' number s
+    TakesFront layout memory new fronts fronts' firsts firsts' number s
+    ⊎ TakesFresh layout memory new fronts fronts' firsts firsts' number s
 
 -- ---- a slot is put into its class's list
 
--- The class of this number has a front, and both fit their fields in a header.
+-- The class of this number has a front, and the number fits its field in a header.
 pub record IsListed (fronts : List ℕ) (number : ℕ) : Type 0 where
   pub few : number < 32
   pub listed : number < length fronts
-  pub front : slice_index fronts number < 2 ^ 32

@@ -1,57 +1,93 @@
 -- How a heap is kept: in headers, in lists that are linked through them, and in a counter for each class.
-use Rattle.std.specs.Prelude.{◌≡◌, ◌≢◌, ℕ, ◌+◌, ◌<◌, ◌≤◌, List, length, slice_index, Contains, IsFalse, IsTrue}
-use Rattle.machine_theory.specs.Memory.{Granule}
+use Rattle.std.specs.Prelude.{◌≡◌, ◌≢◌, ℕ, ◌+◌, ◌<◌, ◌≤◌, nat_lt, if◌then◌else◌, List, length, slice_index, IsFalse, IsTrue}
+use Rattle.machine_theory.specs.Memory.{Granule, IsMemory}
 use Rattle.class_table.specs.Layout.{Partition, slot_count, slot_of, first_slot}
-use Rattle.heap_theory.specs.Booked.{IsBooked, IsBookedFrom}
-use Rattle.heap_theory.specs.Choice.{is_dead}
-use Rattle.heap_theory.specs.Header.{Header, header_at, header_for}
-use Rattle.heap_theory.specs.Header.Standing.{Quarantined}
-use Rattle.heap_theory.specs.HeapInMemory.{HasHeaders}
-use Rattle.heap_theory.specs.Links.{AreLinked, next_in}
+use Rattle.heap_theory.specs.Booked.{IsBookedFrom}
+use Rattle.heap_theory.specs.Choice.{is_dead, mark_of}
+use Rattle.heap_theory.specs.Header.{Standing, Header, header_at, size_of, class_number}
+use Rattle.heap_theory.specs.Header.Standing.{Fresh, Live, Quarantined, Freed}
+use Rattle.heap_theory.specs.Links.{IsLinked, next_in, list_of}
 use Rattle.heap_theory.specs.Sound.{IsSoundHeap}
-use Rattle.heap_theory.specs.State.{Heap, slot_in, state_at, is_fresh, without_headers, IsSlot}
+use Rattle.heap_theory.specs.State.{State, Heap, slot_in, state_at, is_fresh, last_tag, without_headers, IsSlot}
+use Rattle.heap_theory.specs.State.State.{Fresh as NeverGiven, Live as Given, Dead}
+use Rattle.quarantine_core.specs.Queue.{Queue, AreQueued}
 
 -- the header of a slot
 abbrev pub header_in : Partition → List Granule → ℕ → Header
 header_in layout memory s = header_at memory (slot_of layout s).start
 
 -- A memory in which the header of one slot is another, and which is seen as this one.
-pub record IsRewritten (layout : Partition) (old new : List Granule) (s : ℕ) (header : Header) (seen : List Granule) : Type 0 where
+pub record IsRewritten (layout : Partition) (old new : List Granule) (s : ℕ) (header : Header) (seen : List Granule)
+    : Type 0 where
   pub own : header_in layout new s ≡ header
   pub others : (r : ℕ) → r < slot_count layout → r ≢ s → header_in layout new r ≡ header_in layout old r
   pub seen_is : without_headers layout new ≡ seen
 
--- A heap in a memory with these fronts, whose queue and lists are these.
-pub record IsKeptBy (heap : Heap) (memory : List Granule) (front : ℕ) (fronts queue : List ℕ) (lists : List (List ℕ)) : Type 0 where
-  pub sound : IsSoundHeap heap
-  pub seen : without_headers heap.layout memory ≡ heap.memory
-  pub headers : HasHeaders heap memory
-  pub linked : AreLinked (next_in heap.layout memory) front fronts queue lists
-  pub booked : IsBooked heap queue lists
+-- ---- headers
 
--- The headers while the quarantine may hold more than its limit: those of its slots still say so, and all others are the heap's.
-pub record HasHeadersBut (heap : Heap) (memory : List Granule) (queue : List ℕ) : Type 0 where
-  pub queued : (s : ℕ) → IsSlot heap s → Contains queue s →
-      header_in heap.layout memory s ≡ record (header_for heap s (next_in heap.layout memory s)) { standing = Quarantined }
-  pub others : (s : ℕ) → IsSlot heap s → (Contains queue s → ⊥) →
-      header_in heap.layout memory s ≡ header_for heap s (next_in heap.layout memory s)
+-- how a slot stands in a state, where of the freed slots those with a mark of `from` or more are in the quarantine
+abbrev pub standing_from : ℕ → State → Standing
+standing_from from NeverGiven = Fresh
+standing_from from (Given size tag) = Live
+standing_from from (Dead size tag mark) = if nat_lt mark from then Freed else Quarantined
+
+-- the header of slot s in that state
+abbrev pub header_from : Partition → ℕ → ℕ → State → ℕ → Header
+header_from layout from s state next = record {
+  standing = standing_from from state;
+  size = size_of state;
+  tag = last_tag state;
+  class = class_number layout s;
+  next = next;
+  mark = mark_of state;
+}
+
+-- Each header shows its slot's state, and the links of slots that are not dead are 0.
+pub record HasHeaders (heap : Heap) (memory : List Granule) (from : ℕ) : Type 0 where
+  pub headers : (s : ℕ) → IsSlot heap s →
+      header_in heap.layout memory s ≡ header_from heap.layout from s (state_at heap s) (next_in heap.layout memory s)
   pub unlinked : (s : ℕ) → IsSlot heap s → IsFalse (is_dead (state_at heap s)) → next_in heap.layout memory s ≡ 0
 
--- A heap that is kept so while slots are released.
-pub record IsReleasing (heap : Heap) (memory : List Granule) (front : ℕ) (fronts queue : List ℕ) (lists : List (List ℕ)) : Type 0 where
-  pub sound : IsSoundHeap heap
-  pub seen : without_headers heap.layout memory ≡ heap.memory
-  pub headers : HasHeadersBut heap memory queue
-  pub linked : AreLinked (next_in heap.layout memory) front fronts queue lists
+-- ---- lists
+
+-- From each class's front the links show its list.
+pub record AreListed (next : ℕ → ℕ) (fronts : List ℕ) (lists : List (List ℕ)) : Type 0 where
+  pub long : length fronts ≡ length lists
+  pub linked : (number : ℕ) → number < length lists → IsLinked next (slice_index fronts number) (list_of lists number)
+
+-- ---- the heap
+
+-- The parts of a heap that change while slots are released from its quarantine.
+pub record Parts : Type 0 where
+  pub memory : List Granule
+  pub quarantine : Queue
+  pub fronts : List ℕ
+
+-- A heap's state in headers, links and fronts. The queue has the dead slots from a mark on, and the lists have the others.
+-- This holds at rest, and while slots are released, when the queue may have more bytes than the limit.
+pub record IsKept (heap : Heap) (parts : Parts) : Type 0 where
   pub from : ℕ
+  pub queue : List ℕ
+  pub lists : List (List ℕ)
+  pub sound : IsSoundHeap heap
+  pub memory_is : IsMemory parts.memory
+  pub seen : without_headers heap.layout parts.memory ≡ heap.memory
+  pub headers : HasHeaders heap parts.memory from
+  pub queued : AreQueued parts.quarantine heap.layout parts.memory queue
+  pub listed : AreListed (next_in heap.layout parts.memory) parts.fronts lists
   pub booked : IsBookedFrom heap from queue lists
+  pub limit : parts.quarantine.limit ≡ heap.quarantine
+
+-- some heap of this layout is kept so
+abbrev pub SomeIsKept : Partition → Parts → Type 0
+SomeIsKept layout parts = (heap : Heap) × IsKept (record heap { layout = layout }) parts
 
 -- For each class a number of a slot: those slots of the class that are below it were given out, and the others never.
 pub record AreFirstFresh (heap : Heap) (firsts : List ℕ) : Type 0 where
   pub long : length firsts ≡ length heap.layout.classes
   pub from : (number : ℕ) → number < length firsts → first_slot heap.layout number ≤ slice_index firsts number
   pub to : (number : ℕ) → number < length firsts → slice_index firsts number ≤ first_slot heap.layout (number + 1)
-  pub given : (number s : ℕ) → number < length firsts → IsSlot heap s → (slot_in heap s).class ≡ slice_index heap.layout.classes number →
-      s < slice_index firsts number → IsFalse (is_fresh (state_at heap s))
-  pub fresh : (number s : ℕ) → number < length firsts → IsSlot heap s → (slot_in heap s).class ≡ slice_index heap.layout.classes number →
-      slice_index firsts number ≤ s → IsTrue (is_fresh (state_at heap s))
+  pub given : (number s : ℕ) → number < length firsts → IsSlot heap s →
+      (slot_in heap s).class ≡ slice_index heap.layout.classes number → s < slice_index firsts number → IsFalse (is_fresh (state_at heap s))
+  pub fresh : (number s : ℕ) → number < length firsts → IsSlot heap s →
+      (slot_in heap s).class ≡ slice_index heap.layout.classes number → slice_index firsts number ≤ s → IsTrue (is_fresh (state_at heap s))

@@ -3,6 +3,7 @@ ghost use Rattle.class_table.specs.Sizes.{largest_counted};
 ghost use Rattle.heap_theory.specs.Calls.{calloc_step, given_out, malloc_step, with_payload};
 ghost use Rattle.class_table.specs.Tables.{class_number_for};
 ghost use Rattle.heap_theory.specs.Choice.{slot_for_request};
+ghost use Rattle.heap_theory.specs.Sound.{IsSoundHeap};
 ghost use Rattle.heap_theory.specs.State.{chunk_granules, pointer_to, slot_in, IsSlot};
 ghost use Rattle.tagged_heap.specs.Chunks.{IsCauseFor};
 ghost use Rattle.std.specs.Result.{result_map_both};
@@ -41,6 +42,7 @@ impl Heap {
     ///
     /// Errors, after which nothing has changed: `Large` if `n` is above 16,368; otherwise `NoClass` if no class serves it; otherwise
     /// `Exhausted` if its class has no slot left.
+    #[tactic(auto, unfolding(heap_theory::specs::Calls::malloc_step))]
     pub fn malloc(&mut self, n: u32) -> Result<u64, NullCause>
         ensures answer { result ≡ (malloc_step self.old.state n).answer }
         ensures state { self.new.state ≡ (malloc_step self.old.state n).heap }
@@ -52,13 +54,13 @@ impl Heap {
     }
 
     /// As `malloc`, with all bytes of the chunk's granules set to 0.
+    #[tactic(auto, unfolding(heap_theory::specs::Calls::calloc_step, heap_theory::specs::Calls::given_out))]
     pub fn calloc(&mut self, n: u32) -> Result<u64, NullCause>
         ensures answer { result ≡ (calloc_step self.old.state n).answer }
         ensures state { self.new.state ≡ (calloc_step self.old.state n).heap }
         ensures frees { self.new.frees ≡ self.old.frees }
         ensures refused { OnErr result (self.new ≡ self.old) }
     {
-        self.law_sound();
         let given = self.allocate(n)?;
         self.zero_chunk(given.slot, n);
         Ok(given.address)
@@ -74,6 +76,7 @@ impl Heap {
             (λ given. self.new ≡ record self.old { state = given_out self.old.state given.slot n }) }
         ensures refused { OnErr result (self.new ≡ self.old) }
         ensures in_range { IfOk result (λ given. IsSlot self.old.state given.slot) }
+        ensures sound { IsSoundHeap self.old.state }
     {
         let class = class_for(&self.layout, n)?;
         let memory = self.machine.memory_mut();

@@ -4,13 +4,13 @@ ghost use Rattle.heap_theory.specs.Calls.{free_step, freed};
 ghost use Rattle.heap_theory.specs.Choice.{chunk_at};
 ghost use Rattle.heap_theory.specs.Header.Standing.{Freed};
 ghost use Rattle.heap_theory.specs.OwnPointers.{IsNullOrOwn};
+ghost use Rattle.heap_theory.specs.Sound.{IsSoundHeap};
 ghost use Rattle.heap_theory.specs.State.{state_at, without_headers, Heap as TheHeap, IsSlot};
 ghost use Rattle.heap_theory.specs.State.State.{Live};
 ghost use Rattle.machine_theory.specs.Memory.{IsMemory};
 ghost use Rattle.std.specs.Prelude.{◌≡◌, ◌≢◌, ◌↔◌, ◌+◌, ◌^◌, ◌<◌, ◌≤◌, length, slice_index, slice_set, IfErr, IfOk, Ok, OnErr, OnOk, ℕ};
 ghost use Rattle.tagged_heap.specs.Chunks.{IsListed};
-ghost use Rattle.tagged_heap.specs.Representation.{header_in, IsRewritten};
-ghost use Rattle.tagged_heap.specs.HeapView.{AreLettingGo, IsLettingGo};
+ghost use Rattle.tagged_heap.specs.Representation.{header_in, IsKept, IsRewritten, SomeIsKept};
 
 use crate::chunks::retire;
 use crate::headers::header;
@@ -39,6 +39,7 @@ impl Heap {
     /// Errors, after which nothing has changed: `Misplaced` if `p` is not the address of a slot's first payload byte; otherwise `NotLive`
     /// if no chunk is live in the slot; otherwise `WrongTag` if the live chunk has another tag than `p`. So `free` accepts exactly null and
     /// the pointers that were given out for live chunks.
+    #[tactic(auto, unfolding(heap_theory::specs::Calls::free_step))]
     pub fn free(&mut self, p: u64) -> Result<(), FreeError>
         requires few { self.old.frees < 2 ^ 48 }
         ensures answer { result ≡ (free_step self.old.state p).answer }
@@ -48,7 +49,6 @@ impl Heap {
         ensures refused { OnErr result (self.new ≡ self.old) }
         ensures accepted { (result ≡ Ok tt) ↔ IsNullOrOwn self.old.state p }
     {
-        self.law_sound();
         if p == 0 {
             return Ok(());
         }
@@ -62,6 +62,7 @@ impl Heap {
         ensures ok { IfOk result
             (λ chunk. chunk_at self.now.state p ≡ Ok (record { slot = chunk.slot; size = chunk.size })) }
         ensures err { IfErr result (λ error. chunk_at self.now.state p ≡ Err error) }
+        ensures sound { IsSoundHeap self.now.state }
     {
         let slot = slot_of_pointer(&self.layout, p).ok_or(FreeError::Misplaced)?;
         let start = start_at(&self.layout, slot, p);
@@ -106,9 +107,12 @@ impl Heap {
 
 // Releases the oldest slots of the quarantine to their classes' lists while it holds more than its limit.
 fn let_go(memory: &mut Memory, layout: &Layout, quarantine: &mut Quarantine, lists: &mut ClassLists)
-    requires kept { AreLettingGo layout.now memory.old quarantine.old lists.old }
-    ensures kept { (heap : TheHeap) → heap.layout ≡ layout.now → IsLettingGo heap memory.old quarantine.old lists.old →
-        IsLettingGo heap memory.new quarantine.new lists.new }
+    requires kept { SomeIsKept layout.now
+        (record { memory = memory.old; quarantine = quarantine.old; fronts = lists.old }) }
+    ensures kept { (heap : TheHeap) →
+        let same = record heap { layout = layout.now } in
+        IsKept same (record { memory = memory.old; quarantine = quarantine.old; fronts = lists.old }) →
+        IsKept same (record { memory = memory.new; quarantine = quarantine.new; fronts = lists.new }) }
     ensures held { quarantine.new.held ≤ quarantine.new.limit }
 {
     while let Some(slot) = quarantine.next_out(memory, layout) {

@@ -26,6 +26,7 @@ impl Heap {
     }
 
     /// No granule of a chunk has tag 0. A chunk of a slot with an even number and one of a slot with an odd number never have the same tag.
+    #[tactic(auto, using(crate::proofs::TagsOfChunks::chunks_tagged, crate::proofs::TagsOfChunks::parities_differ))]
     pub fn law_tags(&self)
         ensures tagged { ChunksAreTagged self.now.state }
         ensures differ { ParitiesDiffer self.now.state }

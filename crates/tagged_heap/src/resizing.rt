@@ -24,6 +24,7 @@ impl Heap {
     /// Errors, after which nothing has changed: `Refused` if `free` would refuse `p`; otherwise `Null` with `Large` or `NoClass` if `n` has
     /// no class; otherwise `Null` with `Exhausted` if the chunk has to move and the other class has no slot left. So `realloc` accepts
     /// exactly null and the pointers that were given out for live chunks.
+    #[tactic(auto, unfolding(heap_theory::specs::Calls::realloc_step, crate::specs::Frees::frees_of_realloc))]
     pub fn realloc(&mut self, p: u64, n: u32) -> Result<u64, ReallocError>
         requires few { self.old.frees < 2 ^ 48 }
         ensures answer { result ≡ (realloc_step self.old.state p n).answer }
@@ -33,7 +34,6 @@ impl Heap {
         ensures refused { OnErr result (self.new ≡ self.old) }
         ensures accepted { IsNotRefused result ↔ IsNullOrOwn self.old.state p }
     {
-        self.law_sound();
         if p == 0 {
             return self.malloc(n).map_err(ReallocError::Null);
         }
@@ -46,6 +46,7 @@ impl Heap {
     }
 
     // Moves the chunk of a live slot to the slot for a request of n bytes, or says why there is none; the answer is its address then.
+    #[tactic(auto, unfolding(heap_theory::specs::Calls::given_out, heap_theory::specs::Calls::with_payload))]
     fn move_chunk(&mut self, chunk: Chunk, n: u32) -> Result<u64, NullCause>
         requires slot { IsSlot self.old.state chunk.slot }
         requires live { (tag : ℕ) × (state_at self.old.state chunk.slot ≡ Live chunk.size tag) }
@@ -59,7 +60,6 @@ impl Heap {
         ensures err { IfErr result (λ cause. slot_for_request self.old.state n ≡ Err cause) }
         ensures refused { OnErr result (self.new ≡ self.old) }
     {
-        self.law_sound();
         let given = self.allocate(n)?;
         self.copy_payload(chunk.slot, given.slot, chunk.size.min(n));
         self.release(chunk.slot);

@@ -6,6 +6,7 @@ use Rattle.std.specs.List.{list_all}
 use Rattle.std.proofs.lemmas.Bool.{le-leb, le-ltb, leb-true}
 use Rattle.std.proofs.lemmas.Fmt.{decimal_nonempty, length-decimal-le}
 use Rattle.std.proofs.lemmas.List.Elements.{All-nil, All-cons}
+use Rattle.line_text.proofs.LawLemmas.{spelled_hex_is_a_word, spelled_hex_is_read, spelled_number_is_a_word, spelled_number_is_read, spelled_signed_is_a_word, spelled_signed_is_read, words_make_a_line, written_words_are_read}
 use Rattle.line_text.specs.Hexadecimal.{hex}
 use Rattle.line_text.specs.Lines.{words, line_of, is_newline, is_space, IsLine, IsWord}
 use Rattle.heap_theory.specs.declared.event.Event.{Event}
@@ -13,7 +14,6 @@ use Rattle.heap_theory.specs.declared.event.Event.TheVariants.{Malloc, Calloc, R
 use Rattle.heap_theory.specs.Ranges.{IsInRange}
 use Rattle.trace_reader.specs.TraceLine.{number_from, offset_of, byte_of, event_line, event_of_words, event_of_line, event_words, move_words, request_words}
 use Rattle.trace_reader.proofs.LineRanges.{both_pass}
-use Rattle.trace_reader.specs.SpellingLaws.{SpellingLaws}
 use Rattle.trace_reader.proofs.Offsets.{fits_signed}
 
 -- ---- words
@@ -42,31 +42,35 @@ no_word = record { lines = All-nil _; words = All-nil _ }
 one_word_more : {ws : List (List ℕ)} (word : List ℕ) → IsText word → AreTexts ws → AreTexts (word ∷ ws)
 one_word_more {ws} word text others = record { lines = All-cons IsLine word ws text.0 others.lines; words = All-cons IsWord word ws text.1 others.words }
 
-number_word : {ws : List (List ℕ)} → SpellingLaws → (n : ℕ) → n < 2 ^ 64 → AreTexts ws → AreTexts (decimal n ∷ ws)
-number_word laws n small others = one_word_more (decimal n) (laws.text.word n small) others
+number_word : {ws : List (List ℕ)} → (n : ℕ) → n < 2 ^ 64 → AreTexts ws → AreTexts (decimal n ∷ ws)
+number_word n small others = one_word_more (decimal n) (spelled_number_is_a_word n small) others
 
-request_texts : SpellingLaws → (name : List ℕ) (v n : ℕ) → IsText name → v ≤ 1023 → n ≤ 2147483647 → AreTexts (request_words name v n)
-request_texts laws name v n text v_in n_in = one_word_more name text (number_word laws v (omega (arith, v_in)) (number_word laws n (omega (arith, n_in)) no_word))
+request_texts : (name : List ℕ) (v n : ℕ) → IsText name → v ≤ 1023 → n ≤ 2147483647 → AreTexts (request_words name v n)
+request_texts name v n text v_in n_in =
+    one_word_more name text (number_word v (omega (arith, v_in)) (number_word n (omega (arith, n_in)) no_word))
 
-move_texts : SpellingLaws → (name : List ℕ) (v w u6 u4 : ℕ) → IsText name → v ≤ 1023 → w ≤ 1023 → u6 ≤ 63 → u4 ≤ 15 → AreTexts (move_words name v w u6 u4)
-move_texts laws name v w u6 u4 text v_in w_in u6_in u4_in =
+move_texts : (name : List ℕ) (v w u6 u4 : ℕ) → IsText name → v ≤ 1023 → w ≤ 1023 → u6 ≤ 63 → u4 ≤ 15 → AreTexts (move_words name v w u6 u4)
+move_texts name v w u6 u4 text v_in w_in u6_in u4_in =
     one_word_more name text
-    (number_word laws v (omega (arith, v_in)) (number_word laws w (omega (arith, w_in)) (number_word laws u6 (omega (arith, u6_in)) (number_word laws u4 (omega (arith, u4_in)) no_word))))
+    (number_word v (omega (arith, v_in)) (number_word w (omega (arith, w_in))
+    (number_word u6 (omega (arith, u6_in)) (number_word u4 (omega (arith, u4_in)) no_word))))
 
-event_texts : SpellingLaws → (event : Event) → IsInRange event → AreTexts (event_words event)
-event_texts laws (Malloc v n) is = request_texts laws (codes "malloc") v n (letters (codes "malloc") refl) is.0 is.1
-event_texts laws (Calloc v n) is = request_texts laws (codes "calloc") v n (letters (codes "calloc") refl) is.0 is.1
-event_texts laws (Realloc v n) is = request_texts laws (codes "realloc") v n (letters (codes "realloc") refl) is.0 is.1
-event_texts laws (Free v) is = one_word_more (codes "free") (letters (codes "free") refl) (number_word laws v (omega (arith, is)) no_word)
-event_texts laws (Load v off len) is =
+event_texts : (event : Event) → IsInRange event → AreTexts (event_words event)
+event_texts (Malloc v n) is = request_texts (codes "malloc") v n (letters (codes "malloc") refl) is.0 is.1
+event_texts (Calloc v n) is = request_texts (codes "calloc") v n (letters (codes "calloc") refl) is.0 is.1
+event_texts (Realloc v n) is = request_texts (codes "realloc") v n (letters (codes "realloc") refl) is.0 is.1
+event_texts (Free v) is = one_word_more (codes "free") (letters (codes "free") refl) (number_word v (omega (arith, is)) no_word)
+event_texts (Load v off len) is =
     one_word_more (codes "load") (letters (codes "load") refl)
-    (number_word laws v (omega (arith, is.0)) (one_word_more (signed_decimal off) (laws.signed_word off (fits_signed off is.1)) (number_word laws len (omega (arith, is.3)) no_word)))
-event_texts laws (Store v off len byte) is =
+    (number_word v (omega (arith, is.0)) (one_word_more (signed_decimal off) (spelled_signed_is_a_word off (fits_signed off is.1))
+    (number_word len (omega (arith, is.3)) no_word)))
+event_texts (Store v off len byte) is =
     one_word_more (codes "store") (letters (codes "store") refl)
-    (number_word laws v (omega (arith, is.0.0))
-    (one_word_more (signed_decimal off) (laws.signed_word off (fits_signed off is.0.1)) (number_word laws len (omega (arith, is.0.3)) (one_word_more (hex byte) (laws.hex_word byte is.1) no_word))))
-event_texts laws (Addg v w u6 u4) is = move_texts laws (codes "addg") v w u6 u4 (letters (codes "addg") refl) is.0 is.1 is.2 is.3
-event_texts laws (Subg v w u6 u4) is = move_texts laws (codes "subg") v w u6 u4 (letters (codes "subg") refl) is.0 is.1 is.2 is.3
+    (number_word v (omega (arith, is.0.0))
+    (one_word_more (signed_decimal off) (spelled_signed_is_a_word off (fits_signed off is.0.1))
+    (number_word len (omega (arith, is.0.3)) (one_word_more (hex byte) (spelled_hex_is_a_word byte is.1) no_word))))
+event_texts (Addg v w u6 u4) is = move_texts (codes "addg") v w u6 u4 (letters (codes "addg") refl) is.0 is.1 is.2 is.3
+event_texts (Subg v w u6 u4) is = move_texts (codes "subg") v w u6 u4 (letters (codes "subg") refl) is.0 is.1 is.2 is.3
 
 -- ---- what the words say
 
@@ -77,70 +81,74 @@ full_offset : (z : ℤ) → nat_abs z ≤ 1048576 → eqb (length (signed_decima
 full_offset (pos n) near = full_number n (omega (arith, near))
 full_offset (negsuc n) near = ne_eqb (length (signed_decimal (negsuc n))) 0 (λ none. omega (arith, none))
 
-number_read : SpellingLaws → (low high n : ℕ) → low ≤ n → n ≤ high → high < 2 ^ 64 → number_from low high (decimal n) ≡ Ok n
-number_read laws low high n above below small = rw (laws.text.read n (omega (arith, below, small)), le-leb low n above, le-leb n high below) refl
+number_read : (low high n : ℕ) → low ≤ n → n ≤ high → high < 2 ^ 64 → number_from low high (decimal n) ≡ Ok n
+number_read low high n above below small =
+    rw (spelled_number_is_read n (omega (arith, below, small)), le-leb low n above, le-leb n high below) refl
 
-variable_read : SpellingLaws → (v : ℕ) → v ≤ 1023 → number_from 0 1023 (decimal v) ≡ Ok v
-variable_read laws v v_in = number_read laws 0 1023 v (omega arith) (omega (arith, v_in)) (omega arith)
+variable_read : (v : ℕ) → v ≤ 1023 → number_from 0 1023 (decimal v) ≡ Ok v
+variable_read v v_in = number_read 0 1023 v (omega arith) (omega (arith, v_in)) (omega arith)
 
-size_read : SpellingLaws → (n : ℕ) → n ≤ 2147483647 → number_from 0 2147483647 (decimal n) ≡ Ok n
-size_read laws n n_in = number_read laws 0 2147483647 n (omega arith) (omega (arith, n_in)) (omega arith)
+size_read : (n : ℕ) → n ≤ 2147483647 → number_from 0 2147483647 (decimal n) ≡ Ok n
+size_read n n_in = number_read 0 2147483647 n (omega arith) (omega (arith, n_in)) (omega arith)
 
-offset_read : SpellingLaws → (z : ℤ) → nat_abs z ≤ 1048576 → offset_of (signed_decimal z) ≡ Ok z
-offset_read laws z near = rw (laws.signed_read z (fits_signed z near), le-leb (nat_abs z) 1048576 near) refl
+offset_read : (z : ℤ) → nat_abs z ≤ 1048576 → offset_of (signed_decimal z) ≡ Ok z
+offset_read z near = rw (spelled_signed_is_read z (fits_signed z near), le-leb (nat_abs z) 1048576 near) refl
 
-byte_read : SpellingLaws → (n : ℕ) → n < 2 ^ 8 → byte_of (hex n) ≡ Ok n
-byte_read laws n small = rw (laws.hex_read n small) refl
+byte_read : (n : ℕ) → n < 2 ^ 8 → byte_of (hex n) ≡ Ok n
+byte_read n small = rw (spelled_hex_is_read n small) refl
 
-event_read : SpellingLaws → (event : Event) → IsInRange event → event_of_words (event_words event) ≡ Ok event
+event_read : (event : Event) → IsInRange event → event_of_words (event_words event) ≡ Ok event
 unfolding event_of_words
-event_read laws (Malloc v n) is = rw (full_number v (omega (arith, is.0)), full_number n (omega (arith, is.1)), variable_read laws v is.0, size_read laws n is.1) refl
-event_read laws (Calloc v n) is = rw (full_number v (omega (arith, is.0)), full_number n (omega (arith, is.1)), variable_read laws v is.0, size_read laws n is.1) refl
-event_read laws (Realloc v n) is = rw (full_number v (omega (arith, is.0)), full_number n (omega (arith, is.1)), variable_read laws v is.0, size_read laws n is.1) refl
-event_read laws (Free v) is = rw (full_number v (omega (arith, is)), variable_read laws v is) refl
-event_read laws (Load v off len) is =
+event_read (Malloc v n) is =
+    rw (full_number v (omega (arith, is.0)), full_number n (omega (arith, is.1)), variable_read v is.0, size_read n is.1) refl
+event_read (Calloc v n) is =
+    rw (full_number v (omega (arith, is.0)), full_number n (omega (arith, is.1)), variable_read v is.0, size_read n is.1) refl
+event_read (Realloc v n) is =
+    rw (full_number v (omega (arith, is.0)), full_number n (omega (arith, is.1)), variable_read v is.0, size_read n is.1) refl
+event_read (Free v) is = rw (full_number v (omega (arith, is)), variable_read v is) refl
+event_read (Load v off len) is =
     rw (
       full_number v (omega (arith, is.0)),
       full_offset off is.1,
       full_number len (omega (arith, is.3)),
-      variable_read laws v is.0,
-      offset_read laws off is.1,
-      number_read laws 1 64 len is.2 is.3 (omega arith),
+      variable_read v is.0,
+      offset_read off is.1,
+      number_read 1 64 len is.2 is.3 (omega arith),
     )
     refl
-event_read laws (Store v off len byte) is =
+event_read (Store v off len byte) is =
     rw (
       full_number v (omega (arith, is.0.0)),
       full_offset off is.0.1,
       full_number len (omega (arith, is.0.3)),
-      variable_read laws v is.0.0,
-      offset_read laws off is.0.1,
-      number_read laws 1 64 len is.0.2 is.0.3 (omega arith),
-      byte_read laws byte is.1,
+      variable_read v is.0.0,
+      offset_read off is.0.1,
+      number_read 1 64 len is.0.2 is.0.3 (omega arith),
+      byte_read byte is.1,
     )
     refl
-event_read laws (Addg v w u6 u4) is =
+event_read (Addg v w u6 u4) is =
     rw (
       full_number v (omega (arith, is.0)),
       full_number w (omega (arith, is.1)),
       full_number u6 (omega (arith, is.2)),
       full_number u4 (omega (arith, is.3)),
-      variable_read laws v is.0,
-      variable_read laws w is.1,
-      number_read laws 0 63 u6 (omega arith) is.2 (omega arith),
-      number_read laws 0 15 u4 (omega arith) is.3 (omega arith),
+      variable_read v is.0,
+      variable_read w is.1,
+      number_read 0 63 u6 (omega arith) is.2 (omega arith),
+      number_read 0 15 u4 (omega arith) is.3 (omega arith),
     )
     refl
-event_read laws (Subg v w u6 u4) is =
+event_read (Subg v w u6 u4) is =
     rw (
       full_number v (omega (arith, is.0)),
       full_number w (omega (arith, is.1)),
       full_number u6 (omega (arith, is.2)),
       full_number u4 (omega (arith, is.3)),
-      variable_read laws v is.0,
-      variable_read laws w is.1,
-      number_read laws 0 63 u6 (omega arith) is.2 (omega arith),
-      number_read laws 0 15 u4 (omega arith) is.3 (omega arith),
+      variable_read v is.0,
+      variable_read w is.1,
+      number_read 0 63 u6 (omega arith) is.2 (omega arith),
+      number_read 0 15 u4 (omega arith) is.3 (omega arith),
     )
     refl
 
@@ -198,12 +206,12 @@ event_line-some (Store v off len byte) = omega arith
 event_line-some (Addg v w u6 u4) = omega arith
 event_line-some (Subg v w u6 u4) = omega arith
 
-pub event_line-is_line : SpellingLaws → (event : Event) → IsInRange event → IsLine (event_line event)
-event_line-is_line laws event is = laws.text.makes_line (event_words event) (event_texts laws event is).lines
+pub event_line-is_line : (event : Event) → IsInRange event → IsLine (event_line event)
+event_line-is_line event is = words_make_a_line (event_words event) (event_texts event is).lines
 
-words_of_line : SpellingLaws → (ws : List (List ℕ)) → 0 < length ws → All IsWord ws → words (line_of ws) ≡ ws
-words_of_line laws [] some all = absurd (omega arith)
-words_of_line laws (w ∷ ws) some all = laws.text.written_words w ws all
+words_of_line : (ws : List (List ℕ)) → 0 < length ws → All IsWord ws → words (line_of ws) ≡ ws
+words_of_line [] some all = absurd (omega arith)
+words_of_line (w ∷ ws) some all = written_words_are_read w ws all
 
 some_words : (event : Event) → 0 < length (event_words event)
 some_words (Malloc v n) = omega arith
@@ -215,8 +223,10 @@ some_words (Store v off len byte) = omega arith
 some_words (Addg v w u6 u4) = omega arith
 some_words (Subg v w u6 u4) = omega arith
 
-pub event_of_line-spelled : SpellingLaws → (number : ℕ) (event : Event) → number ≤ 1000000 → IsInRange event → event_of_line number (event_line event) ≡ Ok event
+pub event_of_line-spelled : (number : ℕ) (event : Event) → number ≤ 1000000 → IsInRange event
+    → event_of_line number (event_line event) ≡ Ok event
 unfolding event_of_line
-event_of_line-spelled laws number event few is =
-    let read = ap event_of_words (words_of_line laws (event_words event) (some_words event) (event_texts laws event is).words) ∙ event_read laws event is in
+event_of_line-spelled number event few is =
+    let read =
+    ap event_of_words (words_of_line (event_words event) (some_words event) (event_texts event is).words) ∙ event_read event is in
     rw (le-ltb 80 (length (event_line event)) (event_len event is), le-ltb 1000000 number few) read

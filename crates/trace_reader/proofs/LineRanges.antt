@@ -1,4 +1,5 @@
 -- The event of a line is in its ranges, and the line's number is not above the most events.
+use Rattle.line_text.proofs.LawLemmas.{hex_is_a_byte}
 use Rattle.line_text.specs.FirstFault.{◌>>=◌}
 use Rattle.trace_reader.specs.TraceText.{trace_from, trace_of, with_line}
 use Rattle.std.proofs.Common.{◌≡◌, ℕ, ◌<◌, ◌≤◌, Bool, true, false, cond, ◌&&◌, leb, ltb, List, [], ◌∷◌, length, Option, Some, None, Result, Ok, Err, IfOk, ◌^◌, refl, arith, nat_abs, suc, ◌+◌}
@@ -6,7 +7,6 @@ use Rattle.std.specs.Str.{bytes_eq}
 use Rattle.std.specs.Prelude.{codes}
 use Rattle.std.specs.List.{list_any}
 use Rattle.std.proofs.lemmas.Bool.{leb-true, ltb-false}
-use Rattle.line_text.specs.Laws.{HexIsAByte}
 use Rattle.line_text.specs.Lines.{words, lines}
 use Rattle.line_text.specs.Numbers.{number_of}
 use Rattle.line_text.specs.Signed.{signed_of}
@@ -47,12 +47,12 @@ pub IfOk-and_then : {A B : Type 0} (P : A → Type 0) (Q : B → Type 0) (r : Re
 IfOk-and_then P Q (Ok x) f holds more = more x holds
 IfOk-and_then P Q (Err fault) f holds more = tt
 
-IfOk-byte_of : HexIsAByte → (word : List ℕ) → IfOk (byte_of word) (λ n. n < 2 ^ 8)
-IfOk-byte_of law word = go (hex_of word) refl
+IfOk-byte_of : (word : List ℕ) → IfOk (byte_of word) (λ n. n < 2 ^ 8)
+IfOk-byte_of word = go (hex_of word) refl
   where
     go : (o : Option ℕ) → hex_of word ≡ o → IfOk (ranged (λ n. true) o) (λ n. n < 2 ^ 8)
     go None is = tt
-    go (Some n) is = law word n is
+    go (Some n) is = hex_is_a_byte word n is
 
 -- ---- the words after a name
 
@@ -77,17 +77,18 @@ IfOk-load_of (v ∷ off ∷ len ∷ []) =
     (λ v v_in. IfOk-and_then _ IsInRange (offset_of off) _ (IfOk-offset_of off) (λ off off_in. IfOk-and_then _ IsInRange (len_of len) _ (IfOk-number_from 1 64 len) (λ len len_in. (omega (arith, v_in.1), off_in, len_in.0, len_in.1))))
 IfOk-load_of (v ∷ off ∷ len ∷ other ∷ ws) = tt
 
-IfOk-store_of : HexIsAByte → (ws : List (List ℕ)) → IfOk (store_of ws) IsInRange
-IfOk-store_of law [] = tt
-IfOk-store_of law (v ∷ []) = tt
-IfOk-store_of law (v ∷ off ∷ []) = tt
-IfOk-store_of law (v ∷ off ∷ len ∷ []) = tt
-IfOk-store_of law (v ∷ off ∷ len ∷ byte ∷ []) =
+IfOk-store_of : (ws : List (List ℕ)) → IfOk (store_of ws) IsInRange
+IfOk-store_of [] = tt
+IfOk-store_of (v ∷ []) = tt
+IfOk-store_of (v ∷ off ∷ []) = tt
+IfOk-store_of (v ∷ off ∷ len ∷ []) = tt
+IfOk-store_of (v ∷ off ∷ len ∷ byte ∷ []) =
     IfOk-and_then _ IsInRange (variable_of v) _ (IfOk-number_from 0 1023 v)
     (λ v v_in. IfOk-and_then _ IsInRange (offset_of off) _ (IfOk-offset_of off)
     (λ off off_in. IfOk-and_then _ IsInRange (len_of len) _ (IfOk-number_from 1 64 len)
-    (λ len len_in. IfOk-and_then _ IsInRange (byte_of byte) _ (IfOk-byte_of law byte) (λ byte byte_in. ((omega (arith, v_in.1), off_in, len_in.0, len_in.1), byte_in)))))
-IfOk-store_of law (v ∷ off ∷ len ∷ byte ∷ other ∷ ws) = tt
+    (λ len len_in. IfOk-and_then _ IsInRange (byte_of byte) _ (IfOk-byte_of byte)
+    (λ byte byte_in. ((omega (arith, v_in.1), off_in, len_in.0, len_in.1), byte_in)))))
+IfOk-store_of (v ∷ off ∷ len ∷ byte ∷ other ∷ ws) = tt
 
 IfOk-move_of : (event : ℕ → ℕ → ℕ → ℕ → Event) → ((v w u6 u4 : ℕ) → v ≤ 1023 → w ≤ 1023 → u6 ≤ 63 → u4 ≤ 15 → IsInRange (event v w u6 u4))
     → (ws : List (List ℕ)) → IfOk (move_of event ws) IsInRange
@@ -108,29 +109,30 @@ IfOk-either : (v : Bool) (a b : Result Event TraceFault) → IfOk a IsInRange �
 IfOk-either true a b x y = x
 IfOk-either false a b x y = y
 
-pub IfOk-event_named : HexIsAByte → (name : List ℕ) (ws : List (List ℕ)) → IfOk (event_named name ws) IsInRange
-IfOk-event_named law name ws =
+pub IfOk-event_named : (name : List ℕ) (ws : List (List ℕ)) → IfOk (event_named name ws) IsInRange
+IfOk-event_named name ws =
     IfOk-either (bytes_eq name (codes "malloc")) (request_of Malloc ws) _ (IfOk-request_of Malloc (λ v n a b. (a, b)) ws)
     (IfOk-either (bytes_eq name (codes "calloc")) (request_of Calloc ws) _ (IfOk-request_of Calloc (λ v n a b. (a, b)) ws)
     (IfOk-either (bytes_eq name (codes "realloc")) (request_of Realloc ws) _ (IfOk-request_of Realloc (λ v n a b. (a, b)) ws)
     (IfOk-either (bytes_eq name (codes "free")) (free_of ws) _ (IfOk-free_of ws)
     (IfOk-either (bytes_eq name (codes "load")) (load_of ws) _ (IfOk-load_of ws)
-    (IfOk-either (bytes_eq name (codes "store")) (store_of ws) _ (IfOk-store_of law ws)
+    (IfOk-either (bytes_eq name (codes "store")) (store_of ws) _ (IfOk-store_of ws)
     (IfOk-either (bytes_eq name (codes "addg")) (move_of Addg ws) _ (IfOk-move_of Addg (λ v w u6 u4 a b c d. (a, b, c, d)) ws)
     (IfOk-either (bytes_eq name (codes "subg")) (move_of Subg ws) (Err BadWord) (IfOk-move_of Subg (λ v w u6 u4 a b c d. (a, b, c, d)) ws) tt)))))))
 
-IfOk-event_of_words : HexIsAByte → (ws : List (List ℕ)) → IfOk (event_of_words ws) IsInRange
+IfOk-event_of_words : (ws : List (List ℕ)) → IfOk (event_of_words ws) IsInRange
 unfolding event_of_words
-IfOk-event_of_words law ws = IfOk-either (list_any is_empty_word ws) (Err BadWord) (event_of_full_words ws) tt (full ws)
+IfOk-event_of_words ws = IfOk-either (list_any is_empty_word ws) (Err BadWord) (event_of_full_words ws) tt (full ws)
   where
     full : (ws : List (List ℕ)) → IfOk (event_of_full_words ws) IsInRange
     full [] = tt
-    full (name ∷ ws) = IfOk-event_named law name ws
+    full (name ∷ ws) = IfOk-event_named name ws
 
-pub IfOk-event_of_line : HexIsAByte → (number : ℕ) (line : List ℕ) → IfOk (event_of_line number line) IsInRange
+pub IfOk-event_of_line : (number : ℕ) (line : List ℕ) → IfOk (event_of_line number line) IsInRange
 unfolding event_of_line
-IfOk-event_of_line law number line =
-    IfOk-either (ltb 80 (length line)) (Err LineTooLong) _ tt (IfOk-either (ltb 1000000 number) (Err TooManyEvents) (event_of_words (words line)) tt (IfOk-event_of_words law (words line)))
+IfOk-event_of_line number line =
+    IfOk-either (ltb 80 (length line)) (Err LineTooLong) _ tt
+    (IfOk-either (ltb 1000000 number) (Err TooManyEvents) (event_of_words (words line)) tt (IfOk-event_of_words (words line)))
 
 -- the line of an event is not after the most events
 pub few_events : (number : ℕ) (line : List ℕ) → IfOk (event_of_line number line) (λ event. number ≤ 1000000)

@@ -2,7 +2,7 @@
 use Rattle.std.proofs.Common.{◌≡◌, ℕ, suc, ◌+◌, ◌<◌, ◌≤◌, List, [], ◌∷◌, length, map, Option, Some, None, Result, Ok, Err, IfOk, refl, sym, ap, subst, ◌∙◌, arith, ◌⊎◌, inl, inr}
 use Rattle.std.specs.Prelude.{All}
 use Rattle.std.proofs.lemmas.List.Elements.{All-nil, All-cons, All-head, All-tail}
-use Rattle.line_text.specs.Laws.{HexIsAByte}
+use Rattle.line_text.proofs.LawLemmas.{full_lines_are_read, text_is_its_lines}
 use Rattle.line_text.specs.Lines.{lines, text_of, ended, IsFullLine}
 use Rattle.heap_theory.specs.declared.event.Event.{Event}
 use Rattle.trace_reader.specs.declared.fault.TraceFault.{TraceFault}
@@ -12,7 +12,6 @@ use Rattle.trace_reader.specs.TraceText.{SpellsTrace, Trace, no_lines, trace_fro
 use Rattle.trace_reader.proofs.EventLines.{event_line-is_line, event_line-some, event_of_line-spelled}
 use Rattle.trace_reader.proofs.LineRanges.{IfOk-event_of_line, few_events}
 use Rattle.trace_reader.proofs.SpelledLines.{spelled_line}
-use Rattle.trace_reader.specs.SpellingLaws.{SpellingLaws}
 
 abbrev pub whole : List Event → Trace
 whole events = record { events = events; fault = None }
@@ -36,18 +35,18 @@ no_event events is = sym (ap (λ (x : Trace). x.events) is)
 of_ok : (P : Event → Type 0) (r : Result Event TraceFault) (e : Event) → r ≡ Ok e → IfOk r P → P e
 of_ok P r e is holds = subst (λ (r : Result Event TraceFault). IfOk r P) is holds
 
-spelled_lines : SpellingLaws → (number : ℕ) (ls : List (List ℕ)) (events : List Event) → trace_from number ls ≡ whole events → SpellLines number ls events
+spelled_lines : (number : ℕ) (ls : List (List ℕ)) (events : List Event) → trace_from number ls ≡ whole events → SpellLines number ls events
 unfolding trace_from
-spelled_lines laws number [] events is =
+spelled_lines number [] events is =
     let none = no_event events is in
     rw none (record { ranges = All-nil IsInRange; spelled = refl; few = λ some. absurd (omega arith) })
-spelled_lines laws number (line ∷ ls) events is =
+spelled_lines number (line ∷ ls) events is =
     let first = no_fault number (event_of_line number line) (trace_from (suc number) ls) events is in
     let e = first.0 in
     let es = first.1 in
-    let others = spelled_lines laws (suc number) ls es first.4 in
-    let in_range = of_ok (IsInRange) (event_of_line number line) e first.2 (IfOk-event_of_line laws.byte number line) in
-    let spells = of_ok (λ e. line ≡ event_line e) (event_of_line number line) e first.2 (spelled_line laws number line) in
+    let others = spelled_lines (suc number) ls es first.4 in
+    let in_range = of_ok (IsInRange) (event_of_line number line) e first.2 (IfOk-event_of_line number line) in
+    let spells = of_ok (λ e. line ≡ event_line e) (event_of_line number line) e first.2 (spelled_line number line) in
     let low = of_ok (λ e. number ≤ 1000000) (event_of_line number line) e first.2 (few_events number line) in
     rw first.3
     (record { ranges = All-cons IsInRange e es in_range others.ranges; spelled = rw (← spells, ← others.spelled) refl; few = λ some. few_more number low es others.few })
@@ -56,10 +55,10 @@ spelled_lines laws number (line ∷ ls) events is =
     few_more number low [] few = omega (arith, low)
     few_more number low (e ∷ es) few = omega (arith, few (omega arith))
 
-pub trace_is_spelled : SpellingLaws → (text : List ℕ) (events : List Event) → trace_of text ≡ whole events → SpellsTrace text events
-trace_is_spelled laws text events is =
-    let s = spelled_lines laws 1 (lines text) events is in
-    record { few = few events s.few; ranges = s.ranges; spelled = turned (laws.text.text text) s.spelled }
+pub spelled-trace_of : (text : List ℕ) (events : List Event) → trace_of text ≡ whole events → SpellsTrace text events
+spelled-trace_of text events is =
+    let s = spelled_lines 1 (lines text) events is in
+    record { few = few events s.few; ranges = s.ranges; spelled = turned (text_is_its_lines text) s.spelled }
   where
     few : (events : List Event) → (0 < length events → 1 + length events ≤ 1000001) → length events ≤ 1000000
     few [] more = omega arith
@@ -71,24 +70,30 @@ trace_is_spelled laws text events is =
 
 -- ---- from events to lines
 
-read_lines : SpellingLaws → (number : ℕ) (events : List Event) → All IsInRange events → number + length events ≤ 1000001 → trace_from number (map event_line events) ≡ whole events
+read_lines : (number : ℕ) (events : List Event) → All IsInRange events → number + length events ≤ 1000001
+    → trace_from number (map event_line events) ≡ whole events
 unfolding trace_from
-read_lines laws number [] ranges few = refl
-read_lines laws number (e ∷ es) ranges few =
-    rw (event_of_line-spelled laws number e (omega (arith, few)) (All-head IsInRange e es ranges), read_lines laws (suc number) es (All-tail IsInRange e es ranges) (omega (arith, few))) refl
+read_lines number [] ranges few = refl
+read_lines number (e ∷ es) ranges few =
+    rw (
+      event_of_line-spelled number e (omega (arith, few)) (All-head IsInRange e es ranges),
+      read_lines (suc number) es (All-tail IsInRange e es ranges) (omega (arith, few)),
+    ) refl
 
-full_lines : SpellingLaws → (events : List Event) → All IsInRange events → All IsFullLine (map event_line events)
-full_lines laws [] ranges = All-nil IsFullLine
-full_lines laws (e ∷ es) ranges =
-    All-cons IsFullLine (event_line e) (map event_line es) (event_line-is_line laws e (All-head IsInRange e es ranges), event_line-some e) (full_lines laws es (All-tail IsInRange e es ranges))
+full_lines : (events : List Event) → All IsInRange events → All IsFullLine (map event_line events)
+full_lines [] ranges = All-nil IsFullLine
+full_lines (e ∷ es) ranges =
+    All-cons IsFullLine (event_line e) (map event_line es) (event_line-is_line e (All-head IsInRange e es ranges), event_line-some e)
+    (full_lines es (All-tail IsInRange e es ranges))
 
-pub spelled_is_read : SpellingLaws → (text : List ℕ) (events : List Event) → SpellsTrace text events → trace_of text ≡ whole events
-spelled_is_read laws text events spells =
-    let same : lines text ≡ map event_line events = laws.text.full_lines (map event_line events) text (full_lines laws events spells.ranges) spells.spelled in
-    rw same (read_lines laws 1 events spells.ranges (omega (arith, spells.few)))
+pub trace_of-spelled : (text : List ℕ) (events : List Event) → SpellsTrace text events → trace_of text ≡ whole events
+trace_of-spelled text events spells =
+    let same : lines text ≡ map event_line events =
+    full_lines_are_read (map event_line events) text (full_lines events spells.ranges) spells.spelled in
+    rw same (read_lines 1 events spells.ranges (omega (arith, spells.few)))
 
-pub one_trace : SpellingLaws → (text : List ℕ) (a b : List Event) → SpellsTrace text a → SpellsTrace text b → a ≡ b
-one_trace laws text a b of_a of_b = ap (λ (t : Trace). t.events) (sym (spelled_is_read laws text a of_a) ∙ spelled_is_read laws text b of_b)
+pub one_trace : (text : List ℕ) (a b : List Event) → SpellsTrace text a → SpellsTrace text b → a ≡ b
+one_trace text a b of_a of_b = ap (λ (t : Trace). t.events) (sym (trace_of-spelled text a of_a) ∙ trace_of-spelled text b of_b)
 
 -- ---- the events before a fault
 
@@ -110,14 +115,14 @@ events_before number (line ∷ ls) at fault is = go (event_of_line number line) 
 pub fault_is_after : (text : List ℕ) (at : ℕ) (fault : TraceFault) → (trace_of text).fault ≡ Some (at, fault) → at ≡ suc (length (trace_of text).events)
 fault_is_after text at fault is = omega (arith, events_before 1 (lines text) at fault is)
 
-ranges_from : HexIsAByte → (number : ℕ) (ls : List (List ℕ)) → All IsInRange (trace_from number ls).events
+ranges_from : (number : ℕ) (ls : List (List ℕ)) → All IsInRange (trace_from number ls).events
 unfolding trace_from
-ranges_from law number [] = All-nil IsInRange
-ranges_from law number (line ∷ ls) = go (event_of_line number line) (IfOk-event_of_line law number line) (ranges_from law (suc number) ls)
+ranges_from number [] = All-nil IsInRange
+ranges_from number (line ∷ ls) = go (event_of_line number line) (IfOk-event_of_line number line) (ranges_from (suc number) ls)
   where
     go : (r : Result Event TraceFault) → IfOk r IsInRange → All IsInRange (trace_from (suc number) ls).events → All IsInRange (with_line number r (trace_from (suc number) ls)).events
     go (Ok e) is others = All-cons IsInRange e (trace_from (suc number) ls).events is others
     go (Err f) is others = All-nil IsInRange
 
-pub events_in_range : HexIsAByte → (text : List ℕ) → All IsInRange (trace_of text).events
-events_in_range law text = ranges_from law 1 (lines text)
+pub events_in_range : (text : List ℕ) → All IsInRange (trace_of text).events
+events_in_range text = ranges_from 1 (lines text)

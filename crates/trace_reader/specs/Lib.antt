@@ -1,4 +1,3 @@
-pub mod SpellingLaws
 pub mod Laws
 pub mod Reached
 pub mod Reading

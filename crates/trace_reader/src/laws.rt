@@ -1,9 +1,6 @@
 //! What holds for every trace's text, and for every text that comes in pieces. Each law is the contract of a function that does nothing.
-ghost use Rattle.trace_reader.specs.SpellingLaws.{SpellingLaws};
 ghost use Rattle.trace_reader.specs.Laws.{TraceIsSpelled, SpelledTraceIsRead, TextSpellsOneTrace, FaultIsAfterItsEvents, EventsAreFew, EventsAreInRange};
 ghost use Rattle.trace_reader.specs.Laws.{TextIsItsCut, PiecesAreJoined, PiecesAreTheText, FedAddsEvents, FinishedAddsEvents, PiecesHaveFewEvents, FedAfterEvents, FinishedAfterEvents};
-
-use line_text::laws::{law_hex, law_signed, law_text};
 
 /// However a text is cut into pieces, its events and its fault are those of the whole text. Events that were taken out on the way do not
 /// change what comes after them.
@@ -27,15 +24,4 @@ pub fn law_trace_text()
     ensures fault { FaultIsAfterItsEvents }
     ensures few { EventsAreFew }
     ensures range { EventsAreInRange }
-{
-    spelling_laws();
-}
-
-// what the laws of texts say, for the proof of the law of traces
-fn spelling_laws()
-    ensures { SpellingLaws }
-{
-    law_text();
-    law_signed();
-    law_hex();
-}
+{}

@@ -1,5 +1,6 @@
 mod counts;
 mod lines;
+mod support;
 mod traces;
 mod tuning;
 mod verdicts;

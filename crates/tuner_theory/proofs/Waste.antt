@@ -1,29 +1,32 @@
 -- How large a waste may be.
 use Rattle.std.proofs.Common.{◌≡◌, ℕ, ◌*◌, ◌^◌, ◌<◌, ◌≤◌, List, length, Option, Some, None, unwrap_or, arith, refl, subst}
 use Rattle.std.proofs.Math.Nat.{mul-le-mul}
-use Rattle.class_table.specs.Laws.{FirstIsLeast}
 use Rattle.class_table.specs.Sizes.{loss_of}
 use Rattle.class_table.specs.Tables.{IsLegalTable, class_for}
+use Rattle.class_table.proofs.LawLemmas.{first_is_least}
 use Rattle.tuner_theory.specs.Waste.{AreCounts, waste_at, waste_of}
 use Rattle.tuner_theory.proofs.Sums.{sum_bounded}
 
 -- a class that was found is one of the table's
-found_small : FirstIsLeast → (step n class : ℕ) (classes : List ℕ) → IsLegalTable step classes → class_for classes n ≡ Some class → class ≤ 1024
-found_small first step n class classes legal found =
-    let at = (first step n class classes legal found).listed in
+found_small : (step n class : ℕ) (classes : List ℕ) → IsLegalTable step classes → class_for classes n ≡ Some class → class ≤ 1024
+found_small step n class classes legal found =
+    let at = (first_is_least step n class classes legal found).listed in
     subst (λ (c : ℕ). c ≤ 1024) at.2 (legal.in_range at.0 class at.1).1
 
-class_small : FirstIsLeast → (step n : ℕ) (classes : List ℕ) → IsLegalTable step classes → (class : Option ℕ) → class_for classes n ≡ class → unwrap_or class 0 ≤ 1024
-class_small first step n classes legal None found = omega arith
-class_small first step n classes legal (Some class) found = found_small first step n class classes legal found
+class_small : (step n : ℕ) (classes : List ℕ) → IsLegalTable step classes → (class : Option ℕ) → class_for classes n ≡ class
+    → unwrap_or class 0 ≤ 1024
+class_small step n classes legal None found = omega arith
+class_small step n classes legal (Some class) found = found_small step n class classes legal found
 
-waste_small : FirstIsLeast → (step n : ℕ) (counts classes : List ℕ) → AreCounts counts → IsLegalTable step classes → n < length counts → waste_at counts classes n ≤ 1000000000 * 16368
-waste_small first step n counts classes are_counts legal within =
-    let class = class_small first step n classes legal (class_for classes n) refl in
+waste_small : (step n : ℕ) (counts classes : List ℕ) → AreCounts counts → IsLegalTable step classes → n < length counts
+    → waste_at counts classes n ≤ 1000000000 * 16368
+waste_small step n counts classes are_counts legal within =
+    let class = class_small step n classes legal (class_for classes n) refl in
     let loss : loss_of n (unwrap_or (class_for classes n) 0) ≤ 16368 = omega arith in
     mul-le-mul (are_counts.in_range n 0 within) loss
 
-pub waste-fits : FirstIsLeast → (step : ℕ) (counts classes : List ℕ) → AreCounts counts → IsLegalTable step classes → waste_of counts classes < 2 ^ 58
-waste-fits first step counts classes are_counts legal =
-    let small = sum_bounded (waste_at counts classes) (length counts) (1000000000 * 16368) (λ n within. waste_small first step n counts classes are_counts legal within) in
+pub waste-fits : (step : ℕ) (counts classes : List ℕ) → AreCounts counts → IsLegalTable step classes → waste_of counts classes < 2 ^ 58
+waste-fits step counts classes are_counts legal =
+    let small = sum_bounded (waste_at counts classes) (length counts) (1000000000 * 16368)
+    (λ n within. waste_small step n counts classes are_counts legal within) in
     omega (arith, small, are_counts.sizes)

@@ -33,15 +33,11 @@ ghost use Rattle.tuner_theory.specs.Laws.{
 };
 ghost use Rattle.tuner_theory.specs.Waste.{AreCounts, waste_of};
 
-use class_table::laws::law_class_for;
-
 /// The waste of a legal table fits 64 bits, for any profile.
 pub fn law_waste_fits()
     ensures { (step : ℕ) (counts classes : List ℕ) → AreCounts counts → IsLegalTable step classes
         → waste_of counts classes < 2 ^ 58 }
-{
-    law_class_for();
-}
+{}
 
 /// A rounded need is the least multiple of the step that is not below the need. It fits the largest class if the need does.
 pub fn law_round_up()

@@ -4,7 +4,6 @@ use class_lists::ClassLists;
 use class_table::{ClassTable, Layout};
 use granule_memory::Memory;
 use quarantine_core::Quarantine;
-use quarantine_core::laws::law_queue;
 use std::test::Fail;
 
 // the header of the first slot of the class of two granules, given out for 16 bytes under tag 1, and then freed
@@ -78,7 +77,6 @@ fn the_last_in_is_the_first_out(rt: HostRuntime) -> Result<(), Fail> {
 // three blocks of 32 bytes are freed, and the quarantine holds 64
 #[test]
 fn quarantine_releases_past_its_limit(rt: HostRuntime) -> Result<(), Fail> {
-    law_queue();
     let mut memory = Memory::new(rt.alloc(), 64)?;
     let table = ClassTable::from_classes(&[2])?;
     let layout = Layout::new(&table, 64);

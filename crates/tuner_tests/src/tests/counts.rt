@@ -1,4 +1,5 @@
 //! Sizes, tables of classes and profiles.
+use super::support::same;
 use class_table::{ClassTable, TableError, loss, need, serves};
 use profile_count::{CountFull, MOST_COUNTED, Profile};
 use std::test::Fail;
@@ -15,13 +16,13 @@ fn sizes_and_classes(rt: HostRuntime) -> Result<(), Fail> {
         (33, 4, 15),
         (48, 4, 0),
     ] {
-        assert_eq!(rt; need(n), granules, "the need of {n}");
+        same(&rt, &need(n), &granules, &n);
         assert!(rt; serves(n, 4), "{n} in class 4");
         let lost_here = loss(n, 4);
-        assert_eq!(rt; lost_here, lost, "the loss of {n}");
+        same(&rt, &lost_here, &lost, &n);
     }
     assert!(rt; !serves(49, 4));
-    assert_eq!(rt; need(16_368), 1024);
+    same(&rt, &need(16_368), &1024, &16_368);
     Ok(())
 }
 
@@ -30,10 +31,10 @@ fn tables(rt: HostRuntime) -> Result<(), Fail> {
     let table = ClassTable::from_classes(&[2, 4, 1024])
         .ok()
         .ok_or("a table")?;
-    assert_eq!(rt; table.len(), 3);
+    same(&rt, &table.len(), &3, &"the length");
     assert!(rt; !table.is_empty());
     let class = table.class(1);
-    assert_eq!(rt; class, 4);
+    same(&rt, &class, &4, &"class 1");
     for (n, number) in [
         (0, Some(0)),
         (16, Some(0)),
@@ -44,7 +45,7 @@ fn tables(rt: HostRuntime) -> Result<(), Fail> {
         (16_369, None),
         (u32::MAX, None),
     ] {
-        assert_eq!(rt; table.find(n), number, "the class of {n}");
+        same(&rt, &table.find(n), &number, &n);
     }
     let faults: [(&[u16], TableError); 4] = [
         (&[1], TableError::OutOfRange),
@@ -54,7 +55,7 @@ fn tables(rt: HostRuntime) -> Result<(), Fail> {
     ];
     for (classes, fault) in faults {
         let refused = ClassTable::from_classes(classes).err();
-        assert_eq!(rt; refused, Some(fault), "{classes:?}");
+        same(&rt, &refused, &Some(fault), &classes);
     }
     Ok(())
 }
@@ -65,15 +66,20 @@ fn profiles(rt: HostRuntime) -> Result<(), Fail> {
         .ok()
         .ok_or("a profile")?;
     for (n, count) in [(0, 0), (16, 3), (17, 0), (40, 1), (16_368, 0)] {
-        assert_eq!(rt; profile.count(n), count, "the count of {n}");
+        same(&rt, &profile.count(n), &count, &n);
     }
-    assert_eq!(rt; profile.large(), 2);
+    same(&rt, &profile.large(), &2, &"large requests");
     let small = ClassTable::read_line(b"classes 2\n").ok().ok_or("a table")?;
-    assert_eq!(rt; profile.unserved(&small), Some(40));
+    same(
+        &rt,
+        &profile.unserved(&small),
+        &Some(40),
+        &"the small table",
+    );
     let table = ClassTable::read_line(b"classes 2 4\n")
         .ok()
         .ok_or("a table")?;
-    assert_eq!(rt; profile.unserved(&table), None);
+    same(&rt, &profile.unserved(&table), &None, &"the table");
     Ok(())
 }
 
@@ -95,14 +101,14 @@ fn added_requests_are_written(rt: HostRuntime) -> Result<(), Fail> {
     for (sizes, lines) in ADDED {
         let mut profile = Profile::new(rt.alloc())?;
         for size in sizes {
-            assert_eq!(rt; profile.add(*size), Ok(()), "{size} of {sizes:?}");
+            same(&rt, &profile.add(*size), &Ok(()), &(size, sizes));
         }
         let mut text = Vec::from_slice(rt.alloc(), b"before\n")?;
         let written = profile.write(&mut text);
         // where a growth is refused, the text is as before
         let lines = if written.is_ok() { lines } else { "" };
         let expected = format!(in rt.alloc(); "before\n{lines}")?;
-        assert_eq!(rt; text.as_slice(), expected.as_bytes(), "{sizes:?}");
+        same(&rt, &text.as_slice(), &expected.as_bytes(), &sizes);
         written?;
     }
     Ok(())
@@ -113,14 +119,14 @@ fn a_full_count_stays(rt: HostRuntime) -> Result<(), Fail> {
     let text = b"15 999999999\n16 1000000000\nlarge 1000000000\n";
     let mut profile = Profile::read(rt.alloc(), text).ok().ok_or("a profile")?;
     for n in [16, 16_369, u32::MAX] {
-        assert_eq!(rt; profile.add(n), Err(CountFull), "{n}");
+        same(&rt, &profile.add(n), &Err(CountFull), &n);
     }
-    assert_eq!(rt; profile.count(16), MOST_COUNTED);
-    assert_eq!(rt; profile.large(), MOST_COUNTED);
-    assert_eq!(rt; profile.add(15), Ok(()));
-    assert_eq!(rt; profile.add(15), Err(CountFull));
-    assert_eq!(rt; profile.count(15), 1_000_000_000);
+    same(&rt, &profile.count(16), &MOST_COUNTED, &"the count of 16");
+    same(&rt, &profile.large(), &MOST_COUNTED, &"large requests");
+    same(&rt, &profile.add(15), &Ok(()), &"the last of 15");
+    same(&rt, &profile.add(15), &Err(CountFull), &"one more of 15");
+    same(&rt, &profile.count(15), &1_000_000_000, &"the count of 15");
     let shown = format!(in rt.alloc(); "{CountFull}")?;
-    assert_eq!(rt; shown.as_str(), "33 CountFull");
+    same(&rt, &shown.as_str(), &"33 CountFull", &"its text");
     Ok(())
 }

@@ -1,4 +1,5 @@
 //! Lines, words and numbers.
+use super::support::same;
 use line_text::{
     Number, SignedNumber, hex_byte_in, hex_digits, lines_in, number_in, signed_in, words_in,
 };
@@ -17,7 +18,7 @@ fn lines_of_texts(rt: HostRuntime) {
     for (text, wanted) in cases {
         let mut lines = lines_in(text.as_bytes());
         for line in wanted {
-            assert_eq!(rt; lines.next(), Some(line.as_bytes()), "line of {text:?}");
+            same(&rt, &lines.next(), &Some(line.as_bytes()), &text);
         }
         assert!(rt; lines.next().is_none(), "last line of {text:?}");
     }
@@ -41,7 +42,7 @@ fn words_of_lines(rt: HostRuntime) {
     for (line, wanted) in cases {
         let mut words = words_in(line.as_bytes());
         for word in wanted {
-            assert_eq!(rt; words.next(), Some(word.as_bytes()), "word of {line:?}");
+            same(&rt, &words.next(), &Some(word.as_bytes()), &line);
         }
         assert!(rt; words.next().is_none(), "last word of {line:?}");
     }
@@ -50,12 +51,22 @@ fn words_of_lines(rt: HostRuntime) {
 #[test]
 fn rest_of_a_text(rt: HostRuntime) {
     let mut lines = lines_in(b"classes 4\n16 3\n40 1");
-    assert_eq!(rt; lines.rest(), b"classes 4\n16 3\n40 1".as_slice());
+    same(
+        &rt,
+        &lines.rest(),
+        &b"classes 4\n16 3\n40 1".as_slice(),
+        &"the whole text",
+    );
     assert!(rt; lines.next().is_some());
-    assert_eq!(rt; lines.rest(), b"16 3\n40 1".as_slice());
+    same(
+        &rt,
+        &lines.rest(),
+        &b"16 3\n40 1".as_slice(),
+        &"after a line",
+    );
     assert!(rt; lines.next().is_some());
     assert!(rt; lines.next().is_some());
-    assert_eq!(rt; lines.rest(), b"".as_slice());
+    same(&rt, &lines.rest(), &b"".as_slice(), &"after all lines");
     assert!(rt; lines.next().is_none());
 }
 
@@ -84,10 +95,20 @@ fn numbers(rt: HostRuntime) {
         ("99999999999999999999a", Number::NoNumber),
     ];
     for (word, number) in cases {
-        assert_eq!(rt; number_in(word.as_bytes()), number, "number in {word:?}");
+        same(&rt, &number_in(word.as_bytes()), &number, &word);
     }
-    assert_eq!(rt; number_in(&[b'1'; 200]), Number::TooLarge);
-    assert_eq!(rt; number_in(&[b'0'; 200]), Number::NoNumber);
+    same(
+        &rt,
+        &number_in(&[b'1'; 200]),
+        &Number::TooLarge,
+        &"200 ones",
+    );
+    same(
+        &rt,
+        &number_in(&[b'0'; 200]),
+        &Number::NoNumber,
+        &"200 zeros",
+    );
 }
 
 #[test]
@@ -110,11 +131,12 @@ fn next_numbers(rt: HostRuntime) {
     ];
     for (line, number, after) in cases {
         let mut words = words_in(line.as_bytes());
-        assert_eq!(rt; words.next_number(), number, "number in front of {line:?}");
-        assert_eq!(rt;
-            words.next(),
-            after.map(|word| word.as_bytes()),
-            "word after it in {line:?}"
+        same(&rt, &words.next_number(), &number, &line);
+        same(
+            &rt,
+            &words.next(),
+            &after.map(|word| word.as_bytes()),
+            &line,
         );
     }
 }
@@ -150,15 +172,12 @@ fn next_lines_of_numbers(rt: HostRuntime) {
     ];
     for (text, numbers, after) in cases {
         let mut lines = lines_in(text.as_bytes());
-        assert_eq!(rt;
-            lines.next_numbers(),
-            numbers,
-            "numbers in front of {text:?}"
-        );
-        assert_eq!(rt;
-            lines.next(),
-            after.map(|line| line.as_bytes()),
-            "line after them in {text:?}"
+        same(&rt, &lines.next_numbers(), &numbers, &text);
+        same(
+            &rt,
+            &lines.next(),
+            &after.map(|line| line.as_bytes()),
+            &text,
         );
     }
 }
@@ -181,15 +200,13 @@ fn signed_numbers(rt: HostRuntime) {
         ("9223372036854775808", SignedNumber::TooLarge),
     ];
     for (word, number) in cases {
-        assert_eq!(rt;
-            signed_in(word.as_bytes()),
-            number,
-            "signed number in {word:?}"
-        );
+        same(&rt, &signed_in(word.as_bytes()), &number, &word);
     }
-    assert_eq!(rt;
-        signed_in(b"9223372036854775807"),
-        SignedNumber::Value(i64::MAX)
+    same(
+        &rt,
+        &signed_in(b"9223372036854775807"),
+        &SignedNumber::Value(i64::MAX),
+        &"the greatest",
     );
 }
 
@@ -207,7 +224,7 @@ fn hex_bytes(rt: HostRuntime) {
         ("0g", None),
     ];
     for (word, byte) in cases {
-        assert_eq!(rt; hex_byte_in(word.as_bytes()), byte, "byte in {word:?}");
+        same(&rt, &hex_byte_in(word.as_bytes()), &byte, &word);
     }
-    assert_eq!(rt; hex_digits(0xA1), [b'a', b'1']);
+    same(&rt, &hex_digits(0xA1), &[b'a', b'1'], &"0xA1");
 }

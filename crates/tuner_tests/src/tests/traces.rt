@@ -1,4 +1,5 @@
 //! Traces in pieces: events and errors do not depend on where a text is cut.
+use super::support::same;
 use std::alloc::Global;
 use std::process::Abort;
 use std::test::Fail;
@@ -40,7 +41,7 @@ fn read_pieces(rt: &impl Abort, alloc: Global, pieces: &[&[u8]]) -> Result<Seen,
         answer.is_ok() || finished == answer,
         "an error stays at the end"
     );
-    assert_eq!(rt; reader.is_finished(), finished.is_ok());
+    same(rt, &reader.is_finished(), &finished.is_ok(), &"finished");
     take_events(&mut reader, &mut events)?;
     Ok(Seen {
         events,
@@ -87,8 +88,8 @@ fn agrees(
         assert!(rt; events.starts_with(seen.events.as_slice()));
         seen.answer?;
     }
-    assert_eq!(rt; seen.answer, answer);
-    assert_eq!(rt; seen.events.as_slice(), events);
+    same(rt, &seen.answer, &answer, &"the answer");
+    same(rt, &seen.events.as_slice(), &events, &"the events");
     Ok(())
 }
 
@@ -145,129 +146,14 @@ load 1 -1048576 64\nstore 2 1048576 1 a0\naddg 6 5 63 15\nsubg 3 3 0 0\n";
 }
 
 #[test]
-fn first_faults_in_pieces(rt: HostRuntime) -> Result<(), Fail> {
-    let event = [Event::Malloc { v: 1, n: 16 }];
-    let cases: [(&[u8], &[Event], u32, TraceFault, &str); 12] = [
-        (
-            b"load 1 0",
-            &[],
-            1,
-            TraceFault::BadWord,
-            "70 BadWord line 1",
-        ),
-        (
-            b"malloc 01 1",
-            &[],
-            1,
-            TraceFault::BadNumber,
-            "71 BadNumber line 1",
-        ),
-        (
-            b"load 1 -0 1",
-            &[],
-            1,
-            TraceFault::BadNumber,
-            "71 BadNumber line 1",
-        ),
-        (
-            b"malloc 1024 1",
-            &[],
-            1,
-            TraceFault::OutOfRange,
-            "72 OutOfRange line 1",
-        ),
-        (
-            LETTERS,
-            &[],
-            1,
-            TraceFault::LineTooLong,
-            "73 LineTooLong line 1",
-        ),
-        (
-            b"malloc 1 16\nstore 1 16 1",
-            &event,
-            2,
-            TraceFault::BadWord,
-            "70 BadWord line 2",
-        ),
-        (
-            b"malloc 1 16\nstore 1 16 1 a",
-            &event,
-            2,
-            TraceFault::BadNumber,
-            "71 BadNumber line 2",
-        ),
-        (
-            b"malloc 1 16\n\nfree 1024\n",
-            &event,
-            2,
-            TraceFault::BadWord,
-            "70 BadWord line 2",
-        ),
-        (
-            b"malloc 01 \n",
-            &[],
-            1,
-            TraceFault::BadWord,
-            "70 BadWord line 1",
-        ),
-        (
-            b"load 1 0 65\nfree 1",
-            &[],
-            1,
-            TraceFault::OutOfRange,
-            "72 OutOfRange line 1",
-        ),
-        (
-            b"store 1 0 1 A0",
-            &[],
-            1,
-            TraceFault::BadNumber,
-            "71 BadNumber line 1",
-        ),
-        (
-            b"malloc 1 16\r\n",
-            &[],
-            1,
-            TraceFault::BadNumber,
-            "71 BadNumber line 1",
-        ),
-    ];
-    for (text, events, line, fault, shown) in cases {
-        let error = TraceError::Line(line, fault);
-        gives(&rt, rt.alloc(), text, events, Err(error))?;
-        let told = format!(in rt.alloc(); "{error}")?;
-        assert_eq!(rt; told.as_str(), shown);
-    }
-    let told = format!(in rt.alloc(); "{}", TraceError::OutOfMemory)?;
-    assert_eq!(rt; told.as_str(), "1 OutOfMemory");
-    Ok(())
-}
-
-#[test]
 fn eighty_first_byte_is_a_fault_at_once(rt: HostRuntime) -> Result<(), Fail> {
     let mut reader = TraceReader::new(rt.alloc());
     reader.feed(&LETTERS[..80])?;
-    assert_eq!(rt;
-        reader.feed(b"a"),
-        Err(TraceError::Line(1, TraceFault::LineTooLong))
+    same(
+        &rt,
+        &reader.feed(b"a"),
+        &Err(TraceError::Line(1, TraceFault::LineTooLong)),
+        &"the 81st byte",
     );
-    Ok(())
-}
-
-#[test]
-fn no_more_than_a_million_events(rt: HostRuntime) -> Result<(), Fail> {
-    let mut reader = TraceReader::new(rt.alloc());
-    for _ in 0..1_000_000 {
-        assert!(rt; !reader.is_finished());
-        reader.feed(b"free 0\n")?;
-        assert_eq!(rt; reader.next_event(), Some(Event::Free { v: 0 }));
-    }
-    assert!(rt; !reader.is_finished());
-    let too_many = TraceError::Line(1_000_001, TraceFault::TooManyEvents);
-    assert_eq!(rt; reader.feed(b"free 0\n"), Err(too_many));
-    let told = format!(in rt.alloc(); "{too_many}")?;
-    assert_eq!(rt; told.as_str(), "74 TooManyEvents line 1000001");
-    assert_eq!(rt; reader.next_event(), None);
     Ok(())
 }

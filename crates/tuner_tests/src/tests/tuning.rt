@@ -1,8 +1,9 @@
-//! The rows and tables of small profiles, worked by hand, and how often a source is asked for its costs.
+//! How often a source is asked for its costs, and the wastes of spans.
 ghost use Rattle.std.specs.Prelude.{◌≡◌, ℕ, ◌+◌, ◌-◌, ◌*◌, ◌^◌, ◌<◌, ◌≤◌, refl};
 ghost use Rattle.std.proofs.Common.{arith};
 ghost use Rattle.std.proofs.Math.Nat.{mul-le-mul};
 
+use super::support::same;
 use class_tuner::{CostSource, Costs, fill_rows, tune};
 use profile_count::Profile;
 use std::test::Fail;
@@ -63,157 +64,35 @@ const TWO_SIZES: &[u8] = b"16 3\n40 1\n";
 
 const THREE_SIZES: &[u8] = b"16 1\n32 1\n48 1\n";
 
-// What tune has to answer for a profile, a limit and a step; the last row stands for all later ones too.
-struct Case {
-    profile: &'static [u8],
-    limit: u8,
-    step: u8,
-    classes: &'static [u16],
-    waste: u64,
-    rows: &'static [&'static [u64]],
-}
-
-const CASES: [Case; 10] = [
-    Case {
-        profile: TWO_SIZES,
-        limit: 1,
-        step: 1,
-        classes: &[4],
-        waste: 104,
-        rows: &[&[104, 8]],
-    },
-    Case {
-        profile: TWO_SIZES,
-        limit: 2,
-        step: 1,
-        classes: &[2, 4],
-        waste: 8,
-        rows: &[&[104, 8], &[8, 8]],
-    },
-    Case {
-        profile: TWO_SIZES,
-        limit: 32,
-        step: 1,
-        classes: &[2, 4],
-        waste: 8,
-        rows: &[&[104, 8], &[8, 8]],
-    },
-    Case {
-        profile: b"",
-        limit: 1,
-        step: 1,
-        classes: &[],
-        waste: 0,
-        rows: &[&[]],
-    },
-    Case {
-        profile: THREE_SIZES,
-        limit: 2,
-        step: 1,
-        classes: &[2, 4],
-        waste: 16,
-        rows: &[&[48, 16, 0], &[16, 0, 0]],
-    },
-    Case {
-        profile: b"0 1\n",
-        limit: 1,
-        step: 1,
-        classes: &[2],
-        waste: 16,
-        rows: &[&[16]],
-    },
-    Case {
-        profile: b"16368 1\nlarge 1\n",
-        limit: 1,
-        step: 1,
-        classes: &[1024],
-        waste: 0,
-        rows: &[&[0]],
-    },
-    Case {
-        profile: THREE_SIZES,
-        limit: 2,
-        step: 2,
-        classes: &[2, 4],
-        waste: 16,
-        rows: &[&[48, 16], &[16, 16]],
-    },
-    Case {
-        profile: THREE_SIZES,
-        limit: 1,
-        step: 8,
-        classes: &[8],
-        waste: 240,
-        rows: &[&[240]],
-    },
-    Case {
-        profile: TWO_SIZES,
-        limit: 2,
-        step: 4,
-        classes: &[4],
-        waste: 104,
-        rows: &[&[104], &[104]],
-    },
+// profiles with a limit and a step each
+const CASES: [(&[u8], u8, u8); 8] = [
+    (TWO_SIZES, 1, 1),
+    (TWO_SIZES, 2, 1),
+    (TWO_SIZES, 32, 1),
+    (TWO_SIZES, 2, 4),
+    (THREE_SIZES, 2, 1),
+    (THREE_SIZES, 2, 2),
+    (THREE_SIZES, 1, 8),
+    (b"", 1, 1),
 ];
 
 #[test]
-fn tunes_small_profiles(rt: HostRuntime) -> Result<(), Fail> {
-    for case in &CASES {
-        let profile = Profile::read(rt.alloc(), case.profile)?;
-        let (limit, step) = (case.limit, case.step);
-        assert!(rt; limit >= 1 && limit <= 32);
-        assert!(rt; step == 1 || step == 2 || step == 4 || step == 8);
-        let tuned = tune(rt.alloc(), &profile, limit, step)?;
-        let sheet = tuned.sheet();
-        assert_eq!(rt; sheet.limit, limit);
-        assert_eq!(rt; sheet.step, step);
-        assert_eq!(rt; sheet.waste, case.waste, "limit {limit} step {step}");
-        assert_eq!(rt;
-            sheet.table.len(),
-            case.classes.len(),
-            "limit {limit} step {step}"
-        );
-        for (number, class) in case.classes.iter().enumerate() {
-            assert_eq!(rt;
-                sheet.table.class(number),
-                *class,
-                "class {number}, limit {limit} step {step}"
-            );
-        }
-        assert_eq!(rt;
-            sheet.rows.len(),
-            limit as usize,
-            "limit {limit} step {step}"
-        );
-        assert!(rt; case.rows.len() > 0);
-        for index in 0..sheet.rows.len() {
-            let row = case.rows[index.min(case.rows.len() - 1)];
-            assert_eq!(rt;
-                sheet.rows.row(index),
-                row,
-                "row {index}, limit {limit} step {step}"
-            );
-        }
-    }
-    Ok(())
-}
-
-#[test]
 fn counts_what_it_asks(rt: HostRuntime) -> Result<(), Fail> {
-    for case in &CASES {
-        let profile = Profile::read(rt.alloc(), case.profile)?;
-        let (limit, step) = (case.limit, case.step);
+    for (text, limit, step) in CASES {
+        let profile = Profile::read(rt.alloc(), text)?;
         assert!(rt; limit >= 1 && limit <= 32);
         assert!(rt; step == 1 || step == 2 || step == 4 || step == 8);
         let mut costs = Costs::new(rt.alloc(), &profile, step)?;
-        assert_eq!(rt; costs.calls(), 0);
+        same(&rt, &costs.calls(), &0, &"calls at first");
         let _filled = fill_rows(rt.alloc(), &mut costs, limit)?;
         let tuned = tune(rt.alloc(), &profile, limit, step)?;
-        assert_eq!(rt;
-            tuned.evaluations(),
-            costs.calls(),
-            "limit {limit} step {step}"
+        same(
+            &rt,
+            &tuned.sheet().rows.len(),
+            &(limit as usize),
+            &(limit, step),
         );
+        same(&rt, &tuned.evaluations(), &costs.calls(), &(limit, step));
     }
     Ok(())
 }
@@ -222,9 +101,19 @@ fn counts_what_it_asks(rt: HostRuntime) -> Result<(), Fail> {
 fn evaluations_of_small_profiles(rt: HostRuntime) -> Result<(), Fail> {
     let two = Profile::read(rt.alloc(), TWO_SIZES)?;
     // two in row 1; in row 2 the one end after place 1, and then both ends after place 0
-    assert_eq!(rt; tune(rt.alloc(), &two, 2, 1)?.evaluations(), 5);
+    same(
+        &rt,
+        &tune(rt.alloc(), &two, 2, 1)?.evaluations(),
+        &5,
+        &"two sizes",
+    );
     let none = Profile::read(rt.alloc(), b"")?;
-    assert_eq!(rt; tune(rt.alloc(), &none, 1, 1)?.evaluations(), 0);
+    same(
+        &rt,
+        &tune(rt.alloc(), &none, 1, 1)?.evaluations(),
+        &0,
+        &"no size",
+    );
     Ok(())
 }
 
@@ -248,13 +137,13 @@ fn span_wastes_of_small_profiles(rt: HostRuntime) -> Result<(), Fail> {
     ] {
         let profile = Profile::read(rt.alloc(), text)?;
         let mut costs = Costs::new(rt.alloc(), &profile, 1)?;
-        assert_eq!(rt; costs.places(), places);
+        same(&rt, &costs.places(), &places, &"places");
         for (i, j, waste) in spans {
             assert!(rt; *i < *j && *j <= costs.places());
             assert!(rt; costs.calls() < 6);
-            assert_eq!(rt; costs.at(*i, *j), *waste, "from {i} to {j}");
+            same(&rt, &costs.at(*i, *j), waste, &(i, j));
         }
-        assert_eq!(rt; costs.calls(), spans.len() as u64);
+        same(&rt, &costs.calls(), &(spans.len() as u64), &"calls");
     }
     Ok(())
 }

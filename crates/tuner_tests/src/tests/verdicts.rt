@@ -1,4 +1,5 @@
 //! Verdicts on small sheets, worked by hand; some of them no reader gives.
+use super::support::same;
 use class_table::ClassTable;
 use potential_check::{Refusal, Rows, Sheet, Verdict, check};
 use profile_count::Profile;
@@ -129,7 +130,7 @@ fn verdicts(rt: HostRuntime) -> Result<(), Fail> {
         let profile = Profile::read(rt.alloc(), text)?;
         for case in cases {
             let verdict = verdict_on(rt.alloc(), &profile, case)?;
-            assert_eq!(rt; verdict, case.5, "sheet {case:?} for {text:?}");
+            same(&rt, &verdict, &case.5, &(case, text));
         }
     }
     Ok(())

@@ -3,7 +3,7 @@ use Rattle.std.specs.Int.{w64, to_le_bytes}
 use Rattle.granule_memory.specs.Changes.{ChangesOnlyBytes}
 use Rattle.heap_theory.specs.Header.{header_at}
 use Rattle.machine_theory.specs.Memory.{word_at, written}
-use Rattle.heap_theory.proofs.HeaderWords.{header_at-elsewhere, with_header-words}
+use Rattle.heap_theory.proofs.HeaderWords.{header_at-elsewhere}
 use Rattle.chunk_header.specs.HeaderView.{with_next}
 use Rattle.chunk_header.proofs.Links.{word_linked, link_written, link_read}
 use Rattle.chunk_header.proofs.granule.set_next.Goals as goal
@@ -18,7 +18,7 @@ returns c =
     let word = c.with_next_in-word.ensures 0 ∙ word_linked old g c.args.next c.word.result 0 c.word.ensures in
     let second = c.set_word.ensures.others.word (16 * g + 8) (inr (omega arith)) in
     let written_is : new ≡ with_next old g c.args.next =
-    link_written with_header-words old new g c.args.next c.set_word.ensures.memory second
+    link_written old new g c.args.next c.set_word.ensures.memory second
     (c.set_word.ensures.written ∙ (λ i. written (at i) (to_le_bytes w64 (word i)) old)) in
     record {
       written = written_is;

@@ -1,6 +1,5 @@
 use Rattle.std.proofs.Common.{rules, ◌≡◌, ℕ, zero, suc, ◌+◌, ◌-◌, ◌*◌, ◌^◌, ◌/◌, ◌<◌, ◌≤◌, slice_index, slice_set, add-one, arith, refl, sym, ◌∙◌, inl, inr}
 use Rattle.std.proofs.lemmas.List.{get_or-set_same}
-use Rattle.tuner_theory.proofs.LawLemmas.{ends_ascend}
 use Rattle.class_tuner.specs.Filling.{AreEndsBetween, tried_within}
 use Rattle.class_tuner.proofs.Halves.{between-left, between-right, count-halves, half-digits}
 use Rattle.class_tuner.proofs.Tried.{tried-none, tried-part}
@@ -22,7 +21,7 @@ fill_part-requires g t c κs within =
     c.args.window.low end =
     let here = c.least_end-cost.ensures.only_counts in
     rw (here.same_cost, here.same_places)
-    (between-left ends_ascend (g.C.CostSource.cost c.args.costs.now) (g.C.CostSource.place_count c.args.costs.now)
+    (between-left (g.C.CostSource.cost c.args.costs.now) (g.C.CostSource.place_count c.args.costs.now)
     (g.met.C.CostSource.is_crossing c.args.costs.now) c.args.before.now part.start part.end c.args.window.low c.args.window.high middle end
     c.requires.between c.least_end-cost.ensures.least.least (omega arith)) in
     search (rules, between)
@@ -38,7 +37,7 @@ fill_part-requires-then-part g t c κs within =
     let between : AreEndsBetween (g.C.CostSource.cost asked) (g.C.CostSource.place_count asked) c.args.before.now (middle + 1) part.end end
     c.args.window.high =
     rw (left.same_cost, left.same_places, here.same_cost, here.same_places, add-one)
-    (between-right ends_ascend (g.C.CostSource.cost c.args.costs.now) (g.C.CostSource.place_count c.args.costs.now)
+    (between-right (g.C.CostSource.cost c.args.costs.now) (g.C.CostSource.place_count c.args.costs.now)
     (g.met.C.CostSource.is_crossing c.args.costs.now) c.args.before.now part.start part.end c.args.window.low c.args.window.high middle end
     c.requires.between c.least_end-cost.ensures.least.least (omega arith)) in
     search (rules, between)

@@ -1,5 +1,5 @@
 use Rattle.potential_check.specs.Lists.{lists_of}
-use Rattle.tuner_theory.proofs.LawLemmas.{ends_are_later, least_rows_are_valid, tuned_rows_are_rests, tuned_sheet_is_optimal, tuned_table_is_canonical, tuned_table_wastes}
+use Rattle.tuner_theory.proofs.LawLemmas.{ends_are_later}
 use Rattle.class_tuner.proofs.Tunings.{tuned-legal, tuned-sheet}
 use Rattle.class_tuner.proofs.tuning.sheet_of_rows.Goals as goal
 
@@ -10,12 +10,11 @@ table_of_ends-table-requires-clause-later c =
 pub table_of_ends-table-requires-clause-legal : goal.table_of_ends-table-requires-clause-legal
 table_of_ends-table-requires-clause-legal c =
     rw c.deref.ensures.value
-    (tuned-legal c.args.spans.now c.args.limit _ (lists_of c.args.filled.ends.items) c.requires.spans c.requires.some c.requires.few c.requires.filled
-    tuned_table_is_canonical)
+    (tuned-legal c.args.spans.now c.args.limit _ (lists_of c.args.filled.ends.items) c.requires.spans c.requires.some c.requires.few
+    c.requires.filled)
 
 pub returns-clause-tuned : goal.returns-clause-tuned
 returns-clause-tuned c =
     rw (c.step.ensures, c.new-rows.ensures)
     (tuned-sheet c.args.spans.now c.args.limit (lists_of c.args.filled.rows.items) (lists_of c.args.filled.ends.items) c.requires.spans c.requires.some c.requires.few c.requires.filled
-    tuned_table_is_canonical tuned_table_wastes tuned_sheet_is_optimal tuned_rows_are_rests least_rows_are_valid
     c.table_of_ends-table.result c.number-waste.result (rw c.deref.ensures.value at c.table_of_ends-table.ensures) (rw c.new-rows.ensures at c.number-waste.ensures))

@@ -19,11 +19,6 @@ const HEADERS: &[Step] = &[
     Mapped(2, 16, false),
 ];
 
-#[test]
-fn headers_are_out_of_reach(rt: HostRuntime) -> Result<(), Fail> {
-    play(&rt, &[2], 0, HEADERS)
-}
-
 const NEIGHBOURS: &[Step] = &[
     Malloc(1, 16),
     StoreFault(1, 16, 1, tag_fault!(2, 0, 1)),
@@ -34,17 +29,7 @@ const NEIGHBOURS: &[Step] = &[
     LoadFault(1, 0, 1, tag_fault!(1, 3, 1)),
 ];
 
-#[test]
-fn header_neighbour_and_dead_chunk_fault(rt: HostRuntime) -> Result<(), Fail> {
-    play(&rt, &[2, 4], 64, NEIGHBOURS)
-}
-
 const TWO_GRANULES: &[Step] = &[Malloc(1, 16), LoadFault(1, 16, 32, tag_fault!(2, 0, 1))];
-
-#[test]
-fn lowest_granule_is_reported(rt: HostRuntime) -> Result<(), Fail> {
-    play(&rt, &[2], 0, TWO_GRANULES)
-}
 
 const TAILS: &[Step] = &[
     Malloc(1, 1),
@@ -57,11 +42,6 @@ const TAILS: &[Step] = &[
     Pointer(3, pointer!(4, 6)),
     LoadFault(3, 16, 1, tag_fault!(5, 0, 6)),
 ];
-
-#[test]
-fn shorter_chunk_leaves_a_tail(rt: HostRuntime) -> Result<(), Fail> {
-    play(&rt, &[3], 0, TAILS)
-}
 
 const UP_AND_DOWN: &[Step] = &[
     Malloc(1, 16),
@@ -76,11 +56,6 @@ const UP_AND_DOWN: &[Step] = &[
     Load(4, 0, &[0]),
     Pointer(4, pointer!(1, 1)),
 ];
-
-#[test]
-fn addg_and_subg_reach_the_neighbour(rt: HostRuntime) -> Result<(), Fail> {
-    play(&rt, &[2], 0, UP_AND_DOWN)
-}
 
 const MADE_POINTER: &[Step] = &[
     Malloc(1, 16),
@@ -97,6 +72,29 @@ const MADE_POINTER: &[Step] = &[
 ];
 
 #[test]
-fn chunk_freed_by_a_made_pointer_is_dead(rt: HostRuntime) -> Result<(), Fail> {
-    play(&rt, &[2], 64, MADE_POINTER)
+fn accesses(rt: HostRuntime) -> Result<(), Fail> {
+    play(&rt, "headers are out of reach", &[2], 0, HEADERS)?;
+    play(
+        &rt,
+        "header neighbour and dead chunk fault",
+        &[2, 4],
+        64,
+        NEIGHBOURS,
+    )?;
+    play(&rt, "lowest granule is reported", &[2], 0, TWO_GRANULES)?;
+    play(&rt, "shorter chunk leaves a tail", &[3], 0, TAILS)?;
+    play(
+        &rt,
+        "addg and subg reach the neighbour",
+        &[2],
+        0,
+        UP_AND_DOWN,
+    )?;
+    play(
+        &rt,
+        "chunk freed by a made pointer is dead",
+        &[2],
+        64,
+        MADE_POINTER,
+    )
 }

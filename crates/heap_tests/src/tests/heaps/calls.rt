@@ -73,9 +73,11 @@ macro_rules! pointer {
 pub(crate) use pointer;
 pub(crate) use tag_fault;
 
-/// Makes the calls on a heap of 64 granules with seed 1, and compares what they answer.
+/// Makes the calls on a heap of 64 granules with seed 1, and compares what they answer. The name stands in the message of a call that
+/// answers otherwise.
 pub fn play(
     rt: &(impl Abort + AllocGlobal),
+    name: &str,
     classes: &[u16],
     quarantine: u32,
     steps: &[Step],
@@ -91,7 +93,7 @@ pub fn play(
     let mut pointers = [0; 8];
     for (number, step) in steps.iter().enumerate() {
         let holds = holds(rt, &mut heap, &mut pointers, *step);
-        assert!(rt; holds, "step {number}");
+        assert!(rt; holds, "step {number}: {name}");
     }
     Ok(())
 }

@@ -26,11 +26,6 @@ const IN_PLACE_AND_MOVED: &[Step] = &[
     Pointer(4, pointer!(4, 10)),
 ];
 
-#[test]
-fn resizes_in_place_and_moves(rt: HostRuntime) -> Result<(), Fail> {
-    play(&rt, &[3, 5], 0, IN_PLACE_AND_MOVED)
-}
-
 const SHRUNK: &[Step] = &[
     Malloc(1, 32),
     Pointer(1, pointer!(1, 1)),
@@ -45,11 +40,6 @@ const SHRUNK: &[Step] = &[
     Kind(1, PlaceKind::Dead),
 ];
 
-#[test]
-fn shrunk_chunk_leaves_a_tail(rt: HostRuntime) -> Result<(), Fail> {
-    play(&rt, &[3], 0, SHRUNK)
-}
-
 const STAYS_LIVE: &[Step] = &[
     Malloc(1, 16),
     Malloc(2, 480),
@@ -58,11 +48,6 @@ const STAYS_LIVE: &[Step] = &[
     Pointer(2, pointer!(33, 1)),
     Free(1, Ok(())),
 ];
-
-#[test]
-fn refused_chunk_stays_live(rt: HostRuntime) -> Result<(), Fail> {
-    play(&rt, &[2, 31], 0, STAYS_LIVE)
-}
 
 // the chunk's 3 bytes, and what its new place held
 const COPIED: &[u8] = &[
@@ -82,6 +67,15 @@ const SMALLER: &[Step] = &[
 ];
 
 #[test]
-fn smaller_size_is_copied(rt: HostRuntime) -> Result<(), Fail> {
-    play(&rt, &[2, 5], 0, SMALLER)
+fn reallocs(rt: HostRuntime) -> Result<(), Fail> {
+    play(
+        &rt,
+        "resizes in place and moves",
+        &[3, 5],
+        0,
+        IN_PLACE_AND_MOVED,
+    )?;
+    play(&rt, "shrunk chunk leaves a tail", &[3], 0, SHRUNK)?;
+    play(&rt, "refused chunk stays live", &[2, 31], 0, STAYS_LIVE)?;
+    play(&rt, "smaller size is copied", &[2, 5], 0, SMALLER)
 }

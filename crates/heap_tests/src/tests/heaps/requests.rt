@@ -20,11 +20,6 @@ const NULLS: &[Step] = &[
     Mapped(0, 1, false),
 ];
 
-#[test]
-fn three_ways_to_get_null(rt: HostRuntime) -> Result<(), Fail> {
-    play(&rt, &[64], 0, NULLS)
-}
-
 const REFUSALS: &[Step] = &[
     Malloc(1, 16),
     Addg(2, 1, 0, 1),
@@ -34,11 +29,6 @@ const REFUSALS: &[Step] = &[
     Null(16_369, NullCause::Large),
     Null(17, NullCause::NoClass),
 ];
-
-#[test]
-fn refusals_come_in_their_order(rt: HostRuntime) -> Result<(), Fail> {
-    play(&rt, &[2], 0, REFUSALS)
-}
 
 const ZEROED: &[Step] = &[
     Malloc(1, 16),
@@ -55,11 +45,6 @@ const ZEROED: &[Step] = &[
     Pointer(3, pointer!(1, 3)),
 ];
 
-#[test]
-fn calloc_zeroes_its_granules(rt: HostRuntime) -> Result<(), Fail> {
-    play(&rt, &[2], 0, ZEROED)
-}
-
 const TAIL_KEPT: &[Step] = &[
     Malloc(1, 32),
     Store(1, 0, 0xee, 32),
@@ -72,6 +57,9 @@ const TAIL_KEPT: &[Step] = &[
 ];
 
 #[test]
-fn calloc_keeps_the_tail(rt: HostRuntime) -> Result<(), Fail> {
-    play(&rt, &[3], 0, TAIL_KEPT)
+fn requests(rt: HostRuntime) -> Result<(), Fail> {
+    play(&rt, "three ways to get null", &[64], 0, NULLS)?;
+    play(&rt, "refusals come in their order", &[2], 0, REFUSALS)?;
+    play(&rt, "calloc zeroes its granules", &[2], 0, ZEROED)?;
+    play(&rt, "calloc keeps the tail", &[3], 0, TAIL_KEPT)
 }

@@ -70,11 +70,6 @@ const RELEASED: &[Step] = &[
     LoadFault(7, 16, 1, tag_fault!(10, 0, 9)),
 ];
 
-#[test]
-fn quarantine_releases_past_its_limit(rt: HostRuntime) -> Result<(), Fail> {
-    play(&rt, &[2], 64, RELEASED)
-}
-
 const LAST_FIRST: &[Step] = &[
     Malloc(1, 16),
     Malloc(2, 16),
@@ -86,11 +81,6 @@ const LAST_FIRST: &[Step] = &[
     LoadFault(1, 0, 1, tag_fault!(1, 3, 1)),
     LoadFault(2, 0, 1, tag_fault!(3, 4, 2)),
 ];
-
-#[test]
-fn freed_last_is_given_first(rt: HostRuntime) -> Result<(), Fail> {
-    play(&rt, &[2], 0, LAST_FIRST)
-}
 
 // the last load succeeds: the next chunk of the slot was freed too, and the tag came again
 const TAG_AGAIN: &[Step] = &[
@@ -106,6 +96,20 @@ const TAG_AGAIN: &[Step] = &[
 ];
 
 #[test]
-fn freed_pointer_faults_until_the_next_free(rt: HostRuntime) -> Result<(), Fail> {
-    play(&rt, &[2], 0, TAG_AGAIN)
+fn reuse(rt: HostRuntime) -> Result<(), Fail> {
+    play(
+        &rt,
+        "quarantine releases past its limit",
+        &[2],
+        64,
+        RELEASED,
+    )?;
+    play(&rt, "freed last is given first", &[2], 0, LAST_FIRST)?;
+    play(
+        &rt,
+        "freed pointer faults until the next free",
+        &[2],
+        0,
+        TAG_AGAIN,
+    )
 }

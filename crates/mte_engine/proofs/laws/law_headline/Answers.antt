@@ -1,5 +1,5 @@
-use Rattle.mte_engine.proofs.LawLemmas.{tuned_run_is_headline}
+use Rattle.mte_engine.proofs.Headline.{headline}
 use Rattle.mte_engine.proofs.laws.law_headline.Goals as goal
 
 pub returns : goal.returns
-returns c = tuned_run_is_headline
+returns c = headline

@@ -1,7 +1,6 @@
 use Rattle.std.proofs.Common.{ap, ◌∙◌, List, ℕ, ◌++◌}
 use Rattle.profile_count.specs.ProfileText.{profile_text}
 use Rattle.std.proofs.lemmas.Result.{err_from_is_err_and}
-use Rattle.trace_reader.proofs.LawLemmas.{events_are_few, finished_after_events, pieces_are_the_text}
 use Rattle.mte_engine.proofs.TracePieces.{profile_refused, profile_written}
 use Rattle.mte_engine.proofs.profiling.profile_of_trace.Goals as goal
 
@@ -9,11 +8,11 @@ pub returns-in_err-end : goal.returns-in_err-end
 returns-in_err-end c = λ bytes keeps.
     let error = err_from_is_err_and c.from_residual.result c.from_residual.ensures.1 in
     rw (error.1, error.2)
-    (profile_refused pieces_are_the_text finished_after_events bytes c.args.input.reader c.args.input.profile c.in_err-end.field-0.0 keeps c.in_err-end.ensures.ended)
+    (profile_refused bytes c.args.input.reader c.args.input.profile c.in_err-end.field-0.0 keeps c.in_err-end.ensures.ended)
 
 pub returns : goal.returns
 returns c = λ bytes keeps.
     let counted = rw c.in_ok-end.ensures.events at c.count_out.ensures.counted in
-    profile_written pieces_are_the_text finished_after_events bytes events_are_few c.args.input.reader c.args.input.profile c.count_out.new.profile
+    profile_written bytes c.args.input.reader c.args.input.profile c.count_out.new.profile
     c.write.new.text.items keeps c.in_ok-end.ensures.ended counted
     (c.in_ok-write.ensures.written ∙ ap (λ (before : List ℕ). before ++ profile_text c.count_out.new.profile) c.new-text.ensures.items)

@@ -1,6 +1,5 @@
 use Rattle.std.proofs.Common.{◌≡◌, ◌<◌, false, length, vec_len, eqb-true, sym, ◌∙◌, arith}
 use Rattle.std.proofs.lemmas.Bool.{eqb-false}
-use Rattle.line_text.proofs.LawLemmas.{cut_lines_are_read, line_in_front_is_read}
 use Rattle.mte_engine.proofs.LineAndTrace.{line_and_trace, no_class_line}
 use Rattle.mte_engine.proofs.replaying.answer_to.Goals as goal
 use Rattle.mte_engine.proofs.replaying.answer_to.Goals.{else-not-has_ended-via-then-not-has_ended+else-is_empty, else-not-has_ended-via-else-not-has_ended}
@@ -19,5 +18,5 @@ returns c = λ bytes keeps.
       | else-not-has_ended-via-then-not-has_ended+else-is_empty w ↦ λ unended. omega (arith, eqb-false (vec_len i.line) 0 (sym w.is_empty.ensures ∙ w.if-is_empty.false))
       | else-not-has_ended-via-else-not-has_ended w ↦ λ unended. cc (unended, w.if-not-has_ended.false)
     ] in
-    let parts = line_and_trace cut_lines_are_read line_in_front_is_read i.has_ended i.line.items i.reader bytes keeps some in
+    let parts = line_and_trace i.has_ended i.line.items i.reader bytes keeps some in
     rw c.deref.ensures.value at c.answer_to_parts.ensures bytes parts.0 parts.1

@@ -3,8 +3,6 @@ use Rattle.std.proofs.lemmas.Result.{err_from_is_err_and}
 use Rattle.potential_check.specs.Sheets.{sheet_of}
 use Rattle.potential_check.specs.SheetText.{sheet_text}
 use Rattle.potential_check.specs.declared.sheet.Sheet.{Sheet}
-use Rattle.trace_reader.proofs.LawLemmas.{finished_after_events, pieces_are_the_text}
-use Rattle.mte_engine.proofs.LawLemmas.{tuned_run_is_headline}
 use Rattle.mte_engine.specs.Replay.{report_on}
 use Rattle.mte_engine.specs.ReportText.{text_left}
 use Rattle.mte_engine.specs.Traces.{profile_of_events}
@@ -15,7 +13,7 @@ pub returns-in_err-end : goal.returns-in_err-end
 returns-in_err-end c = λ bytes keeps.
     let error = err_from_is_err_and c.from_residual.result c.from_residual.ensures.1 in
     rw (error.1, error.2)
-    (run_refused pieces_are_the_text finished_after_events c.args.limit c.args.step c.args.config c.args.reader bytes keeps c.in_err-end.field-0.0 c.in_err-end.ensures.ended)
+    (run_refused c.args.limit c.args.step c.args.config c.args.reader bytes keeps c.in_err-end.field-0.0 c.in_err-end.ensures.ended)
 
 pub returns : goal.returns
 returns c = λ bytes keeps.
@@ -29,5 +27,5 @@ returns c = λ bytes keeps.
     let report = c.in_ok-report.ensures
     ∙ ap (λ (t : List ℕ). t ++ report_on c.args.config c.sheet-sheet.result.now.table events) text
     ∙ ap (λ (s : Sheet). sheet_text (sheet_of sheet) ++ report_on c.args.config s.table events) c.sheet-sheet.ensures in
-    run_written pieces_are_the_text finished_after_events c.args.limit c.args.step c.args.config c.args.reader bytes keeps tuned_run_is_headline c.end.new.reader profile
+    run_written c.args.limit c.args.step c.args.config c.args.reader bytes keeps c.end.new.reader profile
     (sheet_of sheet) (text_left c.in_ok-report.report) c.in_ok-end.ensures.ended c.in_ok-end.ensures.events is_profile c.in_ok-tuned.ensures.tuned report

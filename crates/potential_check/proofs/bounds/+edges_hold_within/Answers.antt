@@ -1,12 +1,11 @@
 use Rattle.std.proofs.Common.{◌+◌, ◌-◌, ◌/◌, arith}
-use Rattle.tuner_theory.proofs.LawLemmas.{places_cross}
 use Rattle.potential_check.proofs.Crossing.{edges-join}
 use Rattle.potential_check.proofs.bounds.+edges_hold_within.Goals as goal
 
 -- two calls: the part left of the middle, where the answer is true, and then the part right of it
 pub returns-then-edges_hold_within : goal.returns-then-edges_hold_within
 returns-then-edges_hold_within t c = (
-  λ right. edges-join places_cross c.args.spans.now c.requires.step c.args.before.now c.args.row.now
+  λ right. edges-join c.args.spans.now c.requires.step c.args.before.now c.args.row.now
       c.args.part.start c.args.part.end c.args.ends.start c.args.ends.end (c.args.part.start + (c.args.part.end - c.args.part.start) / 2)
       c.tightest_end-end.result c.requires.within
       (record { after = omega arith; from = omega arith; to = omega arith; least = λ j later from below. c.tightest_end-end.ensures.least j (omega arith) below })

@@ -1,6 +1,5 @@
 use Rattle.std.proofs.Common.{◌≡◌, ◌-◌, ◌<◌, length, arith, inl, inr}
 use Rattle.std.proofs.lemmas.Bool.{cases_lt}
-use Rattle.tuner_theory.proofs.LawLemmas.{places_cross}
 use Rattle.potential_check.proofs.TightEnds.{walked-all, walked-end, walked-more}
 use Rattle.potential_check.proofs.tight_rows.is_tight_row.Goals as goal
 
@@ -9,7 +8,7 @@ returns-in-None c = (
   λ holds. absurd cc,
   λ (hold, tight).
       let some : c.loop-place.place - 1 < length c.args.row.now = omega arith in
-      let end = walked-end places_cross c.args.spans.now c.requires.step c.args.before.now c.args.row.now c.requires.row
+      let end = walked-end c.args.spans.now c.requires.step c.args.before.now c.args.row.now c.requires.row
       (c.loop-place.place - 1) c.loop-place.place c.loop-place.end (omega arith) c.loop-place.invariant.walked some hold (tight.each _ some) in
       absurd (c.in-None.ensures.none end hold),
 )
@@ -18,7 +17,7 @@ pub loop-place-preserved : goal.loop-place-preserved
 loop-place-preserved c =
     let found = c.in-Some.ensures.some in
     record {
-      walked = walked-more places_cross c.args.spans.now c.requires.step c.args.before.now c.args.row.now c.requires.row
+      walked = walked-more c.args.spans.now c.requires.step c.args.before.now c.args.row.now c.requires.row
           (c.loop-place.place - 1) c.loop-place.place c.loop-place.end c.in-Some.tight (omega arith) c.loop-place.invariant.walked (omega arith) found;
       tight = λ k from within. elim (cases_lt (c.loop-place.place - 1) k) [
         | inl later ↦ c.loop-place.invariant.tight k (omega arith) within
@@ -30,7 +29,7 @@ loop-place-preserved c =
 pub returns : goal.returns
 returns c = (
   λ holds. (
-    walked-all places_cross c.args.spans.now c.requires.step c.args.before.now c.args.row.now c.requires.row
+    walked-all c.args.spans.now c.requires.step c.args.before.now c.args.row.now c.requires.row
         c.loop-place.place c.loop-place.end (omega arith) c.loop-place.invariant.walked (c.first_edges_hold.ensures.0 holds),
     record { each = λ k within. c.loop-place.invariant.tight k (omega arith) within },
   ),

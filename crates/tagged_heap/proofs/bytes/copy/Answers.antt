@@ -6,8 +6,13 @@ use Rattle.tagged_heap.proofs.BytesInParts.{written-none, bytes_at-none, copied_
 use Rattle.tagged_heap.proofs.bytes.copy.Goals as goal
 
 pub loop-done-init : goal.loop-done-init
-loop-done-init c =
-    (sym (ap (λ bytes. written c.args.to bytes c.args.memory.now) (bytes_at-none c.args.memory.now c.args.from) ∙ written-none c.args.to c.args.memory.now), refl, omega arith, refl)
+loop-done-init c = (
+  sym (ap (λ bytes. written c.args.to bytes c.args.memory.now) (bytes_at-none c.args.memory.now c.args.from)
+      ∙ written-none c.args.to c.args.memory.now),
+  refl,
+  omega arith,
+  refl,
+)
 
 pub loop-done-preserved : goal.loop-done-preserved
 loop-done-preserved c =
@@ -16,10 +21,12 @@ loop-done-preserved c =
     let more : c.loop-done.done + c.min-len.result ≤ c.args.count = omega (arith, c.min-len.ensures, i.2) in
     let parts = written-append in
     let others = other_bytes in (
-      copied_more parts others c.args.memory.now c.loop-done.memory c.write_bytes.new.self c.args.from c.args.to c.loop-done.done c.min-len.result c.args.count c.loop-done.piece
+      copied_more parts others c.args.memory.now c.loop-done.memory c.write_bytes.new.self c.args.from c.args.to c.loop-done.done
+          c.min-len.result c.args.count c.loop-done.piece
           c.read_bytes.new.to i.0 i.3 few more c.read_bytes.ensures c.requires.apart c.write_bytes.ensures.written,
       c.write_bytes.ensures.others.len ∙ i.1,
       more,
-      copied_long parts others c.args.memory.now c.loop-done.memory c.write_bytes.new.self c.args.from c.args.to c.loop-done.done c.min-len.result c.args.count c.loop-done.piece
+      copied_long parts others c.args.memory.now c.loop-done.memory c.write_bytes.new.self c.args.from c.args.to c.loop-done.done
+          c.min-len.result c.args.count c.loop-done.piece
           c.read_bytes.new.to i.0 i.3 few more c.read_bytes.ensures,
     )

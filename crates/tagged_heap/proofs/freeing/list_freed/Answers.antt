@@ -1,18 +1,28 @@
-use Rattle.std.proofs.Common.{ap, ◌∙◌}
+use Rattle.std.proofs.Common.{◌≢◌, ℕ, ◌<◌, ap, ◌∙◌}
 use Rattle.std.specs.Prelude.{slice_index}
-use Rattle.heap_theory.specs.Header.{Header, with_header}
-use Rattle.class_table.specs.Layout.{slot_of}
+use Rattle.class_table.specs.Layout.{slot_count}
+use Rattle.heap_theory.specs.Header.{Header}
 use Rattle.heap_theory.specs.Header.Standing.{Freed}
-use Rattle.chunk_header.specs.HeaderView.{seen, with_next}
-use Rattle.tagged_heap.proofs.HeaderPlaces.{listed_header}
+use Rattle.heap_theory.specs.State.{without_headers}
+use Rattle.tagged_heap.proofs.HeaderPlaces.{header_unseen, starts_differ}
 use Rattle.tagged_heap.proofs.freeing.list_freed.Goals as goal
 
+-- the header is written as that of a freed slot, and then its link is set
 pub returns-clause-header : goal.returns-clause-header
 returns-clause-header c =
     let layout = c.args.layout.now in
-    let class = c.from.ensures ∙ ap (λ (x : Header). x.class) c.header-before.ensures.header in
-    listed_header layout c.args.memory.now c.write.new.memory c.push.new.memory c.args.slot _ (seen c.header-before.result) c.requires.memory c.requires.order c.requires.region
-    c.requires.slot c.header-before.ensures.fits c.requires.class.front c.header-before.ensures.header
-    (c.write.ensures.written ∙ ap (λ g. with_header c.args.memory.now g (record (seen c.header-before.result) { standing = Freed })) c.start-start.ensures.start)
-    (c.push.ensures.link.written
-    ∙ ap (λ k. with_next c.write.new.memory (slot_of layout c.args.slot).start (slice_index c.args.lists.now k)) class)
+    let written = rw c.start-start.ensures.start at c.write.ensures in
+    let apart =
+    λ (r : ℕ) (inside : r < slot_count layout) (other : r ≢ c.args.slot). starts_differ layout c.args.slot r c.requires.order
+    c.requires.slot inside other in
+    record {
+      own = c.push.ensures.link.header
+          ∙ (λ i. let x : Header = record (written.read i) { next = slice_index c.args.lists.now (c.from.ensures i) } in x)
+          ∙ ap (λ (x : Header). record x { standing = Freed; next = slice_index c.args.lists.now x.class }) c.header-before.ensures.header;
+      others = λ r inside other. c.push.ensures.link.headers _ (apart r inside other) ∙ written.headers _ (apart r inside other);
+      seen_is =
+          ap (without_headers layout) c.push.ensures.link.written
+          ∙ header_unseen layout c.write.new.memory c.args.slot _ written.memory c.requires.slot
+          ∙ ap (without_headers layout) written.written
+          ∙ header_unseen layout c.args.memory.now c.args.slot _ c.requires.memory c.requires.slot;
+    }

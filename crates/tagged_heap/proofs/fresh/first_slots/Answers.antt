@@ -6,8 +6,17 @@ use Rattle.tagged_heap.proofs.fresh.first_slots.Goals as goal
 
 pub push-requires : goal.push-requires
 push-requires c =
-    let long : length c.loop-number.firsts.items ≡ c.loop-number.number = ap length c.loop-number.invariant ∙ length-map-range_with_len (first_slot c.args.layout.now) 0 c.loop-number.number in
-    (omega arith, omega (arith, long, c.loop-number-test.true, c.classes-number-end.ensures.classes, c.classes-number-end.ensures.partition.table.few))
+    let long : length c.loop-number.firsts.items ≡ c.loop-number.number =
+    ap length c.loop-number.invariant ∙ length-map-range_with_len (first_slot c.args.layout.now) 0 c.loop-number.number in (
+      omega arith,
+      omega (
+        arith,
+        long,
+        c.loop-number-test.true,
+        c.classes-number-end.ensures.classes,
+        c.classes-number-end.ensures.partition.table.few,
+      ),
+    )
 
 pub loop-number-preserved : goal.loop-number-preserved
 loop-number-preserved c =

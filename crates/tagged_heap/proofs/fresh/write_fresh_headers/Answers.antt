@@ -1,13 +1,18 @@
-use Rattle.std.proofs.Common.{◌≡◌, ◌<◌, sym, ap, ◌∙◌, subst, inl, inr, arith}
+use Rattle.std.proofs.Common.{◌≡◌, ℕ, ◌<◌, sym, ap, ◌∙◌, subst, inl, inr, arith}
 use Rattle.std.proofs.lemmas.Bool.{cases_lt}
 use Rattle.class_table.specs.Layout.{AreInOrder, slot_of, slot_count}
-use Rattle.heap_theory.specs.Header.{header_at, header_for, with_header, class_number}
-use Rattle.heap_theory.specs.State.{first_heap, without_headers}
+use Rattle.heap_theory.specs.Header.{Header, header_at, with_header, class_number}
+use Rattle.heap_theory.specs.Header.Standing.{Fresh as NeverGiven}
+use Rattle.heap_theory.specs.State.{without_headers}
+use Rattle.heap_theory.specs.State.State.{Fresh}
 use Rattle.tagged_heap.proofs.TheoryLemmas as laws
-use Rattle.tagged_heap.specs.Representation.{header_in}
-use Rattle.tagged_heap.proofs.FirstHeld.{fresh_header, header_fresh, class_is_number}
+use Rattle.tagged_heap.specs.Representation.{header_in, header_from}
+use Rattle.tagged_heap.proofs.FirstHeld.{class_is_number}
 use Rattle.tagged_heap.proofs.HeaderPlaces.{header_unseen, starts_differ}
 use Rattle.tagged_heap.proofs.fresh.write_fresh_headers.Goals as goal
+
+abbrev fresh_header : ℕ → Header
+fresh_header class = record { standing = NeverGiven; size = 0; tag = 0; class = class; next = 0; mark = 0 }
 
 pub loop-slot-preserved : goal.loop-slot-preserved
 loop-slot-preserved c =
@@ -15,20 +20,23 @@ loop-slot-preserved c =
     let slot = c.loop-slot.slot in
     let within : slot < slot_count layout = omega (arith, c.loop-slot-test.true, c.slots-slot-end.ensures.slots) in
     let order : AreInOrder layout = laws.in_order 1 layout c.granules.ensures.partition.table in
-    let class : c.class_of.result ≡ class_number layout slot = class_is_number layout slot c.class_of.result c.granules.ensures.partition.table within c.class_of.ensures.class in
-    let own : header_in layout c.write.new.memory slot ≡ fresh_header (class_number layout slot) =
+    let class : c.class_of.result ≡ class_number layout slot =
+    class_is_number layout slot c.class_of.result c.granules.ensures.partition.table within c.class_of.ensures.class in
+    let own : header_in layout c.write.new.memory slot ≡ header_from layout 0 slot Fresh 0 =
     ap (header_at c.write.new.memory) (sym c.start.ensures.start) ∙ c.write.ensures.read ∙ ap fresh_header class in
     record {
       headers = λ s below. elim (cases_lt s slot) [
         | inl less ↦
-            c.write.ensures.headers (slot_of layout s).start (λ same. starts_differ layout slot s order within (omega arith) (omega arith) (same ∙ c.start.ensures.start))
+            c.write.ensures.headers (slot_of layout s).start
+            (λ same. starts_differ layout slot s order within (omega arith) (omega arith) (same ∙ c.start.ensures.start))
             ∙ c.loop-slot.invariant.headers s less
         | inr more ↦
             let same : slot ≡ s = omega arith in
-            subst (λ s. header_in layout c.write.new.memory s ≡ header_for (first_heap layout 0 0) s 0) same (own ∙ sym (header_fresh layout 0 0 slot))
+            subst (λ s. header_in layout c.write.new.memory s ≡ header_from layout 0 s Fresh 0) same own
       ];
       seen = ap (without_headers layout) c.write.ensures.written
-          ∙ ap (λ start. without_headers layout (with_header c.loop-slot.memory start (fresh_header c.class_of.result))) c.start.ensures.start
+          ∙ ap (λ start. without_headers layout (with_header c.loop-slot.memory start (fresh_header c.class_of.result)))
+          c.start.ensures.start
           ∙ header_unseen layout c.loop-slot.memory slot (fresh_header c.class_of.result) c.loop-slot.invariant.memory within
           ∙ c.loop-slot.invariant.seen;
       memory = c.write.ensures.memory;

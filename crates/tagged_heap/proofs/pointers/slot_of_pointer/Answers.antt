@@ -7,25 +7,36 @@ use Rattle.tagged_heap.proofs.pointers.slot_of_pointer.Goals as goal
 pub returns-then-granule-from : goal.returns-then-granule-from
 returns-then-granule-from c s within plain at =
     let is = c.granules.ensures.partition in
-    omega (arith, payload_inside c.args.layout.now is s c.place_of-place.result within (c.place_of-place.ensures ∙ at), c.if-granule-from.true, c.from.ensures, c.granules.ensures.granules)
+    omega (
+      arith,
+      payload_inside c.args.layout.now is s c.place_of-place.result within (c.place_of-place.ensures ∙ at),
+      c.if-granule-from.true,
+      c.from.ensures,
+      c.granules.ensures.granules,
+    )
 
 pub returns-in_err-slot : goal.returns-in_err-slot
 returns-in_err-slot c =
     rw c.from_residual.ensures
     (λ s within plain at.
-    let some : None ≡ Some s = sym c.in_err-slot.ensures.none ∙ payload_covered c.args.layout.now c.granules.ensures.partition s c.place_of-place.result within (c.place_of-place.ensures ∙ at) in
+    let some : None ≡ Some s =
+    sym c.in_err-slot.ensures.none
+    ∙ payload_covered c.args.layout.now c.granules.ensures.partition s c.place_of-place.result within (c.place_of-place.ensures ∙ at) in
     cc)
 
 pub returns-then-before-eq1 : goal.returns-then-before-eq1
 returns-then-before-eq1 c =
     let is = c.granules.ensures.partition in
     let granule = (c.place_of-place.result - region_start) / 16 in
-    let within = covered_within c.args.layout.now is granule c.in_ok-slot.slot (Some c.in_ok-slot.slot) (sym c.in_ok-slot.ensures.some) refl in
-    let begins : (slot_of c.args.layout.now c.in_ok-slot.slot).start + 1 ≡ granule = omega (arith, c.in_ok-slot.ensures.place, c.if-before-eq1.true) in (
+    let within =
+    covered_within c.args.layout.now is granule c.in_ok-slot.slot (Some c.in_ok-slot.slot) (sym c.in_ok-slot.ensures.some) refl in
+    let begins : (slot_of c.args.layout.now c.in_ok-slot.slot).start + 1 ≡ granule =
+    omega (arith, c.in_ok-slot.ensures.place, c.if-before-eq1.true) in (
       within,
       omega (arith, c.if-p-ne0.false),
       sym c.place_of-place.ensures
-          ∙ payload_begins c.args.layout.now is c.in_ok-slot.slot c.place_of-place.result c.if-place-lt-REGION_START.false c.if-place-ne0.false begins,
+          ∙ payload_begins c.args.layout.now is c.in_ok-slot.slot c.place_of-place.result c.if-place-lt-REGION_START.false
+          c.if-place-ne0.false begins,
     )
 
 pub returns-else-before-eq1 : goal.returns-else-before-eq1

@@ -1,9 +1,8 @@
-use Rattle.line_text.proofs.LawLemmas.{hex_is_a_byte}
 use Rattle.trace_reader.proofs.LineRanges.{IfOk-event_of_line, few_events}
 use Rattle.trace_reader.proofs.line.event_in.Goals as goal
 
 pub returns-clause-range : goal.returns-clause-range
-returns-clause-range c = rw c.judged_line.ensures (IfOk-event_of_line hex_is_a_byte c.args.number c.args.line.now)
+returns-clause-range c = rw c.judged_line.ensures (IfOk-event_of_line c.args.number c.args.line.now)
 
 pub returns-clause-few : goal.returns-clause-few
 returns-clause-few c = rw c.judged_line.ensures (few_events c.args.number c.args.line.now)

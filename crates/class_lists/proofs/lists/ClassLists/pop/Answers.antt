@@ -1,7 +1,6 @@
 use Rattle.std.proofs.Common.{◌≡◌, ℕ, ◌+◌, ◌-◌, List, [], ◌∷◌, drop, get_or-set_same, ap, sym, subst, ◌∙◌, arith}
 use Rattle.std.specs.Prelude.{slice_index, slice_get}
 use Rattle.heap_theory.specs.Links.{next_in}
-use Rattle.heap_theory.proofs.Linked.{IsLinked-once}
 use Rattle.class_lists.specs.Lists.{ShowsList}
 use Rattle.class_lists.proofs.ListChanges.{shown_none, shown_first, shown_rest, first_not_in_rest}
 use Rattle.class_lists.proofs.lists.ClassLists.pop.Goals as goal
@@ -32,7 +31,7 @@ returns-clause-popped c = λ list shown.
     subst (λ slots. ShowsList layout old (slot + 1) slots) first (subst (λ n. ShowsList layout old n list) is shown) in
     let left : ShowsList layout new (next_in layout old slot) rest =
     returns-clause-others c (next_in layout old slot) rest (shown_rest layout old slot rest whole)
-    (first_not_in_rest IsLinked-once layout old slot rest whole) in
+    (first_not_in_rest layout old slot rest whole) in
     let front_is : slice_index c.set_front.new.self c.args.class ≡ next_in layout old slot =
     ap (λ (fronts : List ℕ). slice_index fronts c.args.class) c.set_front.ensures
     ∙ get_or-set_same c.args.self.now c.args.class c.unlink-next.result 0 c.requires.class

@@ -1,6 +1,7 @@
 use Rattle.std.proofs.Common.{◌≡◌, [], ◌∷◌, ◌++◌, subst, ⊎_elim, arith, rules}
 use Rattle.std.specs.Prelude.{Contains}
 use Rattle.heap_theory.proofs.Found.{Contains-cases, Contains-last_cases}
+use Rattle.quarantine_core.proofs.LawLemmas.{one_queue_is_shown}
 use Rattle.heap_tests.proofs.Queues.{was_in}
 use Rattle.heap_tests.proofs.tests.slots.quarantine_releases_past_its_limit.Goals as goal
 
@@ -10,7 +11,7 @@ put-requires g c = record {
   linked = ([], c.new-quarantine.ensures.queued _);
   slot = search rules;
   outside = λ queue is there.
-      let none : queue ≡ [] = c.law_queue.ensures.one _ _ _ queue [] is (c.new-quarantine.ensures.queued _) in
+      let none : queue ≡ [] = one_queue_is_shown _ _ _ queue [] is (c.new-quarantine.ensures.queued _) in
       let here = subst (λ slots. Contains slots 0) none there in
       omega (arith, here.1);
   next = search rules;
@@ -27,13 +28,13 @@ put-requires-3 g c = record {
       let layout = c.new-layout.result in
       let once = c.next_out.ensures in
       let twice = c.next_out-2.ensures in
-      let one = c.law_queue.ensures.one in
       let left = once.linked.0 in
       let early : Contains left 2 → Contains (0 ∷ []) 2 =
-      was_in one c.put.new.self c.next_out.new.self layout c.put.new.memory c.next_out.new.memory c.next_out.result once.same once.oldest
+      was_in c.put.new.self c.next_out.new.self layout c.put.new.memory c.next_out.new.memory c.next_out.result once.same once.oldest
       (0 ∷ []) left (c.put.ensures.queued [] (c.new-quarantine.ensures.queued _)) once.linked.1 2 in
       let late : Contains (left ++ 1 ∷ []) 2 =
-      was_in one c.put-2.new.self c.next_out-2.new.self layout c.put-2.new.memory c.next_out-2.new.memory c.next_out-2.result twice.same twice.oldest
+      was_in c.put-2.new.self c.next_out-2.new.self layout c.put-2.new.memory c.next_out-2.new.memory c.next_out-2.result twice.same
+      twice.oldest
       (left ++ 1 ∷ []) queue (c.put-2.ensures.queued left once.linked.1) is 2 there in
       ⊎_elim (λ same. omega (arith, same))
       (λ before. ⊎_elim (λ same. omega (arith, same)) (λ none. omega (arith, none.1)) (Contains-cases 0 [] 2 (early before)))

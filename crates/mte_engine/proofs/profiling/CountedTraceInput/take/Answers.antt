@@ -1,8 +1,7 @@
-use Rattle.trace_reader.proofs.LawLemmas.{fed_after_events, pieces_are_joined, pieces_have_few_events}
 use Rattle.mte_engine.proofs.TracePieces.{counts_more}
 use Rattle.mte_engine.proofs.profiling.CountedTraceInput.take.Goals as goal
 
 pub returns : goal.returns
 returns c = λ bytes keeps. rw c.count_out.ensures.state
-    (counts_more pieces_are_joined fed_after_events pieces_have_few_events bytes c.args.piece.now
+    (counts_more bytes c.args.piece.now
     c.args.self.now.reader c.feed.new.reader c.args.self.now.profile c.count_out.new.profile keeps c.in_ok-feed.ensures.fed c.count_out.ensures.counted)

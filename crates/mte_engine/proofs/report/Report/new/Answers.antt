@@ -1,6 +1,5 @@
 use Rattle.std.proofs.Common.{◌++◌, arith, ap, ◌∙◌, List, ℕ}
 use Rattle.replay_core.specs.ReplayState.{Stored}
-use Rattle.replay_core.proofs.LawLemmas.{lines_of_none, lines_of_one_more, report_is_lines_and_totals, stored_of_none, stored_of_one_more}
 use Rattle.mte_engine.specs.Replay.{region_for}
 use Rattle.mte_engine.specs.Report.{report_from}
 use Rattle.mte_engine.proofs.Reporting.{first_events, whole_report}
@@ -19,8 +18,8 @@ invariant_of-result c = record {
 
 pub returns : goal.returns
 returns c =
-    let report = whole_report stored_of_none stored_of_one_more lines_of_none lines_of_one_more report_is_lines_and_totals (region_for c.args.config c.args.table.now) c.args.config.seed c.args.config.quarantine
-    c.args.reader.events in
+    let report =
+    whole_report (region_for c.args.config c.args.table.now) c.args.config.seed c.args.config.quarantine c.args.reader.events in
     let text = c.args.text.items in
     let events = c.args.reader.events in
     c.fill-is_whole.ensures.report

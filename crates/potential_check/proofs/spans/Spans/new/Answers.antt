@@ -1,7 +1,6 @@
 use Rattle.std.proofs.Common.{◌≡◌, ℕ, ◌≤◌, List, slice_index, add-one, arith, ◌∙◌}
 use Rattle.std.proofs.lemmas.Bool.{both_ways}
 use Rattle.std.proofs.Math.Nat.{mul-le-mul}
-use Rattle.tuner_theory.proofs.LawLemmas.{rounding_is_least}
 use Rattle.potential_check.specs.Spanned.{last_need}
 use Rattle.tuner_theory.specs.Spans.{rounded_need}
 use Rattle.potential_check.proofs.Building.{HasPlace, built-add, built-end, built-none, built-skip, built-small, place-new, place-same}
@@ -11,7 +10,7 @@ use Rattle.potential_check.proofs.spans.Spans.new.Goals.{then-count-gt0, else-co
 pub loop-n-init : goal.loop-n-init
 loop-n-init c = record {
   built = rw (c.new-needs.ensures.items, c.new-counted.ensures.items, c.new-bytes.ensures.items)
-      (built-none rounding_is_least c.args.profile.now.counts c.args.step c.requires);
+      (built-none c.args.profile.now.counts c.args.step c.requires);
   are_counts = λ some. absurd (omega arith);
 }
 
@@ -34,7 +33,7 @@ pub loop-n-preserved : goal.loop-n-preserved
 loop-n-preserved c = record {
   built = rw add-one (elim c.if-count-gt0.branch [
     | else-count-gt0 w ↦ rw (w.needs-is, w.counted-is, w.bytes-is, w.total-is, w.total_bytes-is)
-        (built-skip rounding_is_least counts c.args.step c.requires c.loop-n.n _ _ _ _ _ (omega (arith, w.if-count-gt0.false)) c.loop-n.invariant.built)
+        (built-skip counts c.args.step c.requires c.loop-n.n _ _ _ _ _ (omega (arith, w.if-count-gt0.false)) c.loop-n.invariant.built)
     | then-count-gt0 w ↦ (let place : HasPlace counts c.args.step c.loop-n.n w.if-not-is_last.needs.items w.if-not-is_last.counted.items w.if-not-is_last.bytes.items
         c.loop-n.total c.loop-n.total_bytes = elim w.if-not-is_last.branch [
           | then-not-is_last+in_ok-push+in_ok-push-2+in_ok-push-3 v ↦
@@ -42,16 +41,16 @@ loop-n-preserved c = record {
               (λ e. both_ways w.is_last.result v.if-not-is_last.true
               (w.is_last.ensures.1 (rw (w.deref.ensures.value, w.rounded_need-need.ensures.need) e))) in
               rw (v.needs-is, v.counted-is, v.bytes-is, v.in_ok-push.ensures.items, v.in_ok-push-2.ensures.items, v.in_ok-push-3.ensures.items, w.rounded_need-need.ensures.need)
-              (place-new rounding_is_least counts c.args.step c.requires c.loop-n.n _ _ _ _ _ new c.loop-n.invariant.built))
+              (place-new counts c.args.step c.requires c.loop-n.n _ _ _ _ _ new c.loop-n.invariant.built))
           | else-not-is_last v ↦
               (let last : last_need c.loop-n.needs.items ≡ rounded_need c.args.step c.loop-n.n =
               (rw w.deref.ensures.value at (w.is_last.ensures.0 v.if-not-is_last.false)) ∙ w.rounded_need-need.ensures.need in
               rw (v.needs-is, v.counted-is, v.bytes-is)
-              (place-same rounding_is_least counts c.args.step c.requires c.loop-n.n _ _ _ _ _ last c.loop-n.invariant.built))
+              (place-same counts c.args.step c.requires c.loop-n.n _ _ _ _ _ last c.loop-n.invariant.built))
         ] in
         let count : c.from-count.result ≡ slice_index counts c.loop-n.n = c.from-count.ensures ∙ c.count.ensures.count in
         rw (w.needs-is, w.counted-is, w.bytes-is, w.total-is, w.total_bytes-is, w.from.ensures, count)
-        (built-add rounding_is_least counts c.args.step c.requires c.loop-n.n _ _ _ _ _ (omega arith) place))
+        (built-add counts c.args.step c.requires c.loop-n.n _ _ _ _ _ (omega arith) place))
   ]);
   are_counts = λ some. c.count.ensures.profile.counts;
 }

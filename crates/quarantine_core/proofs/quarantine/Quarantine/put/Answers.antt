@@ -1,6 +1,5 @@
-use Rattle.std.proofs.Common.{◌≡◌, ◌≢◌, ◌+◌, ◌-◌, ◌<◌, [], ◌∷◌, ◌++◌, arith, sym, ap, ◌∙◌, subst}
+use Rattle.std.proofs.Common.{◌≡◌, ◌≢◌, ◌+◌, ◌-◌, ◌<◌, [], ◌∷◌, ◌++◌, arith, sym, add-one, ap, ◌∙◌, subst}
 use Rattle.class_table.specs.Layout.{slot_count}
-use Rattle.heap_theory.proofs.Linked.{IsLinked-append, IsLinked-ends, last_link-append}
 use Rattle.quarantine_core.proofs.Queued.{last_within, put_first, put_at_end}
 use Rattle.quarantine_core.proofs.quarantine.Quarantine.put.Goals as goal
 use Rattle.quarantine_core.proofs.quarantine.Quarantine.put.Goals.{then-self-eq0, else-self-eq0}
@@ -24,10 +23,19 @@ returns-clause-queued c = λ queue old.
           c.requires.slot c.requires.next c.requires.bytes (omega arith) (omega arith) held)
       | else-self-eq0 w ↦
           rw (w.self-inside-is, w.memory-is)
-          (put_at_end IsLinked-append last_link-append IsLinked-ends
-          c.args.self.now _ c.args.layout.now c.args.memory.now w.set_link.new.memory queue (c.self.inside.back - 1) c.args.slot (c.args.slot + 1) c.args.bytes old
+          (put_at_end c.args.self.now _ c.args.layout.now c.args.memory.now w.set_link.new.memory queue (c.self.inside.back - 1) c.args.slot
+          (c.args.slot + 1) c.args.bytes old
           (omega (arith, back, w.if-self-eq0.false)) w.set_link.ensures.link (omega arith) c.requires.slot (c.requires.outside queue old) c.requires.next c.requires.bytes
           front (omega arith) held)
+    ]
+
+pub returns-clause-after : goal.returns-clause-after
+returns-clause-after c = λ last is.
+    let back : c.args.self.now.back ≡ c.self.inside.back = sym (ap (λ q. q.back) c.self.view_is) in
+    elim c.if-self-eq0.branch [
+      | then-self-eq0 w ↦ absurd (omega (arith, back, is, w.if-self-eq0.true))
+      | else-self-eq0 w ↦ (let place : c.self.inside.back - 1 ≡ last = omega (arith, back, is) in
+          rw (w.memory-is, ← place) (rw add-one at w.set_link.ensures.link))
     ]
 
 pub returns-clause-lists : goal.returns-clause-lists

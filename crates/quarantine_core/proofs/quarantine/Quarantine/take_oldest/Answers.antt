@@ -1,7 +1,6 @@
 use Rattle.std.proofs.Common.{◌∷◌, drop, sym, subst, ◌≡◌, ◌-◌, ◌*◌, ◌≤◌, arith, ap, ◌∙◌, ◌<◌}
 use Rattle.std.proofs.lemmas.Grind.{common_steps}
 use Rattle.class_table.specs.Layout.{block_bytes, slot_count, slot_of}
-use Rattle.heap_theory.proofs.Linked.{IsLinked-once, IsLinked-same}
 use Rattle.quarantine_core.specs.Queue.{AreQueued}
 use Rattle.quarantine_core.proofs.Queued.{first_within, oldest_held, some_held, take_oldest}
 use Rattle.quarantine_core.proofs.quarantine.Quarantine.take_oldest.Goals as goal
@@ -43,12 +42,12 @@ returns-clause-oldest c =
           elim c.if-next-eq0.branch [
             | then-next-eq0 w ↦
                 rw w.self-inside-is
-                (take_oldest IsLinked-once IsLinked-same c.args.self.now _ c.args.layout.now c.args.memory.now c.unlink-next.new.memory
+                (take_oldest c.args.self.now _ c.args.layout.now c.args.memory.now c.unlink-next.new.memory
                 (c.self.inside.front - 1) c.unlink-next.result queue old c.unlink-next.ensures.link c.unlink-next.ensures.was
                 (omega arith) (λ zero. omega arith) (λ other. absurd (other w.if-next-eq0.true)) (omega arith))
             | else-next-eq0 w ↦
                 rw w.self-inside-is
-                (take_oldest IsLinked-once IsLinked-same c.args.self.now _ c.args.layout.now c.args.memory.now c.unlink-next.new.memory
+                (take_oldest c.args.self.now _ c.args.layout.now c.args.memory.now c.unlink-next.new.memory
                 (c.self.inside.front - 1) c.unlink-next.result queue old c.unlink-next.ensures.link c.unlink-next.ensures.was
                 (omega arith) (λ zero. absurd (w.if-next-eq0.false zero)) (λ other. ap (λ q. q.back) c.self.view_is) (omega arith))
           ];

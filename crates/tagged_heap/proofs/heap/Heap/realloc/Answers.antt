@@ -1,21 +1,21 @@
 -- The chunk that the pointer names, and whether the bytes are of its class, decide which of the four cases it is.
-use Rattle.std.proofs.Common.{◌≡◌, ◌+◌, ◌∙◌, sym, ap, arith, Ok, Err}
+use Rattle.std.proofs.Common.{◌≡◌, ◌∙◌, refl, arith, Ok, Err}
+use Rattle.std.proofs.lemmas.Bool.{ne_eqb}
 use Rattle.std.proofs.lemmas.Result.{err_from_is_err_and, IfOk-at_ok, IfErr-at_err}
-use Rattle.std.specs.Result.{result_map_both}
 use Rattle.heap_theory.specs.declared.fault.FreeError.{FreeError}
 use Rattle.heap_theory.specs.declared.fault.ReallocError.TheVariants.{Null, Refused}
+use Rattle.heap_theory.specs.Calls.{realloc_step}
 use Rattle.heap_theory.specs.Choice.{chunk_at}
-use Rattle.heap_theory.proofs.OwnPointers.{realloc_accepts}
 use Rattle.tagged_heap.proofs.TheoryLemmas as laws
 use Rattle.tagged_heap.specs.declared.freeing.Chunk.{Chunk as Found}
-use Rattle.tagged_heap.specs.HeapView.{Counted}
-use Rattle.tagged_heap.proofs.Accepted.{realloc_accepted}
-use Rattle.tagged_heap.proofs.ReallocSteps.{err_named, ok_named, all_named, realloc_null, realloc_refused, realloc_stays, realloc_moves, frees_at_null, frees_refused, frees_in_place, frees_moved, move_answer, move_state, move_frees}
+use Rattle.tagged_heap.specs.Frees.{frees_of_realloc}
+use Rattle.tagged_heap.proofs.CallSteps.{realloc_accepted, err_named, ok_named, all_named, moves}
 use Rattle.tagged_heap.proofs.heap.Heap.realloc.Goals as goal
 use Rattle.tagged_heap.proofs.heap.Heap.realloc.Goals.{In_ok-chunk, In_err-chunk}
 
 -- the chunk that the pointer names
-found : (c : In_ok-chunk) → chunk_at c.args.self.now.state c.args.p ≡ Ok (record { slot = c.in_ok-chunk.chunk.slot; size = c.in_ok-chunk.chunk.size })
+found : (c : In_ok-chunk) →
+    chunk_at c.args.self.now.state c.args.p ≡ Ok (record { slot = c.in_ok-chunk.chunk.slot; size = c.in_ok-chunk.chunk.size })
 found c =
     let is = ok_named (λ e d. d ≡ Refused e) _ _ _ c.map_err-2.ensures.cases c.in_ok-chunk.was in
     IfOk-at_ok (λ (x : Found). chunk_at c.args.self.now.state c.args.p ≡ Ok (record { slot = x.slot; size = x.size })) is c.chunk.ensures.ok
@@ -35,90 +35,85 @@ refused c =
       is = error.2;
     }
 
-pub returns-then-p-eq0-clause-answer : goal.returns-then-p-eq0-clause-answer
-returns-then-p-eq0-clause-answer c =
-    all_named Null _ _ c.map_err.ensures.cases ∙ ap (result_map_both (λ p. p) Null) c.malloc.ensures.answer
-    ∙ ap (λ step. step.answer) (realloc_null _ c.args.p c.args.n c.if-p-eq0.true)
-
-pub returns-then-p-eq0-clause-state : goal.returns-then-p-eq0-clause-state
-returns-then-p-eq0-clause-state c = c.malloc.ensures.state ∙ ap (λ step. step.heap) (realloc_null _ c.args.p c.args.n c.if-p-eq0.true)
-
-pub returns-then-p-eq0-clause-counted : goal.returns-then-p-eq0-clause-counted
-returns-then-p-eq0-clause-counted c = omega (arith, c.malloc.ensures.frees, frees_at_null c.args.self.now.state c.args.p c.args.n c.if-p-eq0.true)
-
 pub returns-in_err-chunk-clause-answer : goal.returns-in_err-chunk-clause-answer
+unfolding realloc_step
 returns-in_err-chunk-clause-answer c =
     let p = err_from_is_err_and c.from_residual.result c.from_residual.ensures.1 in
     let error = refused (goal.at.returns-in_err-chunk-clause-answer c).In_err-chunk in
-    rw (p.1, p.2, error.is) (ap (λ step. step.answer) (realloc_refused _ c.args.p c.args.n _ c.if-p-eq0.false error.named))
+    rw (p.1, p.2, error.is, ne_eqb c.args.p 0 c.if-p-eq0.false, error.named) refl
 
 pub returns-in_err-chunk-clause-state : goal.returns-in_err-chunk-clause-state
+unfolding realloc_step
 returns-in_err-chunk-clause-state c =
-    let error = refused (goal.at.returns-in_err-chunk-clause-state c).In_err-chunk in
-    ap (λ step. step.heap) (realloc_refused _ c.args.p c.args.n _ c.if-p-eq0.false error.named)
+    rw (ne_eqb c.args.p 0 c.if-p-eq0.false, (refused (goal.at.returns-in_err-chunk-clause-state c).In_err-chunk).named) refl
 
 pub returns-in_err-chunk-clause-counted : goal.returns-in_err-chunk-clause-counted
+unfolding frees_of_realloc
 returns-in_err-chunk-clause-counted c =
-    let error = refused (goal.at.returns-in_err-chunk-clause-counted c).In_err-chunk in
-    omega (arith, frees_refused c.args.self.now.state c.args.p c.args.n _ c.if-p-eq0.false error.named)
+    rw (ne_eqb c.args.p 0 c.if-p-eq0.false, (refused (goal.at.returns-in_err-chunk-clause-counted c).In_err-chunk).named) (omega arith)
 
 pub stays_in_class-requires : goal.stays_in_class-requires
-stays_in_class-requires c =
-    (laws.chunk _ _ _ (found (goal.at.stays_in_class-requires c).In_ok-chunk)).in_range
+stays_in_class-requires c = (laws.chunk _ _ _ (found (goal.at.stays_in_class-requires c).In_ok-chunk)).in_range
 
 pub resize-requires-clause-live : goal.resize-requires-clause-live
-resize-requires-clause-live c =
-    (_, _, (laws.chunk _ _ _ (found (goal.at.resize-requires-clause-live c).In_ok-chunk)).live)
+resize-requires-clause-live c = (_, _, (laws.chunk _ _ _ (found (goal.at.resize-requires-clause-live c).In_ok-chunk)).live)
 
 pub returns-then-stays_in_class-clause-answer : goal.returns-then-stays_in_class-clause-answer
+unfolding realloc_step
 returns-then-stays_in_class-clause-answer c =
-    ap (λ step. step.answer) (realloc_stays _ c.args.p c.args.n _ c.if-p-eq0.false (found (goal.at.returns-then-stays_in_class-clause-answer c).In_ok-chunk) c.if-stays_in_class.ensures.test)
+    let named = found (goal.at.returns-then-stays_in_class-clause-answer c).In_ok-chunk in
+    rw (ne_eqb c.args.p 0 c.if-p-eq0.false, named, ← c.if-stays_in_class.ensures.test) refl
 
 pub returns-then-stays_in_class-clause-state : goal.returns-then-stays_in_class-clause-state
+unfolding realloc_step
 returns-then-stays_in_class-clause-state c =
-    ap (λ (x : Counted). x.state) c.resize.ensures ∙ ap (λ step. step.heap) (realloc_stays _ c.args.p c.args.n _ c.if-p-eq0.false (found (goal.at.returns-then-stays_in_class-clause-state c).In_ok-chunk) c.if-stays_in_class.ensures.test)
+    let named = found (goal.at.returns-then-stays_in_class-clause-state c).In_ok-chunk in
+    rw (c.resize.ensures, ne_eqb c.args.p 0 c.if-p-eq0.false, named, ← c.if-stays_in_class.ensures.test) refl
 
 pub returns-then-stays_in_class-clause-counted : goal.returns-then-stays_in_class-clause-counted
+unfolding frees_of_realloc
 returns-then-stays_in_class-clause-counted c =
-    let stays = ap (λ (x : Counted). x.frees) c.resize.ensures in
-    omega (arith, stays, frees_in_place c.args.self.now.state c.args.p c.args.n _ c.if-p-eq0.false (found (goal.at.returns-then-stays_in_class-clause-counted c).In_ok-chunk) c.if-stays_in_class.ensures.test)
+    let named = found (goal.at.returns-then-stays_in_class-clause-counted c).In_ok-chunk in
+    rw (c.resize.ensures, ne_eqb c.args.p 0 c.if-p-eq0.false, named, ← c.if-stays_in_class.ensures.test) (omega arith)
 
 pub move_chunk-requires-clause-slot : goal.move_chunk-requires-clause-slot
-move_chunk-requires-clause-slot c =
-    (laws.chunk _ _ _ (found (goal.at.move_chunk-requires-clause-slot c).In_ok-chunk)).in_range
+move_chunk-requires-clause-slot c = (laws.chunk _ _ _ (found (goal.at.move_chunk-requires-clause-slot c).In_ok-chunk)).in_range
 
 pub move_chunk-requires-clause-live : goal.move_chunk-requires-clause-live
-move_chunk-requires-clause-live c =
-    (_, (laws.chunk _ _ _ (found (goal.at.move_chunk-requires-clause-live c).In_ok-chunk)).live)
+move_chunk-requires-clause-live c = (_, (laws.chunk _ _ _ (found (goal.at.move_chunk-requires-clause-live c).In_ok-chunk)).live)
 
 pub returns-clause-answer : goal.returns-clause-answer
+unfolding realloc_step
 returns-clause-answer c =
-    move_answer c.args.self.now c.move_chunk.new.self _ c.args.n c.move_chunk.result _ c.move_chunk.ensures.ok c.move_chunk.ensures.err (all_named Null _ _ c.map_err-3.ensures.cases)
-    ∙ ap (λ step. step.answer) (realloc_moves _ c.args.p c.args.n _ c.if-p-eq0.false (found (goal.at.returns-clause-answer c).In_ok-chunk) c.if-stays_in_class.ensures.test)
+    let m = c.move_chunk in
+    rw (ne_eqb c.args.p 0 c.if-p-eq0.false, found (goal.at.returns-clause-answer c).In_ok-chunk, ← c.if-stays_in_class.ensures.test)
+    (all_named Null _ _ c.map_err-3.ensures.cases
+    ∙ (moves c.args.self.now m.new.self _ c.args.n m.result m.ensures.ok m.ensures.err m.ensures.refused).0)
 
 pub returns-clause-state : goal.returns-clause-state
+unfolding realloc_step
 returns-clause-state c =
-    move_state c.args.self.now c.move_chunk.new.self _ c.args.n c.move_chunk.result c.move_chunk.ensures.ok c.move_chunk.ensures.err c.move_chunk.ensures.refused
-    ∙ ap (λ step. step.heap) (realloc_moves _ c.args.p c.args.n _ c.if-p-eq0.false (found (goal.at.returns-clause-state c).In_ok-chunk) c.if-stays_in_class.ensures.test)
+    let m = c.move_chunk in
+    rw (ne_eqb c.args.p 0 c.if-p-eq0.false, found (goal.at.returns-clause-state c).In_ok-chunk, ← c.if-stays_in_class.ensures.test)
+    (moves c.args.self.now m.new.self _ c.args.n m.result m.ensures.ok m.ensures.err m.ensures.refused).1
 
 pub returns-clause-counted : goal.returns-clause-counted
+unfolding frees_of_realloc
 returns-clause-counted c =
-    move_frees c.args.self.now c.move_chunk.new.self _ c.args.n c.move_chunk.result c.move_chunk.ensures.ok c.move_chunk.ensures.err c.move_chunk.ensures.refused
-    ∙ ap (λ k. c.args.self.now.frees + k) (sym (frees_moved c.args.self.now.state c.args.p c.args.n _ c.if-p-eq0.false (found (goal.at.returns-clause-counted c).In_ok-chunk) c.if-stays_in_class.ensures.test))
+    let m = c.move_chunk in
+    rw (ne_eqb c.args.p 0 c.if-p-eq0.false, found (goal.at.returns-clause-counted c).In_ok-chunk, ← c.if-stays_in_class.ensures.test)
+    (moves c.args.self.now m.new.self _ c.args.n m.result m.ensures.ok m.ensures.err m.ensures.refused).2
 
 -- what is answered is the definition's answer, of which the law speaks
-pub returns-then-p-eq0-clause-accepted : goal.returns-then-p-eq0-clause-accepted
-returns-then-p-eq0-clause-accepted c =
-    realloc_accepted realloc_accepts c.args.self.now.state c.args.p c.args.n _ c.law_sound.ensures (returns-then-p-eq0-clause-answer c)
-
 pub returns-in_err-chunk-clause-accepted : goal.returns-in_err-chunk-clause-accepted
 returns-in_err-chunk-clause-accepted c =
-    realloc_accepted realloc_accepts c.args.self.now.state c.args.p c.args.n _ c.law_sound.ensures (returns-in_err-chunk-clause-answer c)
+    realloc_accepted c.args.self.now.state c.args.p c.args.n _ c.chunk.ensures.sound (returns-in_err-chunk-clause-answer c)
 
 pub returns-then-stays_in_class-clause-accepted : goal.returns-then-stays_in_class-clause-accepted
 returns-then-stays_in_class-clause-accepted c =
-    realloc_accepted realloc_accepts c.args.self.now.state c.args.p c.args.n _ c.law_sound.ensures (returns-then-stays_in_class-clause-answer c)
+    realloc_accepted c.args.self.now.state c.args.p c.args.n _ c.chunk.ensures.sound
+    (returns-then-stays_in_class-clause-answer c)
 
 pub returns-clause-accepted : goal.returns-clause-accepted
 returns-clause-accepted c =
-    realloc_accepted realloc_accepts c.args.self.now.state c.args.p c.args.n _ c.law_sound.ensures (returns-clause-answer c)
+    realloc_accepted c.args.self.now.state c.args.p c.args.n _ c.chunk.ensures.sound (returns-clause-answer c)

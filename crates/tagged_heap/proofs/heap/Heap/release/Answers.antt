@@ -1,73 +1,75 @@
-use Rattle.std.proofs.Common.{◌≡◌, ◌+◌, ◌*◌, ◌≤◌, refl, sym, ap, ◌∙◌, subst, arith}
+use Rattle.std.proofs.Common.{◌≡◌, ◌+◌, ◌*◌, ℕ, ap, ◌∙◌}
 use Rattle.heap_theory.specs.Calls.{freed}
+use Rattle.heap_theory.specs.State.{state_at}
+use Rattle.heap_theory.specs.State.State.{Live}
 use Rattle.tagged_heap.specs.Abstraction.{state_of}
-use Rattle.tagged_heap.specs.HeapView.{Counted, shown_heap, IsHeldIn}
-use Rattle.tagged_heap.proofs.Opened.{slot_within, state_seen}
-use Rattle.tagged_heap.proofs.Retiring.{room_for, lent_can_be_put, put_letting_go, retired_held, retired_shown}
+use Rattle.tagged_heap.specs.HeapView.{shown_heap}
+use Rattle.tagged_heap.specs.Representation.{IsKept}
+use Rattle.tagged_heap.proofs.TakingBack.{retire_room, can_be_put, kept_freed, freed_held, freed_shown}
 use Rattle.tagged_heap.proofs.heap.Heap.release.Goals as goal
-
-pub slot-place-requires : goal.slot-place-requires
-slot-place-requires c = slot_within c.self.inside c.args.self.now c.args.slot c.self.view_is c.requires.slot
+use Rattle.tagged_heap.proofs.heap.Heap.release.Goals.{After-put, After-from}
 
 pub retire-requires-clause-room : goal.retire-requires-clause-room
 retire-requires-clause-room c =
-    room_for c.self.inside c.args.self.now c.self.view_is c.self.invariant c.args.slot c.requires.live.0 c.requires.live.1 c.requires.slot c.requires.live.2
+    retire_room c.self.invariant c.args.slot c.requires.live.0 c.requires.live.1 (rw (← c.self.view_is) at c.requires.slot)
+    (rw (← c.self.view_is) at c.requires.live.2)
 
 pub put-requires : goal.put-requires
 put-requires c =
-    let live = c.requires.live in
-    lent_can_be_put c.self.inside c.args.self.now c.self.view_is c.self.invariant c.args.slot live.0 live.1 c.requires.slot live.2
-    c.requires.few c.retire.new.machine c.retire.ensures.machine c.retire.ensures.memory
-    c.memory_mut-memory.result.now c.memory_mut-memory.ensures.value
-    (16 * c.slot-place.result.class) (ap (λ n. 16 * n) c.slot-place.ensures.class)
+    rw c.memory_mut-memory.ensures.value
+    (can_be_put c.self.invariant c.args.slot c.requires.live.0 c.requires.live.1 (rw (← c.self.view_is) at c.requires.slot)
+    (rw (← c.self.view_is) at c.requires.live.2)
+    (rw (← c.self.view_is) at c.requires.few) c.retire.new.machine c.retire.ensures.machine c.retire.ensures.memory
+    (16 * c.slot-place.result.class) (ap (λ n. 16 * n) c.slot-place.ensures.class))
+
+-- the heap in which the chunk was freed is kept, though its quarantine may have too much
+put : (c : After-put) (n tag : ℕ) → state_at (state_of c.self.inside) c.args.slot ≡ Live n tag →
+    IsKept (freed (state_of c.self.inside) c.args.slot n)
+    (record { memory = c.put.new.memory; quarantine = c.put.new.self; fronts = c.self.inside.lists })
+put c n tag live =
+    kept_freed c.self.invariant c.args.slot n tag (rw (← c.self.view_is) at c.requires.slot) live (rw (← c.self.view_is) at c.requires.few)
+    c.retire.new.machine c.retire.ensures.machine c.retire.ensures.memory (16 * c.slot-place.result.class)
+    (rw c.memory_mut-memory.ensures.value at c.put.ensures.queued) c.put.ensures.value
+    (rw c.memory_mut-memory.ensures.value at c.put.ensures.first) (rw c.memory_mut-memory.ensures.value at c.put.ensures.after)
 
 pub let_go-requires : goal.let_go-requires
-unfolding shown_heap freed
+unfolding freed
 let_go-requires c =
-    let letting =
-    put_letting_go c.self.inside c.args.self.now c.self.view_is c.self.invariant c.args.slot c.requires.live.0 c.requires.live.1 c.requires.slot c.requires.live.2
-    c.requires.few c.retire.new.machine c.retire.ensures.machine c.retire.ensures.memory c.memory_mut-memory.result.now c.memory_mut-memory.ensures.value
-    c.put.new.memory c.put.new.self (16 * c.slot-place.result.class) c.put.ensures.queued c.put.ensures.value c.put.ensures.first c.put.ensures.after in
-    record { kept = (freed (state_of c.self.inside) c.args.slot c.requires.live.0, refl, letting) }
+    record {
+      kept = (
+        freed (state_of c.self.inside) c.args.slot c.requires.live.0,
+        put (goal.at.let_go-requires c).After-put c.requires.live.0 c.requires.live.1 (rw (← c.self.view_is) at c.requires.live.2),
+      );
+    }
 
-pub overflow_add-self : goal.overflow_add-self
-unfolding shown_heap
-overflow_add-self c =
-    let before : c.self.inside.total ≤ 16384 * c.self.inside.frees = c.self.invariant.total in
-    let same : c.self.inside.frees ≡ c.args.self.now.frees = ap (λ (v : Counted). v.frees) c.self.view_is in
-    omega (arith, before, same, c.requires.few, c.from.ensures, c.slot-place.ensures.in_range)
+-- after slots were released, the parts show it
+shown : (c : After-from) (n tag : ℕ) → state_at (state_of c.self.inside) c.args.slot ≡ Live n tag →
+    IsKept (freed (state_of c.self.inside) c.args.slot n)
+    (record { memory = c.let_go.new.memory; quarantine = c.let_go.new.quarantine; fronts = c.let_go.new.lists }) →
+    shown_heap c.self.inside.layout c.let_go.new.quarantine.limit c.let_go.new.memory (c.self.inside.total + c.from.result)
+    c.retire.new.machine.seed c.retire.new.machine.tag
+    ≡ freed (state_of c.self.inside) c.args.slot n
+unfolding freed
+shown c n tag live kept =
+    freed_shown c.self.invariant c.args.slot n tag (rw (← c.self.view_is) at c.requires.slot) live kept c.retire.new.machine
+    c.retire.ensures.machine
+    (c.self.inside.total + c.from.result) (ap (λ b. c.self.inside.total + b) (c.from.ensures ∙ ap (λ n. 16 * n) c.slot-place.ensures.class))
 
 pub invariant_of-self : goal.invariant_of-self
-unfolding shown_heap freed
+unfolding freed
 invariant_of-self c =
-    let letting =
-    c.let_go.ensures.kept (freed (state_of c.self.inside) c.args.slot c.requires.live.0) refl
-    (put_letting_go c.self.inside c.args.self.now c.self.view_is c.self.invariant c.args.slot c.requires.live.0 c.requires.live.1 c.requires.slot c.requires.live.2
-    c.requires.few c.retire.new.machine c.retire.ensures.machine c.retire.ensures.memory c.memory_mut-memory.result.now c.memory_mut-memory.ensures.value
-    c.put.new.memory c.put.new.self (16 * c.slot-place.result.class) c.put.ensures.queued c.put.ensures.value c.put.ensures.first c.put.ensures.after) in
-    let shown =
-    ap (λ b. shown_heap c.self.inside.layout c.let_go.new.quarantine.limit c.let_go.new.memory (c.self.inside.total + b) c.retire.new.machine.seed c.retire.new.machine.tag)
-    (c.from.ensures ∙ ap (λ n. 16 * n) c.slot-place.ensures.class)
-    ∙ retired_shown c.self.inside c.args.self.now c.self.view_is c.self.invariant c.args.slot c.requires.live.0 c.requires.live.1 c.requires.slot c.requires.live.2
-    c.requires.few c.retire.new.machine c.retire.ensures.machine c.retire.ensures.memory c.let_go.new.memory c.let_go.new.quarantine c.let_go.new.lists letting c.let_go.ensures.held in
-    subst (λ h. IsHeldIn h (c.self.inside.frees + 1) c.let_go.new.memory c.let_go.new.quarantine c.let_go.new.lists c.self.inside.firsts.items) (sym shown)
-    (retired_held c.self.inside c.args.self.now c.self.view_is c.self.invariant c.args.slot c.requires.live.0 c.requires.live.1 c.requires.slot c.requires.live.2
-    c.requires.few c.retire.new.machine c.retire.ensures.machine c.retire.ensures.memory c.let_go.new.memory c.let_go.new.quarantine c.let_go.new.lists letting c.let_go.ensures.held)
+    let n = c.requires.live.0 in
+    let tag = c.requires.live.1 in
+    let live = rw (← c.self.view_is) at c.requires.live.2 in
+    let kept =
+    c.let_go.ensures.kept (freed (state_of c.self.inside) c.args.slot n) (put (goal.at.invariant_of-self c).After-put n tag live) in
+    rw (shown (goal.at.invariant_of-self c).After-from n tag live kept)
+    (freed_held c.self.invariant c.args.slot n tag (rw (← c.self.view_is) at c.requires.slot) live (rw (← c.self.view_is) at c.requires.few)
+    kept c.let_go.ensures.held)
 
 pub returns : goal.returns
-unfolding shown_heap freed
+unfolding freed
 returns c n tag live =
-    let letting =
-    c.let_go.ensures.kept (freed (state_of c.self.inside) c.args.slot n) refl
-    (put_letting_go c.self.inside c.args.self.now c.self.view_is c.self.invariant c.args.slot n tag c.requires.slot live
-    c.requires.few c.retire.new.machine c.retire.ensures.machine c.retire.ensures.memory c.memory_mut-memory.result.now c.memory_mut-memory.ensures.value
-    c.put.new.memory c.put.new.self (16 * c.slot-place.result.class) c.put.ensures.queued c.put.ensures.value c.put.ensures.first c.put.ensures.after) in
-    let shown =
-    ap (λ b. shown_heap c.self.inside.layout c.let_go.new.quarantine.limit c.let_go.new.memory (c.self.inside.total + b) c.retire.new.machine.seed c.retire.new.machine.tag)
-    (c.from.ensures ∙ ap (λ n. 16 * n) c.slot-place.ensures.class)
-    ∙ retired_shown c.self.inside c.args.self.now c.self.view_is c.self.invariant c.args.slot n tag c.requires.slot live
-    c.requires.few c.retire.new.machine c.retire.ensures.machine c.retire.ensures.memory c.let_go.new.memory c.let_go.new.quarantine c.let_go.new.lists letting c.let_go.ensures.held in
-    (λ k. record {
-      state = (shown ∙ ap (λ h. freed h c.args.slot n) (state_seen c.self.inside c.args.self.now c.self.view_is)) k;
-      frees = ap (λ (v : Counted). v.frees + 1) c.self.view_is k;
-    })
+    let live' = rw (← c.self.view_is) at live in
+    let kept = c.let_go.ensures.kept (freed (state_of c.self.inside) c.args.slot n) (put (goal.at.returns c).After-put n tag live') in
+    rw (← c.self.view_is) (λ k. record { state = shown (goal.at.returns c).After-from n tag live' kept k; frees = c.self.inside.frees + 1 })

@@ -2,22 +2,18 @@
 use Rattle.std.proofs.Common.{◌∙◌, sym}
 use Rattle.class_table.specs.Layout.{slot_of}
 use Rattle.tagged_heap.specs.Abstraction.{state_of}
-use Rattle.tagged_heap.specs.HeapView.{shown_heap}
 use Rattle.tagged_heap.proofs.ClassSteps.{stays_is, room_in_class}
 use Rattle.tagged_heap.proofs.heap.Heap.stays_in_class.Goals as goal
 
-pub class_of-requires : goal.class_of-requires
-unfolding shown_heap
-class_of-requires c = rw (← c.self.view_is) at c.requires
-
 pub returns-clause-test : goal.returns-clause-test
-unfolding shown_heap
 returns-clause-test c =
     rw (← c.self.view_is)
-    (c.eq.ensures ∙ stays_is (state_of c.self.inside) c.args.n (slot_of c.self.inside.layout c.args.slot) c.class_of.result _ c.class_for.result c.self.invariant.kept.sound.region.table c.class_of.ensures.class c.class_for.ensures.ok c.class_for.ensures.err)
+    (c.eq.ensures ∙ stays_is (state_of c.self.inside) c.args.n (slot_of c.self.inside.layout c.args.slot) c.class_of.result _
+    c.class_for.result c.self.invariant.kept.sound.region.table c.class_of.ensures.class c.class_for.ensures.ok c.class_for.ensures.err)
 
 pub returns-clause-room : goal.returns-clause-room
-unfolding shown_heap
 returns-clause-room c = λ same.
     rw (← c.self.view_is)
-    (room_in_class (state_of c.self.inside) c.args.n (slot_of c.self.inside.layout c.args.slot) c.class_of.result _ c.class_for.result (c.self.invariant.kept.sound.slots.wide c.args.slot (rw (← c.self.view_is) at c.requires)) c.class_of.ensures.class c.class_for.ensures.ok (sym c.eq.ensures ∙ same))
+    (room_in_class (state_of c.self.inside) c.args.n (slot_of c.self.inside.layout c.args.slot) c.class_of.result _ c.class_for.result
+    (c.self.invariant.kept.sound.slots.wide c.args.slot (rw (← c.self.view_is) at c.requires)) c.class_of.ensures.class
+    c.class_for.ensures.ok (sym c.eq.ensures ∙ same))

@@ -1,0 +1,4 @@
+mod engines;
+mod memory;
+mod streams;
+mod support;

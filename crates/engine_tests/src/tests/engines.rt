@@ -1,0 +1,13 @@
+//! Tests of the engines, from text to text: worked values, and calls that fail in the middle of an input or an output.
+mod calls;
+mod check_texts;
+mod long_traces;
+mod pieces;
+mod profile_texts;
+mod replay_texts;
+mod run_texts;
+mod score_texts;
+mod streams_failing;
+mod support;
+mod trace_faults;
+mod tune_texts;

@@ -1,0 +1,129 @@
+//! A runner for the engines over traces: each input is read whole, in two pieces cut at each place, and a byte at a time.
+ghost use Rattle.std.specs.Prelude.{Some};
+
+use super::calls::{Call, call_on};
+use super::support::ended;
+use crate::tests::streams::sink_with_room;
+use crate::tests::support::same;
+use mte_engine::{ByteSource, Failure};
+use std::process::Abort;
+use std::test::Fail;
+
+/// The input of an engine, and what it writes for it.
+#[derive(Clone, Copy)]
+pub enum Case {
+    /// These lines, and then these totals; it ends well.
+    Report(&'static str, &'static str, [u64; 9]),
+    /// These lines; and how it ends.
+    Text(&'static str, &'static str, &'static str),
+}
+
+const TOTALS: [&str; 9] = [
+    "events",
+    "requests",
+    "null large",
+    "null no-class",
+    "null exhausted",
+    "faults tag",
+    "faults unmapped",
+    "refused frees",
+    "loss",
+];
+
+/// Runs the engine on each case, however the input is cut.
+pub fn check(rt: &(impl Abort + AllocGlobal), call: Call, cases: &[Case]) -> Result<(), Fail> {
+    for case in cases {
+        match case {
+            Case::Report(input, lines, totals) => {
+                let mut written = String::from_str(rt.alloc(), lines)?;
+                append_totals(rt, totals, &mut written)?;
+                check_cuts(rt, call, input, &written, "done")?;
+            }
+            Case::Text(input, written, ends) => check_cuts(rt, call, input, written, ends)?,
+        }
+    }
+    Ok(())
+}
+
+/// Appends the lines of totals.
+pub fn append_totals(
+    rt: &impl AllocGlobal,
+    totals: &[u64; 9],
+    text: &mut String,
+) -> Result<(), Fail> {
+    for place in 0..9 {
+        let (name, total) = (TOTALS[place], totals[place]);
+        let line = format!(in rt.alloc(); "{name} {total}\n")?;
+        text.push_str(line.as_str())?;
+    }
+    Ok(())
+}
+
+// Runs the engine on an input that is cut at each place, and on one of single bytes.
+fn check_cuts(
+    rt: &(impl Abort + AllocGlobal),
+    call: Call,
+    input: &str,
+    written: &str,
+    wanted: &str,
+) -> Result<(), Fail> {
+    for first in 0..=input.len() {
+        check_cut(rt, call, input, written, wanted, (first, usize::MAX))?;
+    }
+    check_cut(rt, call, input, written, wanted, (1, 1))
+}
+
+// Runs the engine on one input: so many bytes in the first read, and at most so many in each one after it.
+fn check_cut(
+    rt: &(impl Abort + AllocGlobal),
+    call: Call,
+    input: &str,
+    written: &str,
+    wanted: &str,
+    (first, most): (usize, usize),
+) -> Result<(), Fail> {
+    let mut from = Cut {
+        rest: input.as_bytes(),
+        next: first,
+        most,
+        reads: 0,
+    };
+    let mut to = sink_with_room(rt.alloc(), 4096)?;
+    let end = call_on(rt, call, &mut from, &mut to);
+    let ends = ended(rt.alloc(), end)?;
+    same(rt, &ends.as_str(), &wanted, &(call, input, first));
+    same(
+        rt,
+        &to.text.as_slice(),
+        &written.as_bytes(),
+        &(call, input, first),
+    );
+    Ok(())
+}
+
+/// Gives the bytes of a text: `next` of them in the next read, at most `most` in each one after it; 0 stands for 1.
+#[derive(Drop)]
+struct Cut<'a> {
+    rest: &'a [u8],
+    next: usize,
+    most: usize,
+    reads: u64,
+}
+
+impl<'a> ByteSource for Cut<'a> {
+    ghost state = { λ s. record { remaining = Some s.rest.now; reads = s.reads; failed = 0 } };
+
+    fn failures(&self) -> u64 {
+        0
+    }
+
+    fn read(&mut self, buf: &mut [u8]) -> Result<usize, Failure> {
+        self.reads = self.reads.saturating_add(1);
+        let n = self.rest.len().min(buf.len()).min(self.next.max(1));
+        let (piece, rest) = self.rest.split_at(n);
+        buf[..n].copy_from_slice(piece);
+        self.rest = rest;
+        self.next = self.most;
+        Ok(n)
+    }
+}

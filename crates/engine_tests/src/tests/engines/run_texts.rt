@@ -1,0 +1,120 @@
+//! `run` from text to text.
+use self::Answer::{Done, Fault};
+use super::calls::{Call, answers};
+use super::pieces::Case::Report;
+use super::pieces::{Case, append_totals, check};
+use std::test::Fail;
+
+const TRACE: &str = "malloc 1 16\nstore 1 16 1 aa\nmalloc 2 0\nload 1 32 1\nfree 1\nload 1 0 1\n";
+
+const fn tuned(limit: u8, step: u8) -> Call {
+    Call::Run {
+        limit,
+        step,
+        quarantine: 64,
+    }
+}
+
+const A_TUNED_TABLE_AND_ITS_REPLAY: &[Case] = &[Report(
+    TRACE,
+    "classes 2\nlimit 2\nwaste 16\nrow 16\nrow 16\n2 fault tag granule 2 memory 0 pointer 1 in header\n\
+             4 fault tag granule 3 memory 2 pointer 1 in other\n6 fault tag granule 1 memory 3 pointer 1 in dead\n",
+    [6, 2, 0, 0, 0, 3, 0, 0, 16],
+)];
+
+const A_STEP_OF_FOUR: &[Case] = &[Report(
+    TRACE,
+    "classes 4\nlimit 2\nstep 4\nwaste 80\nrow 80\nrow 80\n2 fault tag granule 2 memory 0 pointer 1 in tail\n\
+             4 fault tag granule 3 memory 0 pointer 1 in tail\n6 fault tag granule 1 memory 3 pointer 1 in dead\n",
+    [6, 2, 0, 0, 0, 3, 0, 0, 80],
+)];
+
+const NO_REQUESTS: &[Case] = &[
+    Report(
+        "",
+        "classes\nlimit 1\nwaste 0\nrow\n",
+        [0, 0, 0, 0, 0, 0, 0, 0, 0],
+    ),
+    Report(
+        "free 0",
+        "classes\nlimit 1\nwaste 0\nrow\n",
+        [1, 0, 0, 0, 0, 0, 0, 0, 0],
+    ),
+];
+
+#[test]
+fn runs(rt: HostRuntime) -> Result<(), Fail> {
+    check(&rt, tuned(2, 1), A_TUNED_TABLE_AND_ITS_REPLAY)?;
+    check(&rt, tuned(2, 4), A_STEP_OF_FOUR)?;
+    check(&rt, tuned(1, 1), NO_REQUESTS)
+}
+
+// the lines of the accesses that fault
+const ACCESSES: [&str; 3] = [
+    "2 fault tag granule 2 memory 0 pointer 1 in header\n",
+    "4 fault tag granule 3 memory 2 pointer 1 in other\n",
+    "6 fault tag granule 1 memory 3 pointer 1 in dead\n",
+];
+
+// What the engine answers to a prefix of the trace: this sheet, the lines of so many accesses and these totals, or a fault.
+#[derive(Clone, Copy)]
+enum Answer {
+    Done(&'static str, usize, [u64; 9]),
+    Fault(&'static str),
+}
+
+const EMPTY: &str = "classes\nlimit 2\nwaste 0\nrow\nrow\n";
+
+const OF_15: &str = "classes 2\nlimit 2\nwaste 15\nrow 15\nrow 15\n";
+
+const OF_16: &str = "classes 2\nlimit 2\nwaste 0\nrow 0\nrow 0\n";
+
+const OF_16_AND_0: &str = "classes 2\nlimit 2\nwaste 16\nrow 16\nrow 16\n";
+
+// The answers from these lengths of the prefix on; worked out by hand.
+const ANSWERS: [(usize, Answer); 16] = [
+    (0, Done(EMPTY, 0, [0, 0, 0, 0, 0, 0, 0, 0, 0])),
+    (1, Fault("error 70 BadWord line 1")),
+    (10, Done(OF_15, 0, [1, 1, 0, 0, 0, 0, 0, 0, 15])),
+    (11, Done(OF_16, 0, [1, 1, 0, 0, 0, 0, 0, 0, 0])),
+    (13, Fault("error 70 BadWord line 2")),
+    (26, Fault("error 71 BadNumber line 2")),
+    (27, Done(OF_16, 1, [2, 1, 0, 0, 0, 1, 0, 0, 0])),
+    (29, Fault("error 70 BadWord line 3")),
+    (38, Done(OF_16_AND_0, 1, [3, 2, 0, 0, 0, 1, 0, 0, 16])),
+    (40, Fault("error 70 BadWord line 4")),
+    (50, Done(OF_16_AND_0, 2, [4, 2, 0, 0, 0, 2, 0, 0, 16])),
+    (52, Fault("error 70 BadWord line 5")),
+    (57, Done(OF_16_AND_0, 2, [5, 2, 0, 0, 0, 2, 0, 0, 16])),
+    (59, Fault("error 70 BadWord line 6")),
+    (68, Done(OF_16_AND_0, 3, [6, 2, 0, 0, 0, 3, 0, 0, 16])),
+    (70, Fault("")),
+];
+
+// what is written, and how the engine ends
+fn report(rt: &impl AllocGlobal, answer: &Answer) -> Result<(String, &'static str), Fail> {
+    match answer {
+        Done(sheet, accesses, totals) => {
+            let mut written = String::from_str(rt.alloc(), sheet)?;
+            for access in ACCESSES.iter().take(*accesses) {
+                written.push_str(access)?;
+            }
+            append_totals(rt, totals, &mut written)?;
+            Ok((written, "done"))
+        }
+        Fault(ends) => Ok((String::new(rt.alloc()), ends)),
+    }
+}
+
+#[test]
+fn each_front_of_an_input(rt: HostRuntime) -> Result<(), Fail> {
+    for index in 1..ANSWERS.len() {
+        let (first, answer) = ANSWERS[index - 1];
+        let (written, wanted) = report(&rt, &answer)?;
+        for len in first..ANSWERS[index].0 {
+            assert!(rt; len <= TRACE.len());
+            answers(&rt, tuned(2, 1), &TRACE.as_bytes()[..len], &written, wanted)?;
+        }
+    }
+    Ok(())
+}

@@ -1,0 +1,262 @@
+//! Reads and writes that fail, or move a byte at a time, or never end.
+use super::calls::{Call, call_on};
+use super::support::{Repeated, ended};
+use crate::tests::streams::{sink, source};
+use crate::tests::support::same;
+use mte_engine::{ByteSink, ByteSource, MOST_INPUT, StreamSink, StreamSource, score};
+use std::io::{ErrorKind, Read, Write};
+use std::process::Abort;
+use std::test::Fail;
+
+const INPUT: &[u8] = b"classes 4\n16 3\n40 1\n";
+
+// an engine, an input, and what it writes for it
+#[derive(Clone, Copy)]
+struct Case(Call, &'static str, &'static str);
+
+const SHEET: &str = "classes 2 4\nlimit 2\nwaste 8\nrow 104 8\nrow 8 8\n16 3\n40 1\n";
+
+const CASES: [Case; 6] = [
+    Case(Call::Score, "classes 4\n16 3\n40 1\n", "waste 104\n"),
+    Case(
+        Call::Tune { limit: 2, step: 1 },
+        "16 3\n40 1\n",
+        "classes 2 4\nlimit 2\nwaste 8\nrow 104 8\nrow 8 8\n",
+    ),
+    Case(Call::Check, SHEET, "optimal\n"),
+    Case(
+        Call::Profile,
+        "malloc 1 16368\ncalloc 2 16369\n",
+        "16368 1\nlarge 1\n",
+    ),
+    Case(
+        Call::Replay { quarantine: 0 },
+        "classes\nmalloc 1 16\n",
+        "1 null no-class\nevents 1\nrequests 1\nnull large 0\nnull no-class 1\nnull exhausted 0\nfaults tag 0\nfaults unmapped 0\n\
+         refused frees 0\nloss 0\n",
+    ),
+    Case(
+        Call::Run {
+            limit: 2,
+            step: 1,
+            quarantine: 64,
+        },
+        "malloc 1 16\nstore 1 16 1 aa\nmalloc 2 0\n",
+        "classes 2\nlimit 2\nwaste 16\nrow 16\nrow 16\n2 fault tag granule 2 memory 0 pointer 1 in header\nevents 3\nrequests 2\n\
+         null large 0\nnull no-class 0\nnull exhausted 0\nfaults tag 1\nfaults unmapped 0\nrefused frees 0\nloss 16\n",
+    ),
+];
+
+// the most bytes that a read and a write move, and how many reads and writes succeed before one fails
+#[derive(Debug, Clone, Copy)]
+struct Streams {
+    read: usize,
+    reads: Option<u64>,
+    write: usize,
+    writes: Option<u64>,
+}
+
+const WHOLE: Streams = Streams {
+    read: usize::MAX,
+    reads: None,
+    write: usize::MAX,
+    writes: None,
+};
+
+// Calls the engine over such streams: how it ends, how many reads and writes fail, and what is written.
+fn ends(
+    rt: &(impl Abort + AllocGlobal),
+    call: Call,
+    input: &str,
+    streams: Streams,
+    wanted: &str,
+    failures: (u64, u64),
+    written: &[u8],
+) -> Result<(), Fail> {
+    let mut from = source(input.as_bytes());
+    from.most = streams.read;
+    from.until_failure = streams.reads;
+    let mut to = sink(rt.alloc())?;
+    to.most = streams.write;
+    to.until_failure = streams.writes;
+    let end = call_on(rt, call, &mut from, &mut to);
+    let ends = ended(rt.alloc(), end)?;
+    same(rt, &ends.as_str(), &wanted, &(call, streams));
+    same(
+        rt,
+        &(from.failures(), to.failures()),
+        &failures,
+        &(call, streams),
+    );
+    same(rt, &to.text.as_slice(), &written, &(call, streams));
+    Ok(())
+}
+
+// The read after so many reads of a byte each fails. A call of the sink would fail too.
+fn read_fails(
+    rt: &(impl Abort + AllocGlobal),
+    call: Call,
+    input: &str,
+    reads: usize,
+) -> Result<(), Fail> {
+    let streams = Streams {
+        read: 1,
+        reads: Some(reads as u64),
+        writes: Some(0),
+        ..WHOLE
+    };
+    ends(rt, call, input, streams, "error 81 ReadFault", (1, 0), b"")
+}
+
+// The last read is the one that finds the end.
+#[test]
+fn each_read_fails_in_turn(rt: HostRuntime) -> Result<(), Fail> {
+    for Case(call, input, _) in CASES {
+        for reads in 0..input.len() {
+            read_fails(&rt, call, input, reads)?;
+        }
+        read_fails(&rt, call, input, input.len())?;
+    }
+    Ok(())
+}
+
+// Each write fails in turn, of a byte each.
+#[test]
+fn each_write_fails_in_turn(rt: HostRuntime) -> Result<(), Fail> {
+    for Case(call, input, written) in CASES {
+        for calls in 0..written.len() {
+            let streams = Streams {
+                write: 1,
+                writes: Some(calls as u64),
+                ..WHOLE
+            };
+            let before = &written.as_bytes()[..calls];
+            ends(
+                &rt,
+                call,
+                input,
+                streams,
+                "error 82 WriteFault",
+                (0, 1),
+                before,
+            )?;
+        }
+    }
+    Ok(())
+}
+
+#[test]
+fn a_write_that_takes_nothing_fails(rt: HostRuntime) -> Result<(), Fail> {
+    for Case(call, input, _) in CASES {
+        let streams = Streams { write: 0, ..WHOLE };
+        ends(
+            &rt,
+            call,
+            input,
+            streams,
+            "error 82 WriteFault",
+            (0, 1),
+            b"",
+        )?;
+    }
+    Ok(())
+}
+
+#[test]
+fn a_byte_at_a_time(rt: HostRuntime) -> Result<(), Fail> {
+    for Case(call, input, written) in CASES {
+        let streams = Streams {
+            read: 1,
+            write: 1,
+            ..WHOLE
+        };
+        ends(
+            &rt,
+            call,
+            input,
+            streams,
+            "done",
+            (0, 0),
+            written.as_bytes(),
+        )?;
+    }
+    Ok(())
+}
+
+#[test]
+fn a_source_that_never_ends(rt: HostRuntime) -> Result<(), Fail> {
+    for Case(call, _, _) in CASES {
+        let mut from = Repeated {
+            left: None,
+            most: usize::MAX,
+            reads: 0,
+        };
+        let mut to = sink(rt.alloc())?;
+        let end = call_on(&rt, call, &mut from, &mut to);
+        let ends = ended(rt.alloc(), end)?;
+        same(&rt, &ends.as_str(), &"error 80 InputTooLong", &call);
+        assert!(rt; to.text.is_empty(), "{call:?}");
+    }
+    Ok(())
+}
+
+#[test]
+fn the_most_input_and_one_byte_more(rt: HostRuntime) -> Result<(), Fail> {
+    let cases = [
+        (Some(MOST_INPUT), usize::MAX, "error 23 BadLine line 1"),
+        (Some(MOST_INPUT), 1, "error 23 BadLine line 1"),
+        (Some(MOST_INPUT + 1), usize::MAX, "error 80 InputTooLong"),
+        (Some(MOST_INPUT + 1), 1, "error 80 InputTooLong"),
+    ];
+    for (left, most, wanted) in cases {
+        let mut from = Repeated {
+            left,
+            most,
+            reads: 0,
+        };
+        let mut to = sink(rt.alloc())?;
+        let end = score(rt.alloc(), &mut from, &mut to);
+        let ends = ended(rt.alloc(), end)?;
+        same(&rt, &ends.as_str(), &wanted, &(left, most));
+        assert!(rt; to.text.is_empty());
+    }
+    Ok(())
+}
+
+// a reader and a writer of std that only fail
+#[derive(Drop)]
+struct Broken;
+
+impl Read for Broken {
+    fn read(&mut self, _buf: &mut [u8]) -> std::io::Result<usize> {
+        Err(ErrorKind::Other.into())
+    }
+}
+
+impl Write for Broken {
+    fn write(&mut self, _buf: &[u8]) -> std::io::Result<usize> {
+        Err(ErrorKind::Other.into())
+    }
+
+    fn flush(&mut self) -> std::io::Result<()> {
+        Ok(())
+    }
+}
+
+#[test]
+fn failures_of_standard_streams_are_reported(rt: HostRuntime) -> Result<(), Fail> {
+    let mut from = StreamSource::new(Broken);
+    let mut to = sink(rt.alloc())?;
+    let end = score(rt.alloc(), &mut from, &mut to);
+    let ends = ended(rt.alloc(), end)?;
+    same(&rt, &ends.as_str(), &"error 81 ReadFault", &"the end");
+    same(&rt, &from.failures(), &1, &"failed reads");
+
+    let mut from = source(INPUT);
+    let mut to = StreamSink::new(Broken);
+    let end = score(rt.alloc(), &mut from, &mut to);
+    let ends = ended(rt.alloc(), end)?;
+    same(&rt, &ends.as_str(), &"error 82 WriteFault", &"the end");
+    same(&rt, &to.failures(), &1, &"failed writes");
+    Ok(())
+}

@@ -1,4 +1,0 @@
-mod engines;
-mod memory;
-mod program;
-mod streams;

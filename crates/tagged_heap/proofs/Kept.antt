@@ -1,0 +1,186 @@
+-- What is known of a heap that is kept in its parts.
+use Rattle.std.proofs.Common.{◌≡◌, ℕ, ◌+◌, ◌-◌, ◌^◌, ◌<◌, ◌≤◌, List, [], ◌∷◌, length, refl, sym, ap, ◌∙◌, subst, inl, inr, arith}
+use Rattle.std.specs.Prelude.{Contains, slice_index}
+use Rattle.std.proofs.lemmas.Bool.{cases_lt, lt-ltb, le-ltb, cond-true, cond-false}
+use Rattle.std.proofs.lemmas.List.FromFn.{fill_by_all}
+use Rattle.std.proofs.lemmas.Option.{slice_get_within, get_or_from_slice_get}
+use Rattle.class_table.specs.Layout.{slot_count}
+use Rattle.heap_theory.specs.Booked.{HasMark, IsBooked, IsBookedFrom, bytes_in}
+use Rattle.heap_theory.specs.Header.{Header, FitsWords, header_for, shown_state, standing_in, state_by, class_number}
+use Rattle.heap_theory.specs.Header.Standing.{Freed, Quarantined}
+use Rattle.heap_theory.specs.HeapInMemory.{IsKeptIn}
+use Rattle.heap_theory.specs.Links.{IsLinked, next_in, list_of}
+use Rattle.heap_theory.specs.Sound.{IsSoundHeap}
+use Rattle.heap_theory.specs.State.{State, Heap, slot_in, state_at, chunk_granules, IsSlot}
+use Rattle.heap_theory.specs.State.State.{Fresh, Live, Dead}
+use Rattle.heap_theory.proofs.Found.{Contains-head}
+use Rattle.heap_theory.proofs.Marks.{IsQueued, IsListed, chain_bytes, chain_dead, list_dead}
+use Rattle.heap_theory.proofs.SeenMemory.{length-without_headers}
+use Rattle.tagged_heap.proofs.TheoryLemmas as laws
+use Rattle.tagged_heap.specs.Chunks.{HasRoom}
+use Rattle.tagged_heap.specs.Representation.{standing_from, header_from, header_in, Parts, IsKept}
+use Rattle.tagged_heap.specs.HeapView.{shown_heap, shown_states}
+
+-- ---- sizes
+
+-- a class has one of at most 32 numbers,
+pub class_few : (h : Heap) (s : ℕ) → IsSoundHeap h → IsSlot h s → class_number h.layout s < 32
+class_few h s sound in_range =
+    omega (arith, slice_get_within h.layout.classes _ _ (laws.class_number_is h.layout s in_range), sound.region.table.few)
+
+-- and at most 1024 granules
+pub class_most : (h : Heap) (s : ℕ) → IsSoundHeap h → IsSlot h s → (slot_in h s).class ≤ 1024
+class_most h s sound in_range =
+    let found = laws.class_number_is h.layout s in_range in
+    let range = sound.region.table.in_range (class_number h.layout s) 0 (slice_get_within h.layout.classes _ _ found) in
+    omega (arith, get_or_from_slice_get h.layout.classes (class_number h.layout s) _ 0 found, range.1)
+
+pub size_most : (n class : ℕ) → chunk_granules n < class → class ≤ 1024 → n ≤ 16368
+size_most n class room most = omega arith
+
+-- ---- headers
+
+-- a header shows its slot's state, from whatever mark on slots are in the quarantine,
+shows_state : (h : Heap) (from s next : ℕ) (x : State) → shown_state (header_from h.layout from s x next) ≡ x
+shows_state h from s next Fresh = refl
+shows_state h from s next (Live n t) = refl
+shows_state h from s next (Dead n t mark) = elim (cases_lt mark from) [
+  | inl before ↦ ap (λ x. state_by x n t mark) (cond-true _ Freed Quarantined (lt-ltb _ _ before))
+  | inr after ↦ ap (λ x. state_by x n t mark) (cond-false _ Freed Quarantined (le-ltb _ _ after))
+]
+
+-- and has room in its words
+pub header_fits : (h : Heap) (from s next : ℕ) → IsSoundHeap h → IsSlot h s → next < 2 ^ 32 → h.total < 2 ^ 64 →
+    FitsWords (header_from h.layout from s (state_at h s) next)
+unfolding header_for
+header_fits h from s next sound in_range link total =
+    let fits = laws.header_fits h s next sound in_range link total in
+    record { size = fits.size; tag = fits.tag; class = fits.class; next = fits.next; mark = fits.mark }
+
+-- ---- the parts
+
+module _ {h : Heap} {p : Parts} (k : IsKept h p) where
+  pub region_is : length p.memory ≡ h.layout.granules
+  region_is = sym (length-without_headers h.layout p.memory) ∙ ap length k.seen ∙ k.sound.long
+
+  pub within_states : (s : ℕ) → IsSlot h s → s < length h.states
+  within_states s in_range = subst (λ n. s < n) (sym k.sound.states) in_range
+
+  pub within_lists : (number : ℕ) → number < length h.layout.classes → number < length k.lists
+  within_lists number within = subst (λ n. number < n) (sym k.booked.long) within
+
+  pub bytes_from : k.from + bytes_in h k.queue ≡ h.total
+  bytes_from = chain_bytes h k.from k.queue k.booked.chain
+
+  -- what is booked with the same queue and total has the same mark
+  pub booked_same : {h' : Heap} {lists : List (List ℕ)} → bytes_in h' k.queue ≡ bytes_in h k.queue → h'.total ≡ h.total →
+      IsBooked h' k.queue lists → IsBookedFrom h' k.from k.queue lists
+  booked_same {h'} {lists} bytes total b =
+      let from : b.from ≡ k.from = omega (arith, bytes, total, bytes_from, chain_bytes h' b.from k.queue b.booked.chain) in
+      subst (λ from. IsBookedFrom h' from k.queue lists) from b.booked
+
+  pub queue_slot : (s : ℕ) → Contains k.queue s → IsQueued h k.from s
+  queue_slot s there = chain_dead h k.from k.queue s k.booked.chain there
+
+  pub list_slot : (number s : ℕ) → number < length k.lists → Contains (list_of k.lists number) s →
+      IsListed h (slice_index h.layout.classes number) k.from s
+  list_slot number s within there = list_dead h _ k.from (list_of k.lists number) s (k.booked.freed number within) there
+
+  -- a front is the link to a slot
+  pub front_few : (number : ℕ) → number < length k.lists → slice_index p.fronts number ≤ slot_count h.layout
+  front_few number within = by (list_of k.lists number) (k.listed.linked number within) (list_slot number)
+    where
+      by : (list : List ℕ) → IsLinked (next_in h.layout p.memory) (slice_index p.fronts number) list →
+          ((s : ℕ) → number < length k.lists → Contains list s → IsListed h (slice_index h.layout.classes number) k.from s) →
+          slice_index p.fronts number ≤ slot_count h.layout
+      by [] linked listed = omega (arith, linked)
+      by (s ∷ rest) linked listed = omega (arith, linked.0, (listed s within (Contains-head s rest)).in_range)
+
+  pub has_room : (s n : ℕ) → IsSlot h s → n ≤ 16368 → chunk_granules n < (slot_in h s).class → HasRoom h.layout p.memory s n
+  has_room s n in_range few room = record {
+    slot = in_range;
+    region = region_is;
+    inside = k.sound.slots.inside s in_range;
+    memory_is = k.memory_is;
+    size = few;
+    room = room;
+    header = subst (λ (x : Header). x.class < 32) (sym (k.headers.headers s in_range)) (class_few h s k.sound in_range);
+  }
+
+  -- ---- the parts show the heap
+
+  pub shown_is : (total seed tag : ℕ) → total ≡ h.total → seed ≡ h.seed → tag ≡ h.tag →
+      shown_heap h.layout p.quarantine.limit p.memory total seed tag ≡ h
+  unfolding shown_states
+  shown_is total seed tag total_is seed_is tag_is = λ i. record {
+    layout = h.layout;
+    quarantine = k.limit i;
+    states = sym states i;
+    memory = k.seen i;
+    total = total_is i;
+    seed = seed_is i;
+    tag = tag_is i;
+  }
+    where
+      states : h.states ≡ shown_states h.layout p.memory
+      states =
+          fill_by_all (λ s. shown_state (header_in h.layout p.memory s)) h.states (slot_count h.layout) Fresh k.sound.states
+          (λ s within. sym (ap shown_state (k.headers.headers s within)
+          ∙ shows_state h k.from s (next_in h.layout p.memory s) (state_at h s)))
+
+  -- ---- at rest
+
+  module _ (rests : p.quarantine.held ≤ p.quarantine.limit) where
+    pub queue_few : bytes_in h k.queue ≤ h.quarantine
+    queue_few = omega (arith, rests, k.queued.held, k.limit)
+
+    abbrev pub booked_at_rest : IsBooked h k.queue k.lists
+    booked_at_rest = record { from = k.from; booked = k.booked; held = queue_few }
+
+    -- the slots from the mark on are those that the heap's limit holds back
+    standing_at_rest : (s : ℕ) (x : State) → IsSlot h s → state_at h s ≡ x → standing_from k.from x ≡ standing_in h x
+    standing_at_rest s Fresh in_range is = refl
+    standing_at_rest s (Live n t) in_range is = refl
+    standing_at_rest s (Dead n t mark) in_range is = elim (cases_lt mark k.from) [
+      | inl before ↦
+          let over = k.booked.released s mark in_range (subst (λ x. HasMark x mark) (sym is) refl) before in
+          cond-true _ Freed Quarantined (lt-ltb _ _ before) ∙ sym (cond-true _ Freed Quarantined (lt-ltb _ _ over))
+      | inr after ↦
+          let total = bytes_from in
+          let held : h.total - mark ≤ h.quarantine = omega (arith, queue_few, total) in
+          cond-false _ Freed Quarantined (le-ltb _ _ after) ∙ sym (cond-false _ Freed Quarantined (le-ltb _ _ held))
+    ]
+
+    -- what is kept of a heap, said out
+    pub kept_said : IsKeptIn h p.memory
+    unfolding header_for
+    kept_said = record {
+      seen = k.seen;
+      headers = λ s in_range.
+          k.headers.headers s in_range
+          ∙ ap (λ x. record (header_for h s (next_in h.layout p.memory s)) { standing = x })
+          (standing_at_rest s (state_at h s) in_range refl);
+      unlinked = k.headers.unlinked;
+      front = p.quarantine.front;
+      queue = k.queue;
+      queue_linked = k.queued.linked;
+      queue_holds = laws.queue_holds h k.queue k.lists k.sound booked_at_rest;
+      queue_once = laws.each_once (next_in h.layout p.memory) p.quarantine.front k.queue k.queued.linked;
+      fronts = p.fronts;
+      lists = k.lists;
+      fronts_long = k.listed.long ∙ k.booked.long;
+      list_linked = λ number within. k.listed.linked number (in_lists number within);
+      list_holds = λ number class found. laws.lists_hold h k.queue k.lists number class k.sound booked_at_rest found;
+      list_once =
+          λ number within. laws.each_once (next_in h.layout p.memory) _ (list_of k.lists number)
+          (k.listed.linked number (in_lists number within));
+      one_list =
+          λ a b s in_a in_b there also. laws.one_list_has h k.queue k.lists a b s k.sound booked_at_rest (in_lists a in_a) (in_lists b in_b)
+          there also;
+      apart =
+          λ number s within queued listed. laws.queue_apart h k.queue k.lists number s booked_at_rest (in_lists number within) queued
+          listed;
+    }
+      where
+        in_lists : (number : ℕ) → number < length p.fronts → number < length k.lists
+        in_lists number within = subst (λ n. number < n) k.listed.long within
