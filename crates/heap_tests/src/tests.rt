@@ -3,3 +3,4 @@ mod machines;
 mod regions;
 mod replays;
 mod slots;
+mod support;

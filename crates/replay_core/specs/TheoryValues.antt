@@ -1,5 +1,5 @@
 -- The types of the code, as the definitions see them.
-use Rattle.std.specs.Prelude.{◌≡◌, ◌≢◌, ◌⊎◌, ℕ, List, length, slice_index}
+use Rattle.std.specs.Prelude.{◌≡◌, ◌≢◌, ◌⊎◌, ℕ, ◌≤◌, List, length, slice_index, take, ⊤}
 use Rattle.machine_theory.specs.Address.{logical_tag}
 use Rattle.heap_theory.specs.Run.{Replay, Answer}
 use Rattle.heap_theory.specs.Run.Answer.{Silent, Loaded, NotMapped, TagFault, NoPointer, NotFreed}
@@ -9,14 +9,14 @@ use Rattle.replay_core.specs.declared.answer.Answer.{Answer as TheAnswer}
 use Rattle.replay_core.specs.declared.answer.Answer.TheVariants.{Silent as ItIsSilent, Loaded as ItLoaded, NotMapped as ItIsNotMapped, TagFault as ItIsATagFault, NoPointer as ItHasNoPointer, NotFreed as ItIsNotFreed}
 use Rattle.replay_core.specs.declared.totals.Totals.{Totals as TheTotals}
 
--- a result
-abbrev pub shown : TheAnswer → Answer
-shown ItIsSilent = Silent
-shown (ItLoaded bytes) = Loaded bytes.items
-shown ItIsNotMapped = NotMapped
-shown (ItIsATagFault granule memory_tag pointer_tag kind) = TagFault granule memory_tag pointer_tag kind
-shown (ItHasNoPointer cause) = NoPointer cause
-shown (ItIsNotFreed error) = NotFreed error
+-- A result, with the buffer that holds the bytes of a load.
+abbrev pub shown : List ℕ → TheAnswer → Answer
+shown bytes ItIsSilent = Silent
+shown bytes (ItLoaded len) = Loaded (take len bytes)
+shown bytes ItIsNotMapped = NotMapped
+shown bytes (ItIsATagFault granule memory_tag pointer_tag kind) = TagFault granule memory_tag pointer_tag kind
+shown bytes (ItHasNoPointer cause) = NoPointer cause
+shown bytes (ItIsNotFreed error) = NotFreed error
 
 abbrev pub totals_in : TheTotals → Totals
 totals_in t = record {
@@ -43,3 +43,12 @@ AreNullOrTagged variables = (v : ℕ) → (slice_index variables v ≡ 0) ⊎ (l
 pub record AreVariables (variables : List ℕ) : Type 0 where
   pub long : length variables ≡ 1024
   pub tagged : AreNullOrTagged variables
+
+-- The buffer, of 64 bytes, has as many as were loaded.
+abbrev pub IsFilled : TheAnswer → Type 0
+IsFilled ItIsSilent = ⊤
+IsFilled (ItLoaded len) = len ≤ 64
+IsFilled ItIsNotMapped = ⊤
+IsFilled (ItIsATagFault granule memory_tag pointer_tag kind) = ⊤
+IsFilled (ItHasNoPointer cause) = ⊤
+IsFilled (ItIsNotFreed error) = ⊤

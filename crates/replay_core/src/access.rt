@@ -3,11 +3,10 @@ ghost use Rattle.heap_theory.specs.Run.{access_answer, fault_answer, store_step}
 ghost use Rattle.heap_theory.specs.Run.Answer.{Loaded, Silent};
 ghost use Rattle.machine_theory.specs.Access.{access_fault, is_mapped, loaded};
 ghost use Rattle.machine_theory.specs.Address.{logical_tag, moved_by};
-ghost use Rattle.replay_core.specs.TheoryValues.{shown};
-ghost use Rattle.std.specs.Prelude.{◌≡◌, ◌≢◌, ◌⊎◌, ◌≤◌, IsFalse, length, replicate};
+ghost use Rattle.replay_core.specs.TheoryValues.{IsFilled, shown};
+ghost use Rattle.std.specs.Prelude.{◌≡◌, ◌≢◌, ◌⊎◌, ◌≤◌, IsFalse, List, length, replicate, ℕ};
 
 use crate::answer::Answer;
-use arrayvec::ArrayVec;
 use heap_theory::Event;
 use tag_machine::Fault;
 use tagged_heap::Heap;
@@ -22,18 +21,17 @@ pub(crate) fn moved_by(address: u64, off: i32) -> u64
     address.wrapping_add_signed(i64::from(off))
 }
 
-// Loads `len` bytes. The address must have a tag, or the access must not be mapped.
-pub(crate) fn load(heap: &Heap, address: u64, len: u8) -> Answer
+// Loads `len` bytes into the first bytes of `bytes`. The address must have a tag, or the access must not be mapped.
+pub(crate) fn load(heap: &Heap, address: u64, len: u8, bytes: &mut [u8; MOST_BYTES]) -> Answer
     requires len { (1 ≤ len) × (len ≤ 64) }
     requires tagged { (logical_tag address ≢ 0) ⊎ IsFalse (is_mapped (length heap.now.state.memory) address len) }
-    ensures { shown result
+    ensures answer { shown bytes.new result
         ≡ access_answer heap.now.state (Loaded (loaded heap.now.state.memory address len))
         (access_fault heap.now.state.memory address len) }
+    ensures filled { IsFilled result }
 {
-    let mut bytes = ArrayVec::from([0; MOST_BYTES]);
-    bytes.truncate(usize::from(len));
-    match heap.load(address, bytes.as_mut_slice()) {
-        Ok(()) => Answer::Loaded(bytes),
+    match heap.load(address, &mut bytes[..usize::from(len)]) {
+        Ok(()) => Answer::Loaded { len },
         Err(fault) => fault_answer(heap, fault),
     }
 }
@@ -43,8 +41,9 @@ pub(crate) fn load(heap: &Heap, address: u64, len: u8) -> Answer
 pub(crate) fn store(heap: &mut Heap, address: u64, len: u8, byte: u8) -> Answer
     requires len { (1 ≤ len) × (len ≤ 64) }
     requires tagged { (logical_tag address ≢ 0) ⊎ IsFalse (is_mapped (length heap.old.state.memory) address len) }
-    ensures answer { shown result
-        ≡ access_answer heap.old.state Silent (access_fault heap.old.state.memory address len) }
+    ensures answer { (bytes : List ℕ)
+        → shown bytes result ≡ access_answer heap.old.state Silent (access_fault heap.old.state.memory address len) }
+    ensures filled { IsFilled result }
     ensures state { heap.new.state ≡ store_step heap.old.state address (replicate len byte) }
     ensures frees { heap.new.frees ≡ heap.old.frees }
 {
@@ -57,7 +56,8 @@ pub(crate) fn store(heap: &mut Heap, address: u64, len: u8, byte: u8) -> Answer
 
 // The answer of a fault. An access meets no Alignment fault.
 fn fault_answer(heap: &Heap, fault: Fault) -> Answer
-    ensures { shown result ≡ fault_answer heap.now.state fault }
+    ensures answer { (bytes : List ℕ) → shown bytes result ≡ fault_answer heap.now.state fault }
+    ensures filled { IsFilled result }
 {
     match fault {
         Fault::Unmapped | Fault::Alignment => Answer::NotMapped,

@@ -1,14 +1,14 @@
-use crate::access::MOST_BYTES;
-use arrayvec::ArrayVec;
 use heap_theory::{FreeError, NullCause, PlaceKind};
 
-/// The result of an event.
-#[derive(Drop)]
+/// The result of an event. A buffer beside it holds the bytes of a load.
+#[derive(Clone, Copy)]
 pub(crate) enum Answer {
     /// The report has no line for the event.
     Silent,
-    /// These bytes were loaded.
-    Loaded(ArrayVec<u8, MOST_BYTES>),
+    /// The first `len` bytes of the buffer were loaded.
+    Loaded {
+        len: u8,
+    },
     /// An access was not mapped.
     NotMapped,
     /// An access touches a granule whose tag differs from its pointer's.

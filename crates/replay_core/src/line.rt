@@ -2,34 +2,42 @@
 ghost use Rattle.heap_theory.specs.Report.{cause_word, error_word, kind_word, report_line};
 ghost use Rattle.heap_theory.specs.Run.Answer.{Loaded, TagFault};
 ghost use Rattle.line_text.specs.Lines.{ended, line_of};
-ghost use Rattle.replay_core.specs.TheoryValues.{shown};
+ghost use Rattle.replay_core.specs.TheoryValues.{IsFilled, shown};
 ghost use Rattle.std.specs.Fmt.{decimal};
 ghost use Rattle.std.specs.Prelude.{◌≡◌, ◌∷◌, ◌+◌, ◌≤◌, [], length};
 
+use crate::access::MOST_BYTES;
 use crate::answer::Answer;
 use crate::replay::LINE_BYTES;
 use crate::text::{append, append_hex, append_number};
 use arrayvec::ArrayVec;
 use heap_theory::{FreeError, NullCause, PlaceKind};
 
-// Replaces what `line` holds by the line of the event of this number with its newline, or by nothing if the event has no line.
+// Replaces what `line` holds by the line of the event of this number with its newline, or by nothing if the event has no line. `bytes`
+// holds what was loaded.
 #[tactic(auto, unfolding(heap_theory::specs::Report::report_line))]
-pub(crate) fn write_line(line: &mut ArrayVec<u8, LINE_BYTES>, number: u64, answer: &Answer)
-    ensures { line.new.items ≡ report_line number (shown answer.now) }
+pub(crate) fn write_line(
+    line: &mut ArrayVec<u8, LINE_BYTES>,
+    number: u64,
+    answer: &Answer,
+    bytes: &[u8; MOST_BYTES],
+)
+    requires { IsFilled answer.now }
+    ensures { line.new.items ≡ report_line number (shown bytes.now answer.now) }
 {
     line.clear();
-    match answer {
+    match *answer {
         Answer::Silent => {}
-        Answer::Loaded(bytes) => write_data(line, number, bytes.as_slice()),
+        Answer::Loaded { len } => write_data(line, number, &bytes[..usize::from(len)]),
         Answer::NotMapped => write_words(line, number, b"fault", b"unmapped"),
         Answer::TagFault {
             granule,
             memory_tag,
             pointer_tag,
             kind,
-        } => write_tag_fault(line, number, *granule, *memory_tag, *pointer_tag, *kind),
-        Answer::NoPointer(cause) => write_words(line, number, b"null", cause_word(*cause)),
-        Answer::NotFreed(error) => write_words(line, number, b"refused", error_word(*error)),
+        } => write_tag_fault(line, number, granule, memory_tag, pointer_tag, kind),
+        Answer::NoPointer(cause) => write_words(line, number, b"null", cause_word(cause)),
+        Answer::NotFreed(error) => write_words(line, number, b"refused", error_word(error)),
     }
 }
 

@@ -3,25 +3,31 @@ ghost use Rattle.heap_theory.specs.Calls.{free_step, realloc_step};
 ghost use Rattle.heap_theory.specs.Ranges.{IsInRange};
 ghost use Rattle.heap_theory.specs.Run.{answer_of, free_answer, heap_after, malloc_answer, realloc_answer, variables_after};
 ghost use Rattle.heap_theory.specs.Sound.{IsSoundHeap};
-ghost use Rattle.replay_core.specs.TheoryValues.{AreVariables, over, shown};
-ghost use Rattle.std.specs.Prelude.{◌≡◌, ◌+◌, ◌^◌, ◌<◌, ◌≤◌, length, slice_index, slice_set};
+ghost use Rattle.replay_core.specs.TheoryValues.{AreVariables, IsFilled, over, shown};
+ghost use Rattle.std.specs.Prelude.{◌≡◌, ◌+◌, ◌^◌, ◌<◌, ◌≤◌, List, length, slice_index, slice_set, ℕ};
 ghost use Rattle.std.specs.Result.{result_unwrap_or};
 
-use crate::access::{load, moved_by, store};
+use crate::access::{MOST_BYTES, load, moved_by, store};
 use crate::answer::Answer;
 use heap_theory::{Event, NullCause, ReallocError};
 use tagged_heap::Heap;
 
-// Performs the event.
+// Performs the event. A load fills the first bytes of `bytes`.
 #[tactic(auto, unfolding(heap_theory::specs::Run::heap_after, heap_theory::specs::Run::variables_after, heap_theory::specs::Run::answer_of))]
-pub(crate) fn perform(heap: &mut Heap, variables: &mut [u64], event: &Event) -> Answer
+pub(crate) fn perform(
+    heap: &mut Heap,
+    variables: &mut [u64],
+    event: &Event,
+    bytes: &mut [u8; MOST_BYTES],
+) -> Answer
     requires in_range { IsInRange event.now }
     requires sound { IsSoundHeap heap.old.state }
     requires variables { AreVariables variables.old }
     requires few { heap.old.frees < 2 ^ 48 }
     ensures state { heap.new.state ≡ heap_after (over heap.old.state variables.old) event.now }
     ensures variables { variables.new ≡ variables_after (over heap.old.state variables.old) event.now }
-    ensures answer { shown result ≡ answer_of (over heap.old.state variables.old) event.now }
+    ensures answer { shown bytes.new result ≡ answer_of (over heap.old.state variables.old) event.now }
+    ensures filled { IsFilled result }
     ensures frees { heap.new.frees ≤ heap.old.frees + 1 }
 {
     match *event {
@@ -29,7 +35,9 @@ pub(crate) fn perform(heap: &mut Heap, variables: &mut [u64], event: &Event) -> 
         Event::Calloc { v, n } => give(variables, v, heap.calloc(n)),
         Event::Realloc { v, n } => reallocate(heap, variables, v, n),
         Event::Free { v } => free(heap, variables[usize::from(v)]),
-        Event::Load { v, off, len } => { load(heap, moved_by(variables[usize::from(v)], off), len) }
+        Event::Load { v, off, len } => {
+            load(heap, moved_by(variables[usize::from(v)], off), len, bytes)
+        }
         Event::Store { v, off, len, byte } => {
             store(heap, moved_by(variables[usize::from(v)], off), len, byte)
         }
@@ -48,7 +56,8 @@ pub(crate) fn perform(heap: &mut Heap, variables: &mut [u64], event: &Event) -> 
 fn give(variables: &mut [u64], v: u16, given: Result<u64, NullCause>) -> Answer
     requires { v < length variables.old }
     ensures variables { variables.new ≡ slice_set variables.old v (result_unwrap_or given 0) }
-    ensures answer { shown result ≡ malloc_answer given }
+    ensures answer { (bytes : List ℕ) → shown bytes result ≡ malloc_answer given }
+    ensures filled { IsFilled result }
 {
     match given {
         Ok(p) => {
@@ -70,8 +79,9 @@ fn reallocate(heap: &mut Heap, variables: &mut [u64], v: u16, n: u32) -> Answer
     ensures variables { variables.new ≡ slice_set variables.old v
         (result_unwrap_or (realloc_step heap.old.state (slice_index variables.old v) n).answer
         (slice_index variables.old v)) }
-    ensures answer { shown result
-        ≡ realloc_answer (realloc_step heap.old.state (slice_index variables.old v) n).answer }
+    ensures answer { (bytes : List ℕ)
+        → shown bytes result ≡ realloc_answer (realloc_step heap.old.state (slice_index variables.old v) n).answer }
+    ensures filled { IsFilled result }
     ensures frees { heap.new.frees ≤ heap.old.frees + 1 }
 {
     match heap.realloc(variables[usize::from(v)], n) {
@@ -88,7 +98,8 @@ fn reallocate(heap: &mut Heap, variables: &mut [u64], v: u16, n: u32) -> Answer
 fn free(heap: &mut Heap, p: u64) -> Answer
     requires { heap.old.frees < 2 ^ 48 }
     ensures state { heap.new.state ≡ (free_step heap.old.state p).heap }
-    ensures answer { shown result ≡ free_answer (free_step heap.old.state p).answer }
+    ensures answer { (bytes : List ℕ) → shown bytes result ≡ free_answer (free_step heap.old.state p).answer }
+    ensures filled { IsFilled result }
     ensures frees { heap.new.frees ≤ heap.old.frees + 1 }
 {
     match heap.free(p) {

@@ -6,6 +6,7 @@ ghost use Rattle.replay_core.specs.ReplayState.{first_stored, stored_after};
 ghost use Rattle.tagged_heap.specs.Config.{IsConfig};
 ghost use Rattle.std.specs.Prelude.{◌≡◌, ◌+◌, ◌^◌, ◌<◌, ◌≤◌, IfOk};
 
+use crate::access::MOST_BYTES;
 use crate::line::write_line;
 use crate::perform::perform;
 use crate::totals::Totals;
@@ -74,9 +75,10 @@ impl Replay {
         ensures stored { self.new ≡ stored_after self.old event.now }
         ensures run { (run : Run) → run.replay ≡ self.old.replay → (run_after run event.now).replay ≡ self.new.replay }
     {
-        let answer = perform(&mut self.heap, &mut self.variables, event);
+        let mut bytes = [0; MOST_BYTES];
+        let answer = perform(&mut self.heap, &mut self.variables, event, &mut bytes);
         self.totals.count(&self.heap, event, &answer);
-        write_line(line, self.totals.events, &answer);
+        write_line(line, self.totals.events, &answer, &bytes);
     }
 
     /// How many events were performed.

@@ -6,7 +6,7 @@ ghost use Rattle.line_text.specs.Lines.{ended};
 ghost use Rattle.replay_core.specs.Bounds.{AreBounded};
 ghost use Rattle.replay_core.specs.TotalsSteps.{with_answer, with_request};
 ghost use Rattle.replay_core.specs.TheoryValues.{shown, totals_in};
-ghost use Rattle.std.specs.Prelude.{◌≡◌, ◌++◌, ◌+◌, ◌*◌, ◌^◌, ◌<◌, ◌≤◌, length};
+ghost use Rattle.std.specs.Prelude.{◌≡◌, ◌++◌, ◌+◌, ◌*◌, ◌^◌, ◌<◌, ◌≤◌, List, length, ℕ};
 
 use crate::answer::Answer;
 use crate::replay::Replay;
@@ -75,8 +75,9 @@ impl Totals {
         requires few { self.old.events < 2 ^ 40 }
         requires bounded { AreBounded (totals_in self.old) }
         requires legal { IsLegalTable 1 heap.now.state.layout.classes }
-        ensures counted { totals_in self.new
-            ≡ totals_after heap.now.state.layout.classes (totals_in self.old) (event.now, shown answer.now) }
+        ensures counted { (bytes : List ℕ) →
+            totals_in self.new
+            ≡ totals_after heap.now.state.layout.classes (totals_in self.old) (event.now, shown bytes answer.now) }
         ensures bounded { AreBounded (totals_in self.new) }
     {
         self.count_answer(answer);
@@ -87,10 +88,10 @@ impl Totals {
     // Counts the answer of an event.
     fn count_answer(&mut self, answer: &Answer)
         requires { AreBounded (totals_in self.old) }
-        ensures { totals_in self.new ≡ with_answer (totals_in self.old) (shown answer.now) }
+        ensures { (bytes : List ℕ) → totals_in self.new ≡ with_answer (totals_in self.old) (shown bytes answer.now) }
     {
         match answer {
-            Answer::Silent | Answer::Loaded(_) => {}
+            Answer::Silent | Answer::Loaded { .. } => {}
             Answer::NotMapped => self.faults_unmapped += 1,
             Answer::TagFault { .. } => self.faults_tag += 1,
             Answer::NoPointer(NullCause::Large) => self.null_large += 1,
@@ -104,8 +105,9 @@ impl Totals {
     fn count_request(&mut self, heap: &Heap, size: Option<u32>, answer: &Answer)
         requires few { self.old.requests ≤ 2 ^ 40 }
         requires small { self.old.loss ≤ largest_counted * 2 ^ 40 }
-        ensures { totals_in self.new
-            ≡ with_request heap.now.state.layout.classes (totals_in self.old) size (shown answer.now) }
+        ensures { (bytes : List ℕ) →
+            totals_in self.new
+            ≡ with_request heap.now.state.layout.classes (totals_in self.old) size (shown bytes answer.now) }
     {
         let Some(n) = size else {
             return;

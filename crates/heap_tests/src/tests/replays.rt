@@ -1,4 +1,5 @@
 //! The replay: each public call once. `engines/replay_texts.rt` has worked traces with their reports.
+use crate::tests::support::same;
 use arrayvec::ArrayVec;
 use class_table::ClassTable;
 use replay_core::Event::{Addg, Free, Load, Malloc, Store, Subg};
@@ -65,18 +66,18 @@ const STEPS: [(Event, &str); 6] = [
 #[test]
 fn steps_lines_and_totals(rt: HostRuntime) -> Result<(), Fail> {
     let mut replay = replay(&rt, &[2], 64)?;
-    assert_eq!(rt; replay.steps(), 0);
+    same(&rt, &replay.steps(), &0, &"steps");
     for (event, line) in STEPS {
         let written = step(&rt, &mut replay, &event);
-        assert_eq!(rt; str::from_utf8(&written)?, line);
+        same(&rt, &str::from_utf8(&written)?, &line, &event);
     }
-    assert_eq!(rt; replay.steps(), 6);
+    same(&rt, &replay.steps(), &6, &"steps");
     let mut text = ArrayVec::from([b'x'; 512]);
     replay.totals().write(&mut text);
     let expected =
         "events 6\nrequests 2\nnull large 0\nnull no-class 0\nnull exhausted 0\nfaults tag 3\n\
         faults unmapped 0\nrefused frees 0\nloss 16\n";
-    assert_eq!(rt; str::from_utf8(&text)?, expected);
+    same(&rt, &str::from_utf8(&text)?, &expected, &"the totals");
     Ok(())
 }
 
@@ -180,7 +181,7 @@ const RANGES: [(Event, bool); 13] = [
 #[test]
 fn ranges_of_events(rt: HostRuntime) -> Result<(), Fail> {
     for (event, is_one) in RANGES {
-        assert_eq!(rt; is_in_range(&event), is_one, "{event:?}");
+        same(&rt, &is_in_range(&event), &is_one, &event);
     }
     Ok(())
 }

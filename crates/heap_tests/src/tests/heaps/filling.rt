@@ -1,4 +1,5 @@
 //! The largest region with the most classes, filled twice.
+use crate::tests::support::same;
 use class_table::ClassTable;
 use std::alloc::Global;
 use std::process::Abort;
@@ -46,10 +47,10 @@ fn every_class_is_filled_twice(rt: HostRuntime) -> Result<(), Fail> {
     let table = ClassTable::from_classes(&CLASSES)?;
     let mut heap = Heap::new(rt.alloc(), &table, CONFIG)?;
     let first = fill(rt.alloc(), &mut heap)?;
-    assert_eq!(rt; first.len(), 25_294);
+    same(&rt, &first.len(), &25_294, &"first chunks");
     free_all(&rt, &mut heap, &first);
     let second = fill(rt.alloc(), &mut heap)?;
-    assert_eq!(rt; second.len(), 25_294);
-    assert_eq!(rt; heap.frees(), 25_294);
+    same(&rt, &second.len(), &25_294, &"second chunks");
+    same(&rt, &heap.frees(), &25_294, &"frees");
     Ok(())
 }

@@ -1,15 +1,26 @@
 //! Parts of addresses, tags that are drawn, and tags that are stepped up.
 use super::calls::Step::{Addg, Gmi, Irg, Offset, Rgsr, Subg};
 use super::calls::{Step, play, pointer};
+use crate::tests::support::same;
 use std::test::Fail;
 use tag_machine::{logical_tag, place_of, with_tag};
 
 #[test]
 fn parts_of_an_address(rt: HostRuntime) -> Result<(), Fail> {
     let address = 0xF512_3456_789A_BCDE;
-    assert_eq!(rt; logical_tag(address), 5);
-    assert_eq!(rt; place_of(address), 0x0012_3456_789A_BCDE);
-    assert_eq!(rt; with_tag(address, 10), 0xFA12_3456_789A_BCDE);
+    same(&rt, &logical_tag(address), &5, &"the tag");
+    same(
+        &rt,
+        &place_of(address),
+        &0x0012_3456_789A_BCDE,
+        &"the place",
+    );
+    same(
+        &rt,
+        &with_tag(address, 10),
+        &0xFA12_3456_789A_BCDE,
+        &"the address with tag 10",
+    );
     Ok(())
 }
 

@@ -1,6 +1,7 @@
 //! Tags that are stored, and where they can't be.
 use super::calls::Step::{Granules, Ldg, Load, Rgsr, SetTag, St2g, Stg, Store, Stzg};
 use super::calls::{Step, play, pointer};
+use crate::tests::support::same;
 use std::test::Fail;
 use tag_machine::Fault;
 
@@ -87,7 +88,12 @@ fn shows_faults_as_code_and_name(rt: HostRuntime) -> Result<(), Fail> {
         (Fault::Alignment, "51 Alignment"),
         (fault, "52 TagCheck"),
     ] {
-        assert_eq!(rt; format!(in rt.alloc(); "{fault}")?.as_str(), text);
+        same(
+            &rt,
+            &format!(in rt.alloc(); "{fault}")?.as_str(),
+            &text,
+            &fault,
+        );
     }
     Ok(())
 }

@@ -44,18 +44,18 @@ module _ (c : goal.After-write_line) where
   classes_are : c.perform-answer.new.heap.state.layout.classes ≡ c.self.inside.heap.state.layout.classes
   classes_are = classes_stay (stored c.self.inside).replay c.args.event.now c.perform-answer.new.heap.state heap_is
 
-  answer_is : shown c.perform-answer.result ≡ answer_of (stored c.self.inside).replay c.args.event.now
+  answer_is : shown c.perform-answer.new.bytes c.perform-answer.result ≡ answer_of (stored c.self.inside).replay c.args.event.now
   answer_is = c.perform-answer.ensures.answer ∙ ap (λ vs. answer_of (over c.self.inside.heap.state vs) c.args.event.now) c.deref_mut.ensures.value
 
   items_are : (with_items c.self.inside.variables c.perform-answer.new.variables).items ≡ c.perform-answer.new.variables
   items_are = with_items_is c.self.inside.variables c.perform-answer.new.variables (c.perform-answer.auto.variables ∙ c.deref_mut.ensures.len)
 
-  counted : totals_in c.count.new.self ≡ totals_after c.perform-answer.new.heap.state.layout.classes (stored c.self.inside).totals (c.args.event.now, shown c.perform-answer.result)
-  counted = c.count.ensures.counted
+  counted : totals_in c.count.new.self ≡ totals_after c.perform-answer.new.heap.state.layout.classes (stored c.self.inside).totals (c.args.event.now, shown c.perform-answer.new.bytes c.perform-answer.result)
+  counted = c.count.ensures.counted c.perform-answer.new.bytes
 
   stored_is : record { replay = over c.perform-answer.new.heap.state (with_items c.self.inside.variables c.perform-answer.new.variables).items; totals = totals_in c.count.new.self } ≡ stored_after (stored c.self.inside) c.args.event.now
   stored_is =
-      stored_in_parts (stored c.self.inside) c.args.event.now c.perform-answer.new.heap.state _ (totals_in c.count.new.self) c.perform-answer.new.heap.state.layout.classes (shown c.perform-answer.result)
+      stored_in_parts (stored c.self.inside) c.args.event.now c.perform-answer.new.heap.state _ (totals_in c.count.new.self) c.perform-answer.new.heap.state.layout.classes (shown c.perform-answer.new.bytes c.perform-answer.result)
       heap_is (items_are ∙ variables_are) answer_is classes_are counted
 
   events_are : c.count.new.self.events ≡ c.self.inside.totals.events + 1
@@ -67,7 +67,7 @@ returns-clause-stored c = stored_is c ∙ ap (λ (s : Stored). stored_after s c.
 
 pub returns-clause-line : goal.returns-clause-line
 returns-clause-line c =
-    c.write_line.ensures ∙ ap (λ n. report_line n (shown c.perform-answer.result)) (events_are c)
+    c.write_line.ensures ∙ ap (λ n. report_line n (shown c.perform-answer.new.bytes c.perform-answer.result)) (events_are c)
     ∙ ap (λ answer. report_line (c.self.inside.totals.events + 1) answer) (answer_is c)
     ∙ ap (λ (s : Stored). report_line (s.totals.events + 1) (answer_of s.replay c.args.event.now)) c.self.view_is
 
