@@ -20,7 +20,7 @@ pub record Slot : Type 0 where
   pub start : ℕ
   pub class : ℕ
 
--- the place after the last slot
+-- what `slot_of` gives for a number past the last slot
 abbrev pub no_slot : Slot
 no_slot = record { start = 0; class = 0 }
 

@@ -96,6 +96,7 @@ impl Layout {
         ensures number { result ≡ class_number_for self.now.classes n }
         ensures within { IfSome result (λ number. number < length self.now.classes) }
     {
+        // a class serves n bytes exactly if it has more granules than they fill: the header takes one
         let number = count_up_to(&self.classes, n.div_ceil(GRANULE_BYTES)) as usize;
         if number < self.classes.len() {
             Some(number)

@@ -55,7 +55,7 @@ pub fn fill_rows<C: CostSource>(
     ensures filled { IfOk result
         (λ f. IsFilled (C.cost costs.old) (C.place_count costs.old) limit (lists_of f.rows.items)
         (lists_of f.ends.items)) }
-    ensures counted { C.call_count costs.new ≤ C.call_count costs.old + most_calls limit (C.place_count costs.old) }
+    ensures bounded { C.call_count costs.new ≤ C.call_count costs.old + most_calls limit (C.place_count costs.old) }
     ensures exact { let d = C.place_count costs.old in let before = C.call_count costs.old in
         IfOk result (λ f. C.call_count costs.new ≡ before + calls_of (number_at (lists_of f.ends.items)) d limit) }
     ensures kept { costs.new ≡ C.with_calls costs.old (C.call_count costs.new) }

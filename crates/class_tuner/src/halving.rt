@@ -1,5 +1,6 @@
 //! One row by halving: the middle place first, then the places on either side of it, each with the ends on their side of its least end.
-//! Spans cross, so a later place has no earlier least end. So each half needs only the ends on its side of the middle place's least end.
+//! By the law on spans that cross, a later place has no earlier least end. So each half needs only the ends on its side of the middle
+//! place's least end.
 ghost use Rattle.std.specs.Prelude.{◌≡◌, ℕ, ◌+◌, ◌-◌, ◌*◌, ◌^◌, ◌≤◌};
 ghost use Rattle.class_tuner.specs.Filling.{AreCallsForPart, AreEndsBetween, IsFilledWithin, IsLeastAt, IsPart, IsSmallRow, KeepsOutside, end_cost};
 ghost use Rattle.class_tuner.specs.Sources.{OnlyCounts};

@@ -59,9 +59,9 @@ pub fn tune(alloc: Global, profile: &Profile, limit: u8, step: u8) -> Result<Tun
     // the canonical table, its waste, and as its certificate the least wastes of the requests above each place
     ensures tuned { IfOk result (λ tuned. IsTuned profile.now.counts step limit (sheet_of tuned.sheet)) }
     // how often the span wastes were asked for, and the most that it can be
-    ensures counted { IfOk result
+    ensures exact { IfOk result
         (λ tuned. AreEvaluations profile.now.counts step limit tuned.sheet.rows tuned.evaluations) }
-    ensures evaluations { IfOk result (λ tuned. tuned.evaluations ≤ most_calls limit (places profile.now.counts step)) }
+    ensures bounded { IfOk result (λ tuned. tuned.evaluations ≤ most_calls limit (places profile.now.counts step)) }
 {
     let spans = Spans::new(alloc, profile, step)?;
     let mut costs = Costs::over(spans);

@@ -128,7 +128,8 @@ fn seed_of(options: &ArgMatches<'_>) -> Result<u16, OptionFault>
     }
 }
 
-// the number of an option, which must be within these bounds
+// The number of an option, which must be within these bounds. clap has refused any other number before; its contract doesn't say so, so
+// the function tests again.
 fn number_in(
     options: &ArgMatches<'_>,
     name: &str,

@@ -26,6 +26,7 @@ pub fn run<R: Env + AllocGlobal + Input + Print + Eprint>(rt: &R, at_terminal: b
         Ok(words) => words,
         Err(refusal) => return refuse(rt, &refusal),
     };
+    // read here for the hint alone: `run_words` reads the words itself, so that its contract covers the whole run
     if at_terminal && read_call(rt.alloc(), words.as_slice()).is_ok() {
         let _ = eprintln!(rt; "{WAITS}");
     }

@@ -7,10 +7,10 @@ use clap::error::ErrorKind;
 use std::alloc::AllocError;
 use std::fmt;
 
-/// What is wrong with options that are each in their range. It is shown as its code and name.
+/// What is wrong with an option whose number is in its range. It is shown as its code and name.
 #[derive(Debug, Clone, Copy, PartialEq, Eq)]
 pub enum OptionFault {
-    /// A step that is not 1, 2, 4 or 8.
+    /// The step is 3, 5, 6 or 7.
     BadOption,
 }
 
@@ -33,7 +33,7 @@ pub enum Refusal {
     OutOfMemory,
     /// The words are not the program's, or they ask for help or the version.
     Words(clap::Error),
-    /// The words are the program's, but the command refuses the options together.
+    /// The words are the program's, but the command refuses an option.
     Options(OptionFault),
 }
 

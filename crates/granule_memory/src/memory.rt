@@ -32,7 +32,7 @@ impl Model for Memory {
 
 impl Memory {
     /// A memory of `granules` granules, 64 to 262,144, with all tags and bytes 0.
-    /// The only error is that the allocator refuses the block of 17 bytes for each granule.
+    /// The only error is that the allocator refuses the one block, of 17 bytes for each granule.
     #[tactic(auto, using(crate::proofs::Granules::granules_counted, crate::proofs::Granules::granules_fit, crate::proofs::Writes::new_is, crate::proofs::Writes::new_fits))]
     pub fn new(alloc: Global, granules: u32) -> Result<Memory, AllocError>
         requires { (64 ≤ granules) × (granules ≤ 262144) }

@@ -9,11 +9,11 @@ use Rattle.heap_theory.specs.Totals.{request_size, is_request, is_refused, loss_
 
 -- ---- what a trace requests
 
--- The sizes that the events request, in bytes,
+-- The sizes that the events request, in bytes.
 abbrev pub requested_sizes : List Event → List ℕ
 requested_sizes events = filter_map request_size events
 
--- and those of them that a class may serve.
+-- Those of the requested sizes that a class may serve.
 abbrev pub counted_sizes : List Event → List ℕ
 counted_sizes events = filter (λ n. nat_le n largest_counted) (requested_sizes events)
 

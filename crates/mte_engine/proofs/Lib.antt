@@ -4,7 +4,7 @@ pub mod FaultLines
 pub mod Headline
 pub mod LeadingSettled
 pub mod LineAndTrace
-pub mod Moves
+pub mod Transfers
 pub mod Reporting
 pub mod SheetAndProfile
 pub mod TableAndProfile

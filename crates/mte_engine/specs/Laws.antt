@@ -29,12 +29,12 @@ TunedRunIsHeadline =
     (limit step : ℕ) (config : Config) (events : List Event) (sheet : Sheet) → IsTuned (profile_of_events events).counts step limit sheet →
     IsTunedRun limit step config events (record { text = sheet_text sheet ++ report_on config sheet.table events; status = Done })
 
--- An input has one answer of `tune`,
+-- An input has one answer of `tune`.
 abbrev pub TuneHasOneAnswer : Type 0
 TuneHasOneAnswer =
     (limit step : ℕ) (text : List ℕ) (a b : Result Answer InputFault) → TuneAnswers limit step text a → TuneAnswers limit step text b → a ≡ b
 
--- and one of `run`.
+-- An input has one answer of `run`.
 abbrev pub RunHasOneAnswer : Type 0
 RunHasOneAnswer =
     (limit step : ℕ) (config : Config) (text : List ℕ) (a b : Result Answer InputFault) → RunAnswers limit step config text a →
@@ -48,25 +48,25 @@ FaultIsShownWithItsLine =
     (fault : InputFault) (n : ℕ) → line_of_fault fault ≡ Some n →
     (name : List ℕ) × (shown_input_fault fault ≡ in_line name n)
 
--- Where `score` refuses an input, for its table or for its profile, the fault is in the line of the input's first fault,
+-- A fault of the table or the profile that `score` reports is in the line of the input's first fault.
 abbrev pub ScoreRefusesAtTheFirstFault : Type 0
 ScoreRefusesAtTheFirstFault =
     (text : List ℕ) (fault : InputFault) → ScoreAnswers text (Err fault) →
     IsAtFirstFault SpellsTableAndProfile text fault
 
--- where `tune` does, too,
+-- A fault of the profile that `tune` reports is in the line of the input's first fault.
 abbrev pub TuneRefusesAtTheFirstFault : Type 0
 TuneRefusesAtTheFirstFault =
     (limit step : ℕ) (text : List ℕ) (fault : InputFault) → TuneAnswers limit step text (Err fault) →
     IsAtFirstFault SpellsProfile text fault
 
--- where `check` does for the profile,
+-- A fault of the profile that `check` reports is in the line of the input's first fault.
 abbrev pub CheckRefusesTheProfileAtItsFirstFault : Type 0
 CheckRefusesTheProfileAtItsFirstFault =
     (text : List ℕ) (n : ℕ) (fault : ProfileFault) → CheckAnswers text (Err (Profile n fault)) →
     IsFirstFault SpellsSheetAndProfile text n
 
--- and where `replay` does for the table.
+-- A fault of the table that `replay` reports is in the line of the input's first fault.
 abbrev pub ReplayRefusesTheFirstLine : Type 0
 ReplayRefusesTheFirstLine =
     (config : Config) (text : List ℕ) (fault : TableError) → ReplayAnswers config text (Err (Table fault)) →

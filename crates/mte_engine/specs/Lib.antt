@@ -1,7 +1,7 @@
 pub mod Check
 pub mod FaultLines
 pub mod Laws
-pub mod Moving
+pub mod Transfer
 pub mod Outcome
 pub mod Parts
 pub mod Profile

@@ -1,7 +1,7 @@
 -- What an engine writes for an input, and how a call of it ends.
 use Rattle.std.specs.Prelude.{◌≡◌, ◌↔◌, ◌<◌, ◌^◌, ℕ, List, ◌++◌, length, Option, Some, None, Result, Ok, Err, IfOk, nat_lt, MatchBool, ⊤}
 use Rattle.std.specs.Io.KnownBytes.{Appends, IsAtEnd}
-use Rattle.mte_engine.specs.Moving.{IsReadFewTimes, most_input}
+use Rattle.mte_engine.specs.Transfer.{IsReadFewTimes, most_input}
 use Rattle.mte_engine.specs.Streams.{SinkState, SourceState}
 use Rattle.mte_engine.specs.declared.engine.Status.{Status}
 use Rattle.mte_engine.specs.declared.fault.AnswerError.{AnswerError}
@@ -24,11 +24,12 @@ pub record Answer : Type 0 where
 abbrev pub AnswersInput : (List ℕ → Result Answer InputFault → Type 0) → List ℕ → Result Answer InputFault → Type 0
 AnswersInput answers input answer = MatchBool (nat_lt most_input (length input)) (answer ≡ Err TooLong) (answers input answer)
 
--- The code's result for an input is one of these answers, unless memory ran out. `text` is the text of an output.
+-- The fault is one of these answers, unless memory ran out.
 abbrev pub GivesFault : (Result Answer InputFault → Type 0) → AnswerError → Type 0
 GivesFault answers NoMemoryToAnswer = ⊤
 GivesFault answers (Refused fault) = answers (Err fault)
 
+-- The code's result for an input is one of these answers, unless memory ran out. `text` is the text of an output.
 abbrev pub GivesAnswer : {O : Type 0} → (O → List ℕ) → (Result Answer InputFault → Type 0) → Result (O × Status) AnswerError → Type 0
 GivesAnswer text answers (Ok answered) = answers (Ok (record { text = text answered.0; status = answered.1 }))
 GivesAnswer text answers (Err error) = GivesFault answers error

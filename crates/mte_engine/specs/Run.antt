@@ -32,11 +32,11 @@ pub record IsTableFor (step limit : ℕ) (events : List Event) (table : List ℕ
 abbrev pub new_replay : Config → List ℕ → Replay
 new_replay config table = first_replay (region_for config table) config.seed config.quarantine
 
--- The results of the events on the tagged machine, one after the other,
+-- The results of the events on the tagged machine, one after the other.
 abbrev pub answers_on : Config → List ℕ → List Event → List HeapAnswer
 answers_on config table events = answers (new_replay config table) events
 
--- and what is counted over them.
+-- The totals over these events and their results.
 abbrev pub totals_on : Config → List ℕ → List Event → Totals
 totals_on config table events = totals_of table (zip events (answers_on config table events))
 

@@ -3,19 +3,19 @@ use Rattle.std.specs.Prelude.{ℕ, zero, suc, List, Option, Result, Ok, Err}
 
 pub record SourceState : Type 0 where
   pub remaining : Option (List ℕ)  -- the bytes that are still to come, where they are known
-  pub reads : ℕ  -- how often it was read, counted up to 2^63
+  pub reads : ℕ  -- how often it was read; promised below 2^63 only
   pub failed : ℕ  -- how many reads failed
 
 pub record SinkState : Type 0 where
   pub taken : Option (List ℕ)  -- the bytes taken so far, where they are known
   pub failed : ℕ  -- how many writes failed
 
--- How many calls a read adds to those that failed,
+-- How many failed reads a read adds.
 abbrev pub failed_reads : {E : Type 0} → Result ℕ E → ℕ
 failed_reads (Ok n) = 0
 failed_reads (Err e) = 1
 
--- and a write of this many bytes, which also fails if it takes none of them.
+-- How many failed writes a write of this many bytes adds. A write that takes none of them has failed too.
 abbrev pub failed_writes : {E : Type 0} → Result ℕ E → ℕ → ℕ
 failed_writes (Ok n) zero = 0
 failed_writes (Ok zero) (suc len) = 1

@@ -5,9 +5,9 @@ ghost use Rattle.mte_engine.specs.Outcome.{Answer, GivesAnswer, IsReady, Runs};
 
 use crate::fault::{AnswerError, ToolFault};
 use crate::input::Input;
-use crate::moving::{read_all, write_all};
 use crate::output::Output;
 use crate::streams::{ByteSink, ByteSource};
+use crate::transfer::{read_all, write_all};
 use std::alloc::{AllocError, Global};
 
 /// How an engine ended after it wrote its whole text.

@@ -82,7 +82,7 @@ impl Output for Report {
 }
 
 // Replays events and appends their lines to the buffer, until the buffer is full or all events are replayed. After the last event it
-// appends the totals. The buffer has room for all of this, so the call takes no memory.
+// appends the totals. Returns whether it has appended the totals. The buffer has room for all of this, so the call takes no memory.
 fn fill(replay: &mut Replay, reader: &mut TraceReader, buffer: &mut Vec<u8>) -> bool
     requires few { replay.old.totals.events + length reader.old.events ≤ 2 ^ 40 }
     requires room { vec_len buffer.old + 65536 ≤ vec_capacity buffer.old }
@@ -94,6 +94,7 @@ fn fill(replay: &mut Replay, reader: &mut TraceReader, buffer: &mut Vec<u8>) -> 
 {
     let full = buffer.len() + BUFFER - LINE_BYTES - TOTALS_BYTES;
     let mut line = ArrayVec::new();
+    // the label names the loop's invariant in proofs/
     'lines: while buffer.len() < full {
         let Some(event) = reader.next_event() else {
             append_totals(replay, buffer);

@@ -10,13 +10,13 @@ use crate::input::WholeText;
 use crate::output::Text;
 use crate::parts::read_profile;
 use crate::streams::{ByteSink, ByteSource};
-use class_tuner::tune as tuned;
 use potential_check::write_sheet;
 use std::alloc::{AllocError, Global};
 
 /// Reads a profile, and writes the sheet of its table of least waste. Of all tables that have at most `limit` (1 to 32) classes, all of them
 /// multiples of `step` (1, 2, 4 or 8 granules), and that serve each counted size, it is the canonical best one. The sheet's certificate is
-/// rows of least wastes: number i of row k is the least that at most k classes waste on the requests above place i.
+/// rows of least wastes: number i of row k, both counted from 1, is the least that at most k classes waste on the requests whose need is
+/// none of the i - 1 smallest.
 ///
 /// Faults: an input that is too long, then the profile's (`Input`); a failed read (`ReadFault`); out of memory (`OutOfMemory`): the sink took
 /// nothing then. A failed write (`WriteFault`): then the sink took a prefix of the text.
@@ -76,7 +76,7 @@ fn tune_text(
     ensures { GivesAnswer (λ written. written.items) (TuneAnswers limit step text.now) result }
 {
     let profile = read_profile(alloc, text, 0)?;
-    let tuned = tuned(alloc, &profile, limit, step)?;
+    let tuned = class_tuner::tune(alloc, &profile, limit, step)?;
     let mut written = Vec::new(alloc);
     write_sheet(tuned.sheet(), &mut written)?;
     Ok((written, Status::Done))

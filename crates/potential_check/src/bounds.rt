@@ -46,8 +46,9 @@ pub(crate) fn edges_hold(spans: &Spans, before: &[u64], row: &[u64]) -> bool
 }
 
 // Whether no number of a part of a row is more than its edge to any of these ends allows.
-// The function tests the middle place by its tightest end. Since spans cross, that end is as tight for an earlier place as any end after
-// it, and for a later place as any end before it. So earlier places need only the ends up to it, and later places only those from it on.
+// The function tests the middle place by its tightest end. By the law on spans that cross, that end is as tight for an earlier place as
+// any end after it, and for a later place as any end before it. So earlier places need only the ends up to it, and later places only those
+// from it on.
 fn edges_hold_within(
     spans: &Spans,
     before: &[u64],

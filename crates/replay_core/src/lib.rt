@@ -1,8 +1,7 @@
 //! The replay of a trace on the hardened heap: events over 1,024 variables, one after the other, each with its line of the report, and the
 //! totals over all of them.
 //!
-//! The rules stand in docs/HEAP.md and, as definitions, in `heap_theory`. The call `law_sound()` does nothing; it gives the proof
-//! that law.
+//! The rules stand in docs/HEAP.md and, as definitions, in `heap_theory`.
 #![tactic(auto)]
 
 mod access;

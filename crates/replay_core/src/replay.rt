@@ -65,8 +65,8 @@ impl Replay {
         })
     }
 
-    /// Performs the event, counts it in the totals, and replaces what `line` holds by its report line with its newline, or by nothing if it
-    /// has none. Afterwards the replay holds what a run leaves that has this event too. The event's numbers must be in their ranges
+    /// Performs the event and counts it in the totals. Replaces what `line` holds by the event's report line with its newline, or by nothing
+    /// if it has none. Afterwards the replay is what is stored of the run with this event added. The event's numbers must be in their ranges
     /// (`Event`), and there must have been fewer than 2^40 steps (`steps`).
     pub fn step(&mut self, event: &Event, line: &mut ArrayVec<u8, LINE_BYTES>)
         requires few { self.old.totals.events < 2 ^ 40 }

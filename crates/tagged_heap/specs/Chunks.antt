@@ -57,7 +57,7 @@ pub record HasClass (layout : Partition) (memory : List Granule) (fronts firsts 
   pub region : length memory ≡ layout.granules
   pub memory_is : IsMemory memory
 
--- The first slot of the class's list is taken off it,
+-- The first slot of the class's list is taken off it.
 pub record TakesFront (layout : Partition) (memory new : List Granule) (fronts fronts' firsts firsts' : List ℕ)
     (number s : ℕ) : Type 0 where
   pub front : slice_index fronts number ≡ s + 1
@@ -65,7 +65,7 @@ pub record TakesFront (layout : Partition) (memory new : List Granule) (fronts f
   pub fronts_are : fronts' ≡ slice_set fronts number (next_in layout memory s)
   pub firsts_are : firsts' ≡ firsts
 
--- or where the list is empty the class's next fresh slot,
+-- The list is empty, and the class's next fresh slot is taken.
 pub record TakesFresh (layout : Partition) (memory new : List Granule) (fronts fronts' firsts firsts' : List ℕ)
     (number s : ℕ) : Type 0 where
   pub empty : slice_index fronts number ≡ 0
@@ -75,7 +75,7 @@ pub record TakesFresh (layout : Partition) (memory new : List Granule) (fronts f
   pub fronts_are : fronts' ≡ fronts
   pub firsts_are : firsts' ≡ slice_set firsts number (s + 1)
 
--- or there is none.
+-- The list is empty, and the class has no fresh slot left.
 pub record TakesNone (layout : Partition) (memory new : List Granule) (fronts fronts' firsts firsts' : List ℕ)
     (number : ℕ) : Type 0 where
   pub empty : slice_index fronts number ≡ 0

@@ -59,7 +59,7 @@ impl Model for Heap {
 }
 
 impl Heap {
-    /// An empty heap over the classes of a table. It takes one block of 17 bytes for each granule from the allocator. The only error is
+    /// An empty heap over the classes of a table. It takes one block from the allocator, with 17 bytes for each granule. The only error is
     /// that the allocator refuses this block. No other call takes memory.
     pub fn new(alloc: Global, table: &ClassTable, config: Config) -> Result<Heap, AllocError>
         requires { IsConfig config }

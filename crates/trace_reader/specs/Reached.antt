@@ -12,11 +12,11 @@ answer_of (Open lines rest) = Ok tt
 answer_of (Failed error) = Err error
 answer_of Finished = Ok tt
 
--- The events are the first of those.
+-- `front` is a prefix of `events`.
 abbrev pub IsFrontOf : List Event → List Event → Type 0
 IsFrontOf front events = (more : List Event) × (events ≡ front ++ more)
 
--- From one reading a call came to another where it wanted to come to a third: memory may run out on the way.
+-- A call that should turn the reading `old` into `wanted` turned it into `new`. These two differ only if memory ran out.
 pub record HasReached (old wanted new : Reading) (result : Result (Unit {0}) TraceError) : Type 0 where
   pub answer : result ≡ answer_of new.state
   pub reading : result ≢ Err OutOfMemory → new ≡ wanted

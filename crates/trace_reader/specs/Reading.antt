@@ -118,7 +118,7 @@ judgement_in Finished end = Err LineTooLong
 abbrev pub line_ended : Reading → List ℕ → Reading
 line_ended reading end = with_judged reading (judgement_in reading.state end)
 
--- What a line was judged to be that comes next: where it is an event, that is in its ranges, and there is room for it.
+-- If the next line was judged to be an event, its numbers are in their ranges, and the trace has room for it.
 abbrev pub IsJudgementIn : State → Result Event TraceFault → Type 0
 IsJudgementIn (Open lines rest) judged = IfOk judged (λ event. IsInRange event × (lines < most_events))
 IsJudgementIn (Failed error) judged = ⊤

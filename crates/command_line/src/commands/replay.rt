@@ -41,7 +41,7 @@ has the meaning of each event. The output has a line for each event E, counted f
 loaded, faulted or was refused:
 
   E data HEX..          the bytes that a load read
-  E fault unmapped      an access reached outside the region; it did nothing
+  E fault unmapped      an access was not mapped; it did nothing
   E fault tag granule G memory M pointer P in KIND
                         granule G has the tag M, and the pointer the tag P; the access did nothing;
                         KIND is what the granule is: slack, header, tail, dead or other

@@ -64,7 +64,7 @@ writes the lines `classes 2`, `limit 1`, `waste 0` and `row 0`, then
 `3 fault tag granule 1 memory 3 pointer 1 in dead`, since the chunk was freed, and the totals.
 
 Refused, exit status 2:
-  83 BadOption         the step is not 1, 2, 4 or 8; nothing is read then
+  83 BadOption         the step is 3, 5, 6 or 7; nothing is read then
   70 BadWord           a line is no event, or has a word too many or too few
   71 BadNumber         a word is no number of its kind, or not in its one spelling
   72 OutOfRange        a number is not in its range

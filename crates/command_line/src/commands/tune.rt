@@ -50,7 +50,7 @@ writes the lines `classes 2 4`, `limit 2`, `waste 8`, `row 104 8` and `row 8 8`:
 waste 104 bytes, two waste 8.
 
 Refused, exit status 2:
-  83 BadOption         the step is not 1, 2, 4 or 8; nothing is read then
+  83 BadOption         the step is 3, 5, 6 or 7; nothing is read then
   30 BadLine           a line of the profile is none of its two forms, or its size is above 16368
   31 NotAscending      a size is not above the one before it
   32 CountOutOfRange   a count is not from 1 to 1000000000

@@ -40,8 +40,8 @@ loop-k-init g c = record {
   only_counts = c.first_row.ensures.only_counts;
 }
 
-pub returns-in_err-push-2-clause-counted : goal.returns-in_err-push-2-clause-counted
-returns-in_err-push-2-clause-counted g c =
+pub returns-in_err-push-2-clause-bounded : goal.returns-in_err-push-2-clause-bounded
+returns-in_err-push-2-clause-bounded g c =
     calls-more (g.C.CostSource.call_count c.args.costs.now) (g.C.CostSource.call_count c.loop-k.costs) _ c.loop-k.k c.args.limit _
     c.loop-k.invariant.counted (rw c.loop-k.invariant.only_counts.same_places at c.in_ok-next.ensures.counted) (omega arith)
 

@@ -1,7 +1,7 @@
 use Rattle.std.proofs.Common.{◌≡◌, ◌≤◌, ◌<◌, ◌++◌, length, take, ◌∙◌, arith}
 use Rattle.mte_engine.specs.declared.streams.Failure.{Failure}
-use Rattle.mte_engine.proofs.Moves.{appends_more, first_ready, no_failure, written_more}
-use Rattle.mte_engine.proofs.moving.write_all.Goals as goal
+use Rattle.mte_engine.proofs.Transfers.{appends_more, first_ready, no_failure, written_more}
+use Rattle.mte_engine.proofs.transfer.write_all.Goals as goal
 
 pub loop-sink-preserved : goal.loop-sink-preserved
 loop-sink-preserved g c =

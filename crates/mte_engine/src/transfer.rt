@@ -1,6 +1,6 @@
 //! The two loops of an engine: reading a whole input, and writing a whole text.
 ghost use Rattle.std.specs.Prelude.{◌≡◌, ◌^◌, ◌<◌, [], IfOk, vec_len};
-ghost use Rattle.mte_engine.specs.Moving.{HasRead, HasWritten, IsReadFewTimes};
+ghost use Rattle.mte_engine.specs.Transfer.{HasRead, HasWritten, IsReadFewTimes};
 
 use crate::fault::ReadError;
 use crate::input::Input;

@@ -10,7 +10,7 @@ use Rattle.mte_engine.specs.declared.streams.Failure.{Failure}
 abbrev pub most_input : ℕ
 most_input = 67108864
 
--- How often a source is read at most: each read but the last two takes at least one byte.
+-- How often a source is read at most. Each read but the last takes at least one byte, so one read fewer would do.
 abbrev pub most_reads : ℕ
 most_reads = 67108866
 
