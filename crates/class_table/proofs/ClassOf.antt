@@ -8,7 +8,7 @@ use Rattle.std.proofs.lemmas.List.{take-take}
 use Rattle.std.proofs.lemmas.List.FromFn.{length-map-range_with_len, get_or-map-range_with_len}
 use Rattle.std.proofs.lemmas.List.Sums.{sum_by-take-le}
 use Rattle.std.proofs.lemmas.Option.{slice_get-get_or}
-use Rattle.class_table.specs.Layout.{Partition, Slot, share_of, slot_count, slot_of, first_slot}
+use Rattle.class_table.specs.Layout.{Partition, Slot, IsClassOf, share_of, slot_count, slot_of, first_slot}
 use Rattle.class_table.proofs.Firsts.{first_slot-suc}
 use Rattle.class_table.proofs.Slots.{slot_of-class, slot_count-classes}
 
@@ -31,12 +31,6 @@ pub firsts_of-ascending : (region : Partition) → IsNonDecreasingBy (λ first. 
 firsts_of-ascending region a b d le within =
     let long = length-firsts_of region in
     rw (get_or-firsts_of region a d (omega arith), get_or-firsts_of region b d (omega arith)) (first_slot-le region a b le)
-
--- what is true of the number of a slot's class
-pub record IsClassOf (region : Partition) (slot number : ℕ) : Type 0 where
-  pub within : number < length region.classes
-  pub from : first_slot region number ≤ slot
-  pub to : slot < first_slot region (number + 1)
 
 pub class_of_point : (region : Partition) (slot point : ℕ) → slot < slot_count region → point ≤ length (firsts_of region) →
     ((k d : ℕ) → k < length (firsts_of region) → k < point → get_or (firsts_of region) k d ≤ slot) →

@@ -62,6 +62,12 @@ slot_of region s = slice_index_or (slots_of region) s no_slot
 abbrev pub first_slot : Partition → ℕ → ℕ
 first_slot region number = sum_by (λ class. share_of region / class) (take number region.classes)
 
+-- The class of this number is the slot's.
+pub record IsClassOf (region : Partition) (slot number : ℕ) : Type 0 where
+  pub within : number < length region.classes
+  pub from : first_slot region number ≤ slot
+  pub to : slot < first_slot region (number + 1)
+
 -- ---- which slot covers a granule
 
 pub record Covers (slot : Slot) (granule : ℕ) : Type 0 where

@@ -1,5 +1,5 @@
 ghost use Rattle.std.specs.Prelude.{◌≡◌, ◌+◌, ◌/◌, ◌<◌, ◌≤◌, length, slice_get, slice_index, slice_index_or, ℕ, IfNone, IfSome, None, Some};
-ghost use Rattle.class_table.specs.Layout.{IsPartition, block_bytes, first_slot, share_of, slot_count, slot_of, slot_over};
+ghost use Rattle.class_table.specs.Layout.{IsClassOf, IsPartition, block_bytes, first_slot, share_of, slot_count, slot_of, slot_over};
 ghost use Rattle.class_table.specs.Sizes.{loss_of};
 ghost use Rattle.class_table.specs.Tables.{class_for, class_number_for};
 ghost use Rattle.std.specs.List.Sorted.{IsNonDecreasingBy};
@@ -91,6 +91,15 @@ impl Layout {
         self.classes.len()
     }
 
+    /// The class of this number, counted from 0, in granules.
+    pub fn class(&self, number: usize) -> u32
+        requires { number < length self.now.classes }
+        ensures class { result ≡ slice_index self.now.classes number }
+        ensures in_range { (2 ≤ result) × (result ≤ 1024) }
+    {
+        self.classes[number]
+    }
+
     /// The number of the least class that serves a request of `n` bytes, counted from 0. `None` if no class serves it.
     pub fn find(&self, n: u32) -> Option<usize>
         ensures number { result ≡ class_number_for self.now.classes n }
@@ -141,7 +150,17 @@ impl Layout {
         ensures inside { result.start + result.class ≤ self.now.granules }
         ensures in_range { (2 ≤ result.class) × (result.class ≤ 1024) }
     {
-        let number = self.class_of(slot);
+        self.slot_of_class(self.class_of(slot), slot)
+    }
+
+    /// What `slot` returns, without a search for the slot's class: `number` must be its number, counted from 0.
+    pub fn slot_of_class(&self, number: usize, slot: u32) -> Slot
+        requires { IsClassOf self.now slot number }
+        ensures start { result.start ≡ (slot_of self.now slot).start }
+        ensures class { result.class ≡ (slot_of self.now slot).class }
+        ensures inside { result.start + result.class ≤ self.now.granules }
+        ensures in_range { (2 ≤ result.class) × (result.class ≤ 1024) }
+    {
         let place = slot - self.first_slot(number);
         let class = self.class(number);
         Slot {
@@ -217,15 +236,6 @@ impl Layout {
         ensures partition { IsPartition self.now }
     {
         self.share
-    }
-
-    // the class of this number, in granules
-    fn class(&self, number: usize) -> u32
-        requires { number < length self.now.classes }
-        ensures class { result ≡ slice_index self.now.classes number }
-        ensures in_range { (2 ≤ result) × (result ≤ 1024) }
-    {
-        self.classes[number]
     }
 }
 

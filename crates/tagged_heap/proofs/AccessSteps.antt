@@ -1,5 +1,5 @@
 -- What a granule is, by the header of the slot over it.
-use Rattle.std.proofs.Common.{◌≡◌, ℕ, ◌+◌, ◌-◌, ◌<◌, ◌≤◌, Bool, true, false, cond, eqb, refl, sym, ap, ◌∙◌, arith, Some, None}
+use Rattle.std.proofs.Common.{◌≡◌, ◌≢◌, ℕ, ◌+◌, ◌<◌, ◌≤◌, Bool, true, false, cond, eqb, refl, sym, ap, ◌∙◌, arith, Some, None}
 use Rattle.std.specs.Prelude.{nat_lt}
 use Rattle.std.proofs.lemmas.Bool.{and_right, and_from, cond-true, cond-false, eq-eqb, ne_eqb, lt-ltb, le-ltb, le-leb}
 use Rattle.machine_theory.specs.Memory.{is_among}
@@ -12,11 +12,12 @@ use Rattle.heap_theory.specs.Places.{place_kind, kind_at, kind_of_chunk}
 use Rattle.heap_theory.specs.State.{State, Heap, slot_in, state_at, chunk_granules, chunk_of, payload_start, IsSlot}
 use Rattle.heap_theory.specs.State.State.{Fresh, Live, Dead}
 use Rattle.tagged_heap.specs.Representation.{header_in, standing_from, Parts, IsKept}
+use Rattle.tagged_heap.proofs.TheoryLemmas as laws
 use Rattle.tagged_heap.proofs.Kept.{class_most, size_most}
 
-pub kind_outside : (h : Heap) (g : ℕ) → None ≡ slot_over h.layout g → Slack ≡ place_kind h g
+pub kind_outside : (h : Heap) (g : ℕ) → slot_over h.layout g ≡ None → Slack ≡ place_kind h g
 unfolding place_kind
-kind_outside h g none = ap (λ o. kind_at h o g) none
+kind_outside h g none = ap (λ o. kind_at h o g) (sym none)
 
 -- the granules of a chunk, by how its slot stands
 abbrev pub kind_by : Standing → PlaceKind
@@ -55,42 +56,48 @@ size_fits Fresh class room most = omega arith
 size_fits (Live size tag) class room most = size_most size class room most
 size_fits (Dead size tag mark) class room most = size_most size class room most
 
-module _ {h : Heap} {p : Parts} (k : IsKept h p) (g s : ℕ) (there : Some s ≡ slot_over h.layout g) where
-  pub start_kind : g ≡ (slot_in h s).start → Header ≡ place_kind h g
+-- a granule of slot s, so many granules from its first one
+module _ {h : Heap} {p : Parts} (k : IsKept h p) {g s : ℕ} (before : ℕ) (there : slot_over h.layout g ≡ Some s)
+    (at : (slot_in h s).start + before ≡ g) where
+  pub in_range : IsSlot h s
+  in_range = ((laws.covers 1 h.layout g s k.sound.region.table).0 there).0
+
+  pub start_kind : before ≡ 0 → Header ≡ place_kind h g
   unfolding place_kind
-  start_kind is = sym (cond-true (eqb (slot_in h s).start g) _ _ (eq-eqb (slot_in h s).start g (sym is))) ∙ ap (λ o. kind_at h o g) there
+  start_kind none =
+      sym (cond-true (eqb (slot_in h s).start g) _ _ (eq-eqb (slot_in h s).start g (omega (arith, none, at))))
+      ∙ ap (λ o. kind_at h o g) (sym there)
 
-  module _ (in_range : IsSlot h s) where
-    size_is : (header_in h.layout p.memory s).size ≡ size_of (state_at h s)
-    size_is = ap (λ (x : TheHeader). x.size) (k.headers.headers s in_range)
+  size_is : (header_in h.layout p.memory s).size ≡ size_of (state_at h s)
+  size_is = ap (λ (x : TheHeader). x.size) (k.headers.headers s in_range)
 
-    pub size_few : (header_in h.layout p.memory s).size ≤ 16368
-    size_few =
-        omega (
-          arith,
-          size_is,
-          size_fits (state_at h s) (slot_in h s).class (k.sound.tagged s in_range).room
-              (class_most h s k.sound in_range),
-        )
+  pub size_few : (header_in h.layout p.memory s).size ≤ 16368
+  size_few =
+      omega (
+        arith,
+        size_is,
+        size_fits (state_at h s) (slot_in h s).class (k.sound.tagged s in_range).room
+            (class_most h s k.sound in_range),
+      )
 
-    module _ (other : g ≡ (slot_in h s).start → ⊥) where
-      payload_kind : cond (is_among (payload_start (slot_in h s)) (chunk_of (state_at h s)) g) (kind_of_chunk (state_at h s)) Tail ≡
-          place_kind h g
-      unfolding place_kind
-      payload_kind =
-          sym (cond-false (eqb (slot_in h s).start g) _ _ (ne_eqb (slot_in h s).start g (λ is. other (sym is))))
-          ∙ ap (λ o. kind_at h o g) there
+  module _ (other : before ≢ 0) where
+    payload_kind : cond (is_among (payload_start (slot_in h s)) (chunk_of (state_at h s)) g) (kind_of_chunk (state_at h s)) Tail ≡
+        place_kind h g
+    unfolding place_kind
+    payload_kind =
+        sym (cond-false (eqb (slot_in h s).start g) _ _ (ne_eqb (slot_in h s).start g (λ is. other (omega (arith, is, at)))))
+        ∙ ap (λ o. kind_at h o g) (sym there)
 
-      pub tail_kind : chunk_granules (header_in h.layout p.memory s).size < g - (slot_in h s).start → Tail ≡ place_kind h g
-      tail_kind after =
-          let most = chunk_most (state_at h s) in
-          let past : payload_start (slot_in h s) + chunk_of (state_at h s) ≤ g = omega (arith, ap chunk_granules size_is) in
-          sym (cond-false (is_among (payload_start (slot_in h s)) (chunk_of (state_at h s)) g) _ _ (and_right _ _ (le-ltb g _ past)))
-          ∙ payload_kind
+    pub tail_kind : chunk_granules (header_in h.layout p.memory s).size < before → Tail ≡ place_kind h g
+    tail_kind after =
+        let most = chunk_most (state_at h s) in
+        let past : payload_start (slot_in h s) + chunk_of (state_at h s) ≤ g = omega (arith, ap chunk_granules size_is, at) in
+        sym (cond-false (is_among (payload_start (slot_in h s)) (chunk_of (state_at h s)) g) _ _ (and_right _ _ (le-ltb g _ past)))
+        ∙ payload_kind
 
-      pub chunk_granule_kind : (slot_in h s).start ≤ g → g - (slot_in h s).start ≤ chunk_granules (header_in h.layout p.memory s).size →
-          kind_by (header_in h.layout p.memory s).standing ≡ place_kind h g
-      chunk_granule_kind from within =
-          ap (λ (x : TheHeader). kind_by x.standing) (k.headers.headers s in_range)
-          ∙ chunk_kind k.from (payload_start (slot_in h s)) g (state_at h s) (omega (arith, other))
-          (omega (arith, ap chunk_granules size_is)) ∙ payload_kind
+    pub chunk_granule_kind : before ≤ chunk_granules (header_in h.layout p.memory s).size →
+        kind_by (header_in h.layout p.memory s).standing ≡ place_kind h g
+    chunk_granule_kind within =
+        ap (λ (x : TheHeader). kind_by x.standing) (k.headers.headers s in_range)
+        ∙ chunk_kind k.from (payload_start (slot_in h s)) g (state_at h s) (omega (arith, other, at))
+        (omega (arith, ap chunk_granules size_is, at)) ∙ payload_kind

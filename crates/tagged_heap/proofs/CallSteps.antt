@@ -13,6 +13,8 @@ use Rattle.heap_theory.specs.declared.fault.ReallocError.TheVariants.{Null}
 use Rattle.heap_theory.specs.State.State.{Fresh, Live}
 use Rattle.machine_theory.specs.Memory.{Granule, bytes_at, tagged}
 use Rattle.tagged_heap.specs.HeapView.{Counted}
+use Rattle.tagged_heap.specs.Chunks.{IsChunk}
+use Rattle.tagged_heap.specs.declared.freeing.Chunk.{Chunk as Found}
 use Rattle.tagged_heap.specs.Frees.{frees_for_slot}
 use Rattle.heap_theory.specs.declared.fault.FreeError.{FreeError}
 use Rattle.heap_theory.specs.declared.fault.ReallocError.{ReallocError}
@@ -35,12 +37,6 @@ size_of_given h n s is = elim (cases_lt 16368 n) [
 pub room_given : (h : Heap) (n s r : ℕ) → chunk_granules n < (slot_in h r).class → chunk_granules n < (slot_in (given_out h s n) r).class
 unfolding given_out
 room_given h n s r room = room
-
--- ---- what bytes of a payload leave
-
-pub state_written : (h : Heap) (s r : ℕ) (bytes : List ℕ) → state_at (with_payload h s bytes) r ≡ state_at h r
-unfolding with_payload
-state_written h s r bytes = refl
 
 -- ---- a result whose error is another's, under a name
 
@@ -90,10 +86,6 @@ pub payload_given :
 unfolding given_out
 payload_given law h s n r count = law _ _ _ _ _ _ ∙ law _ _ _ _ _ _
 
-pub live_given : (h : Heap) (s n r size tag : ℕ) → r ≢ s → state_at h r ≡ Live size tag → state_at (given_out h s n) r ≡ Live size tag
-unfolding given_out
-live_given h s n r size tag other live = get_or-set_other h.states s r (Live n (next_tag h s)) Fresh other ∙ live
-
 -- a live slot is no slot that is given
 pub live_apart : (h : Heap) (r s size tag : ℕ) → state_at h r ≡ Live size tag → IsReusable h s → r ≢ s
 live_apart h r s size tag live reusable is = free reusable.free
@@ -104,6 +96,19 @@ live_apart h r s size tag live reusable is = free reusable.free
     free : IsTrue (is_fresh (state_at h s)) ⊎ IsTrue (is_released h (state_at h s)) → ⊥
     free (inl fresh) = let never : false ≡ true = sym (ap is_fresh live_too) ∙ fresh in cc
     free (inr released) = let never : false ≡ true = sym (ap (is_released h) live_too) ∙ released in cc
+
+-- so a live chunk stays one while another slot is given out and written
+pub chunk_stays : (h : Heap) (s n : ℕ) (chunk : Found) → IsChunk h chunk → IsReusable h s → IsChunk (given_out h s n) chunk
+unfolding given_out
+chunk_stays h s n chunk is reusable =
+    let apart = live_apart h chunk.slot s chunk.size is.live.0 is.live.1 reusable in
+    let live = get_or-set_other h.states s chunk.slot (Live n (next_tag h s)) Fresh apart ∙ is.live.1 in
+    record { slot = is.slot; start = is.start; class = is.class; number = is.number; live = (is.live.0, live) }
+
+pub chunk_written : (h : Heap) (s : ℕ) (bytes : List ℕ) (chunk : Found) → IsChunk h chunk → IsChunk (with_payload h s bytes) chunk
+unfolding with_payload
+chunk_written h s bytes chunk is =
+    record { slot = is.slot; start = is.start; class = is.class; number = is.number; live = is.live }
 
 pub same_slot : (h : Heap) (s n r : ℕ) → slot_in (given_out h s n) r ≡ slot_in h r
 unfolding given_out

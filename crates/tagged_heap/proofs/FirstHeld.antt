@@ -56,7 +56,7 @@ module _ (layout : Partition) (seed quarantine : ℕ) (is : IsPartition layout) 
         omega (arith, first_at number within, first_slot-le layout number (number + 1) (omega arith) (omega arith));
     given = λ number s within in_range class below.
         let share = share_of_slot layout number s is.table (subst (λ n. number < n) firsts_long within) in_range class in
-        absurd (omega (arith, first_at number within, share.0));
+        absurd (omega (arith, first_at number within, share.from));
     fresh = λ number s within in_range class above. ap is_fresh (state_fresh s);
   }
 

@@ -41,7 +41,7 @@ module _ (h : Heap) (sound : IsSoundHeap h) (firsts : List ℕ) (f : AreFirstFre
       laws.none_fresh h (slice_index h.layout.classes number)
       (λ r in_range class.
       let own = share_of_slot h.layout number r sound.region.table within in_range class in
-      f.given number r in_firsts in_range class (omega (arith, own.1)))
+      f.given number r in_firsts in_range class (omega (arith, own.to)))
 
   -- the lowest fresh slot is given out
   pub firsts_step : (s : ℕ) (state : State) (memory : List Granule) (total seed tag : ℕ) → s < length h.states →

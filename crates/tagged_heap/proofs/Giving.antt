@@ -9,7 +9,7 @@ use Rattle.machine_theory.specs.Instructions.{drawn_tag}
 use Rattle.machine_theory.specs.Machine.{Machine}
 use Rattle.machine_theory.specs.Memory.{Granule, IsMemory}
 use Rattle.machine_theory.specs.Seed.{next_seed}
-use Rattle.class_table.specs.Layout.{first_slot}
+use Rattle.class_table.specs.Layout.{IsClassOf, first_slot}
 use Rattle.class_table.specs.Sizes.{largest_counted}
 use Rattle.class_table.specs.Tables.{class_for, class_number_for}
 use Rattle.heap_theory.specs.declared.fault.NullCause.{NullCause}
@@ -31,6 +31,7 @@ use Rattle.tagged_heap.specs.HeapView.{shown_heap, IsHeldIn}
 use Rattle.tagged_heap.proofs.Changed.{with_link, other_list, state_here, firsts_changed, kept_alive, alive_memory}
 use Rattle.tagged_heap.proofs.Firsts.{firsts_step, counted, lowest_counted, lowest_none}
 use Rattle.tagged_heap.proofs.HeaderPlaces.{written_header}
+use Rattle.tagged_heap.proofs.Shares.{share_of_slot}
 use Rattle.tagged_heap.proofs.Kept.{class_few, header_fits, within_states, within_lists, region_is, front_few, list_slot, booked_at_rest, shown_is}
 
 -- ---- the request
@@ -175,6 +176,15 @@ module _ {h : Heap} {frees : ℕ} {p : Parts} {firsts : List ℕ} (held : IsHeld
             (firsts_step h k.sound firsts held.fresh number within s (Live n (next_tag h s)) _ _ _ _ (within_states k s own.0) t.counter
             t.below refl);
       }
+
+  -- it is one of the class's slots
+  pub taken_class : {m1 : List Granule} {fronts' firsts' : List ℕ} (s : ℕ) → IsTaken h p held.kept m1 fronts' firsts' s n →
+      IsClassOf h.layout s number
+  taken_class s t =
+      let found = sym t.given.class ∙ laws.class_by_number n h.layout.classes
+      ∙ ap (λ o. option_and_then (slice_get h.layout.classes) o) numbered ∙ listed in
+      let class : (slot_in h s).class ≡ slice_index h.layout.classes number = cc in
+      share_of_slot h.layout number s held.kept.sound.region.table within t.given.reusable.in_range class
 
   -- neither is there
   pub exhausted : {m1 : List Granule} {fronts' firsts' : List ℕ} → Takes h.layout p.memory m1 p.fronts fronts' firsts firsts' number None →

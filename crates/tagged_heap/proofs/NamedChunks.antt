@@ -1,9 +1,9 @@
 -- The chunk that a pointer names.
 use Rattle.std.proofs.Common.{◌≡◌, ◌≢◌, ℕ, ◌^◌, ◌<◌, Bool, true, false, cond, refl, sym, ap, ◌∙◌, Some, None, Ok, Err, Option}
-use Rattle.std.specs.Prelude.{MatchOption, nat_lt, ◌==◌}
+use Rattle.std.specs.Prelude.{nat_lt, ◌==◌}
 use Rattle.std.proofs.lemmas.Bool.{cond-true, cond-false, eq-eqb, ne_eqb}
 use Rattle.machine_theory.specs.Address.{logical_tag, place_of}
-use Rattle.heap_theory.specs.declared.fault.FreeError.TheVariants.{NotLive, WrongTag}
+use Rattle.heap_theory.specs.declared.fault.FreeError.TheVariants.{Misplaced, NotLive, WrongTag}
 use Rattle.heap_theory.specs.Choice.{chunk_at, chunk_in, chunk_in_slot, slot_of_pointer}
 use Rattle.heap_theory.specs.Header.{Standing, Header, size_of}
 use Rattle.heap_theory.specs.Header.Standing.{Live as IsLive, Quarantined, Freed}
@@ -13,24 +13,18 @@ use Rattle.heap_theory.specs.State.State.{Fresh, Live, Dead}
 use Rattle.tagged_heap.proofs.TheoryLemmas as laws
 use Rattle.tagged_heap.specs.Representation.{standing_from, header_from}
 
--- what the search by layout answers
-abbrev pub Names : Heap → ℕ → Option ℕ → Type 0
-Names h p found =
-    MatchOption found ((s : ℕ) → IsSlot h s → p < 2 ^ 60 → place_of p ≡ payload_place (slot_in h s) → ⊥)
-    (λ s. IsSlot h s × (p < 2 ^ 60) × (place_of p ≡ payload_place (slot_in h s)))
+-- a slot has its payload where the pointer points
+abbrev pub Names : Heap → ℕ → ℕ → Type 0
+Names h p s = IsSlot h s × (p < 2 ^ 60) × (place_of p ≡ payload_place (slot_in h s))
 
-named_is : (h : Heap) (p : ℕ) (found : Option ℕ) → IsSoundHeap h → Names h p found → slot_of_pointer h p ≡ found
-named_is h p (Some s) sound names = (laws.pointer h p s sound).1 names
-named_is h p None sound names = by (slot_of_pointer h p) refl
-  where
-    by : (found : Option ℕ) → slot_of_pointer h p ≡ found → slot_of_pointer h p ≡ None
-    by None is = is
-    by (Some s) is = let own = (laws.pointer h p s sound).0 is in absurd (names s own.0 own.1 own.2)
-
-pub chunk_is : (h : Heap) (p : ℕ) {found other : Option ℕ} → IsSoundHeap h → Names h p found → found ≡ other →
-    chunk_at h p ≡ chunk_in_slot h p other
+pub misplaced : (h : Heap) (p : ℕ) → IsSoundHeap h →
+    ((s : ℕ) → IsSlot h s → p < 2 ^ 60 → place_of p ≡ payload_place (slot_in h s) → ⊥) → chunk_at h p ≡ Err Misplaced
 unfolding chunk_at
-chunk_is h p {found} sound names is = ap (chunk_in_slot h p) (named_is h p found sound names ∙ is)
+misplaced h p sound none = by (slot_of_pointer h p) refl
+  where
+    by : (found : Option ℕ) → slot_of_pointer h p ≡ found → chunk_in_slot h p (slot_of_pointer h p) ≡ Err Misplaced
+    by None is = ap (chunk_in_slot h p) is
+    by (Some s) is = let own = (laws.pointer h p s sound).0 is in absurd (none s own.0 own.1 own.2)
 
 -- the state of a slot whose header says that it is live
 live_state : (from : ℕ) (x : State) → standing_from from x ≡ IsLive → x ≡ Live (size_of x) (last_tag x)
@@ -47,24 +41,25 @@ not_live from p s Fresh not = refl
 not_live from p s (Live n t) not = absurd (not refl)
 not_live from p s (Dead n t m) not = refl
 
-module _ (h : Heap) (p s from next : ℕ) {found : Option ℕ} {header : Header} (sound : IsSoundHeap h) (names : Names h p found)
-    (is : found ≡ Some s)
+module _ (h : Heap) (p s from next : ℕ) {header : Header} (sound : IsSoundHeap h) (names : Names h p s)
     (shows : header ≡ header_from h.layout from s (state_at h s) next) where
-  pub chunk_not_live : header.standing ≢ IsLive → chunk_at h p ≡ Err NotLive
-  chunk_not_live not =
-      chunk_is h p sound names is ∙ not_live from p s (state_at h s) (λ live. not (ap (λ (x : Header). x.standing) shows ∙ live))
+  chunk_is : chunk_at h p ≡ chunk_in p s (state_at h s)
+  unfolding chunk_at
+  chunk_is = ap (chunk_in_slot h p) ((laws.pointer h p s sound).1 names)
 
-  live : header.standing ≡ IsLive → state_at h s ≡ Live header.size header.tag
+  pub chunk_not_live : header.standing ≢ IsLive → chunk_at h p ≡ Err NotLive
+  chunk_not_live not = chunk_is ∙ not_live from p s (state_at h s) (λ live. not (ap (λ (x : Header). x.standing) shows ∙ live))
+
+  pub live : header.standing ≡ IsLive → state_at h s ≡ Live header.size header.tag
   live standing =
       live_state from (state_at h s) (sym (ap (λ (x : Header). x.standing) shows) ∙ standing)
       ∙ ap (λ (x : Header). Live x.size x.tag) (sym shows)
 
   pub chunk_wrong_tag : header.standing ≡ IsLive → logical_tag p ≢ header.tag → chunk_at h p ≡ Err WrongTag
   chunk_wrong_tag standing differs =
-      chunk_is h p sound names is ∙ ap (chunk_in p s) (live standing)
-      ∙ cond-false (logical_tag p == header.tag) _ (Err WrongTag) (ne_eqb _ _ differs)
+      chunk_is ∙ ap (chunk_in p s) (live standing) ∙ cond-false (logical_tag p == header.tag) _ (Err WrongTag) (ne_eqb _ _ differs)
 
   pub chunk_live : header.standing ≡ IsLive → logical_tag p ≡ header.tag → chunk_at h p ≡ Ok (record { slot = s; size = header.size })
   chunk_live standing same =
-      chunk_is h p sound names is ∙ ap (chunk_in p s) (live standing)
+      chunk_is ∙ ap (chunk_in p s) (live standing)
       ∙ cond-true (logical_tag p == header.tag) (Ok (record { slot = s; size = header.size })) _ (eq-eqb _ _ same)

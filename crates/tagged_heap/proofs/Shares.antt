@@ -3,7 +3,7 @@ use Rattle.std.proofs.Common.{◌≡◌, ℕ, zero, suc, ◌+◌, ◌-◌, ◌/�
 use Rattle.std.specs.Prelude.{slice_index}
 use Rattle.std.proofs.lemmas.Bool.{cases_lt}
 use Rattle.std.proofs.lemmas.List.Sums.{sum_by_more}
-use Rattle.class_table.specs.Layout.{Partition, Slot, share_of, slot_of, slot_count, first_slot}
+use Rattle.class_table.specs.Layout.{Partition, Slot, IsClassOf, share_of, slot_of, slot_count, first_slot}
 use Rattle.class_table.specs.Tables.{IsLegalTable}
 use Rattle.heap_theory.proofs.Marks.{one_number}
 use Rattle.tagged_heap.proofs.TheoryLemmas as laws
@@ -53,10 +53,9 @@ share_below region s (suc number) within below = elim (cases_lt s (first_slot re
 ]
 
 pub share_of_slot : (region : Partition) (number s : ℕ) → IsLegalTable 1 region.classes → number < length region.classes →
-    s < slot_count region →
-    (slot_of region s).class ≡ slice_index region.classes number → (first_slot region number ≤ s) × (s < first_slot region (number + 1))
+    s < slot_count region → (slot_of region s).class ≡ slice_index region.classes number → IsClassOf region s number
 share_of_slot region number s legal within in_range class =
     let j = share_below region s (length region.classes) (omega arith) (omega (arith, laws.all_slots region)) in
     let own = in_share region j.0 s j.1 j.2 j.3 in
     let same : j.0 ≡ number = one_number 1 region.classes j.0 number legal j.1 within (sym own.1 ∙ class) in
-    subst (λ n. (first_slot region n ≤ s) × (s < first_slot region (n + 1))) same (j.2, j.3)
+    subst (IsClassOf region s) same (record { within = j.1; from = j.2; to = j.3 })

@@ -1,5 +1,5 @@
 -- What is written of the chunk of one slot.
-use Rattle.std.specs.Prelude.{◌≡◌, ℕ, ◌^◌, ◌⊎◌, ◌+◌, ◌<◌, ◌≤◌, bit_or, length, slice_index, slice_set, List, None, Some, Option}
+use Rattle.std.specs.Prelude.{◌≡◌, ℕ, ◌^◌, ◌⊎◌, ◌+◌, ◌<◌, ◌≤◌, bit_or, length, slice_get, slice_index, slice_set, List, None, Some, Option}
 use Rattle.machine_theory.specs.Instructions.{drawn_tag}
 use Rattle.machine_theory.specs.Machine.{Machine}
 use Rattle.machine_theory.specs.Memory.{Granule, IsMemory}
@@ -11,9 +11,11 @@ use Rattle.heap_theory.specs.declared.fault.NullCause.TheVariants.{Large, NoClas
 use Rattle.heap_theory.specs.Calls.{parity_exclude}
 use Rattle.heap_theory.specs.Header.{Header}
 use Rattle.heap_theory.specs.Links.{next_in}
-use Rattle.heap_theory.specs.State.{chunk_granules}
+use Rattle.heap_theory.specs.State.{Heap, slot_in, state_at, chunk_granules, IsSlot}
+use Rattle.heap_theory.specs.State.State.{Live as Given}
 use Rattle.chunk_header.specs.HeaderView.{with_next}
 use Rattle.heap_theory.specs.Header.Standing.{Live, Quarantined}
+use Rattle.tagged_heap.specs.declared.freeing.Chunk.{Chunk}
 use Rattle.tagged_heap.specs.Representation.{header_in}
 
 -- the tag that the machine draws for a slot, by what its header says of its last one
@@ -34,6 +36,14 @@ abbrev pub IsCauseFor : List ℕ → ℕ → NullCause → Type 0
 IsCauseFor classes n Large = largest_counted < n
 IsCauseFor classes n NoClass = (n ≤ largest_counted) × (class_number_for classes n ≡ None)
 IsCauseFor classes n Exhausted = ⊥
+
+-- A live chunk of the heap, with its slot's place and the number of its class.
+pub record IsChunk (heap : Heap) (chunk : Chunk) : Type 0 where
+  pub slot : IsSlot heap chunk.slot
+  pub start : chunk.place.start ≡ (slot_in heap chunk.slot).start
+  pub class : chunk.place.class ≡ (slot_in heap chunk.slot).class
+  pub number : slice_get heap.layout.classes chunk.number ≡ Some (slot_in heap chunk.slot).class
+  pub live : (tag : ℕ) × (state_at heap chunk.slot ≡ Given chunk.size tag)
 
 -- a slot of the layout in this memory, with room for the chunk of n bytes
 pub record HasRoom (layout : Partition) (memory : List Granule) (s n : ℕ) : Type 0 where

@@ -74,15 +74,15 @@ impl Heap {
     pub fn place_kind(&self, granule: u32) -> PlaceKind
         ensures { result ≡ place_kind self.now.state granule }
     {
-        let Some(slot) = self.layout.slot_at(granule) else {
+        let Some((slot, before)) = self.layout.place_at(granule) else {
             return PlaceKind::Slack;
         };
-        let start = self.layout.start(slot);
-        if granule == start {
+        if before == 0 {
             return PlaceKind::Header;
         }
-        let header = header(self.machine.memory(), &self.layout, slot, start);
-        if granule - start > chunk_granules(u32::from(header.size)) {
+        let memory = self.machine.memory();
+        let header = header(memory, &self.layout, slot, granule - before);
+        if before > chunk_granules(u32::from(header.size)) {
             return PlaceKind::Tail;
         }
         match header.state {

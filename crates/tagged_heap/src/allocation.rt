@@ -30,10 +30,11 @@ pub(crate) fn class_for(layout: &Layout, n: u32) -> Result<usize, NullCause>
     layout.find(n).ok_or(NullCause::NoClass)
 }
 
-/// A chunk that was given out: its slot and its address.
+/// A chunk that was given out: its slot, the slot's header granule, and its address.
 #[derive(Clone, Copy)]
 pub(crate) struct Given {
     pub(crate) slot: u32,
+    pub(crate) start: u32,
     pub(crate) address: u64,
 }
 
@@ -62,7 +63,7 @@ impl Heap {
         ensures refused { OnErr result (self.new ≡ self.old) }
     {
         let given = self.allocate(n)?;
-        self.zero_chunk(given.slot, n);
+        self.zero_chunk(given, n);
         Ok(given.address)
     }
 
@@ -70,6 +71,7 @@ impl Heap {
     pub(crate) fn allocate(&mut self, n: u32) -> Result<Given, NullCause>
         ensures slot { result_map_both (λ given. given.slot) (λ cause. cause) result
             ≡ slot_for_request self.old.state n }
+        ensures start { IfOk result (λ given. given.start ≡ (slot_in self.old.state given.slot).start) }
         ensures address { IfOk result
             (λ given. given.address ≡ pointer_to (given_out self.old.state given.slot n) given.slot) }
         ensures given { IfOk result
@@ -88,19 +90,25 @@ impl Heap {
             class,
         )
         .ok_or(NullCause::Exhausted)?;
-        let address = give_out(&mut self.machine, &self.layout, slot, n);
-        Ok(Given { slot, address })
+        let place = self.layout.slot_of_class(class, slot);
+        let address = give_out(&mut self.machine, &self.layout, slot, place, n);
+        Ok(Given {
+            slot,
+            start: place.start,
+            address,
+        })
     }
 
-    // Sets all bytes of the chunk granules for n bytes in a slot to 0.
-    fn zero_chunk(&mut self, slot: u32, n: u32)
-        requires slot { IsSlot self.old.state slot }
+    // Sets all bytes of the chunk granules for n bytes in a slot that was given out to 0.
+    fn zero_chunk(&mut self, given: Given, n: u32)
+        requires slot { IsSlot self.old.state given.slot }
+        requires start { given.start ≡ (slot_in self.old.state given.slot).start }
         requires size { n ≤ largest_counted }
-        requires room { chunk_granules n < (slot_in self.old.state slot).class }
+        requires room { chunk_granules n < (slot_in self.old.state given.slot).class }
         ensures { self.new
-            ≡ record self.old { state = with_payload self.old.state slot (replicate (16 * chunk_granules n) 0) } }
+            ≡ record self.old { state = with_payload self.old.state given.slot (replicate (16 * chunk_granules n) 0) } }
     {
-        let first = self.layout.start(slot) + 1;
-        zero(self.machine.memory_mut(), first, chunk_granules(n));
+        let memory = self.machine.memory_mut();
+        zero(memory, given.start + 1, chunk_granules(n));
     }
 }

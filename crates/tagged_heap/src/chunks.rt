@@ -16,13 +16,21 @@ use crate::headers::header;
 use crate::pointers::payload_address;
 use crate::tags::{chunk_granules, draw, exclude, tag_chunk};
 use chunk_header::{Header, State, write};
-use class_table::Layout;
+use class_table::{Layout, Slot};
 use tag_machine::Machine;
 
-/// Gives a slot out for `n` bytes, at most 16,368, which it must have room for: draws a tag, writes the header and tags the chunk.
-/// Returns the address of its payload under that tag.
-pub(crate) fn give_out(machine: &mut Machine, layout: &Layout, slot: u32, n: u32) -> u64
-    requires { HasRoom layout.now machine.old.memory slot n }
+/// Gives a slot, which lies at `place`, out for `n` bytes, at most 16,368, which it must have room for: draws a tag, writes the header and
+/// tags the chunk. Returns the address of its payload under that tag.
+pub(crate) fn give_out(
+    machine: &mut Machine,
+    layout: &Layout,
+    slot: u32,
+    place: Slot,
+    n: u32,
+) -> u64
+    requires room { HasRoom layout.now machine.old.memory slot n }
+    requires start { place.start ≡ (slot_of layout.now slot).start }
+    requires class { place.class ≡ (slot_of layout.now slot).class }
     ensures address { result
         ≡ with_tag (payload_place (slot_of layout.now slot)) (tag_for layout.now machine.old slot) }
     ensures machine { let tag = tag_for layout.now machine.old slot in
@@ -35,7 +43,6 @@ pub(crate) fn give_out(machine: &mut Machine, layout: &Layout, slot: u32, n: u32
         } }
     ensures memory { IsMemory machine.new.memory }
 {
-    let place = layout.slot(slot);
     let before = header(machine.memory(), layout, slot, place.start);
     let tag = draw(machine, exclude(slot, before.tag));
     let after = Header {
@@ -51,9 +58,11 @@ pub(crate) fn give_out(machine: &mut Machine, layout: &Layout, slot: u32, n: u32
     payload_address(place.start, tag)
 }
 
-/// Gives the chunk of a live slot `n` bytes under the tag that it has. The slot must have room for them.
-pub(crate) fn resize(machine: &mut Machine, layout: &Layout, slot: u32, n: u32)
-    requires { HasRoom layout.now machine.old.memory slot n }
+/// Gives the chunk of a live slot, which lies at `place`, `n` bytes under the tag that it has. The slot must have room for them.
+pub(crate) fn resize(machine: &mut Machine, layout: &Layout, slot: u32, place: Slot, n: u32)
+    requires room { HasRoom layout.now machine.old.memory slot n }
+    requires start { place.start ≡ (slot_of layout.now slot).start }
+    requires class { place.class ≡ (slot_of layout.now slot).class }
     ensures machine { let before = header_in layout.now machine.old.memory slot in
         let place = slot_of layout.now slot in
         machine.new ≡ record machine.old {
@@ -62,7 +71,6 @@ pub(crate) fn resize(machine: &mut Machine, layout: &Layout, slot: u32, n: u32)
         } }
     ensures memory { IsMemory machine.new.memory }
 {
-    let place = layout.slot(slot);
     let before = header(machine.memory(), layout, slot, place.start);
     let after = Header {
         size: n as u16,

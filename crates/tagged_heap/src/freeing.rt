@@ -5,29 +5,30 @@ ghost use Rattle.heap_theory.specs.Choice.{chunk_at};
 ghost use Rattle.heap_theory.specs.Header.Standing.{Freed};
 ghost use Rattle.heap_theory.specs.OwnPointers.{IsNullOrOwn};
 ghost use Rattle.heap_theory.specs.Sound.{IsSoundHeap};
-ghost use Rattle.heap_theory.specs.State.{state_at, without_headers, Heap as TheHeap, IsSlot};
-ghost use Rattle.heap_theory.specs.State.State.{Live};
+ghost use Rattle.heap_theory.specs.State.{without_headers, Heap as TheHeap};
 ghost use Rattle.machine_theory.specs.Memory.{IsMemory};
 ghost use Rattle.std.specs.Prelude.{◌≡◌, ◌≢◌, ◌↔◌, ◌+◌, ◌^◌, ◌<◌, ◌≤◌, length, slice_index, slice_set, IfErr, IfOk, Ok, OnErr, OnOk, ℕ};
-ghost use Rattle.tagged_heap.specs.Chunks.{IsListed};
+ghost use Rattle.tagged_heap.specs.Chunks.{IsChunk, IsListed};
 ghost use Rattle.tagged_heap.specs.Representation.{header_in, IsKept, IsRewritten, SomeIsKept};
 
 use crate::chunks::retire;
 use crate::headers::header;
 use crate::heap::Heap;
-use crate::pointers::{slot_of_pointer, start_at};
+use crate::pointers::slot_of_pointer;
 use chunk_header::{Header, State, write};
 use class_lists::ClassLists;
-use class_table::{GRANULE_BYTES, Layout};
+use class_table::{GRANULE_BYTES, Layout, Slot};
 use granule_memory::Memory;
 use heap_theory::FreeError;
 use quarantine_core::Quarantine;
 use tag_machine::logical_tag;
 
-/// A live chunk: its slot, and the number of bytes that were requested.
+/// A live chunk: its slot, where that lies, the number of its class, and the number of bytes that were requested.
 #[derive(Clone, Copy)]
 pub(crate) struct Chunk {
     pub(crate) slot: u32,
+    pub(crate) place: Slot,
+    pub(crate) number: usize,
     pub(crate) size: u32,
 }
 
@@ -53,7 +54,7 @@ impl Heap {
             return Ok(());
         }
         let chunk = self.chunk(p)?;
-        self.release(chunk.slot);
+        self.release(chunk);
         Ok(())
     }
 
@@ -61,11 +62,13 @@ impl Heap {
     pub(crate) fn chunk(&self, p: u64) -> Result<Chunk, FreeError>
         ensures ok { IfOk result
             (λ chunk. chunk_at self.now.state p ≡ Ok (record { slot = chunk.slot; size = chunk.size })) }
+        ensures live { IfOk result (λ chunk. IsChunk self.now.state chunk) }
         ensures err { IfErr result (λ error. chunk_at self.now.state p ≡ Err error) }
         ensures sound { IsSoundHeap self.now.state }
     {
-        let slot = slot_of_pointer(&self.layout, p).ok_or(FreeError::Misplaced)?;
-        let start = start_at(&self.layout, slot, p);
+        let Some((slot, start)) = slot_of_pointer(&self.layout, p) else {
+            return Err(FreeError::Misplaced);
+        };
         let header = header(self.machine.memory(), &self.layout, slot, start);
         match header.state {
             State::Live => {}
@@ -74,29 +77,27 @@ impl Heap {
         if header.tag != logical_tag(p) {
             return Err(FreeError::WrongTag);
         }
+        let number = usize::from(header.class);
+        let class = self.layout.class(number);
         Ok(Chunk {
             slot,
+            place: Slot { start, class },
+            number,
             size: u32::from(header.size),
         })
     }
 
-    // Takes the chunk of a live slot back.
-    pub(crate) fn release(&mut self, slot: u32)
-        requires slot { IsSlot self.old.state slot }
-        requires live { (n : ℕ) × (tag : ℕ) × (state_at self.old.state slot ≡ Live n tag) }
+    // Takes a live chunk back.
+    pub(crate) fn release(&mut self, chunk: Chunk)
+        requires live { IsChunk self.old.state chunk }
         requires few { self.old.frees < 2 ^ 48 }
-        ensures { (n tag : ℕ) → state_at self.old.state slot ≡ Live n tag →
-            self.new ≡ record { state = freed self.old.state slot n; frees = self.old.frees + 1 } }
+        ensures { self.new
+            ≡ record { state = freed self.old.state chunk.slot chunk.size; frees = self.old.frees + 1 } }
     {
-        let place = self.layout.slot(slot);
-        let bytes = GRANULE_BYTES * place.class;
-        retire(
-            &mut self.machine,
-            &self.layout,
-            slot,
-            place.start,
-            self.total,
-        );
+        let Chunk { slot, place, .. } = chunk;
+        let Slot { start, class } = place;
+        retire(&mut self.machine, &self.layout, slot, start, self.total);
+        let bytes = GRANULE_BYTES * class;
         let memory = self.machine.memory_mut();
         self.quarantine.put(memory, &self.layout, slot, bytes);
         let_go(memory, &self.layout, &mut self.quarantine, &mut self.lists);

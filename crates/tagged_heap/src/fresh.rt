@@ -26,15 +26,16 @@ pub(crate) fn write_fresh_headers(memory: &mut Memory, layout: &Layout)
     // called for its contract: the proof needs `IsPartition` of the layout
     layout.granules();
     for slot in 0..layout.slots() {
+        let number = layout.class_of(slot);
         let header = Header {
             state: State::Fresh,
             size: 0,
             tag: 0,
-            class: layout.class_of(slot) as u8,
+            class: number as u8,
             next: 0,
             mark: 0,
         };
-        write(memory, layout.start(slot), &header);
+        write(memory, layout.slot_of_class(number, slot).start, &header);
     }
 }
 

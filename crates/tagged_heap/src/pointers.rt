@@ -2,7 +2,7 @@
 ghost use Rattle.class_table.specs.Layout.{slot_count, slot_of};
 ghost use Rattle.heap_theory.specs.State.{payload_place};
 ghost use Rattle.machine_theory.specs.Address.{place_of, region_start, with_tag};
-ghost use Rattle.std.specs.Prelude.{◌≡◌, ◌+◌, ◌*◌, ◌^◌, ◌<◌, MatchOption, ℕ};
+ghost use Rattle.std.specs.Prelude.{◌≡◌, ◌+◌, ◌*◌, ◌^◌, ◌<◌, IfNone, IfSome, ℕ};
 
 use class_table::Layout;
 use tag_machine::{GRANULE_BYTES, REGION_START, place_of, with_tag};
@@ -15,11 +15,14 @@ pub(crate) fn payload_address(start: u32, tag: u8) -> u64
     with_tag(REGION_START + GRANULE_BYTES * (u64::from(start) + 1), tag)
 }
 
-/// The slot whose payload begins at the pointer's place. `None` if there is no such slot or bits 63 to 60 of the pointer are not 0.
-pub(crate) fn slot_of_pointer(layout: &Layout, p: u64) -> Option<u32>
-    ensures { MatchOption result
-        ((s : ℕ) → s < slot_count layout.now → p < 2 ^ 60 → place_of p ≡ payload_place (slot_of layout.now s) → ⊥)
-        (λ s. (s < slot_count layout.now) × (p < 2 ^ 60) × (place_of p ≡ payload_place (slot_of layout.now s))) }
+/// The slot whose payload begins at the pointer's place, and the granule of its header. `None` if there is no such slot or bits 63 to 60 of
+/// the pointer are not 0.
+pub(crate) fn slot_of_pointer(layout: &Layout, p: u64) -> Option<(u32, u32)>
+    ensures none { IfNone result ((s : ℕ)
+        → s < slot_count layout.now → p < 2 ^ 60 → place_of p ≡ payload_place (slot_of layout.now s) → ⊥) }
+    ensures slot { IfSome result (λ found. (found.0 < slot_count layout.now)
+        × (p < 2 ^ 60) × (place_of p ≡ payload_place (slot_of layout.now found.0))) }
+    ensures start { IfSome result (λ found. found.1 ≡ (slot_of layout.now found.0).start) }
 {
     let place = place_of(p);
     if p >> 60 != 0 || place < REGION_START || place % GRANULE_BYTES != 0 {
@@ -31,16 +34,9 @@ pub(crate) fn slot_of_pointer(layout: &Layout, p: u64) -> Option<u32>
     }
     let granule = granule as u32;
     let (slot, before) = layout.place_at(granule)?;
-    if before == 1 { Some(slot) } else { None }
-}
-
-/// The header granule of the slot whose payload begins at the pointer's place.
-pub(crate) fn start_at(layout: &Layout, slot: u32, p: u64) -> u32
-    requires slot { slot < slot_count layout.now }
-    requires place { place_of p ≡ payload_place (slot_of layout.now slot) }
-    ensures { result ≡ (slot_of layout.now slot).start }
-{
-    // called for its contract: the proof needs `IsPartition` of the layout
-    layout.granules();
-    ((place_of(p) - REGION_START) / GRANULE_BYTES) as u32 - 1
+    if before == 1 {
+        Some((slot, granule - 1))
+    } else {
+        None
+    }
 }

@@ -3,12 +3,12 @@ ghost use Rattle.class_table.specs.Sizes.{largest_counted};
 ghost use Rattle.heap_theory.specs.Calls.{given_out, is_class_of, moved, payload_bytes, realloc_step, resized, with_payload};
 ghost use Rattle.heap_theory.specs.Choice.{class_for_request, slot_for_request};
 ghost use Rattle.heap_theory.specs.OwnPointers.{IsNotRefused, IsNullOrOwn};
-ghost use Rattle.heap_theory.specs.State.{chunk_granules, pointer_to, slot_in, state_at, IsSlot};
-ghost use Rattle.heap_theory.specs.State.State.{Live};
+ghost use Rattle.heap_theory.specs.State.{chunk_granules, pointer_to, slot_in, IsSlot};
 ghost use Rattle.std.specs.Prelude.{◌≡◌, ◌↔◌, ◌+◌, ◌*◌, ◌^◌, ◌<◌, ◌≤◌, ◌≢◌, IfErr, IfOk, IsTrue, OnErr, ℕ};
+ghost use Rattle.tagged_heap.specs.Chunks.{IsChunk};
 ghost use Rattle.tagged_heap.specs.Frees.{frees_of_realloc};
 
-use crate::allocation::class_for;
+use crate::allocation::{Given, class_for};
 use crate::bytes::copy;
 use crate::chunks::resize;
 use crate::freeing::Chunk;
@@ -38,8 +38,8 @@ impl Heap {
             return self.malloc(n).map_err(ReallocError::Null);
         }
         let chunk = self.chunk(p).map_err(ReallocError::Refused)?;
-        if self.stays_in_class(chunk.slot, n) {
-            self.resize(chunk.slot, n);
+        if self.stays_in_class(chunk, n) {
+            self.resize(chunk, n);
             return Ok(p);
         }
         self.move_chunk(chunk, n).map_err(ReallocError::Null)
@@ -48,8 +48,7 @@ impl Heap {
     // Moves the chunk of a live slot to the slot for a request of n bytes, or says why there is none; the answer is its address then.
     #[tactic(auto, unfolding(heap_theory::specs::Calls::given_out, heap_theory::specs::Calls::with_payload))]
     fn move_chunk(&mut self, chunk: Chunk, n: u32) -> Result<u64, NullCause>
-        requires slot { IsSlot self.old.state chunk.slot }
-        requires live { (tag : ℕ) × (state_at self.old.state chunk.slot ≡ Live chunk.size tag) }
+        requires live { IsChunk self.old.state chunk }
         requires few { self.old.frees < 2 ^ 48 }
         ensures ok { IfOk result (λ moved_to. (s : ℕ) × (slot_for_request self.old.state n ≡ Ok s)
             × (moved_to ≡ pointer_to (given_out self.old.state s n) s)
@@ -61,49 +60,46 @@ impl Heap {
         ensures refused { OnErr result (self.new ≡ self.old) }
     {
         let given = self.allocate(n)?;
-        self.copy_payload(chunk.slot, given.slot, chunk.size.min(n));
-        self.release(chunk.slot);
+        self.copy_payload(chunk, given, chunk.size.min(n));
+        self.release(chunk);
         Ok(given.address)
     }
 
-    // Whether n bytes are of the class that a slot has.
-    fn stays_in_class(&self, slot: u32, n: u32) -> bool
-        requires { IsSlot self.now.state slot }
-        ensures test { result ≡ is_class_of (slot_in self.now.state slot) (class_for_request self.now.state n) }
+    // Whether n bytes are of the class that a chunk's slot has.
+    fn stays_in_class(&self, chunk: Chunk, n: u32) -> bool
+        requires { IsChunk self.now.state chunk }
+        ensures test { result ≡ is_class_of (slot_in self.now.state chunk.slot) (class_for_request self.now.state n) }
         ensures size { IsTrue result → n ≤ largest_counted }
-        ensures room { IsTrue result → chunk_granules n < (slot_in self.now.state slot).class }
+        ensures room { IsTrue result → chunk_granules n < (slot_in self.now.state chunk.slot).class }
     {
-        class_for(&self.layout, n) == Ok(self.layout.class_of(slot))
+        class_for(&self.layout, n) == Ok(chunk.number)
     }
 
-    // Gives the chunk of a live slot n bytes, for which the slot has room.
-    fn resize(&mut self, slot: u32, n: u32)
-        requires slot { IsSlot self.old.state slot }
-        requires live { (size : ℕ) × (tag : ℕ) × (state_at self.old.state slot ≡ Live size tag) }
+    // Gives a live chunk n bytes, for which its slot has room.
+    fn resize(&mut self, chunk: Chunk, n: u32)
+        requires live { IsChunk self.old.state chunk }
         requires size { n ≤ largest_counted }
-        requires room { chunk_granules n < (slot_in self.old.state slot).class }
-        ensures { self.new ≡ record self.old { state = resized self.old.state slot n } }
+        requires room { chunk_granules n < (slot_in self.old.state chunk.slot).class }
+        ensures { self.new ≡ record self.old { state = resized self.old.state chunk.slot n } }
     {
-        resize(&mut self.machine, &self.layout, slot, n);
+        let Chunk { slot, place, .. } = chunk;
+        resize(&mut self.machine, &self.layout, slot, place, n);
     }
 
-    // Copies the first bytes of one slot's payload to another slot's.
-    fn copy_payload(&mut self, from: u32, to: u32, count: u32)
-        requires from { IsSlot self.old.state from }
-        requires to { IsSlot self.old.state to }
-        requires apart { from ≢ to }
-        requires source { count + 16 ≤ 16 * (slot_in self.old.state from).class }
-        requires target { count + 16 ≤ 16 * (slot_in self.old.state to).class }
-        ensures { self.new
-            ≡ record self.old { state = with_payload self.old.state to (payload_bytes self.old.state from count) } }
+    // Copies the first bytes of a chunk's payload to that of a slot that was given out.
+    fn copy_payload(&mut self, from: Chunk, to: Given, count: u32)
+        requires from { IsChunk self.old.state from }
+        requires to { IsSlot self.old.state to.slot }
+        requires start { to.start ≡ (slot_in self.old.state to.slot).start }
+        requires apart { from.slot ≢ to.slot }
+        requires source { count + 16 ≤ 16 * (slot_in self.old.state from.slot).class }
+        requires target { count + 16 ≤ 16 * (slot_in self.old.state to.slot).class }
+        ensures { let bytes = payload_bytes self.old.state from.slot count in
+            self.new ≡ record self.old { state = with_payload self.old.state to.slot bytes } }
     {
-        let source = GRANULE_BYTES * (self.layout.start(from) + 1);
-        let target = GRANULE_BYTES * (self.layout.start(to) + 1);
-        copy(
-            self.machine.memory_mut(),
-            source as usize,
-            target as usize,
-            count as usize,
-        );
+        let source = GRANULE_BYTES as usize * (from.place.start as usize + 1);
+        let target = GRANULE_BYTES as usize * (to.start as usize + 1);
+        let memory = self.machine.memory_mut();
+        copy(memory, source, target, count as usize);
     }
 }

@@ -4,8 +4,8 @@ use Rattle.class_table.specs.Layout.{slot_of}
 use Rattle.tagged_heap.proofs.PointerSlots.{payload_granule, payload_inside, payload_covered, covered_within, payload_begins}
 use Rattle.tagged_heap.proofs.pointers.slot_of_pointer.Goals as goal
 
-pub returns-then-granule-from : goal.returns-then-granule-from
-returns-then-granule-from c s within plain at =
+pub returns-then-granule-from-clause-none : goal.returns-then-granule-from-clause-none
+returns-then-granule-from-clause-none c s within plain at =
     let is = c.granules.ensures.partition in
     omega (
       arith,
@@ -15,8 +15,8 @@ returns-then-granule-from c s within plain at =
       c.granules.ensures.granules,
     )
 
-pub returns-in_err-slot : goal.returns-in_err-slot
-returns-in_err-slot c =
+pub returns-in_err-slot-clause-none : goal.returns-in_err-slot-clause-none
+returns-in_err-slot-clause-none c =
     rw c.from_residual.ensures
     (λ s within plain at.
     let some : None ≡ Some s =
@@ -24,8 +24,8 @@ returns-in_err-slot c =
     ∙ payload_covered c.args.layout.now c.granules.ensures.partition s c.place_of-place.result within (c.place_of-place.ensures ∙ at) in
     cc)
 
-pub returns-then-before-eq1 : goal.returns-then-before-eq1
-returns-then-before-eq1 c =
+pub returns-then-before-eq1-clause-slot : goal.returns-then-before-eq1-clause-slot
+returns-then-before-eq1-clause-slot c =
     let is = c.granules.ensures.partition in
     let granule = (c.place_of-place.result - region_start) / 16 in
     let within =
@@ -39,8 +39,8 @@ returns-then-before-eq1 c =
           c.if-place-ne0.false begins,
     )
 
-pub returns-else-before-eq1 : goal.returns-else-before-eq1
-returns-else-before-eq1 c s within plain at =
+pub returns-else-before-eq1-clause-none : goal.returns-else-before-eq1-clause-none
+returns-else-before-eq1-clause-none c s within plain at =
     let is = c.granules.ensures.partition in
     let place = c.place_of-place.ensures ∙ at in
     let covered = payload_covered c.args.layout.now is s c.place_of-place.result within place in

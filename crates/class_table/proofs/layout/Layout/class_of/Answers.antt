@@ -1,5 +1,6 @@
 use Rattle.std.proofs.Common.{◌≤◌, ◌-◌, ap, ◌∙◌}
-use Rattle.class_table.proofs.ClassOf.{IsClassOf, firsts_of, firsts_of-ascending, class_of_point, class_is}
+use Rattle.class_table.specs.Layout.{IsClassOf}
+use Rattle.class_table.proofs.ClassOf.{firsts_of, firsts_of-ascending, class_of_point, class_is}
 use Rattle.class_table.proofs.layout.Layout.class_of.Goals as goal
 
 pub count_up_to-requires-clause-few : goal.count_up_to-requires-clause-few

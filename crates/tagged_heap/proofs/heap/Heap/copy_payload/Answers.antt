@@ -15,20 +15,20 @@ pub copy-requires-clause-source : goal.copy-requires-clause-source
 copy-requires-clause-source c =
     omega (
       arith,
-      payload_within c.self.invariant.kept c.args.from c.args.count (rw (← c.self.view_is) at c.requires.from)
+      payload_within c.self.invariant.kept c.args.from.slot c.args.count (rw (← c.self.view_is) at c.requires.from).slot
           (rw (← c.self.view_is) at c.requires.source),
-      c.start.ensures.start,
-      ap length c.memory_mut.ensures.value,
+      (rw (← c.self.view_is) at c.requires.from).start,
+      ap length c.memory_mut-memory.ensures.value,
     )
 
 pub copy-requires-clause-target : goal.copy-requires-clause-target
 copy-requires-clause-target c =
     omega (
       arith,
-      payload_within c.self.invariant.kept c.args.to c.args.count (rw (← c.self.view_is) at c.requires.to)
+      payload_within c.self.invariant.kept c.args.to.slot c.args.count (rw (← c.self.view_is) at c.requires.to)
           (rw (← c.self.view_is) at c.requires.target),
-      c.start-2.ensures.start,
-      ap length c.memory_mut.ensures.value,
+      rw (← c.self.view_is) at c.requires.start,
+      ap length c.memory_mut-memory.ensures.value,
     )
 
 pub copy-requires-clause-apart : goal.copy-requires-clause-apart
@@ -36,35 +36,37 @@ copy-requires-clause-apart c =
     let order = c.self.invariant.kept.sound.slots in
     let source = rw (← c.self.view_is) at c.requires.source in
     let target = rw (← c.self.view_is) at c.requires.target in
-    elim (cases_order c.args.from c.args.to) [
+    let from = (rw (← c.self.view_is) at c.requires.from).start in
+    let to = rw (← c.self.view_is) at c.requires.start in
+    elim (cases_order c.args.from.slot c.args.to.slot) [
       | inl same ↦ absurd (c.requires.apart same)
       | inr (inl less) ↦
           inl (omega (
             arith,
-            order.apart c.args.from c.args.to less (rw (← c.self.view_is) at c.requires.to),
+            order.apart c.args.from.slot c.args.to.slot less (rw (← c.self.view_is) at c.requires.to),
             source,
-            c.start.ensures.start,
-            c.start-2.ensures.start,
+            from,
+            to,
           ))
       | inr (inr more) ↦
           inr (omega (
             arith,
-            order.apart c.args.to c.args.from more (rw (← c.self.view_is) at c.requires.from),
+            order.apart c.args.to.slot c.args.from.slot more (rw (← c.self.view_is) at c.requires.from).slot,
             target,
-            c.start.ensures.start,
-            c.start-2.ensures.start,
+            from,
+            to,
           ))
     ]
 
 abbrev bytes : After-self-1 → List ℕ
-bytes c = bytes_at c.self.inside.machine.memory (16 * payload_start (slot_of c.self.inside.layout c.args.from)) c.args.count
+bytes c = bytes_at c.self.inside.machine.memory (16 * payload_start (slot_of c.self.inside.layout c.args.from.slot)) c.args.count
 
-room : (c : After-self-1) → length (bytes c) + 16 ≤ 16 * (slot_of c.self.inside.layout c.args.to).class
+room : (c : After-self-1) → length (bytes c) + 16 ≤ 16 * (slot_of c.self.inside.layout c.args.to.slot).class
 room c =
     let room = rw (← c.self.view_is) at c.requires.target in
     omega (
       arith,
-      length-bytes_at c.self.inside.machine.memory (16 * payload_start (slot_of c.self.inside.layout c.args.from)) c.args.count,
+      length-bytes_at c.self.inside.machine.memory (16 * payload_start (slot_of c.self.inside.layout c.args.from.slot)) c.args.count,
       room,
     )
 
@@ -72,21 +74,24 @@ fit : (c : After-self-1) → All (λ b. b < 256) (bytes c)
 fit c = bytes_fit c.self.inside.machine.memory c.self.invariant.kept.memory_is _ c.args.count
 
 memory_is : (c : After-self-1) →
-    c.copy.new.memory ≡ written (16 * payload_start (slot_of c.self.inside.layout c.args.to)) (bytes c) c.self.inside.machine.memory
-memory_is c = rw (← c.memory_mut.ensures.value, ← c.start-2.ensures.start, ← c.start.ensures.start) c.copy.ensures
+    c.copy.new.memory ≡ written (16 * payload_start (slot_of c.self.inside.layout c.args.to.slot)) (bytes c) c.self.inside.machine.memory
+memory_is c =
+    let from = (rw (← c.self.view_is) at c.requires.from).start in
+    let to = rw (← c.self.view_is) at c.requires.start in
+    rw (← c.memory_mut-memory.ensures.value, ← to, ← from) c.copy.ensures
 
 pub invariant_of-self : goal.invariant_of-self
 invariant_of-self c =
     let in_range = rw (← c.self.view_is) at c.requires.to in
-    rw (payload_shown c.self.invariant c.args.to (bytes c) in_range (room c) (fit c) (memory_is c))
-    (payload_held c.self.invariant c.args.to (bytes c) in_range (room c) (fit c) (memory_is c))
+    rw (payload_shown c.self.invariant c.args.to.slot (bytes c) in_range (room c) (fit c) (memory_is c))
+    (payload_held c.self.invariant c.args.to.slot (bytes c) in_range (room c) (fit c) (memory_is c))
 
 -- the bytes that are copied are those that are seen
 pub returns : goal.returns
 returns c =
     let shown =
-    payload_shown c.self.invariant c.args.to (bytes c) (rw (← c.self.view_is) at c.requires.to) (room c) (fit c) (memory_is c) in
-    let read = payload_seen c.self.inside.layout c.self.inside.machine.memory c.args.from c.args.count c.self.invariant.kept.sound.slots
-    (rw (← c.self.view_is) at c.requires.from) (rw (← c.self.view_is) at c.requires.source) in
+    payload_shown c.self.invariant c.args.to.slot (bytes c) (rw (← c.self.view_is) at c.requires.to) (room c) (fit c) (memory_is c) in
+    let read = payload_seen c.self.inside.layout c.self.inside.machine.memory c.args.from.slot c.args.count
+    c.self.invariant.kept.sound.slots (rw (← c.self.view_is) at c.requires.from).slot (rw (← c.self.view_is) at c.requires.source) in
     rw (← c.self.view_is) (λ k. record
-    { state = (shown ∙ ap (with_payload (state_of c.self.inside) c.args.to) (sym read)) k; frees = c.self.inside.frees })
+    { state = (shown ∙ ap (with_payload (state_of c.self.inside) c.args.to.slot) (sym read)) k; frees = c.self.inside.frees })

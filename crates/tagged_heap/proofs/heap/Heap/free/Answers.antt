@@ -3,16 +3,9 @@ use Rattle.std.proofs.Common.{refl, ap}
 use Rattle.std.proofs.lemmas.Bool.{ne_eqb}
 use Rattle.std.proofs.lemmas.Result.{err_from_is_err_and}
 use Rattle.heap_theory.specs.Calls.{free_step}
-use Rattle.tagged_heap.proofs.TheoryLemmas as laws
 use Rattle.tagged_heap.specs.HeapView.{Counted}
 use Rattle.tagged_heap.proofs.CallSteps.{free_accepted}
 use Rattle.tagged_heap.proofs.heap.Heap.free.Goals as goal
-
-pub release-requires-clause-slot : goal.release-requires-clause-slot
-release-requires-clause-slot c = (laws.chunk _ _ _ c.in_ok-chunk.ensures.ok).in_range
-
-pub release-requires-clause-live : goal.release-requires-clause-live
-release-requires-clause-live c = (_, _, (laws.chunk _ _ _ c.in_ok-chunk.ensures.ok).live)
 
 pub returns-in_err-chunk-clause-answer : goal.returns-in_err-chunk-clause-answer
 unfolding free_step
@@ -26,15 +19,10 @@ returns-clause-answer c = rw (ne_eqb c.args.p 0 c.if-p-eq0.false, c.in_ok-chunk.
 
 pub returns-clause-state : goal.returns-clause-state
 unfolding free_step
-returns-clause-state c =
-    rw (
-      c.release.ensures _ _ (laws.chunk _ _ _ c.in_ok-chunk.ensures.ok).live,
-      ne_eqb c.args.p 0 c.if-p-eq0.false,
-      c.in_ok-chunk.ensures.ok,
-    ) refl
+returns-clause-state c = rw (c.release.ensures, ne_eqb c.args.p 0 c.if-p-eq0.false, c.in_ok-chunk.ensures.ok) refl
 
 pub returns-clause-counted : goal.returns-clause-counted
-returns-clause-counted c = λ _. ap (λ (x : Counted). x.frees) (c.release.ensures _ _ (laws.chunk _ _ _ c.in_ok-chunk.ensures.ok).live)
+returns-clause-counted c = λ _. ap (λ (x : Counted). x.frees) c.release.ensures
 
 -- what is answered is the definition's answer, of which the law speaks
 pub returns-in_err-chunk-clause-accepted : goal.returns-in_err-chunk-clause-accepted

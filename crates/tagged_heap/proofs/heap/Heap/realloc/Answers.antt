@@ -6,8 +6,8 @@ use Rattle.heap_theory.specs.declared.fault.FreeError.{FreeError}
 use Rattle.heap_theory.specs.declared.fault.ReallocError.TheVariants.{Null, Refused}
 use Rattle.heap_theory.specs.Calls.{realloc_step}
 use Rattle.heap_theory.specs.Choice.{chunk_at}
-use Rattle.tagged_heap.proofs.TheoryLemmas as laws
 use Rattle.tagged_heap.specs.declared.freeing.Chunk.{Chunk as Found}
+use Rattle.tagged_heap.specs.Chunks.{IsChunk}
 use Rattle.tagged_heap.specs.Frees.{frees_of_realloc}
 use Rattle.tagged_heap.proofs.CallSteps.{realloc_accepted, err_named, ok_named, all_named, moves}
 use Rattle.tagged_heap.proofs.heap.Heap.realloc.Goals as goal
@@ -19,6 +19,11 @@ found : (c : In_ok-chunk) →
 found c =
     let is = ok_named (λ e d. d ≡ Refused e) _ _ _ c.map_err-2.ensures.cases c.in_ok-chunk.was in
     IfOk-at_ok (λ (x : Found). chunk_at c.args.self.now.state c.args.p ≡ Ok (record { slot = x.slot; size = x.size })) is c.chunk.ensures.ok
+
+is_chunk : (c : In_ok-chunk) → IsChunk c.args.self.now.state c.in_ok-chunk.chunk
+is_chunk c =
+    let is = ok_named (λ e d. d ≡ Refused e) _ _ _ c.map_err-2.ensures.cases c.in_ok-chunk.was in
+    IfOk-at_ok (IsChunk c.args.self.now.state) is c.chunk.ensures.live
 
 -- why there is none, and what is answered then
 record IsRefused (c : In_err-chunk) : Type 0 where
@@ -53,10 +58,10 @@ returns-in_err-chunk-clause-counted c =
     rw (ne_eqb c.args.p 0 c.if-p-eq0.false, (refused (goal.at.returns-in_err-chunk-clause-counted c).In_err-chunk).named) (omega arith)
 
 pub stays_in_class-requires : goal.stays_in_class-requires
-stays_in_class-requires c = (laws.chunk _ _ _ (found (goal.at.stays_in_class-requires c).In_ok-chunk)).in_range
+stays_in_class-requires c = is_chunk (goal.at.stays_in_class-requires c).In_ok-chunk
 
 pub resize-requires-clause-live : goal.resize-requires-clause-live
-resize-requires-clause-live c = (_, _, (laws.chunk _ _ _ (found (goal.at.resize-requires-clause-live c).In_ok-chunk)).live)
+resize-requires-clause-live c = is_chunk (goal.at.resize-requires-clause-live c).In_ok-chunk
 
 pub returns-then-stays_in_class-clause-answer : goal.returns-then-stays_in_class-clause-answer
 unfolding realloc_step
@@ -76,11 +81,8 @@ returns-then-stays_in_class-clause-counted c =
     let named = found (goal.at.returns-then-stays_in_class-clause-counted c).In_ok-chunk in
     rw (c.resize.ensures, ne_eqb c.args.p 0 c.if-p-eq0.false, named, ← c.if-stays_in_class.ensures.test) (omega arith)
 
-pub move_chunk-requires-clause-slot : goal.move_chunk-requires-clause-slot
-move_chunk-requires-clause-slot c = (laws.chunk _ _ _ (found (goal.at.move_chunk-requires-clause-slot c).In_ok-chunk)).in_range
-
 pub move_chunk-requires-clause-live : goal.move_chunk-requires-clause-live
-move_chunk-requires-clause-live c = (_, (laws.chunk _ _ _ (found (goal.at.move_chunk-requires-clause-live c).In_ok-chunk)).live)
+move_chunk-requires-clause-live c = is_chunk (goal.at.move_chunk-requires-clause-live c).In_ok-chunk
 
 pub returns-clause-answer : goal.returns-clause-answer
 unfolding realloc_step

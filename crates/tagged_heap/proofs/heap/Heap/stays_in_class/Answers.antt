@@ -7,13 +7,15 @@ use Rattle.tagged_heap.proofs.heap.Heap.stays_in_class.Goals as goal
 
 pub returns-clause-test : goal.returns-clause-test
 returns-clause-test c =
+    let chunk = rw (← c.self.view_is) at c.requires in
     rw (← c.self.view_is)
-    (c.eq.ensures ∙ stays_is (state_of c.self.inside) c.args.n (slot_of c.self.inside.layout c.args.slot) c.class_of.result _
-    c.class_for.result c.self.invariant.kept.sound.region.table c.class_of.ensures.class c.class_for.ensures.ok c.class_for.ensures.err)
+    (c.eq.ensures ∙ stays_is (state_of c.self.inside) c.args.n (slot_of c.self.inside.layout c.args.chunk.slot) c.args.chunk.number _
+    c.class_for.result c.self.invariant.kept.sound.region.table chunk.number c.class_for.ensures.ok c.class_for.ensures.err)
 
 pub returns-clause-room : goal.returns-clause-room
 returns-clause-room c = λ same.
+    let chunk = rw (← c.self.view_is) at c.requires in
     rw (← c.self.view_is)
-    (room_in_class (state_of c.self.inside) c.args.n (slot_of c.self.inside.layout c.args.slot) c.class_of.result _ c.class_for.result
-    (c.self.invariant.kept.sound.slots.wide c.args.slot (rw (← c.self.view_is) at c.requires)) c.class_of.ensures.class
-    c.class_for.ensures.ok (sym c.eq.ensures ∙ same))
+    (room_in_class (state_of c.self.inside) c.args.n (slot_of c.self.inside.layout c.args.chunk.slot) c.args.chunk.number _
+    c.class_for.result (c.self.invariant.kept.sound.slots.wide c.args.chunk.slot chunk.slot) chunk.number c.class_for.ensures.ok
+    (sym c.eq.ensures ∙ same))
