@@ -23,7 +23,7 @@ use heap_theory::FreeError;
 use quarantine_core::Quarantine;
 use tag_machine::logical_tag;
 
-/// A live chunk: its slot, where that lies, the number of its class, and the number of bytes that were requested.
+/// A live chunk: its slot, where the slot lies, the number of its class in the table, and the number of bytes that were requested.
 #[derive(Clone, Copy)]
 pub(crate) struct Chunk {
     pub(crate) slot: u32,
