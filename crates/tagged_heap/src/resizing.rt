@@ -92,8 +92,8 @@ impl Heap {
         requires from { IsSlot self.old.state from }
         requires to { IsSlot self.old.state to }
         requires apart { from ≢ to }
-        requires source { count + 16 ≤ 16 * (slot_in self.old.state from).class }
-        requires target { count + 16 ≤ 16 * (slot_in self.old.state to).class }
+        requires source { count + GRANULE_BYTES ≤ GRANULE_BYTES * (slot_in self.old.state from).class }
+        requires target { count + GRANULE_BYTES ≤ GRANULE_BYTES * (slot_in self.old.state to).class }
         ensures { self.new
             ≡ record self.old { state = with_payload self.old.state to (payload_bytes self.old.state from count) } }
     {
