@@ -6,6 +6,7 @@ use Rattle.class_table.specs.Layout.{Partition, slot_count, slot_of}
 use Rattle.heap_theory.specs.Header.{header_at}
 use Rattle.heap_theory.specs.Links.{IsLinked, next_in}
 use Rattle.chunk_header.specs.HeaderView.{with_next}
+use Rattle.machine_theory.specs.declared.sizes.TheConstants.{GRANULE_BYTES}
 
 -- The link of slot s is set to `next`: no other field of a header, no other link, no tag and no other byte changes, and so lists without
 -- this slot stay linked.
@@ -17,5 +18,5 @@ pub record SetsLink (layout : Partition) (old new : List Granule) (s next : ℕ)
   pub links : (r : ℕ) → r < slot_count layout → r ≢ s → next_in layout new r ≡ next_in layout old r
   pub lists : (front : ℕ) (list : List ℕ) → ((r : ℕ) → Contains list r → r < slot_count layout) → (Contains list s → ⊥) →
       IsLinked (next_in layout old) front list → IsLinked (next_in layout new) front list
-  pub others : ChangesOnlyBytes old new (16 * (slot_of layout s).start) (16 * (slot_of layout s).start + 8)
+  pub others : ChangesOnlyBytes old new (GRANULE_BYTES * (slot_of layout s).start) (GRANULE_BYTES * (slot_of layout s).start + 8)
   pub memory : IsMemory new

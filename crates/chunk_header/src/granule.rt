@@ -8,13 +8,14 @@ use crate::header::Header;
 use crate::words::{class_of, first_word, header_of, next_of, with_next_in};
 use class_table::MOST_CLASSES;
 use granule_memory::Memory;
+use machine_theory::GRANULE_BYTES;
 
 /// Whether the bytes of a granule, which must be below `granules()`, spell a header: the class is below 32, and so bits 25 to 31 of the
 /// first word are 0.
 #[tactic(auto, unfolding(heap_theory::specs::Header::header_at))]
 pub fn is_header(memory: &Memory, granule: u32) -> bool
     requires { granule < length memory.now }
-    ensures { IsTrue result ↔ ((header_at memory.now granule).class < 32) }
+    ensures { IsTrue result ↔ ((header_at memory.now granule).class < MOST_CLASSES) }
 {
     class_of(memory.word(granule, 0)) < MOST_CLASSES as u64
 }
@@ -23,11 +24,11 @@ pub fn is_header(memory: &Memory, granule: u32) -> bool
 #[tactic(auto, unfolding(heap_theory::specs::Header::header_at))]
 pub fn read(memory: &Memory, granule: u32) -> Header
     requires granule { granule < length memory.now }
-    requires class { (header_at memory.now granule).class < 32 }
+    requires class { (header_at memory.now granule).class < MOST_CLASSES }
     ensures header { seen result ≡ header_at memory.now granule }
     ensures size { result.size < 2 ^ 14 }
     ensures tag { result.tag < 16 }
-    ensures class { result.class < 32 }
+    ensures class { result.class < MOST_CLASSES }
 {
     header_of(memory.word(granule, 0), memory.word(granule, 1))
 }
@@ -38,8 +39,8 @@ pub fn write(memory: &mut Memory, granule: u32, header: &Header)
     requires granule { granule < length memory.old }
     requires size { header.now.size < 2 ^ 14 }
     requires tag { header.now.tag < 16 }
-    requires class { header.now.class < 32 }
-    ensures { WritesHeader memory.old memory.new granule 16 (seen header.now) }
+    requires class { header.now.class < MOST_CLASSES }
+    ensures { WritesHeader memory.old memory.new granule GRANULE_BYTES (seen header.now) }
 {
     memory.set_word(granule, 0, first_word(header));
     memory.set_word(granule, 1, header.mark);

@@ -5,6 +5,7 @@ ghost use Rattle.heap_theory.specs.Header.{FitsWords, code_of, first_word, heade
 ghost use Rattle.std.specs.Prelude.{◌≡◌, ◌/◌, ◌%◌, ◌<◌, ◌^◌, ℕ};
 
 use crate::header::{Header, State};
+use class_table::MOST_CLASSES;
 
 const STATE_MASK: u64 = (1 << 2) - 1;
 
@@ -29,7 +30,7 @@ const BELOW_NEXT_MASK: u64 = (1 << NEXT_SHIFT) - 1;
 pub(crate) fn first_word(header: &Header) -> u64
     requires size { header.now.size < 2 ^ 14 }
     requires tag { header.now.tag < 16 }
-    requires class { header.now.class < 32 }
+    requires class { header.now.class < MOST_CLASSES }
     ensures word { result ≡ first_word (seen header.now) }
     ensures fits { FitsWords (seen header.now) }
 {
@@ -42,11 +43,11 @@ pub(crate) fn first_word(header: &Header) -> u64
 
 /// The header that two words spell.
 pub(crate) fn header_of(first: u64, second: u64) -> Header
-    requires class { (header_of first second).class < 32 }
+    requires class { (header_of first second).class < MOST_CLASSES }
     ensures seen { seen result ≡ header_of first second }
     ensures size { result.size < 2 ^ 14 }
     ensures tag { result.tag < 16 }
-    ensures class { result.class < 32 }
+    ensures class { result.class < MOST_CLASSES }
 {
     Header {
         state: state_of(first & STATE_MASK),

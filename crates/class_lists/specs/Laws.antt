@@ -5,6 +5,7 @@ use Rattle.class_table.specs.Layout.{Partition, IsPartition, slot_count, slot_of
 use Rattle.heap_theory.specs.Header.{Header, FitsWords, header_at, with_header}
 use Rattle.heap_theory.specs.Links.{next_in}
 use Rattle.class_lists.specs.Lists.{ShowsList}
+use Rattle.machine_theory.specs.declared.sizes.TheConstants.{GRANULE_BYTES}
 
 -- With no front the list is empty, whatever the memory holds.
 abbrev pub EndIsEmptyList : Type 0
@@ -50,7 +51,8 @@ TagsKeepLists =
 abbrev pub OtherBytesKeepLists : Type 0
 OtherBytesKeepLists =
     (layout : Partition) (memory : List Granule) (front i : ℕ) (new list : List ℕ) → ShowsList layout memory front list →
-    ((s : ℕ) → Contains list s → (i + length new ≤ 16 * (slot_of layout s).start) ⊎ (16 * (slot_of layout s).start + 16 ≤ i)) →
+    ((s : ℕ) → Contains list s
+    → (i + length new ≤ GRANULE_BYTES * (slot_of layout s).start) ⊎ (GRANULE_BYTES * (slot_of layout s).start + GRANULE_BYTES ≤ i)) →
     ShowsList layout (written i new memory) front list
 
 -- of the headers of slots that it doesn't have,

@@ -3,6 +3,7 @@ use Rattle.std.specs.Prelude.{ℕ, ◌+◌, ◌*◌, ◌/◌, ◌<◌, ◌≤◌
 use Rattle.std.specs.List.{range_with_len}
 use Rattle.class_table.specs.Sizes.{granule_bytes}
 use Rattle.class_table.specs.Tables.{IsLegalTable}
+use Rattle.class_table.specs.declared.layout.TheConstants.{FEWEST_GRANULES, MOST_GRANULES}
 
 -- A region with its number of granules, and the table whose classes share it.
 pub record Partition : Type 0 where
@@ -12,8 +13,8 @@ pub record Partition : Type 0 where
 -- The partitions that a heap may have.
 pub record IsPartition (region : Partition) : Type 0 where
   pub table : IsLegalTable 1 region.classes
-  pub least : 64 ≤ region.granules
-  pub most : region.granules ≤ 262144
+  pub least : FEWEST_GRANULES ≤ region.granules
+  pub most : region.granules ≤ MOST_GRANULES
 
 -- A slot: its first granule, which is its header, and its class, which is the number of its granules.
 pub record Slot : Type 0 where

@@ -11,7 +11,7 @@ use itoa::Buffer;
 use line_text::{Words, capped_number_in, lines_in, words_in};
 
 /// The most bytes of a class line with its newline: `classes`, and 32 times a space and four digits.
-pub const LINE_BYTES: usize = 168;
+pub const LINE_BYTES: usize = 8 + 5 * MOST_CLASSES;
 
 // the first word of a class line
 const NAME: &[u8] = b"classes";
@@ -34,7 +34,22 @@ impl ClassTable {
         if let Some(_other) = lines.next() {
             return Err(TableError::BadLine);
         }
-        table_in(line)
+        ClassTable::from_line(line)
+    }
+
+    /// The table that a line spells, which has no newline: `classes`, then each class in granules. Errors are those of `read_line`.
+    pub fn from_line(line: &[u8]) -> Result<ClassTable, TableError>
+        ensures exact { Gives result (table_of_line line.now) }
+        ensures legal { IfOk result (λ table. IsLegalTable 1 table) }
+    {
+        let mut words = words_in(line);
+        let Some(name) = words.next() else {
+            return Err(TableError::BadLine);
+        };
+        if name != NAME {
+            return Err(TableError::BadLine);
+        }
+        table_of_words(words)
     }
 
     /// Replaces what `line` holds by the class line with its newline. `read_line` reads the same table back.
@@ -67,21 +82,6 @@ fn append_classes(line: &mut ArrayVec<u8, LINE_BYTES>, classes: &[u16])
         line.push(b' ');
         append(line, Buffer::new().format(*class).as_bytes());
     }
-}
-
-// the table that a line spells
-fn table_in(line: &[u8]) -> Result<ClassTable, TableError>
-    ensures exact { Gives result (table_of_line line.now) }
-    ensures legal { IfOk result (λ table. IsLegalTable 1 table) }
-{
-    let mut words = words_in(line);
-    let Some(name) = words.next() else {
-        return Err(TableError::BadLine);
-    };
-    if name != NAME {
-        return Err(TableError::BadLine);
-    }
-    table_of_words(words)
 }
 
 // the table of the numbers that words spell

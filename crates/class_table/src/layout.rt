@@ -5,7 +5,7 @@ ghost use Rattle.class_table.specs.Tables.{class_for, class_number_for};
 ghost use Rattle.std.specs.List.Sorted.{IsNonDecreasingBy};
 ghost use Rattle.std.specs.Option.{option_map_or};
 
-use crate::sizes::GRANULE_BYTES;
+use crate::sizes::{GRANULE_BYTES, LARGEST_CLASS, LARGEST_COUNTED, SMALLEST_CLASS};
 use crate::table::{ClassTable, MOST_CLASSES};
 use arrayvec::ArrayVec;
 use std::marker::Model;
@@ -16,8 +16,11 @@ pub const FEWEST_GRANULES: u32 = 64;
 /// The most granules of a region.
 pub const MOST_GRANULES: u32 = 262_144;
 
+/// The most slots of a region.
+pub const MOST_SLOTS: u32 = MOST_GRANULES / SMALLEST_CLASS as u32;
+
 // the first slots of all classes, and after them the number of slots
-const MOST_FIRSTS: usize = 33;
+const MOST_FIRSTS: usize = MOST_CLASSES + 1;
 
 /// Where a slot lies: its first granule, which is its header, and its class, the number of its granules.
 #[derive(Clone, Copy, Debug, PartialEq, Eq)]
@@ -95,7 +98,7 @@ impl Layout {
     pub fn class(&self, number: usize) -> u32
         requires { number < length self.now.classes }
         ensures class { result ≡ slice_index self.now.classes number }
-        ensures in_range { (2 ≤ result) × (result ≤ 1024) }
+        ensures in_range { (SMALLEST_CLASS ≤ result) × (result ≤ LARGEST_CLASS) }
     {
         self.classes[number]
     }
@@ -117,7 +120,7 @@ impl Layout {
     /// How many slots the region has.
     pub fn slots(&self) -> u32
         ensures slots { result ≡ slot_count self.now }
-        ensures few { result ≤ 131072 }
+        ensures few { result ≤ MOST_SLOTS }
     {
         self.first_slot(self.classes())
     }
@@ -127,7 +130,7 @@ impl Layout {
     pub fn first_slot(&self, number: usize) -> u32
         requires { number ≤ length self.now.classes }
         ensures first { result ≡ first_slot self.now number }
-        ensures few { result ≤ 131072 }
+        ensures few { result ≤ MOST_SLOTS }
     {
         self.firsts[number]
     }
@@ -148,7 +151,7 @@ impl Layout {
         ensures start { result.start ≡ (slot_of self.now slot).start }
         ensures class { result.class ≡ (slot_of self.now slot).class }
         ensures inside { result.start + result.class ≤ self.now.granules }
-        ensures in_range { (2 ≤ result.class) × (result.class ≤ 1024) }
+        ensures in_range { (SMALLEST_CLASS ≤ result.class) × (result.class ≤ LARGEST_CLASS) }
     {
         self.slot_of_class(self.class_of(slot), slot)
     }
@@ -159,7 +162,7 @@ impl Layout {
         ensures start { result.start ≡ (slot_of self.now slot).start }
         ensures class { result.class ≡ (slot_of self.now slot).class }
         ensures inside { result.start + result.class ≤ self.now.granules }
-        ensures in_range { (2 ≤ result.class) × (result.class ≤ 1024) }
+        ensures in_range { (SMALLEST_CLASS ≤ result.class) × (result.class ≤ LARGEST_CLASS) }
     {
         let place = slot - self.first_slot(number);
         let class = self.class(number);
@@ -222,7 +225,7 @@ impl Layout {
     /// The bytes that a request of `n` bytes leaves unused in a block of its class; 0 if no class serves it.
     pub fn loss(&self, n: u32) -> u32
         ensures loss { result ≡ option_map_or (loss_of n) (class_for self.now.classes n) 0 }
-        ensures small { result ≤ 16368 }
+        ensures small { result ≤ LARGEST_COUNTED }
     {
         match self.find(n) {
             Some(number) => GRANULE_BYTES * self.classes[number] - GRANULE_BYTES - n,

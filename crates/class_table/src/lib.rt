@@ -11,8 +11,9 @@ mod table;
 
 pub use class_line::LINE_BYTES;
 pub use fault::TableError;
-pub use layout::{FEWEST_GRANULES, Layout, MOST_GRANULES, Slot};
+pub use layout::{FEWEST_GRANULES, Layout, MOST_GRANULES, MOST_SLOTS, Slot};
 pub use sizes::{
-    GRANULE_BYTES, LARGEST_CLASS, LARGEST_COUNTED, SMALLEST_CLASS, loss, need, round_up, serves,
+    GRANULE_BYTES, LARGEST_CLASS, LARGEST_COUNTED, MOST_NEEDS, SMALLEST_CLASS, loss, need,
+    round_up, serves,
 };
 pub use table::{ClassTable, MOST_CLASSES};

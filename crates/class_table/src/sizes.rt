@@ -12,13 +12,16 @@ pub const SMALLEST_CLASS: u16 = 2;
 pub const LARGEST_CLASS: u16 = 1024;
 
 /// The largest request that is counted, in bytes: the most that the largest class serves. A larger request is called large.
-pub const LARGEST_COUNTED: u32 = 16_368;
+pub const LARGEST_COUNTED: u32 = GRANULE_BYTES * (LARGEST_CLASS as u32 - 1);
+
+/// How many needs and classes there are: one for each number of granules from the smallest class to the largest.
+pub const MOST_NEEDS: usize = (LARGEST_CLASS - SMALLEST_CLASS + 1) as usize;
 
 /// The granules that a request of `n` bytes (0 to 16,368) needs, including its header's: 2 to 1024.
 pub fn need(n: u32) -> u32
     requires { n ≤ LARGEST_COUNTED }
     ensures need { result ≡ need_of n }
-    ensures in_range { (2 ≤ result) × (result ≤ 1024) }
+    ensures in_range { (SMALLEST_CLASS ≤ result) × (result ≤ LARGEST_CLASS) }
 {
     1 + n.div_ceil(GRANULE_BYTES).max(1)
 }
@@ -40,10 +43,10 @@ pub fn loss(n: u32, class: u16) -> u32
 
 /// A need in granules (2 to 1024), rounded up to a multiple of the step (1, 2, 4 or 8). It is at most 1024 too.
 pub fn round_up(need: u32, step: u8) -> u32
-    requires need { (2 ≤ need) × (need ≤ 1024) }
+    requires need { (SMALLEST_CLASS ≤ need) × (need ≤ LARGEST_CLASS) }
     requires step { IsStep step }
     ensures rounded { result ≡ round_up need step }
-    ensures in_range { (need ≤ result) × (result ≤ 1024) }
+    ensures in_range { (need ≤ result) × (result ≤ LARGEST_CLASS) }
 {
     need.next_multiple_of(u32::from(step))
 }

@@ -66,7 +66,7 @@ impl ClassTable {
     pub fn class(&self, number: usize) -> u16
         requires { number < length self.now }
         ensures class { slice_get self.now number ≡ Some result }
-        ensures in_range { (2 ≤ result) × (result ≤ 1024) }
+        ensures in_range { (SMALLEST_CLASS ≤ result) × (result ≤ LARGEST_CLASS) }
     {
         self.classes[number]
     }

@@ -5,6 +5,7 @@ use Rattle.std.specs.declared.ops.Range.{Range}
 use Rattle.class_tuner.specs.declared.filling.Row.{Row}
 use Rattle.class_tuner.specs.declared.halving.Window.{Window}
 use Rattle.tuner_theory.specs.Rows.{IsLeastEnd}
+use Rattle.class_table.specs.declared.sizes.TheConstants.{LARGEST_CLASS, MOST_NEEDS}
 
 -- How many binary digits a number has.
 abbrev pub bits : ℕ → ℕ
@@ -48,7 +49,7 @@ end_cost cost before i j = cost i j + slice_index before j
 
 -- A row of d places, whose numbers are small enough to add a cost to them.
 pub record IsSmallRow (d : ℕ) (row : List ℕ) : Type 0 where
-  pub few : d ≤ 1023
+  pub few : d ≤ MOST_NEEDS
   pub length : length row ≡ d
   pub small : (j : ℕ) → slice_index row j ≤ 2 ^ 60
 
@@ -93,7 +94,7 @@ pub record AreCallsForPart (old new : ℕ) (ends : List ℕ) (part : Range ℕ) 
   pub exact : (b : ℕ) → part.end - part.start < 2 ^ b
       → new ≡ old + tried_within (slice_index ends) b part.start part.end window.low window.high
   pub counted : (b : ℕ) → part.end - part.start < 2 ^ b → new ≤ old + (window.high - window.low) * b + (part.end - part.start)
-  pub most : new ≤ old + 1024 * (part.end - part.start)
+  pub most : new ≤ old + LARGEST_CLASS * (part.end - part.start)
 
 -- The row of one span: it goes from each of the d places to the last one.
 pub record IsFirstRow (cost : ℕ → ℕ → ℕ) (d : ℕ) (row : Row) : Type 0 where

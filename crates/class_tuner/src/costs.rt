@@ -4,6 +4,7 @@ ghost use Rattle.tuner_theory.specs.Spans.{IsCrossing, places, span_waste};
 ghost use Rattle.class_table.specs.Steps.{IsStep};
 
 use crate::cost_source::{CostSource, number_at};
+use class_table::MOST_NEEDS;
 use potential_check::Spans;
 use profile_count::Profile;
 use std::alloc::{AllocError, Global};
@@ -34,7 +35,7 @@ impl<'a> Costs<'a> {
         ensures places { IfOk result
             (λ costs. ⟦<Costs<'a> as CostSource>⟧.place_count costs ≡ places profile.now.counts step) }
         ensures calls { IfOk result (λ costs. ⟦<Costs<'a> as CostSource>⟧.call_count costs ≡ 0) }
-        ensures few { IfOk result (λ costs. ⟦<Costs<'a> as CostSource>⟧.place_count costs ≤ 1023) }
+        ensures few { IfOk result (λ costs. ⟦<Costs<'a> as CostSource>⟧.place_count costs ≤ MOST_NEEDS) }
     {
         let spans = Spans::new(alloc, profile, step)?;
         Ok(Costs::over(spans))
@@ -46,7 +47,7 @@ impl<'a> Costs<'a> {
         requires { IsSpanned spans }
         ensures spans { result.lawful.spans ≡ spans.entry }
         ensures calls { result.calls ≡ 0 }
-        ensures few { places spans.entry.counts spans.entry.step ≤ 1023 }
+        ensures few { places spans.entry.counts spans.entry.step ≤ MOST_NEEDS }
     {
         let lawful = LawfulSpans { spans };
         Costs { lawful, calls: 0 }

@@ -6,6 +6,7 @@ ghost use Rattle.tuner_theory.specs.Rows.{IsFilled, number_at};
 
 use crate::cost_source::CostSource;
 use crate::halving::{Window, fill_part};
+use class_table::{LARGEST_CLASS, MOST_CLASSES, MOST_NEEDS};
 use std::alloc::{AllocError, Global};
 
 /// Rows of least costs, with their ends. Row k, counted from 1, has at each place the least cost of serving all places above it with at
@@ -49,8 +50,8 @@ pub fn fill_rows<C: CostSource>(
     limit: u8,
 ) -> Result<Filled, AllocError>
     requires some { 1 ≤ limit }
-    requires few { limit ≤ 32 }
-    requires places { C.place_count costs.old ≤ 1023 }
+    requires few { limit ≤ MOST_CLASSES }
+    requires places { C.place_count costs.old ≤ MOST_NEEDS }
     requires room { C.call_count costs.old < 2 ^ 62 }
     ensures filled { IfOk result
         (λ f. IsFilled (C.cost costs.old) (C.place_count costs.old) limit (lists_of f.rows.items)
@@ -75,7 +76,7 @@ pub fn fill_rows<C: CostSource>(
 
 // the first row: one span from each place to the last one
 fn first_row<C: CostSource>(alloc: Global, costs: &mut C) -> Result<Row, AllocError>
-    requires few { C.place_count costs.old ≤ 1023 }
+    requires few { C.place_count costs.old ≤ MOST_NEEDS }
     requires room { C.call_count costs.old + C.place_count costs.old ≤ 2 ^ 63 }
     ensures first { IfOk result (IsFirstRow (C.cost costs.old) (C.place_count costs.old)) }
     ensures counted { C.call_count costs.new ≤ C.call_count costs.old + C.place_count costs.old }
@@ -106,7 +107,7 @@ fn ask<C: CostSource>(costs: &mut C, i: usize, j: usize) -> u64
 // the row after another one
 fn next_row<C: CostSource>(alloc: Global, costs: &mut C, before: &[u64]) -> Result<Row, AllocError>
     requires before { IsSmallRow (C.place_count costs.old) before.now }
-    requires room { C.call_count costs.old + 1024 * C.place_count costs.old ≤ 2 ^ 63 }
+    requires room { C.call_count costs.old + LARGEST_CLASS * C.place_count costs.old ≤ 2 ^ 63 }
     ensures next { IfOk result (IsNextRow (C.cost costs.old) (C.place_count costs.old) before.now) }
     ensures counted { let d = C.place_count costs.old in
         C.call_count costs.new ≤ C.call_count costs.old + ((d - 1) * bits d + d) }

@@ -12,7 +12,7 @@ use potential_check::Spans;
 // The table that the ends give: the need at the end of place 0 in the last row, then on from that end in the row before.
 #[tactic(auto, using(class_table::proofs::LawLemmas::legal_is_faultless))]
 pub(crate) fn table_of_ends(spans: &Spans<'_>, ends: &[Vec<usize>], limit: u8) -> ClassTable
-    requires few { limit ≤ 32 }
+    requires few { limit ≤ MOST_CLASSES }
     requires later { (k i : ℕ) → 1 ≤ k → k ≤ limit → i < places spans.now.counts spans.now.step
         → (i < number_at (lists_of ends.now) k i)
         × (number_at (lists_of ends.now) k i ≤ places spans.now.counts spans.now.step) }
@@ -26,7 +26,7 @@ pub(crate) fn table_of_ends(spans: &Spans<'_>, ends: &[Vec<usize>], limit: u8) -
 
 // the classes of that table
 fn classes_of_ends(spans: &Spans<'_>, ends: &[Vec<usize>], limit: u8) -> ArrayVec<u16, MOST_CLASSES>
-    requires few { limit ≤ 32 }
+    requires few { limit ≤ MOST_CLASSES }
     requires later { (k i : ℕ) → 1 ≤ k → k ≤ limit → i < places spans.now.counts spans.now.step
         → (i < number_at (lists_of ends.now) k i)
         × (number_at (lists_of ends.now) k i ≤ places spans.now.counts spans.now.step) }

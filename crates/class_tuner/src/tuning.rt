@@ -12,6 +12,7 @@ use crate::cost_source::CostSource;
 use crate::costs::Costs;
 use crate::filling::{Filled, fill_rows};
 use crate::table::table_of_ends;
+use class_table::MOST_CLASSES;
 use potential_check::{Rows, Sheet, Spans};
 use profile_count::Profile;
 use std::alloc::{AllocError, Global};
@@ -53,7 +54,7 @@ impl Tuned {
 /// allocator refuses memory.
 pub fn tune(alloc: Global, profile: &Profile, limit: u8, step: u8) -> Result<Tuned, AllocError>
     requires some { 1 ≤ limit }
-    requires few { limit ≤ 32 }
+    requires few { limit ≤ MOST_CLASSES }
     requires step { IsStep step }
 
     // the canonical table, its waste, and as its certificate the least wastes of the requests above each place
@@ -75,7 +76,7 @@ pub fn tune(alloc: Global, profile: &Profile, limit: u8, step: u8) -> Result<Tun
 fn sheet_of_rows(spans: &Spans<'_>, filled: Filled, limit: u8) -> Sheet
     requires spans { IsSpanned spans.now }
     requires some { 1 ≤ limit }
-    requires few { limit ≤ 32 }
+    requires few { limit ≤ MOST_CLASSES }
     requires filled { let d = places spans.now.counts spans.now.step in
         IsFilled (span_waste spans.now.counts spans.now.step) d limit (lists_of filled.rows.items)
         (lists_of filled.ends.items) }

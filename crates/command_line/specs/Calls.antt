@@ -17,6 +17,7 @@ use Rattle.class_table.specs.declared.layout.TheConstants.{FEWEST_GRANULES, MOST
 use Rattle.tagged_heap.specs.Config.{IsConfig}
 use Rattle.tagged_heap.specs.declared.heap.Config.{Config}
 use Rattle.tagged_heap.specs.declared.heap.TheConstants.Config.{MOST_QUARANTINE}
+use Rattle.class_table.specs.declared.table.TheConstants.{MOST_CLASSES}
 
 -- The option of this name has a value that spells the number: decimal digits, with or without a `+` before them.
 abbrev pub HasNumber : List Row → Text → ℕ → Type 0
@@ -34,7 +35,7 @@ IsRead P (Err fault) = (n : ℕ) → P n → ⊥
 
 -- `--limit` and `--step`.
 abbrev pub HasLimit : List Row → ℕ → Type 0
-HasLimit options n = HasNumberIn options (codes "limit") 1 32 n
+HasLimit options n = HasNumberIn options (codes "limit") 1 MOST_CLASSES n
 
 abbrev pub HasStep : List Row → ℕ → Type 0
 HasStep options n = HasNumberIn options (codes "step") 1 8 n × IsStep n
@@ -73,11 +74,11 @@ IsNoCall command = (call : Call) → IsCall command call → ⊥
 -- What each command's engine wants of its options.
 abbrev pub IsValid : Call → Type 0
 IsValid Score = ⊤
-IsValid (Tune o) = (1 ≤ o.limit) × (o.limit ≤ 32) × IsStep o.step
+IsValid (Tune o) = (1 ≤ o.limit) × (o.limit ≤ MOST_CLASSES) × IsStep o.step
 IsValid Check = ⊤
 IsValid Profile = ⊤
 IsValid (Replay o) = IsConfig o.config
-IsValid (Run o) = (1 ≤ o.limit) × (o.limit ≤ 32) × IsStep o.step × IsConfig o.config
+IsValid (Run o) = (1 ≤ o.limit) × (o.limit ≤ MOST_CLASSES) × IsStep o.step × IsConfig o.config
 
 -- The answers of a call's engine.
 abbrev pub answers_of : Call → List ℕ → Result Answer InputFault → Type 0

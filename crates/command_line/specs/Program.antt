@@ -6,6 +6,9 @@ use Rattle.clap.specs.declared.builder.arg.Arg.{Arg}
 use Rattle.clap.specs.declared.builder.command.Command.{Command}
 use Rattle.clap.specs.declared.builder.command.Command.TheViews.{out-Command as fields_of}
 use Rattle.clap.specs.declared.builder.value_parser.ValueParser.TheVariants.{Signed}
+use Rattle.class_table.specs.declared.layout.TheConstants.{FEWEST_GRANULES, MOST_GRANULES}
+use Rattle.class_table.specs.declared.table.TheConstants.{MOST_CLASSES}
+use Rattle.tagged_heap.specs.declared.heap.TheConstants.Config.{MOST_QUARANTINE}
 
 -- `--limit`, which may not be left out.
 abbrev pub limit_rule : Rule
@@ -13,7 +16,7 @@ limit_rule = record (new_rule (codes "limit")) {
   long = Some (codes "limit");
   value_names = 1;
   required = true;
-  parser = Some (Signed (pos 1) (pos 32));
+  parser = Some (Signed (pos 1) (pos MOST_CLASSES));
 }
 
 abbrev pub step_rule : Rule
@@ -29,7 +32,7 @@ granules_rule = record (new_rule (codes "granules")) {
   long = Some (codes "granules");
   value_names = 1;
   defaults = codes "65536" ∷ [];
-  parser = Some (Signed (pos 64) (pos 262144));
+  parser = Some (Signed (pos FEWEST_GRANULES) (pos MOST_GRANULES));
 }
 
 abbrev pub seed_rule : Rule
@@ -45,7 +48,7 @@ quarantine_rule = record (new_rule (codes "quarantine")) {
   long = Some (codes "quarantine");
   value_names = 1;
   defaults = codes "65536" ∷ [];
-  parser = Some (Signed (pos 0) (pos 4194304));
+  parser = Some (Signed (pos 0) (pos MOST_QUARANTINE));
 }
 
 -- The commands.

@@ -6,7 +6,7 @@ ghost use Rattle.command_line.specs.Program.{IsOption, granules_rule, limit_rule
 
 use crate::refusal::OptionFault;
 use clap::{Arg, ArgMatches, value_parser};
-use class_table::{FEWEST_GRANULES, MOST_GRANULES};
+use class_table::{FEWEST_GRANULES, MOST_CLASSES, MOST_GRANULES};
 use std::alloc::Global;
 use tagged_heap::Config;
 
@@ -33,7 +33,7 @@ pub fn limit<'a>(alloc: Global) -> Arg<'a>
         .long(LIMIT)
         .value_name("K")
         .required(true)
-        .value_parser(value_parser!(u8).range(1..=32))
+        .value_parser(value_parser!(u8).range(1..=MOST_CLASSES as i64))
         .help("The most classes that the table may have, 1 to 32")
 }
 
@@ -57,7 +57,7 @@ pub fn granules<'a>(alloc: Global) -> Arg<'a>
         .long(GRANULES)
         .value_name("R")
         .default_value("65536")
-        .value_parser(value_parser!(u32).range(64..=262144))
+        .value_parser(value_parser!(u32).range(FEWEST_GRANULES as i64..=MOST_GRANULES as i64))
         .help("The granules of the heap's region, 64 to 262144")
 }
 
@@ -81,7 +81,7 @@ pub fn quarantine<'a>(alloc: Global) -> Arg<'a>
         .long(QUARANTINE)
         .value_name("Q")
         .default_value("65536")
-        .value_parser(value_parser!(u32).range(0..=4194304))
+        .value_parser(value_parser!(u32).range(0..=Config::MOST_QUARANTINE as i64))
         .help("Bytes of freed blocks held back from reuse, 0 to 4194304")
 }
 
@@ -89,7 +89,7 @@ pub fn quarantine<'a>(alloc: Global) -> Arg<'a>
 pub fn limit_of(options: &ArgMatches<'_>) -> Result<u8, OptionFault>
     ensures { IsRead (HasLimit (rows_of (found_of options.now))) result }
 {
-    match number_in(options, LIMIT, 1, 32) {
+    match number_in(options, LIMIT, 1, MOST_CLASSES as u32) {
         Ok(limit) => Ok(limit as u8),
         Err(fault) => Err(fault),
     }

@@ -3,12 +3,13 @@ ghost use Rattle.machine_theory.specs.Memory.{byte_at, bytes_at, new_granule, ta
 ghost use Rattle.std.specs.Int.{to_le_bytes, w64};
 ghost use Rattle.std.specs.Prelude.{◌≡◌, ◌+◌, ◌*◌, ◌<◌, ◌≤◌, [], ◌∷◌, ℕ, IfOk, List, length, replicate};
 
+use machine_theory::{FEWEST_GRANULES, GRANULE_BYTES, MOST_GRANULES};
 use raw_region::RawRegion;
 use std::alloc::{AllocError, Global};
 use std::marker::Model;
 
 // The bytes of a granule.
-const GRANULE: usize = 16;
+const GRANULE: usize = GRANULE_BYTES as usize;
 
 /// 64 to 262,144 granules of sixteen bytes, each with an Allocation Tag from 0 to 15. Contracts see it as the list of its granules.
 /// One region holds 17 bytes for each granule: first the bytes of all granules, so that words are aligned, then the tags.
@@ -35,7 +36,7 @@ impl Memory {
     /// The only error is that the allocator refuses the one block, of 17 bytes for each granule.
     #[tactic(auto, using(crate::proofs::Granules::granules_counted, crate::proofs::Granules::granules_fit, crate::proofs::Writes::new_is, crate::proofs::Writes::new_fits))]
     pub fn new(alloc: Global, granules: u32) -> Result<Memory, AllocError>
-        requires { (64 ≤ granules) × (granules ≤ 262144) }
+        requires { (FEWEST_GRANULES ≤ granules) × (granules ≤ MOST_GRANULES) }
         ensures granules { IfOk result (λ memory. memory ≡ replicate granules new_granule) }
         ensures len { IfOk result (λ memory. length memory ≡ granules) }
         ensures memory { IfOk result (λ memory. IsMemory memory) }
@@ -96,8 +97,8 @@ impl Memory {
     #[tactic(auto, using(crate::proofs::Granules::granules_counted, crate::proofs::Granules::byte_is))]
     pub fn byte(&self, g: u32, i: usize) -> u8
         requires granule { g < length self.now }
-        requires place { i < 16 }
-        ensures { result ≡ byte_at self.now (16 * g + i) }
+        requires place { i < GRANULE_BYTES }
+        ensures { result ≡ byte_at self.now (GRANULE_BYTES * g + i) }
     {
         self.region.byte(place_of(g) + i)
     }
@@ -106,10 +107,10 @@ impl Memory {
     #[tactic(auto, using(crate::proofs::Granules::byte_read))]
     pub fn set_byte(&mut self, g: u32, i: usize, b: u8)
         requires granule { g < length self.old }
-        requires place { i < 16 }
-        ensures written { self.new ≡ written (16 * g + i) (b ∷ []) self.old }
-        ensures byte { byte_at self.new (16 * g + i) ≡ b }
-        ensures others { ChangesOnlyBytes self.old self.new (16 * g + i) (16 * g + i + 1) }
+        requires place { i < GRANULE_BYTES }
+        ensures written { self.new ≡ written (GRANULE_BYTES * g + i) (b ∷ []) self.old }
+        ensures byte { byte_at self.new (GRANULE_BYTES * g + i) ≡ b }
+        ensures others { ChangesOnlyBytes self.old self.new (GRANULE_BYTES * g + i) (GRANULE_BYTES * g + i + 1) }
         ensures memory { IsMemory self.new }
     {
         self.write_bytes(place_of(g) + i, &[b]);
@@ -120,7 +121,7 @@ impl Memory {
     pub fn word(&self, g: u32, i: usize) -> u64
         requires granule { g < length self.now }
         requires place { i < 2 }
-        ensures { result ≡ word_at self.now (16 * g + 8 * i) }
+        ensures { result ≡ word_at self.now (GRANULE_BYTES * g + 8 * i) }
     {
         self.region.word(place_of(g) + 8 * i)
     }
@@ -131,9 +132,10 @@ impl Memory {
     pub fn set_word(&mut self, g: u32, i: usize, w: u64)
         requires granule { g < length self.old }
         requires place { i < 2 }
-        ensures written { self.new ≡ written (16 * g + 8 * i) (to_le_bytes w64 w) self.old }
-        ensures word { word_at self.new (16 * g + 8 * i) ≡ w }
-        ensures others { ChangesOnlyBytes self.old self.new (16 * g + 8 * i) (16 * g + 8 * i + 8) }
+        ensures written { self.new ≡ written (GRANULE_BYTES * g + 8 * i) (to_le_bytes w64 w) self.old }
+        ensures word { word_at self.new (GRANULE_BYTES * g + 8 * i) ≡ w }
+        ensures others { ChangesOnlyBytes self.old self.new
+            (GRANULE_BYTES * g + 8 * i) (GRANULE_BYTES * g + 8 * i + 8) }
         ensures memory { IsMemory self.new }
     {
         self.write_bytes(place_of(g) + 8 * i, &w.to_le_bytes());
@@ -142,8 +144,8 @@ impl Memory {
     /// Sets the sixteen bytes of granule `g`, which must be below `granules()`, to 0. No tag changes.
     pub fn zero_granule(&mut self, g: u32)
         requires { g < length self.old }
-        ensures written { self.new ≡ written (16 * g) (replicate 16 0) self.old }
-        ensures others { ChangesOnlyBytes self.old self.new (16 * g) (16 * g + 16) }
+        ensures written { self.new ≡ written (GRANULE_BYTES * g) (replicate GRANULE_BYTES 0) self.old }
+        ensures others { ChangesOnlyBytes self.old self.new (GRANULE_BYTES * g) (GRANULE_BYTES * g + GRANULE_BYTES) }
         ensures memory { IsMemory self.new }
     {
         self.write_bytes(place_of(g), &[0; GRANULE]);
@@ -153,7 +155,7 @@ impl Memory {
     /// It serves loads: any number of granules is one copy. It checks no tag; the caller has checked them.
     #[tactic(auto, using(crate::proofs::Granules::granules_counted, crate::proofs::Granules::bytes_are))]
     pub fn read_bytes(&self, i: usize, to: &mut [u8])
-        requires { i + length to.old ≤ 16 * length self.now }
+        requires { i + length to.old ≤ GRANULE_BYTES * length self.now }
         ensures { to.new ≡ bytes_at self.now i (length to.old) }
     {
         self.region.read_bytes(i, to);
@@ -163,7 +165,7 @@ impl Memory {
     /// It serves stores: any number of granules is one copy. It checks no tag; the caller has checked them.
     #[tactic(auto, using(crate::proofs::Granules::granules_counted, crate::proofs::Writes::written_is, crate::proofs::Writes::written_reads))]
     pub fn write_bytes(&mut self, i: usize, bytes: &[u8])
-        requires { i + length bytes.now ≤ 16 * length self.old }
+        requires { i + length bytes.now ≤ GRANULE_BYTES * length self.old }
         ensures written { self.new ≡ written i bytes.now self.old }
         ensures bytes { bytes_at self.new i (length bytes.now) ≡ bytes.now }
         ensures others { ChangesOnlyBytes self.old self.new i (i + length bytes.now) }
@@ -176,7 +178,7 @@ impl Memory {
     #[tactic(auto, using(crate::proofs::Granules::granules_counted))]
     fn place_of_tag(&self, g: u32) -> usize
         requires { g ≤ length self.now }
-        ensures { result ≡ 16 * length self.now + g }
+        ensures { result ≡ GRANULE_BYTES * length self.now + g }
     {
         place_of(self.granules) + g as usize
     }
@@ -184,7 +186,7 @@ impl Memory {
 
 // The place in the region where the bytes of granule g begin.
 fn place_of(g: u32) -> usize
-    ensures { result ≡ 16 * g }
+    ensures { result ≡ GRANULE_BYTES * g }
 {
     g as usize * GRANULE
 }

@@ -12,6 +12,7 @@ use Rattle.heap_theory.specs.declared.fault.ReallocError.TheVariants.{Null, Refu
 use Rattle.heap_theory.specs.Choice.{Chunk, class_for_request, slot_for_request, chunk_at}
 use Rattle.heap_theory.specs.State.{Heap, slot_in, state_at, last_tag, chunk_granules, payload_start, pointer_to}
 use Rattle.heap_theory.specs.State.State.{Live, Dead}
+use Rattle.machine_theory.specs.declared.sizes.TheConstants.{GRANULE_BYTES}
 
 -- ---- tags
 
@@ -62,11 +63,11 @@ resized heap s n = record heap {
 
 -- the heap with these bytes at the front of the slot's payload
 unfoldable pub with_payload : Heap → ℕ → List ℕ → Heap
-with_payload heap s bytes = record heap { memory = written (16 * payload_start (slot_in heap s)) bytes heap.memory }
+with_payload heap s bytes = record heap { memory = written (GRANULE_BYTES * payload_start (slot_in heap s)) bytes heap.memory }
 
 -- the first n bytes of the slot's payload
 abbrev pub payload_bytes : Heap → ℕ → ℕ → List ℕ
-payload_bytes heap s n = bytes_at heap.memory (16 * payload_start (slot_in heap s)) n
+payload_bytes heap s n = bytes_at heap.memory (GRANULE_BYTES * payload_start (slot_in heap s)) n
 
 -- the heap in which a chunk has moved to slot s with n bytes: that slot was given out, as many bytes as both sizes have were copied, and
 -- then the chunk was freed
@@ -94,7 +95,7 @@ malloc_step heap n = malloc_with heap n (slot_for_request heap n)
 
 abbrev pub calloc_with : Heap → ℕ → Result ℕ NullCause → Step (Result ℕ NullCause)
 calloc_with heap n (Ok s) = record {
-  heap = with_payload (given_out heap s n) s (replicate (16 * chunk_granules n) 0);
+  heap = with_payload (given_out heap s n) s (replicate (GRANULE_BYTES * chunk_granules n) 0);
   answer = Ok (pointer_to (given_out heap s n) s);
 }
 calloc_with heap n (Err cause) = refusal heap cause

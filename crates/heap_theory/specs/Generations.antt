@@ -1,6 +1,6 @@
 -- The run with what nothing stores: how often each slot was given out, and of which giving-out each variable has its address.
 -- No answer depends on these, since the stored part is followed by itself.
-use Rattle.std.specs.Prelude.{ℕ, suc, ◌==◌, if◌then◌else◌, List, replicate, fold, slice_set, slice_index, slice_index_or, Option, Some, None, Result, Ok, Err}
+use Rattle.std.specs.Prelude.{ℕ, ◌+◌, suc, ◌==◌, if◌then◌else◌, List, replicate, fold, slice_set, slice_index, slice_index_or, Option, Some, None, Result, Ok, Err}
 use Rattle.std.specs.Result.{result_ok}
 use Rattle.class_table.specs.Layout.{Partition, slot_count}
 use Rattle.heap_theory.specs.declared.event.Event.{Event}
@@ -10,6 +10,7 @@ use Rattle.heap_theory.specs.Calls.{stays_in_class}
 use Rattle.heap_theory.specs.Choice.{Chunk, slot_for_request, chunk_at}
 use Rattle.heap_theory.specs.Run.{Replay, variable, replay_after, first_replay}
 use Rattle.heap_theory.specs.State.{Heap}
+use Rattle.heap_theory.specs.declared.event.TheConstants.Event.{LAST_VARIABLE}
 
 -- A generation: the time-th time that the slot was given out.
 pub record Generation : Type 0 where
@@ -77,7 +78,7 @@ unfoldable pub first_run : Partition → ℕ → ℕ → Run
 first_run layout seed quarantine = record {
   replay = first_replay layout seed quarantine;
   times = replicate (slot_count layout) 0;
-  generations = replicate 1024 None;
+  generations = replicate (LAST_VARIABLE + 1) None;
 }
 
 -- The run of a list of events, from a new heap on.

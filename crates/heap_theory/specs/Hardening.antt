@@ -12,14 +12,16 @@ use Rattle.heap_theory.specs.Run.{Answer, variable}
 use Rattle.heap_theory.specs.Run.Answer.{Silent, Loaded, NotMapped, TagFault, NoPointer, NotFreed}
 use Rattle.heap_theory.specs.State.{State, Heap, slot_in, state_at, chunk_of, IsSlot}
 use Rattle.heap_theory.specs.State.State.{Fresh, Live, Dead}
+use Rattle.machine_theory.specs.declared.sizes.TheConstants.{LONGEST_ACCESS}
+use Rattle.heap_theory.specs.declared.event.TheConstants.Event.{FARTHEST_ACCESS}
 
 -- ---- accesses
 
 -- The access of a load or a store through variable v.
 pub record IsAccess (run : Run) (v : ℕ) (off : ℤ) (len address : ℕ) : Type 0 where
-  pub near : nat_abs off ≤ 2 ^ 20
+  pub near : nat_abs off ≤ FARTHEST_ACCESS
   pub some : 0 < len
-  pub few : len ≤ 64
+  pub few : len ≤ LONGEST_ACCESS
   pub address_is : address ≡ moved_by (variable run.replay v) off
 
 -- it is answered by a fault

@@ -6,6 +6,8 @@ use Rattle.class_table.specs.Layout.{Partition, slot_of}
 use Rattle.heap_theory.specs.Choice.{is_released, mark_of}
 use Rattle.heap_theory.specs.State.{State, Heap, state_at, last_tag}
 use Rattle.heap_theory.specs.State.State.{Fresh as NeverGiven, Live as Given, Dead}
+use Rattle.machine_theory.specs.declared.sizes.TheConstants.{GRANULE_BYTES}
+use Rattle.class_table.specs.declared.table.TheConstants.{MOST_CLASSES}
 
 -- The state of a slot: fresh, live, dead and in the quarantine, or dead and in its class's list.
 pub data Standing : Type 0 where
@@ -28,7 +30,7 @@ pub record Header : Type 0 where
 pub record FitsWords (header : Header) : Type 0 where
   pub size : header.size < 2 ^ 14
   pub tag : header.tag < 16
-  pub class : header.class < 32
+  pub class : header.class < MOST_CLASSES
   pub next : header.next < 2 ^ 32
   pub mark : header.mark < 2 ^ 64
 
@@ -68,12 +70,12 @@ header_of first second = record {
 
 -- The header in a granule.
 unfoldable pub header_at : List Granule → ℕ → Header
-header_at memory granule = header_of (word_at memory (16 * granule)) (word_at memory (16 * granule + 8))
+header_at memory granule = header_of (word_at memory (GRANULE_BYTES * granule)) (word_at memory (GRANULE_BYTES * granule + 8))
 
 -- The memory with a header in a granule, whose tag stays.
 unfoldable pub with_header : List Granule → ℕ → Header → List Granule
 with_header memory granule header =
-    written (16 * granule) (to_le_bytes w64 (first_word header) ++ to_le_bytes w64 (second_word header)) memory
+    written (GRANULE_BYTES * granule) (to_le_bytes w64 (first_word header) ++ to_le_bytes w64 (second_word header)) memory
 
 -- ---- the headers of a heap
 

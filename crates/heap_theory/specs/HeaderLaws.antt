@@ -10,6 +10,8 @@ use Rattle.heap_theory.specs.HeapInMemory.{HaveSameSlots, HeaderWordsStay}
 use Rattle.heap_theory.specs.Links.{IsLinked, last_link, next_in}
 use Rattle.heap_theory.specs.Sound.{IsSoundHeap}
 use Rattle.heap_theory.specs.State.{Heap, state_at, is_header, without_headers, first_memory, IsSlot}
+use Rattle.machine_theory.specs.declared.sizes.TheConstants.{GRANULE_BYTES}
+use Rattle.class_table.specs.declared.table.TheConstants.{MOST_CLASSES}
 
 -- ---- headers as words
 
@@ -24,7 +26,8 @@ abbrev pub WordsFit : Type 0
 WordsFit = (header : Header) → FitsWords header → (first_word header < 2 ^ 64) × (second_word header < 2 ^ 64)
 
 abbrev pub ReadHeaderFits : Type 0
-ReadHeaderFits = (first second : ℕ) → first < 2 ^ 64 → second < 2 ^ 64 → (header_of first second).class < 32 → FitsWords (header_of first second)
+ReadHeaderFits =
+    (first second : ℕ) → first < 2 ^ 64 → second < 2 ^ 64 → (header_of first second).class < MOST_CLASSES → FitsWords (header_of first second)
 
 -- ---- headers in memory
 
@@ -33,7 +36,8 @@ abbrev pub HeaderIsTwoWords : Type 0
 HeaderIsTwoWords =
     (memory : List Granule) (g : ℕ) (header : Header) →
     with_header memory g header
-    ≡ written (16 * g + 8) (to_le_bytes w64 (second_word header)) (written (16 * g) (to_le_bytes w64 (first_word header)) memory)
+    ≡ written (GRANULE_BYTES * g + 8) (to_le_bytes w64 (second_word header))
+    (written (GRANULE_BYTES * g) (to_le_bytes w64 (first_word header)) memory)
 
 -- what is written is read,
 abbrev pub WrittenHeaderIsRead : Type 0
@@ -58,7 +62,7 @@ TagsKeepHeaders = (first count tag g : ℕ) (memory : List Granule) → header_a
 
 abbrev pub OtherBytesKeepHeaders : Type 0
 OtherBytesKeepHeaders =
-    (i g : ℕ) (new : List ℕ) (memory : List Granule) → (i + length new ≤ 16 * g) ⊎ (16 * g + 16 ≤ i) →
+    (i g : ℕ) (new : List ℕ) (memory : List Granule) → (i + length new ≤ GRANULE_BYTES * g) ⊎ (GRANULE_BYTES * g + GRANULE_BYTES ≤ i) →
     header_at (written i new memory) g ≡ header_at memory g
 
 -- ---- the headers of a heap's slots
@@ -160,7 +164,8 @@ OtherGranulesAreSeen =
 abbrev pub HeaderBytesAreNotSeen : Type 0
 HeaderBytesAreNotSeen =
     (layout : Partition) (g i : ℕ) (new : List ℕ) (memory : List Granule) → IsMemory memory → IsTrue (is_header layout g) →
-    16 * g ≤ i → i + length new ≤ 16 * g + 16 → without_headers layout (written i new memory) ≡ without_headers layout memory
+    GRANULE_BYTES * g ≤ i → i + length new ≤ GRANULE_BYTES * g + GRANULE_BYTES →
+    without_headers layout (written i new memory) ≡ without_headers layout memory
 
 -- An access that succeeds under another tag than 0 touches no header.
 abbrev pub HeadersAreSpared : Type 0

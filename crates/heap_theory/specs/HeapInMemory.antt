@@ -7,6 +7,7 @@ use Rattle.heap_theory.specs.Choice.{is_dead}
 use Rattle.heap_theory.specs.Header.{header_at, header_for}
 use Rattle.heap_theory.specs.Links.{IsLinked, next_in, list_of}
 use Rattle.heap_theory.specs.State.{Heap, slot_in, state_at, without_headers, IsSlot}
+use Rattle.machine_theory.specs.declared.sizes.TheConstants.{GRANULE_BYTES}
 
 -- The region of a heap: its headers, and the queue and lists that are linked through them.
 pub record IsKeptIn (heap : Heap) (memory : List Granule) : Type 0 where
@@ -37,9 +38,9 @@ pub record IsKeptIn (heap : Heap) (memory : List Granule) : Type 0 where
 -- The two words of each slot's header are in one memory as in the other.
 pub record HaveSameHeaderWords (layout : Partition) (memory other : List Granule) : Type 0 where
   pub first : (s : ℕ) → s < slot_count layout →
-      word_at other (16 * (slot_of layout s).start) ≡ word_at memory (16 * (slot_of layout s).start)
+      word_at other (GRANULE_BYTES * (slot_of layout s).start) ≡ word_at memory (GRANULE_BYTES * (slot_of layout s).start)
   pub second : (s : ℕ) → s < slot_count layout →
-      word_at other (16 * (slot_of layout s).start + 8) ≡ word_at memory (16 * (slot_of layout s).start + 8)
+      word_at other (GRANULE_BYTES * (slot_of layout s).start + 8) ≡ word_at memory (GRANULE_BYTES * (slot_of layout s).start + 8)
 
 -- Header words stay from one heap to another: whatever memory keeps the first and whatever memory keeps the second, the words of each slot's
 -- header are the same in both. So they are in the regions that `Heap::memory` lends before and after.

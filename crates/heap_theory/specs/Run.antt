@@ -1,5 +1,5 @@
 -- The run of a trace over 1,024 variables: what each event does, and its result.
-use Rattle.std.specs.Prelude.{ℕ, List, [], ◌∷◌, length, replicate, fold, slice_set, slice_index, Option, Some, None, Result, Ok, Err}
+use Rattle.std.specs.Prelude.{ℕ, ◌+◌, List, [], ◌∷◌, length, replicate, fold, slice_set, slice_index, Option, Some, None, Result, Ok, Err}
 use Rattle.std.specs.Result.{result_unwrap_or}
 use Rattle.machine_theory.specs.declared.fault.Fault.{Fault}
 use Rattle.machine_theory.specs.declared.fault.Fault.TheVariants.{Unmapped, Alignment, TagCheck}
@@ -17,6 +17,7 @@ use Rattle.heap_theory.specs.declared.place.PlaceKind.{PlaceKind}
 use Rattle.heap_theory.specs.Calls.{malloc_step, calloc_step, free_step, realloc_step}
 use Rattle.heap_theory.specs.Places.{place_kind}
 use Rattle.heap_theory.specs.State.{Heap, first_heap}
+use Rattle.heap_theory.specs.declared.event.TheConstants.Event.{LAST_VARIABLE}
 
 -- A replay: the heap, and the variables' values.
 pub record Replay : Type 0 where
@@ -114,7 +115,7 @@ answer_of replay (Subg v w u6 u4) = Silent
 
 -- A new heap, and all variables null.
 unfoldable pub first_replay : Partition → ℕ → ℕ → Replay
-first_replay layout seed quarantine = record { heap = first_heap layout seed quarantine; variables = replicate 1024 0 }
+first_replay layout seed quarantine = record { heap = first_heap layout seed quarantine; variables = replicate (LAST_VARIABLE + 1) 0 }
 
 -- The results of events, one after the other.
 unfoldable pub answers : Replay → List Event → List Answer

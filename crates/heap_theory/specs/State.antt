@@ -1,9 +1,10 @@
 -- What a heap holds (this project's own).
-use Rattle.std.specs.Prelude.{ℕ, ◌+◌, ◌*◌, ◌/◌, ◌<◌, Bool, true, false, ◌==◌, if◌then◌else◌, List, [], map, max, replicate, slice_index_or}
+use Rattle.std.specs.Prelude.{ℕ, ◌+◌, ◌-◌, ◌*◌, ◌/◌, ◌<◌, Bool, true, false, ◌==◌, if◌then◌else◌, List, [], map, max, replicate, slice_index_or}
 use Rattle.std.specs.List.{range_with_len, list_any}
 use Rattle.machine_theory.specs.Address.{region_start, with_tag}
 use Rattle.machine_theory.specs.Memory.{Granule, no_granule, new_granule, each_granule}
 use Rattle.class_table.specs.Layout.{Partition, Slot, slots_of, slot_count, slot_of}
+use Rattle.machine_theory.specs.declared.sizes.TheConstants.{GRANULE_BYTES}
 
 -- A slot was never given out; or it was, for a request of `size` bytes under `tag`; or it was freed since. A freed one keeps both, and
 -- its mark is the bytes of all blocks that were freed before it.
@@ -47,7 +48,7 @@ last_tag (Dead size tag mark) = tag
 
 -- the granules that a request of n bytes has as its chunk: the first ones of a payload
 abbrev pub chunk_granules : ℕ → ℕ
-chunk_granules n = max 1 ((n + 15) / 16)
+chunk_granules n = max 1 ((n + (GRANULE_BYTES - 1)) / GRANULE_BYTES)
 
 -- how many granules of the slot's payload are its chunk
 abbrev pub chunk_of : State → ℕ
@@ -61,7 +62,7 @@ payload_start slot = slot.start + 1
 
 -- the place of the payload's first byte
 abbrev pub payload_place : Slot → ℕ
-payload_place slot = region_start + 16 * payload_start slot
+payload_place slot = region_start + GRANULE_BYTES * payload_start slot
 
 -- the address of the payload, under the tag that the slot was last given out with
 abbrev pub pointer_to : Heap → ℕ → ℕ

@@ -28,14 +28,14 @@ impl Event {
     pub const LARGEST_REQUEST: u32 = 2_147_483_647;
 
     /// The most bytes that one load or store touches. It touches at least one.
-    pub const LONGEST_ACCESS: u32 = 64;
+    pub const LONGEST_ACCESS: u32 = machine_theory::LONGEST_ACCESS;
 
     /// The most bytes from a variable's address to an access, in either direction.
     pub const FARTHEST_ACCESS: u32 = 1_048_576;
 
     /// The most granules by which ADDG and SUBG move an address.
-    pub const FARTHEST_MOVE: u32 = 63;
+    pub const FARTHEST_MOVE: u32 = machine_theory::FARTHEST_MOVE;
 
     /// The most tags by which ADDG and SUBG step a tag.
-    pub const LARGEST_TAG_STEP: u32 = 15;
+    pub const LARGEST_TAG_STEP: u32 = machine_theory::LARGEST_TAG_STEP;
 }

@@ -2,6 +2,7 @@
 -- Which accesses are mapped, that this is tested first, and which granule a tag fault names are this project's own.
 use Rattle.machine_theory.specs.declared.fault.Fault.{Fault}
 use Rattle.machine_theory.specs.declared.fault.Fault.TheVariants.{Unmapped, TagCheck}
+use Rattle.machine_theory.specs.declared.sizes.TheConstants.{GRANULE_BYTES}
 use Rattle.std.specs.Prelude.{◌≡◌, ◌≢◌, ℕ, ◌+◌, ◌-◌, ◌*◌, ◌^◌, ◌<◌, ◌≤◌, Bool, not, ◌&&◌, ◌==◌, nat_lt, nat_le, if◌then◌else◌, List, find, length, Option, Some, None, option_map, Result, Ok, Err}
 use Rattle.std.specs.List.{range_with_len}
 use Rattle.machine_theory.specs.Address.{logical_tag, place_of, region_start, byte_of, granule_of, Touches}
@@ -10,7 +11,7 @@ use Rattle.machine_theory.specs.Memory.{Granule, tag_at, bytes_at, written}
 -- whether each byte of the access lies in the region of this many granules, and bits 63 to 60 of the address are 0
 abbrev pub is_mapped : ℕ → ℕ → ℕ → Bool
 is_mapped granules address len =
-    nat_lt address (2 ^ 60) && nat_le region_start (place_of address) && nat_le (place_of address + len) (region_start + 16 * granules)
+    nat_lt address (2 ^ 60) && nat_le region_start (place_of address) && nat_le (place_of address + len) (region_start + GRANULE_BYTES * granules)
 
 -- the granules that a mapped access of one byte or more touches: from the one of its first byte to the one of its last
 abbrev pub touched : ℕ → ℕ → List ℕ
@@ -43,7 +44,7 @@ stored memory address bytes = written (byte_of (place_of address)) bytes memory
 pub record IsMapped (granules address len : ℕ) : Type 0 where
   pub plain : address < 2 ^ 60
   pub from : region_start ≤ place_of address
-  pub to : place_of address + len ≤ region_start + 16 * granules
+  pub to : place_of address + len ≤ region_start + GRANULE_BYTES * granules
 
 -- the granule that a tag fault names is the least that the access touches whose tag is not the pointer's
 pub record IsTagFault (memory : List Granule) (address len g memory_tag pointer_tag : ℕ) : Type 0 where

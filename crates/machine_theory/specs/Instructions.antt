@@ -2,6 +2,7 @@
 -- GCR_EL1.Exclude is 1 for good: a chosen tag is never 0. Unmapped, and its order after Alignment, are this project's own.
 use Rattle.machine_theory.specs.declared.fault.Fault.{Fault}
 use Rattle.machine_theory.specs.declared.fault.Fault.TheVariants.{Unmapped, Alignment}
+use Rattle.machine_theory.specs.declared.sizes.TheConstants.{GRANULE_BYTES}
 use Rattle.std.specs.Prelude.{ℕ, ◌+◌, ◌-◌, ◌*◌, ◌%◌, ◌^◌, ◌==◌, if◌then◌else◌, List, length, replicate, bit_or, Result, Ok, Err, Option, Some, None}
 use Rattle.machine_theory.specs.Address.{logical_tag, place_of, with_tag, aligned, granule_of}
 use Rattle.machine_theory.specs.Tags.{choose_tag}
@@ -34,10 +35,10 @@ after_irg m xm = record m { seed = next_seed m.seed; tag = irg_tag m xm }
 -- ---- ADDG, SUBG Xd, Xn, u6, u4: u6 granules up or down, modulo 2 ^ 64, and the tag stepped u4 allowed ones up by both
 
 unfoldable pub addg : ℕ → ℕ → ℕ → ℕ
-addg xn u6 u4 = with_tag ((xn + 16 * u6) % 2 ^ 64) (choose_tag (logical_tag xn) u4 gcr_exclude)
+addg xn u6 u4 = with_tag ((xn + GRANULE_BYTES * u6) % 2 ^ 64) (choose_tag (logical_tag xn) u4 gcr_exclude)
 
 unfoldable pub subg : ℕ → ℕ → ℕ → ℕ
-subg xn u6 u4 = with_tag ((xn + (2 ^ 64 - 16 * u6)) % 2 ^ 64) (choose_tag (logical_tag xn) u4 gcr_exclude)
+subg xn u6 u4 = with_tag ((xn + (2 ^ 64 - GRANULE_BYTES * u6)) % 2 ^ 64) (choose_tag (logical_tag xn) u4 gcr_exclude)
 
 -- ---- GMI Xd, Xn, Xm: the mask Xm that excludes Xn's tag too
 
@@ -48,14 +49,14 @@ gmi xn xm = bit_or xm (2 ^ logical_tag xn)
 
 unfoldable pub ldg : List Granule → ℕ → ℕ → Result ℕ Fault
 ldg memory xt xn =
-    if is_mapped (length memory) (aligned xn) 16 then Ok (with_tag xt (tag_at memory (granule_of (place_of xn)))) else Err Unmapped
+    if is_mapped (length memory) (aligned xn) GRANULE_BYTES then Ok (with_tag xt (tag_at memory (granule_of (place_of xn)))) else Err Unmapped
 
 -- ---- STG, ST2G, STZG Xt, [Xn]: Xt's tag to granules from Xn on
 
 -- the fault of a store of tags to `count` granules, or None where it succeeds
 unfoldable pub tag_store_fault : List Granule → ℕ → ℕ → Option Fault
 tag_store_fault memory count xn =
-    if xn % 16 == 0 then (if is_mapped (length memory) xn (16 * count) then None else Some Unmapped) else Some Alignment
+    if xn % GRANULE_BYTES == 0 then (if is_mapped (length memory) xn (GRANULE_BYTES * count) then None else Some Unmapped) else Some Alignment
 
 -- the memory that STG leaves where it succeeds: one granule has the tag
 abbrev pub stg : List Granule → ℕ → ℕ → List Granule
@@ -67,4 +68,4 @@ st2g memory xt xn = tagged (granule_of (place_of xn)) 2 (logical_tag xt) memory
 
 -- STZG: as STG, and the granule's bytes are 0
 abbrev pub stzg : List Granule → ℕ → ℕ → List Granule
-stzg memory xt xn = written (16 * granule_of (place_of xn)) (replicate 16 0) (stg memory xt xn)
+stzg memory xt xn = written (GRANULE_BYTES * granule_of (place_of xn)) (replicate GRANULE_BYTES 0) (stg memory xt xn)

@@ -3,6 +3,7 @@
 use Rattle.std.specs.Prelude.{◌≡◌, ℕ, ◌+◌, ◌-◌, ◌*◌, ◌/◌, ◌%◌, ◌<◌, ◌≤◌, Bool, ◌&&◌, nat_lt, nat_le, if◌then◌else◌, List, [], map, length, replicate, slice_index, slice_index_or, All}
 use Rattle.std.specs.Int.{w64, from_le_bytes}
 use Rattle.std.specs.List.{range_with_len}
+use Rattle.machine_theory.specs.declared.sizes.TheConstants.{FEWEST_GRANULES, GRANULE_BYTES, MOST_GRANULES}
 
 -- a granule: its Allocation Tag and its bytes
 pub record Granule : Type 0 where
@@ -11,18 +12,18 @@ pub record Granule : Type 0 where
 
 pub record IsGranule (granule : Granule) : Type 0 where
   pub tag : granule.tag < 16
-  pub sixteen : length granule.bytes ≡ 16
+  pub sixteen : length granule.bytes ≡ GRANULE_BYTES
   pub bytes : All (λ b. b < 256) granule.bytes
 
 -- the memories that the machine may have (their sizes are this project's own)
 pub record IsMemory (memory : List Granule) : Type 0 where
-  pub least : 64 ≤ length memory
-  pub most : length memory ≤ 262144
+  pub least : FEWEST_GRANULES ≤ length memory
+  pub most : length memory ≤ MOST_GRANULES
   pub granules : All IsGranule memory
 
 -- a granule as a new memory has it
 abbrev pub new_granule : Granule
-new_granule = record { tag = 0; bytes = replicate 16 0 }
+new_granule = record { tag = 0; bytes = replicate GRANULE_BYTES 0 }
 
 -- the granule past the end of a memory
 abbrev pub no_granule : Granule
@@ -39,7 +40,7 @@ tag_at memory g = (granule_at memory g).tag
 
 -- byte i of the memory
 abbrev pub byte_at : List Granule → ℕ → ℕ
-byte_at memory i = slice_index (granule_at memory (i / 16)).bytes (i % 16)
+byte_at memory i = slice_index (granule_at memory (i / GRANULE_BYTES)).bytes (i % GRANULE_BYTES)
 
 -- `len` bytes from byte i on
 unfoldable pub bytes_at : List Granule → ℕ → ℕ → List ℕ
@@ -69,7 +70,7 @@ byte_after i new j old = if is_among i (length new) j then slice_index new (j - 
 
 -- the bytes of granule g, once `new` is written from byte i on
 abbrev pub bytes_after : ℕ → List ℕ → ℕ → List ℕ → List ℕ
-bytes_after i new g bytes = map (λ k. byte_after i new (16 * g + k) (slice_index bytes k)) (range_with_len 0 (length bytes))
+bytes_after i new g bytes = map (λ k. byte_after i new (GRANULE_BYTES * g + k) (slice_index bytes k)) (range_with_len 0 (length bytes))
 
 -- the memory in which `new` stands from byte i on, and all else is the same
 unfoldable pub written : ℕ → List ℕ → List Granule → List Granule

@@ -1,8 +1,6 @@
 -- From the parts of an input to its score.
 use Rattle.std.proofs.Common.{◌≡◌, ℕ, List, [], ◌∷◌, Ok, Err, refl, sym, ap, ◌∙◌}
-use Rattle.std.proofs.lemmas.List.Elements.{All-head}
-use Rattle.line_text.specs.Lines.{lines, IsLine}
-use Rattle.line_text.proofs.LawLemmas.{lines_are_lines}
+use Rattle.line_text.specs.Lines.{lines}
 use Rattle.class_table.specs.ClassLine.{table_of_line}
 use Rattle.class_table.specs.declared.fault.TableError.TheVariants.{BadLine}
 use Rattle.profile_count.specs.ProfileText.{profile_of_lines, profile_of}
@@ -13,10 +11,6 @@ use Rattle.mte_engine.specs.Score.{ScoreAnswers, score_of, scored}
 use Rattle.mte_engine.specs.declared.fault.InputFault.TheVariants.{Table}
 use Rattle.mte_engine.specs.declared.fault.AnswerError.{AnswerError}
 use Rattle.mte_engine.specs.declared.fault.AnswerError.TheVariants.{OutOfMemory, Input}
-
--- the first line of a text is one
-pub first_is_line : (text line : List ℕ) (ls : List (List ℕ)) → lines text ≡ line ∷ ls → IsLine line
-first_is_line text line ls parts = All-head IsLine line ls (rw parts at (lines_are_lines text))
 
 pub no_line : (text : List ℕ) → lines text ≡ [] → score_of text ≡ Err (Table BadLine)
 unfolding score_of

@@ -5,10 +5,11 @@ use Rattle.mte_engine.specs.Streams.{SinkState, SourceState}
 use Rattle.mte_engine.specs.declared.fault.ReadError.{ReadError}
 use Rattle.mte_engine.specs.declared.fault.ReadError.TheVariants.{OutOfMemory, TooLong, Failed}
 use Rattle.mte_engine.specs.declared.streams.Failure.{Failure}
+use Rattle.mte_engine.specs.declared.moving.TheConstants.{MOST_INPUT}
 
 -- The most bytes of an input.
 abbrev pub most_input : ℕ
-most_input = 67108864
+most_input = MOST_INPUT
 
 -- How often a source is read at most. Each read but the last takes at least one byte, so one read fewer would do.
 abbrev pub most_reads : ℕ

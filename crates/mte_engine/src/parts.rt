@@ -1,6 +1,6 @@
 //! The parts of inputs, read with the input's line numbers.
 ghost use Rattle.std.specs.Prelude.{◌≡◌, ◌^◌, ◌<◌, length, Ok, Err, IfOk, MatchResult};
-ghost use Rattle.line_text.specs.Lines.{IsLine, lines};
+ghost use Rattle.line_text.specs.Lines.{lines};
 ghost use Rattle.class_table.specs.ClassLine.{table_of_line};
 ghost use Rattle.profile_count.specs.ProfileText.{profile_of};
 ghost use Rattle.potential_check.specs.Leading.{leading_lines, lines_after};
@@ -16,12 +16,10 @@ use profile_count::{Profile, ProfileError};
 use std::alloc::Global;
 
 /// The table that the first line of an input spells. `line` is that line without its newline.
-#[tactic(auto, using(class_table::proofs::LawLemmas::line_alone_is_read))]
 pub fn read_table(line: &[u8]) -> Result<ClassTable, AnswerError>
-    requires { IsLine line.now }
     ensures { GivesPart result (table_part (table_of_line line.now)) }
 {
-    match ClassTable::read_line(line) {
+    match ClassTable::from_line(line) {
         Ok(table) => Ok(table),
         Err(fault) => Err(AnswerError::Input(InputFault::Table(fault))),
     }

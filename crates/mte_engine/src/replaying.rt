@@ -1,5 +1,4 @@
 //! `replay`: the report on a trace, replayed on the tagged heap over a class table.
-ghost use Rattle.line_text.specs.Lines.{IsLine};
 ghost use Rattle.mte_engine.specs.Outcome.{GivesAnswer, IsReady, Runs};
 ghost use Rattle.mte_engine.specs.Replay.{ReplayAnswers};
 ghost use Rattle.tagged_heap.specs.Config.{IsConfig};
@@ -75,7 +74,6 @@ struct LineAndTrace {
     line: Vec<u8>,
     has_ended: bool,
     reader: TraceReader,
-    ghost is_line: { IsLine line.items },
     ghost open: { is_finished reader ≡ false },
 }
 
@@ -124,7 +122,6 @@ fn answer_to_parts(
     mut reader: TraceReader,
 ) -> Result<(Report, Status), AnswerError>
     requires config { IsConfig config }
-    requires line { IsLine line.now }
     requires open { is_finished reader ≡ false }
     ensures { (bytes trace : List ℕ) → IsLineAndTrace bytes line.now trace reader
         → GivesAnswer text_left (ReplayAnswers config bytes) result }

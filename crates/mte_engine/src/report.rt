@@ -1,8 +1,10 @@
 //! The report of a replay, as an engine writes it.
 ghost use Rattle.heap_theory.specs.Report.{totals_text};
 ghost use Rattle.mte_engine.specs.Replay.{report_on};
+ghost use Rattle.mte_engine.specs.declared.report.TheConstants.{BUFFER};
 ghost use Rattle.tagged_heap.specs.Config.{IsConfig};
 ghost use Rattle.mte_engine.specs.Report.{report_from, report_unless};
+ghost use Rattle.trace_reader.specs.TraceLine.{most_events};
 ghost use Rattle.std.specs.Prelude.{◌≡◌, ◌+◌, ◌^◌, ◌≤◌, ◌++◌, drop, length, vec_capacity, vec_len, true, IfOk};
 
 use crate::output::Output;
@@ -25,7 +27,7 @@ pub struct Report {
     written: usize,
     is_whole: bool,
     ghost in_buffer: { written ≤ vec_len buffer },
-    ghost room: { 65536 ≤ vec_capacity buffer },
+    ghost room: { BUFFER ≤ vec_capacity buffer },
     ghost few: { replay.totals.events + length reader.events ≤ 2 ^ 40 },
     ghost ready: { written ≡ vec_len buffer → is_whole ≡ true },
 }
@@ -43,7 +45,7 @@ impl Report {
         text: Vec<u8>,
     ) -> Result<Report, AllocError>
         requires config { IsConfig config }
-        requires few { length reader.events ≤ 1000000 }
+        requires few { length reader.events ≤ most_events }
         ensures { IfOk result (λ report. text_left report ≡ text.items ++ report_on config table.now reader.events) }
     {
         let mut buffer = text;
@@ -85,7 +87,7 @@ impl Output for Report {
 // appends the totals. Returns whether it has appended the totals. The buffer has room for all of this, so the call takes no memory.
 fn fill(replay: &mut Replay, reader: &mut TraceReader, buffer: &mut Vec<u8>) -> bool
     requires few { replay.old.totals.events + length reader.old.events ≤ 2 ^ 40 }
-    requires room { vec_len buffer.old + 65536 ≤ vec_capacity buffer.old }
+    requires room { vec_len buffer.old + BUFFER ≤ vec_capacity buffer.old }
     ensures report { buffer.new.items ++ report_unless result replay.new reader.new.events
         ≡ buffer.old.items ++ report_from replay.old reader.old.events }
     ensures some { vec_len buffer.new ≤ vec_len buffer.old → result ≡ true }
@@ -108,7 +110,7 @@ fn fill(replay: &mut Replay, reader: &mut TraceReader, buffer: &mut Vec<u8>) -> 
 
 // appends the totals, for which there must be room
 fn append_totals(replay: &Replay, buffer: &mut Vec<u8>)
-    requires { vec_len buffer.old + 512 ≤ vec_capacity buffer.old }
+    requires { vec_len buffer.old + TOTALS_BYTES ≤ vec_capacity buffer.old }
     ensures items { buffer.new.items ≡ buffer.old.items ++ totals_text replay.now.totals }
     ensures capacity { vec_capacity buffer.old ≤ vec_capacity buffer.new }
 {

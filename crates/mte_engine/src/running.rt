@@ -1,4 +1,5 @@
 //! `run`: the class table of least waste for a trace, and the replay of the trace on the tagged heap over that table.
+ghost use Rattle.class_table.specs.declared.table.TheConstants.{MOST_CLASSES};
 ghost use Rattle.class_table.specs.Steps.{IsStep};
 ghost use Rattle.mte_engine.specs.Outcome.{GivesAnswer, IsReady, Runs};
 ghost use Rattle.tagged_heap.specs.Config.{IsConfig};
@@ -38,7 +39,7 @@ pub fn run<R: ByteSource, W: ByteSink>(
     sink: &mut W,
 ) -> Result<Status, ToolFault>
     requires some { 1 ≤ limit }
-    requires few { limit ≤ 32 }
+    requires few { limit ≤ MOST_CLASSES }
     requires step { IsStep step }
     requires config { IsConfig config }
     requires ready { IsReady (R.state source.old) (W.state sink.old) }
@@ -60,7 +61,7 @@ struct RunEngine {
     step: u8,
     config: Config,
     ghost some: { 1 ≤ limit },
-    ghost few: { limit ≤ 32 },
+    ghost few: { limit ≤ MOST_CLASSES },
     ghost is_step: { IsStep step },
     ghost is_config: { IsConfig config },
 }
@@ -108,7 +109,7 @@ fn answer_to(
     mut reader: TraceReader,
 ) -> Result<(Report, Status), AnswerError>
     requires some { 1 ≤ limit }
-    requires few { limit ≤ 32 }
+    requires few { limit ≤ MOST_CLASSES }
     requires step { IsStep step }
     requires config { IsConfig config }
     requires open { is_finished reader ≡ false }

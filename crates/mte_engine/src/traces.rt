@@ -2,6 +2,8 @@
 ghost use Rattle.std.specs.Prelude.{◌≡◌, ◌++◌, ◌+◌, ◌^◌, ◌<◌, ◌≤◌, List, ℕ, [], ◌∷◌, length, false, IfOk, OnOk};
 ghost use Rattle.heap_theory.specs.Losses.{requested_sizes};
 ghost use Rattle.profile_count.specs.Requests.{profile_of_sizes};
+ghost use Rattle.trace_reader.specs.TraceLine.{most_events};
+ghost use Rattle.tuner_theory.specs.Waste.{most_counted};
 ghost use Rattle.trace_reader.specs.Reading.{fed, finished, is_finished};
 ghost use Rattle.mte_engine.specs.Traces.{HasEnded, profile_of_events};
 
@@ -30,7 +32,7 @@ pub fn end(reader: &mut TraceReader, lines: u64) -> Result<(), AnswerError>
     requires few { lines < 2 ^ 63 }
     ensures events { OnOk result (reader.new ≡ finished reader.old) }
     ensures ended { HasEnded lines (finished reader.old).state result }
-    ensures few { OnOk result (length reader.new.events ≤ 1000000) }
+    ensures few { OnOk result (length reader.new.events ≤ most_events) }
 {
     match reader.finish() {
         Ok(()) => Ok(()),
@@ -45,7 +47,7 @@ pub fn end(reader: &mut TraceReader, lines: u64) -> Result<(), AnswerError>
 /// Takes all events out of the reader, and counts what they request.
 pub fn count_out(reader: &mut TraceReader, profile: &mut Profile)
     ensures state { reader.new ≡ record { events = []; state = reader.old.state } }
-    ensures counted { (sizes : List ℕ) → length sizes + length reader.old.events ≤ 1000000
+    ensures counted { (sizes : List ℕ) → length sizes + length reader.old.events ≤ most_events
         → profile.old ≡ profile_of_sizes sizes →
         profile.new ≡ profile_of_sizes (sizes ++ requested_sizes reader.old.events) }
 {
@@ -56,7 +58,7 @@ pub fn count_out(reader: &mut TraceReader, profile: &mut Profile)
 
 /// The profile of what these events request. There must be few enough of them for any count.
 pub fn count_all(alloc: Global, events: &VecDeque<Event>) -> Result<Profile, AllocError>
-    requires { length events.now.items ≤ 1000000 }
+    requires { length events.now.items ≤ most_events }
     ensures { IfOk result (λ profile. profile ≡ profile_of_events events.now.items) }
 {
     let mut profile = Profile::new(alloc)?;
@@ -69,7 +71,7 @@ pub fn count_all(alloc: Global, events: &VecDeque<Event>) -> Result<Profile, All
 // Counts what an event requests.
 #[tactic(auto, using(profile_count::proofs::LawLemmas::one_more_is_counted, profile_count::proofs::LawLemmas::counts_are_few))]
 fn count(profile: &mut Profile, event: &Event)
-    ensures { (sizes : List ℕ) → length sizes < 1000000000 → profile.old ≡ profile_of_sizes sizes →
+    ensures { (sizes : List ℕ) → length sizes < most_counted → profile.old ≡ profile_of_sizes sizes →
         profile.new ≡ profile_of_sizes (sizes ++ requested_sizes (event.now ∷ [])) }
 {
     if let Some(n) = request_size(event) {

@@ -46,7 +46,7 @@ pub fn read_all<R: ByteSource, I: Input>(
 
 // room for a piece of the input
 fn new_piece(alloc: Global) -> Result<Vec<u8>, AllocError>
-    ensures { IfOk result (λ piece. vec_len piece ≡ 65536) }
+    ensures { IfOk result (λ piece. vec_len piece ≡ PIECE) }
 {
     vec![in alloc; 0u8; PIECE]
 }

@@ -1,4 +1,5 @@
 //! `tune`: the class table of least waste for a profile, with its certificate.
+ghost use Rattle.class_table.specs.declared.table.TheConstants.{MOST_CLASSES};
 ghost use Rattle.std.specs.Prelude.{◌≡◌, ◌≤◌, Err, IfOk};
 ghost use Rattle.class_table.specs.Steps.{IsStep};
 ghost use Rattle.mte_engine.specs.Outcome.{GivesAnswer, IsReady, Runs};
@@ -28,7 +29,7 @@ pub fn tune<R: ByteSource, W: ByteSink>(
     sink: &mut W,
 ) -> Result<Status, ToolFault>
     requires some { 1 ≤ limit }
-    requires few { limit ≤ 32 }
+    requires few { limit ≤ MOST_CLASSES }
     requires step { IsStep step }
     requires ready { IsReady (R.state source.old) (W.state sink.old) }
     ensures { Runs (TuneAnswers limit step) (R.state source.old) (R.state source.new) W.state sink.old sink.new result }
@@ -42,7 +43,7 @@ struct TuneEngine {
     limit: u8,
     step: u8,
     ghost some: { 1 ≤ limit },
-    ghost few: { limit ≤ 32 },
+    ghost few: { limit ≤ MOST_CLASSES },
     ghost is_step: { IsStep step },
 }
 
@@ -71,7 +72,7 @@ fn tune_text(
     text: &[u8],
 ) -> Result<(Vec<u8>, Status), AnswerError>
     requires some { 1 ≤ limit }
-    requires few { limit ≤ 32 }
+    requires few { limit ≤ MOST_CLASSES }
     requires step { IsStep step }
     ensures { GivesAnswer (λ written. written.items) (TuneAnswers limit step text.now) result }
 {

@@ -1,10 +1,7 @@
 -- Reading the head of a sheet, one line after the other.
 use Rattle.std.proofs.Common.{◌≡◌, ℕ, List, Option, Some, None, Result, Ok, Err, Bor, refl, MatchOption}
-use Rattle.std.specs.Prelude.{All}
 use Rattle.std.specs.Iterator.{YieldsFirstBy}
 use Rattle.std.specs.Option.{ok_or}
-use Rattle.std.proofs.lemmas.List.Elements.{All-head}
-use Rattle.line_text.specs.Lines.{IsLine}
 use Rattle.potential_check.specs.SheetText.{Gives, head_of_lines, limit_in, line_at, step_at, table_in, waste_in, waste_number}
 use Rattle.potential_check.specs.declared.fault.SheetError.{SheetError}
 use Rattle.potential_check.specs.declared.fault.SheetError.TheVariants.{Line}
@@ -18,12 +15,6 @@ Gave old line new = YieldsFirstBy {S = List (List ℕ)} {A = Bor (List ℕ)} {B 
 -- and this is what was read off it
 abbrev pub IsRead : {A : Type 0} → (List ℕ → Option A) → Option (Bor (List ℕ)) → Option A → Type 0
 IsRead reading line read = MatchOption line (read ≡ None) (λ x. read ≡ reading x.now)
-
-pub given_is_line : (old new : List (List ℕ)) (line : Option (Bor (List ℕ))) → All IsLine old → Gave old line new → (x : Bor (List ℕ)) → line ≡ Some x → IsLine x.now
-given_is_line old new None all gave x e = absurd cc
-given_is_line old new (Some y) all gave x e =
-    let same : y ≡ x = cc in
-    rw (← same) (All-head IsLine y.now new (rw gave at all))
 
 pub line_at-some : {A : Type 0} (number : ℕ) (reading : List ℕ → Option A) (old new : List (List ℕ)) (line : Option (Bor (List ℕ))) (read : Option A) (x : A)
     → Gave old line new → IsRead reading line read → read ≡ Some x → line_at number reading old ≡ Ok (x, new)

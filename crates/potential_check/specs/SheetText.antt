@@ -14,6 +14,8 @@ use Rattle.potential_check.specs.declared.fault.SheetError.{SheetError}
 use Rattle.potential_check.specs.declared.fault.SheetError.TheVariants.{OutOfMemory, Line}
 use Rattle.potential_check.specs.declared.reading.Head.{Head}
 use Rattle.tuner_theory.specs.Sheets.{Sheet}
+use Rattle.class_table.specs.declared.sizes.TheConstants.{MOST_NEEDS}
+use Rattle.class_table.specs.declared.table.TheConstants.{MOST_CLASSES}
 
 -- ---- the spelling
 
@@ -36,15 +38,15 @@ sheet_text s = text_of (sheet_lines s)
 -- ---- the limits of the format
 
 abbrev pub IsRow : List ℕ → Type 0
-IsRow numbers = (length numbers ≤ 1023) × All (λ n. n < 2 ^ 64) numbers
+IsRow numbers = (length numbers ≤ MOST_NEEDS) × All (λ n. n < 2 ^ 64) numbers
 
 -- What a sheet keeps to, for its text to be read.
 pub record IsWithinLimits (s : Sheet) : Type 0 where
   pub table : IsLegalTable 1 s.table
-  pub limit : (1 ≤ s.limit) × (s.limit ≤ 32)
+  pub limit : (1 ≤ s.limit) × (s.limit ≤ MOST_CLASSES)
   pub step : IsStep s.step
   pub waste : s.waste < 2 ^ 64
-  pub few : length s.rows ≤ 32
+  pub few : length s.rows ≤ MOST_CLASSES
   pub rows : All IsRow s.rows
 
 -- The text spells this sheet, its last line with its newline or without.
@@ -91,14 +93,14 @@ abbrev pub fits : ℕ → Bool
 fits n = nat_lt n (2 ^ 64)
 
 abbrev pub is_limit : ℕ → Bool
-is_limit k = nat_le 1 k && nat_le k 32
+is_limit k = nat_le 1 k && nat_le k MOST_CLASSES
 
 -- A step of 1 is not written.
 abbrev pub is_written_step : ℕ → Bool
 is_written_step step = step == 2 || step == 4 || step == 8
 
 abbrev pub is_row : List ℕ → Bool
-is_row numbers = nat_le (length numbers) 1023 && list_all fits numbers
+is_row numbers = nat_le (length numbers) MOST_NEEDS && list_all fits numbers
 
 abbrev pub table_in : List ℕ → Option (List ℕ)
 table_in line = result_ok (table_of_line line)
@@ -166,7 +168,7 @@ with_rows head rows = record { table = head.table; limit = head.limit; step = he
 unfoldable pub sheet_of_lines : List (List ℕ) → Result Sheet ℕ
 sheet_of_lines ls = do
   (head, ls) ← head_of_lines ls
-  rows ← rows_from (suc (waste_number head.step)) 32 ls
+  rows ← rows_from (suc (waste_number head.step)) MOST_CLASSES ls
   Ok (with_rows head rows)
 
 -- The sheet that a text spells, or the number of its first faulty line.

@@ -1,7 +1,7 @@
-ghost use Rattle.std.specs.Prelude.{◌≡◌, ◌≤◌, [], All, length, drop, IfNone, IfOk, IfSome};
+ghost use Rattle.std.specs.Prelude.{◌≡◌, ◌≤◌, [], length, drop, IfNone, IfOk, IfSome};
 ghost use Rattle.std.specs.List.{take_while};
 ghost use Rattle.std.specs.Option.{option_map};
-ghost use Rattle.line_text.specs.Lines.{IsLine, lines};
+ghost use Rattle.line_text.specs.Lines.{lines};
 ghost use Rattle.potential_check.specs.Leading.{GivesLeading, is_row_line};
 ghost use Rattle.potential_check.specs.Sheets.{sheet_of};
 ghost use Rattle.potential_check.specs.SheetText.{Gives, IsNextNamed, IsWithinLimits, head_of_lines, is_named, rows_from, sheet_in, step_at, waste_number};
@@ -34,7 +34,6 @@ pub fn read_sheet(alloc: Global, text: &[u8]) -> Result<Sheet, SheetError>
 
 /// The sheet in front of a text, and the text after it. Its lines are the first three, or four where the third begins with `step`, and all
 /// directly after them whose first word is `row`. Errors are those of `read_sheet` over these lines.
-#[tactic(auto, using(line_text::proofs::LawLemmas::lines_are_lines))]
 pub fn read_leading_sheet(alloc: Global, text: &[u8]) -> Result<LeadingSheet<'_>, SheetError>
     ensures { GivesLeading (lines text.now) result }
 {
@@ -66,7 +65,6 @@ struct Head {
 
 // the head that the next lines spell, from the first line on
 fn head_in(lines: &mut Lines<'_>) -> Result<Head, SheetError>
-    requires { All IsLine lines.old }
     ensures { Gives (λ head. (head, lines.new)) result (head_of_lines lines.old) }
 {
     let table = lines.next().and_then(table_in).ok_or(SheetError::Line(1))?;
@@ -106,9 +104,9 @@ fn waste_number(step: u8) -> u64
 // The rows of the next lines, as long as their first word is `row`. The first of these lines has the number `first`.
 fn rows_in(alloc: Global, lines: &mut Lines<'_>, first: u64) -> Result<Rows, SheetError>
     requires { first ≤ 5 }
-    ensures rows { Gives (λ rows. rows) result (rows_from first 32 (take_while is_row_line lines.old)) }
+    ensures rows { Gives (λ rows. rows) result (rows_from first MOST_ROWS (take_while is_row_line lines.old)) }
     ensures size { IfOk result
-        (λ rows. (length rows ≡ length (take_while is_row_line lines.old)) × (length rows ≤ 32)) }
+        (λ rows. (length rows ≡ length (take_while is_row_line lines.old)) × (length rows ≤ MOST_ROWS)) }
     ensures after { IfOk result (λ rows. lines.new ≡ drop (length rows) lines.old) }
 {
     let mut rows = Vec::new(alloc);

@@ -1,10 +1,10 @@
 //! What each line of a sheet spells.
 ghost use Rattle.std.specs.Prelude.{◌≡◌, IfOk};
 ghost use Rattle.std.specs.Option.{option_map};
-ghost use Rattle.line_text.specs.Lines.{IsLine, words};
+ghost use Rattle.line_text.specs.Lines.{words};
 ghost use Rattle.potential_check.specs.SheetText.{fits, limit_in, number_of_words, row_of_words, step_of_words, table_in, waste_in, words_after};
 
-use class_table::{ClassTable, LARGEST_CLASS, MOST_CLASSES, SMALLEST_CLASS};
+use class_table::{ClassTable, MOST_CLASSES, MOST_NEEDS};
 use line_text::{Number, Words, number_in, words_in};
 use std::alloc::{AllocError, Global};
 
@@ -19,16 +19,11 @@ pub(crate) const ROW: &[u8] = b"row";
 // no table has more classes than this
 const MOST_LIMIT: u64 = MOST_CLASSES as u64;
 
-// the most numbers of a row: there are as many classes that a need can be
-const MOST_NUMBERS: usize = (LARGEST_CLASS - SMALLEST_CLASS + 1) as usize;
-
 // the table that a line spells
-#[tactic(auto, using(class_table::proofs::LawLemmas::line_alone_is_read))]
 pub(crate) fn table_in(line: &[u8]) -> Option<ClassTable>
-    requires { IsLine line.now }
     ensures { result ≡ table_in line.now }
 {
-    ClassTable::read_line(line).ok()
+    ClassTable::from_line(line).ok()
 }
 
 pub(crate) fn limit_in(line: &[u8]) -> Option<u8>
@@ -67,7 +62,7 @@ pub(crate) fn row_in(alloc: Global, mut words: Words<'_>) -> Result<Option<Vec<u
         let Number::Value(number) = read else {
             return Ok(None);
         };
-        if row.len() == MOST_NUMBERS {
+        if row.len() == MOST_NEEDS {
             return Ok(None);
         }
         row.push(number)?;

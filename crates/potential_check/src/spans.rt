@@ -4,7 +4,9 @@ ghost use Rattle.potential_check.specs.Spanned.{IsSpanned, last_need};
 ghost use Rattle.tuner_theory.specs.Spans.{bytes_up_to, counted_up_to, need_at, places, rounded_need, span_waste};
 ghost use Rattle.class_table.specs.Steps.{IsStep, round_up};
 
-use class_table::{GRANULE_BYTES, LARGEST_COUNTED, need, round_up};
+use class_table::{
+    GRANULE_BYTES, LARGEST_CLASS, LARGEST_COUNTED, MOST_NEEDS, SMALLEST_CLASS, need, round_up,
+};
 use profile_count::Profile;
 use std::alloc::{AllocError, Global};
 use std::marker::Model;
@@ -77,7 +79,7 @@ impl<'a> Spans<'a> {
     #[tactic(auto, using(tuner_theory::proofs::LawLemmas::few_places))]
     pub fn places(&self) -> usize
         ensures places { result ≡ places self.now.counts self.now.step }
-        ensures few { result ≤ 1023 }
+        ensures few { result ≤ MOST_NEEDS }
         ensures valid { IsSpanned self.now }
     {
         self.needs.len()
@@ -88,7 +90,7 @@ impl<'a> Spans<'a> {
         requires some { 0 < place }
         requires within { place ≤ places self.now.counts self.now.step }
         ensures need { result ≡ need_at self.now.counts self.now.step place }
-        ensures in_range { (2 ≤ result) × (result ≤ 1024) }
+        ensures in_range { (SMALLEST_CLASS ≤ result) × (result ≤ LARGEST_CLASS) }
     {
         self.needs[place - 1]
     }

@@ -5,9 +5,9 @@ ghost use Rattle.line_text.specs.Numbers.{number_of};
 ghost use Rattle.profile_count.specs.ProfileText.{IsNext, entry_of, is_count, large_entry, numbers_entry, size_entry};
 
 use crate::fault::ProfileFault;
-use crate::profile::MOST_COUNTED;
 use class_table::LARGEST_COUNTED;
 use line_text::{Lines, capped_number_in, words_in};
+use tuner_theory::MOST_COUNTED;
 
 // the first word of the line of large requests
 pub(crate) const LARGE: &[u8] = b"large";

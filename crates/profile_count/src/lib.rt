@@ -11,4 +11,5 @@ mod serving;
 mod writing;
 
 pub use fault::{CountFull, ProfileError, ProfileFault};
-pub use profile::{MOST_COUNTED, Profile};
+pub use profile::Profile;
+pub use tuner_theory::MOST_COUNTED;

@@ -8,9 +8,7 @@ use crate::serving::{first_unserved, table_losses};
 use class_table::{ClassTable, LARGEST_COUNTED};
 use std::alloc::{AllocError, Global};
 use std::marker::Model;
-
-/// The greatest count.
-pub const MOST_COUNTED: u32 = 1_000_000_000;
+use tuner_theory::MOST_COUNTED;
 
 // a count for each size up to the largest that is counted
 const SIZES: usize = LARGEST_COUNTED as usize + 1;

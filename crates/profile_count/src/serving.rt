@@ -4,7 +4,8 @@ ghost use Rattle.class_table.specs.Tables.{class_for};
 ghost use Rattle.profile_count.specs.Counts.{unserved_of};
 ghost use Rattle.tuner_theory.specs.Waste.{AreCounts, sum_below, waste_of};
 
-use class_table::{ClassTable, GRANULE_BYTES};
+use class_table::{ClassTable, GRANULE_BYTES, LARGEST_CLASS, LARGEST_COUNTED, SMALLEST_CLASS};
+use tuner_theory::MOST_COUNTED;
 
 // the least counted size that has no class
 pub(crate) fn first_unserved(counts: &[u32], table: &ClassTable) -> Option<u16>
@@ -41,11 +42,11 @@ pub(crate) fn table_losses(counts: &[u32], table: &ClassTable) -> u64
 fn losses_below(end: u32, from: u32, counts: &[u32]) -> u64
     requires counts { AreCounts counts.now }
     requires some { from < end }
-    requires end { end ≤ 16369 }
+    requires end { end ≤ LARGEST_COUNTED + 1 }
     ensures sum { (f : ℕ → ℕ)
         → ((n : ℕ) → from ≤ n → n < end → f n ≡ slice_index counts.now n * (end - 1 - n))
         → sum_below f end ≡ sum_below f from + result }
-    ensures small { result ≤ 16368000000000 * (end - from) }
+    ensures small { result ≤ LARGEST_COUNTED * MOST_COUNTED * (end - from) }
 {
     let mut total = 0;
     for n in from..end {
@@ -71,8 +72,8 @@ fn served_below(table: &ClassTable) -> u32
 
 // the first size that a class does not serve
 fn served_end(class: u16) -> u32
-    requires { (2 ≤ class) × (class ≤ 1024) }
-    ensures { result ≡ 16 * class - 15 }
+    requires { (SMALLEST_CLASS ≤ class) × (class ≤ LARGEST_CLASS) }
+    ensures { result ≡ GRANULE_BYTES * class - (GRANULE_BYTES - 1) }
 {
     GRANULE_BYTES * u32::from(class) - GRANULE_BYTES + 1
 }

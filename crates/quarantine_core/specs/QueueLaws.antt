@@ -5,6 +5,7 @@ use Rattle.class_table.specs.Layout.{Partition, IsPartition, slot_count, slot_of
 use Rattle.heap_theory.specs.Header.{Header, FitsWords, header_at, with_header}
 use Rattle.heap_theory.specs.Links.{next_in}
 use Rattle.quarantine_core.specs.Queue.{Queue, AreQueued}
+use Rattle.machine_theory.specs.declared.sizes.TheConstants.{GRANULE_BYTES}
 
 -- Links that are not set show the empty queue, over any memory.
 abbrev pub NothingIsQueued : Type 0
@@ -28,7 +29,8 @@ TagsKeepQueue =
 abbrev pub OtherBytesKeepQueue : Type 0
 OtherBytesKeepQueue =
     (value : Queue) (layout : Partition) (memory : List Granule) (i : ℕ) (new queue : List ℕ) → AreQueued value layout memory queue →
-    ((s : ℕ) → Contains queue s → (i + length new ≤ 16 * (slot_of layout s).start) ⊎ (16 * (slot_of layout s).start + 16 ≤ i)) →
+    ((s : ℕ) → Contains queue s
+    → (i + length new ≤ GRANULE_BYTES * (slot_of layout s).start) ⊎ (GRANULE_BYTES * (slot_of layout s).start + GRANULE_BYTES ≤ i)) →
     AreQueued value layout (written i new memory) queue
 
 -- of the headers of slots that are not in it,

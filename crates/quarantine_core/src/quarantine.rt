@@ -12,7 +12,7 @@ ghost use Rattle.quarantine_core.specs.Queue.{
 ghost use Rattle.std.specs.Prelude.{◌≡◌, ◌≢◌, ◌↔◌, ◌<◌, [], ◌∷◌, ◌++◌, length, suc, Contains, IfNone, IfSome, IsSome, List, ℕ};
 
 use chunk_header::{set_link, unlink};
-use class_table::{GRANULE_BYTES, Layout};
+use class_table::{FEWEST_GRANULES, GRANULE_BYTES, Layout, MOST_SLOTS};
 use granule_memory::Memory;
 use std::marker::Model;
 
@@ -79,8 +79,8 @@ impl Quarantine {
             → IsLinked (next_in layout.now memory.new) front list }
         ensures region { length memory.new ≡ layout.now.granules }
     {
-        prove!(layout.granules() >= 64);
-        prove!(layout.slots() <= 131_072);
+        prove!(layout.granules() >= FEWEST_GRANULES);
+        prove!(layout.slots() <= MOST_SLOTS);
         if self.back == 0 {
             self.front = slot + 1;
         } else {

@@ -5,6 +5,7 @@ use Rattle.replay_core.specs.Bounds.{AreBounded}
 use Rattle.replay_core.specs.declared.replay.Replay.TheInside.{Inside}
 use Rattle.replay_core.specs.TheoryValues.{over, totals_in}
 use Rattle.replay_core.specs.ReplayState.{Stored, IsStored}
+use Rattle.replay_core.specs.declared.replay.TheConstants.{VARIABLES}
 
 abbrev pub stored : Inside → Stored
 stored replay = record { replay = over replay.heap.state replay.variables.items; totals = totals_in replay.totals }
@@ -13,6 +14,6 @@ stored replay = record { replay = over replay.heap.state replay.variables.items;
 pub record IsKept (replay : Inside) : Type 0 where
   pub reached : IsStored (stored replay)
   pub bounded : AreBounded (totals_in replay.totals)
-  pub long : length replay.variables.items ≡ 1024
+  pub long : length replay.variables.items ≡ VARIABLES
   pub legal : IsLegalTable 1 replay.heap.state.layout.classes
   pub few : replay.heap.frees ≤ replay.totals.events

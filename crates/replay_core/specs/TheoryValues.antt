@@ -8,6 +8,8 @@ use Rattle.heap_theory.specs.Totals.{Totals}
 use Rattle.replay_core.specs.declared.answer.Answer.{Answer as TheAnswer}
 use Rattle.replay_core.specs.declared.answer.Answer.TheVariants.{Silent as ItIsSilent, Loaded as ItLoaded, NotMapped as ItIsNotMapped, TagFault as ItIsATagFault, NoPointer as ItHasNoPointer, NotFreed as ItIsNotFreed}
 use Rattle.replay_core.specs.declared.totals.Totals.{Totals as TheTotals}
+use Rattle.replay_core.specs.declared.access.TheConstants.{MOST_BYTES}
+use Rattle.replay_core.specs.declared.replay.TheConstants.{VARIABLES}
 
 -- A result, with the buffer that holds the bytes of a load.
 abbrev pub shown : List ℕ → TheAnswer → Answer
@@ -41,13 +43,13 @@ AreNullOrTagged variables = (v : ℕ) → (slice_index variables v ≡ 0) ⊎ (l
 
 -- The 1,024 variables of a trace.
 pub record AreVariables (variables : List ℕ) : Type 0 where
-  pub long : length variables ≡ 1024
+  pub long : length variables ≡ VARIABLES
   pub tagged : AreNullOrTagged variables
 
 -- The buffer, of 64 bytes, has as many as were loaded.
 abbrev pub IsFilled : TheAnswer → Type 0
 IsFilled ItIsSilent = ⊤
-IsFilled (ItLoaded len) = len ≤ 64
+IsFilled (ItLoaded len) = len ≤ MOST_BYTES
 IsFilled ItIsNotMapped = ⊤
 IsFilled (ItIsATagFault granule memory_tag pointer_tag kind) = ⊤
 IsFilled (ItHasNoPointer cause) = ⊤

@@ -23,7 +23,7 @@ pub(crate) fn moved_by(address: u64, off: i32) -> u64
 
 // Loads `len` bytes into the first bytes of `bytes`. The address must have a tag, or the access must not be mapped.
 pub(crate) fn load(heap: &Heap, address: u64, len: u8, bytes: &mut [u8; MOST_BYTES]) -> Answer
-    requires len { (1 ≤ len) × (len ≤ 64) }
+    requires len { (1 ≤ len) × (len ≤ MOST_BYTES) }
     requires tagged { (logical_tag address ≢ 0) ⊎ IsFalse (is_mapped (length heap.now.state.memory) address len) }
     ensures answer { shown bytes.new result
         ≡ access_answer heap.now.state (Loaded (loaded heap.now.state.memory address len))
@@ -39,7 +39,7 @@ pub(crate) fn load(heap: &Heap, address: u64, len: u8, bytes: &mut [u8; MOST_BYT
 // Stores `len` bytes of this value. The address must have a tag, or the access must not be mapped.
 #[tactic(auto, unfolding(heap_theory::specs::Run::store_step))]
 pub(crate) fn store(heap: &mut Heap, address: u64, len: u8, byte: u8) -> Answer
-    requires len { (1 ≤ len) × (len ≤ 64) }
+    requires len { (1 ≤ len) × (len ≤ MOST_BYTES) }
     requires tagged { (logical_tag address ≢ 0) ⊎ IsFalse (is_mapped (length heap.old.state.memory) address len) }
     ensures answer { (bytes : List ℕ)
         → shown bytes result ≡ access_answer heap.old.state Silent (access_fault heap.old.state.memory address len) }

@@ -44,7 +44,7 @@ pub(crate) fn write_line(
 // the line of a load that succeeds
 fn write_data(line: &mut ArrayVec<u8, LINE_BYTES>, number: u64, bytes: &[u8])
     requires empty { line.old.items ≡ [] }
-    requires few { length bytes.now ≤ 64 }
+    requires few { length bytes.now ≤ MOST_BYTES }
     ensures { line.new.items ≡ report_line number (Loaded bytes.now) }
 {
     append_number(line, number);

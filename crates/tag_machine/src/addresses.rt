@@ -2,14 +2,10 @@
 ghost use Rattle.machine_theory.specs.Address.{aligned, byte_of, granule_of, logical_tag, place_of, region_start, with_tag};
 ghost use Rattle.std.specs.Prelude.{◌≡◌, ◌+◌, ◌-◌, ◌*◌, ◌<◌, ◌≤◌};
 
-/// The place where the region, and with it granule 0, begins.
-pub const REGION_START: u64 = 1 << 36;
+use machine_theory::{GRANULE_BYTES, MOST_GRANULES, REGION_START};
 
 /// The lowest bit of the tag in an address.
 const TAG_SHIFT: u32 = 56;
-
-/// The bytes of a granule.
-pub const GRANULE_BYTES: u64 = 16;
 
 /// The Logical Address Tag of an address, 0 to 15: its bits 59 to 56.
 pub fn logical_tag(address: u64) -> u8
@@ -52,7 +48,7 @@ pub(crate) fn byte_of(address: u64) -> usize
 /// The number of the granule that holds the address's place.
 pub(crate) fn granule_of(address: u64) -> u32
     requires from { region_start ≤ place_of address }
-    requires to { place_of address < region_start + 16 * 262144 }
+    requires to { place_of address < region_start + GRANULE_BYTES * MOST_GRANULES }
     ensures { result ≡ granule_of (place_of address) }
 {
     ((place_of(address) - REGION_START) / GRANULE_BYTES) as u32

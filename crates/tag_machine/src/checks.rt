@@ -4,13 +4,13 @@ ghost use Rattle.machine_theory.specs.Instructions.{tag_store_fault};
 ghost use Rattle.machine_theory.specs.Memory.{IsMemory};
 ghost use Rattle.std.specs.Prelude.{◌≡◌, ◌↔◌, ◌*◌, ◌%◌, ◌≤◌, IsTrue, OnOk, length};
 
-use crate::addresses::{GRANULE_BYTES, REGION_START, granule_of, logical_tag, place_of};
+use crate::addresses::{granule_of, logical_tag, place_of};
 use granule_memory::Memory;
-use machine_theory::Fault;
+use machine_theory::{Fault, GRANULE_BYTES, LONGEST_ACCESS, REGION_START};
 
 /// Whether all `len` bytes, 1 to 64, lie in the region, and bits 63 to 60 of the address are 0.
 pub(crate) fn is_mapped(memory: &Memory, address: u64, len: u64) -> bool
-    requires { (1 ≤ len) × (len ≤ 64) }
+    requires { (1 ≤ len) × (len ≤ LONGEST_ACCESS) }
     ensures test { result ≡ is_mapped (length memory.now) address len }
     ensures mapped { IsTrue result ↔ IsMapped (length memory.now) address len }
     ensures memory { IsMemory memory.now }
@@ -23,7 +23,7 @@ pub(crate) fn is_mapped(memory: &Memory, address: u64, len: u64) -> bool
 /// `Ok` if a checked access of `len` bytes, 1 to 64, succeeds. Its fault is `Unmapped` if it is not mapped, otherwise `TagCheck` at the
 /// lowest granule that it touches whose tag differs from the address's.
 pub(crate) fn check_access(memory: &Memory, address: u64, len: u64) -> Result<(), Fault>
-    requires { (1 ≤ len) × (len ≤ 64) }
+    requires { (1 ≤ len) × (len ≤ LONGEST_ACCESS) }
     ensures fault { result ≡ ok_unless (access_fault memory.now address len) }
     ensures ok { OnOk result (IsMapped (length memory.now) address len) }
     ensures memory { IsMemory memory.now }
@@ -51,8 +51,8 @@ pub(crate) fn check_access(memory: &Memory, address: u64, len: u64) -> Result<()
 pub(crate) fn check_tag_store(memory: &Memory, count: u64, address: u64) -> Result<(), Fault>
     requires { (1 ≤ count) × (count ≤ 2) }
     ensures fault { result ≡ ok_unless (tag_store_fault memory.now count address) }
-    ensures ok { OnOk result (IsMapped (length memory.now) address (16 * count)) }
-    ensures aligned { OnOk result (address % 16 ≡ 0) }
+    ensures ok { OnOk result (IsMapped (length memory.now) address (GRANULE_BYTES * count)) }
+    ensures aligned { OnOk result (address % GRANULE_BYTES ≡ 0) }
     ensures memory { OnOk result (IsMemory memory.now) }
 {
     if address % GRANULE_BYTES != 0 {

@@ -9,7 +9,7 @@ mod draws;
 mod machine;
 mod set_bits;
 
-pub use addresses::{GRANULE_BYTES, REGION_START, logical_tag, place_of, with_tag};
+pub use addresses::{logical_tag, place_of, with_tag};
 pub use machine::Machine;
-pub use machine_theory::Fault;
 pub use machine_theory::laws::tags::law_choose_tag;
+pub use machine_theory::{Fault, GRANULE_BYTES, REGION_START};

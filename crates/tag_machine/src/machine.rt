@@ -4,11 +4,11 @@ ghost use Rattle.machine_theory.specs.Machine.{IsRegister};
 ghost use Rattle.std.specs.Borrow.{sem};
 ghost use Rattle.std.specs.Prelude.{◌≡◌, ◌≢◌, ◌↔◌, ◌≤◌, IsTrue, OnErr, OnOk, length};
 
-use crate::addresses::{GRANULE_BYTES, aligned, byte_of, granule_of, logical_tag, with_tag};
+use crate::addresses::{aligned, byte_of, granule_of, logical_tag, with_tag};
 use crate::checks::{check_access, check_tag_store, is_mapped};
 use crate::draws::{choose_tag, next_offset, next_seed};
 use granule_memory::Memory;
-use machine_theory::Fault;
+use machine_theory::{FARTHEST_MOVE, Fault, GRANULE_BYTES, LARGEST_TAG_STEP, LONGEST_ACCESS};
 use std::marker::Model;
 
 /// The tags that no instruction chooses, as `GCR_EL1.Exclude`: bit 0, for tag 0.
@@ -68,8 +68,8 @@ impl Machine {
     /// ADDG: Xn, `u6` granules (0 to 63) further up, modulo 2^64. The offset `u4` (0 to 15) chooses its tag, counted upwards from Xn's.
     #[tactic(auto, unfolding(machine_theory::specs::Instructions::addg))]
     pub fn addg(&self, xn: u64, u6: u8, u4: u8) -> u64
-        requires granules { u6 ≤ 63 }
-        requires steps { u4 ≤ 15 }
+        requires granules { u6 ≤ FARTHEST_MOVE }
+        requires steps { u4 ≤ LARGEST_TAG_STEP }
         ensures { result ≡ addg xn u6 u4 }
     {
         let up = xn.wrapping_add(GRANULE_BYTES * u64::from(u6));
@@ -79,8 +79,8 @@ impl Machine {
     /// SUBG: Xn, `u6` granules (0 to 63) further down, modulo 2^64. The offset `u4` (0 to 15) chooses its tag as for ADDG: upwards.
     #[tactic(auto, unfolding(machine_theory::specs::Instructions::subg))]
     pub fn subg(&self, xn: u64, u6: u8, u4: u8) -> u64
-        requires granules { u6 ≤ 63 }
-        requires steps { u4 ≤ 15 }
+        requires granules { u6 ≤ FARTHEST_MOVE }
+        requires steps { u4 ≤ LARGEST_TAG_STEP }
         ensures { result ≡ subg xn u6 u4 }
     {
         let down = xn.wrapping_sub(GRANULE_BYTES * u64::from(u6));
@@ -149,7 +149,7 @@ impl Machine {
     /// Errors, after which `buf` is unchanged: `Unmapped` if a byte lies outside the region or bits 63 to 60 of the address are not 0;
     /// otherwise `TagCheck` with the lowest granule that the access touches and whose tag differs from the address's.
     pub fn load(&self, address: u64, buf: &mut [u8]) -> Result<(), Fault>
-        requires { (1 ≤ length buf.old) × (length buf.old ≤ 64) }
+        requires { (1 ≤ length buf.old) × (length buf.old ≤ LONGEST_ACCESS) }
         ensures answer { result ≡ ok_unless (access_fault self.now.memory address (length buf.old)) }
         ensures ok { OnOk result (buf.new ≡ loaded self.now.memory address (length buf.old)) }
         ensures err { OnErr result (buf.new ≡ buf.old) }
@@ -161,7 +161,7 @@ impl Machine {
 
     /// Writes these bytes, 1 to 64 of them, from `address` on. Its errors are those of `load`.
     pub fn store(&mut self, address: u64, bytes: &[u8]) -> Result<(), Fault>
-        requires { (1 ≤ length bytes.now) × (length bytes.now ≤ 64) }
+        requires { (1 ≤ length bytes.now) × (length bytes.now ≤ LONGEST_ACCESS) }
         ensures answer { result ≡ ok_unless (access_fault self.old.memory address (length bytes.now)) }
         ensures ok { OnOk result (self.new ≡ record self.old { memory = stored self.old.memory address bytes.now }) }
         ensures err { OnErr result (self.new ≡ self.old) }
@@ -173,7 +173,7 @@ impl Machine {
 
     /// Whether all `len` bytes (1 to 64) from `address` on lie in the region, and bits 63 to 60 of the address are 0.
     pub fn mapped(&self, address: u64, len: usize) -> bool
-        requires { (1 ≤ len) × (len ≤ 64) }
+        requires { (1 ≤ len) × (len ≤ LONGEST_ACCESS) }
         ensures test { result ≡ is_mapped (length self.now.memory) address len }
         ensures mapped { IsTrue result ↔ IsMapped (length self.now.memory) address len }
     {

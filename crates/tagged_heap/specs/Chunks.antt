@@ -17,6 +17,7 @@ use Rattle.chunk_header.specs.HeaderView.{with_next}
 use Rattle.heap_theory.specs.Header.Standing.{Live, Quarantined}
 use Rattle.tagged_heap.specs.declared.freeing.Chunk.{Chunk}
 use Rattle.tagged_heap.specs.Representation.{header_in}
+use Rattle.class_table.specs.declared.table.TheConstants.{MOST_CLASSES}
 
 -- the tag that the machine draws for a slot, by what its header says of its last one
 abbrev pub tag_for : Partition → Machine → ℕ → ℕ
@@ -53,7 +54,7 @@ pub record HasRoom (layout : Partition) (memory : List Granule) (s n : ℕ) : Ty
   pub memory_is : IsMemory memory
   pub size : n ≤ largest_counted
   pub room : chunk_granules n < (slot_of layout s).class
-  pub header : (header_in layout memory s).class < 32
+  pub header : (header_in layout memory s).class < MOST_CLASSES
 
 -- ---- a slot is taken for a request
 
@@ -105,5 +106,5 @@ Takes layout memory new fronts fronts' firsts firsts' number (Some s) =
 
 -- The class of this number has a front, and the number fits its field in a header.
 pub record IsListed (fronts : List ℕ) (number : ℕ) : Type 0 where
-  pub few : number < 32
+  pub few : number < MOST_CLASSES
   pub listed : number < length fronts

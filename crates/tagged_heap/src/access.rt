@@ -11,6 +11,7 @@ use crate::tags::chunk_granules;
 use chunk_header::State;
 use granule_memory::Memory;
 use heap_theory::PlaceKind;
+use machine_theory::LONGEST_ACCESS;
 use tag_machine::Fault;
 
 impl Heap {
@@ -21,7 +22,7 @@ impl Heap {
     /// otherwise `TagCheck` with the lowest granule that the access touches and whose tag differs from the address's.
     #[tactic(auto, using(crate::proofs::TheoryLemmas::accesses_seen))]
     pub fn load(&self, address: u64, buf: &mut [u8]) -> Result<(), Fault>
-        requires len { (1 ≤ length buf.old) × (length buf.old ≤ 64) }
+        requires len { (1 ≤ length buf.old) × (length buf.old ≤ LONGEST_ACCESS) }
         requires tagged { (logical_tag address ≢ 0)
             ⊎ IsFalse (is_mapped (length self.now.state.memory) address (length buf.old)) }
         ensures answer { result ≡ ok_unless (access_fault self.now.state.memory address (length buf.old)) }
@@ -38,7 +39,7 @@ impl Heap {
     /// Its errors are those of `load`. After an error nothing has changed.
     #[tactic(auto, using(crate::proofs::TheoryLemmas::accesses_seen))]
     pub fn store(&mut self, address: u64, bytes: &[u8]) -> Result<(), Fault>
-        requires len { (1 ≤ length bytes.now) × (length bytes.now ≤ 64) }
+        requires len { (1 ≤ length bytes.now) × (length bytes.now ≤ LONGEST_ACCESS) }
         requires tagged { (logical_tag address ≢ 0)
             ⊎ IsFalse (is_mapped (length self.old.state.memory) address (length bytes.now)) }
         ensures answer { result ≡ ok_unless (access_fault self.old.state.memory address (length bytes.now)) }
@@ -53,7 +54,7 @@ impl Heap {
 
     /// Whether all `len` bytes (1 to 64) from `address` on lie in the region, and bits 63 to 60 of the address are 0.
     pub fn mapped(&self, address: u64, len: usize) -> bool
-        requires { (1 ≤ len) × (len ≤ 64) }
+        requires { (1 ≤ len) × (len ≤ LONGEST_ACCESS) }
         ensures test { result ≡ is_mapped (length self.now.state.memory) address len }
         ensures mapped { IsTrue result ↔ IsMapped (length self.now.state.memory) address len }
     {

@@ -14,7 +14,7 @@ use crate::chunks::give_out;
 use crate::heap::Heap;
 use crate::tags::chunk_granules;
 use crate::taking::take_slot;
-use class_table::{LARGEST_COUNTED, Layout};
+use class_table::{GRANULE_BYTES, LARGEST_COUNTED, Layout};
 use heap_theory::NullCause;
 
 /// The number of the class that serves a request of `n` bytes, or why none does.
@@ -106,7 +106,9 @@ impl Heap {
         requires size { n ≤ largest_counted }
         requires room { chunk_granules n < (slot_in self.old.state given.slot).class }
         ensures { self.new
-            ≡ record self.old { state = with_payload self.old.state given.slot (replicate (16 * chunk_granules n) 0) } }
+            ≡ record self.old {
+              state = with_payload self.old.state given.slot (replicate (GRANULE_BYTES * chunk_granules n) 0);
+            } }
     {
         let memory = self.machine.memory_mut();
         zero(memory, given.start + 1, chunk_granules(n));

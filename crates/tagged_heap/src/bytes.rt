@@ -3,6 +3,7 @@ ghost use Rattle.machine_theory.specs.Memory.{bytes_at, written, IsMemory};
 ghost use Rattle.std.specs.Prelude.{◌≡◌, ◌⊎◌, ◌+◌, ◌*◌, ◌≤◌, length, replicate};
 
 use granule_memory::Memory;
+use machine_theory::{GRANULE_BYTES, MOST_GRANULES};
 
 // the bytes that are copied at once
 const PIECE: usize = 256;
@@ -10,8 +11,8 @@ const PIECE: usize = 256;
 /// Sets all bytes of `count` granules from `first` on to 0.
 pub(crate) fn zero(memory: &mut Memory, first: u32, count: u32)
     requires granules { first + count ≤ length memory.old }
-    requires few { length memory.old ≤ 262144 }
-    ensures { memory.new ≡ written (16 * first) (replicate (16 * count) 0) memory.old }
+    requires few { length memory.old ≤ MOST_GRANULES }
+    ensures { memory.new ≡ written (GRANULE_BYTES * first) (replicate (GRANULE_BYTES * count) 0) memory.old }
 {
     for done in 0..count {
         memory.zero_granule(first + done);
@@ -20,9 +21,9 @@ pub(crate) fn zero(memory: &mut Memory, first: u32, count: u32)
 
 /// Copies `count` bytes from byte `from` on to byte `to` on. The two runs must not overlap.
 pub(crate) fn copy(memory: &mut Memory, from: usize, to: usize, count: usize)
-    requires few { length memory.old ≤ 262144 }
-    requires source { from + count ≤ 16 * length memory.old }
-    requires target { to + count ≤ 16 * length memory.old }
+    requires few { length memory.old ≤ MOST_GRANULES }
+    requires source { from + count ≤ GRANULE_BYTES * length memory.old }
+    requires target { to + count ≤ GRANULE_BYTES * length memory.old }
     requires apart { (from + count ≤ to) ⊎ (to + count ≤ from) }
     ensures { memory.new ≡ written to (bytes_at memory.old from count) memory.old }
 {

@@ -6,7 +6,7 @@ ghost use Rattle.heap_theory.specs.Header.{FitsWords};
 ghost use Rattle.std.specs.Prelude.{◌≡◌, ◌<◌, length};
 
 use chunk_header::{Header, read};
-use class_table::Layout;
+use class_table::{Layout, MOST_CLASSES};
 use granule_memory::Memory;
 
 /// The header of a slot, which begins at this granule.
@@ -14,7 +14,7 @@ pub(crate) fn header(memory: &Memory, layout: &Layout, _slot: u32, start: u32) -
     requires slot { _slot < slot_count layout.now }
     requires start { start ≡ (slot_of layout.now _slot).start }
     requires region { length memory.now ≡ layout.now.granules }
-    requires class { (header_in layout.now memory.now _slot).class < 32 }
+    requires class { (header_in layout.now memory.now _slot).class < MOST_CLASSES }
     ensures header { seen result ≡ header_in layout.now memory.now _slot }
     ensures fits { FitsWords (seen result) }
 {

@@ -10,6 +10,7 @@ use arrayvec::ArrayVec;
 use class_lists::ClassLists;
 use class_table::{ClassTable, Layout, MOST_CLASSES};
 use granule_memory::Memory;
+use machine_theory::{FARTHEST_MOVE, LARGEST_TAG_STEP};
 use quarantine_core::Quarantine;
 use std::alloc::{AllocError, Global};
 use std::marker::Model;
@@ -110,8 +111,8 @@ impl Heap {
     /// ADDG: the address `u6` granules (0 to 63) further up, modulo 2^64. The offset `u4` (0 to 15) chooses its tag, counted upwards from
     /// the tag of `address`.
     pub fn addg(&self, address: u64, u6: u8, u4: u8) -> u64
-        requires granules { u6 ≤ 63 }
-        requires steps { u4 ≤ 15 }
+        requires granules { u6 ≤ FARTHEST_MOVE }
+        requires steps { u4 ≤ LARGEST_TAG_STEP }
         ensures { result ≡ addg address u6 u4 }
     {
         self.machine.addg(address, u6, u4)
@@ -120,8 +121,8 @@ impl Heap {
     /// SUBG: the address `u6` granules (0 to 63) further down, modulo 2^64. The offset `u4` (0 to 15) chooses its tag as for `addg`:
     /// upwards.
     pub fn subg(&self, address: u64, u6: u8, u4: u8) -> u64
-        requires granules { u6 ≤ 63 }
-        requires steps { u4 ≤ 15 }
+        requires granules { u6 ≤ FARTHEST_MOVE }
+        requires steps { u4 ≤ LARGEST_TAG_STEP }
         ensures { result ≡ subg address u6 u4 }
     {
         self.machine.subg(address, u6, u4)

@@ -10,7 +10,7 @@ use tag_machine::{GRANULE_BYTES, REGION_START, place_of, with_tag};
 /// The address of the payload of a slot, which begins at this granule, under this tag.
 pub(crate) fn payload_address(start: u32, tag: u8) -> u64
     requires tag { tag < 16 }
-    ensures { result ≡ with_tag (region_start + 16 * (start + 1)) tag }
+    ensures { result ≡ with_tag (region_start + GRANULE_BYTES * (start + 1)) tag }
 {
     with_tag(REGION_START + GRANULE_BYTES * (u64::from(start) + 1), tag)
 }

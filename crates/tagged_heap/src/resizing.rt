@@ -92,8 +92,8 @@ impl Heap {
         requires to { IsSlot self.old.state to.slot }
         requires start { to.start ≡ (slot_in self.old.state to.slot).start }
         requires apart { from.slot ≢ to.slot }
-        requires source { count + 16 ≤ 16 * (slot_in self.old.state from.slot).class }
-        requires target { count + 16 ≤ 16 * (slot_in self.old.state to.slot).class }
+        requires source { count + GRANULE_BYTES ≤ GRANULE_BYTES * (slot_in self.old.state from.slot).class }
+        requires target { count + GRANULE_BYTES ≤ GRANULE_BYTES * (slot_in self.old.state to.slot).class }
         ensures { let bytes = payload_bytes self.old.state from.slot count in
             self.new ≡ record self.old { state = with_payload self.old.state to.slot bytes } }
     {

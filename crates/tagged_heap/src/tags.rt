@@ -7,7 +7,7 @@ ghost use Rattle.machine_theory.specs.Memory.{tagged, IsMemory};
 ghost use Rattle.machine_theory.specs.Seed.{next_seed};
 ghost use Rattle.std.specs.Prelude.{◌≡◌, ◌+◌, ◌^◌, ◌<◌, ◌≤◌, bit_or, length};
 
-use class_table::{GRANULE_BYTES, Slot};
+use class_table::{GRANULE_BYTES, LARGEST_CLASS, Slot};
 use tag_machine::Machine;
 
 /// The granules of the chunk for a request of `n` bytes, at most 16,368.
@@ -15,7 +15,7 @@ pub(crate) fn chunk_granules(n: u32) -> u32
     requires { n ≤ largest_counted }
     ensures granules { result ≡ chunk_granules n }
     ensures some { 1 ≤ result }
-    ensures most { result ≤ 1023 }
+    ensures most { result < LARGEST_CLASS }
 {
     if n == 0 { 1 } else { n.div_ceil(GRANULE_BYTES) }
 }

@@ -13,14 +13,15 @@ use Rattle.heap_theory.specs.declared.event.Event.{Event}
 use Rattle.heap_theory.specs.declared.event.Event.TheVariants.{Malloc, Calloc, Realloc, Free, Load, Store, Addg, Subg}
 use Rattle.trace_reader.specs.declared.fault.TraceFault.{TraceFault}
 use Rattle.trace_reader.specs.declared.fault.TraceFault.TheVariants.{BadWord, BadNumber, OutOfRange, LineTooLong, TooManyEvents}
+use Rattle.trace_reader.specs.declared.line.TheConstants.{LONGEST_LINE, MOST_EVENTS}
 
 -- The most bytes of a line, without its newline.
 abbrev pub longest_line : ℕ
-longest_line = 80
+longest_line = LONGEST_LINE
 
 -- The most events of a trace, one for each line.
 abbrev pub most_events : ℕ
-most_events = 1000000
+most_events = MOST_EVENTS
 
 -- ---- the spelling
 

@@ -9,7 +9,7 @@ ghost use Rattle.trace_reader.specs.Reading.State.{Failed};
 ghost use Rattle.trace_reader.specs.Reading.{fed, finished, is_finished, nothing_read, IsJudgementIn, is_open, line_ended, with_judged};
 
 use crate::fault::{TraceError, TraceFault};
-use crate::line::{LONGEST_LINE, event_in};
+use crate::line::{LONGEST_LINE, MOST_EVENTS, event_in};
 use crate::status::Status;
 use arrayvec::ArrayVec;
 use heap_theory::Event;
@@ -36,10 +36,12 @@ impl Model for TraceReader {
     ghost Value = { Reading };
 
     ghost use Rattle.trace_reader.specs.Status.{state_of};
+    ghost use Rattle.trace_reader.specs.TraceLine.{most_events};
 
     ghost view = { λ r. record { events = r.events.items; state = state_of r.status r.lines r.rest.items } };
 
-    ghost invariant = { λ r. (r.lines ≤ 1000000) × (length r.events.items ≤ r.lines) × All IsInRange r.events.items };
+    ghost invariant = { λ r.
+        (r.lines ≤ most_events) × (length r.events.items ≤ r.lines) × All IsInRange r.events.items };
 }
 
 impl TraceReader {
@@ -90,7 +92,7 @@ impl TraceReader {
         ensures kept { IsFrontOf self.old.events self.new.events }
         ensures front { IsFrontOf self.new.events (finished self.old).events }
         ensures finished { is_finished self.new ≡ is_ok result }
-        ensures few { OnOk result (length self.new.events ≤ 1000000) }
+        ensures few { OnOk result (length self.new.events ≤ MOST_EVENTS) }
     {
         if let Status::Failed(error) = self.status {
             return Err(error);

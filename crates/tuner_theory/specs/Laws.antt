@@ -12,6 +12,7 @@ use Rattle.tuner_theory.specs.Tuned.{AreTunedRows, tuned_table}
 use Rattle.tuner_theory.specs.Waste.{AreCounts, IsCounted, waste_of}
 use Rattle.tuner_theory.specs.declared.verdict.Verdict.{Verdict}
 use Rattle.tuner_theory.specs.declared.verdict.Verdict.TheVariants.{Optimal}
+use Rattle.class_table.specs.declared.sizes.TheConstants.{GRANULE_BYTES, LARGEST_CLASS, MOST_NEEDS, SMALLEST_CLASS}
 
 -- ---- rounding
 
@@ -21,7 +22,7 @@ RoundingIsLeast = (step need : ℕ) → IsStep step → IsLeastMultiple step nee
 
 -- The largest class is a multiple of each step, so what fits it unrounded fits it rounded.
 abbrev pub RoundingFits : Type 0
-RoundingFits = (step need : ℕ) → IsStep step → need ≤ 1024 → round_up need step ≤ 1024
+RoundingFits = (step need : ℕ) → IsStep step → need ≤ LARGEST_CLASS → round_up need step ≤ LARGEST_CLASS
 
 -- ---- places
 
@@ -45,11 +46,11 @@ CountedHasPlace =
 abbrev pub PlaceIsClass : Type 0
 PlaceIsClass =
     (counts : List ℕ) (step i : ℕ) → IsStep step → AreCounts counts → 0 < i → i ≤ places counts step
-    → (2 ≤ need_at counts step i) × (need_at counts step i ≤ 1024) × (need_at counts step i % step ≡ 0)
+    → (SMALLEST_CLASS ≤ need_at counts step i) × (need_at counts step i ≤ LARGEST_CLASS) × (need_at counts step i % step ≡ 0)
 
 -- There are fewer places than classes.
 abbrev pub FewPlaces : Type 0
-FewPlaces = (counts : List ℕ) (step : ℕ) → IsStep step → AreCounts counts → places counts step ≤ 1023
+FewPlaces = (counts : List ℕ) (step : ℕ) → IsStep step → AreCounts counts → places counts step ≤ MOST_NEEDS
 
 -- ---- spans
 
@@ -80,14 +81,14 @@ abbrev pub SumsGiveWaste : Type 0
 SumsGiveWaste =
     (counts : List ℕ) (step low high : ℕ) → IsStep step → low ≤ high
     → waste_between counts step low high
-    ≡ 16 * (high - 1) * (counted_up_to counts step high - counted_up_to counts step low)
+    ≡ GRANULE_BYTES * (high - 1) * (counted_up_to counts step high - counted_up_to counts step low)
     - (bytes_up_to counts step high - bytes_up_to counts step low)
 
 -- No subtraction there goes below 0,
 pub record IsWasteOfSums (high counted_low counted_high bytes_low bytes_high : ℕ) : Type 0 where
   pub counted : counted_low ≤ counted_high
   pub bytes : bytes_low ≤ bytes_high
-  pub held : bytes_high - bytes_low ≤ 16 * (high - 1) * (counted_high - counted_low)
+  pub held : bytes_high - bytes_low ≤ GRANULE_BYTES * (high - 1) * (counted_high - counted_low)
 
 abbrev pub SumsAscend : Type 0
 SumsAscend =

@@ -4,13 +4,14 @@ use Rattle.tuner_theory.specs.Rows.{AreLeastRows, table_of_ends}
 use Rattle.tuner_theory.specs.Spans.{need_at, places, span_waste}
 use Rattle.class_table.specs.Steps.{IsStep}
 use Rattle.tuner_theory.specs.Waste.{AreCounts}
+use Rattle.class_table.specs.declared.table.TheConstants.{MOST_CLASSES}
 
 -- Least rows over the span wastes of a profile, for 1 to 32 classes.
 pub record AreTunedRows (counts : List ℕ) (step limit : ℕ) (rows ends : ℕ → ℕ → ℕ) : Type 0 where
   pub is_step : IsStep step
   pub are_counts : AreCounts counts
   pub some : 1 ≤ limit
-  pub few : limit ≤ 32
+  pub few : limit ≤ MOST_CLASSES
   pub least : AreLeastRows (span_waste counts step) (places counts step) limit rows ends
 
 -- The table that they give, from the last row and place 0.

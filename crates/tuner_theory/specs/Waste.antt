@@ -1,7 +1,8 @@
 -- Profiles, and the waste of a table: the bytes that its classes lose by rounding the counted requests up.
 use Rattle.std.specs.Prelude.{◌≡◌, ℕ, zero, suc, ◌+◌, ◌*◌, ◌<◌, ◌≤◌, List, length, slice_index, unwrap_or, IsSome, All}
-use Rattle.class_table.specs.Sizes.{loss_of}
+use Rattle.class_table.specs.Sizes.{largest_counted, loss_of}
 use Rattle.class_table.specs.Tables.{class_for}
+use Rattle.tuner_theory.specs.declared.count.TheConstants.{MOST_COUNTED}
 
 -- What was counted: how often each size was requested, by its index from 0 bytes on, and how often a size past the last one.
 pub record Profile : Type 0 where
@@ -10,11 +11,11 @@ pub record Profile : Type 0 where
 
 -- The greatest count.
 abbrev pub most_counted : ℕ
-most_counted = 1000000000
+most_counted = MOST_COUNTED
 
 -- Counts as a profile keeps them: of each size up to 16,368 bytes.
 pub record AreCounts (counts : List ℕ) : Type 0 where
-  pub sizes : length counts ≡ 16369
+  pub sizes : length counts ≡ largest_counted + 1
   pub in_range : All (λ count. count ≤ most_counted) counts
 
 pub record IsProfile (profile : Profile) : Type 0 where

@@ -1,6 +1,8 @@
 ghost use Rattle.machine_theory.specs.Address.{Holds, logical_tag, moved_by, place_of, region_start, with_tag};
 ghost use Rattle.std.specs.Prelude.{◌≡◌, ◌+◌, ◌<◌, ◌≤◌, ◌^◌, nat_abs, ℕ, ℤ};
 
+use crate::sizes::LONGEST_ACCESS;
+
 /// A tag that was put into an address is read back from it, and the rest of the address stays the same.
 pub fn law_addresses()
     ensures tag { (address tag : ℕ) → tag < 16 → logical_tag (with_tag address tag) ≡ tag }
@@ -18,12 +20,12 @@ pub fn law_granules()
 /// An address near the region keeps its tag and its highest four bits when it is moved by at most 2 ^ 20 bytes. Null is not near the
 /// region.
 pub fn law_moved()
-    ensures tag { (address : ℕ) (offset : ℤ) (i : ℕ) → nat_abs offset ≤ 2 ^ 20 → i < 64 →
+    ensures tag { (address : ℕ) (offset : ℤ) (i : ℕ) → nat_abs offset ≤ 2 ^ 20 → i < LONGEST_ACCESS →
         region_start ≤ place_of (moved_by address offset) + i → place_of (moved_by address offset) < 2 ^ 37 →
         logical_tag (moved_by address offset) ≡ logical_tag address }
     ensures plain { (address : ℕ) (offset : ℤ) → nat_abs offset ≤ 2 ^ 20 → address < 2 ^ 60 →
         region_start ≤ place_of (moved_by address offset) → place_of (moved_by address offset) < 2 ^ 37 →
         moved_by address offset < 2 ^ 60 }
-    ensures null { (offset : ℤ) (i : ℕ) → nat_abs offset ≤ 2 ^ 20 → i < 64 →
+    ensures null { (offset : ℤ) (i : ℕ) → nat_abs offset ≤ 2 ^ 20 → i < LONGEST_ACCESS →
         region_start ≤ place_of (moved_by 0 offset) + i → place_of (moved_by 0 offset) < 2 ^ 37 → ⊥ }
 {}

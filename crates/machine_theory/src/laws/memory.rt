@@ -2,6 +2,8 @@ ghost use Rattle.machine_theory.specs.Memory.{Granule, IsMemory, bytes_at, each_
 ghost use Rattle.std.specs.Int.{to_le_bytes, w64};
 ghost use Rattle.std.specs.Prelude.{◌≡◌, ◌⊎◌, ◌+◌, ◌*◌, ◌++◌, ◌<◌, ◌≤◌, ◌^◌, All, List, length, replicate, ℕ};
 
+use crate::sizes::{FEWEST_GRANULES, GRANULE_BYTES, MOST_GRANULES};
+
 /// What a change of each granule makes of a memory. Two changes may be made in either order if they may at each granule.
 pub fn law_each_granule()
     ensures len { (change : ℕ → Granule → Granule) (memory : List Granule)
@@ -38,20 +40,22 @@ pub fn law_reads()
         → tag_at (written i new memory) g ≡ tag_at memory g }
 
     ensures written_bytes { (i : ℕ) (new : List ℕ) (memory : List Granule) → IsMemory memory
-        → i + length new ≤ 16 * length memory →
+        → i + length new ≤ GRANULE_BYTES * length memory →
         bytes_at (written i new memory) i (length new) ≡ new }
     ensures other_bytes { (i j len : ℕ) (new : List ℕ) (memory : List Granule) → (j + len ≤ i) ⊎ (i + length new ≤ j) →
         bytes_at (written i new memory) j len ≡ bytes_at memory j len }
     ensures bytes_under_tags { (first count tag j len : ℕ) (memory : List Granule) →
         bytes_at (tagged first count tag memory) j len ≡ bytes_at memory j len }
 
-    ensures word { (i w : ℕ) (memory : List Granule) → IsMemory memory → w < 2 ^ 64 → i + 8 ≤ 16 * length memory →
+    ensures word { (i w : ℕ) (memory : List Granule) → IsMemory memory → w < 2 ^ 64
+        → i + 8 ≤ GRANULE_BYTES * length memory →
         word_at (written i (to_le_bytes w64 w) memory) i ≡ w }
 {}
 
 /// After a change a memory is still a memory, with as many granules.
 pub fn law_memory()
-    ensures new { (granules : ℕ) → 64 ≤ granules → granules ≤ 262144 → IsMemory (replicate granules new_granule) }
+    ensures new { (granules : ℕ) → FEWEST_GRANULES ≤ granules → granules ≤ MOST_GRANULES
+        → IsMemory (replicate granules new_granule) }
     ensures tagged { (first count tag : ℕ) (memory : List Granule) → tag < 16 → IsMemory memory
         → IsMemory (tagged first count tag memory) }
     ensures written { (i : ℕ) (new : List ℕ) (memory : List Granule) → All (λ b. b < 256) new → IsMemory memory

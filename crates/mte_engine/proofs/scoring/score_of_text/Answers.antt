@@ -1,13 +1,10 @@
 use Rattle.std.proofs.Common.{sym, ◌∙◌, ap, Ok}
 use Rattle.std.proofs.lemmas.Result.{err_from_is_err_and}
-use Rattle.mte_engine.proofs.TableAndProfile.{first_is_line, no_line, table_refused, profile_refused, both_read}
+use Rattle.mte_engine.proofs.TableAndProfile.{no_line, table_refused, profile_refused, both_read}
 use Rattle.mte_engine.proofs.scoring.score_of_text.Goals as goal
 
 pub returns-in_default : goal.returns-in_default
 returns-in_default c = no_line c.args.text.now (sym c.lines_in-lines.ensures ∙ c.in_default.ensures.steps.0)
-
-pub read_table-requires : goal.read_table-requires
-read_table-requires c = first_is_line c.args.text.now _ _ (sym c.lines_in-lines.ensures ∙ c.in-Some.ensures.steps)
 
 pub returns-in_err-table : goal.returns-in_err-table
 returns-in_err-table c =

@@ -1,10 +1,7 @@
 use Rattle.std.proofs.lemmas.Result.{err_from_is_err_and}
 use Rattle.potential_check.specs.SheetText.{limit_in, table_in, waste_in, waste_number}
-use Rattle.potential_check.proofs.HeadLines.{all_read, fault_given, given_is_line, line_at-none, line_at-some, no_limit, no_step, no_table, no_waste}
+use Rattle.potential_check.proofs.HeadLines.{all_read, fault_given, line_at-none, line_at-some, no_limit, no_step, no_table, no_waste}
 use Rattle.potential_check.proofs.reading.head_in.Goals as goal
-
-pub and_then-requires : goal.and_then-requires
-and_then-requires c = given_is_line _ _ _ c.requires c.next.ensures.steps
 
 pub returns-in_err-table : goal.returns-in_err-table
 returns-in_err-table c =

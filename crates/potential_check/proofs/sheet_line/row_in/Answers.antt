@@ -9,8 +9,8 @@ returns-in_default-read c =
     let none = no_value_passes (number_of next.word) _ next.says c.in_default-read.not-Value in
     sym (c.loop-read.invariant.read ∙ row_on-no_number _ _ _ _ next.parts none)
 
-pub returns-then-len-eq-MOST_NUMBERS : goal.returns-then-len-eq-MOST_NUMBERS
-returns-then-len-eq-MOST_NUMBERS c =
+pub returns-then-len-eq-MOST_NEEDS : goal.returns-then-len-eq-MOST_NEEDS
+returns-then-len-eq-MOST_NEEDS c =
     let next = next_word _ _ _ c.in-Some.ensures.number c.in-Some.ensures.taken in
     let full : length c.loop-read.row.items ≡ 1023 = omega arith in
     sym (c.loop-read.invariant.read ∙ row_on-full _ _ _ _ next.parts full)

@@ -15,4 +15,4 @@ pub returns-clause-exact : goal.returns-clause-exact
 unfolding table_of
 returns-clause-exact c =
     let one = ap table_of_lines (sym c.lines_in-lines.ensures ∙ rw c.in_default-next.ensures.steps.0 at c.in-Some.ensures.steps) in
-    subst (Gives c.table_in.result) (sym one) c.table_in.ensures.exact
+    subst (Gives c.from_line.result) (sym one) c.from_line.ensures.exact

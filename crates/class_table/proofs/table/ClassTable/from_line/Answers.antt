@@ -4,7 +4,7 @@ use Rattle.std.proofs.lemmas.Bool.{not-true, not-false}
 use Rattle.class_table.specs.ClassLine.{table_of_line, table_of_words}
 use Rattle.class_table.specs.Faults.{Gives}
 use Rattle.class_table.proofs.Words.{other_name, named}
-use Rattle.class_table.proofs.class_line.table_in.Goals as goal
+use Rattle.class_table.proofs.table.ClassTable.from_line.Goals as goal
 
 pub returns-in_default-clause-exact : goal.returns-in_default-clause-exact
 unfolding table_of_line
