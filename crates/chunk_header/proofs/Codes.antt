@@ -10,7 +10,8 @@ code_of_standing (suc (suc zero)) below = refl
 code_of_standing (suc (suc (suc zero))) below = refl
 code_of_standing (suc (suc (suc (suc code)))) below = absurd (omega arith)
 
-pub first_word-with_next : (first second next : ℕ) → first_word (record (header_of first second) { next = next }) ≡ first % 2 ^ 32 + 2 ^ 32 * next
+pub first_word-with_next : (first second next : ℕ) →
+    first_word (record (header_of first second) { next = next }) ≡ first % 2 ^ 32 + 2 ^ 32 * next
 first_word-with_next first second next = let code = code_of_standing (first % 2 ^ 2) (omega arith) in omega arith
 
 -- it is the word of the header with that link
@@ -24,4 +25,11 @@ header_of-with_next first second next =
     let tag_is : word / 2 ^ 16 % 2 ^ 4 ≡ first / 2 ^ 16 % 2 ^ 4 = omega (arith, whole) in
     let class_is : word / 2 ^ 20 % 2 ^ 12 ≡ first / 2 ^ 20 % 2 ^ 12 = omega (arith, whole) in
     let next_is : word / 2 ^ 32 ≡ next = omega (arith, whole) in
-    λ i. record { standing = standing_of (code_is i); size = size_is i; tag = tag_is i; class = class_is i; next = next_is i; mark = second }
+    λ i. record {
+      standing = standing_of (code_is i);
+      size = size_is i;
+      tag = tag_is i;
+      class = class_is i;
+      next = next_is i;
+      mark = second;
+    }

@@ -15,7 +15,8 @@ pub link_set : (layout : Partition) (old new : List Granule) (s next : ℕ) → 
     new ≡ with_next old (slot_of layout s).start next →
     header_at new (slot_of layout s).start ≡ record (header_at old (slot_of layout s).start) { next = next } →
     ((g : ℕ) → g ≢ (slot_of layout s).start → header_at new g ≡ header_at old g) →
-    ChangesOnlyBytes old new (16 * (slot_of layout s).start) (16 * (slot_of layout s).start + 8) → IsMemory new → SetsLink layout old new s next
+    ChangesOnlyBytes old new (16 * (slot_of layout s).start) (16 * (slot_of layout s).start + 8) → IsMemory new →
+    SetsLink layout old new s next
 link_set layout old new s next partition within written header headers others memory = record {
   written = written;
   header = header;

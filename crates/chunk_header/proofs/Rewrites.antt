@@ -26,7 +26,8 @@ module _ (memory : List Granule) (is : IsMemory memory) (i len : ℕ) where
   same_byte j = ⊎_elim
       (λ low. outside (and_left _ _ (lt-leb _ _ low)))
       (λ from. ⊎_elim
-      (λ to. cond-true (is_among i (length run) j) (slice_index run (j - i)) (byte_at memory j) (and_from _ _ (le-leb _ _ from) (lt-ltb _ _ to)) ∙
+      (λ to. cond-true (is_among i (length run) j) (slice_index run (j - i)) (byte_at memory j)
+      (and_from _ _ (le-leb _ _ from) (lt-ltb _ _ to)) ∙
       run_byte (j - i) j (omega (arith, run_long)) (omega arith))
       (λ past. outside (and_right _ _ (le-ltb _ _ past)))
       (cases_lt j (i + length run)))
@@ -52,13 +53,16 @@ module _ (memory : List Granule) (is : IsMemory memory) (i len : ℕ) where
 
   pub written_over : written i run memory ≡ memory
   unfolding written memory_words.each_granule
-  written_over = sym (fill_by_all (λ g. record (granule_at memory g) { bytes = bytes_after i run g (granule_at memory g).bytes }) memory (length memory) no_granule refl
+  written_over =
+      sym (fill_by_all (λ g. record (granule_at memory g) { bytes = bytes_after i run g (granule_at memory g).bytes }) memory
+      (length memory) no_granule refl
       (λ g h. ap (λ (bytes : List ℕ). record (granule_at memory g) { bytes = bytes }) (same_bytes g h)))
 
 pub word_written_over : (memory : List Granule) (i : ℕ) → IsMemory memory → written i (to_le_bytes w64 (word_at memory i)) memory ≡ memory
 unfolding word_at
 word_written_over memory i is =
-    ap (λ (bytes : List ℕ). written i bytes memory) (le_bytes_8 (bytes_at memory i 8) (word_at memory i) (run_long memory is i 8) below refl) ∙ written_over memory is i 8
+    ap (λ (bytes : List ℕ). written i bytes memory)
+    (le_bytes_8 (bytes_at memory i 8) (word_at memory i) (run_long memory is i 8) below refl) ∙ written_over memory is i 8
   where
     byte_fits : (j : ℕ) → byte_at memory j < 256
     byte_fits j = ⊎_elim
@@ -67,7 +71,8 @@ word_written_over memory i is =
         (λ inside. granule.bytes (j % 16) 0 inside)
         (λ past. let none = get_or_past (granule_at memory (j / 16)).bytes (j % 16) 0 past in omega arith)
         (cases_lt (j % 16) (length (granule_at memory (j / 16)).bytes)))
-        (λ past. let none : byte_at memory j ≡ 0 = ap (λ (x : Granule). slice_index x.bytes (j % 16)) (get_or_past memory (j / 16) no_granule past) in omega arith)
+        (λ past. let none : byte_at memory j
+        ≡ 0 = ap (λ (x : Granule). slice_index x.bytes (j % 16)) (get_or_past memory (j / 16) no_granule past) in omega arith)
         (cases_lt (j / 16) (length memory))
 
     below : (k : ℕ) → get_or (bytes_at memory i 8) k 0 < 256

@@ -22,7 +22,8 @@ first_or_after s list r there = at there.0 there.1 there.2
 after : (s : ℕ) (list : List ℕ) (r : ℕ) → Contains list r → Contains (s ∷ list) r
 after s list r there = (suc there.0, omega (arith, there.1), there.2)
 
-pub shown_pushed : (layout : Partition) (memory : List Granule) (front s : ℕ) (list : List ℕ) → s < slot_count layout → next_in layout memory s ≡ front →
+pub shown_pushed : (layout : Partition) (memory : List Granule) (front s : ℕ) (list : List ℕ) → s < slot_count layout →
+    next_in layout memory s ≡ front →
     ShowsList layout memory front list → ShowsList layout memory (s + 1) (s ∷ list)
 shown_pushed layout memory front s list within link shown = record {
   linked = (omega arith, subst (λ n. IsLinked (next_in layout memory) n list) (sym link) shown.linked);
@@ -30,12 +31,14 @@ shown_pushed layout memory front s list within link shown = record {
 }
 
 -- with no front there is no slot
-pub shown_none : (layout : Partition) (memory : List Granule) (front : ℕ) (list : List ℕ) → front ≡ 0 → ShowsList layout memory front list → list ≡ []
+pub shown_none : (layout : Partition) (memory : List Granule) (front : ℕ) (list : List ℕ) → front ≡ 0 → ShowsList layout memory front list →
+    list ≡ []
 shown_none layout memory front [] none shown = refl
 shown_none layout memory front (r ∷ rest) none shown = absurd (omega (arith, shown.linked.0))
 
 -- the front is the link to the first slot
-pub shown_first : (layout : Partition) (memory : List Granule) (front s : ℕ) (list : List ℕ) → front ≡ s + 1 → ShowsList layout memory front list → list ≡ s ∷ drop 1 list
+pub shown_first : (layout : Partition) (memory : List Granule) (front s : ℕ) (list : List ℕ) → front ≡ s + 1 →
+    ShowsList layout memory front list → list ≡ s ∷ drop 1 list
 shown_first layout memory front s [] is shown = absurd (omega (arith, shown.linked))
 shown_first layout memory front s (r ∷ rest) is shown = let same : r ≡ s = omega (arith, shown.linked.0) in ap (λ q. q ∷ rest) same
 
@@ -59,6 +62,7 @@ shown_short layout memory front list shown =
     (IsDistinct-from_AllPairs Decides-eqb list (each_once (next_in layout memory) front list shown.linked))
     (λ s there. shown.slots s (Contains-from_any eqb-true s list there))
 
-pub front_within : (layout : Partition) (memory : List Granule) (front : ℕ) (list : List ℕ) → ShowsList layout memory front list → front ≤ slot_count layout
+pub front_within : (layout : Partition) (memory : List Granule) (front : ℕ) (list : List ℕ) → ShowsList layout memory front list →
+    front ≤ slot_count layout
 front_within layout memory front [] shown = omega (arith, shown.linked)
 front_within layout memory front (s ∷ rest) shown = let within = shown.slots s (0, omega arith, refl) in omega (arith, shown.linked.0)

@@ -19,8 +19,10 @@ firsts_of region = map (first_slot region) (range_with_len 0 (length region.clas
 pub length-firsts_of : (region : Partition) → length (firsts_of region) ≡ length region.classes + 1
 length-firsts_of region = length-map-range_with_len (first_slot region) 0 (length region.classes + 1)
 
-pub get_or-firsts_of : (region : Partition) (number d : ℕ) → number ≤ length region.classes → get_or (firsts_of region) number d ≡ first_slot region number
-get_or-firsts_of region number d within = get_or-map-range_with_len (first_slot region) 0 (length region.classes + 1) number number d (omega arith) (zero-add number)
+pub get_or-firsts_of : (region : Partition) (number d : ℕ) → number ≤ length region.classes →
+    get_or (firsts_of region) number d ≡ first_slot region number
+get_or-firsts_of region number d within =
+    get_or-map-range_with_len (first_slot region) 0 (length region.classes + 1) number number d (omega arith) (zero-add number)
 
 first_slot-le : (region : Partition) (a b : ℕ) → a ≤ b → first_slot region a ≤ first_slot region b
 first_slot-le region a b le =
@@ -34,28 +36,32 @@ firsts_of-ascending region a b d le within =
 
 pub class_of_point : (region : Partition) (slot point : ℕ) → slot < slot_count region → point ≤ length (firsts_of region) →
     ((k d : ℕ) → k < length (firsts_of region) → k < point → get_or (firsts_of region) k d ≤ slot) →
-    ((k d : ℕ) → point ≤ k → k < length (firsts_of region) → slot < get_or (firsts_of region) k d) → (1 ≤ point) × IsClassOf region slot (point - 1)
+    ((k d : ℕ) → point ≤ k → k < length (firsts_of region) → slot < get_or (firsts_of region) k d) →
+    (1 ≤ point) × IsClassOf region slot (point - 1)
 class_of_point region slot point within bound below above =
     let long = length-firsts_of region in
     let all = slot_count-classes region in
     let some : 1 ≤ point = elim (cases_lt 0 point) [
       | inl some ↦ some
       | inr none ↦
-          let first : slot < first_slot region 0 = subst (λ n. slot < n) (get_or-firsts_of region 0 0 (omega arith)) (above 0 0 none (omega arith)) in
+          let first : slot < first_slot region 0 =
+          subst (λ n. slot < n) (get_or-firsts_of region 0 0 (omega arith)) (above 0 0 none (omega arith)) in
           absurd (omega arith)
     ] in
     let not_all : point ≤ length region.classes = elim (cases_lt (length region.classes) point) [
       | inr most ↦ most
       | inl past ↦
           let last : first_slot region (length region.classes) ≤ slot =
-          subst (λ n. n ≤ slot) (get_or-firsts_of region (length region.classes) 0 (omega arith)) (below (length region.classes) 0 (omega arith) past) in
+          subst (λ n. n ≤ slot) (get_or-firsts_of region (length region.classes) 0 (omega arith))
+          (below (length region.classes) 0 (omega arith) past) in
           absurd (omega arith)
     ] in
     let same : point - 1 + 1 ≡ point = omega arith in (
       some,
       record {
         within = omega arith;
-        from = subst (λ n. n ≤ slot) (get_or-firsts_of region (point - 1) 0 (omega arith)) (below (point - 1) 0 (omega arith) (omega arith));
+        from =
+            subst (λ n. n ≤ slot) (get_or-firsts_of region (point - 1) 0 (omega arith)) (below (point - 1) 0 (omega arith) (omega arith));
         to = subst (λ n. slot < first_slot region n) (sym same)
             (subst (λ n. slot < n) (get_or-firsts_of region point 0 not_all) (above point 0 (omega arith) (omega arith)));
       },
@@ -72,6 +78,8 @@ slot_of-number region slot number is =
     let place : slot ≡ first_slot region number + (slot - first_slot region number) = omega (arith, is.from) in
     ap (slot_of region) place ∙ slot_of-class region number (slot - first_slot region number) is.within (omega (arith, is.from, is.to))
 
-pub class_is : (region : Partition) (slot number : ℕ) → IsClassOf region slot number → slice_get region.classes number ≡ Some (slot_of region slot).class
+pub class_is : (region : Partition) (slot number : ℕ) → IsClassOf region slot number →
+    slice_get region.classes number ≡ Some (slot_of region slot).class
 class_is region slot number is =
-    slice_get-get_or region.classes number 0 is.within ∙ ap Some (sym (ap (λ (slot : Slot). slot.class) (slot_of-number region slot number is)))
+    slice_get-get_or region.classes number 0 is.within
+    ∙ ap Some (sym (ap (λ (slot : Slot). slot.class) (slot_of-number region slot number is)))

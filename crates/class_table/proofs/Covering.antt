@@ -30,7 +30,8 @@ slot_over-covers step region granule s legal = (found, finds)
   where
     found : slot_over region granule ≡ Some s → (s < slot_count region) × Covers (slot_of region s) granule
     found is =
-        let first = position-Some (λ slot. covers slot granule) (slots_of region) s no_slot is in (first.0, Covers-true (slot_of region s) granule first.1)
+        let first = position-Some (λ slot. covers slot granule) (slots_of region) s no_slot is in
+        (first.0, Covers-true (slot_of region s) granule first.1)
 
     finds : (s < slot_count region) × Covers (slot_of region s) granule → slot_over region granule ≡ Some s
     finds at =
@@ -39,4 +40,5 @@ slot_over-covers step region granule s legal = (found, finds)
         (λ r before. false_from_ne_true (covers (slot_of region r) granule)
         (λ test. one_covers step region granule s r legal before at.0 at.1 (Covers-true (slot_of region r) granule test)))
         (λ within. true-Covers (slot_of region s) granule at.1) in
-        ap (λ p. cond (ltb p (slot_count region)) (Some p) None) place ∙ cond-true (ltb s (slot_count region)) (Some s) None (lt-ltb s (slot_count region) at.0)
+        ap (λ p. cond (ltb p (slot_count region)) (Some p) None) place
+        ∙ cond-true (ltb s (slot_count region)) (Some s) None (lt-ltb s (slot_count region) at.0)

@@ -24,7 +24,8 @@ module _ (region : Partition) (filled numbers : List ℕ) (count number : ℕ) (
 
   -- and of one class more
   pub IsFilled-more : number < length region.classes →
-      IsFilled region (filled ++ get_or region.classes number 0 ∷ []) (numbers ++ count ∷ []) (count + share_of region / get_or region.classes number 0) (number + 1)
+      IsFilled region (filled ++ get_or region.classes number 0 ∷ []) (numbers ++ count ∷ [])
+      (count + share_of region / get_or region.classes number 0) (number + 1)
   IsFilled-more within = record {
     classes = ap (λ classes. classes ++ get_or region.classes number 0 ∷ []) is.classes ∙ sym (take_more region.classes number 0 within);
     firsts = firsts_more;

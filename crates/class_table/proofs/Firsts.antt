@@ -14,7 +14,11 @@ first_slot-suc region number within = sum_by_more (λ class. share_of region / c
 pub first_slot-most : (region : Partition) (number : ℕ) → first_slot region number ≤ slot_count region
 unfolding slots_of
 first_slot-most region number =
-    omega (arith, sum_by-take-le (λ class. share_of region / class) region.classes number, length-slots_of_classes 0 (share_of region) region.classes)
+    omega (
+      arith,
+      sum_by-take-le (λ class. share_of region / class) region.classes number,
+      length-slots_of_classes 0 (share_of region) region.classes,
+    )
 
 -- a slot has two granules or more
 halved : (share class : ℕ) → 2 ≤ class → share / class ≤ share / 2
@@ -28,11 +32,14 @@ first_slot-few region number is =
     let share = share_of region in
     let count = length region.classes in
     let each : All (λ class. share / class ≤ share / 2) region.classes =
-    All-weaker (λ class. (2 ≤ class) × (class ≤ 1024)) (λ class. share / class ≤ share / 2) (λ class range. halved share class range.0) region.classes is.table.in_range in
+    All-weaker (λ class. (2 ≤ class) × (class ≤ 1024)) (λ class. share / class ≤ share / 2) (λ class range. halved share class range.0)
+    region.classes is.table.in_range in
     let sum : first_slot region number ≤ length (take number region.classes) * (share / 2) =
-    sum_by-le (λ class. share / class) (share / 2) (take number region.classes) (All-take (λ class. share / class ≤ share / 2) number region.classes each) in
+    sum_by-le (λ class. share / class) (share / 2) (take number region.classes)
+    (All-take (λ class. share / class ≤ share / 2) number region.classes each) in
     let some : length (take number region.classes) ≤ count = omega (arith, length-take number region.classes) in
-    let all : length (take number region.classes) * (share / 2) ≤ count * (share / 2) = mul-le (length (take number region.classes)) (share / 2) count (share / 2) some (omega arith) in
+    let all : length (take number region.classes) * (share / 2) ≤ count * (share / 2) =
+    mul-le (length (take number region.classes)) (share / 2) count (share / 2) some (omega arith) in
     let split : share * count + region.granules % count ≡ region.granules = div-add-mod' region.granules count in
     let double : count * (share / 2 * 2) ≤ count * share = mul-le count (share / 2 * 2) count share (omega arith) (omega arith) in
     omega (arith, is.most)

@@ -31,7 +31,8 @@ least_at step classes n number legal found =
             elim (cases_order k number) [
               | inl same ↦ rw (at_zero, same) (omega arith)
               | inr (inl before) ↦ absurd (both_ways _ (first.2 k before) serving_there)
-              | inr (inr after) ↦ let larger = AllPairs-from_increasing classes legal.ascending number k 0 after inside in omega (arith, larger, at_zero)
+              | inr (inr after) ↦ let larger =
+                  AllPairs-from_increasing classes legal.ascending number k 0 after inside in omega (arith, larger, at_zero)
             ];
       },
     )
@@ -55,11 +56,13 @@ class_at_number n classes =
           rw test (first_place n classes ∙ slice_get_past classes place past)
     ]
 
-numbered : (classes : List ℕ) (class : ℕ) (number : Option ℕ) → option_and_then (slice_get classes) number ≡ Some class → (k : ℕ) × (number ≡ Some k) × (slice_get classes k ≡ Some class)
+numbered : (classes : List ℕ) (class : ℕ) (number : Option ℕ) → option_and_then (slice_get classes) number ≡ Some class →
+    (k : ℕ) × (number ≡ Some k) × (slice_get classes k ≡ Some class)
 numbered classes class None e = absurd cc
 numbered classes class (Some k) e = (k, refl, e)
 
-pub least_class : (step n class : ℕ) (classes : List ℕ) → IsLegalTable step classes → class_for classes n ≡ Some class → IsLeastServing classes n class
+pub least_class : (step n class : ℕ) (classes : List ℕ) → IsLegalTable step classes → class_for classes n ≡ Some class →
+    IsLeastServing classes n class
 least_class step n class classes legal found =
     let at = numbered classes class (class_number_for classes n) (sym (class_at_number n classes) ∙ found) in
     let least = least_at step classes n at.0 legal at.1 in
@@ -69,7 +72,8 @@ pub none_serving : (n : ℕ) (classes : List ℕ) → class_for classes n ≡ No
 none_serving n [] none = All-nil (λ class. serves n class ≡ false)
 none_serving n (class ∷ classes) none = go (serves n class) refl (none_serving n classes)
   where
-    go : (test : Bool) → serves n class ≡ test → (class_for classes n ≡ None → All (λ c. serves n c ≡ false) classes) → All (λ c. serves n c ≡ false) (class ∷ classes)
+    go : (test : Bool) → serves n class ≡ test → (class_for classes n ≡ None → All (λ c. serves n c ≡ false) classes) →
+        All (λ c. serves n c ≡ false) (class ∷ classes)
     go true e others = let f = rw e at none in absurd cc
     go false e others = All-cons (λ c. serves n c ≡ false) class classes e (others (rw e at none))
 
@@ -80,7 +84,8 @@ serving-need n class two = (
   λ needs. le-leb n _ (omega arith),
 )
 
-pub none_of : (classes : List ℕ) (n : ℕ) (number : Option ℕ) → number ≡ class_number_for classes n → IfNone number (All (λ class. serves n class ≡ false) classes)
+pub none_of : (classes : List ℕ) (n : ℕ) (number : Option ℕ) → number ≡ class_number_for classes n →
+    IfNone number (All (λ class. serves n class ≡ false) classes)
 none_of classes n None none = none_serving n classes (class_at_number n classes ∙ ap (option_and_then (slice_get classes)) (sym none))
 none_of classes n (Some number) found = tt
 
@@ -100,19 +105,24 @@ ascending_classes classes ascending i j d le within = elim (cases_lt i j) [
 ]
 
 pub counted_place : (step : ℕ) (classes : List ℕ) (n number : ℕ) → IsLegalTable step classes → number ≤ length classes →
-    ((k d : ℕ) → k < length classes → k < number → get_or classes k d ≤ div_ceil n 16) → ((k d : ℕ) → number ≤ k → k < length classes → div_ceil n 16 < get_or classes k d) →
+    ((k d : ℕ) → k < length classes → k < number → get_or classes k d ≤ div_ceil n 16) →
+    ((k d : ℕ) → number ≤ k → k < length classes → div_ceil n 16 < get_or classes k d) →
     position_or_len (serves n) classes ≡ number
 counted_place step classes n number legal bound below above =
     position_or_len_is (serves n) classes number 0 bound
     (λ k less. too_small n (get_or classes k 0) (legal.in_range k 0 (omega arith)).0 (below k 0 (omega arith) less))
     (λ within. large_enough n (get_or classes number 0) (above number 0 (omega arith) within))
 
-pub number_counted : (n : ℕ) (classes : List ℕ) (number : ℕ) → position_or_len (serves n) classes ≡ number → number < length classes → Some number ≡ class_number_for classes n
+pub number_counted : (n : ℕ) (classes : List ℕ) (number : ℕ) → position_or_len (serves n) classes ≡ number → number < length classes →
+    Some number ≡ class_number_for classes n
 number_counted n classes number place within =
-    let test : ltb (position_or_len (serves n) classes) (length classes) ≡ true = lt-ltb _ _ (subst (λ k. k < length classes) (sym place) within) in
+    let test : ltb (position_or_len (serves n) classes) (length classes) ≡ true =
+    lt-ltb _ _ (subst (λ k. k < length classes) (sym place) within) in
     rw test (ap Some (sym place))
 
-pub none_counted : (n : ℕ) (classes : List ℕ) (number : ℕ) → position_or_len (serves n) classes ≡ number → length classes ≤ number → None ≡ class_number_for classes n
+pub none_counted : (n : ℕ) (classes : List ℕ) (number : ℕ) → position_or_len (serves n) classes ≡ number → length classes ≤ number →
+    None ≡ class_number_for classes n
 none_counted n classes number place past =
-    let test : ltb (position_or_len (serves n) classes) (length classes) ≡ false = le-ltb _ _ (subst (λ k. length classes ≤ k) (sym place) past) in
+    let test : ltb (position_or_len (serves n) classes) (length classes) ≡ false =
+    le-ltb _ _ (subst (λ k. length classes ≤ k) (sym place) past) in
     rw test refl

@@ -16,7 +16,8 @@ AreClassesAbove below (class ∷ classes) = (below < class) × (2 ≤ class) × 
 pub classes-from_no_fault : (below : ℕ) (classes : List ℕ) → fault_from below classes ≡ None → AreClassesAbove below classes
 unfolding fault_from
 classes-from_no_fault below [] none = tt
-classes-from_no_fault below (class ∷ classes) none = go (is_out_of_range class) refl (leb class below) refl (classes-from_no_fault class classes)
+classes-from_no_fault below (class ∷ classes) none =
+    go (is_out_of_range class) refl (leb class below) refl (classes-from_no_fault class classes)
   where
     go : (out : Bool) → is_out_of_range class ≡ out → (low : Bool) → leb class below ≡ low
         → (fault_from class classes ≡ None → AreClassesAbove class classes) → AreClassesAbove below (class ∷ classes)
@@ -33,7 +34,8 @@ class_in below zero d (class ∷ classes) above within = (above.0, above.1, abov
 class_in below (suc k) d (class ∷ classes) above within =
     let later = class_in class k d classes above.3 (omega arith) in (omega (arith, above.0, later.0), later.1, later.2)
 
-next_above : (below k : ℕ) (classes : List ℕ) → AreClassesAbove below classes → suc k < length classes → slice_index classes k < slice_index classes (suc k)
+next_above : (below k : ℕ) (classes : List ℕ) → AreClassesAbove below classes → suc k < length classes →
+    slice_index classes k < slice_index classes (suc k)
 next_above below k [] above within = absurd (omega arith)
 next_above below zero (class ∷ classes) above within = (class_in class 0 0 classes above.3 (omega arith)).0
 next_above below (suc k) (class ∷ classes) above within = next_above class k classes above.3 (omega arith)
@@ -50,7 +52,8 @@ legal-from_classes classes few above = record {
 
 -- ---- and back
 
-classes_from : (below : ℕ) (classes : List ℕ) → ((k : ℕ) → k < length classes → below < get_or classes k 0) → AllPairs (λ low high. low < high) classes
+classes_from : (below : ℕ) (classes : List ℕ) → ((k : ℕ) → k < length classes → below < get_or classes k 0) →
+    AllPairs (λ low high. low < high) classes
     → All (λ class. (2 ≤ class) × (class ≤ 1024)) classes → AreClassesAbove below classes
 classes_from below [] first up range = tt
 classes_from below (class ∷ classes) first up range = (
@@ -63,7 +66,8 @@ classes_from below (class ∷ classes) first up range = (
 
 pub classes-from_legal : (classes : List ℕ) → IsLegalTable 1 classes → AreClassesAbove 0 classes
 classes-from_legal classes legal =
-    classes_from 0 classes (λ k within. let r = legal.in_range k 0 within in omega (arith, r.0)) (AllPairs-from_increasing classes legal.ascending) legal.in_range
+    classes_from 0 classes (λ k within. let r = legal.in_range k 0 within in omega (arith, r.0))
+    (AllPairs-from_increasing classes legal.ascending) legal.in_range
 
 pub no_fault-from_classes : (below : ℕ) (classes : List ℕ) → AreClassesAbove below classes → fault_from below classes ≡ None
 unfolding fault_from

@@ -10,7 +10,8 @@ record IsAt (share granule number class k : ℕ) : Type 0 where
   number_is : number ≡ granule / share
   k_is : k ≡ granule % share / class
 
-divided : (share granule number class k : ℕ) → k < share / class → share * number + class * k ≤ granule → granule < share * number + class * k + class → IsAt share granule number class k
+divided : (share granule number class k : ℕ) → k < share / class → share * number + class * k ≤ granule →
+    granule < share * number + class * k + class → IsAt share granule number class k
 divided share granule number class k fits from to =
     let product : (k + 1) * class ≤ share / class * class = mul-le (k + 1) class (share / class) class (omega arith) (omega arith) in
     let split : share / class * class + share % class ≡ share = div-add-mod' share class in
@@ -31,12 +32,14 @@ covered region granule s place at =
     let slot = ap (slot_of region) place.is ∙ slot_of-class region place.number place.k place.within place.fits in
     let from : (slot_of region s).start ≤ granule = at.from in
     let to : granule < end_of (slot_of region s) = at.to in
-    let start : (slot_of region s).start ≡ share_of region * place.number + get_or region.classes place.number 0 * place.k = ap (λ (slot : Slot). slot.start) slot in
+    let start : (slot_of region s).start ≡ share_of region * place.number + get_or region.classes place.number 0 * place.k =
+    ap (λ (slot : Slot). slot.start) slot in
     let class : (slot_of region s).class ≡ get_or region.classes place.number 0 = ap (λ (slot : Slot). slot.class) slot in
     divided (share_of region) granule place.number (get_or region.classes place.number 0) place.k place.fits (omega arith) (omega arith)
 
 -- no slot is found where none covers the granule
-none_over : (region : Partition) (granule : ℕ) → IsPartition region → ((s : ℕ) → s < slot_count region → Covers (slot_of region s) granule → ⊥) → None ≡ slot_over region granule
+none_over : (region : Partition) (granule : ℕ) → IsPartition region →
+    ((s : ℕ) → s < slot_count region → Covers (slot_of region s) granule → ⊥) → None ≡ slot_over region granule
 none_over region granule is none = by (slot_over region granule) refl
   where
     by : (found : Option ℕ) → slot_over region granule ≡ found → None ≡ found
@@ -46,10 +49,12 @@ none_over region granule is none = by (slot_over region granule) refl
 pub none_without_share : (region : Partition) (granule : ℕ) → IsPartition region → share_of region ≡ 0 → None ≡ slot_over region granule
 none_without_share region granule is no_share = none_over region granule is (λ s within at.
     let place = place_of region s within in
-    let fits : place.k < 0 / get_or region.classes place.number 0 = subst (λ n. place.k < n / get_or region.classes place.number 0) no_share place.fits in
+    let fits : place.k < 0 / get_or region.classes place.number 0 =
+    subst (λ n. place.k < n / get_or region.classes place.number 0) no_share place.fits in
     omega arith)
 
-pub none_past_shares : (region : Partition) (granule : ℕ) → IsPartition region → length region.classes ≤ granule / share_of region → None ≡ slot_over region granule
+pub none_past_shares : (region : Partition) (granule : ℕ) → IsPartition region → length region.classes ≤ granule / share_of region →
+    None ≡ slot_over region granule
 none_past_shares region granule is past = none_over region granule is (λ s within at.
     let place = place_of region s within in
     let where_is = covered region granule s place at in
@@ -57,7 +62,8 @@ none_past_shares region granule is past = none_over region granule is (λ s with
 
 -- where no slot of the granule's share covers it, none does
 pub none_after_slots : (region : Partition) (granule : ℕ) → IsPartition region → granule / share_of region < length region.classes →
-    share_of region / get_or region.classes (granule / share_of region) 0 ≤ granule % share_of region / get_or region.classes (granule / share_of region) 0 →
+    share_of region / get_or region.classes (granule / share_of region) 0 ≤ granule % share_of region / get_or region.classes
+    (granule / share_of region) 0 →
     None ≡ slot_over region granule
 none_after_slots region granule is within past = none_over region granule is (λ s inside at.
     let place = place_of region s inside in
@@ -69,7 +75,8 @@ none_after_slots region granule is within past = none_over region granule is (λ
     omega arith)
 
 -- a place is a slot's exactly where its number is below the next class's first slot
-module _ (region : Partition) (share number class k first next : ℕ) (share_is : share ≡ share_of region) (class_is : class ≡ get_or region.classes number 0) (within : number < length region.classes)
+module _ (region : Partition) (share number class k first next : ℕ) (share_is : share ≡ share_of region)
+    (class_is : class ≡ get_or region.classes number 0) (within : number < length region.classes)
     (first_is : first ≡ first_slot region number) (next_is : next ≡ first_slot region (number + 1)) where
   counted : next ≡ first + share / class
   counted = next_is ∙ first_slot-suc region number within ∙ (λ i. sym first_is i + sym share_is i / sym class_is i)
@@ -82,7 +89,8 @@ module _ (region : Partition) (share number class k first next : ℕ) (share_is 
 
 -- and else it is the slot at that place
 pub some_in_share : (region : Partition) (granule s : ℕ) → IsPartition region → granule / share_of region < length region.classes →
-    granule % share_of region / get_or region.classes (granule / share_of region) 0 < share_of region / get_or region.classes (granule / share_of region) 0 →
+    granule % share_of region / get_or region.classes (granule / share_of region) 0 < share_of region / get_or region.classes
+    (granule / share_of region) 0 →
     s ≡ first_slot region (granule / share_of region) + granule % share_of region / get_or region.classes (granule / share_of region) 0 →
     Some s ≡ slot_over region granule
 some_in_share region granule s is within fits place =
@@ -90,7 +98,8 @@ some_in_share region granule s is within fits place =
     let number = granule / share in
     let class = get_or region.classes number 0 in
     let k = granule % share / class in
-    let slot : slot_of region s ≡ record { start = share * number + class * k; class = class } = ap (slot_of region) place ∙ slot_of-class region number k within fits in
+    let slot : slot_of region s ≡ record { start = share * number + class * k; class = class } =
+    ap (slot_of region) place ∙ slot_of-class region number k within fits in
     let start : (slot_of region s).start ≡ share * number + class * k = ap (λ (slot : Slot). slot.start) slot in
     let width : (slot_of region s).class ≡ class = ap (λ (slot : Slot). slot.class) slot in
     let whole : number * share + granule % share ≡ granule = div-add-mod' granule share in
@@ -102,15 +111,18 @@ some_in_share region granule s is within fits place =
 
 -- which begins so many granules before
 pub place_in_share : (region : Partition) (granule : ℕ) → granule / share_of region < length region.classes →
-    granule % share_of region / get_or region.classes (granule / share_of region) 0 < share_of region / get_or region.classes (granule / share_of region) 0 →
-    (slot_of region (first_slot region (granule / share_of region) + granule % share_of region / get_or region.classes (granule / share_of region) 0)).start
+    granule % share_of region / get_or region.classes (granule / share_of region) 0 < share_of region / get_or region.classes
+    (granule / share_of region) 0 →
+    (slot_of region (first_slot region (granule / share_of region) + granule % share_of region / get_or region.classes
+    (granule / share_of region) 0)).start
     + granule % share_of region % get_or region.classes (granule / share_of region) 0 ≡ granule
 place_in_share region granule within fits =
     let share = share_of region in
     let number = granule / share in
     let class = get_or region.classes number 0 in
     let k = granule % share / class in
-    let start : (slot_of region (first_slot region number + k)).start ≡ share * number + class * k = ap (λ (slot : Slot). slot.start) (slot_of-class region number k within fits) in
+    let start : (slot_of region (first_slot region number + k)).start ≡ share * number + class * k =
+    ap (λ (slot : Slot). slot.start) (slot_of-class region number k within fits) in
     let whole : number * share + granule % share ≡ granule = div-add-mod' granule share in
     let inner : k * class + granule % share % class ≡ granule % share = div-add-mod' (granule % share) class in
     omega (arith, start, whole, inner)

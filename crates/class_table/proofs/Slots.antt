@@ -36,7 +36,8 @@ slots_in_a_row first class j n = map (λ k. record { start = first + class * k; 
 spread_row : (first class j n : ℕ) → 2 ≤ class → IsSpread (first + class * j) (first + class * (j + n)) (slots_in_a_row first class j n)
 spread_row first class j zero wide = omega arith
 spread_row first class j (suc n) wide =
-    let rest : IsSpread (first + class * (j + 1)) (first + class * (j + 1 + n)) (slots_in_a_row first class (j + 1) n) = spread_row first class (j + 1) n wide in
+    let rest : IsSpread (first + class * (j + 1)) (first + class * (j + 1 + n)) (slots_in_a_row first class (j + 1) n) =
+    spread_row first class (j + 1) n wide in
     let from : first + class * (j + 1) ≡ first + class * j + class = omega arith in
     let to : first + class * (j + 1 + n) ≡ first + class * (j + suc n) = omega arith in (
       omega arith,
@@ -47,27 +48,33 @@ spread_row first class j (suc n) wide =
 
 spread_class : (first share class : ℕ) → 2 ≤ class → IsSpread first (first + share) (slots_of_class first share class)
 spread_class first share class wide =
-    let row : IsSpread (first + class * 0) (first + class * (0 + share / class)) (slots_of_class first share class) = spread_row first class 0 (share / class) wide in
+    let row : IsSpread (first + class * 0) (first + class * (0 + share / class)) (slots_of_class first share class) =
+    spread_row first class 0 (share / class) wide in
     let fits : share / class * class + share % class ≡ share = div-add-mod' share class in
     spread_from first (first + class * 0) (first + share) (slots_of_class first share class) (omega arith)
-    (spread_to (first + class * 0) (first + class * (0 + share / class)) (first + share) (slots_of_class first share class) (omega arith) row)
+    (spread_to (first + class * 0) (first + class * (0 + share / class)) (first + share) (slots_of_class first share class) (omega arith)
+    row)
 
-spread_classes : (first share : ℕ) (classes : List ℕ) → All (λ class. (2 ≤ class) × (class ≤ 1024)) classes → IsSpread first (first + share * length classes) (slots_of_classes first share classes)
+spread_classes : (first share : ℕ) (classes : List ℕ) → All (λ class. (2 ≤ class) × (class ≤ 1024)) classes →
+    IsSpread first (first + share * length classes) (slots_of_classes first share classes)
 unfolding slots_of_classes
 spread_classes first share [] in_range = omega arith
 spread_classes first share (class ∷ classes) in_range =
     let rest : IsSpread (first + share) (first + share + share * length classes) (slots_of_classes (first + share) share classes) =
     spread_classes (first + share) share classes (All-tail (λ class. (2 ≤ class) × (class ≤ 1024)) class classes in_range) in
     let to : first + share + share * length classes ≡ first + share * length (class ∷ classes) = omega arith in
-    spread_append first (first + share) (first + share * length (class ∷ classes)) (slots_of_class first share class) (slots_of_classes (first + share) share classes)
+    spread_append first (first + share) (first + share * length (class ∷ classes)) (slots_of_class first share class)
+    (slots_of_classes (first + share) share classes)
     (spread_class first share class (in_range 0 0 (omega arith)).0)
     (subst (λ granule. IsSpread (first + share) granule (slots_of_classes (first + share) share classes)) to rest)
 
 spread_slots : (step : ℕ) (region : Partition) → IsLegalTable step region.classes → IsSpread 0 region.granules (slots_of region)
 unfolding slots_of
 spread_slots step region legal =
-    let fits : share_of region * length region.classes + region.granules % length region.classes ≡ region.granules = div-add-mod' region.granules (length region.classes) in
-    spread_to 0 (0 + share_of region * length region.classes) region.granules (slots_of_classes 0 (share_of region) region.classes) (omega arith)
+    let fits : share_of region * length region.classes + region.granules % length region.classes ≡ region.granules =
+    div-add-mod' region.granules (length region.classes) in
+    spread_to 0 (0 + share_of region * length region.classes) region.granules (slots_of_classes 0 (share_of region) region.classes)
+    (omega arith)
     (spread_classes 0 (share_of region) region.classes legal.in_range)
 
 record IsBetween (from to : ℕ) (slot : Slot) : Type 0 where
@@ -81,16 +88,19 @@ spread_below a b (slot ∷ slots) spread = omega (arith, spread.0, spread_below 
 
 spread_at : (a b : ℕ) (slots : List Slot) (s : ℕ) → IsSpread a b slots → s < length slots → IsBetween a b (get_or slots s no_slot)
 spread_at a b [] s spread within = absurd (omega arith)
-spread_at a b (slot ∷ slots) zero spread within = record { after = spread.0; wide = spread.1; before = spread_below (end_of slot) b slots spread.2 }
+spread_at a b (slot ∷ slots) zero spread within =
+    record { after = spread.0; wide = spread.1; before = spread_below (end_of slot) b slots spread.2 }
 spread_at a b (slot ∷ slots) (suc s) spread within =
     let rest = spread_at (end_of slot) b slots s spread.2 (omega arith) in
     record { after = omega (arith, rest.after, spread.0); wide = rest.wide; before = rest.before }
 
-spread_apart : (a b : ℕ) (slots : List Slot) (s r : ℕ) → IsSpread a b slots → s < r → r < length slots → end_of (get_or slots s no_slot) ≤ (get_or slots r no_slot).start
+spread_apart : (a b : ℕ) (slots : List Slot) (s r : ℕ) → IsSpread a b slots → s < r → r < length slots →
+    end_of (get_or slots s no_slot) ≤ (get_or slots r no_slot).start
 spread_apart a b [] s r spread before within = absurd (omega arith)
 spread_apart a b (slot ∷ slots) s zero spread before within = absurd (omega arith)
 spread_apart a b (slot ∷ slots) zero (suc r) spread before within = (spread_at (end_of slot) b slots r spread.2 (omega arith)).after
-spread_apart a b (slot ∷ slots) (suc s) (suc r) spread before within = spread_apart (end_of slot) b slots s r spread.2 (omega arith) (omega arith)
+spread_apart a b (slot ∷ slots) (suc s) (suc r) spread before within =
+    spread_apart (end_of slot) b slots s r spread.2 (omega arith) (omega arith)
 
 pub in_order : (step : ℕ) (region : Partition) → IsLegalTable step region.classes → AreInOrder region
 in_order step region legal =
@@ -107,12 +117,15 @@ abbrev slots_before : ℕ → ℕ → List ℕ → ℕ
 slots_before share number classes = sum_by (λ class. share / class) (take number classes)
 
 length-slots_of_class : (first share class : ℕ) → length (slots_of_class first share class) ≡ share / class
-length-slots_of_class first share class = length-map-range_with_len (λ k. record { start = first + class * k; class = class }) 0 (share / class)
+length-slots_of_class first share class =
+    length-map-range_with_len (λ k. record { start = first + class * k; class = class }) 0 (share / class)
 
-slots_before-suc : (share number class : ℕ) (classes : List ℕ) → slots_before share (suc number) (class ∷ classes) ≡ share / class + slots_before share number classes
+slots_before-suc : (share number class : ℕ) (classes : List ℕ) →
+    slots_before share (suc number) (class ∷ classes) ≡ share / class + slots_before share number classes
 slots_before-suc share number class classes = sum_by-cons (λ class. share / class) class (take number classes)
 
-pub length-slots_of_classes : (first share : ℕ) (classes : List ℕ) → length (slots_of_classes first share classes) ≡ sum_by (λ class. share / class) classes
+pub length-slots_of_classes : (first share : ℕ) (classes : List ℕ) →
+    length (slots_of_classes first share classes) ≡ sum_by (λ class. share / class) classes
 unfolding slots_of_classes
 length-slots_of_classes first share [] = refl
 length-slots_of_classes first share (class ∷ classes) =
@@ -135,24 +148,30 @@ unfolding slots_of_classes
 slot_in_class first share [] number k within fits = absurd (omega arith)
 slot_in_class first share (class ∷ classes) zero k within fits =
     rw zero-add
-    (get_or_append_left (slots_of_class first share class) (slots_of_classes (first + share) share classes) no_slot k (rw length-slots_of_class fits)
+    (get_or_append_left (slots_of_class first share class) (slots_of_classes (first + share) share classes) no_slot k
+    (rw length-slots_of_class fits)
     ∙ get_or-map-range_with_len (λ k. record { start = first + class * k; class = class }) 0 (share / class) k k no_slot fits (omega arith)
     ∙ ap (λ n. record { start = n + class * k; class = class }) (omega arith))
 slot_in_class first share (class ∷ classes) (suc number) k within fits =
     let place : slots_before share (suc number) (class ∷ classes) + k ≡ length (slots_of_class first share class) + (slots_before share number classes + k) =
     omega (arith, slots_before-suc share number class classes, length-slots_of_class first share class) in
-    let start : first + share + share * number + get_or classes number 0 * k ≡ first + share * suc number + get_or classes number 0 * k = omega arith in
+    let start : first + share + share * number + get_or classes number 0 * k ≡ first + share * suc number + get_or classes number 0 * k =
+    omega arith in
     ap (λ place. get_or (slots_of_class first share class ++ slots_of_classes (first + share) share classes) place no_slot) place
-    ∙ get_or-append-add (slots_of_class first share class) (slots_of_classes (first + share) share classes) (slots_before share number classes + k) no_slot
+    ∙ get_or-append-add (slots_of_class first share class) (slots_of_classes (first + share) share classes)
+    (slots_before share number classes + k) no_slot
     ∙ slot_in_class (first + share) share classes number k (omega arith) fits
     ∙ ap (λ n. record { start = n; class = get_or classes number 0 }) start
 
-pub slot_of-class : (region : Partition) (number k : ℕ) → number < length region.classes → k < share_of region / get_or region.classes number 0 →
-    slot_of region (first_slot region number + k) ≡ record { start = share_of region * number + get_or region.classes number 0 * k; class = get_or region.classes number 0 }
+pub slot_of-class : (region : Partition) (number k : ℕ) → number < length region.classes →
+    k < share_of region / get_or region.classes number 0 →
+    slot_of region (first_slot region number + k)
+    ≡ record { start = share_of region * number + get_or region.classes number 0 * k; class = get_or region.classes number 0 }
 unfolding slots_of
 slot_of-class region number k within fits =
     slot_in_class 0 (share_of region) region.classes number k within fits
-    ∙ ap (λ n. record { start = n + get_or region.classes number 0 * k; class = get_or region.classes number 0 }) (zero-add (share_of region * number))
+    ∙ ap (λ n. record { start = n + get_or region.classes number 0 * k; class = get_or region.classes number 0 })
+    (zero-add (share_of region * number))
 
 -- A place among the classes: a class, and the number of a slot in its share.
 pub record Place (region : Partition) (s : ℕ) : Type 0 where
@@ -174,7 +193,8 @@ place_in share [] s within = absurd (omega arith)
 place_in share (class ∷ classes) s within = elim (cases_lt s (share / class)) [
   | inl here ↦ record { number = 0; k = s; within = omega arith; fits = here; is = sym (zero-add s) }
   | inr there ↦
-      let all : sum_by (λ class. share / class) (class ∷ classes) ≡ share / class + sum_by (λ class. share / class) classes = sum_by-cons (λ class. share / class) class classes in
+      let all : sum_by (λ class. share / class) (class ∷ classes) ≡ share / class + sum_by (λ class. share / class) classes =
+      sum_by-cons (λ class. share / class) class classes in
       let rest = place_in share classes (s - share / class) (omega arith) in
       record {
         number = suc rest.number;
@@ -189,12 +209,15 @@ place_in share (class ∷ classes) s within = elim (cases_lt s (share / class)) 
 pub place_of : (region : Partition) (s : ℕ) → s < slot_count region → Place region s
 unfolding slots_of
 place_of region s within =
-    let place = place_in (share_of region) region.classes s (subst (λ n. s < n) (length-slots_of_classes 0 (share_of region) region.classes) within) in
+    let place =
+    place_in (share_of region) region.classes s
+    (subst (λ n. s < n) (length-slots_of_classes 0 (share_of region) region.classes) within) in
     record { number = place.number; k = place.k; within = place.within; fits = place.fits; is = place.is }
 
 pub class_of_slot : (region : Partition) (s : ℕ) → s < slot_count region → Contains region.classes (slot_of region s).class
 class_of_slot region s within =
     let place = place_of region s within in
     let slot = slot_of-class region place.number place.k place.within place.fits in
-    let class : (slot_of region s).class ≡ get_or region.classes place.number 0 = ap (λ s. (slot_of region s).class) place.is ∙ ap (λ (slot : Slot). slot.class) slot in
+    let class : (slot_of region s).class ≡ get_or region.classes place.number 0 =
+    ap (λ s. (slot_of region s).class) place.is ∙ ap (λ (slot : Slot). slot.class) slot in
     subst (Contains region.classes) (sym class) (Contains-get_or region.classes place.number 0 place.within)

@@ -58,7 +58,9 @@ one_line text line is_line some spelled =
 pub lines-spelled : (text table : List ℕ) → SpellsTable text table → lines text ≡ class_line table ∷ []
 lines-spelled text table spells =
     let above = classes-from_legal table spells.legal in
-    let is_line = laws.makes_line (codes "classes" ∷ map decimal table) (All-cons IsLine (codes "classes") (map decimal table) name_is_line (lines_all table 0 above)) in
+    let is_line =
+    laws.makes_line (codes "classes" ∷ map decimal table)
+    (All-cons IsLine (codes "classes") (map decimal table) name_is_line (lines_all table 0 above)) in
     one_line text (class_line table) is_line (some_bytes table) spells.line
 
 -- The line of a table is read as that table,
@@ -66,7 +68,9 @@ pub table_of_line-legal : (table : List ℕ) → IsLegalTable 1 table → table_
 unfolding table_of_line
 table_of_line-legal table legal =
     let above = classes-from_legal table legal in
-    let parts = laws.written_words (codes "classes") (map decimal table) (All-cons IsWord (codes "classes") (map decimal table) name_is_word (words_all table 0 above)) in
+    let parts =
+    laws.written_words (codes "classes") (map decimal table)
+    (All-cons IsWord (codes "classes") (map decimal table) name_is_word (words_all table 0 above)) in
     let few : ltb 32 (length table) ≡ false = le-ltb 32 (length table) legal.few in
     rw (parts, numbers_of-decimals table 0 above, few, no_fault-from_classes 0 table above) refl
 
@@ -106,7 +110,8 @@ cons_head a b x y e = cc
 cons_tail : (a b : ℕ) (x y : List ℕ) → a ∷ x ≡ b ∷ y → x ≡ y
 cons_tail a b x y e = cc
 
-decimals-numbers_of : (ws : List (List ℕ)) (ns : List ℕ) (below : ℕ) → numbers_of ws ≡ Some ns → AreClassesAbove below ns → ws ≡ map decimal ns
+decimals-numbers_of : (ws : List (List ℕ)) (ns : List ℕ) (below : ℕ) → numbers_of ws ≡ Some ns → AreClassesAbove below ns →
+    ws ≡ map decimal ns
 unfolding numbers_of
 decimals-numbers_of [] ns below e above = let none = same_list [] ns e in rw (← none) refl
 decimals-numbers_of (w ∷ ws) [] below e above = let f = first_of_numbers w ws [] e in let g = f.both in absurd cc
@@ -121,7 +126,8 @@ decimals-numbers_of (w ∷ ws) (n ∷ ns) below e above =
 pub of_classes : (classes table : List ℕ) → table_of_classes classes ≡ Ok table → (classes ≡ table) × IsLegalTable 1 table
 of_classes classes table e = go (ltb 32 (length classes)) refl (fault_from 0 classes) refl
   where
-    go : (many : Bool) → ltb 32 (length classes) ≡ many → (fault : Option TableError) → fault_from 0 classes ≡ fault → (classes ≡ table) × IsLegalTable 1 table
+    go : (many : Bool) → ltb 32 (length classes) ≡ many → (fault : Option TableError) → fault_from 0 classes ≡ fault →
+        (classes ≡ table) × IsLegalTable 1 table
     go true h fault k = let f = rw h at e in absurd cc
     go false h (Some fault) k = let f = rw (h, k) at e in absurd cc
     go false h None k =
@@ -133,11 +139,13 @@ faultless classes legal =
     let few : ltb 32 (length classes) ≡ false = le-ltb 32 (length classes) legal.few in
     rw (few, no_fault-from_classes 0 classes (classes-from_legal classes legal)) refl
 
-of_numbers : (numbers : Option (List ℕ)) (table : List ℕ) → table_of_numbers numbers ≡ Ok table → (numbers ≡ Some table) × IsLegalTable 1 table
+of_numbers : (numbers : Option (List ℕ)) (table : List ℕ) → table_of_numbers numbers ≡ Ok table →
+    (numbers ≡ Some table) × IsLegalTable 1 table
 of_numbers None table e = absurd cc
 of_numbers (Some ns) table e = let parts = of_classes ns table e in (ap Some parts.0, parts.1)
 
-of_words : (ws : List (List ℕ)) (table : List ℕ) → table_of_words ws ≡ Ok table → (ws ≡ codes "classes" ∷ map decimal table) × IsLegalTable 1 table
+of_words : (ws : List (List ℕ)) (table : List ℕ) → table_of_words ws ≡ Ok table →
+    (ws ≡ codes "classes" ∷ map decimal table) × IsLegalTable 1 table
 of_words [] table e = absurd cc
 of_words (w ∷ ws) table e = go (bytes_eq w (codes "classes")) refl
   where
@@ -160,7 +168,8 @@ line-table_of_line line table e =
     let parts = of_words (words line) table e in
     (sym (laws.line line) ∙ ap line_of parts.0, parts.1)
 
-of_lines : (text : List ℕ) (ls : List (List ℕ)) (table : List ℕ) → (text_of ls ≡ text) ⊎ (text_of ls ≡ ended text) → table_of_lines ls ≡ Ok table → SpellsTable text table
+of_lines : (text : List ℕ) (ls : List (List ℕ)) (table : List ℕ) → (text_of ls ≡ text) ⊎ (text_of ls ≡ ended text) →
+    table_of_lines ls ≡ Ok table → SpellsTable text table
 of_lines text [] table same e = absurd cc
 of_lines text (line ∷ other ∷ ls) table same e = absurd cc
 of_lines text (line ∷ []) table same e =

@@ -10,18 +10,21 @@ use Rattle.class_table.specs.declared.fault.TableError.TheVariants.{OutOfRange, 
 abbrev pub fault_at : List ℕ → ℕ → ℕ → Option TableError
 fault_at classes below i = fault_from below (drop i classes)
 
-pub out_of_range_at : (classes : List ℕ) (below i : ℕ) → i < length classes → is_out_of_range (get_or classes i 0) ≡ true → fault_at classes below i ≡ Some OutOfRange
+pub out_of_range_at : (classes : List ℕ) (below i : ℕ) → i < length classes → is_out_of_range (get_or classes i 0) ≡ true →
+    fault_at classes below i ≡ Some OutOfRange
 unfolding fault_from
 out_of_range_at classes below i within out = rw (drop-cons classes i 0 within, out) refl
 
-pub not_ascending_at : (classes : List ℕ) (below i : ℕ) → i < length classes → is_out_of_range (get_or classes i 0) ≡ false → get_or classes i 0 ≤ below
+pub not_ascending_at : (classes : List ℕ) (below i : ℕ) → i < length classes → is_out_of_range (get_or classes i 0) ≡ false →
+    get_or classes i 0 ≤ below
     → fault_at classes below i ≡ Some NotAscending
 unfolding fault_from
 not_ascending_at classes below i within in_range low =
     let low_test : leb (get_or classes i 0) below ≡ true = le-leb _ _ low in
     rw (drop-cons classes i 0 within, in_range, low_test) refl
 
-pub no_fault_at : (classes : List ℕ) (below i : ℕ) → i < length classes → is_out_of_range (get_or classes i 0) ≡ false → below < get_or classes i 0
+pub no_fault_at : (classes : List ℕ) (below i : ℕ) → i < length classes → is_out_of_range (get_or classes i 0) ≡ false →
+    below < get_or classes i 0
     → fault_at classes below i ≡ fault_at classes (get_or classes i 0) (i + 1)
 unfolding fault_from
 no_fault_at classes below i within in_range above =

@@ -27,7 +27,8 @@ unfolding fault_from
 same_faults below [] = refl
 same_faults below (n ∷ ns) = go (is_out_of_range n) refl (same_faults n ns)
   where
-    go : (out : Bool) → is_out_of_range n ≡ out → fault_from n (map clip ns) ≡ fault_from n ns → fault_from below (map clip (n ∷ ns)) ≡ fault_from below (n ∷ ns)
+    go : (out : Bool) → is_out_of_range n ≡ out → fault_from n (map clip ns) ≡ fault_from n ns →
+        fault_from below (map clip (n ∷ ns)) ≡ fault_from below (n ∷ ns)
     go true e others = rw (clipped_range n, e) refl
     go false e others = rw (clip_small n e, e, others) refl
 
@@ -36,7 +37,8 @@ unfolding fault_from
 same_classes below [] none = refl
 same_classes below (n ∷ ns) none = go (is_out_of_range n) refl (leb n below) refl (same_classes n ns)
   where
-    go : (out : Bool) → is_out_of_range n ≡ out → (low : Bool) → leb n below ≡ low → (fault_from n ns ≡ None → map clip ns ≡ ns) → map clip (n ∷ ns) ≡ n ∷ ns
+    go : (out : Bool) → is_out_of_range n ≡ out → (low : Bool) → leb n below ≡ low → (fault_from n ns ≡ None → map clip ns ≡ ns) →
+        map clip (n ∷ ns) ≡ n ∷ ns
     go true e low f others = let g = rw e at none in absurd cc
     go false e true f others = let g = rw (e, f) at none in absurd cc
     go false e false f others = rw (clip_small n e, others (rw (e, f) at none)) refl
@@ -88,14 +90,17 @@ start all = record { front = []; spelled = go (numbers_of all); clipped = refl; 
 pub faulty : (all rest new : List (List ℕ)) (w : List ℕ) (kept : List ℕ) (too_many : Bool) → SoFar all rest kept too_many → rest ≡ w ∷ new
     → number_of w ≡ None → table_of_numbers (numbers_of all) ≡ Err BadLine
 faulty all rest new w kept too_many so_far parts none =
-    let no_numbers : numbers_of all ≡ None = so_far.spelled ∙ ap (λ ws. after so_far.front (numbers_of ws)) parts ∙ ap (after so_far.front) (none_first w new none) in
+    let no_numbers : numbers_of all ≡ None =
+    so_far.spelled ∙ ap (λ ws. after so_far.front (numbers_of ws)) parts ∙ ap (after so_far.front) (none_first w new none) in
     rw no_numbers refl
 
-length_kept : (all rest : List (List ℕ)) (kept : List ℕ) (too_many : Bool) → (so_far : SoFar all rest kept too_many) → length kept ≡ min 32 (length so_far.front)
+length_kept : (all rest : List (List ℕ)) (kept : List ℕ) (too_many : Bool) → (so_far : SoFar all rest kept too_many) →
+    length kept ≡ min 32 (length so_far.front)
 length_kept all rest kept too_many so_far = ap length so_far.clipped ∙ length-map (take 32 so_far.front) clip ∙ length-take 32 so_far.front
 
 -- a number for which there is room
-pub room : (all rest new : List (List ℕ)) (w : List ℕ) (kept : List ℕ) (too_many : Bool) (n : ℕ) → SoFar all rest kept too_many → rest ≡ w ∷ new
+pub room : (all rest new : List (List ℕ)) (w : List ℕ) (kept : List ℕ) (too_many : Bool) (n : ℕ) → SoFar all rest kept too_many →
+    rest ≡ w ∷ new
     → number_of w ≡ Some n → length kept < 32 → SoFar all new (kept ++ clip n ∷ []) false
 room all rest new w kept too_many n so_far parts some fits =
     let len : length so_far.front < 32 = omega (arith, length_kept all rest kept too_many so_far) in
@@ -109,7 +114,8 @@ room all rest new w kept too_many n so_far parts some fits =
     }
 
 -- and one for which there is none
-pub no_room : (all rest new : List (List ℕ)) (w : List ℕ) (kept : List ℕ) (too_many : Bool) (n : ℕ) → SoFar all rest kept too_many → rest ≡ w ∷ new
+pub no_room : (all rest new : List (List ℕ)) (w : List ℕ) (kept : List ℕ) (too_many : Bool) (n : ℕ) → SoFar all rest kept too_many →
+    rest ≡ w ∷ new
     → number_of w ≡ Some n → 32 ≤ length kept → SoFar all new kept true
 no_room all rest new w kept too_many n so_far parts some full =
     let len : 32 ≤ length so_far.front = omega (arith, length_kept all rest kept too_many so_far) in
@@ -120,16 +126,19 @@ no_room all rest new w kept too_many n so_far parts some full =
       many = sym (lt-ltb 32 (length (so_far.front ++ n ∷ [])) (omega (arith, length-append so_far.front (n ∷ []))));
     }
 
-all_read : (all : List (List ℕ)) (kept : List ℕ) (too_many : Bool) → (so_far : SoFar all [] kept too_many) → numbers_of all ≡ Some so_far.front
+all_read : (all : List (List ℕ)) (kept : List ℕ) (too_many : Bool) → (so_far : SoFar all [] kept too_many) →
+    numbers_of all ≡ Some so_far.front
 unfolding numbers_of
 all_read all kept too_many so_far = so_far.spelled ∙ ap Some (append-nil so_far.front)
 
-pub too_many_read : (all rest : List (List ℕ)) (kept : List ℕ) → rest ≡ [] → SoFar all rest kept true → table_of_numbers (numbers_of all) ≡ Err TooMany
+pub too_many_read : (all rest : List (List ℕ)) (kept : List ℕ) → rest ≡ [] → SoFar all rest kept true →
+    table_of_numbers (numbers_of all) ≡ Err TooMany
 too_many_read all rest kept none so_far =
     let so_far_now : SoFar all [] kept true = rw none at so_far in
     rw (all_read all kept true so_far_now, sym so_far_now.many) refl
 
-pub few_read : (all rest : List (List ℕ)) (kept : List ℕ) → rest ≡ [] → SoFar all rest kept false → table_of_numbers (numbers_of all) ≡ table_of_classes kept
+pub few_read : (all rest : List (List ℕ)) (kept : List ℕ) → rest ≡ [] → SoFar all rest kept false →
+    table_of_numbers (numbers_of all) ≡ table_of_classes kept
 few_read all rest kept none so_far =
     let now : SoFar all [] kept false = rw none at so_far in
     let few : length now.front ≤ 32 = ltb-false 32 (length now.front) (sym now.many) in
@@ -151,5 +160,6 @@ number_is (Some n) m e = (n, refl, cc)
 pub other_name : (w : List ℕ) (ws : List (List ℕ)) → bytes_eq w (codes "classes") ≡ false → table_of_words (w ∷ ws) ≡ Err BadLine
 other_name w ws e = rw e refl
 
-pub named : (w : List ℕ) (ws : List (List ℕ)) → bytes_eq w (codes "classes") ≡ true → table_of_words (w ∷ ws) ≡ table_of_numbers (numbers_of ws)
+pub named : (w : List ℕ) (ws : List (List ℕ)) → bytes_eq w (codes "classes") ≡ true →
+    table_of_words (w ∷ ws) ≡ table_of_numbers (numbers_of ws)
 named w ws e = rw e refl

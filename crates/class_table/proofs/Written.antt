@@ -9,9 +9,11 @@ use Rattle.class_table.specs.ClassLine.{class_line}
 -- one word more
 line_of-push : (w : List ℕ) (ws : List (List ℕ)) (v : List ℕ) → line_of (w ∷ ws ++ v ∷ []) ≡ line_of (w ∷ ws) ++ 32 ∷ v
 line_of-push w [] v = refl
-line_of-push w (u ∷ ws) v = ap (λ (rest : List ℕ). w ++ 32 ∷ rest) (line_of-push u ws v) ∙ sym (append_assoc w (32 ∷ line_of (u ∷ ws)) (32 ∷ v))
+line_of-push w (u ∷ ws) v =
+    ap (λ (rest : List ℕ). w ++ 32 ∷ rest) (line_of-push u ws v) ∙ sym (append_assoc w (32 ∷ line_of (u ∷ ws)) (32 ∷ v))
 
-pub class_line-more : (classes : List ℕ) (i : ℕ) → i < length classes → class_line (take (i + 1) classes) ≡ class_line (take i classes) ++ 32 ∷ decimal (get_or classes i 0)
+pub class_line-more : (classes : List ℕ) (i : ℕ) → i < length classes →
+    class_line (take (i + 1) classes) ≡ class_line (take i classes) ++ 32 ∷ decimal (get_or classes i 0)
 class_line-more classes i within =
     let more : take (i + 1) classes ≡ take i classes ++ get_or classes i 0 ∷ [] = take_more classes i 0 within in
     rw (more, map-append) (line_of-push (codes "classes") (map decimal (take i classes)) (decimal (get_or classes i 0)))

@@ -19,7 +19,8 @@ ServingIsNeed = (n class : ℕ) → 2 ≤ class → IsTrue (serves n class) ↔ 
 
 -- In a legal table the first class that serves a size is the least one that does.
 abbrev pub FirstIsLeast : Type 0
-FirstIsLeast = (step n class : ℕ) (classes : List ℕ) → IsLegalTable step classes → class_for classes n ≡ Some class → IsLeastServing classes n class
+FirstIsLeast =
+    (step n class : ℕ) (classes : List ℕ) → IsLegalTable step classes → class_for classes n ≡ Some class → IsLeastServing classes n class
 
 -- Where a size has no class, none serves it.
 abbrev pub NoClassServes : Type 0

@@ -16,7 +16,8 @@ abbrev pub SlotsOfAClass : Type 0
 SlotsOfAClass =
     (region : Partition) (number k : ℕ) → number < length region.classes →
     let class = slice_index region.classes number in
-    k < share_of region / class → slot_of region (first_slot region number + k) ≡ record { start = share_of region * number + class * k; class = class }
+    k < share_of region / class →
+    slot_of region (first_slot region number + k) ≡ record { start = share_of region * number + class * k; class = class }
 
 -- and there are no others.
 abbrev pub SlotsOfClassesAreAll : Type 0

@@ -1,4 +1,5 @@
--- Requests and classes. A request is a number of bytes; a class is a block size in granules of 16 bytes, one of them for the block's header.
+-- Requests and classes. A request is a number of bytes; a class is a block size in granules of 16 bytes, one of them for the block's
+-- header.
 use Rattle.std.specs.Prelude.{ℕ, ◌+◌, ◌-◌, ◌*◌, ◌/◌, Bool, nat_le, max}
 use Rattle.class_table.specs.declared.sizes.TheConstants.{GRANULE_BYTES, LARGEST_COUNTED}
 

@@ -12,7 +12,8 @@ below-up_to : (m n : ℕ) → n ≤ m → n < 2 ^ bits n
 below-up_to zero n le = let none : 0 ≡ n = omega arith in subst (λ (k : ℕ). k < 2 ^ bits k) none (omega arith)
 below-up_to (suc m) n le =
     elim (cases_lt 0 n) [
-      | inl some ↦ doubled n (bits (n / 2)) (bits n) (below-up_to m (n / 2) (omega arith)) (omega (arith, length-digits_of_step 2 n (omega arith) some))
+      | inl some ↦ doubled n (bits (n / 2)) (bits n) (below-up_to m (n / 2) (omega arith))
+          (omega (arith, length-digits_of_step 2 n (omega arith) some))
       | inr none ↦ below-up_to m n (omega arith)
     ]
 

@@ -30,7 +30,9 @@ pub one-sheet : OneSheet
 one-sheet counts step limit a b of_a of_b =
     let table = one_canonical counts step limit a.table b.table of_a.canonical of_b.canonical in
     let wastes : waste_of counts a.table ≡ waste_of counts b.table = rw table refl in
-    fields-same a.table b.table a.limit b.limit a.step b.step a.waste b.waste a.rows b.rows table (of_a.for_limit ∙ sym of_b.for_limit) (of_a.for_step ∙ sym of_b.for_step)
+    fields-same a.table b.table a.limit b.limit a.step b.step a.waste b.waste a.rows b.rows table (of_a.for_limit ∙ sym of_b.for_limit)
+    (of_a.for_step ∙ sym of_b.for_step)
     (of_a.wasted ∙ (wastes ∙ sym of_b.wasted))
     (rows-same a.rows b.rows limit _ of_a.shape of_b.shape
-    (λ k i one le lt. one_rest counts step k i (number_at a.rows k i) (number_at b.rows k i) (of_a.rests k i one le lt) (of_b.rests k i one le lt)))
+    (λ k i one le lt. one_rest counts step k i (number_at a.rows k i) (number_at b.rows k i) (of_a.rests k i one le lt)
+    (of_b.rests k i one le lt)))

@@ -8,7 +8,8 @@ module _ (need : ℕ → ℕ) (ends : ℕ → ℕ → ℕ) (d : ℕ) where
   pub read-more : (k left i end class : ℕ) (classes all : List ℕ) → k ≡ suc left → i < d → end ≡ ends k i → class ≡ need end
       → classes ++ table_of_ends need ends d k i ≡ all → (classes ++ class ∷ []) ++ table_of_ends need ends d left end ≡ all
   read-more k left i end class classes all next lt end_is class_is e =
-      let whole : table_of_ends need ends d (suc left) i ≡ need (ends (suc left) i) ∷ table_of_ends need ends d left (ends (suc left) i) = cond-true _ _ _ (lt-ltb i d lt) in
+      let whole : table_of_ends need ends d (suc left) i ≡ need (ends (suc left) i) ∷ table_of_ends need ends d left (ends (suc left) i) =
+      cond-true _ _ _ (lt-ltb i d lt) in
       let front = rw (next, whole) at e in
       rw (append_assoc, class_is, end_is, next) front
 
@@ -17,5 +18,6 @@ module _ (need : ℕ → ℕ) (ends : ℕ → ℕ → ℕ) (d : ℕ) where
   nothing zero i past = refl
   nothing (suc k) i past = cond-false _ _ _ (le-ltb i d past)
 
-  pub read-past : (k left i : ℕ) (classes all : List ℕ) → d ≤ i → classes ++ table_of_ends need ends d k i ≡ all → classes ++ table_of_ends need ends d left i ≡ all
+  pub read-past : (k left i : ℕ) (classes all : List ℕ) → d ≤ i → classes ++ table_of_ends need ends d k i ≡ all →
+      classes ++ table_of_ends need ends d left i ≡ all
   read-past k left i classes all past e = ap (λ (rest : List ℕ). classes ++ rest) (nothing left i past ∙ sym (nothing k i past)) ∙ e

@@ -46,7 +46,8 @@ record IsLeastOver (cost : ℕ → ℕ → ℕ) (d : ℕ) (before : ℕ → ℕ)
   is : number ≡ cost i end + before end
 
 least-same : (cost : ℕ → ℕ → ℕ) (d : ℕ) (before before' : ℕ → ℕ) (i number number' end end' : ℕ)
-    → ((j : ℕ) → before' j ≡ before j) → number' ≡ number → end' ≡ end → IsLeastOver cost d before i number end → IsLeastOver cost d before' i number' end'
+    → ((j : ℕ) → before' j ≡ before j) → number' ≡ number → end' ≡ end → IsLeastOver cost d before i number end →
+    IsLeastOver cost d before' i number' end'
 least-same cost d before before' i number number' end end' same same_number same_end l =
     rw (same_number, same_end) (record {
       least = record {
@@ -82,16 +83,20 @@ filled-more cost d k rows ends row end one f row_len end_len within = record {
   least = record {
     at_end = number_at-end (rows ++ row ∷ []) (suc k) d (shape-pushed rows row k d f.rows_shape row_len);
     first_row = λ i some lt.
-        let old = f.least.first_row i one lt in
-        (number_at-old rows row 1 i (omega arith) (omega (arith, f.rows_shape.row_count)) ∙ old.0, number_at-old ends end 1 i (omega arith) (omega (arith, f.ends_shape.row_count)) ∙ old.1);
+        let old = f.least.first_row i one lt in (
+          number_at-old rows row 1 i (omega arith) (omega (arith, f.rows_shape.row_count)) ∙ old.0,
+          number_at-old ends end 1 i (omega arith) (omega (arith, f.ends_shape.row_count)) ∙ old.1,
+        );
     later_row = λ m i some few lt. let l = later m i some few lt in (l.least, l.is);
   };
 }
   where
     later : (m i : ℕ) → 1 ≤ m → m < suc k → i < d
-        → IsLeastOver cost d (number_at (rows ++ row ∷ []) m) i (number_at (rows ++ row ∷ []) (suc m) i) (number_at (ends ++ end ∷ []) (suc m) i)
+        → IsLeastOver cost d (number_at (rows ++ row ∷ []) m) i (number_at (rows ++ row ∷ []) (suc m) i)
+        (number_at (ends ++ end ∷ []) (suc m) i)
     later m i some few lt =
-        let before : (j : ℕ) → number_at (rows ++ row ∷ []) m j ≡ number_at rows m j = (λ j. number_at-old rows row m j some (omega (arith, f.rows_shape.row_count))) in
+        let before : (j : ℕ) → number_at (rows ++ row ∷ []) m j ≡ number_at rows m j =
+        (λ j. number_at-old rows row m j some (omega (arith, f.rows_shape.row_count))) in
         elim (cases_lt m k) [
           | inl inside ↦ (let old = f.least.later_row m i some inside lt in
               least-same cost d (number_at rows m) (number_at (rows ++ row ∷ []) m) i _ _ _ _ before
@@ -100,9 +105,11 @@ filled-more cost d k rows ends row end one f row_len end_len within = record {
               (record { least = old.0; is = old.1 }))
           | inr past ↦ (let last : m ≡ k = omega arith in
               let new = within i (omega arith) lt in
-              let at_last : (j : ℕ) → number_at (rows ++ row ∷ []) m j ≡ slice_index (slice_index_or rows (k - 1) []) j = (λ j. before j ∙ ap (λ n. number_at rows n j) last) in
+              let at_last : (j : ℕ) → number_at (rows ++ row ∷ []) m j ≡ slice_index (slice_index_or rows (k - 1) []) j =
+              (λ j. before j ∙ ap (λ n. number_at rows n j) last) in
               least-same cost d (slice_index (slice_index_or rows (k - 1) [])) (number_at (rows ++ row ∷ []) m) i _ _ _ _ at_last
-              (number_at-new rows row m i (omega (arith, f.rows_shape.row_count))) (number_at-new ends end m i (omega (arith, f.ends_shape.row_count)))
+              (number_at-new rows row m i (omega (arith, f.rows_shape.row_count)))
+              (number_at-new ends end m i (omega (arith, f.ends_shape.row_count)))
               (record { least = new.least; is = new.number_is }))
         ]
 
@@ -114,7 +121,8 @@ filled-small cost d limit bound rows ends f small k j one le =
       | inl inside ↦ at k one le inside
       | inr past ↦ omega (
         arith,
-        get_or_past (slice_index_or rows (k - 1) []) j 0 (omega (arith, f.rows_shape.row_lengths (k - 1) [] (omega (arith, f.rows_shape.row_count)))),
+        get_or_past (slice_index_or rows (k - 1) []) j 0
+            (omega (arith, f.rows_shape.row_lengths (k - 1) [] (omega (arith, f.rows_shape.row_count)))),
       )
     ]
   where
@@ -132,7 +140,8 @@ lists-length [] = refl
 lists-length (v ∷ vs) = ap suc (lists-length vs)
 
 -- a row that was read, by its vector
-pub row-read : (cost : ℕ → ℕ → ℕ) (d limit k : ℕ) (rows : List (Vec ℕ Global)) (ends : List (List ℕ)) (v : Vec ℕ Global) (row : List ℕ) → k < limit
+pub row-read : (cost : ℕ → ℕ → ℕ) (d limit k : ℕ) (rows : List (Vec ℕ Global)) (ends : List (List ℕ)) (v : Vec ℕ Global) (row : List ℕ) →
+    k < limit
     → IsFilled cost d limit (lists_of rows) ends → v ≡ slice_index_or rows k v → row ≡ v.items → row ≡ slice_index_or (lists_of rows) k []
 row-read cost d limit k rows ends v row lt f at is =
     let inside : k < length rows = omega (arith, f.rows_shape.row_count, lists-length rows) in

@@ -26,7 +26,8 @@ call_is_valid (Some command) (Replay o) is = valid_config command.1 o.config is.
 call_is_valid (Some command) (Run o) is = (is.1.1, is.1.2, is.2.1, valid_config command.1 o.config is.3)
 
 -- `replay` is no call where its options are none
-pub no_replay : (options : List Row) → ((o : ReplayOptions) → Names (codes "replay") options (Replay o) → ⊥) → (call : Call) → Names (codes "replay") options call → ⊥
+pub no_replay : (options : List Row) → ((o : ReplayOptions) → Names (codes "replay") options (Replay o) → ⊥) → (call : Call) →
+    Names (codes "replay") options call → ⊥
 no_replay options none Score named = cc
 no_replay options none (Tune o) named = let bad : codes "replay" ≡ codes "tune" = named.0 in cc
 no_replay options none Check named = cc
@@ -35,7 +36,9 @@ no_replay options none (Replay o) named = none o named
 no_replay options none (Run o) named = let bad : codes "replay" ≡ codes "run" = named.0 in cc
 
 -- a subcommand's name and its rows are those of one subcommand
-pub entered : {X : Type 0} (name_of : X → Text) (rows_in : X → List Row) (sub : Option X) (name : Text) (rows : List Row) → option_map name_of sub ≡ Some name
-    → option_map (λ (p : Text × List Row). p.1) (option_map {U = Text × List Row} (λ x. (name_of x, rows_in x)) sub) ≡ Some rows → option_map {U = Text × List Row} (λ x. (name_of x, rows_in x)) sub ≡ Some (name, rows)
+pub entered : {X : Type 0} (name_of : X → Text) (rows_in : X → List Row) (sub : Option X) (name : Text) (rows : List Row) →
+    option_map name_of sub ≡ Some name
+    → option_map (λ (p : Text × List Row). p.1) (option_map {U = Text × List Row} (λ x. (name_of x, rows_in x)) sub) ≡ Some rows →
+    option_map {U = Text × List Row} (λ x. (name_of x, rows_in x)) sub ≡ Some (name, rows)
 entered name_of rows_in None name rows is_name is_rows = cc
 entered name_of rows_in (Some x) name rows is_name is_rows = cc

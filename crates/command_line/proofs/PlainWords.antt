@@ -21,7 +21,8 @@ program_is_free = refl
 
 -- what a parse of the program's words found
 pub found_in : (app : App) (words : List Text) (m : ArgMatches) → app ≡ program
-    → (is_simple_and_free app ≡ true → fault_of app words ≡ []) → HasMatchesOf app words m → (fault_of program words ≡ []) × (subcommand_rows_of m ≡ subcommand_of program words)
+    → (is_simple_and_free app ≡ true → fault_of app words ≡ []) → HasMatchesOf app words m →
+    (fault_of program words ≡ []) × (subcommand_rows_of m ≡ subcommand_of program words)
 found_in app words m same faults found = (
   subst (λ (a : App). fault_of a words ≡ []) same (faults (ap is_simple_and_free same ∙ program_is_free)),
   (found (ap is_simple same ∙ program_is_simple)).1 ∙ ap (λ (a : App). subcommand_of a words) same,

@@ -69,7 +69,8 @@ replay_words = with_rule (with_rule (with_rule (new_app (codes "replay")) granul
 
 abbrev pub run_words : App
 run_words =
-    with_rule (with_rule (with_rule (with_rule (with_rule (new_app (codes "run")) limit_rule) step_rule) granules_rule) seed_rule) quarantine_rule
+    with_rule (with_rule (with_rule (with_rule (with_rule (new_app (codes "run")) limit_rule) step_rule) granules_rule) seed_rule)
+    quarantine_rule
 
 -- The program: one of its commands has to be named.
 abbrev pub top : App

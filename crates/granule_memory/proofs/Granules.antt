@@ -16,7 +16,8 @@ pub granules_counted : (bytes : List ℕ) (count : ℕ) → length (granules_of 
 unfolding granules_of
 granules_counted bytes count = length-map-range_with_len (granule_in bytes count) 0 count
 
-pub granule_is : (bytes : List ℕ) (count g : ℕ) (d : Granule) → g < count → slice_index_or (granules_of bytes count) g d ≡ granule_in bytes count g
+pub granule_is : (bytes : List ℕ) (count g : ℕ) (d : Granule) → g < count →
+    slice_index_or (granules_of bytes count) g d ≡ granule_in bytes count g
 unfolding granules_of
 granule_is bytes count g d inside = get_or-map-range_with_len (granule_in bytes count) 0 count g g d inside (omega arith)
 
@@ -41,7 +42,8 @@ byte_is bytes count i inside =
     ap (λ (x : Granule). slice_index x.bytes (i % 16)) (granule_is bytes count (i / 16) no_granule (omega arith)) ∙
     slice_range_byte bytes (16 * (i / 16)) 16 (i % 16) (omega arith) ∙ ap (λ (k : ℕ). slice_index bytes k) place
 
-pub bytes_are : (bytes : List ℕ) (count i n : ℕ) → length bytes ≡ 17 * count → i + n ≤ 16 * count → bytes_at (granules_of bytes count) i n ≡ slice_range bytes i (i + n)
+pub bytes_are : (bytes : List ℕ) (count i n : ℕ) → length bytes ≡ 17 * count → i + n ≤ 16 * count →
+    bytes_at (granules_of bytes count) i n ≡ slice_range bytes i (i + n)
 unfolding bytes_at
 bytes_are bytes count i n long fits =
     let memory = granules_of bytes count in
@@ -49,9 +51,11 @@ bytes_are bytes count i n long fits =
     same_number_lists (map (byte_at memory) (range_with_len i n)) (slice_range bytes i (i + n))
     (length-map-range_with_len (byte_at memory) i n ∙ sym (slice_range_long bytes i n inside))
     (λ k h. let within : k < n = subst (λ (m : ℕ). k < m) (length-map-range_with_len (byte_at memory) i n) h in
-    get_or-map-range_with_len (byte_at memory) i n k (i + k) 0 within refl ∙ byte_is bytes count (i + k) (omega arith) ∙ sym (slice_range_byte bytes i n k within))
+    get_or-map-range_with_len (byte_at memory) i n k (i + k) 0 within refl ∙ byte_is bytes count (i + k) (omega arith)
+    ∙ sym (slice_range_byte bytes i n k within))
 
-pub word_is : (bytes : List ℕ) (count i : ℕ) → length bytes ≡ 17 * count → i + 8 ≤ 16 * count → word_at (granules_of bytes count) i ≡ raw.word_at bytes i
+pub word_is : (bytes : List ℕ) (count i : ℕ) → length bytes ≡ 17 * count → i + 8 ≤ 16 * count →
+    word_at (granules_of bytes count) i ≡ raw.word_at bytes i
 unfolding word_at raw.word_at
 word_is bytes count i long fits = ap (from_le_bytes w64) (bytes_are bytes count i 8 long fits)
 
@@ -75,7 +79,9 @@ granules_fit bytes count laid =
           let is_granule : IsGranule (granule_in bytes count g) = record {
             tag = laid.tags g inside;
             sixteen = slice_range_long bytes (16 * g) 16 (omega arith);
-            bytes = All-take (λ byte. byte < 256) (16 * g + 16 - 16 * g) (drop (16 * g) bytes) (All-drop (λ byte. byte < 256) (16 * g) bytes laid.below);
+            bytes =
+                All-take (λ byte. byte < 256) (16 * g + 16 - 16 * g) (drop (16 * g) bytes)
+                (All-drop (λ byte. byte < 256) (16 * g) bytes laid.below);
           } in
           subst IsGranule (sym (granule_is bytes count g d inside)) is_granule;
     }

@@ -38,14 +38,17 @@ module _ (xs ys : List ℕ) (count : ℕ) (long : length xs ≡ 17 * count) (sam
 
   same_word : (k : ℕ) → ((j : ℕ) → j < 8 → byte_at new (k + j) ≡ byte_at old (k + j)) → word_at new k ≡ word_at old k
   unfolding word_at bytes_at
-  same_word k same = ap (from_le_bytes w64) (same_number_lists (map (byte_at new) (range_with_len k 8)) (map (byte_at old) (range_with_len k 8))
+  same_word k same =
+      ap (from_le_bytes w64) (same_number_lists (map (byte_at new) (range_with_len k 8)) (map (byte_at old) (range_with_len k 8))
       (length-map-range_with_len (byte_at new) k 8 ∙ sym (length-map-range_with_len (byte_at old) k 8))
       (λ j h. let within : j < 8 = subst (λ (n : ℕ). j < n) (length-map-range_with_len (byte_at new) k 8) h in
-      get_or-map-range_with_len (byte_at new) k 8 j (k + j) 0 within refl ∙ same j within ∙ sym (get_or-map-range_with_len (byte_at old) k 8 j (k + j) 0 within refl)))
+      get_or-map-range_with_len (byte_at new) k 8 j (k + j) 0 within refl ∙ same j within
+      ∙ sym (get_or-map-range_with_len (byte_at old) k 8 j (k + j) 0 within refl)))
 
   same_bytes : (g : ℕ) → ((j : ℕ) → j < 16 → g < count → SameAt (16 * g + j)) → (granule_at new g).bytes ≡ (granule_at old g).bytes
   same_bytes g same = ⊎_elim
-      (λ h. ap (λ (x : Granule). x.bytes) (granule_is ys count g no_granule h) ∙ range h ∙ sym (ap (λ (x : Granule). x.bytes) (granule_is xs count g no_granule h)))
+      (λ h. ap (λ (x : Granule). x.bytes) (granule_is ys count g no_granule h) ∙ range h
+      ∙ sym (ap (λ (x : Granule). x.bytes) (granule_is xs count g no_granule h)))
       (λ h. ap (λ (x : Granule). x.bytes) (both_past g h))
       (cases_lt g count)
     where
@@ -56,9 +59,11 @@ module _ (xs ys : List ℕ) (count : ℕ) (long : length xs ≡ 17 * count) (sam
           (λ j l. let within : j < 16 = subst (λ (n : ℕ). j < n) sixteen l in
           slice_range_byte ys (16 * g) 16 j within ∙ same j within h ∙ sym (slice_range_byte xs (16 * g) 16 j within))
 
-  same_granule : (g : ℕ) → tag_at new g ≡ tag_at old g → (granule_at new g).bytes ≡ (granule_at old g).bytes → granule_at new g ≡ granule_at old g
+  same_granule : (g : ℕ) → tag_at new g ≡ tag_at old g → (granule_at new g).bytes ≡ (granule_at old g).bytes →
+      granule_at new g ≡ granule_at old g
   same_granule g tag bytes =
-      ap (λ (t : ℕ). record { tag = t; bytes = (granule_at new g).bytes }) tag ∙ ap (λ (b : List ℕ). record { tag = tag_at old g; bytes = b }) bytes
+      ap (λ (t : ℕ). record { tag = t; bytes = (granule_at new g).bytes }) tag
+      ∙ ap (λ (b : List ℕ). record { tag = tag_at old g; bytes = b }) bytes
 
   pub changes_bytes : (from to : ℕ) → to ≤ 16 * count → ((k : ℕ) → (k < from) ⊎ (to ≤ k) → SameAt k) → ChangesOnlyBytes old new from to
   changes_bytes from to within same = record {
@@ -80,7 +85,8 @@ module _ (xs ys : List ℕ) (count : ℕ) (long : length xs ≡ 17 * count) (sam
       inside g j h (inl low) = inl (omega arith)
       inside g j h (inr past) = inr (omega arith)
 
-  pub changes_tags : (from to : ℕ) → ((k : ℕ) → (k < 16 * count + from) ⊎ (16 * count + to ≤ k) → SameAt k) → ChangesOnlyTags old new from to
+  pub changes_tags : (from to : ℕ) → ((k : ℕ) → (k < 16 * count + from) ⊎ (16 * count + to ≤ k) → SameAt k) →
+      ChangesOnlyTags old new from to
   changes_tags from to same = record {
     len = granules_counted ys count ∙ sym (granules_counted xs count);
     byte = byte;

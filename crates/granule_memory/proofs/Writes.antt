@@ -1,4 +1,5 @@
--- A run of bytes that is written into the list is written into the granules, and a run of one byte past them is the tag of a run of granules.
+-- A run of bytes that is written into the list is written into the granules, and a run of one byte past them is the tag of a run of
+-- granules.
 use Rattle.std.specs.Prelude.{if◌then◌else◌, slice_range, slice_index, ◌⊎◌, All, replicate}
 use Rattle.std.proofs.Common.{◌≡◌, ℕ, ◌+◌, ◌-◌, ◌*◌, ◌<◌, ◌≤◌, ◌++◌, List, length, take, drop, sym, ap, subst, ◌∙◌, lit<, arith, inl, inr, ⊎_elim}
 use Rattle.std.proofs.lemmas.Bool.{cases_lt, cond-true, cond-false, and_from, and_left, and_right, le-leb, lt-ltb, lt-leb, le-ltb}
@@ -17,7 +18,8 @@ abbrev Below : ℕ → Type 0
 Below byte = byte < 256
 
 -- a byte of a list in which a run is written
-byte-with_bytes : (xs new : List ℕ) (i k : ℕ) → i + length new ≤ length xs → slice_index (with_bytes xs i new) k ≡ byte_after i new k (slice_index xs k)
+byte-with_bytes : (xs new : List ℕ) (i k : ℕ) → i + length new ≤ length xs →
+    slice_index (with_bytes xs i new) k ≡ byte_after i new k (slice_index xs k)
 byte-with_bytes xs new i k fits = ⊎_elim before (λ from. ⊎_elim (inside from) after (cases_lt k (i + length new))) (cases_lt k i)
   where
     front : length (take i xs) ≡ i
@@ -36,7 +38,8 @@ byte-with_bytes xs new i k fits = ⊎_elim before (λ from. ⊎_elim (inside fro
     inside from to =
         get_or_append_left (take i xs ++ new) (drop (i + length new) xs) 0 k (omega (arith, both)) ∙
         get_or-append_right (take i xs) new i k 0 front from ∙
-        sym (cond-true (is_among i (length new) k) (slice_index new (k - i)) (slice_index xs k) (and_from _ _ (le-leb _ _ from) (lt-ltb _ _ to)))
+        sym (cond-true (is_among i (length new) k) (slice_index new (k - i)) (slice_index xs k)
+        (and_from _ _ (le-leb _ _ from) (lt-ltb _ _ to)))
 
     after : i + length new ≤ k → slice_index (with_bytes xs i new) k ≡ byte_after i new k (slice_index xs k)
     after past =
@@ -50,7 +53,14 @@ module _ (xs ys : List ℕ) (i : ℕ) (run : List ℕ) (at : ys ≡ with_bytes x
   run_length : length ys ≡ length xs
   run_length =
       let front = length-take-le i xs (omega (arith, within)) in
-      ap length at ∙ omega (arith, within, front, length-append (take i xs ++ run) (drop (i + length run) xs), length-append (take i xs) run, length-drop (i + length run) xs)
+      ap length at ∙ omega (
+        arith,
+        within,
+        front,
+        length-append (take i xs ++ run) (drop (i + length run) xs),
+        length-append (take i xs) run,
+        length-drop (i + length run) xs,
+      )
 
   run_byte : (k : ℕ) → slice_index ys k ≡ byte_after i run k (slice_index xs k)
   run_byte k = ap (λ (zs : List ℕ). slice_index zs k) at ∙ byte-with_bytes xs run i k within
@@ -63,23 +73,30 @@ module _ (xs ys : List ℕ) (i : ℕ) (run : List ℕ) (at : ys ≡ with_bytes x
   run_inside j inner =
       let back : i + j - i ≡ j = omega arith in
       run_byte (i + j) ∙
-      cond-true (is_among i (length run) (i + j)) (slice_index run (i + j - i)) (slice_index xs (i + j)) (and_from _ _ (le-leb i (i + j) (omega arith)) (lt-ltb (i + j) (i + length run) (omega arith))) ∙
+      cond-true (is_among i (length run) (i + j)) (slice_index run (i + j - i)) (slice_index xs (i + j))
+      (and_from _ _ (le-leb i (i + j) (omega arith)) (lt-ltb (i + j) (i + length run) (omega arith))) ∙
       ap (λ (k : ℕ). slice_index run k) back
 
   run_below : All Below xs → All Below run → All Below ys
-  run_below old new = subst (All Below) (sym at) (All-append Below (take i xs ++ run) (drop (i + length run) xs) (All-append Below (take i xs) run (All-take Below i xs old) new) (All-drop Below (i + length run) xs old))
+  run_below old new =
+      subst (All Below) (sym at)
+      (All-append Below (take i xs ++ run) (drop (i + length run) xs) (All-append Below (take i xs) run (All-take Below i xs old) new)
+      (All-drop Below (i + length run) xs old))
 
-granule_from : (tag tag' : ℕ) (bytes bytes' : List ℕ) → tag ≡ tag' → bytes ≡ bytes' → ◌≡◌ {A = Granule} (record { tag = tag; bytes = bytes }) (record { tag = tag'; bytes = bytes' })
+granule_from : (tag tag' : ℕ) (bytes bytes' : List ℕ) → tag ≡ tag' → bytes ≡ bytes' →
+    ◌≡◌ {A = Granule} (record { tag = tag; bytes = bytes }) (record { tag = tag'; bytes = bytes' })
 granule_from tag tag' bytes bytes' same_tag same_bytes =
     ap (λ (t : ℕ). record { tag = t; bytes = bytes }) same_tag ∙ ap (λ (b : List ℕ). record { tag = tag'; bytes = b }) same_bytes
 
 -- a list of granules that agrees with the change at each granule is the changed one
-changed_is : (change : ℕ → Granule → Granule) (xs ys : List ℕ) (count : ℕ) → ((g : ℕ) → g < count → granule_in ys count g ≡ change g (granule_in xs count g))
+changed_is : (change : ℕ → Granule → Granule) (xs ys : List ℕ) (count : ℕ) →
+    ((g : ℕ) → g < count → granule_in ys count g ≡ change g (granule_in xs count g))
     → granules_of ys count ≡ each_granule change (granules_of xs count)
 unfolding each_granule
 changed_is change xs ys count agrees =
     let memory = granules_of xs count in let counted = granules_counted xs count in
-    fill_by_all (λ g. change g (granule_at memory g)) (granules_of ys count) (length memory) no_granule (granules_counted ys count ∙ sym counted)
+    fill_by_all (λ g. change g (granule_at memory g)) (granules_of ys count) (length memory) no_granule
+    (granules_counted ys count ∙ sym counted)
     (λ g h. let inside : g < count = subst (λ (n : ℕ). g < n) counted h in
     granule_is ys count g no_granule inside ∙ agrees g inside ∙ ap (change g) (sym (granule_is xs count g no_granule inside)))
 
@@ -102,7 +119,8 @@ module _ (xs ys : List ℕ) (count : ℕ) (memory : List Granule) (laid : IsLaid
     outside : (k : ℕ) → (k < i) ⊎ (i + length run ≤ k) → slice_index ys k ≡ slice_index xs k
     outside = run_outside xs ys i run at within
 
-    granule_written : (g : ℕ) → g < count → granule_in ys count g ≡ record (granule_in xs count g) { bytes = bytes_after i run g (granule_in xs count g).bytes }
+    granule_written : (g : ℕ) → g < count →
+        granule_in ys count g ≡ record (granule_in xs count g) { bytes = bytes_after i run g (granule_in xs count g).bytes }
     granule_written g below =
         let long = laid.long in let same_long = same_length in let ends = inside in
         let old = slice_range xs (16 * g) (16 * g + 16) in let new = slice_range ys (16 * g) (16 * g + 16) in
@@ -112,7 +130,8 @@ module _ (xs ys : List ℕ) (count : ℕ) (memory : List Granule) (laid : IsLaid
         granule_from _ _ _ _ (outside (16 * count + g) (inr (omega arith)))
         (same_number_lists new (bytes_after i run g old) (sixteen ∙ sym (length-map-range_with_len change 0 (length old) ∙ sixteen_old))
         (λ j h. let inner : j < 16 = subst (λ (n : ℕ). j < n) sixteen h in
-        slice_range_byte ys (16 * g) 16 j inner ∙ run_byte xs ys i run at within (16 * g + j) ∙ ap (byte_after i run (16 * g + j)) (sym (slice_range_byte xs (16 * g) 16 j inner)) ∙
+        slice_range_byte ys (16 * g) 16 j inner ∙ run_byte xs ys i run at within (16 * g + j)
+        ∙ ap (byte_after i run (16 * g + j)) (sym (slice_range_byte xs (16 * g) 16 j inner)) ∙
         sym (get_or-map-range_with_len change 0 (length old) j j 0 (subst (λ (n : ℕ). j < n) (sym sixteen_old) inner) (omega arith))))
 
     pub written_is : granules_of ys count ≡ written i run memory
@@ -144,7 +163,8 @@ module _ (xs ys : List ℕ) (count : ℕ) (memory : List Granule) (laid : IsLaid
     }
 
   -- by a run past the bytes, which are the tags of n granules from `first` on
-  module _ (first n t place : ℕ) (lies : place ≡ 16 * length memory + first) (at : ys ≡ with_bytes xs place (replicate (place + n - place) t)) (fits : first + n ≤ length memory) where
+  module _ (first n t place : ℕ) (lies : place ≡ 16 * length memory + first)
+      (at : ys ≡ with_bytes xs place (replicate (place + n - place) t)) (fits : first + n ≤ length memory) where
     abbrev run : List ℕ
     run = replicate (place + n - place) t
 
@@ -170,7 +190,9 @@ module _ (xs ys : List ℕ) (count : ℕ) (memory : List Granule) (laid : IsLaid
         get_or-replicate (place + n - place) (g - first) t 0 (omega arith)
 
     elsewhere : (k : ℕ) → (k < 16 * count + first) ⊎ (16 * count + (first + n) ≤ k) → slice_index ys k ≡ slice_index xs k
-    elsewhere k out = run_outside xs ys place run at in_list k (⊎_elim (λ low. inl (omega (arith, starts))) (λ past. inr (omega (arith, starts, as_many))) out)
+    elsewhere k out =
+        run_outside xs ys place run at in_list k
+        (⊎_elim (λ low. inl (omega (arith, starts))) (λ past. inr (omega (arith, starts, as_many))) out)
 
     other_tag : (h : ℕ) → (h < first) ⊎ (first + n ≤ h) → slice_index ys (16 * count + h) ≡ slice_index xs (16 * count + h)
     other_tag h out = elsewhere (16 * count + h) (⊎_elim (λ low. inl (omega arith)) (λ past. inr (omega arith)) out)
@@ -183,18 +205,24 @@ module _ (xs ys : List ℕ) (count : ℕ) (memory : List Granule) (laid : IsLaid
         (λ j l. let low : j < 16 = subst (λ (k : ℕ). j < k) sixteen l in
         slice_range_byte ys (16 * h) 16 j low ∙ elsewhere (16 * h + j) (inl (omega arith)) ∙ sym (slice_range_byte xs (16 * h) 16 j low))
 
-    granule_tagged : (h : ℕ) → h < count → granule_in ys count h ≡ (if is_among first n h then record (granule_in xs count h) { tag = t } else granule_in xs count h)
-    granule_tagged h inner = ⊎_elim (λ low. other (inl low)) (λ from. ⊎_elim (among from) (λ past. other (inr past)) (cases_lt h (first + n))) (cases_lt h first)
+    granule_tagged : (h : ℕ) → h < count →
+        granule_in ys count h ≡ (if is_among first n h then record (granule_in xs count h) { tag = t } else granule_in xs count h)
+    granule_tagged h inner =
+        ⊎_elim (λ low. other (inl low)) (λ from. ⊎_elim (among from) (λ past. other (inr past)) (cases_lt h (first + n))) (cases_lt h first)
       where
-        among : first ≤ h → h < first + n → granule_in ys count h ≡ (if is_among first n h then record (granule_in xs count h) { tag = t } else granule_in xs count h)
+        among : first ≤ h → h < first + n →
+            granule_in ys count h ≡ (if is_among first n h then record (granule_in xs count h) { tag = t } else granule_in xs count h)
         among from to =
             granule_from _ _ _ _ (there h from to) (same_range h inner) ∙
-            sym (cond-true (is_among first n h) (record (granule_in xs count h) { tag = t }) (granule_in xs count h) (and_from _ _ (le-leb _ _ from) (lt-ltb _ _ to)))
+            sym (cond-true (is_among first n h) (record (granule_in xs count h) { tag = t }) (granule_in xs count h)
+            (and_from _ _ (le-leb _ _ from) (lt-ltb _ _ to)))
 
-        other : (h < first) ⊎ (first + n ≤ h) → granule_in ys count h ≡ (if is_among first n h then record (granule_in xs count h) { tag = t } else granule_in xs count h)
+        other : (h < first) ⊎ (first + n ≤ h) →
+            granule_in ys count h ≡ (if is_among first n h then record (granule_in xs count h) { tag = t } else granule_in xs count h)
         other out =
             granule_from _ _ _ _ (other_tag h out) (same_range h inner) ∙
-            sym (cond-false (is_among first n h) (record (granule_in xs count h) { tag = t }) (granule_in xs count h) (⊎_elim (λ low. and_left _ _ (lt-leb _ _ low)) (λ past. and_right _ _ (le-ltb _ _ past)) out))
+            sym (cond-false (is_among first n h) (record (granule_in xs count h) { tag = t }) (granule_in xs count h)
+            (⊎_elim (λ low. and_left _ _ (lt-leb _ _ low)) (λ past. and_right _ _ (le-ltb _ _ past)) out))
 
     pub tagged_is : granules_of ys count ≡ tagged first n t memory
     unfolding tagged
@@ -206,7 +234,9 @@ module _ (xs ys : List ℕ) (count : ℕ) (memory : List Granule) (laid : IsLaid
     tagged_reads g from to = tag_is ys count g (omega (arith, ends)) ∙ there g from to
 
     pub tagged_keeps : ChangesOnlyTags memory (granules_of ys count) first (first + n)
-    tagged_keeps = subst (λ (old : List Granule). ChangesOnlyTags old (granules_of ys count) first (first + n)) view (changes_tags xs ys count laid.long as_long first (first + n) elsewhere)
+    tagged_keeps =
+        subst (λ (old : List Granule). ChangesOnlyTags old (granules_of ys count) first (first + n)) view
+        (changes_tags xs ys count laid.long as_long first (first + n) elsewhere)
 
     pub tagged_fits : t < 16 → IsLaidOut ys count
     tagged_fits small = record {
@@ -216,7 +246,8 @@ module _ (xs ys : List ℕ) (count : ℕ) (memory : List Granule) (laid : IsLaid
       below = run_below xs ys place run at in_list laid.below (All-replicate Below (place + n - place) t (omega arith));
       tags = λ h inner. ⊎_elim
           (λ low. old h inner (inl low))
-          (λ from. ⊎_elim (λ to. subst (λ (k : ℕ). k < 16) (sym (there h from to)) small) (λ past. old h inner (inr past)) (cases_lt h (first + n)))
+          (λ from. ⊎_elim (λ to. subst (λ (k : ℕ). k < 16) (sym (there h from to)) small) (λ past. old h inner (inr past))
+          (cases_lt h (first + n)))
           (cases_lt h first);
     }
       where
@@ -236,9 +267,11 @@ repeated_range n from len v fits =
 pub new_is : (count : ℕ) → granules_of (replicate (17 * count) 0) count ≡ replicate count new_granule
 unfolding granules_of
 new_is count =
-    sym (fill_by_all (granule_in (replicate (17 * count) 0) count) (replicate count new_granule) count no_granule (length-replicate count new_granule)
+    sym (fill_by_all (granule_in (replicate (17 * count) 0) count) (replicate count new_granule) count no_granule
+    (length-replicate count new_granule)
     (λ g h. get_or-replicate count g new_granule no_granule h ∙
-    sym (granule_from _ _ _ _ (get_or-replicate (17 * count) (16 * count + g) 0 0 (omega arith)) (repeated_range (17 * count) (16 * g) 16 0 (omega arith)))))
+    sym (granule_from _ _ _ _ (get_or-replicate (17 * count) (16 * count + g) 0 0 (omega arith))
+    (repeated_range (17 * count) (16 * g) 16 0 (omega arith)))))
 
 pub new_fits : (count : ℕ) → 64 ≤ count → count ≤ 262144 → IsLaidOut (replicate (17 * count) 0) count
 new_fits count least most = record {

@@ -10,9 +10,11 @@ use Rattle.quarantine_core.proofs.LawLemmas.{one_queue_is_shown}
 -- each slot that is in it was in it
 pub was_in : (old new : Queue) (layout : Partition) (before after : List Granule) (result : Option ℕ) →
     IfNone result ((new ≡ old) × (after ≡ before)) → IfSome result (λ slot. TakesOldest old new layout before after slot) →
-    (queue left : List ℕ) → AreQueued old layout before queue → AreQueued new layout after left → (s : ℕ) → Contains left s → Contains queue s
+    (queue left : List ℕ) → AreQueued old layout before queue → AreQueued new layout after left → (s : ℕ) → Contains left s →
+    Contains queue s
 was_in old new layout before after None same oldest queue left was is s there =
-    let as_before : AreQueued old layout before left = subst (λ m. AreQueued old layout m left) same.1 (subst (λ v. AreQueued v layout after left) same.0 is) in
+    let as_before : AreQueued old layout before left =
+    subst (λ m. AreQueued old layout m left) same.1 (subst (λ v. AreQueued v layout after left) same.0 is) in
     subst (λ l. Contains l s) (one_queue_is_shown old layout before left queue as_before was) there
 was_in old new layout before after (Some slot) same oldest queue left was is s there =
     let first : queue ≡ slot ∷ drop 1 queue = oldest.first queue was in

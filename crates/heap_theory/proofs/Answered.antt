@@ -42,7 +42,9 @@ module _ (r : Replay) (v : ℕ) (off : ℤ) (len : ℕ) (fault : IsSome (access_
 
   pub store_keeps : (byte : ℕ) → heap_after r (Store v off len byte) ≡ r.heap
   unfolding heap_after store_step
-  store_keeps byte = fault_keeps r.heap (moved_by (variable r v) off) (replicate len byte) (access_fault r.heap.memory (moved_by (variable r v) off) (length (replicate len byte)))
+  store_keeps byte =
+      fault_keeps r.heap (moved_by (variable r v) off) (replicate len byte)
+      (access_fault r.heap.memory (moved_by (variable r v) off) (length (replicate len byte)))
       (subst (λ n. IsSome (access_fault r.heap.memory (moved_by (variable r v) off) n)) (sym (length-replicate len byte)) fault)
 
 -- ---- one event more
@@ -56,7 +58,8 @@ pub replay_of-push : (r : Replay) (events : List Event) (e : Event) → replay_o
 unfolding replay_of
 replay_of-push r events e = fold_push replay_after r events e
 
-pub answers-push : (r : Replay) (events : List Event) (e : Event) → answers r (events ++ e ∷ []) ≡ answers r events ++ answer_of (replay_of r events) e ∷ []
+pub answers-push : (r : Replay) (events : List Event) (e : Event) →
+    answers r (events ++ e ∷ []) ≡ answers r events ++ answer_of (replay_of r events) e ∷ []
 unfolding answers replay_of
 answers-push r [] e = refl
 answers-push r (event ∷ events) e = ap (λ rest. answer_of r event ∷ rest) (answers-push (replay_after r event) events e)
@@ -93,7 +96,8 @@ pub totals_of-none : (classes : List ℕ) → totals_of classes [] ≡ no_totals
 unfolding totals_of
 totals_of-none classes = refl
 
-pub totals_of-push : (classes : List ℕ) (happened : List (Event × Answer)) (p : Event × Answer) → totals_of classes (happened ++ p ∷ []) ≡ totals_after classes (totals_of classes happened) p
+pub totals_of-push : (classes : List ℕ) (happened : List (Event × Answer)) (p : Event × Answer) →
+    totals_of classes (happened ++ p ∷ []) ≡ totals_after classes (totals_of classes happened) p
 unfolding totals_of totals_after
 totals_of-push classes happened p = λ i. record {
   events = length-append happened (p ∷ []) i;

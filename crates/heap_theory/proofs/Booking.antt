@@ -21,15 +21,18 @@ use Rattle.heap_theory.proofs.Releasing.{list_of-here, list_of-there}
 
 -- ---- a change of the memory
 
-chain_over : (h : Heap) (memory : List Granule) (from : ℕ) (queue : List ℕ) → IsChain h from queue → IsChain (record h { memory = memory }) from queue
+chain_over : (h : Heap) (memory : List Granule) (from : ℕ) (queue : List ℕ) → IsChain h from queue →
+    IsChain (record h { memory = memory }) from queue
 chain_over h memory from [] c = c
 chain_over h memory from (s ∷ rest) c = (c.0, c.1, chain_over h memory (from + block_bytes (slot_in h s)) rest c.2)
 
-list_over : (h : Heap) (memory : List Granule) (class bound : ℕ) (list : List ℕ) → IsFreedList h class bound list → IsFreedList (record h { memory = memory }) class bound list
+list_over : (h : Heap) (memory : List Granule) (class bound : ℕ) (list : List ℕ) → IsFreedList h class bound list →
+    IsFreedList (record h { memory = memory }) class bound list
 list_over h memory class bound [] f = tt
 list_over h memory class bound (s ∷ rest) f = (f.0, f.1, f.2, f.3, f.4, list_over h memory class f.0 rest f.5)
 
-pub booked_over : (h : Heap) (memory : List Granule) (queue : List ℕ) (lists : List (List ℕ)) → IsBooked h queue lists → IsBooked (record h { memory = memory }) queue lists
+pub booked_over : (h : Heap) (memory : List Granule) (queue : List ℕ) (lists : List (List ℕ)) → IsBooked h queue lists →
+    IsBooked (record h { memory = memory }) queue lists
 booked_over h memory queue lists b = record {
   from = b.from;
   booked = record {
@@ -66,7 +69,8 @@ module _ (h : Heap) (s : ℕ) (state : State) (memory : List Granule) (total see
   marked_here : (r mark : ℕ) → r ≡ s → HasMark (state_at changed r) mark → HasMark state mark
   marked_here r mark is d = subst (λ x. HasMark x mark) state_here (subst (λ q. HasMark (state_at changed q) mark) is d)
 
-  list_stays : (class bound : ℕ) (list : List ℕ) → (Contains list s → ⊥) → IsFreedList h class bound list → IsFreedList changed class bound list
+  list_stays : (class bound : ℕ) (list : List ℕ) → (Contains list s → ⊥) → IsFreedList h class bound list →
+      IsFreedList changed class bound list
   unfolding changed
   list_stays class bound [] out f = tt
   list_stays class bound (r ∷ rest) out f = (
@@ -92,9 +96,11 @@ module _ (h : Heap) (s : ℕ) (state : State) (memory : List Granule) (total see
   bytes_same queue = refl
 
   -- a slot that becomes live, or stays so, leaves the lists if it was in one
-  made_live : (queue : List ℕ) (lists new : List (List ℕ)) → total ≡ h.total → is_dead state ≡ false → IsBooked h queue lists → (Contains queue s → ⊥) →
+  made_live : (queue : List ℕ) (lists new : List (List ℕ)) → total ≡ h.total → is_dead state ≡ false → IsBooked h queue lists →
+      (Contains queue s → ⊥) →
       length new ≡ length lists → ((number : ℕ) → number < length new → Contains (list_of new number) s → ⊥) →
-      ((number class bound : ℕ) → number < length new → IsFreedList h class bound (list_of lists number) → IsFreedList h class bound (list_of new number)) →
+      ((number class bound : ℕ) → number < length new → IsFreedList h class bound (list_of lists number) →
+      IsFreedList h class bound (list_of new number)) →
       ((number r : ℕ) → (r ≡ s → ⊥) → Contains (list_of lists number) r → Contains (list_of new number) r) → IsBooked changed queue new
   unfolding changed
   made_live queue lists new same alive b not_queued long out kept others = record {
@@ -102,12 +108,17 @@ module _ (h : Heap) (s : ℕ) (state : State) (memory : List Granule) (total see
     booked = record {
       chain = chain_stays b.from queue same not_queued b.booked.chain;
       long = long ∙ b.booked.long;
-      freed = λ number inside. list_stays _ b.from (list_of new number) (out number inside) (kept number _ b.from inside (b.booked.freed number (subst (λ n. number < n) long inside)));
+      freed =
+          λ number inside. list_stays _ b.from (list_of new number) (out number inside)
+          (kept number _ b.from inside (b.booked.freed number (subst (λ n. number < n) long inside)));
       queued = λ r mark in_range d le. let before = dead_before r mark d in b.booked.queued r mark in_range before.1 le;
-      listed = λ r mark number in_range d lt found. let before = dead_before r mark d in others number r before.0 (b.booked.listed r mark number in_range before.1 lt found);
+      listed =
+          λ r mark number in_range d lt found. let before = dead_before r mark d in
+          others number r before.0 (b.booked.listed r mark number in_range before.1 lt found);
       released = λ r mark in_range d lt.
           let before = dead_before r mark d in
-          let over : h.quarantine < h.total - mark = b.booked.released r mark in_range before.1 lt in subst (λ t. h.quarantine < t - mark) (sym same) over;
+          let over : h.quarantine < h.total - mark = b.booked.released r mark in_range before.1 lt in
+          subst (λ t. h.quarantine < t - mark) (sym same) over;
     };
     held = b.held;
   }
@@ -129,8 +140,10 @@ module _ (h : Heap) (s : ℕ) (state : State) (memory : List Granule) (total see
     chain_push (from + block_bytes (slot_in h r)) rest in_range d grows (λ there. out (Contains-tail r rest s there)) c.2,
   )
 
-  made_dead : (queue : List ℕ) (lists : List (List ℕ)) → s < slot_count h.layout → HasMark state h.total → total ≡ h.total + block_bytes (slot_in h s) →
-      (b : IsBooked h queue lists) → (Contains queue s → ⊥) → ((number : ℕ) → number < length lists → Contains (list_of lists number) s → ⊥) →
+  made_dead : (queue : List ℕ) (lists : List (List ℕ)) → s < slot_count h.layout → HasMark state h.total →
+      total ≡ h.total + block_bytes (slot_in h s) →
+      (b : IsBooked h queue lists) → (Contains queue s → ⊥) →
+      ((number : ℕ) → number < length lists → Contains (list_of lists number) s → ⊥) →
       IsBookedFrom changed b.from (queue ++ s ∷ []) lists
   unfolding changed
   made_dead queue lists in_range d grows b not_queued out = record {
@@ -165,7 +178,8 @@ not_queued h from queue s c alive there = let q = chain_dead h from queue s c th
 not_listed : (h : Heap) (queue : List ℕ) (lists : List (List ℕ)) (s : ℕ) → (b : IsBooked h queue lists) → is_dead (state_at h s) ≡ false →
     (number : ℕ) → number < length lists → Contains (list_of lists number) s → ⊥
 not_listed h queue lists s b alive number inside there =
-    let l = list_dead h _ b.from (list_of lists number) s (b.booked.freed number inside) there in not_marked (state_at h s) l.mark alive l.marked
+    let l = list_dead h _ b.from (list_of lists number) s (b.booked.freed number inside) there in
+    not_marked (state_at h s) l.mark alive l.marked
 
 alive_fresh : (x : State) → is_fresh x ≡ true → is_dead x ≡ false
 alive_fresh Fresh fresh = refl
@@ -174,7 +188,8 @@ alive_fresh (Dead n t m) fresh = cc
 
 -- ---- the changes that calls make
 
-pub booked_freed : (h : Heap) (queue : List ℕ) (lists : List (List ℕ)) (s n t : ℕ) → IsSoundHeap h → (b : IsBooked h queue lists) → s < slot_count h.layout → state_at h s ≡ Live n t →
+pub booked_freed : (h : Heap) (queue : List ℕ) (lists : List (List ℕ)) (s n t : ℕ) → IsSoundHeap h → (b : IsBooked h queue lists) →
+    s < slot_count h.layout → state_at h s ≡ Live n t →
     IsBookedFrom (freed h s n) b.from (queue ++ s ∷ []) lists
 unfolding freed changed
 booked_freed h queue lists s n t sound b in_range live =
@@ -183,7 +198,8 @@ booked_freed h queue lists s n t sound b in_range live =
     (not_queued h b.from queue s b.booked.chain (ap is_dead live))
     (not_listed h queue lists s b (ap is_dead live))
 
-pub booked_fresh : (h : Heap) (queue : List ℕ) (lists : List (List ℕ)) (s n : ℕ) → IsSoundHeap h → IsBooked h queue lists → s < slot_count h.layout → is_fresh (state_at h s) ≡ true →
+pub booked_fresh : (h : Heap) (queue : List ℕ) (lists : List (List ℕ)) (s n : ℕ) → IsSoundHeap h → IsBooked h queue lists →
+    s < slot_count h.layout → is_fresh (state_at h s) ≡ true →
     IsBooked (given_out h s n) queue lists
 unfolding given_out changed
 booked_fresh h queue lists s n sound b in_range fresh =
@@ -193,7 +209,8 @@ booked_fresh h queue lists s n sound b in_range fresh =
     (not_listed h queue lists s b (alive_fresh (state_at h s) fresh))
     (λ number class bound inside f. f) (λ number r not there. there)
 
-pub booked_resized : (h : Heap) (queue : List ℕ) (lists : List (List ℕ)) (s n m t : ℕ) → IsSoundHeap h → IsBooked h queue lists → s < slot_count h.layout → state_at h s ≡ Live m t →
+pub booked_resized : (h : Heap) (queue : List ℕ) (lists : List (List ℕ)) (s n m t : ℕ) → IsSoundHeap h → IsBooked h queue lists →
+    s < slot_count h.layout → state_at h s ≡ Live m t →
     IsBooked (resized h s n) queue lists
 unfolding resized changed
 booked_resized h queue lists s n m t sound b in_range live =
@@ -204,7 +221,8 @@ booked_resized h queue lists s n m t sound b in_range live =
     (λ number class bound inside f. f) (λ number r not there. there)
 
 -- the front of a class's list is given out
-module _ (h : Heap) (queue : List ℕ) (lists : List (List ℕ)) (number class s n : ℕ) (rest : List ℕ) (sound : IsSoundHeap h) (b : IsBooked h queue lists)
+module _ (h : Heap) (queue : List ℕ) (lists : List (List ℕ)) (number class s n : ℕ) (rest : List ℕ) (sound : IsSoundHeap h)
+    (b : IsBooked h queue lists)
     (numbered : slice_get h.layout.classes number ≡ Some class) (is : list_of lists number ≡ s ∷ rest) where
   is_number : IsNumberOf h.layout.classes number class
   is_number = number_is h.layout.classes number class numbered
@@ -213,7 +231,9 @@ module _ (h : Heap) (queue : List ℕ) (lists : List (List ℕ)) (number class s
   inside = subst (λ k. number < k) (sym b.booked.long) is_number.within
 
   front : IsFreedList h class b.from (s ∷ rest)
-  front = subst (λ list. IsFreedList h class b.from list) is (subst (λ c. IsFreedList h c b.from (list_of lists number)) is_number.is (b.booked.freed number inside))
+  front =
+      subst (λ list. IsFreedList h class b.from list) is
+      (subst (λ c. IsFreedList h c b.from (list_of lists number)) is_number.is (b.booked.freed number inside))
 
   in_no_queue : Contains queue s → ⊥
   in_no_queue there =
@@ -226,18 +246,22 @@ module _ (h : Heap) (queue : List ℕ) (lists : List (List ℕ)) (number class s
       let f = front in
       elim (cases_eq other number) [
         | inl same ↦
-            let after : Contains rest s = subst (λ list. Contains list s) (list_of-here lists number rest inside) (subst (λ k. Contains (list_of (slice_set lists number rest) k) s) same there) in
+            let after : Contains rest s =
+            subst (λ list. Contains list s) (list_of-here lists number rest inside)
+            (subst (λ k. Contains (list_of (slice_set lists number rest) k) s) same there) in
             let below : f.0 < f.0 = list_mark h class f.0 rest s f.0 f.5 after f.3 in
             omega arith
         | inr not ↦
             let in_lists : other < length lists = subst (λ k. other < k) (length-set lists number rest) within in
             let l = list_dead h (get_or h.layout.classes other 0) b.from (list_of lists other) s (b.booked.freed other in_lists)
             (subst (λ list. Contains list s) (list_of-there lists number other rest not) there) in
-            not (one_number 1 h.layout.classes other number sound.region.table (subst (λ k. other < k) b.booked.long in_lists) is_number.within
+            not (one_number 1 h.layout.classes other number sound.region.table (subst (λ k. other < k) b.booked.long in_lists)
+            is_number.within
             (sym l.of_class ∙ f.2 ∙ sym is_number.is))
       ]
 
-  rest_freed : (other c bound : ℕ) → other < length (slice_set lists number rest) → IsFreedList h c bound (list_of lists other) → IsFreedList h c bound (list_of (slice_set lists number rest) other)
+  rest_freed : (other c bound : ℕ) → other < length (slice_set lists number rest) → IsFreedList h c bound (list_of lists other) →
+      IsFreedList h c bound (list_of (slice_set lists number rest) other)
   rest_freed other c bound within f = elim (cases_eq other number) [
     | inl same ↦
         subst (λ k. IsFreedList h c bound (list_of (slice_set lists number rest) k)) (sym same)
@@ -268,14 +292,17 @@ module _ (h : Heap) (queue : List ℕ) (lists : List (List ℕ)) (number class s
 
 -- ---- a new heap
 
-pub booked_first : (layout : Partition) (seed quarantine : ℕ) → IsBooked (first_heap layout seed quarantine) [] (replicate (length layout.classes) [])
+pub booked_first : (layout : Partition) (seed quarantine : ℕ) →
+    IsBooked (first_heap layout seed quarantine) [] (replicate (length layout.classes) [])
 unfolding first_heap
 booked_first layout seed quarantine = record {
   from = 0;
   booked = record {
     chain = refl;
     long = length-replicate (length layout.classes) [];
-    freed = λ number inside. subst (λ list. IsFreedList (first_heap layout seed quarantine) (get_or layout.classes number 0) 0 list) (sym (get_or-replicate_any (length layout.classes) number [])) tt;
+    freed =
+        λ number inside. subst (λ list. IsFreedList (first_heap layout seed quarantine) (get_or layout.classes number 0) 0 list)
+        (sym (get_or-replicate_any (length layout.classes) number [])) tt;
     queued = λ s mark in_range d le. absurd (none s mark d);
     listed = λ s mark number in_range d lt found. absurd (none s mark d);
     released = λ s mark in_range d lt. absurd (none s mark d);

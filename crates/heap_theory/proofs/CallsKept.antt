@@ -160,7 +160,8 @@ module _ where
 
     sound_copied : IsSoundHeap copied
     unfolding copied
-    sound_copied = IsSoundHeap-with_payload (given_out h s n) s (payload_bytes h chunk.slot (min chunk.size n)) (given_sound h n s sound given)
+    sound_copied =
+        IsSoundHeap-with_payload (given_out h s n) s (payload_bytes h chunk.slot (min chunk.size n)) (given_sound h n s sound given)
 
     another : chunk.slot ≡ s → ⊥
     another is = not_reusable h chunk.slot chunk.size (logical_tag p) (subst (IsReusable h) (sym is) given.reusable) c.live
@@ -168,7 +169,8 @@ module _ where
     live_copied : state_at copied chunk.slot ≡ Live chunk.size (logical_tag p)
     unfolding copied
     live_copied =
-        state_at-with_payload (given_out h s n) s chunk.slot (payload_bytes h chunk.slot (min chunk.size n)) ∙ state_at-given_out_other h s n chunk.slot another ∙ c.live
+        state_at-with_payload (given_out h s n) s chunk.slot (payload_bytes h chunk.slot (min chunk.size n))
+        ∙ state_at-given_out_other h s n chunk.slot another ∙ c.live
 
     layout_copied : copied.layout ≡ h.layout
     unfolding copied
@@ -181,20 +183,23 @@ module _ where
     unfolding moved copied
     KeepsGiven-moved = KeepsGiven-trans (given_out h s n) copied (freed copied chunk.slot chunk.size)
         (KeepsGiven-with_payload (given_out h s n) s (payload_bytes h chunk.slot (min chunk.size n)))
-        (KeepsGiven-freed copied chunk.slot chunk.size (logical_tag p) (in_states copied chunk.slot sound_copied in_range_copied) live_copied)
+        (KeepsGiven-freed copied chunk.slot chunk.size (logical_tag p) (in_states copied chunk.slot sound_copied in_range_copied)
+        live_copied)
 
     pub live_moved : state_at (moved h chunk s n) s ≡ Live n (next_tag h s)
     unfolding moved copied freed
     live_moved =
         get_or-set_other copied.states chunk.slot s _ Fresh (λ is. another (sym is))
-        ∙ state_at-with_payload (given_out h s n) s s (payload_bytes h chunk.slot (min chunk.size n)) ∙ state_at-given_out h s n (in_states h s sound given.reusable.in_range)
+        ∙ state_at-with_payload (given_out h s n) s s (payload_bytes h chunk.slot (min chunk.size n))
+        ∙ state_at-given_out h s n (in_states h s sound given.reusable.in_range)
 
     pub IsSoundHeap-moved : IsSoundHeap (moved h chunk s n)
     unfolding moved copied
     IsSoundHeap-moved = IsSoundHeap-freed copied chunk.slot chunk.size (logical_tag p) sound_copied in_range_copied live_copied
 
     IsKept-moved : IsKept h (moved h chunk s n) (Some s)
-    IsKept-moved = record { sound = IsSoundHeap-moved; change = record { n = n; given = given; kept = KeepsGiven-moved; live = live_moved } }
+    IsKept-moved =
+        record { sound = IsSoundHeap-moved; change = record { n = n; given = given; kept = KeepsGiven-moved; live = live_moved } }
 
   -- ---- the calls
 
@@ -208,7 +213,13 @@ module _ where
           let given = slot_for_request-is h n s sound was in
           record {
             sound = given_sound h n s sound given;
-            change = record { n = n; given = given; kept = KeepsGiven-refl (given_out h s n); live = state_at-given_out h s n (in_states h s sound given.reusable.in_range) };
+            change =
+                record {
+                  n = n;
+                  given = given;
+                  kept = KeepsGiven-refl (given_out h s n);
+                  live = state_at-given_out h s n (in_states h s sound given.reusable.in_range);
+                };
           }
 
   pub IsKept-calloc : (h : Heap) (n : ℕ) → IsSoundHeap h → IsKept h (calloc_step h n).heap (result_ok (slot_for_request h n))
@@ -225,11 +236,14 @@ module _ where
               n = n;
               given = given;
               kept = KeepsGiven-with_payload (given_out h s n) s (replicate (16 * chunk_granules n) 0);
-              live = state_at-with_payload (given_out h s n) s s (replicate (16 * chunk_granules n) 0) ∙ state_at-given_out h s n (in_states h s sound given.reusable.in_range);
+              live =
+                  state_at-with_payload (given_out h s n) s s (replicate (16 * chunk_granules n) 0)
+                  ∙ state_at-given_out h s n (in_states h s sound given.reusable.in_range);
             };
           }
 
-  IsKept-either : {A : Type 0} (h : Heap) (b : Bool) (x y : Step A) (o q : Option ℕ) → (b ≡ true → IsKept h x.heap o) → (b ≡ false → IsKept h y.heap q) →
+  IsKept-either : {A : Type 0} (h : Heap) (b : Bool) (x y : Step A) (o q : Option ℕ) → (b ≡ true → IsKept h x.heap o) →
+      (b ≡ false → IsKept h y.heap q) →
       IsKept h (cond b x y).heap (cond b o q)
   IsKept-either h true x y o q so not_so = so refl
   IsKept-either h false x y o q so not_so = not_so refl
@@ -256,7 +270,8 @@ module _ where
   unfolding realloc_step
   IsKept-realloc h p n sound = IsKept-either h (p == 0) _ _ _ _ (λ _. IsKept-malloc h n sound) (λ _. by_chunk (chunk_at h p) refl)
     where
-      by_slot : (chunk : Chunk) → IsLiveChunk h p chunk → (r : Result ℕ NullCause) → slot_for_request h n ≡ r → IsKept h (move_with h chunk n r).heap (result_ok r)
+      by_slot : (chunk : Chunk) → IsLiveChunk h p chunk → (r : Result ℕ NullCause) → slot_for_request h n ≡ r →
+          IsKept h (move_with h chunk n r).heap (result_ok r)
       by_slot chunk c (Err cause) was = IsKept-refl h sound
       by_slot chunk c (Ok s) was = IsKept-moved h p chunk s n sound c (slot_for_request-is h n s sound was)
 
@@ -266,7 +281,9 @@ module _ where
           let c = chunk_at-is h p chunk was in
           IsKept-either h (stays_in_class h chunk n) _ _ None _
           (λ stays. record {
-            sound = IsSoundHeap-resized h chunk.slot n chunk.size (logical_tag p) sound c.in_range c.live (room_in_place h chunk n stays (sound.slots.wide chunk.slot c.in_range));
+            sound =
+                IsSoundHeap-resized h chunk.slot n chunk.size (logical_tag p) sound c.in_range c.live
+                (room_in_place h chunk n stays (sound.slots.wide chunk.slot c.in_range));
             change = KeepsGiven-resized h chunk.slot n chunk.size (logical_tag p) (in_states h chunk.slot sound c.in_range) c.live;
           })
           (λ _. by_slot chunk c (slot_for_request h n) refl)

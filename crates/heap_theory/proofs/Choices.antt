@@ -30,19 +30,29 @@ pub record IsCandidate (h : Heap) (test : State → Bool) (class s : ℕ) : Type
 
 pub All-slots_with : (h : Heap) (test : State → Bool) (class : ℕ) → All (IsCandidate h test class) (slots_with h test class)
 All-slots_with h test class k d within =
-    let both = and_parts _ _ (filter_passes (λ s. (slot_in h s).class == class && test (state_at h s)) (range_with_len 0 (slot_count h.layout)) k d within) in
+    let both =
+    and_parts _ _ (filter_passes (λ s. (slot_in h s).class == class && test (state_at h s)) (range_with_len 0 (slot_count h.layout)) k d
+    within) in
     record {
-      in_range = All-filter (λ s. (slot_in h s).class == class && test (state_at h s)) (λ s. s < slot_count h.layout) (range_with_len 0 (slot_count h.layout)) (All-range (slot_count h.layout)) k d within;
+      in_range =
+          All-filter (λ s. (slot_in h s).class == class && test (state_at h s)) (λ s. s < slot_count h.layout)
+          (range_with_len 0 (slot_count h.layout)) (All-range (slot_count h.layout)) k d within;
       of_class = eqb-true _ _ both.0;
       passes = both.1;
     }
 
 pub lowest_fresh-is : (h : Heap) (class s : ℕ) → lowest_fresh h class ≡ Some s → IsCandidate h is_fresh class s
 lowest_fresh-is h class s is =
-    let found = sym (first_in_filter (λ s. (slot_in h s).class == class && is_fresh (state_at h s)) (range_with_len 0 (slot_count h.layout))) ∙ is in
-    let both = and_parts _ _ (find_passes (λ s. (slot_in h s).class == class && is_fresh (state_at h s)) (range_with_len 0 (slot_count h.layout)) s found) in
+    let found =
+    sym (first_in_filter (λ s. (slot_in h s).class == class && is_fresh (state_at h s)) (range_with_len 0 (slot_count h.layout)))
+    ∙ is in
+    let both =
+    and_parts _ _ (find_passes (λ s. (slot_in h s).class == class && is_fresh (state_at h s)) (range_with_len 0 (slot_count h.layout)) s
+    found) in
     record {
-      in_range = All-find (λ s. s < slot_count h.layout) (λ s. (slot_in h s).class == class && is_fresh (state_at h s)) (range_with_len 0 (slot_count h.layout)) s (All-range (slot_count h.layout)) found;
+      in_range =
+          All-find (λ s. s < slot_count h.layout) (λ s. (slot_in h s).class == class && is_fresh (state_at h s))
+          (range_with_len 0 (slot_count h.layout)) s (All-range (slot_count h.layout)) found;
       of_class = eqb-true _ _ both.0;
       passes = both.1;
     }
@@ -51,15 +61,18 @@ lowest_fresh-is h class s is =
 abbrev pub is_latest : Heap → List ℕ → ℕ → Bool
 is_latest h slots s = list_all (λ r. nat_le (mark_of (state_at h r)) (mark_of (state_at h s))) slots
 
-pub freed_last-is : (h : Heap) (class s : ℕ) → freed_last h (slots_with h (is_released h) class) ≡ Some s → IsCandidate h (is_released h) class s
+pub freed_last-is : (h : Heap) (class s : ℕ) → freed_last h (slots_with h (is_released h) class) ≡ Some s →
+    IsCandidate h (is_released h) class s
 freed_last-is h class s is =
-    All-find (IsCandidate h (is_released h) class) (is_latest h (slots_with h (is_released h) class)) (slots_with h (is_released h) class) s (All-slots_with h (is_released h) class) is
+    All-find (IsCandidate h (is_released h) class) (is_latest h (slots_with h (is_released h) class)) (slots_with h (is_released h) class) s
+    (All-slots_with h (is_released h) class) is
 
 slot_for-is : (h : Heap) (class s : ℕ) → slot_for h class ≡ Some s → IsReusable h s × ((slot_in h s).class ≡ class)
 unfolding slot_for
 slot_for-is h class s is = from (freed_last h (slots_with h (is_released h) class)) refl is
   where
-    from : (o : Option ℕ) → freed_last h (slots_with h (is_released h) class) ≡ o → option_or o (lowest_fresh h class) ≡ Some s → IsReusable h s × ((slot_in h s).class ≡ class)
+    from : (o : Option ℕ) → freed_last h (slots_with h (is_released h) class) ≡ o → option_or o (lowest_fresh h class) ≡ Some s →
+        IsReusable h s × ((slot_in h s).class ≡ class)
     from None was is = let c = lowest_fresh-is h class s is in (record { in_range = c.in_range; free = inl c.passes }, c.of_class)
     from (Some r) was is =
         let c = freed_last-is h class r was in
@@ -77,8 +90,10 @@ room_in classes n class found wide =
 -- the class of a request is the table's
 pub class_for_request-is : (h : Heap) (n class : ℕ) → class_for_request h n ≡ Ok class → class_for h.layout.classes n ≡ Some class
 class_for_request-is h n class is = elim (cases_Bool (nat_lt largest_counted n)) [
-  | inl large ↦ let never : ◌≡◌ {A = Result ℕ NullCause} (Err Large) (Ok class) = subst (λ b. cond b (Err Large) (ok_or (class_for h.layout.classes n) NoClass) ≡ Ok class) large is in absurd cc
-  | inr small ↦ from (class_for h.layout.classes n) refl (subst (λ b. cond b (Err Large) (ok_or (class_for h.layout.classes n) NoClass) ≡ Ok class) small is)
+  | inl large ↦ let never : ◌≡◌ {A = Result ℕ NullCause} (Err Large) (Ok class) =
+      subst (λ b. cond b (Err Large) (ok_or (class_for h.layout.classes n) NoClass) ≡ Ok class) large is in absurd cc
+  | inr small ↦ from (class_for h.layout.classes n) refl
+      (subst (λ b. cond b (Err Large) (ok_or (class_for h.layout.classes n) NoClass) ≡ Ok class) small is)
 ]
   where
     from : (o : Option ℕ) → class_for h.layout.classes n ≡ o → ok_or o NoClass ≡ Ok class → class_for h.layout.classes n ≡ Some class
@@ -89,7 +104,8 @@ pub slot_for_request-is : (h : Heap) (n s : ℕ) → IsSoundHeap h → slot_for_
 unfolding slot_for_request
 slot_for_request-is h n s sound is = in_class (class_for_request h n) refl is
   where
-    in_slot : (class : ℕ) → class_for h.layout.classes n ≡ Some class → (o : Option ℕ) → slot_for h class ≡ o → ok_or o Exhausted ≡ Ok s → IsGiven h n s
+    in_slot : (class : ℕ) → class_for h.layout.classes n ≡ Some class → (o : Option ℕ) → slot_for h class ≡ o → ok_or o Exhausted ≡ Ok s →
+        IsGiven h n s
     in_slot class was None given is = absurd cc
     in_slot class was (Some r) given is =
         let same : r ≡ s = cc in
@@ -103,20 +119,23 @@ slot_for_request-is h n s sound is = in_class (class_for_request h n) refl is
 
 -- ---- the chunk of a pointer
 
-pub slot_of_pointer-is : (h : Heap) (p s : ℕ) → slot_of_pointer h p ≡ Some s → (s < slot_count h.layout) × (p < 2 ^ 60) × (place_of p ≡ payload_place (slot_in h s))
+pub slot_of_pointer-is : (h : Heap) (p s : ℕ) → slot_of_pointer h p ≡ Some s →
+    (s < slot_count h.layout) × (p < 2 ^ 60) × (place_of p ≡ payload_place (slot_in h s))
 slot_of_pointer-is h p s is = elim (cases_Bool (nat_lt p (2 ^ 60))) [
   | inl plain ↦
       let found = position-Some (λ slot. payload_place slot == place_of p) (slots_of h.layout) s no_slot
       (subst (λ b. cond b (position (λ slot. payload_place slot == place_of p) (slots_of h.layout)) None ≡ Some s) plain is) in
       (found.0, ltb-true _ _ plain, sym (eqb-true _ _ found.1))
-  | inr high ↦ let none : None ≡ Some s = subst (λ b. cond b (position (λ slot. payload_place slot == place_of p) (slots_of h.layout)) None ≡ Some s) high is in absurd cc
+  | inr high ↦ let none : None ≡ Some s =
+      subst (λ b. cond b (position (λ slot. payload_place slot == place_of p) (slots_of h.layout)) None ≡ Some s) high is in absurd cc
 ]
 
 pub chunk_at-is : (h : Heap) (p : ℕ) (chunk : Chunk) → chunk_at h p ≡ Ok chunk → IsLiveChunk h p chunk
 unfolding chunk_at
 chunk_at-is h p chunk is = from (slot_of_pointer h p) refl is
   where
-    in_state : (s : ℕ) → (s < slot_count h.layout) × (p < 2 ^ 60) × (place_of p ≡ payload_place (slot_in h s)) → (x : State) → state_at h s ≡ x → chunk_in p s x ≡ Ok chunk → IsLiveChunk h p chunk
+    in_state : (s : ℕ) → (s < slot_count h.layout) × (p < 2 ^ 60) × (place_of p ≡ payload_place (slot_in h s)) → (x : State) →
+        state_at h s ≡ x → chunk_in p s x ≡ Ok chunk → IsLiveChunk h p chunk
     in_state s at Fresh was is = absurd cc
     in_state s at (Dead size tag mark) was is = absurd cc
     in_state s at (Live size tag) was is = elim (cases_Bool (logical_tag p == tag)) [
@@ -124,9 +143,11 @@ chunk_at-is h p chunk is = from (slot_of_pointer h p) refl is
           let ok : ◌≡◌ {A = Result Chunk FreeError} (Ok (record { slot = s; size = size })) (Ok chunk) =
           subst (λ b. cond b (Ok (record { slot = s; size = size })) (Err WrongTag) ≡ Ok chunk) same_tag is in
           let same : record { slot = s; size = size } ≡ chunk = cc in
-          subst (IsLiveChunk h p) same (record { in_range = at.0; live = was ∙ ap (Live size) (sym (eqb-true _ _ same_tag)); plain = at.1; place = at.2 })
+          subst (IsLiveChunk h p) same
+          (record { in_range = at.0; live = was ∙ ap (Live size) (sym (eqb-true _ _ same_tag)); plain = at.1; place = at.2 })
       | inr other_tag ↦
-          let wrong : ◌≡◌ {A = Result Chunk FreeError} (Err WrongTag) (Ok chunk) = subst (λ b. cond b (Ok (record { slot = s; size = size })) (Err WrongTag) ≡ Ok chunk) other_tag is in absurd cc
+          let wrong : ◌≡◌ {A = Result Chunk FreeError} (Err WrongTag) (Ok chunk) =
+          subst (λ b. cond b (Ok (record { slot = s; size = size })) (Err WrongTag) ≡ Ok chunk) other_tag is in absurd cc
     ]
 
     from : (o : Option ℕ) → slot_of_pointer h p ≡ o → chunk_in_slot h p o ≡ Ok chunk → IsLiveChunk h p chunk
@@ -134,9 +155,11 @@ chunk_at-is h p chunk is = from (slot_of_pointer h p) refl is
     from (Some s) was is = in_state s (slot_of_pointer-is h p s was) (state_at h s) refl is
 
 -- a chunk that stays in its class has room there
-pub room_in_place : (h : Heap) (chunk : Chunk) (n : ℕ) → stays_in_class h chunk n ≡ true → 2 ≤ (slot_in h chunk.slot).class → chunk_granules n < (slot_in h chunk.slot).class
+pub room_in_place : (h : Heap) (chunk : Chunk) (n : ℕ) → stays_in_class h chunk n ≡ true → 2 ≤ (slot_in h chunk.slot).class →
+    chunk_granules n < (slot_in h chunk.slot).class
 room_in_place h chunk n stays wide = by_class (class_for_request h n) refl stays
   where
-    by_class : (r : Result ℕ NullCause) → class_for_request h n ≡ r → is_class_of (slot_in h chunk.slot) r ≡ true → chunk_granules n < (slot_in h chunk.slot).class
+    by_class : (r : Result ℕ NullCause) → class_for_request h n ≡ r → is_class_of (slot_in h chunk.slot) r ≡ true →
+        chunk_granules n < (slot_in h chunk.slot).class
     by_class (Err cause) was is = absurd cc
     by_class (Ok class) was is = room_in h.layout.classes n _ (class_for_request-is h n class was ∙ ap Some (eqb-true _ _ is)) wide

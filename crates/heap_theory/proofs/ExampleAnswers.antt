@@ -16,7 +16,9 @@ use Rattle.heap_theory.specs.Totals.{Totals, totals_of}
 
 -- the answers
 unfoldable pub answers_of : List ℕ → ℕ → List Event → List Answer
-unfolding answers first_replay first_heap first_memory slots_of slots_of_classes slot_over answer_of replay_after heap_after variables_after store_step malloc_step calloc_step free_step realloc_step moved chunk_at slot_for_request with_payload resized freed given_out slot_for place_kind choose_tag allowed_after drawn_tag next_offset next_seed addg subg each_granule tagged bytes_at written access_fault
+unfolding answers first_replay first_heap first_memory slots_of slots_of_classes slot_over answer_of replay_after heap_after variables_after
+    store_step malloc_step calloc_step free_step realloc_step moved chunk_at slot_for_request with_payload resized freed given_out slot_for
+    place_kind choose_tag allowed_after drawn_tag next_offset next_seed addg subg each_granule tagged bytes_at written access_fault
 answers_of classes quarantine events = answers (first_replay (record { classes = classes; granules = 64 }) 1 quarantine) events
 
 abbrev pub totals_from : List ℕ → List Event → List Answer → List Answer × Totals
@@ -29,7 +31,9 @@ shown classes quarantine events = totals_from classes events (answers_of classes
 
 -- the heap that the events leave
 unfoldable pub heap_of : List ℕ → ℕ → List Event → Heap
-unfolding replay_of first_replay first_heap first_memory slots_of slots_of_classes slot_over replay_after heap_after variables_after store_step malloc_step calloc_step free_step realloc_step moved chunk_at slot_for_request with_payload resized freed given_out slot_for choose_tag allowed_after drawn_tag next_offset next_seed addg subg each_granule tagged bytes_at written access_fault
+unfolding replay_of first_replay first_heap first_memory slots_of slots_of_classes slot_over replay_after heap_after variables_after
+    store_step malloc_step calloc_step free_step realloc_step moved chunk_at slot_for_request with_payload resized freed given_out slot_for
+    choose_tag allowed_after drawn_tag next_offset next_seed addg subg each_granule tagged bytes_at written access_fault
 heap_of classes quarantine events = (replay_of (first_replay (record { classes = classes; granules = 64 }) 1 quarantine) events).heap
 
 -- the nine totals, in the order of their lines

@@ -21,7 +21,9 @@ tag_at-first_memory : (layout : Partition) (g : ℕ) → tag_at (first_memory la
 unfolding first_memory
 tag_at-first_memory layout g = ⊎_elim
     (λ within.
-    ap (λ (granule : Granule). granule.tag) (get_or-map-range_with_len (λ g. cond (is_header layout g) no_granule new_granule) 0 layout.granules g g no_granule within (omega arith))
+    ap (λ (granule : Granule). granule.tag)
+    (get_or-map-range_with_len (λ g. cond (is_header layout g) no_granule new_granule) 0 layout.granules g g no_granule within
+    (omega arith))
     ∙ cond_both (is_header layout g) no_granule new_granule (λ granule. granule.tag ≡ 0) (λ _. refl) (λ _. refl))
     (λ past. tag_at-past (first_memory layout) g (subst (λ n. n ≤ g) (sym (length-first_memory layout)) past))
     (cases_lt g layout.granules)
@@ -32,7 +34,8 @@ get_or-replicate_any n i a = ⊎_elim
     (λ past. get_or_past (replicate n a) i a (subst (λ k. k ≤ i) (sym (length-replicate n a)) past))
     (cases_lt i n)
 
-pub IsSoundHeap-first : (layout : Partition) (seed quarantine : ℕ) → IsPartition layout → AreInOrder layout → IsSoundHeap (first_heap layout seed quarantine)
+pub IsSoundHeap-first : (layout : Partition) (seed quarantine : ℕ) → IsPartition layout → AreInOrder layout →
+    IsSoundHeap (first_heap layout seed quarantine)
 unfolding first_heap
 IsSoundHeap-first layout seed quarantine is order =
     record {
@@ -51,7 +54,9 @@ IsSoundHeap-first layout seed quarantine is order =
       });
       slack = λ g _. none g;
       marks = λ s. subst (λ x. IfDead x (λ mark. mark < 0)) (sym (fresh s)) tt;
-      marks_differ = λ s r apart. subst (λ x. IfDead x (λ mark. IfDead (get_or (replicate (slot_count layout) Fresh) r Fresh) (λ other. mark ≢ other))) (sym (fresh s)) tt;
+      marks_differ =
+          λ s r apart. subst (λ x. IfDead x (λ mark. IfDead (get_or (replicate (slot_count layout) Fresh) r Fresh) (λ other. mark ≢ other)))
+          (sym (fresh s)) tt;
     }
   where
     fresh : (s : ℕ) → get_or (replicate (slot_count layout) Fresh) s Fresh ≡ Fresh

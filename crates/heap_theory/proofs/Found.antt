@@ -36,7 +36,8 @@ none_found p (x ∷ xs) is = elim (cases_Bool (p x)) [
 ]
 
 -- the only element that passes is found
-pub find_only : {X : Type 0} (p : X → Bool) (xs : List X) (x : X) → Contains xs x → p x ≡ true → All (λ y. p y ≡ true → y ≡ x) xs → find p xs ≡ Some x
+pub find_only : {X : Type 0} (p : X → Bool) (xs : List X) (x : X) → Contains xs x → p x ≡ true → All (λ y. p y ≡ true → y ≡ x) xs →
+    find p xs ≡ Some x
 find_only {X} p xs x there passes only = by (find p xs) refl
   where
     by : (found : Option X) → find p xs ≡ found → find p xs ≡ Some x
@@ -54,7 +55,8 @@ in_filter {X} p xs x there passes = at xs there.0 there.1 there.2
     at : (xs : List X) (k : ℕ) → k < length xs → get_or xs k x ≡ x → Contains (filter p xs) x
     at [] k within is = absurd (omega arith)
     at (y ∷ ys) zero within is =
-        subst (λ ys. Contains ys x) (sym (cond-true (p y) (y ∷ filter p ys) (filter p ys) (subst (λ z. p z ≡ true) (sym is) passes))) (0, omega arith, is)
+        subst (λ ys. Contains ys x) (sym (cond-true (p y) (y ∷ filter p ys) (filter p ys) (subst (λ z. p z ≡ true) (sym is) passes)))
+        (0, omega arith, is)
     at (y ∷ ys) (suc k) within is =
         let rest : Contains (filter p ys) x = at ys k (omega arith) is in
         cond_both (p y) (y ∷ filter p ys) (filter p ys) (λ zs. Contains zs x) (λ _. after (filter p ys) y rest) (λ _. rest)
@@ -69,11 +71,13 @@ first_in_filter p (x ∷ xs) = elim (cases_Bool (p x)) [
 
 pub list_all-from : {X : Type 0} (p : X → Bool) (xs : List X) → All (λ x. p x ≡ true) xs → list_all p xs ≡ true
 list_all-from p [] all = refl
-list_all-from p (x ∷ xs) all = and_from (p x) (list_all p xs) (all 0 x (omega arith)) (list_all-from p xs (λ k d within. all (suc k) d (omega arith)))
+list_all-from p (x ∷ xs) all =
+    and_from (p x) (list_all p xs) (all 0 x (omega arith)) (list_all-from p xs (λ k d within. all (suc k) d (omega arith)))
 
 pub from-list_all : {X : Type 0} (p : X → Bool) (xs : List X) → list_all p xs ≡ true → All (λ x. p x ≡ true) xs
 from-list_all p [] all = All-nil (λ x. p x ≡ true)
-from-list_all p (x ∷ xs) all = let both = and_parts (p x) (list_all p xs) all in All-cons (λ x. p x ≡ true) x xs both.0 (from-list_all p xs both.1)
+from-list_all p (x ∷ xs) all =
+    let both = and_parts (p x) (list_all p xs) all in All-cons (λ x. p x ≡ true) x xs both.0 (from-list_all p xs both.1)
 
 -- ---- numbers below a bound
 
@@ -83,7 +87,8 @@ All-range n k d within =
     subst (λ x. x < n) (sym (get_or-range_with_len 0 n k d below)) (omega arith)
 
 pub Contains-range : (n s : ℕ) → s < n → Contains (range_with_len 0 n) s
-Contains-range n s below = (s, subst (λ m. s < m) (sym (length-range_with_len 0 n)) below, get_or-range_with_len 0 n s s below ∙ omega arith)
+Contains-range n s below =
+    (s, subst (λ m. s < m) (sym (length-range_with_len 0 n)) below, get_or-range_with_len 0 n s s below ∙ omega arith)
 
 -- ---- what a list contains
 
@@ -106,10 +111,12 @@ Contains-none x there = omega (arith, there.1)
 pub Contains-last_cases : {X : Type 0} (xs : List X) (x y : X) → Contains (xs ++ x ∷ []) y → (x ≡ y) ⊎ Contains xs y
 Contains-last_cases [] x y there = Contains-cases x [] y there
 Contains-last_cases (z ∷ zs) x y there =
-    ⊎_elim (λ is. inr (0, omega arith, is)) (λ more. ⊎_elim inl (λ before. inr (Contains-tail z zs y before)) (Contains-last_cases zs x y more))
+    ⊎_elim (λ is. inr (0, omega arith, is))
+    (λ more. ⊎_elim inl (λ before. inr (Contains-tail z zs y before)) (Contains-last_cases zs x y more))
     (Contains-cases z (zs ++ x ∷ []) y there)
 
-pub AllPairs-cons : {X : Type 0} (R : X → X → Type 0) (x : X) (xs : List X) → ((y : X) → Contains xs y → R x y) → AllPairs R xs → AllPairs R (x ∷ xs)
+pub AllPairs-cons : {X : Type 0} (R : X → X → Type 0) (x : X) (xs : List X) → ((y : X) → Contains xs y → R x y) → AllPairs R xs →
+    AllPairs R (x ∷ xs)
 AllPairs-cons R x xs front rest = pairs
   where
     pairs : AllPairs R (x ∷ xs)

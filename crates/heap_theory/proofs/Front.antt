@@ -20,7 +20,9 @@ module _ (h : Heap) (queue : List ℕ) (lists : List (List ℕ)) (number class :
   is_number = number_is h.layout.classes number class numbered
 
   pub freed_list : IsFreedList h class b.from (list_of lists number)
-  freed_list = subst (λ c. IsFreedList h c b.from (list_of lists number)) is_number.is (b.booked.freed number (subst (λ n. number < n) (sym b.booked.long) is_number.within))
+  freed_list =
+      subst (λ c. IsFreedList h c b.from (list_of lists number)) is_number.is
+      (b.booked.freed number (subst (λ n. number < n) (sym b.booked.long) is_number.within))
 
   -- a released slot of the class stands in its list
   pub listed : (r : ℕ) → IsCandidate h (is_released h) class r → Contains (list_of lists number) r
@@ -28,7 +30,8 @@ module _ (h : Heap) (queue : List ℕ) (lists : List (List ℕ)) (number class :
       let both = and_parts (is_dead (state_at h r)) _ c.passes in
       let over : h.quarantine < h.total - mark_of (state_at h r) = ltb-true _ _ both.1 in
       let sum = chain_bytes h b.from queue b.booked.chain in
-      b.booked.listed r (mark_of (state_at h r)) number c.in_range (HasMark-own (state_at h r) both.0) (omega (arith, b.held)) (numbered ∙ ap Some (sym c.of_class))
+      b.booked.listed r (mark_of (state_at h r)) number c.in_range (HasMark-own (state_at h r) both.0) (omega (arith, b.held))
+      (numbered ∙ ap Some (sym c.of_class))
 
   marked : (r : ℕ) → IsCandidate h (is_released h) class r → HasMark (state_at h r) (mark_of (state_at h r))
   marked r c = HasMark-own (state_at h r) (and_parts (is_dead (state_at h r)) _ c.passes).0
@@ -39,7 +42,8 @@ module _ (h : Heap) (queue : List ℕ) (lists : List (List ℕ)) (number class :
       let f : IsFreedList h class b.from (s ∷ rest) = subst (λ list. IsFreedList h class b.from list) is freed_list in
       let over : h.quarantine < h.total - f.0 = b.booked.released s f.0 f.1 f.3 f.4 in
       let candidate : Contains (slots_with h (is_released h) class) s =
-      in_filter (λ s. (slot_in h s).class == class && is_released h (state_at h s)) (range_with_len 0 (slot_count h.layout)) s (Contains-range (slot_count h.layout) s f.1)
+      in_filter (λ s. (slot_in h s).class == class && is_released h (state_at h s)) (range_with_len 0 (slot_count h.layout)) s
+      (Contains-range (slot_count h.layout) s f.1)
       (and_from _ _ (eq-eqb _ _ f.2) (released_from_mark h (state_at h s) f.0 f.3 over)) in
       ap (λ o. option_or o (lowest_fresh h class))
       (find_only (is_latest h (slots_with h (is_released h) class)) (slots_with h (is_released h) class) s candidate
@@ -48,7 +52,8 @@ module _ (h : Heap) (queue : List ℕ) (lists : List (List ℕ)) (number class :
       (λ k d inside latest. only f candidate _ (All-slots_with h (is_released h) class k d inside) latest))
     where
       -- each other one was freed before it
-      before : IsFreedList h class b.from (s ∷ rest) → (r : ℕ) → IsCandidate h (is_released h) class r → mark_of (state_at h r) ≤ mark_of (state_at h s)
+      before : IsFreedList h class b.from (s ∷ rest) → (r : ℕ) → IsCandidate h (is_released h) class r →
+          mark_of (state_at h r) ≤ mark_of (state_at h s)
       before f r c =
           let here : mark_of (state_at h s) ≡ f.0 = mark_of-is (state_at h s) f.0 f.3 in
           elim (Contains-cases s rest r (subst (λ list. Contains list r) is (listed r c))) [
@@ -56,16 +61,20 @@ module _ (h : Heap) (queue : List ℕ) (lists : List (List ℕ)) (number class :
             | inr after ↦ omega (arith, list_mark h class f.0 rest r (mark_of (state_at h r)) f.5 after (marked r c))
           ]
 
-      only : IsFreedList h class b.from (s ∷ rest) → Contains (slots_with h (is_released h) class) s → (r : ℕ) → IsCandidate h (is_released h) class r →
+      only : IsFreedList h class b.from (s ∷ rest) → Contains (slots_with h (is_released h) class) s → (r : ℕ) →
+          IsCandidate h (is_released h) class r →
           is_latest h (slots_with h (is_released h) class) r ≡ true → r ≡ s
       only f candidate r c latest =
           let here : mark_of (state_at h s) ≡ f.0 = mark_of-is (state_at h s) f.0 f.3 in
-          let above : mark_of (state_at h s) ≤ mark_of (state_at h r) = subst (λ q. mark_of (state_at h q) ≤ mark_of (state_at h r)) candidate.2
-          (leb-true _ _ (from-list_all (λ q. nat_le (mark_of (state_at h q)) (mark_of (state_at h r))) (slots_with h (is_released h) class) latest candidate.0 s candidate.1)) in
+          let above : mark_of (state_at h s) ≤ mark_of (state_at h r) =
+          subst (λ q. mark_of (state_at h q) ≤ mark_of (state_at h r)) candidate.2
+          (leb-true _ _ (from-list_all (λ q. nat_le (mark_of (state_at h q)) (mark_of (state_at h r))) (slots_with h (is_released h) class)
+          latest candidate.0 s candidate.1)) in
           let under : mark_of (state_at h r) ≤ mark_of (state_at h s) = before f r c in
           elim (cases_eq r s) [
             | inl same ↦ same
-            | inr not ↦ absurd (same_mark (state_at h r) (state_at h s) (mark_of (state_at h r)) f.0 (marked r c) f.3 (omega arith) (sound.marks_differ r s not))
+            | inr not ↦ absurd (same_mark (state_at h r) (state_at h s) (mark_of (state_at h r)) f.0 (marked r c) f.3 (omega arith)
+                (sound.marks_differ r s not))
           ]
 
   pub lowest_fresh_is_given : list_of lists number ≡ [] → slot_for h class ≡ lowest_fresh h class

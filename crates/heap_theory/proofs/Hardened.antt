@@ -40,7 +40,8 @@ module _ (w : Run) (sound : IsSoundRun w) where
       let to : place_of address + t.0 < region_start + 16 * g + 16 = t.2.to in
       omega arith
 
-  same_tag : (v : ℕ) (off : ℤ) (len address g : ℕ) → IsAccess w v off len address → g < length w.replay.heap.memory → Touches address len g →
+  same_tag : (v : ℕ) (off : ℤ) (len address g : ℕ) → IsAccess w v off len address → g < length w.replay.heap.memory →
+      Touches address len g →
       logical_tag address ≡ logical_tag (variable w.replay v)
   same_tag v off len address g a within t =
       let to : place_of address < 2 ^ 37 = near_region len address g a.few within t in
@@ -52,32 +53,38 @@ module _ (w : Run) (sound : IsSoundRun w) where
       (subst (λ x. region_start ≤ place_of x + t.0) a.address_is (omega arith)) (subst (λ x. place_of x < 2 ^ 37) a.address_is to))
 
   -- so it is a fault where it touches a granule of another tag
-  other_tag_faults : (v : ℕ) (off : ℤ) (len address g : ℕ) → IsAccess w v off len address → g < length w.replay.heap.memory → Touches address len g →
+  other_tag_faults : (v : ℕ) (off : ℤ) (len address g : ℕ) → IsAccess w v off len address → g < length w.replay.heap.memory →
+      Touches address len g →
       tag_at w.replay.heap.memory g ≢ logical_tag (variable w.replay v) → Faults w address len
   other_tag_faults v off len address g a within t differs =
       laws.other_tag_faults w.replay.heap.memory address len g t (λ same. differs (same ∙ same_tag v off len address g a within t))
 
-  null_never_touches : (v : ℕ) (off : ℤ) (len address g : ℕ) → IsAccess w v off len address → g < length w.replay.heap.memory → Touches address len g → variable w.replay v ≡ 0 → ⊥
+  null_never_touches : (v : ℕ) (off : ℤ) (len address g : ℕ) → IsAccess w v off len address → g < length w.replay.heap.memory →
+      Touches address len g → variable w.replay v ≡ 0 → ⊥
   null_never_touches v off len address g a within t null =
       let to : place_of address < 2 ^ 37 = near_region len address g a.few within t in
       let from : region_start + 16 * g ≤ place_of address + t.0 = t.2.from in
       let i_below : t.0 < len = t.1 in
       let few : len ≤ 64 = a.few in
       let moved : address ≡ moved_by 0 off = subst (λ x. address ≡ moved_by x off) null a.address_is in
-      laws.moved_null off t.0 a.near (omega arith) (subst (λ x. region_start ≤ place_of x + t.0) moved (omega arith)) (subst (λ x. place_of x < 2 ^ 37) moved to)
+      laws.moved_null off t.0 a.near (omega arith) (subst (λ x. region_start ≤ place_of x + t.0) moved (omega arith))
+      (subst (λ x. place_of x < 2 ^ 37) moved to)
 
   -- ---- bookkeeping
 
   pub bookkeeping_out_of_reach : BookkeepingOutOfReach w
   bookkeeping_out_of_reach v off len address g a within t book = elim (sound.variables v).null_or_tagged [
     | inl null ↦ absurd (null_never_touches v off len address g a within t null)
-    | inr tagged ↦ other_tag_faults v off len address g a within t (λ same. tagged (sym same ∙ bookkeeping_tag laws.one_slot_covers w.replay.heap g sound.heap book))
+    | inr tagged ↦ other_tag_faults v off len address g a within t
+        (λ same. tagged (sym same ∙ bookkeeping_tag laws.one_slot_covers w.replay.heap g sound.heap book))
   ]
 
   -- ---- neighbours
 
   address_of : (v s time : ℕ) → HasGeneration w v s time → IsAddressOf w.replay.heap w.times (variable w.replay v) s time
-  address_of v s time generation = subst (λ g. ForGeneration g (λ s time. IsAddressOf w.replay.heap w.times (variable w.replay v) s time)) generation (sound.variables v).follows
+  address_of v s time generation =
+      subst (λ g. ForGeneration g (λ s time. IsAddressOf w.replay.heap w.times (variable w.replay v) s time)) generation
+      (sound.variables v).follows
 
   pub neighbours_fault : NeighboursFault w
   neighbours_fault v off len address s time r g a generation parity p t =
@@ -97,7 +104,8 @@ module _ (w : Run) (sound : IsSoundRun w) where
   pub freed_faults : FreedFaults w
   freed_faults v off len address s time g a generation freed c t =
       let i = address_of v s time generation in
-      let tagged : IsTaggedSlot w.replay.heap.memory s (slot_in w.replay.heap s) (state_at w.replay.heap s) = sound.heap.tagged s i.in_range in
+      let tagged : IsTaggedSlot w.replay.heap.memory s (slot_in w.replay.heap s) (state_at w.replay.heap s) =
+      sound.heap.tagged s i.in_range in
       let some : 0 < logical_tag (variable w.replay v) = i.tag.not_zero in
       let inside = in_region w.replay.heap s sound.heap i.in_range in
       let to : g < end_of (slot_in w.replay.heap s) = c.to in
@@ -107,7 +115,8 @@ module _ (w : Run) (sound : IsSoundRun w) where
       ])
     where
       -- a dead slot's chunk has another tag than it was last given out with, and one that is live again another than the time before
-      differs : IsAddressOf w.replay.heap w.times (variable w.replay v) s time → (tagged : IsTaggedSlot w.replay.heap.memory s (slot_in w.replay.heap s) (state_at w.replay.heap s)) →
+      differs : IsAddressOf w.replay.heap w.times (variable w.replay v) s time →
+          (tagged : IsTaggedSlot w.replay.heap.memory s (slot_in w.replay.heap s) (state_at w.replay.heap s)) →
           WasFreed w s time → tagged.chunk_tag ≡ logical_tag (variable w.replay v) → ⊥
       differs i tagged (inl dead) same = dead_differs (state_at w.replay.heap s) refl dead.0
         where
@@ -115,7 +124,8 @@ module _ (w : Run) (sound : IsSoundRun w) where
           dead_differs Fresh was d = d
           dead_differs (Live n u) was d = d
           dead_differs (Dead n u m) was d =
-              let all : IsTagOf s u × IsTagOf s tagged.chunk_tag × (tagged.chunk_tag ≢ u) = subst (λ x. IsChunkTag s x tagged.chunk_tag) was tagged.is_chunk_tag in
+              let all : IsTagOf s u × IsTagOf s tagged.chunk_tag × (tagged.chunk_tag ≢ u) =
+              subst (λ x. IsChunkTag s x tagged.chunk_tag) was tagged.is_chunk_tag in
               all.2 (same ∙ (i.last (sym dead.1)).0 ∙ ap last_tag was)
       differs i tagged (inr live) same = live_differs (state_at w.replay.heap s) refl live.0
         where
@@ -131,7 +141,8 @@ module _ (w : Run) (sound : IsSoundRun w) where
   pub inside_succeeds : InsideSucceeds w
   inside_succeeds v off len address s time a generation live within =
       let i = address_of v s time generation in
-      let tagged : IsTaggedSlot w.replay.heap.memory s (slot_in w.replay.heap s) (state_at w.replay.heap s) = sound.heap.tagged s i.in_range in
+      let tagged : IsTaggedSlot w.replay.heap.memory s (slot_in w.replay.heap s) (state_at w.replay.heap s) =
+      sound.heap.tagged s i.in_range in
       let region_small = small in
       let inside = in_region w.replay.heap s sound.heap i.in_range in
       let room : chunk_of (state_at w.replay.heap s) < (slot_in w.replay.heap s).class = tagged.room in
@@ -148,7 +159,8 @@ module _ (w : Run) (sound : IsSoundRun w) where
       let near : place_of address < 2 ^ 37 = omega arith in
       let place_low : payload_place (slot_in w.replay.heap s) < 2 ^ 56 = omega arith in
       let low : variable w.replay v < 2 ^ 60 =
-      subst (λ x. x < 2 ^ 60) (sym i.address_is) (with_tag-below (payload_place (slot_in w.replay.heap s)) (logical_tag (variable w.replay v)) place_low i.tag.below) in
+      subst (λ x. x < 2 ^ 60) (sym i.address_is)
+      (with_tag-below (payload_place (slot_in w.replay.heap s)) (logical_tag (variable w.replay v)) place_low i.tag.below) in
       laws.same_tags_succeed w.replay.heap.memory address len some
       (record {
         plain = subst (λ x. x < 2 ^ 60) (sym a.address_is) (laws.moved_plain (variable w.replay v) off a.near low
@@ -163,8 +175,10 @@ module _ (w : Run) (sound : IsSoundRun w) where
       let g_low : g ≤ (slot_in w.replay.heap s).start + chunk_of (state_at w.replay.heap s) = in_chunk.to in
       tagged.chunk g in_chunk.from in_chunk.to ∙ chunk_tag ∙ sym (same_tag v off len address g a (omega arith) t))
     where
-      live_tag : IsAddressOf w.replay.heap w.times (variable w.replay v) s time → (tagged : IsTaggedSlot w.replay.heap.memory s (slot_in w.replay.heap s) (state_at w.replay.heap s)) →
-          (x : State) → state_at w.replay.heap s ≡ x → IsLive (state_at w.replay.heap s) → tagged.chunk_tag ≡ logical_tag (variable w.replay v)
+      live_tag : IsAddressOf w.replay.heap w.times (variable w.replay v) s time →
+          (tagged : IsTaggedSlot w.replay.heap.memory s (slot_in w.replay.heap s) (state_at w.replay.heap s)) →
+          (x : State) → state_at w.replay.heap s ≡ x → IsLive (state_at w.replay.heap s) →
+          tagged.chunk_tag ≡ logical_tag (variable w.replay v)
       live_tag i tagged Fresh was l = absurd (subst IsLive was l)
       live_tag i tagged (Dead n u m) was l = absurd (subst IsLive was l)
       live_tag i tagged (Live n u) was l =

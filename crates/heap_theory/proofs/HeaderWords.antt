@@ -36,7 +36,8 @@ pub header_of-words : (header : Header) → FitsWords header → header_of (firs
 header_of-words header fits =
     let code = code_fits header.standing in
     let code_is : first_word header % 2 ^ 2 ≡ code_of header.standing = omega arith in
-    let standing_is : standing_of (first_word header % 2 ^ 2) ≡ header.standing = ap standing_of code_is ∙ standing_of-code_of header.standing in
+    let standing_is : standing_of (first_word header % 2 ^ 2) ≡ header.standing =
+    ap standing_of code_is ∙ standing_of-code_of header.standing in
     let size_is : first_word header / 2 ^ 2 % 2 ^ 14 ≡ header.size = omega arith in
     let tag_is : first_word header / 2 ^ 16 % 2 ^ 4 ≡ header.tag = omega arith in
     let class_is : first_word header / 2 ^ 20 % 2 ^ 12 ≡ header.class = omega arith in
@@ -56,8 +57,10 @@ words-header_of first second = let code = code_of-standing_of (first % 2 ^ 2) (o
 pub words_fit : (header : Header) → FitsWords header → (first_word header < 2 ^ 64) × (second_word header < 2 ^ 64)
 words_fit header fits = let code = code_fits header.standing in (omega arith, fits.mark)
 
-pub header_of-fits : (first second : ℕ) → first < 2 ^ 64 → second < 2 ^ 64 → (header_of first second).class < 32 → FitsWords (header_of first second)
-header_of-fits first second one other class = record { size = omega arith; tag = omega arith; class = class; next = omega arith; mark = other }
+pub header_of-fits : (first second : ℕ) → first < 2 ^ 64 → second < 2 ^ 64 → (header_of first second).class < 32 →
+    FitsWords (header_of first second)
+header_of-fits first second one other class =
+    record { size = omega arith; tag = omega arith; class = class; next = omega arith; mark = other }
 
 -- ---- in memory
 
@@ -66,34 +69,42 @@ bytes_fit n = All-from_recursion (λ b. b < 256) (to_le_bytes w64 n)
     (omega arith, (omega arith, (omega arith, (omega arith, (omega arith, (omega arith, (omega arith, (omega arith, tt))))))))
 
 pub with_header-words : (memory : List Granule) (g : ℕ) (header : Header) →
-    with_header memory g header ≡ written (16 * g + 8) (to_le_bytes w64 (second_word header)) (written (16 * g) (to_le_bytes w64 (first_word header)) memory)
+    with_header memory g header
+    ≡ written (16 * g + 8) (to_le_bytes w64 (second_word header)) (written (16 * g) (to_le_bytes w64 (first_word header)) memory)
 unfolding with_header
-with_header-words memory g header = sym (laws.in_parts (16 * g) (to_le_bytes w64 (first_word header)) (to_le_bytes w64 (second_word header)) memory)
+with_header-words memory g header =
+    sym (laws.in_parts (16 * g) (to_le_bytes w64 (first_word header)) (to_le_bytes w64 (second_word header)) memory)
 
 pub IsMemory-with_header : (memory : List Granule) (g : ℕ) (header : Header) → IsMemory memory → IsMemory (with_header memory g header)
 unfolding with_header
 IsMemory-with_header memory g header is =
     laws.memory_written (16 * g) (to_le_bytes w64 (first_word header) ++ to_le_bytes w64 (second_word header)) memory
-    (All-append (λ b. b < 256) (to_le_bytes w64 (first_word header)) (to_le_bytes w64 (second_word header)) (bytes_fit (first_word header)) (bytes_fit (second_word header))) is
+    (All-append (λ b. b < 256) (to_le_bytes w64 (first_word header)) (to_le_bytes w64 (second_word header)) (bytes_fit (first_word header))
+    (bytes_fit (second_word header))) is
 
 pub header_at-with_header : (memory : List Granule) (g : ℕ) (header : Header) → IsMemory memory → g < length memory → FitsWords header →
     header_at (with_header memory g header) g ≡ header
 unfolding header_at word_at
 header_at-with_header memory g header is within fits =
     let fit = words_fit header fits in
-    let inner_is : IsMemory (written (16 * g) (to_le_bytes w64 (first_word header)) memory) = laws.memory_written (16 * g) (to_le_bytes w64 (first_word header)) memory (bytes_fit (first_word header)) is in
+    let inner_is : IsMemory (written (16 * g) (to_le_bytes w64 (first_word header)) memory) =
+    laws.memory_written (16 * g) (to_le_bytes w64 (first_word header)) memory (bytes_fit (first_word header)) is in
     let long = laws.written_length (16 * g) (to_le_bytes w64 (first_word header)) memory in
     let first : word_at (with_header memory g header) (16 * g) ≡ first_word header =
     ap (λ m. word_at m (16 * g)) (with_header-words memory g header)
-    ∙ ap (from_le_bytes w64) (laws.other_bytes (16 * g + 8) (16 * g) 8 (to_le_bytes w64 (second_word header)) (written (16 * g) (to_le_bytes w64 (first_word header)) memory) (inl (omega arith)))
+    ∙ ap (from_le_bytes w64)
+    (laws.other_bytes (16 * g + 8) (16 * g) 8 (to_le_bytes w64 (second_word header))
+    (written (16 * g) (to_le_bytes w64 (first_word header)) memory) (inl (omega arith)))
     ∙ laws.word_read (16 * g) (first_word header) memory is fit.0 (omega arith) in
     let second : word_at (with_header memory g header) (16 * g + 8) ≡ second_word header =
     ap (λ m. word_at m (16 * g + 8)) (with_header-words memory g header)
-    ∙ laws.word_read (16 * g + 8) (second_word header) (written (16 * g) (to_le_bytes w64 (first_word header)) memory) inner_is fit.1 (omega arith) in
+    ∙ laws.word_read (16 * g + 8) (second_word header) (written (16 * g) (to_le_bytes w64 (first_word header)) memory) inner_is fit.1
+    (omega arith) in
     (λ i. header_of (first i) (second i)) ∙ header_of-words header fits
 
 -- bytes outside of a granule leave its header as it is
-pub header_at-written : (i g : ℕ) (new : List ℕ) (memory : List Granule) → (i + length new ≤ 16 * g) ⊎ (16 * g + 16 ≤ i) → header_at (written i new memory) g ≡ header_at memory g
+pub header_at-written : (i g : ℕ) (new : List ℕ) (memory : List Granule) → (i + length new ≤ 16 * g) ⊎ (16 * g + 16 ≤ i) →
+    header_at (written i new memory) g ≡ header_at memory g
 unfolding header_at word_at
 header_at-written i g new memory out =
     λ j. header_of
@@ -110,10 +121,12 @@ header_at-tagged first count tag g memory =
     (from_le_bytes w64 (laws.bytes_under_tags first count tag (16 * g) 8 memory j))
     (from_le_bytes w64 (laws.bytes_under_tags first count tag (16 * g + 8) 8 memory j))
 
-pub header_at-elsewhere : (memory : List Granule) (g k : ℕ) (header : Header) → k ≢ g → header_at (with_header memory g header) k ≡ header_at memory k
+pub header_at-elsewhere : (memory : List Granule) (g k : ℕ) (header : Header) → k ≢ g →
+    header_at (with_header memory g header) k ≡ header_at memory k
 unfolding with_header
 header_at-elsewhere memory g k header differs =
-    header_at-written (16 * g) k (to_le_bytes w64 (first_word header) ++ to_le_bytes w64 (second_word header)) memory (elim (cases_order k g) [
+    header_at-written (16 * g) k (to_le_bytes w64 (first_word header) ++ to_le_bytes w64 (second_word header)) memory
+    (elim (cases_order k g) [
       | inl same ↦ absurd (differs same)
       | inr (inl before) ↦ inr (omega arith)
       | inr (inr after) ↦ inl (omega arith)
@@ -121,7 +134,8 @@ header_at-elsewhere memory g k header differs =
 
 pub tag_at-with_header : (memory : List Granule) (g k : ℕ) (header : Header) → tag_at (with_header memory g header) k ≡ tag_at memory k
 unfolding with_header
-tag_at-with_header memory g k header = laws.tag_under_bytes (16 * g) k (to_le_bytes w64 (first_word header) ++ to_le_bytes w64 (second_word header)) memory
+tag_at-with_header memory g k header =
+    laws.tag_under_bytes (16 * g) k (to_le_bytes w64 (first_word header) ++ to_le_bytes w64 (second_word header)) memory
 
 -- ---- the headers of a heap
 
@@ -129,7 +143,15 @@ pub shown_state-header_for : (h : Heap) (s next : ℕ) → shown_state (header_f
 unfolding header_for
 shown_state-header_for h s next = by (state_at h s)
   where
-    by : (x : State) → shown_state (record { standing = standing_in h x; size = size_of x; tag = last_tag x; class = class_number h.layout s; next = next; mark = mark_of x }) ≡ x
+    by : (x : State) → shown_state
+        (record {
+          standing = standing_in h x;
+          size = size_of x;
+          tag = last_tag x;
+          class = class_number h.layout s;
+          next = next;
+          mark = mark_of x;
+        }) ≡ x
     by NeverGiven = refl
     by (Given n t) = refl
     by (Dead n t m) = elim (cases_Bool (is_released h (Dead n t m))) [
@@ -138,10 +160,12 @@ shown_state-header_for h s next = by (state_at h s)
     ]
 
 -- the class at its number
-pub class_number-is : (layout : Partition) (s : ℕ) → s < slot_count layout → slice_get layout.classes (class_number layout s) ≡ Some (slot_of layout s).class
+pub class_number-is : (layout : Partition) (s : ℕ) → s < slot_count layout →
+    slice_get layout.classes (class_number layout s) ≡ Some (slot_of layout s).class
 class_number-is layout s within = by (position (λ class. class == (slot_of layout s).class) layout.classes) refl
   where
-    by : (o : Option ℕ) → position (λ class. class == (slot_of layout s).class) layout.classes ≡ o → slice_get layout.classes (unwrap_or o 0) ≡ Some (slot_of layout s).class
+    by : (o : Option ℕ) → position (λ class. class == (slot_of layout s).class) layout.classes ≡ o →
+        slice_get layout.classes (unwrap_or o 0) ≡ Some (slot_of layout s).class
     by (Some number) was =
         let found = position-Some (λ class. class == (slot_of layout s).class) layout.classes number 0 was in
         slice_get-get_or layout.classes number 0 found.0 ∙ ap Some (eqb-true _ _ found.1)
@@ -151,18 +175,26 @@ class_number-is layout s within = by (position (λ class. class == (slot_of layo
         position-None (λ class. class == (slot_of layout s).class) layout.classes was listed.0 (slot_of layout s).class listed.1 in
         absurd (both_ways _ no (eq-eqb _ _ listed.2))
 
-pub header_for-fits : (h : Heap) (s next : ℕ) → IsSoundHeap h → s < slot_count h.layout → next < 2 ^ 32 → h.total < 2 ^ 64 → FitsWords (header_for h s next)
+pub header_for-fits : (h : Heap) (s next : ℕ) → IsSoundHeap h → s < slot_count h.layout → next < 2 ^ 32 → h.total < 2 ^ 64 →
+    FitsWords (header_for h s next)
 unfolding header_for
 header_for-fits h s next sound within link total = record {
   size = size_fits (state_at h s) (sound.tagged s within).room;
   tag = tag_fits (state_at h s) (sound.tagged s within).chunk_tag (sound.tagged s within).is_chunk_tag;
-  class = omega (arith, slice_get_within h.layout.classes (class_number h.layout s) (slot_in h s).class (class_number-is h.layout s within), sound.region.table.few);
+  class =
+      omega (
+        arith,
+        slice_get_within h.layout.classes (class_number h.layout s) (slot_in h s).class (class_number-is h.layout s within),
+        sound.region.table.few,
+      );
   next = link;
   mark = mark_fits (state_at h s) (sound.marks s);
 }
   where
     class_fits : (slot_in h s).class ≤ 1024
-    class_fits = (All-contains (λ class. (2 ≤ class) × (class ≤ 1024)) h.layout.classes (slot_in h s).class sound.region.table.in_range (laws.classes_listed h.layout s within)).1
+    class_fits =
+        (All-contains (λ class. (2 ≤ class) × (class ≤ 1024)) h.layout.classes (slot_in h s).class sound.region.table.in_range
+        (laws.classes_listed h.layout s within)).1
 
     size_fits : (x : State) → chunk_of x < (slot_in h s).class → size_of x < 2 ^ 14
     size_fits NeverGiven room = omega arith
@@ -181,18 +213,22 @@ header_for-fits h s next sound within link total = record {
 
 -- ---- links
 
-pub next_in-own : (layout : Partition) (memory : List Granule) (s : ℕ) (header : Header) → IsPartition layout → IsMemory memory → length memory ≡ layout.granules →
+pub next_in-own : (layout : Partition) (memory : List Granule) (s : ℕ) (header : Header) → IsPartition layout → IsMemory memory →
+    length memory ≡ layout.granules →
     s < slot_count layout → FitsWords header → next_in layout (with_header memory (slot_of layout s).start header) s ≡ header.next
 next_in-own layout memory s header is memory_is long within fits =
     let order = laws.in_order 1 layout is.table in
     ap (λ (header : Header). header.next)
-    (header_at-with_header memory (slot_of layout s).start header memory_is (omega (arith, order.inside s within, order.wide s within)) fits)
+    (header_at-with_header memory (slot_of layout s).start header memory_is (omega (arith, order.inside s within, order.wide s within))
+    fits)
 
-pub next_in-other : (layout : Partition) (memory : List Granule) (s r : ℕ) (header : Header) → IsPartition layout → s < slot_count layout → r < slot_count layout → r ≢ s →
+pub next_in-other : (layout : Partition) (memory : List Granule) (s r : ℕ) (header : Header) → IsPartition layout → s < slot_count layout →
+    r < slot_count layout → r ≢ s →
     next_in layout (with_header memory (slot_of layout s).start header) r ≡ next_in layout memory r
 next_in-other layout memory s r header is within there differs =
     let order = laws.in_order 1 layout is.table in
-    ap (λ (header : Header). header.next) (header_at-elsewhere memory (slot_of layout s).start (slot_of layout r).start header (λ same. elim (cases_order r s) [
+    ap (λ (header : Header). header.next)
+    (header_at-elsewhere memory (slot_of layout s).start (slot_of layout r).start header (λ same. elim (cases_order r s) [
       | inl one ↦ differs one
       | inr (inl before) ↦ omega (arith, order.apart r s before within, order.wide r there)
       | inr (inr after) ↦ omega (arith, order.apart s r after there, order.wide s within)

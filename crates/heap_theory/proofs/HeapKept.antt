@@ -22,7 +22,8 @@ in_states h s sound within = subst (λ n. s < n) (sym sound.states) within
 
 -- a slot whose granules keep their tags stays tagged
 IsTaggedSlot-same : (memory other : List Granule) (s : ℕ) (slot : Slot) (state : State) →
-    ((g : ℕ) → slot.start ≤ g → g < end_of slot → tag_at other g ≡ tag_at memory g) → IsTaggedSlot memory s slot state → IsTaggedSlot other s slot state
+    ((g : ℕ) → slot.start ≤ g → g < end_of slot → tag_at other g ≡ tag_at memory g) → IsTaggedSlot memory s slot state →
+    IsTaggedSlot other s slot state
 IsTaggedSlot-same memory other s slot state same t =
     let room : chunk_of state < slot.class = t.room in
     record {
@@ -35,21 +36,26 @@ IsTaggedSlot-same memory other s slot state same t =
     }
 
 -- Slot s gets another state, its payload other tags, and the heap another total, seed and tag.
-module _ (h : Heap) (s : ℕ) (state : State) (memory : List Granule) (total seed tag : ℕ) (sound : IsSoundHeap h) (in_range : s < slot_count h.layout) where
+module _ (h : Heap) (s : ℕ) (state : State) (memory : List Granule) (total seed tag : ℕ) (sound : IsSoundHeap h)
+    (in_range : s < slot_count h.layout) where
   here : (r : ℕ) → r ≡ s → get_or (slice_set h.states s state) r Fresh ≡ state
-  here r is = subst (λ q. get_or (slice_set h.states s state) q Fresh ≡ state) (sym is) (get_or-set_same h.states s state Fresh (in_states h s sound in_range))
+  here r is =
+      subst (λ q. get_or (slice_set h.states s state) q Fresh ≡ state) (sym is)
+      (get_or-set_same h.states s state Fresh (in_states h s sound in_range))
 
   there : (r : ℕ) → (r ≡ s → ⊥) → get_or (slice_set h.states s state) r Fresh ≡ state_at h r
   there r not = get_or-set_other h.states s r state Fresh not
 
   -- a granule of another slot, or of none, is outside of the payload of s
-  apart : (r g : ℕ) → r < slot_count h.layout → (r ≡ s → ⊥) → (slot_in h r).start ≤ g → g < end_of (slot_in h r) → (g ≤ (slot_in h s).start) ⊎ (end_of (slot_in h s) ≤ g)
+  apart : (r g : ℕ) → r < slot_count h.layout → (r ≡ s → ⊥) → (slot_in h r).start ≤ g → g < end_of (slot_in h r) →
+      (g ≤ (slot_in h s).start) ⊎ (end_of (slot_in h s) ≤ g)
   apart r g within not from to = ⊎_elim
       (λ lt. inl (let before : end_of (slot_in h r) ≤ (slot_in h s).start = sound.slots.apart r s lt in_range in omega arith))
       (λ le. inr (let before : end_of (slot_in h s) ≤ (slot_in h r).start = sound.slots.apart s r (omega arith) within in omega arith))
       (cases_lt r s)
 
-  outside : (g : ℕ) → ((r : ℕ) → r < slot_count h.layout → Covers (slot_in h r) g → ⊥) → (g ≤ (slot_in h s).start) ⊎ (end_of (slot_in h s) ≤ g)
+  outside : (g : ℕ) → ((r : ℕ) → r < slot_count h.layout → Covers (slot_in h r) g → ⊥) →
+      (g ≤ (slot_in h s).start) ⊎ (end_of (slot_in h s) ≤ g)
   outside g none = ⊎_elim
       (λ lt. inl (omega arith))
       (λ le. ⊎_elim (λ lt. absurd (none s in_range (record { from = le; to = lt }))) (λ ge. inr ge) (cases_lt g (end_of (slot_in h s))))
@@ -76,11 +82,15 @@ module _ (h : Heap) (s : ℕ) (state : State) (memory : List Granule) (total see
       }
     where
       tagged_here : (r : ℕ) → r ≡ s → IsTaggedSlot memory r (slot_in h r) (get_or (slice_set h.states s state) r Fresh)
-      tagged_here r is = subst (λ x. IsTaggedSlot memory r (slot_in h r) x) (sym (here r is)) (subst (λ q. IsTaggedSlot memory q (slot_in h q) state) (sym is) tagged)
+      tagged_here r is =
+          subst (λ x. IsTaggedSlot memory r (slot_in h r) x) (sym (here r is))
+          (subst (λ q. IsTaggedSlot memory q (slot_in h q) state) (sym is) tagged)
 
-      tagged_there : (r : ℕ) → r < slot_count h.layout → (r ≡ s → ⊥) → IsTaggedSlot memory r (slot_in h r) (get_or (slice_set h.states s state) r Fresh)
+      tagged_there : (r : ℕ) → r < slot_count h.layout → (r ≡ s → ⊥) →
+          IsTaggedSlot memory r (slot_in h r) (get_or (slice_set h.states s state) r Fresh)
       tagged_there r within not = subst (λ x. IsTaggedSlot memory r (slot_in h r) x) (sym (there r not))
-          (IsTaggedSlot-same h.memory memory r (slot_in h r) (state_at h r) (λ g from to. others g (apart r g within not from to)) (sound.tagged r within))
+          (IsTaggedSlot-same h.memory memory r (slot_in h r) (state_at h r) (λ g from to. others g (apart r g within not from to))
+          (sound.tagged r within))
 
       below : (x : State) → IfDead x (λ mark. (h.total ≤ mark) × (mark < total)) → IfDead x (λ mark. mark < total)
       below Fresh p = tt
@@ -92,14 +102,16 @@ module _ (h : Heap) (s : ℕ) (state : State) (memory : List Granule) (total see
       weaker (Live n t) p = tt
       weaker (Dead n t mark) p = omega arith
 
-      new_old : (x y : State) → IfDead x (λ mark. (h.total ≤ mark) × (mark < total)) → IfDead y (λ mark. mark < h.total) → IfDead x (λ mark. IfDead y (λ other. mark ≢ other))
+      new_old : (x y : State) → IfDead x (λ mark. (h.total ≤ mark) × (mark < total)) → IfDead y (λ mark. mark < h.total) →
+          IfDead x (λ mark. IfDead y (λ other. mark ≢ other))
       new_old Fresh y p q = tt
       new_old (Live n t) y p q = tt
       new_old (Dead n t m) Fresh p q = tt
       new_old (Dead n t m) (Live a b) p q = tt
       new_old (Dead n t m) (Dead a b k) p q = λ e. omega (arith, p.0)
 
-      old_new : (x y : State) → IfDead x (λ mark. mark < h.total) → IfDead y (λ mark. (h.total ≤ mark) × (mark < total)) → IfDead x (λ mark. IfDead y (λ other. mark ≢ other))
+      old_new : (x y : State) → IfDead x (λ mark. mark < h.total) → IfDead y (λ mark. (h.total ≤ mark) × (mark < total)) →
+          IfDead x (λ mark. IfDead y (λ other. mark ≢ other))
       old_new Fresh y p q = tt
       old_new (Live n t) y p q = tt
       old_new (Dead n t m) Fresh p q = tt
@@ -120,7 +132,8 @@ module _ (h : Heap) (s : ℕ) (state : State) (memory : List Granule) (total see
           (subst (λ y. Differ (state_at h r) y) (sym (there q b)) (sound.marks_differ r q apart))
 
 -- the tag of a live slot is one that it may take
-IsTagOf-live : (h : Heap) (s n t : ℕ) → IsSoundHeap h → s < slot_count h.layout → state_at h s ≡ Live n t → IsTagOf s (last_tag (state_at h s))
+IsTagOf-live : (h : Heap) (s n t : ℕ) → IsSoundHeap h → s < slot_count h.layout → state_at h s ≡ Live n t →
+    IsTagOf s (last_tag (state_at h s))
 IsTagOf-live h s n t sound in_range live =
     let slot = sound.tagged s in_range in
     let both : IsChunkTag s (Live n t) slot.chunk_tag = subst (λ x. IsChunkTag s x slot.chunk_tag) live slot.is_chunk_tag in
@@ -131,25 +144,33 @@ module _ where
   length-chunk_tagged slot n tag memory =
       laws.tagged_length _ _ 0 (tagged (payload_start slot) (chunk_granules n) tag memory) ∙ laws.tagged_length _ _ tag memory
 
-  module _ (slot : Slot) (n tag : ℕ) (memory : List Granule) (room : chunk_granules n < slot.class) (inside : end_of slot ≤ length memory) where
-    chunk_tagged_others : (g : ℕ) → (g ≤ slot.start) ⊎ (end_of slot ≤ g) → tag_at (chunk_tagged slot n tag memory) g ≡ tag_at memory g
-    chunk_tagged_others g out =
-        laws.other_tag _ _ 0 g (tagged (payload_start slot) (chunk_granules n) tag memory) (⊎_elim (λ low. inl (omega arith)) (λ high. inr (omega arith)) out)
-        ∙ laws.other_tag _ _ tag g memory (⊎_elim (λ low. inl (omega arith)) (λ high. inr (omega arith)) out)
+  module _ (slot : Slot) (n tag : ℕ) (memory : List Granule) (room : chunk_granules n < slot.class) (inside : end_of slot ≤ length memory)
+    where
+      chunk_tagged_others : (g : ℕ) → (g ≤ slot.start) ⊎ (end_of slot ≤ g) → tag_at (chunk_tagged slot n tag memory) g ≡ tag_at memory g
+      chunk_tagged_others g out =
+          laws.other_tag _ _ 0 g (tagged (payload_start slot) (chunk_granules n) tag memory)
+          (⊎_elim (λ low. inl (omega arith)) (λ high. inr (omega arith)) out)
+          ∙ laws.other_tag _ _ tag g memory (⊎_elim (λ low. inl (omega arith)) (λ high. inr (omega arith)) out)
 
-    chunk_tagged_chunk : (g : ℕ) → slot.start < g → g ≤ slot.start + chunk_granules n → tag_at (chunk_tagged slot n tag memory) g ≡ tag
-    chunk_tagged_chunk g from to =
-        laws.other_tag _ _ 0 g (tagged (payload_start slot) (chunk_granules n) tag memory) (inl (omega arith))
-        ∙ laws.written_tag _ _ tag g memory (omega arith) (omega arith) (omega arith)
+      chunk_tagged_chunk : (g : ℕ) → slot.start < g → g ≤ slot.start + chunk_granules n → tag_at (chunk_tagged slot n tag memory) g ≡ tag
+      chunk_tagged_chunk g from to =
+          laws.other_tag _ _ 0 g (tagged (payload_start slot) (chunk_granules n) tag memory) (inl (omega arith))
+          ∙ laws.written_tag _ _ tag g memory (omega arith) (omega arith) (omega arith)
 
-    chunk_tagged_tail : (g : ℕ) → slot.start + chunk_granules n < g → g < end_of slot → tag_at (chunk_tagged slot n tag memory) g ≡ 0
-    chunk_tagged_tail g from to =
-        laws.written_tag _ _ 0 g (tagged (payload_start slot) (chunk_granules n) tag memory) (omega arith) (omega arith)
-        (omega (arith, laws.tagged_length (payload_start slot) (chunk_granules n) tag memory))
+      chunk_tagged_tail : (g : ℕ) → slot.start + chunk_granules n < g → g < end_of slot → tag_at (chunk_tagged slot n tag memory) g ≡ 0
+      chunk_tagged_tail g from to =
+          laws.written_tag _ _ 0 g (tagged (payload_start slot) (chunk_granules n) tag memory) (omega arith) (omega arith)
+          (omega (arith, laws.tagged_length (payload_start slot) (chunk_granules n) tag memory))
 
   -- a slot that becomes live for n bytes, under a tag that it may take
-  IsSoundHeap-live : (h : Heap) (s n tag seed drawn : ℕ) → IsSoundHeap h → s < slot_count h.layout → chunk_granules n < (slot_in h s).class → IsTagOf s tag → drawn < 16 →
-      IsSoundHeap (record h { states = slice_set h.states s (Live n tag); memory = chunk_tagged (slot_in h s) n tag h.memory; seed = seed; tag = drawn })
+  IsSoundHeap-live : (h : Heap) (s n tag seed drawn : ℕ) → IsSoundHeap h → s < slot_count h.layout →
+      chunk_granules n < (slot_in h s).class → IsTagOf s tag → drawn < 16 →
+      IsSoundHeap (record h {
+        states = slice_set h.states s (Live n tag);
+        memory = chunk_tagged (slot_in h s) n tag h.memory;
+        seed = seed;
+        tag = drawn;
+      })
   IsSoundHeap-live h s n tag seed drawn sound in_range room is_tag below =
       let inside = in_region h s sound in_range in
       IsSoundHeap-retagged h s (Live n tag) (chunk_tagged (slot_in h s) n tag h.memory) h.total seed drawn sound in_range
@@ -159,31 +180,38 @@ module _ where
         room = room;
         chunk_tag = tag;
         is_chunk_tag = (is_tag, refl);
-        header = chunk_tagged_others (slot_in h s) n tag h.memory room inside (slot_in h s).start (inl (omega arith)) ∙ (sound.tagged s in_range).header;
+        header =
+            chunk_tagged_others (slot_in h s) n tag h.memory room inside (slot_in h s).start (inl (omega arith))
+            ∙ (sound.tagged s in_range).header;
         chunk = chunk_tagged_chunk (slot_in h s) n tag h.memory room inside;
         tail = chunk_tagged_tail (slot_in h s) n tag h.memory room inside;
       })
       (omega arith) tt below
 
-  pub IsSoundHeap-given_out : (h : Heap) (s n : ℕ) → IsSoundHeap h → s < slot_count h.layout → chunk_granules n < (slot_in h s).class → IsSoundHeap (given_out h s n)
+  pub IsSoundHeap-given_out : (h : Heap) (s n : ℕ) → IsSoundHeap h → s < slot_count h.layout → chunk_granules n < (slot_in h s).class →
+      IsSoundHeap (given_out h s n)
   unfolding given_out
   IsSoundHeap-given_out h s n sound in_range room =
       let is_tag = IsTagOf-next_tag h s sound.tag_below in
       IsSoundHeap-live h s n (next_tag h s) (next_seed h.seed) (next_tag h s) sound in_range room is_tag is_tag.below
 
-  pub IsSoundHeap-resized : (h : Heap) (s n m t : ℕ) → IsSoundHeap h → s < slot_count h.layout → state_at h s ≡ Live m t → chunk_granules n < (slot_in h s).class → IsSoundHeap (resized h s n)
+  pub IsSoundHeap-resized : (h : Heap) (s n m t : ℕ) → IsSoundHeap h → s < slot_count h.layout → state_at h s ≡ Live m t →
+      chunk_granules n < (slot_in h s).class → IsSoundHeap (resized h s n)
   unfolding resized
   IsSoundHeap-resized h s n m t sound in_range live room =
-      IsSoundHeap-live h s n (last_tag (state_at h s)) h.seed h.tag sound in_range room (IsTagOf-live h s m t sound in_range live) sound.tag_below
+      IsSoundHeap-live h s n (last_tag (state_at h s)) h.seed h.tag sound in_range room (IsTagOf-live h s m t sound in_range live)
+      sound.tag_below
 
-  pub IsSoundHeap-freed : (h : Heap) (s n t : ℕ) → IsSoundHeap h → s < slot_count h.layout → state_at h s ≡ Live n t → IsSoundHeap (freed h s n)
+  pub IsSoundHeap-freed : (h : Heap) (s n t : ℕ) → IsSoundHeap h → s < slot_count h.layout → state_at h s ≡ Live n t →
+      IsSoundHeap (freed h s n)
   unfolding freed
   IsSoundHeap-freed h s n t sound in_range live =
       let inside = in_region h s sound in_range in
       let old = sound.tagged s in_range in
       let room : chunk_granules n < (slot_in h s).class = subst (λ x. chunk_of x < (slot_in h s).class) live old.room in
       let is_tag = IsTagOf-next_tag h s sound.tag_below in
-      IsSoundHeap-retagged h s (Dead n (last_tag (state_at h s)) h.total) (tagged (payload_start (slot_in h s)) (chunk_granules n) (next_tag h s) h.memory)
+      IsSoundHeap-retagged h s (Dead n (last_tag (state_at h s)) h.total)
+      (tagged (payload_start (slot_in h s)) (chunk_granules n) (next_tag h s) h.memory)
       (h.total + block_bytes (slot_in h s)) (next_seed h.seed) (next_tag h s) sound in_range
       (laws.tagged_length (payload_start (slot_in h s)) (chunk_granules n) (next_tag h s) h.memory)
       (λ g out. laws.other_tag _ _ (next_tag h s) g h.memory (⊎_elim (λ low. inl (omega arith)) (λ high. inr (omega arith)) out))
@@ -193,12 +221,15 @@ module _ where
         is_chunk_tag = (IsTagOf-live h s n t sound in_range live, is_tag, next_tag-differs h s sound.tag_below);
         header = laws.other_tag _ _ (next_tag h s) (slot_in h s).start h.memory (inl (omega arith)) ∙ old.header;
         chunk = λ g from to. laws.written_tag _ _ (next_tag h s) g h.memory (omega arith) (omega arith) (omega arith);
-        tail = λ g from to. laws.other_tag _ _ (next_tag h s) g h.memory (inr (omega arith)) ∙ old.tail g (subst (λ x. (slot_in h s).start + chunk_of x < g) (sym live) from) to;
+        tail =
+            λ g from to. laws.other_tag _ _ (next_tag h s) g h.memory (inr (omega arith))
+            ∙ old.tail g (subst (λ x. (slot_in h s).start + chunk_of x < g) (sym live) from) to;
       })
       (omega arith) (omega arith, omega arith) is_tag.below
 
   -- bytes that are written leave a sound heap
-  pub IsSoundHeap-written : (h : Heap) (i : ℕ) (bytes : List ℕ) → IsSoundHeap h → IsSoundHeap (record h { memory = written i bytes h.memory })
+  pub IsSoundHeap-written : (h : Heap) (i : ℕ) (bytes : List ℕ) → IsSoundHeap h →
+      IsSoundHeap (record h { memory = written i bytes h.memory })
   IsSoundHeap-written h i bytes sound =
       record {
         region = sound.region;
@@ -206,7 +237,9 @@ module _ where
         long = laws.written_length i bytes h.memory ∙ sound.long;
         states = sound.states;
         tag_below = sound.tag_below;
-        tagged = λ s within. IsTaggedSlot-same h.memory (written i bytes h.memory) s (slot_in h s) (state_at h s) (λ g from to. laws.tag_under_bytes i g bytes h.memory) (sound.tagged s within);
+        tagged =
+            λ s within. IsTaggedSlot-same h.memory (written i bytes h.memory) s (slot_in h s) (state_at h s)
+            (λ g from to. laws.tag_under_bytes i g bytes h.memory) (sound.tagged s within);
         slack = λ g none. laws.tag_under_bytes i g bytes h.memory ∙ sound.slack g none;
         marks = sound.marks;
         marks_differ = sound.marks_differ;

@@ -14,7 +14,8 @@ use Rattle.heap_theory.proofs.Marks.{HasMark-own, mark_of-is, dead_with_mark, re
 
 -- ---- the queue
 
-ascending : (h : Heap) (from : ℕ) (queue : List ℕ) → IsSoundHeap h → IsChain h from queue → AllPairs (λ s r. mark_of (state_at h s) < mark_of (state_at h r)) queue
+ascending : (h : Heap) (from : ℕ) (queue : List ℕ) → IsSoundHeap h → IsChain h from queue →
+    AllPairs (λ s r. mark_of (state_at h s) < mark_of (state_at h r)) queue
 ascending h from [] sound c = AllPairs-nil (λ s r. mark_of (state_at h s) < mark_of (state_at h r))
 ascending h from (s ∷ rest) sound c =
     AllPairs-cons (λ s r. mark_of (state_at h s) < mark_of (state_at h r)) s rest
@@ -24,7 +25,8 @@ ascending h from (s ∷ rest) sound c =
     omega (arith, mark_of-is (state_at h s) from c.1, mark_of-is (state_at h r) q.mark q.marked, q.above))
     (ascending h (from + block_bytes (slot_in h s)) rest sound c.2)
 
-pub holds_quarantined : (h : Heap) (queue : List ℕ) (lists : List (List ℕ)) → IsSoundHeap h → IsBooked h queue lists → HoldsQuarantined h queue
+pub holds_quarantined : (h : Heap) (queue : List ℕ) (lists : List (List ℕ)) → IsSoundHeap h → IsBooked h queue lists →
+    HoldsQuarantined h queue
 holds_quarantined h queue lists sound b = record {
   slots = λ s. (in_queue s, queued s);
   ascending = ascending h b.from queue sound b.booked.chain;
@@ -33,8 +35,11 @@ holds_quarantined h queue lists sound b = record {
     in_queue : (s : ℕ) → Contains queue s → (s < slot_count h.layout) × (is_quarantined h (state_at h s) ≡ true)
     in_queue s there =
         let q = chain_dead h b.from queue s b.booked.chain there in
-        let mark = mark_of-is (state_at h s) q.mark q.marked in
-        (q.in_range, and_from _ _ (dead_with_mark (state_at h s) q.mark q.marked) (le-leb _ _ (omega (arith, chain_bytes h b.from queue b.booked.chain, b.held, q.above))))
+        let mark = mark_of-is (state_at h s) q.mark q.marked in (
+          q.in_range,
+          and_from _ _ (dead_with_mark (state_at h s) q.mark q.marked)
+              (le-leb _ _ (omega (arith, chain_bytes h b.from queue b.booked.chain, b.held, q.above))),
+        )
 
     queued : (s : ℕ) → (s < slot_count h.layout) × (is_quarantined h (state_at h s) ≡ true) → Contains queue s
     queued s is =
@@ -48,7 +53,8 @@ holds_quarantined h queue lists sound b = record {
 
 -- ---- a class's list
 
-descending : (h : Heap) (class bound : ℕ) (list : List ℕ) → IsFreedList h class bound list → AllPairs (λ s r. mark_of (state_at h r) < mark_of (state_at h s)) list
+descending : (h : Heap) (class bound : ℕ) (list : List ℕ) → IsFreedList h class bound list →
+    AllPairs (λ s r. mark_of (state_at h r) < mark_of (state_at h s)) list
 descending h class bound [] f = AllPairs-nil (λ s r. mark_of (state_at h r) < mark_of (state_at h s))
 descending h class bound (s ∷ rest) f =
     AllPairs-cons (λ s r. mark_of (state_at h r) < mark_of (state_at h s)) s rest
@@ -57,17 +63,27 @@ descending h class bound (s ∷ rest) f =
     omega (arith, mark_of-is (state_at h s) f.0 f.3, mark_of-is (state_at h r) l.mark l.marked, l.below))
     (descending h class f.0 rest f.5)
 
-pub holds_released : (h : Heap) (queue : List ℕ) (lists : List (List ℕ)) (number class : ℕ) → IsSoundHeap h → IsBooked h queue lists → slice_get h.layout.classes number ≡ Some class →
+pub holds_released : (h : Heap) (queue : List ℕ) (lists : List (List ℕ)) (number class : ℕ) → IsSoundHeap h → IsBooked h queue lists →
+    slice_get h.layout.classes number ≡ Some class →
     HoldsReleased h class (list_of lists number)
 holds_released h queue lists number class sound b numbered = record {
-  slots = λ s. (in_list s, λ is. listed h queue lists number class sound b numbered s (record { in_range = is.0; of_class = is.1; passes = is.2 }));
+  slots =
+      λ s. (
+        in_list s,
+        λ is. listed h queue lists number class sound b numbered s
+            (record { in_range = is.0; of_class = is.1; passes = is.2 }),
+      );
   descending = descending h class b.from (list_of lists number) (freed_list h queue lists number class sound b numbered);
 }
   where
-    in_list : (s : ℕ) → Contains (list_of lists number) s → (s < slot_count h.layout) × ((slot_in h s).class ≡ class) × (is_released h (state_at h s) ≡ true)
+    in_list : (s : ℕ) → Contains (list_of lists number) s →
+        (s < slot_count h.layout) × ((slot_in h s).class ≡ class) × (is_released h (state_at h s) ≡ true)
     in_list s there =
-        let l = list_dead h class b.from (list_of lists number) s (freed_list h queue lists number class sound b numbered) there in
-        (l.in_range, l.of_class, released_from_mark h (state_at h s) l.mark l.marked (b.booked.released s l.mark l.in_range l.marked l.below))
+        let l = list_dead h class b.from (list_of lists number) s (freed_list h queue lists number class sound b numbered) there in (
+          l.in_range,
+          l.of_class,
+          released_from_mark h (state_at h s) l.mark l.marked (b.booked.released s l.mark l.in_range l.marked l.below),
+        )
 
 -- ---- no slot is in two of them
 
@@ -76,7 +92,8 @@ pub one_list_has : (h : Heap) (queue : List ℕ) (lists : List (List ℕ)) (a b 
 one_list_has h queue lists a b s sound booked in_a in_b at_a at_b =
     let l = list_dead h _ booked.from (list_of lists a) s (booked.booked.freed a in_a) at_a in
     let k = list_dead h _ booked.from (list_of lists b) s (booked.booked.freed b in_b) at_b in
-    one_number 1 h.layout.classes a b sound.region.table (subst (λ n. a < n) booked.booked.long in_a) (subst (λ n. b < n) booked.booked.long in_b) (sym l.of_class ∙ k.of_class)
+    one_number 1 h.layout.classes a b sound.region.table (subst (λ n. a < n) booked.booked.long in_a)
+    (subst (λ n. b < n) booked.booked.long in_b) (sym l.of_class ∙ k.of_class)
 
 pub queue_or_list : (h : Heap) (queue : List ℕ) (lists : List (List ℕ)) (number s : ℕ) → IsBooked h queue lists → number < length lists →
     Contains queue s → Contains (list_of lists number) s → ⊥

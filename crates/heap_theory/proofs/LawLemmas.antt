@@ -15,7 +15,8 @@ pub moving_keeps_sound : MovingKeepsSound
 moving_keeps_sound h p chunk s n sound live given = IsSoundHeap-moved h p chunk s n sound live given
 
 pub front_of_list_is_given : FrontIsGiven
-front_of_list_is_given h queue lists number class s rest sound booked numbered = front_is_given h queue lists number class sound booked numbered s rest
+front_of_list_is_given h queue lists number class s rest sound booked numbered =
+    front_is_given h queue lists number class sound booked numbered s rest
 
 pub rest_is_held : RestIsHeld
 rest_is_held h from queue lists booked held = record { from = from; booked = booked; held = held }

@@ -34,7 +34,8 @@ unfolding given_out with_payload freed moved
 move_layout h chunk n (Ok s) = refl
 move_layout h chunk n (Err cause) = refl
 
-either_layout : {A : Type 0} (layout : Partition) (b : Bool) (x y : Step A) → x.heap.layout ≡ layout → y.heap.layout ≡ layout → (cond b x y).heap.layout ≡ layout
+either_layout : {A : Type 0} (layout : Partition) (b : Bool) (x y : Step A) → x.heap.layout ≡ layout → y.heap.layout ≡ layout →
+    (cond b x y).heap.layout ≡ layout
 either_layout layout true x y left right = left
 either_layout layout false x y left right = right
 
@@ -52,11 +53,13 @@ unfolding heap_after malloc_step calloc_step free_step realloc_step store_step
 layout_after r (Malloc v n) = malloc_layout r.heap n (slot_for_request r.heap n)
 layout_after r (Calloc v n) = calloc_layout r.heap n (slot_for_request r.heap n)
 layout_after r (Realloc v n) =
-    either_layout r.heap.layout (variable r v == 0) _ _ (malloc_layout r.heap n (slot_for_request r.heap n)) (chunk_layout r.heap (variable r v) n (chunk_at r.heap (variable r v)))
+    either_layout r.heap.layout (variable r v == 0) _ _ (malloc_layout r.heap n (slot_for_request r.heap n))
+    (chunk_layout r.heap (variable r v) n (chunk_at r.heap (variable r v)))
 layout_after r (Free v) = either_layout r.heap.layout (variable r v == 0) _ _ refl (free_layout r.heap (chunk_at r.heap (variable r v)))
 layout_after r (Load v off len) = refl
 layout_after r (Store v off len byte) =
-    store_layout r.heap (moved_by (variable r v) off) (replicate len byte) (access_fault r.heap.memory (moved_by (variable r v) off) (length (replicate len byte)))
+    store_layout r.heap (moved_by (variable r v) off) (replicate len byte)
+    (access_fault r.heap.memory (moved_by (variable r v) off) (length (replicate len byte)))
 layout_after r (Addg v w u6 u4) = refl
 layout_after r (Subg v w u6 u4) = refl
 
@@ -65,6 +68,7 @@ unfolding replay_after
 layout_of_all r [] = refl
 layout_of_all r (e ∷ events) = layout_of_all (replay_after r e) events ∙ layout_after r e
 
-pub layout_of_run : (layout : Partition) (seed quarantine : ℕ) (events : List Event) → (replay_of (first_replay layout seed quarantine) events).heap.layout ≡ layout
+pub layout_of_run : (layout : Partition) (seed quarantine : ℕ) (events : List Event) →
+    (replay_of (first_replay layout seed quarantine) events).heap.layout ≡ layout
 unfolding replay_of first_replay first_heap
 layout_of_run layout seed quarantine events = layout_of_all (first_replay layout seed quarantine) events

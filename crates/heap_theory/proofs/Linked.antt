@@ -5,10 +5,14 @@ use Rattle.heap_theory.specs.Links.{IsLinked, last_link}
 use Rattle.heap_theory.proofs.Found.{Contains-head, Contains-tail, Contains-cases, Contains-none, AllPairs-cons, AllPairs-nil}
 
 -- links that change outside the list leave it linked
-pub IsLinked-same : (next new : ℕ → ℕ) (front : ℕ) (list : List ℕ) → ((s : ℕ) → Contains list s → new s ≡ next s) → IsLinked next front list → IsLinked new front list
+pub IsLinked-same : (next new : ℕ → ℕ) (front : ℕ) (list : List ℕ) → ((s : ℕ) → Contains list s → new s ≡ next s) →
+    IsLinked next front list → IsLinked new front list
 IsLinked-same next new front [] same l = l
-IsLinked-same next new front (s ∷ rest) same l =
-    (l.0, subst (λ n. IsLinked new n rest) (sym (same s (Contains-head s rest))) (IsLinked-same next new (next s) rest (λ r there. same r (Contains-tail s rest r there)) l.1))
+IsLinked-same next new front (s ∷ rest) same l = (
+  l.0,
+  subst (λ n. IsLinked new n rest) (sym (same s (Contains-head s rest)))
+      (IsLinked-same next new (next s) rest (λ r there. same r (Contains-tail s rest r there)) l.1),
+)
 
 -- from one front there is one list
 pub IsLinked-one : (next : ℕ → ℕ) (front : ℕ) (a b : List ℕ) → IsLinked next front a → IsLinked next front b → a ≡ b
@@ -21,7 +25,8 @@ IsLinked-one next front (s ∷ rest) (r ∷ more) l k =
     λ i. same i ∷ tails i
 
 -- the list from each of its slots on
-from_there : (next : ℕ → ℕ) (front : ℕ) (list : List ℕ) (s : ℕ) → IsLinked next front list → Contains list s → (rest : List ℕ) × (length rest < length list) × IsLinked next (next s) rest
+from_there : (next : ℕ → ℕ) (front : ℕ) (list : List ℕ) (s : ℕ) → IsLinked next front list → Contains list s →
+    (rest : List ℕ) × (length rest < length list) × IsLinked next (next s) rest
 from_there next front [] s l there = absurd (Contains-none s there)
 from_there next front (r ∷ rest) s l there = elim (Contains-cases r rest s there) [
   | inl is ↦ (rest, omega arith, subst (λ q. IsLinked next (next q) rest) is l.1)
@@ -40,14 +45,18 @@ IsLinked-once next front (s ∷ rest) l =
     (IsLinked-once next (next s) rest l.1)
 
 -- a slot is put in front of a list
-pub IsLinked-push : (next : ℕ → ℕ) (front s : ℕ) (list : List ℕ) → next s ≡ front → IsLinked next front list → IsLinked next (suc s) (s ∷ list)
+pub IsLinked-push : (next : ℕ → ℕ) (front s : ℕ) (list : List ℕ) → next s ≡ front → IsLinked next front list →
+    IsLinked next (suc s) (s ∷ list)
 IsLinked-push next front s list is l = (refl, subst (λ n. IsLinked next n list) (sym is) l)
 
 -- the last slot has no link
-pub IsLinked-ends : (next : ℕ → ℕ) (front s : ℕ) (list : List ℕ) → IsLinked next front list → last_link list ≡ suc s → Contains list s × (next s ≡ 0)
+pub IsLinked-ends : (next : ℕ → ℕ) (front s : ℕ) (list : List ℕ) → IsLinked next front list → last_link list ≡ suc s →
+    Contains list s × (next s ≡ 0)
 IsLinked-ends next front s [] l is = absurd (omega (arith, is))
-IsLinked-ends next front s (r ∷ []) l is = let same : r ≡ s = omega (arith, is) in (subst (Contains (r ∷ [])) same (Contains-head r []), subst (λ q. next q ≡ 0) same l.1)
-IsLinked-ends next front s (r ∷ q ∷ rest) l is = let more = IsLinked-ends next (next r) s (q ∷ rest) l.1 is in (Contains-tail r (q ∷ rest) s more.0, more.1)
+IsLinked-ends next front s (r ∷ []) l is =
+    let same : r ≡ s = omega (arith, is) in (subst (Contains (r ∷ [])) same (Contains-head r []), subst (λ q. next q ≡ 0) same l.1)
+IsLinked-ends next front s (r ∷ q ∷ rest) l is =
+    let more = IsLinked-ends next (next r) s (q ∷ rest) l.1 is in (Contains-tail r (q ∷ rest) s more.0, more.1)
 
 -- a slot is put after a list, where the list's last slot is linked to it
 pub IsLinked-append : (next new : ℕ → ℕ) (front last s : ℕ) (list : List ℕ) → IsLinked next front list → last_link list ≡ suc last →
@@ -57,8 +66,10 @@ IsLinked-append next new front last s (r ∷ []) l is others linked ends =
     let same : r ≡ last = omega (arith, is) in
     (l.0, (ap new same ∙ linked, ends))
 IsLinked-append next new front last s (r ∷ q ∷ rest) l is others linked ends =
-    let more = IsLinked-append next new (next r) last s (q ∷ rest) l.1 is (λ p there. others p (Contains-tail r (q ∷ rest) p there)) linked ends in
-    let another : r ≢ last = λ same. let end = IsLinked-ends next front last (r ∷ q ∷ rest) l is in omega (arith, ap next same, end.1, l.1.0) in
+    let more =
+    IsLinked-append next new (next r) last s (q ∷ rest) l.1 is (λ p there. others p (Contains-tail r (q ∷ rest) p there)) linked ends in
+    let another : r ≢ last = λ same. let end = IsLinked-ends next front last (r ∷ q ∷ rest) l is in
+    omega (arith, ap next same, end.1, l.1.0) in
     (l.0, subst (λ n. IsLinked new n ((q ∷ rest) ++ s ∷ [])) (sym (others r (Contains-head r (q ∷ rest)) another)) more)
 
 pub last_link-append : (list : List ℕ) (s : ℕ) → last_link (list ++ s ∷ []) ≡ suc s

@@ -23,7 +23,8 @@ released_over h s n t m reusable was = elim reusable.free [
 ]
 
 -- a dead slot that an event makes live was reusable
-revived : (h new : Heap) (o : Option ℕ) (s n t m : ℕ) → HeapChange h new o → state_at h s ≡ Dead n t m → IsLive (state_at new s) → IsReusable h s
+revived : (h new : Heap) (o : Option ℕ) (s n t m : ℕ) → HeapChange h new o → state_at h s ≡ Dead n t m → IsLive (state_at new s) →
+    IsReusable h s
 revived h new None s n t m kept was live = absurd (subst IsLive (kept.dead s n t m was) live)
 revived h new (Some r) s n t m change was live = elim (cases_eq s r) [
   | inl is ↦ subst (IsReusable h) (sym is) change.given.reusable
@@ -60,7 +61,8 @@ module _ (w : Run) (e : Event) (sound : IsSoundRun w) where
   unfolding run_after replay_after
   reuse_is_delayed quarantine limit s n t m was live =
       subst (λ q. q < w.replay.heap.total - m) limit
-      (released_over w.replay.heap s n t m (revived w.replay.heap (heap_after w.replay e) (slot_given w.replay e) s n t m change was live) was)
+      (released_over w.replay.heap s n t m (revived w.replay.heap (heap_after w.replay e) (slot_given w.replay e) s n t m change was live)
+      was)
 
   pub lives_on : LivesOn w (run_after w e)
   unfolding run_after replay_after
@@ -78,6 +80,8 @@ module _ (w : Run) (e : Event) (sound : IsSoundRun w) where
         ))
         | inr not ↦
             let same : get_or (times_with w (Some r)) s 0 ≡ times_of w s = get_or-set_other w.times r s (suc (times_of w r)) 0 not in
-            subst (λ x. LifeStep x (times_of w s) (state_at (heap_after w.replay e) s) (get_or (times_with w (Some r)) s 0)) (state_at-given_out_other w.replay.heap r out.n s not)
-            (kept_life (given_out w.replay.heap r out.n) (heap_after w.replay e) s (times_of w s) (get_or (times_with w (Some r)) s 0) out.kept same)
+            subst (λ x. LifeStep x (times_of w s) (state_at (heap_after w.replay e) s) (get_or (times_with w (Some r)) s 0))
+            (state_at-given_out_other w.replay.heap r out.n s not)
+            (kept_life (given_out w.replay.heap r out.n) (heap_after w.replay e) s (times_of w s) (get_or (times_with w (Some r)) s 0)
+            out.kept same)
       ]

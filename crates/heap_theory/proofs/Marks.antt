@@ -60,7 +60,8 @@ pub chain_bytes : (h : Heap) (from : ℕ) (queue : List ℕ) → IsChain h from 
 chain_bytes h from [] c = omega (arith, c)
 chain_bytes h from (s ∷ rest) c = omega (arith, bytes_in-cons h s rest, chain_bytes h (from + block_bytes (slot_in h s)) rest c.2)
 
-pub chain_mark : (h : Heap) (from : ℕ) (queue : List ℕ) (s mark : ℕ) → IsChain h from queue → Contains queue s → HasMark (state_at h s) mark → from ≤ mark
+pub chain_mark : (h : Heap) (from : ℕ) (queue : List ℕ) (s mark : ℕ) → IsChain h from queue → Contains queue s →
+    HasMark (state_at h s) mark → from ≤ mark
 chain_mark h from [] s mark c there d = absurd (Contains-none s there)
 chain_mark h from (r ∷ rest) s mark c there d = elim (Contains-cases r rest s there) [
   | inl is ↦ omega (arith, one_mark (state_at h s) from mark (subst (λ r. HasMark (state_at h r) from) is c.1) d)
@@ -85,7 +86,8 @@ chain_dead h from (r ∷ rest) s c there = elim (Contains-cases r rest s there) 
 
 -- ---- lists
 
-pub list_mark : (h : Heap) (class bound : ℕ) (list : List ℕ) (s mark : ℕ) → IsFreedList h class bound list → Contains list s → HasMark (state_at h s) mark → mark < bound
+pub list_mark : (h : Heap) (class bound : ℕ) (list : List ℕ) (s mark : ℕ) → IsFreedList h class bound list → Contains list s →
+    HasMark (state_at h s) mark → mark < bound
 list_mark h class bound [] s mark f there d = absurd (Contains-none s there)
 list_mark h class bound (r ∷ rest) s mark f there d =
     let below : f.0 < bound = f.4 in
@@ -106,7 +108,8 @@ pub record IsListed (h : Heap) (class bound s : ℕ) : Type 0 where
   pub marked : HasMark (state_at h s) mark
   pub below : mark < bound
 
-pub list_dead : (h : Heap) (class bound : ℕ) (list : List ℕ) (s : ℕ) → IsFreedList h class bound list → Contains list s → IsListed h class bound s
+pub list_dead : (h : Heap) (class bound : ℕ) (list : List ℕ) (s : ℕ) → IsFreedList h class bound list → Contains list s →
+    IsListed h class bound s
 list_dead h class bound [] s f there = absurd (Contains-none s there)
 list_dead h class bound (r ∷ rest) s f there = elim (Contains-cases r rest s there) [
   | inl is ↦ subst (IsListed h class bound) is (record { in_range = f.1; of_class = f.2; mark = f.0; marked = f.3; below = f.4 })
@@ -119,7 +122,8 @@ list_dead h class bound (r ∷ rest) s f there = elim (Contains-cases r rest s t
 -- ---- classes
 
 -- a class has one number
-pub one_number : (step : ℕ) (classes : List ℕ) (a b : ℕ) → IsLegalTable step classes → a < length classes → b < length classes → get_or classes a 0 ≡ get_or classes b 0 → a ≡ b
+pub one_number : (step : ℕ) (classes : List ℕ) (a b : ℕ) → IsLegalTable step classes → a < length classes → b < length classes →
+    get_or classes a 0 ≡ get_or classes b 0 → a ≡ b
 one_number step classes a b legal in_a in_b same = elim (cases_order a b) [
   | inl is ↦ is
   | inr (inl before) ↦ absurd (omega (arith, AllPairs-from_increasing classes legal.ascending a b 0 before in_b))
@@ -131,4 +135,5 @@ pub record IsNumberOf (classes : List ℕ) (number class : ℕ) : Type 0 where
   pub is : get_or classes number 0 ≡ class
 
 pub number_is : (classes : List ℕ) (number class : ℕ) → slice_get classes number ≡ Some class → IsNumberOf classes number class
-number_is classes number class found = record { within = slice_get_within classes number class found; is = get_or_from_slice_get classes number class 0 found }
+number_is classes number class found =
+    record { within = slice_get_within classes number class found; is = get_or_from_slice_get classes number class 0 found }

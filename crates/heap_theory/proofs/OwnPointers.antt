@@ -230,7 +230,8 @@ module _ (h : Heap) (s p : ℕ) (sound : IsSoundHeap h) (own : IsOwnPointer h s 
   state_after_free : (q : ℕ) → q ≢ p → state_at (free_step h q).heap s ≡ state_at h s
   unfolding free_step
   state_after_free q another =
-      cond_both (q == 0) _ _ (λ (step : Step (Result (Unit {0}) FreeError)). state_at step.heap s ≡ state_at h s) (λ _. refl) (λ _. by_chunk (chunk_at h q) refl)
+      cond_both (q == 0) _ _ (λ (step : Step (Result (Unit {0}) FreeError)). state_at step.heap s ≡ state_at h s) (λ _. refl)
+      (λ _. by_chunk (chunk_at h q) refl)
     where
       by_chunk : (r : Result Chunk FreeError) → chunk_at h q ≡ r → state_at (free_with h r).heap s ≡ state_at h s
       by_chunk (Err error) was = refl
@@ -270,8 +271,11 @@ stays_own h s p sound own = record {
   malloc = λ n. own_stays h _ _ s p (IsKept-malloc h n sound).change own (live (state_after_malloc h s p sound own n));
   calloc = λ n. own_stays h _ _ s p (IsKept-calloc h n sound).change own (live (state_after_calloc h s p sound own n));
   free = λ q another. own_stays h _ None s p (IsKept-free h q sound).change own (live (state_after_free h s p sound own q another));
-  realloc = λ q n another. own_stays h _ _ s p (IsKept-realloc h q n sound).change own (live (state_after_realloc h s p sound own q n another));
-  store = λ address bytes. own_stays h _ None s p (IsKept-store h address bytes sound).change own (live (state_after_store h s p sound own address bytes));
+  realloc =
+      λ q n another. own_stays h _ _ s p (IsKept-realloc h q n sound).change own (live (state_after_realloc h s p sound own q n another));
+  store =
+      λ address bytes. own_stays h _ None s p (IsKept-store h address bytes sound).change own
+      (live (state_after_store h s p sound own address bytes));
 }
   where
     live : {x : State} → x ≡ state_at h s → IsLive x

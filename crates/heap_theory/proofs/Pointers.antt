@@ -20,7 +20,8 @@ use Rattle.heap_theory.proofs.Found.{first_in_filter}
 -- ---- the slot of a pointer
 
 -- payloads of two slots begin at different places
-one_payload : (h : Heap) (r s : ℕ) → IsSoundHeap h → r < s → s < slot_count h.layout → payload_place (slot_in h r) ≡ payload_place (slot_in h s) → ⊥
+one_payload : (h : Heap) (r s : ℕ) → IsSoundHeap h → r < s → s < slot_count h.layout →
+    payload_place (slot_in h r) ≡ payload_place (slot_in h s) → ⊥
 one_payload h r s sound before within same = omega (arith, sound.slots.apart r s before within, sound.slots.wide r (omega arith))
 
 pub slot_of_pointer-iff : (h : Heap) (p s : ℕ) → IsSoundHeap h →
@@ -30,7 +31,8 @@ slot_of_pointer-iff h p s sound = (
   λ at.
       let place : position_or_len (λ slot. payload_place slot == place_of p) (slots_of h.layout) ≡ s =
       position_or_len_is (λ slot. payload_place slot == place_of p) (slots_of h.layout) s no_slot (omega (arith, at.0))
-      (λ r before. false_from_ne_true (payload_place (slot_in h r) == place_of p) (λ same. one_payload h r s sound before at.0 (eqb-true _ _ same ∙ at.2)))
+      (λ r before. false_from_ne_true (payload_place (slot_in h r) == place_of p)
+      (λ same. one_payload h r s sound before at.0 (eqb-true _ _ same ∙ at.2)))
       (λ inside. eq-eqb _ _ (sym at.2)) in
       cond-true _ (position (λ slot. payload_place slot == place_of p) (slots_of h.layout)) None (lt-ltb _ _ at.1)
       ∙ ap (λ k. cond (ltb k (slot_count h.layout)) (Some k) None) place
@@ -46,14 +48,17 @@ chunk_at-pointer_to h s n t sound within live =
     let wide = sound.slots.wide s within in
     let most = sound.region.most in
     let place : payload_place (slot_in h s) < 2 ^ 56 = omega arith in
-    let tagged : IsChunkTag s (Live n t) (sound.tagged s within).chunk_tag = subst (λ x. IsChunkTag s x (sound.tagged s within).chunk_tag) live (sound.tagged s within).is_chunk_tag in
+    let tagged : IsChunkTag s (Live n t) (sound.tagged s within).chunk_tag =
+    subst (λ x. IsChunkTag s x (sound.tagged s within).chunk_tag) live (sound.tagged s within).is_chunk_tag in
     let tag_is : last_tag (state_at h s) ≡ t = ap last_tag live in
     let below : last_tag (state_at h s) < 16 = omega (arith, tagged.0.below) in
     let plain : pointer_to h s < 2 ^ 60 = omega arith in
     let found : slot_of_pointer h (pointer_to h s) ≡ Some s =
-    (slot_of_pointer-iff h (pointer_to h s) s sound).1 (within, plain, laws.place_stays (payload_place (slot_in h s)) (last_tag (state_at h s)) ∙ omega arith) in
+    (slot_of_pointer-iff h (pointer_to h s) s sound).1
+    (within, plain, laws.place_stays (payload_place (slot_in h s)) (last_tag (state_at h s)) ∙ omega arith) in
     let shown : logical_tag (pointer_to h s) ≡ t = laws.tag_put (payload_place (slot_in h s)) (last_tag (state_at h s)) below ∙ tag_is in
-    ap (chunk_in_slot h (pointer_to h s)) found ∙ ap (chunk_in (pointer_to h s) s) live ∙ cond-true (logical_tag (pointer_to h s) == t) _ _ (eq-eqb _ _ shown)
+    ap (chunk_in_slot h (pointer_to h s)) found ∙ ap (chunk_in (pointer_to h s) s) live
+    ∙ cond-true (logical_tag (pointer_to h s) == t) _ _ (eq-eqb _ _ shown)
 
 -- ---- the lowest fresh slot
 
@@ -81,7 +86,8 @@ lowest_fresh-first h class s within of_class fresh before =
     let parts = and_parts ((slot_in h r).class == class) (is_fresh (state_at h r)) both in
     both_ways _ (before r less (eqb-true _ _ parts.0)) parts.1))
 
-pub lowest_fresh-none : (h : Heap) (class : ℕ) → ((r : ℕ) → r < slot_count h.layout → (slot_in h r).class ≡ class → is_fresh (state_at h r) ≡ false) → lowest_fresh h class ≡ None
+pub lowest_fresh-none : (h : Heap) (class : ℕ) →
+    ((r : ℕ) → r < slot_count h.layout → (slot_in h r).class ≡ class → is_fresh (state_at h r) ≡ false) → lowest_fresh h class ≡ None
 lowest_fresh-none h class none = by (lowest_fresh h class) refl
   where
     by : (o : Option ℕ) → lowest_fresh h class ≡ o → lowest_fresh h class ≡ None

@@ -12,13 +12,16 @@ use Rattle.heap_theory.proofs.Found.{Contains-head, Contains-tail, Contains-case
 use Rattle.heap_theory.proofs.Marks.{one_mark, bytes_in-cons, chain_bytes, chain_mark, list_weaker, one_number, IsNumberOf, number_is}
 
 -- a list for one class is another one
-pub list_of-here : (lists : List (List ℕ)) (number : ℕ) (list : List ℕ) → number < length lists → list_of (slice_set lists number list) number ≡ list
+pub list_of-here : (lists : List (List ℕ)) (number : ℕ) (list : List ℕ) → number < length lists →
+    list_of (slice_set lists number list) number ≡ list
 list_of-here lists number list within = get_or-set_same lists number list [] within
 
-pub list_of-there : (lists : List (List ℕ)) (number other : ℕ) (list : List ℕ) → (other ≡ number → ⊥) → list_of (slice_set lists number list) other ≡ list_of lists other
+pub list_of-there : (lists : List (List ℕ)) (number other : ℕ) (list : List ℕ) → (other ≡ number → ⊥) →
+    list_of (slice_set lists number list) other ≡ list_of lists other
 list_of-there lists number other list not = get_or-set_other lists number other list [] not
 
-module _ (h : Heap) (from s number : ℕ) (queue : List ℕ) (lists : List (List ℕ)) (sound : IsSoundHeap h) (b : IsBookedFrom h from (s ∷ queue) lists)
+module _ (h : Heap) (from s number : ℕ) (queue : List ℕ) (lists : List (List ℕ)) (sound : IsSoundHeap h)
+    (b : IsBookedFrom h from (s ∷ queue) lists)
     (numbered : slice_get h.layout.classes number ≡ Some (slot_in h s).class) where
   is_number : IsNumberOf h.layout.classes number (slot_in h s).class
   is_number = number_is h.layout.classes number (slot_in h s).class numbered
@@ -32,7 +35,8 @@ module _ (h : Heap) (from s number : ℕ) (queue : List ℕ) (lists : List (List
   wide : 0 < block_bytes (slot_in h s)
   wide = let two : 2 ≤ (slot_in h s).class = sound.slots.wide s b.chain.0 in omega arith
 
-  still_queued : (r mark : ℕ) → HasMark (state_at h r) mark → from + block_bytes (slot_in h s) ≤ mark → Contains (s ∷ queue) r → Contains queue r
+  still_queued : (r mark : ℕ) → HasMark (state_at h r) mark → from + block_bytes (slot_in h s) ≤ mark → Contains (s ∷ queue) r →
+      Contains queue r
   still_queued r mark d le there = elim (Contains-cases s queue r there) [
     | inl is ↦
         let same : mark ≡ from = one_mark (state_at h r) mark from d (subst (λ r. HasMark (state_at h r) from) is b.chain.1) in
@@ -47,7 +51,8 @@ module _ (h : Heap) (from s number : ℕ) (queue : List ℕ) (lists : List (List
     | inr queued ↦ absurd (omega (arith, chain_mark h (from + block_bytes (slot_in h s)) queue r mark b.chain.2 queued d))
   ]
 
-  stays_listed : (r other : ℕ) → Contains (list_of lists other) r → Contains (list_of (slice_set lists number (s ∷ list_of lists number)) other) r
+  stays_listed : (r other : ℕ) → Contains (list_of lists other) r →
+      Contains (list_of (slice_set lists number (s ∷ list_of lists number)) other) r
   stays_listed r other there = elim (cases_eq other number) [
     | inl is ↦
         subst (λ n. Contains (list_of (slice_set lists number (s ∷ list_of lists number)) n) r) (sym is)
@@ -56,32 +61,42 @@ module _ (h : Heap) (from s number : ℕ) (queue : List ℕ) (lists : List (List
     | inr not ↦ subst (λ list. Contains list r) (sym (list_of-there lists number other (s ∷ list_of lists number) not)) there
   ]
 
-  front_listed : (other : ℕ) → slice_get h.layout.classes other ≡ Some (slot_in h s).class → Contains (list_of (slice_set lists number (s ∷ list_of lists number)) other) s
+  front_listed : (other : ℕ) → slice_get h.layout.classes other ≡ Some (slot_in h s).class →
+      Contains (list_of (slice_set lists number (s ∷ list_of lists number)) other) s
   front_listed other found =
       let there = number_is h.layout.classes other (slot_in h s).class found in
-      let is : other ≡ number = one_number 1 h.layout.classes other number sound.region.table there.within is_number.within (there.is ∙ sym is_number.is) in
+      let is : other ≡ number =
+      one_number 1 h.layout.classes other number sound.region.table there.within is_number.within (there.is ∙ sym is_number.is) in
       subst (λ n. Contains (list_of (slice_set lists number (s ∷ list_of lists number)) n) s) (sym is)
-      (subst (λ list. Contains list s) (sym (list_of-here lists number (s ∷ list_of lists number) within)) (Contains-head s (list_of lists number)))
+      (subst (λ list. Contains list s) (sym (list_of-here lists number (s ∷ list_of lists number) within))
+      (Contains-head s (list_of lists number)))
 
   freed_list : (other : ℕ) → other < length lists →
-      IsFreedList h (get_or h.layout.classes other 0) (from + block_bytes (slot_in h s)) (list_of (slice_set lists number (s ∷ list_of lists number)) other)
+      IsFreedList h (get_or h.layout.classes other 0) (from + block_bytes (slot_in h s))
+      (list_of (slice_set lists number (s ∷ list_of lists number)) other)
   freed_list other in_lists =
       let some = wide in
       elim (cases_eq other number) [
         | inl is ↦
-            subst (λ n. IsFreedList h (get_or h.layout.classes n 0) (from + block_bytes (slot_in h s)) (list_of (slice_set lists number (s ∷ list_of lists number)) n)) (sym is)
-            (subst (IsFreedList h (get_or h.layout.classes number 0) (from + block_bytes (slot_in h s))) (sym (list_of-here lists number (s ∷ list_of lists number) within))
+            subst (λ n. IsFreedList h (get_or h.layout.classes n 0) (from + block_bytes (slot_in h s))
+            (list_of (slice_set lists number (s ∷ list_of lists number)) n)) (sym is)
+            (subst (IsFreedList h (get_or h.layout.classes number 0) (from + block_bytes (slot_in h s)))
+            (sym (list_of-here lists number (s ∷ list_of lists number) within))
             (from, b.chain.0, sym is_number.is, b.chain.1, omega arith, b.freed number within))
         | inr not ↦
-            subst (IsFreedList h (get_or h.layout.classes other 0) (from + block_bytes (slot_in h s))) (sym (list_of-there lists number other (s ∷ list_of lists number) not))
-            (list_weaker h (get_or h.layout.classes other 0) from (from + block_bytes (slot_in h s)) (list_of lists other) (omega arith) (b.freed other in_lists))
+            subst (IsFreedList h (get_or h.layout.classes other 0) (from + block_bytes (slot_in h s)))
+            (sym (list_of-there lists number other (s ∷ list_of lists number) not))
+            (list_weaker h (get_or h.layout.classes other 0) from (from + block_bytes (slot_in h s)) (list_of lists other) (omega arith)
+            (b.freed other in_lists))
       ]
 
-  pub release : h.quarantine < bytes_in h (s ∷ queue) → IsBookedFrom h (from + block_bytes (slot_in h s)) queue (slice_set lists number (s ∷ list_of lists number))
+  pub release : h.quarantine < bytes_in h (s ∷ queue) →
+      IsBookedFrom h (from + block_bytes (slot_in h s)) queue (slice_set lists number (s ∷ list_of lists number))
   release over =
       let some = wide in
       let bytes : bytes_in h (s ∷ queue) ≡ block_bytes (slot_in h s) + bytes_in h queue = bytes_in-cons h s queue in
-      let sum : from + block_bytes (slot_in h s) + bytes_in h queue ≡ h.total = chain_bytes h (from + block_bytes (slot_in h s)) queue b.chain.2 in
+      let sum : from + block_bytes (slot_in h s) + bytes_in h queue ≡ h.total =
+      chain_bytes h (from + block_bytes (slot_in h s)) queue b.chain.2 in
       record {
         chain = b.chain.2;
         long = length-set lists number (s ∷ list_of lists number) ∙ b.long;

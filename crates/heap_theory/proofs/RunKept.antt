@@ -22,16 +22,20 @@ use Rattle.heap_theory.proofs.VariablesKept.{IsSoundVariable-other, IsSoundVaria
 set_both : {X Y : Type 0} (P : X → Y → Type 0) (xs : List X) (ys : List Y) (v : ℕ) (x a : X) (y b : Y) → length ys ≡ length xs → P x y →
     ((u : ℕ) → P (get_or xs u a) (get_or ys u b)) → (u : ℕ) → P (get_or (set xs v x) u a) (get_or (set ys v y) u b)
 set_both P xs ys v x a y b long new old u = elim (cases_eq u v) [
-  | inr not ↦ subst (λ z. P z (get_or (set ys v y) u b)) (sym (get_or-set_other xs v u x a not)) (subst (λ z. P (get_or xs u a) z) (sym (get_or-set_other ys v u y b not)) (old u))
+  | inr not ↦ subst (λ z. P z (get_or (set ys v y) u b)) (sym (get_or-set_other xs v u x a not))
+      (subst (λ z. P (get_or xs u a) z) (sym (get_or-set_other ys v u y b not)) (old u))
   | inl is ↦ subst (λ q. P (get_or (set xs v x) q a) (get_or (set ys v y) q b)) (sym is) (elim (cases_lt v (length xs)) [
     | inl within ↦
-        subst (λ z. P z (get_or (set ys v y) v b)) (sym (get_or-set_same xs v x a within)) (subst (λ z. P x z) (sym (get_or-set_same ys v y b (omega arith))) new)
-    | inr past ↦ subst (λ z. P z (get_or (set ys v y) v b)) (past_same xs v x a past) (subst (λ z. P (get_or xs v a) z) (past_same ys v y b (omega arith)) (old v))
+        subst (λ z. P z (get_or (set ys v y) v b)) (sym (get_or-set_same xs v x a within))
+        (subst (λ z. P x z) (sym (get_or-set_same ys v y b (omega arith))) new)
+    | inr past ↦ subst (λ z. P z (get_or (set ys v y) v b)) (past_same xs v x a past)
+        (subst (λ z. P (get_or xs v a) z) (past_same ys v y b (omega arith)) (old v))
   ])
 ]
   where
     past_same : {X : Type 0} (xs : List X) (v : ℕ) (x a : X) → length xs ≤ v → get_or xs v a ≡ get_or (set xs v x) v a
-    past_same xs v x a past = get_or_past xs v a past ∙ sym (get_or_past (set xs v x) v a (subst (λ n. n ≤ v) (sym (length-set xs v x)) past))
+    past_same xs v x a past =
+        get_or_past xs v a past ∙ sym (get_or_past (set xs v x) v a (subst (λ n. n ≤ v) (sym (length-set xs v x)) past))
 
 untagged : (h : Heap) (times : List ℕ) (a : ℕ) → logical_tag a ≢ 0 → IsSoundVariable h times a None
 untagged h times a tagged = record { null_or_tagged = inr tagged; follows = tt }
@@ -40,7 +44,8 @@ length-times_with : (w : Run) (o : Option ℕ) → length (times_with w o) ≡ l
 length-times_with w None = refl
 length-times_with w (Some s) = length-set w.times s (suc (times_of w s))
 
-lengths_kept : (w : Run) (e : Event) → length w.generations ≡ length w.replay.variables → length (generations_after w e) ≡ length (variables_after w.replay e)
+lengths_kept : (w : Run) (e : Event) → length w.generations ≡ length w.replay.variables →
+    length (generations_after w e) ≡ length (variables_after w.replay e)
 unfolding generations_after variables_after
 lengths_kept w (Malloc v n) long = length-set w.generations v _ ∙ long ∙ sym (length-set w.replay.variables v _)
 lengths_kept w (Calloc v n) long = length-set w.generations v _ ∙ long ∙ sym (length-set w.replay.variables v _)
@@ -67,12 +72,14 @@ pub record IsRunWith (quarantine : ℕ) (w : Run) : Type 0 where
   pub limit_is : w.replay.heap.quarantine ≡ quarantine
 
 -- what holds at first and is kept by each event holds of every run
-holds_of_runs : (P : Run → Type 0) (w : Run) (events : List Event) → P w → ((w : Run) (e : Event) → P w → P (run_after w e)) → P (fold run_after w events)
+holds_of_runs : (P : Run → Type 0) (w : Run) (events : List Event) → P w → ((w : Run) (e : Event) → P w → P (run_after w e)) →
+    P (fold run_after w events)
 holds_of_runs P w [] first each = first
 holds_of_runs P w (e ∷ events) first each = holds_of_runs P (run_after w e) events (each w e first) each
 
 null_variable : (h : Heap) (times : List ℕ) (a : ℕ) (g : Option Generation) → a ≡ 0 → g ≡ None → IsSoundVariable h times a g
-null_variable h times a g null none = subst (λ x. IsSoundVariable h times a x) (sym none) (record { null_or_tagged = inl null; follows = tt })
+null_variable h times a g null none =
+    subst (λ x. IsSoundVariable h times a x) (sym none) (record { null_or_tagged = inl null; follows = tt })
 
 module _ where
   -- an event keeps the heap sound, and gives out a slot or leaves what was given out
@@ -91,18 +98,25 @@ module _ where
     kept : IsKept w.replay.heap (heap_after w.replay e) (slot_given w.replay e)
     kept = IsKept-event w.replay e sound.heap
 
-    others : (u : ℕ) → IsSoundVariable (heap_after w.replay e) (times_with w (slot_given w.replay e)) (variable w.replay u) (generation_of w u)
-    others u = IsSoundVariable-other w sound (heap_after w.replay e) (slot_given w.replay e) (variable w.replay u) (generation_of w u) kept.change (sound.variables u)
+    others : (u : ℕ) → IsSoundVariable (heap_after w.replay e) (times_with w (slot_given w.replay e)) (variable w.replay u)
+        (generation_of w u)
+    others u =
+        IsSoundVariable-other w sound (heap_after w.replay e) (slot_given w.replay e) (variable w.replay u) (generation_of w u) kept.change
+        (sound.variables u)
 
   variables_kept : (w : Run) (e : Event) → IsSoundRun w → (u : ℕ) →
-      IsSoundVariable (heap_after w.replay e) (times_with w (slot_given w.replay e)) (get_or (variables_after w.replay e) u 0) (get_or (generations_after w e) u None)
+      IsSoundVariable (heap_after w.replay e) (times_with w (slot_given w.replay e)) (get_or (variables_after w.replay e) u 0)
+      (get_or (generations_after w e) u None)
   unfolding variables_after generations_after heap_after slot_given
   variables_kept w (Malloc v n) sound u =
-      set_both (IsSoundVariable _ _) w.replay.variables w.generations v _ 0 _ None sound.generations (IsSoundVariable-malloc w sound n) (others w (Malloc v n) sound) u
+      set_both (IsSoundVariable _ _) w.replay.variables w.generations v _ 0 _ None sound.generations (IsSoundVariable-malloc w sound n)
+      (others w (Malloc v n) sound) u
   variables_kept w (Calloc v n) sound u =
-      set_both (IsSoundVariable _ _) w.replay.variables w.generations v _ 0 _ None sound.generations (IsSoundVariable-calloc w sound n) (others w (Calloc v n) sound) u
+      set_both (IsSoundVariable _ _) w.replay.variables w.generations v _ 0 _ None sound.generations (IsSoundVariable-calloc w sound n)
+      (others w (Calloc v n) sound) u
   variables_kept w (Realloc v n) sound u =
-      set_both (IsSoundVariable _ _) w.replay.variables w.generations v _ 0 _ None sound.generations (IsSoundVariable-realloc w sound v n) (others w (Realloc v n) sound) u
+      set_both (IsSoundVariable _ _) w.replay.variables w.generations v _ 0 _ None sound.generations (IsSoundVariable-realloc w sound v n)
+      (others w (Realloc v n) sound) u
   variables_kept w (Free v) sound u = others w (Free v) sound u
   variables_kept w (Load v off len) sound u = others w (Load v off len) sound u
   variables_kept w (Store v off len byte) sound u = others w (Store v off len byte) sound u
@@ -131,7 +145,9 @@ module _ where
     heap = IsSoundHeap-first layout seed quarantine is (laws.in_order 1 layout is.table);
     times = length-replicate (slot_count layout) 0;
     generations = length-replicate {A = Option Generation} 1024 None ∙ sym (length-replicate {A = ℕ} 1024 0);
-    variables = λ v. null_variable (first_heap layout seed quarantine) (replicate (slot_count layout) 0) _ _ (get_or-replicate_any 1024 v 0) (get_or-replicate_any 1024 v None);
+    variables =
+        λ v. null_variable (first_heap layout seed quarantine) (replicate (slot_count layout) 0) _ _ (get_or-replicate_any 1024 v 0)
+        (get_or-replicate_any 1024 v None);
   }
 
   IsRunWith-run_after : (quarantine : ℕ) (w : Run) (e : Event) → IsRunWith quarantine w → IsRunWith quarantine (run_after w e)
@@ -143,11 +159,14 @@ module _ where
         limit_is = limit_kept w.replay.heap (heap_after w.replay e) (slot_given w.replay e) change ∙ over.limit_is;
       }
 
-  IsRunWith-first : (layout : Partition) (seed quarantine : ℕ) → IsPartition layout → IsRunWith quarantine (first_run layout seed quarantine)
+  IsRunWith-first : (layout : Partition) (seed quarantine : ℕ) → IsPartition layout →
+      IsRunWith quarantine (first_run layout seed quarantine)
   unfolding first_run first_replay first_heap
   IsRunWith-first layout seed quarantine is = record { sound = IsSoundRun-first layout seed quarantine is; limit_is = refl }
 
-  pub IsRunWith-run : (layout : Partition) (seed quarantine : ℕ) (events : List Event) → IsPartition layout → IsRunWith quarantine (run layout seed quarantine events)
+  pub IsRunWith-run : (layout : Partition) (seed quarantine : ℕ) (events : List Event) → IsPartition layout →
+      IsRunWith quarantine (run layout seed quarantine events)
   unfolding run
   IsRunWith-run layout seed quarantine events is =
-      holds_of_runs (IsRunWith quarantine) (first_run layout seed quarantine) events (IsRunWith-first layout seed quarantine is) (IsRunWith-run_after quarantine)
+      holds_of_runs (IsRunWith quarantine) (first_run layout seed quarantine) events (IsRunWith-first layout seed quarantine is)
+      (IsRunWith-run_after quarantine)

@@ -19,29 +19,34 @@ abbrev hidden : Partition → ℕ → Granule → Granule
 hidden layout g granule = cond (is_header layout g) (record granule { bytes = [] }) granule
 
 swap_tag : (a b : Bool) (tag : ℕ) (x : Granule) →
-    ◌≡◌ {A = Granule} (cond a (record (cond b (record x { tag = tag }) x) { bytes = [] }) (cond b (record x { tag = tag }) x)) (cond b (record (cond a (record x { bytes = [] }) x) { tag = tag }) (cond a (record x { bytes = [] }) x))
+    ◌≡◌ {A = Granule} (cond a (record (cond b (record x { tag = tag }) x) { bytes = [] }) (cond b (record x { tag = tag }) x))
+    (cond b (record (cond a (record x { bytes = [] }) x) { tag = tag }) (cond a (record x { bytes = [] }) x))
 swap_tag true true tag x = refl
 swap_tag true false tag x = refl
 swap_tag false true tag x = refl
 swap_tag false false tag x = refl
 
 swap_bytes : (a : Bool) (i : ℕ) (new : List ℕ) (g : ℕ) (x : Granule) →
-    ◌≡◌ {A = Granule} (cond a (record (record x { bytes = bytes_after i new g x.bytes }) { bytes = [] }) (record x { bytes = bytes_after i new g x.bytes }))
+    ◌≡◌ {A = Granule} (cond a (record (record x { bytes = bytes_after i new g x.bytes }) { bytes = [] })
+    (record x { bytes = bytes_after i new g x.bytes }))
     (record (cond a (record x { bytes = [] }) x) { bytes = bytes_after i new g (cond a (record x { bytes = [] }) x).bytes })
 swap_bytes true i new g x = refl
 swap_bytes false i new g x = refl
 
 module _ (layout : Partition) where
-  pub without_headers-tagged : (first count tag : ℕ) (memory : List Granule) → without_headers layout (tagged first count tag memory) ≡ tagged first count tag (without_headers layout memory)
+  pub without_headers-tagged : (first count tag : ℕ) (memory : List Granule) →
+      without_headers layout (tagged first count tag memory) ≡ tagged first count tag (without_headers layout memory)
   unfolding without_headers tagged
   without_headers-tagged first count tag memory =
       laws.either_order (hidden layout) (λ g x. cond (is_among first count g) (record x { tag = tag }) x) memory
       (λ g x. swap_tag (is_header layout g) (is_among first count g) tag x)
 
-  pub without_headers-written : (i : ℕ) (new : List ℕ) (memory : List Granule) → without_headers layout (written i new memory) ≡ written i new (without_headers layout memory)
+  pub without_headers-written : (i : ℕ) (new : List ℕ) (memory : List Granule) →
+      without_headers layout (written i new memory) ≡ written i new (without_headers layout memory)
   unfolding without_headers written
   without_headers-written i new memory =
-      laws.either_order (hidden layout) (λ g x. record x { bytes = bytes_after i new g x.bytes }) memory (λ g x. swap_bytes (is_header layout g) i new g x)
+      laws.either_order (hidden layout) (λ g x. record x { bytes = bytes_after i new g x.bytes }) memory
+      (λ g x. swap_bytes (is_header layout g) i new g x)
 
   pub length-without_headers : (memory : List Granule) → length (without_headers layout memory) ≡ length memory
   unfolding without_headers
@@ -52,35 +57,46 @@ module _ (layout : Partition) where
   tag_at-without_headers memory g = elim (cases_lt g (length memory)) [
     | inl within ↦
         ap (λ (x : Granule). x.tag) (laws.each_at (hidden layout) memory g within)
-        ∙ cond_both (is_header layout g) (record (granule_at memory g) { bytes = [] }) (granule_at memory g) (λ x. x.tag ≡ tag_at memory g) (λ _. refl) (λ _. refl)
+        ∙ cond_both (is_header layout g) (record (granule_at memory g) { bytes = [] }) (granule_at memory g) (λ x. x.tag ≡ tag_at memory g)
+        (λ _. refl) (λ _. refl)
     | inr past ↦
-        tag_at-past (each_granule (hidden layout) memory) g (subst (λ n. n ≤ g) (sym (laws.each_length _ memory)) past) ∙ sym (tag_at-past memory g past)
+        tag_at-past (each_granule (hidden layout) memory) g (subst (λ n. n ≤ g) (sym (laws.each_length _ memory)) past)
+        ∙ sym (tag_at-past memory g past)
   ]
 
-  pub access_fault-without_headers : (memory : List Granule) (address len : ℕ) → access_fault (without_headers layout memory) address len ≡ access_fault memory address len
-  access_fault-without_headers memory address len = laws.by_tags memory (without_headers layout memory) address len (length-without_headers memory) (tag_at-without_headers memory)
+  pub access_fault-without_headers : (memory : List Granule) (address len : ℕ) →
+      access_fault (without_headers layout memory) address len ≡ access_fault memory address len
+  access_fault-without_headers memory address len =
+      laws.by_tags memory (without_headers layout memory) address len (length-without_headers memory) (tag_at-without_headers memory)
 
   -- a granule that is no header is seen as it is
-  pub granule_at-without_headers : (memory : List Granule) (g : ℕ) → is_header layout g ≡ false → granule_at (without_headers layout memory) g ≡ granule_at memory g
+  pub granule_at-without_headers : (memory : List Granule) (g : ℕ) → is_header layout g ≡ false →
+      granule_at (without_headers layout memory) g ≡ granule_at memory g
   unfolding without_headers
   granule_at-without_headers memory g no_header = elim (cases_lt g (length memory)) [
-    | inl within ↦ laws.each_at (hidden layout) memory g within ∙ cond-false (is_header layout g) (record (granule_at memory g) { bytes = [] }) (granule_at memory g) no_header
+    | inl within ↦ laws.each_at (hidden layout) memory g within
+        ∙ cond-false (is_header layout g) (record (granule_at memory g) { bytes = [] }) (granule_at memory g) no_header
     | inr past ↦
-        get_or_past (each_granule (hidden layout) memory) g no_granule (subst (λ n. n ≤ g) (sym (laws.each_length _ memory)) past) ∙ sym (get_or_past memory g no_granule past)
+        get_or_past (each_granule (hidden layout) memory) g no_granule (subst (λ n. n ≤ g) (sym (laws.each_length _ memory)) past)
+        ∙ sym (get_or_past memory g no_granule past)
   ]
 
-  pub byte_at-without_headers : (memory : List Granule) (i : ℕ) → is_header layout (i / 16) ≡ false → byte_at (without_headers layout memory) i ≡ byte_at memory i
-  byte_at-without_headers memory i no_header = ap (λ (x : Granule). slice_index x.bytes (i % 16)) (granule_at-without_headers memory (i / 16) no_header)
+  pub byte_at-without_headers : (memory : List Granule) (i : ℕ) → is_header layout (i / 16) ≡ false →
+      byte_at (without_headers layout memory) i ≡ byte_at memory i
+  byte_at-without_headers memory i no_header =
+      ap (λ (x : Granule). slice_index x.bytes (i % 16)) (granule_at-without_headers memory (i / 16) no_header)
 
   -- two memories that differ in bytes of headers alone are seen as one
   pub without_headers-same : (memory other : List Granule) → length other ≡ length memory → ((g : ℕ) → tag_at other g ≡ tag_at memory g) →
-      ((g : ℕ) → is_header layout g ≡ false → granule_at other g ≡ granule_at memory g) → without_headers layout other ≡ without_headers layout memory
+      ((g : ℕ) → is_header layout g ≡ false → granule_at other g ≡ granule_at memory g) →
+      without_headers layout other ≡ without_headers layout memory
   unfolding without_headers
   without_headers-same memory other long tags granules =
       fill_by_all (λ g. hidden layout g (granule_at memory g)) (each_granule (hidden layout) other) (length memory) no_granule
       (laws.each_length _ other ∙ long)
       (λ g within. laws.each_at (hidden layout) other g (subst (λ n. g < n) (sym long) within) ∙ at g)
-      ∙ sym (fill_by_all (λ g. hidden layout g (granule_at memory g)) (each_granule (hidden layout) memory) (length memory) no_granule (laws.each_length _ memory) (λ g within. laws.each_at (hidden layout) memory g within))
+      ∙ sym (fill_by_all (λ g. hidden layout g (granule_at memory g)) (each_granule (hidden layout) memory) (length memory) no_granule
+      (laws.each_length _ memory) (λ g within. laws.each_at (hidden layout) memory g within))
     where
       at : (g : ℕ) → hidden layout g (granule_at other g) ≡ hidden layout g (granule_at memory g)
       at g = elim (cases_Bool (is_header layout g)) [
@@ -91,10 +107,12 @@ module _ (layout : Partition) where
   pub without_headers-new : without_headers layout (replicate layout.granules new_granule) ≡ first_memory layout
   unfolding without_headers first_memory
   without_headers-new =
-      fill_by_all (λ g. cond (is_header layout g) no_granule new_granule) (each_granule (hidden layout) (replicate layout.granules new_granule)) layout.granules no_granule
+      fill_by_all (λ g. cond (is_header layout g) no_granule new_granule)
+      (each_granule (hidden layout) (replicate layout.granules new_granule)) layout.granules no_granule
       (laws.each_length _ (replicate layout.granules new_granule) ∙ length-replicate layout.granules new_granule)
       (λ k within.
-      laws.each_at (hidden layout) (replicate layout.granules new_granule) k (subst (λ n. k < n) (sym (length-replicate layout.granules new_granule)) within)
+      laws.each_at (hidden layout) (replicate layout.granules new_granule) k
+      (subst (λ n. k < n) (sym (length-replicate layout.granules new_granule)) within)
       ∙ ap (hidden layout k) (get_or-replicate layout.granules k new_granule no_granule within))
 
 -- ---- header bytes are not seen
@@ -107,24 +125,29 @@ granule_at-written i g new memory is apart = elim (cases_lt g (length memory)) [
   | inl within ↦
       let granule = is.granules g no_granule within in
       let same : bytes_after i new g (granule_at memory g).bytes ≡ (granule_at memory g).bytes = sym
-      (fill_by_all (λ k. byte_after i new (16 * g + k) (slice_index (granule_at memory g).bytes k)) (granule_at memory g).bytes (length (granule_at memory g).bytes) 0 refl
-      (λ k inside. sym (cond-false (is_among i (length new) (16 * g + k)) (slice_index new (16 * g + k - i)) (slice_index (granule_at memory g).bytes k)
+      (fill_by_all (λ k. byte_after i new (16 * g + k) (slice_index (granule_at memory g).bytes k)) (granule_at memory g).bytes
+      (length (granule_at memory g).bytes) 0 refl
+      (λ k inside. sym (cond-false (is_among i (length new) (16 * g + k)) (slice_index new (16 * g + k - i))
+      (slice_index (granule_at memory g).bytes k)
       (outside k (omega (arith, granule.sixteen)))))) in
       laws.each_at (λ g granule. record granule { bytes = bytes_after i new g granule.bytes }) memory g within
       ∙ (λ j. record { tag = (granule_at memory g).tag; bytes = same j })
   | inr past ↦
-      get_or_past (each_granule (λ g granule. record granule { bytes = bytes_after i new g granule.bytes }) memory) g no_granule (subst (λ n. n ≤ g) (sym (laws.each_length _ memory)) past)
+      get_or_past (each_granule (λ g granule. record granule { bytes = bytes_after i new g granule.bytes }) memory) g no_granule
+      (subst (λ n. n ≤ g) (sym (laws.each_length _ memory)) past)
       ∙ sym (get_or_past memory g no_granule past)
 ]
   where
     outside : (k : ℕ) → k < 16 → is_among i (length new) (16 * g + k) ≡ false
     outside k below = ⊎_elim
         (λ before. and_left (nat_le i (16 * g + k)) (nat_lt (16 * g + k) (i + length new)) (lt-leb i (16 * g + k) (omega arith)))
-        (λ after. and_right (nat_le i (16 * g + k)) (nat_lt (16 * g + k) (i + length new)) (le-ltb (16 * g + k) (i + length new) (omega arith)))
+        (λ after. and_right (nat_le i (16 * g + k)) (nat_lt (16 * g + k) (i + length new))
+        (le-ltb (16 * g + k) (i + length new) (omega arith)))
         apart
 
 -- bytes that are written in a header are not seen
-pub without_headers-in_header : (layout : Partition) (g i : ℕ) (new : List ℕ) (memory : List Granule) → IsMemory memory → is_header layout g ≡ true →
+pub without_headers-in_header : (layout : Partition) (g i : ℕ) (new : List ℕ) (memory : List Granule) → IsMemory memory →
+    is_header layout g ≡ true →
     16 * g ≤ i → i + length new ≤ 16 * g + 16 → without_headers layout (written i new memory) ≡ without_headers layout memory
 without_headers-in_header layout g i new memory is header from to =
     without_headers-same layout memory (written i new memory) (laws.written_length i new memory) (λ k. laws.tag_under_bytes i k new memory)
@@ -139,13 +162,15 @@ without_headers-in_header layout g i new memory is header from to =
 -- a header has tag 0
 header_tag : (h : Heap) (g : ℕ) → IsSoundHeap h → is_header h.layout g ≡ true → tag_at h.memory g ≡ 0
 header_tag h g sound is =
-    let any : Any (λ (slot : Slot). (slot.start == g) ≡ true) (slots_of h.layout) = Any-from_list_any (λ slot. slot.start == g) (slots_of h.layout) is in
+    let any : Any (λ (slot : Slot). (slot.start == g) ≡ true) (slots_of h.layout) =
+    Any-from_list_any (λ slot. slot.start == g) (slots_of h.layout) is in
     let slot : slot_in h any.0 ≡ any.1 = get_or_default (slots_of h.layout) any.0 no_slot any.1 any.2 ∙ any.3 in
     let start : (slot_in h any.0).start ≡ g = ap (λ (slot : Slot). slot.start) slot ∙ eqb-true any.1.start g any.4 in
     subst (λ k. tag_at h.memory k ≡ 0) start (sound.tagged any.0 any.2).header
 
 -- an access that succeeds under another tag than 0 touches no header
-pub headers_spared : (h : Heap) (address len g : ℕ) → IsSoundHeap h → logical_tag address ≢ 0 → access_fault h.memory address len ≡ None → Touches address len g →
+pub headers_spared : (h : Heap) (address len g : ℕ) → IsSoundHeap h → logical_tag address ≢ 0 → access_fault h.memory address len ≡ None →
+    Touches address len g →
     is_header h.layout g ≡ false
 headers_spared h address len g sound tagged succeeds touches = false_from_ne_true (is_header h.layout g) (λ is.
     let fault = laws.other_tag_faults h.memory address len g touches (λ same. tagged (sym same ∙ header_tag h g sound is)) in

@@ -10,11 +10,13 @@ use Rattle.heap_theory.specs.State.{Heap, state_at, last_tag}
 
 module _ where
   drawn : (s last tag seed : ℕ) → tag < 16 →
-      IsTagOf s (drawn_tag tag seed (bit_or (parity_exclude s) (2 ^ last))) × (drawn_tag tag seed (bit_or (parity_exclude s) (2 ^ last)) ≢ last)
+      IsTagOf s (drawn_tag tag seed (bit_or (parity_exclude s) (2 ^ last)))
+      × (drawn_tag tag seed (bit_or (parity_exclude s) (2 ^ last)) ≢ last)
   drawn s last tag seed below = by_parity (s % 2 == 0) refl
     where
       by_parity : (is_even : Bool) → (s % 2 == 0) ≡ is_even →
-          IsTagOf s (drawn_tag tag seed (bit_or (cond is_even 0x5555 0xAAAB) (2 ^ last))) × (drawn_tag tag seed (bit_or (cond is_even 0x5555 0xAAAB) (2 ^ last)) ≢ last)
+          IsTagOf s (drawn_tag tag seed (bit_or (cond is_even 0x5555 0xAAAB) (2 ^ last)))
+          × (drawn_tag tag seed (bit_or (cond is_even 0x5555 0xAAAB) (2 ^ last)) ≢ last)
       by_parity true test =
           let is = laws.odd_drawn tag seed last below in
           let even : s % 2 ≡ 0 = eqb-true _ _ test in

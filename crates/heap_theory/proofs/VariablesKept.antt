@@ -28,7 +28,8 @@ use Rattle.heap_theory.proofs.Tags.{IsTagOf-next_tag, next_tag-differs}
 IsAddressOf-kept : (h new : Heap) (times : List ℕ) (a s m : ℕ) → KeepsGiven h new → IsAddressOf h times a s m → IsAddressOf new times a s m
 IsAddressOf-kept h new times a s m kept i = record {
   in_range = subst (λ (layout : Partition). s < slot_count layout) (sym kept.layout) i.in_range;
-  address_is = subst (λ (layout : Partition). a ≡ with_tag (payload_place (slot_of layout s)) (logical_tag a)) (sym kept.layout) i.address_is;
+  address_is =
+      subst (λ (layout : Partition). a ≡ with_tag (payload_place (slot_of layout s)) (logical_tag a)) (sym kept.layout) i.address_is;
   tag = i.tag;
   past = i.past;
   last = λ now. ((i.last now).0 ∙ sym (kept.last s), kept.fresh s ∙ (i.last now).1);
@@ -40,10 +41,12 @@ module _ (h : Heap) (times : List ℕ) (r n : ℕ) (tag_below : h.tag < 16) (wit
   times_now : (t : ℕ) → get_or (set times r t) r 0 ≡ t
   times_now t = get_or-set_same times r t 0 in_times
 
-  IsAddressOf-given_out : (a s m : ℕ) → IsAddressOf h times a s m → IsAddressOf (given_out h r n) (slice_set times r (suc (get_or times r 0))) a s m
+  IsAddressOf-given_out : (a s m : ℕ) → IsAddressOf h times a s m →
+      IsAddressOf (given_out h r n) (slice_set times r (suc (get_or times r 0))) a s m
   IsAddressOf-given_out a s m i = elim (cases_eq s r) [
     | inr not ↦
-        let same : get_or (set times r (suc (get_or times r 0))) s 0 ≡ get_or times s 0 = get_or-set_other times r s (suc (get_or times r 0)) 0 not in
+        let same : get_or (set times r (suc (get_or times r 0))) s 0 ≡ get_or times s 0 =
+        get_or-set_other times r s (suc (get_or times r 0)) 0 not in
         let state : state_at (given_out h r n) s ≡ state_at h s = state_at-given_out_other h r n s not in
         record {
           in_range = in_range_now;
@@ -57,7 +60,8 @@ module _ (h : Heap) (times : List ℕ) (r n : ℕ) (tag_below : h.tag < 16) (wit
         let now : get_or (set times r (suc (get_or times r 0))) s 0 ≡ suc (get_or times r 0) =
         ap (λ q. get_or (set times r (suc (get_or times r 0))) q 0) same ∙ times_now (suc (get_or times r 0)) in
         let before : m ≤ get_or times r 0 = subst (λ q. m ≤ get_or times q 0) same i.past in
-        let state : state_at (given_out h r n) s ≡ Live n (next_tag h r) = ap (λ q. state_at (given_out h r n) q) same ∙ state_at-given_out h r n within in
+        let state : state_at (given_out h r n) s ≡ Live n (next_tag h r) =
+        ap (λ q. state_at (given_out h r n) q) same ∙ state_at-given_out h r n within in
         let last_before : m ≡ get_or times r 0 → logical_tag a ≡ last_tag (state_at h r) =
         λ is. subst (λ q. logical_tag a ≡ last_tag (state_at h q)) same (i.last (is ∙ ap (λ q. get_or times q 0) (sym same))).0 in
         record {
@@ -74,7 +78,9 @@ module _ (h : Heap) (times : List ℕ) (r n : ℕ) (tag_below : h.tag < 16) (wit
       in_range_now = subst (λ (layout : Partition). s < slot_count layout) (sym (layout-given_out h r n)) i.in_range
 
       address_now : a ≡ with_tag (payload_place (slot_in (given_out h r n) s)) (logical_tag a)
-      address_now = subst (λ (layout : Partition). a ≡ with_tag (payload_place (slot_of layout s)) (logical_tag a)) (sym (layout-given_out h r n)) i.address_is
+      address_now =
+          subst (λ (layout : Partition). a ≡ with_tag (payload_place (slot_of layout s)) (logical_tag a)) (sym (layout-given_out h r n))
+          i.address_is
 
   -- the address that is given
   IsAddressOf-new : r < slot_count h.layout →
@@ -83,7 +89,8 @@ module _ (h : Heap) (times : List ℕ) (r n : ℕ) (tag_below : h.tag < 16) (wit
       let is_tag : IsTagOf r (next_tag h r) = IsTagOf-next_tag h r tag_below in
       let tag : last_tag (state_at (given_out h r n) r) ≡ next_tag h r = ap last_tag (state_at-given_out h r n within) in
       let shown : logical_tag (pointer_to (given_out h r n) r) ≡ last_tag (state_at (given_out h r n) r) =
-      laws.tag_put (payload_place (slot_in (given_out h r n) r)) (last_tag (state_at (given_out h r n) r)) (subst (λ t. t < 16) (sym tag) is_tag.below) in
+      laws.tag_put (payload_place (slot_in (given_out h r n) r)) (last_tag (state_at (given_out h r n) r))
+      (subst (λ t. t < 16) (sym tag) is_tag.below) in
       record {
         in_range = subst (λ (layout : Partition). r < slot_count layout) (sym (layout-given_out h r n)) in_range;
         address_is = ap (λ t. with_tag (payload_place (slot_in (given_out h r n) r)) t) (sym shown);
@@ -95,9 +102,11 @@ module _ (h : Heap) (times : List ℕ) (r n : ℕ) (tag_below : h.tag < 16) (wit
 
 -- ---- variables
 
-IsSoundVariable-kept : (h new : Heap) (times : List ℕ) (a : ℕ) (g : Option Generation) → KeepsGiven h new → IsSoundVariable h times a g → IsSoundVariable new times a g
+IsSoundVariable-kept : (h new : Heap) (times : List ℕ) (a : ℕ) (g : Option Generation) → KeepsGiven h new → IsSoundVariable h times a g →
+    IsSoundVariable new times a g
 IsSoundVariable-kept h new times a None kept i = record { null_or_tagged = i.null_or_tagged; follows = tt }
-IsSoundVariable-kept h new times a (Some g) kept i = record { null_or_tagged = i.null_or_tagged; follows = IsAddressOf-kept h new times a g.slot g.time kept i.follows }
+IsSoundVariable-kept h new times a (Some g) kept i =
+    record { null_or_tagged = i.null_or_tagged; follows = IsAddressOf-kept h new times a g.slot g.time kept i.follows }
 
 module _ (w : Run) (sound : IsSoundRun w) where
   in_states_of : (s : ℕ) → IsReusable w.replay.heap s → s < length w.replay.heap.states
@@ -114,47 +123,64 @@ module _ (w : Run) (sound : IsSoundRun w) where
   IsSoundVariable-other new (Some s) a (Some g) change i = record {
     null_or_tagged = i.null_or_tagged;
     follows = IsAddressOf-kept (given_out w.replay.heap s change.n) new (times_with w (Some s)) a g.slot g.time change.kept
-        (IsAddressOf-given_out w.replay.heap w.times s change.n sound.heap.tag_below (in_states_of s change.given.reusable) (in_times_of s change.given.reusable) a g.slot g.time i.follows);
+        (IsAddressOf-given_out w.replay.heap w.times s change.n sound.heap.tag_below (in_states_of s change.given.reusable)
+        (in_times_of s change.given.reusable) a g.slot g.time i.follows);
   }
 
   -- a variable that an event sets to the address of a slot that it gives out
   IsSoundVariable-new : (new : Heap) (s n : ℕ) → IsGiven w.replay.heap n s → KeepsGiven (given_out w.replay.heap s n) new →
-      IsSoundVariable new (times_with w (Some s)) (pointer_to (given_out w.replay.heap s n) s) (Some (record { slot = s; time = suc (times_of w s) }))
+      IsSoundVariable new (times_with w (Some s)) (pointer_to (given_out w.replay.heap s n) s)
+      (Some (record { slot = s; time = suc (times_of w s) }))
   IsSoundVariable-new new s n given kept =
-      let i = IsAddressOf-new w.replay.heap w.times s n sound.heap.tag_below (in_states_of s given.reusable) (in_times_of s given.reusable) given.reusable.in_range in
+      let i =
+      IsAddressOf-new w.replay.heap w.times s n sound.heap.tag_below (in_states_of s given.reusable) (in_times_of s given.reusable)
+      given.reusable.in_range in
       let some : 0 < logical_tag (pointer_to (given_out w.replay.heap s n) s) = i.tag.not_zero in
       record {
         null_or_tagged = inr (omega arith);
-        follows = IsAddressOf-kept (given_out w.replay.heap s n) new (times_with w (Some s)) (pointer_to (given_out w.replay.heap s n) s) s (suc (times_of w s)) kept i;
+        follows =
+            IsAddressOf-kept (given_out w.replay.heap s n) new (times_with w (Some s)) (pointer_to (given_out w.replay.heap s n) s) s
+            (suc (times_of w s)) kept i;
       }
 
   -- ---- what a call gives
 
-  pub IsSoundVariable-malloc : (n : ℕ) → IsSoundVariable (malloc_step w.replay.heap n).heap (times_with w (result_ok (slot_for_request w.replay.heap n)))
+  pub IsSoundVariable-malloc : (n : ℕ) →
+      IsSoundVariable (malloc_step w.replay.heap n).heap (times_with w (result_ok (slot_for_request w.replay.heap n)))
       (result_unwrap_or (malloc_step w.replay.heap n).answer 0) (begun_or w None (result_ok (slot_for_request w.replay.heap n)))
   unfolding malloc_step
   IsSoundVariable-malloc n = by_slot (slot_for_request w.replay.heap n) refl
     where
       by_slot : (r : Result ℕ NullCause) → slot_for_request w.replay.heap n ≡ r →
-          IsSoundVariable (malloc_with w.replay.heap n r).heap (times_with w (result_ok r)) (result_unwrap_or (malloc_with w.replay.heap n r).answer 0) (begun_or w None (result_ok r))
+          IsSoundVariable (malloc_with w.replay.heap n r).heap (times_with w (result_ok r))
+          (result_unwrap_or (malloc_with w.replay.heap n r).answer 0) (begun_or w None (result_ok r))
       by_slot (Err cause) was = record { null_or_tagged = inl refl; follows = tt }
-      by_slot (Ok s) was = IsSoundVariable-new (given_out w.replay.heap s n) s n (slot_for_request-is w.replay.heap n s sound.heap was) (KeepsGiven-refl (given_out w.replay.heap s n))
+      by_slot (Ok s) was =
+          IsSoundVariable-new (given_out w.replay.heap s n) s n (slot_for_request-is w.replay.heap n s sound.heap was)
+          (KeepsGiven-refl (given_out w.replay.heap s n))
 
-  pub IsSoundVariable-calloc : (n : ℕ) → IsSoundVariable (calloc_step w.replay.heap n).heap (times_with w (result_ok (slot_for_request w.replay.heap n)))
+  pub IsSoundVariable-calloc : (n : ℕ) →
+      IsSoundVariable (calloc_step w.replay.heap n).heap (times_with w (result_ok (slot_for_request w.replay.heap n)))
       (result_unwrap_or (calloc_step w.replay.heap n).answer 0) (begun_or w None (result_ok (slot_for_request w.replay.heap n)))
   unfolding calloc_step
   IsSoundVariable-calloc n = by_slot (slot_for_request w.replay.heap n) refl
     where
       by_slot : (r : Result ℕ NullCause) → slot_for_request w.replay.heap n ≡ r →
-          IsSoundVariable (calloc_with w.replay.heap n r).heap (times_with w (result_ok r)) (result_unwrap_or (calloc_with w.replay.heap n r).answer 0) (begun_or w None (result_ok r))
+          IsSoundVariable (calloc_with w.replay.heap n r).heap (times_with w (result_ok r))
+          (result_unwrap_or (calloc_with w.replay.heap n r).answer 0) (begun_or w None (result_ok r))
       by_slot (Err cause) was = record { null_or_tagged = inl refl; follows = tt }
-      by_slot (Ok s) was = IsSoundVariable-new (with_payload (given_out w.replay.heap s n) s (replicate (16 * chunk_granules n) 0)) s n (slot_for_request-is w.replay.heap n s sound.heap was)
+      by_slot (Ok s) was =
+          IsSoundVariable-new (with_payload (given_out w.replay.heap s n) s (replicate (16 * chunk_granules n) 0)) s n
+          (slot_for_request-is w.replay.heap n s sound.heap was)
           (KeepsGiven-with_payload (given_out w.replay.heap s n) s (replicate (16 * chunk_granules n) 0))
 
   pub IsSoundVariable-realloc : (v n : ℕ) → IsSoundVariable (realloc_step w.replay.heap (variable w.replay v) n).heap
-      (times_with w (cond (variable w.replay v == 0) (result_ok (slot_for_request w.replay.heap n)) (slot_if_moved w.replay.heap n (chunk_at w.replay.heap (variable w.replay v)))))
+      (times_with w (cond (variable w.replay v == 0) (result_ok (slot_for_request w.replay.heap n))
+      (slot_if_moved w.replay.heap n (chunk_at w.replay.heap (variable w.replay v)))))
       (result_unwrap_or (realloc_step w.replay.heap (variable w.replay v) n).answer (variable w.replay v))
-      (begun_or w (generation_of w v) (cond (variable w.replay v == 0) (result_ok (slot_for_request w.replay.heap n)) (slot_if_moved w.replay.heap n (chunk_at w.replay.heap (variable w.replay v)))))
+      (begun_or w (generation_of w v)
+      (cond (variable w.replay v == 0) (result_ok (slot_for_request w.replay.heap n))
+      (slot_if_moved w.replay.heap n (chunk_at w.replay.heap (variable w.replay v)))))
   unfolding realloc_step malloc_step
   IsSoundVariable-realloc v n = either (p == 0) _ _ _ _ (λ _. by_malloc (slot_for_request h n) refl) (λ _. by_chunk (chunk_at h p) refl)
     where
@@ -165,22 +191,29 @@ module _ (w : Run) (sound : IsSoundRun w) where
       p = variable w.replay v
 
       IsRight : Step (Result ℕ ReallocError) → Option ℕ → Type 0
-      IsRight step o = IsSoundVariable step.heap (times_with w o) (result_unwrap_or step.answer (variable w.replay v)) (begun_or w (generation_of w v) o)
+      IsRight step o =
+          IsSoundVariable step.heap (times_with w o) (result_unwrap_or step.answer (variable w.replay v)) (begun_or w (generation_of w v) o)
 
-      either : (b : Bool) (x y : Step (Result ℕ ReallocError)) (o q : Option ℕ) → (b ≡ true → IsRight x o) → (b ≡ false → IsRight y q) → IsRight (cond b x y) (cond b o q)
+      either : (b : Bool) (x y : Step (Result ℕ ReallocError)) (o q : Option ℕ) → (b ≡ true → IsRight x o) → (b ≡ false → IsRight y q) →
+          IsRight (cond b x y) (cond b o q)
       either true x y o q so not_so = so refl
       either false x y o q so not_so = not_so refl
 
-      by_malloc : (r : Result ℕ NullCause) → slot_for_request w.replay.heap n ≡ r → IsRight (as_realloc (malloc_with w.replay.heap n r)) (result_ok r)
+      by_malloc : (r : Result ℕ NullCause) → slot_for_request w.replay.heap n ≡ r →
+          IsRight (as_realloc (malloc_with w.replay.heap n r)) (result_ok r)
       by_malloc (Err cause) was = sound.variables v
-      by_malloc (Ok s) was = IsSoundVariable-new (given_out w.replay.heap s n) s n (slot_for_request-is w.replay.heap n s sound.heap was) (KeepsGiven-refl (given_out w.replay.heap s n))
+      by_malloc (Ok s) was =
+          IsSoundVariable-new (given_out w.replay.heap s n) s n (slot_for_request-is w.replay.heap n s sound.heap was)
+          (KeepsGiven-refl (given_out w.replay.heap s n))
 
-      by_move : (chunk : Chunk) → IsLiveChunk w.replay.heap (variable w.replay v) chunk → (r : Result ℕ NullCause) → slot_for_request w.replay.heap n ≡ r →
+      by_move : (chunk : Chunk) → IsLiveChunk w.replay.heap (variable w.replay v) chunk → (r : Result ℕ NullCause) →
+          slot_for_request w.replay.heap n ≡ r →
           IsRight (move_with w.replay.heap chunk n r) (result_ok r)
       by_move chunk c (Err cause) was = sound.variables v
       by_move chunk c (Ok s) was =
           let given : IsGiven w.replay.heap n s = slot_for_request-is w.replay.heap n s sound.heap was in
-          IsSoundVariable-new (moved w.replay.heap chunk s n) s n given (KeepsGiven-moved w.replay.heap (variable w.replay v) chunk s n sound.heap c given)
+          IsSoundVariable-new (moved w.replay.heap chunk s n) s n given
+          (KeepsGiven-moved w.replay.heap (variable w.replay v) chunk s n sound.heap c given)
 
       by_chunk : (r : Result Chunk FreeError) → chunk_at w.replay.heap (variable w.replay v) ≡ r →
           IsRight (realloc_with w.replay.heap (variable w.replay v) n r) (slot_if_moved w.replay.heap n r)
@@ -189,5 +222,6 @@ module _ (w : Run) (sound : IsSoundRun w) where
           let c = chunk_at-is w.replay.heap (variable w.replay v) chunk was in
           either (stays_in_class w.replay.heap chunk n) _ _ None _
           (λ _. IsSoundVariable-kept w.replay.heap (resized w.replay.heap chunk.slot n) w.times (variable w.replay v) (generation_of w v)
-          (KeepsGiven-resized w.replay.heap chunk.slot n chunk.size _ (in_states w.replay.heap chunk.slot sound.heap c.in_range) c.live) (sound.variables v))
+          (KeepsGiven-resized w.replay.heap chunk.slot n chunk.size _ (in_states w.replay.heap chunk.slot sound.heap c.in_range) c.live)
+          (sound.variables v))
           (λ _. by_move chunk c (slot_for_request w.replay.heap n) refl)

@@ -31,7 +31,8 @@ next_tag heap s = drawn_tag heap.tag heap.seed (exclude_at heap s)
 -- the memory in which the chunk of a request of n bytes has the tag, and the rest of the slot's payload has tag 0
 abbrev pub chunk_tagged : Slot → ℕ → ℕ → List Granule → List Granule
 chunk_tagged slot n tag memory =
-    tagged (payload_start slot + chunk_granules n) (slot.class - 1 - chunk_granules n) 0 (tagged (payload_start slot) (chunk_granules n) tag memory)
+    tagged (payload_start slot + chunk_granules n) (slot.class - 1 - chunk_granules n) 0
+    (tagged (payload_start slot) (chunk_granules n) tag memory)
 
 -- ---- what is made of a heap
 
@@ -127,7 +128,8 @@ move_with heap chunk n (Err cause) = refusal heap (Null cause)
 abbrev pub realloc_with : Heap → ℕ → ℕ → Result Chunk FreeError → Step (Result ℕ ReallocError)
 realloc_with heap p n (Err error) = refusal heap (Refused error)
 realloc_with heap p n (Ok chunk) =
-    if stays_in_class heap chunk n then record { heap = resized heap chunk.slot n; answer = Ok p } else move_with heap chunk n (slot_for_request heap n)
+    if stays_in_class heap chunk n then record { heap = resized heap chunk.slot n; answer = Ok p } else move_with heap chunk n
+    (slot_for_request heap n)
 
 abbrev pub as_realloc : Step (Result ℕ NullCause) → Step (Result ℕ ReallocError)
 as_realloc step = record { heap = step.heap; answer = result_map_both (λ p. p) Null step.answer }

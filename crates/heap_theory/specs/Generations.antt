@@ -39,7 +39,8 @@ unfoldable pub slot_given : Replay → Event → Option ℕ
 slot_given replay (Malloc v n) = result_ok (slot_for_request replay.heap n)
 slot_given replay (Calloc v n) = result_ok (slot_for_request replay.heap n)
 slot_given replay (Realloc v n) =
-    if variable replay v == 0 then result_ok (slot_for_request replay.heap n) else slot_if_moved replay.heap n (chunk_at replay.heap (variable replay v))
+    if variable replay v == 0 then result_ok (slot_for_request replay.heap n) else slot_if_moved replay.heap n
+    (chunk_at replay.heap (variable replay v))
 slot_given replay (Free v) = None
 slot_given replay (Load v off len) = None
 slot_given replay (Store v off len byte) = None

@@ -27,7 +27,8 @@ WordsFit = (header : Header) → FitsWords header → (first_word header < 2 ^ 6
 
 abbrev pub ReadHeaderFits : Type 0
 ReadHeaderFits =
-    (first second : ℕ) → first < 2 ^ 64 → second < 2 ^ 64 → (header_of first second).class < MOST_CLASSES → FitsWords (header_of first second)
+    (first second : ℕ) → first < 2 ^ 64 → second < 2 ^ 64 → (header_of first second).class < MOST_CLASSES →
+    FitsWords (header_of first second)
 
 -- ---- headers in memory
 

@@ -42,7 +42,8 @@ pub record HaveSameHeaderWords (layout : Partition) (memory other : List Granule
   pub second : (s : ℕ) → s < slot_count layout →
       word_at other (GRANULE_BYTES * (slot_of layout s).start + 8) ≡ word_at memory (GRANULE_BYTES * (slot_of layout s).start + 8)
 
--- Header words stay from one heap to another: whatever memory keeps the first and whatever memory keeps the second, the words of each slot's
+-- Header words stay from one heap to another: whatever memory keeps the first and whatever memory keeps the second, the words of each
+-- slot's
 -- header are the same in both. So they are in the regions that `Heap::memory` lends before and after.
 abbrev pub HeaderWordsStay : Heap → Heap → Type 0
 HeaderWordsStay before after =

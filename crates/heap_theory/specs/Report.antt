@@ -39,7 +39,8 @@ answer_words Silent = []
 answer_words (Loaded bytes) = codes "data" ∷ flat_map hex bytes ∷ []
 answer_words NotMapped = codes "fault" ∷ codes "unmapped" ∷ []
 answer_words (TagFault granule memory_tag pointer_tag kind) =
-    codes "fault" ∷ codes "tag" ∷ codes "granule" ∷ decimal granule ∷ codes "memory" ∷ decimal memory_tag ∷ codes "pointer" ∷ decimal pointer_tag
+    codes "fault" ∷ codes "tag" ∷ codes "granule" ∷ decimal granule ∷ codes "memory" ∷ decimal memory_tag ∷ codes "pointer" ∷ decimal
+    pointer_tag
     ∷ codes "in" ∷ kind_word kind ∷ []
 answer_words (NoPointer cause) = codes "null" ∷ cause_word cause ∷ []
 answer_words (NotFreed error) = codes "refused" ∷ error_word error ∷ []

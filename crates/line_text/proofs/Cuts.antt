@@ -28,7 +28,8 @@ pub lacks_all : (byte : ℕ) (bytes : List ℕ) → IsFirstByte (is_byte byte) b
 lacks_all byte bytes none =
     All-from_get_or (λ b. eqb b byte ≡ false) bytes 0 (λ k lt. false_from_ne_true _ (none k (omega arith) lt))
 
-pub cut_at : (byte : ℕ) (bytes : List ℕ) (i : ℕ) → IsFirstByte (is_byte byte) bytes (Some i) → bytes ≡ take i bytes ++ byte ∷ drop (i + 1) bytes
+pub cut_at : (byte : ℕ) (bytes : List ℕ) (i : ℕ) → IsFirstByte (is_byte byte) bytes (Some i) →
+    bytes ≡ take i bytes ++ byte ∷ drop (i + 1) bytes
 cut_at byte bytes i found =
     let found_is : get_or bytes i 0 ≡ byte = eqb-true _ _ found.1 in
     split_at bytes i 0 found.0.high ∙ rw (found_is, add-one) refl
@@ -46,7 +47,8 @@ unfolding lines
 line_alone [] some all = absurd (omega arith)
 line_alone (b ∷ []) some all = rw (All-head (λ x. is_newline x ≡ false) b [] all) refl
 line_alone (b ∷ c ∷ line) some all =
-    rw (All-head (λ x. is_newline x ≡ false) b (c ∷ line) all) (ap (onto_first b) (line_alone (c ∷ line) (omega arith) (All-tail (λ x. is_newline x ≡ false) b (c ∷ line) all)))
+    rw (All-head (λ x. is_newline x ≡ false) b (c ∷ line) all)
+    (ap (onto_first b) (line_alone (c ∷ line) (omega arith) (All-tail (λ x. is_newline x ≡ false) b (c ∷ line) all)))
 
 pub lines_at : (text : List ℕ) (i : ℕ) → IsFirstByte (is_byte 10) text (Some i) → lines text ≡ take i text ∷ lines (drop (i + 1) text)
 lines_at text i found = ap lines (cut_at 10 text i found) ∙ lines-ended (take i text) (drop (i + 1) text) (lacks_before 10 text i found)
@@ -61,13 +63,15 @@ pub lines-text_of : (ls : List (List ℕ)) (text : List ℕ) → All IsLine ls �
 lines-text_of [] text all = refl
 lines-text_of (line ∷ ls) text all =
     rw (flat_map-cons, append_assoc, append_assoc)
-    (lines-ended line (text_of ls ++ text) (All-head IsLine line ls all) ∙ ap (λ (t : List (List ℕ)). line ∷ t) (lines-text_of ls text (All-tail IsLine line ls all)))
+    (lines-ended line (text_of ls ++ text) (All-head IsLine line ls all)
+    ∙ ap (λ (t : List (List ℕ)). line ∷ t) (lines-text_of ls text (All-tail IsLine line ls all)))
 
 -- a byte in front of the first part, where the byte is not the one at which the parts were cut
 All-onto_first : (cut b : ℕ) (parts : List (List ℕ)) → eqb b cut ≡ false → All (Lacks cut) parts → All (Lacks cut) (onto_first b parts)
 All-onto_first cut b [] other all = All-cons (Lacks cut) (b ∷ []) [] (All-cons (λ x. eqb x cut ≡ false) b [] other (All-nil _)) (All-nil _)
 All-onto_first cut b (part ∷ parts) other all =
-    All-cons (Lacks cut) (b ∷ part) parts (All-cons (λ x. eqb x cut ≡ false) b part other (All-head (Lacks cut) part parts all)) (All-tail (Lacks cut) part parts all)
+    All-cons (Lacks cut) (b ∷ part) parts (All-cons (λ x. eqb x cut ≡ false) b part other (All-head (Lacks cut) part parts all))
+    (All-tail (Lacks cut) part parts all)
 
 pub All-lines : (text : List ℕ) → All IsLine (lines text)
 unfolding lines
@@ -99,7 +103,8 @@ unfolding lines
 IsTextOf-lines [] = inl refl
 IsTextOf-lines (b ∷ text) = go (is_newline b) refl (IsTextOf-lines text)
   where
-    go : (v : Bool) → is_newline b ≡ v → IsTextOf (lines text) text → IsTextOf (cond v ([] ∷ lines text) (onto_first b (lines text))) (b ∷ text)
+    go : (v : Bool) → is_newline b ≡ v → IsTextOf (lines text) text →
+        IsTextOf (cond v ([] ∷ lines text) (onto_first b (lines text))) (b ∷ text)
     go true e h = rw (eqb-true b 10 e) (IsTextOf-newline (lines text) text h)
     go false e h = IsTextOf-onto_first b (lines text) text h
 

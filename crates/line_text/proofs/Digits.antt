@@ -58,7 +58,8 @@ record IsSpelled (word : List ℕ) : Type 0 where
 
 spelled_parts : (word : List ℕ) → is_numeral word ≡ true → IsSpelled word
 spelled_parts word e =
-    let a = and_parts (list_all is_ascii_digit word && not (eqb (length word) 0)) (eqb (length word) 1 || not (eqb (get_or word 0 0) 48)) e in
+    let a =
+    and_parts (list_all is_ascii_digit word && not (eqb (length word) 0)) (eqb (length word) 1 || not (eqb (get_or word 0 0) 48)) e in
     let b = and_parts (list_all is_ascii_digit word) (not (eqb (length word) 0)) a.0 in
     record { digits = b.0; some = b.1; first = a.1 }
 
@@ -79,7 +80,9 @@ decimal-number_of word n small e =
       | inl spelled ↦
           let s = spelled_parts word spelled in
           let is_n : digits_value 10 word ≡ n = same_value _ _ (rw spelled at e) in
-          let back = decimal-digits_value own word s.digits (grind (arith, nat_tests, s.some)) (short_zero (get_or word 0 0) (length word) s.first) (rw is_n small) in
+          let back =
+          decimal-digits_value own word s.digits (grind (arith, nat_tests, s.some)) (short_zero (get_or word 0 0) (length word) s.first)
+          (rw is_n small) in
           sym back ∙ ap decimal is_n
       | inr other ↦ let f = rw other at e in absurd cc
     ]
@@ -106,10 +109,12 @@ pub IsLine-decimal : (n : ℕ) → n < 2 ^ 64 → IsLine (decimal n)
 IsLine-decimal n small = each (decimal n) (digits_decimal own n small)
   where
     each : (ds : List ℕ) → list_all is_ascii_digit ds ≡ true → IsLine ds
-    each ds all = All-from_get_or (λ b. is_newline b ≡ false) ds 0 (λ i lt. other_byte (get_or ds i 0) 10 (digit_at ds i all lt) (omega arith))
+    each ds all =
+        All-from_get_or (λ b. is_newline b ≡ false) ds 0 (λ i lt. other_byte (get_or ds i 0) 10 (digit_at ds i all lt) (omega arith))
 
 pub IsWord-decimal : (n : ℕ) → n < 2 ^ 64 → IsWord (decimal n)
 IsWord-decimal n small = each (decimal n) (digits_decimal own n small)
   where
     each : (ds : List ℕ) → list_all is_ascii_digit ds ≡ true → IsWord ds
-    each ds all = All-from_get_or (λ b. is_space b ≡ false) ds 0 (λ i lt. other_byte (get_or ds i 0) 32 (digit_at ds i all lt) (omega arith))
+    each ds all =
+        All-from_get_or (λ b. is_space b ≡ false) ds 0 (λ i lt. other_byte (get_or ds i 0) 32 (digit_at ds i all lt) (omega arith))

@@ -23,7 +23,8 @@ not_digits word other = rw other (grind (arith, nat_tests))
 digits_before : (word after : List ℕ) → list_all is_ascii_digit word ≡ true → prefix_len is_ascii_digit after ≡ 0
     → leading_digits (word ++ after) ≡ word
 digits_before word after all none =
-    ap (λ n. take n (word ++ after)) (prefix_len-append is_ascii_digit word after ∙ rw (all_digits_lead word all, none) (grind (arith, nat_tests)))
+    ap (λ n. take n (word ++ after))
+    (prefix_len-append is_ascii_digit word after ∙ rw (all_digits_lead word all, none) (grind (arith, nat_tests)))
     ∙ take-append_seam word after
 
 -- a first word of digits is the digits in front of the line, and the end of the line or a space is after them
@@ -33,15 +34,18 @@ record IsFirstOf (word line : List ℕ) : Type 0 where
   pub ends : (after ≡ []) ⊎ (slice_get after 0 ≡ Some 32)
 
 first_of : (line word : List ℕ) (ws : List (List ℕ)) → words line ≡ word ∷ ws → IsFirstOf word line
-first_of line word [] parts = record { after = []; line_is = sym (line_of-words line) ∙ ap line_of parts ∙ sym (append-nil word); ends = inl refl }
-first_of line word (w ∷ ws) parts = record { after = 32 ∷ line_of (w ∷ ws); line_is = sym (line_of-words line) ∙ ap line_of parts; ends = inr refl }
+first_of line word [] parts =
+    record { after = []; line_is = sym (line_of-words line) ∙ ap line_of parts ∙ sym (append-nil word); ends = inl refl }
+first_of line word (w ∷ ws) parts =
+    record { after = 32 ∷ line_of (w ∷ ws); line_is = sym (line_of-words line) ∙ ap line_of parts; ends = inr refl }
 
 no_digit_first : (after : List ℕ) → (after ≡ []) ⊎ (slice_get after 0 ≡ Some 32) → prefix_len is_ascii_digit after ≡ 0
 no_digit_first [] ends = refl
 no_digit_first (b ∷ after) (inl e) = absurd cc
 no_digit_first (b ∷ after) (inr e) = let space : b ≡ 32 = cc in rw space refl
 
-pub first_digits : (line word : List ℕ) (ws : List (List ℕ)) → words line ≡ word ∷ ws → list_all is_ascii_digit word ≡ true → leading_digits line ≡ word
+pub first_digits : (line word : List ℕ) (ws : List (List ℕ)) → words line ≡ word ∷ ws → list_all is_ascii_digit word ≡ true →
+    leading_digits line ≡ word
 first_digits line word ws parts all =
     let first = first_of line word ws parts in
     ap leading_digits first.line_is ∙ digits_before word first.after all (no_digit_first first.after first.ends)
@@ -66,7 +70,8 @@ no_space (b ∷ rest) some other (inl e) = absurd cc
 no_space (b ∷ rest) some other (inr e) = let space : b ≡ 32 = cc in other space
 
 -- nor where a byte other than a space is after it;
-pub no_word_end : (line after : List ℕ) → line ≡ leading_digits line ++ after → 0 < length after → get_or after 0 0 ≢ 32 → first_number_of line ≡ None
+pub no_word_end : (line after : List ℕ) → line ≡ leading_digits line ++ after → 0 < length after → get_or after 0 0 ≢ 32 →
+    first_number_of line ≡ None
 no_word_end line after cut some other = go (words line) refl
   where
     go : (ws : List (List ℕ)) → words line ≡ ws → option_and_then short_number_of (slice_get ws 0) ≡ None
@@ -75,7 +80,8 @@ no_word_end line after cut some other = go (words line) refl
       | inl all ↦
           let first = first_of line word ws parts in
           let digits = first_digits line word ws parts all in
-          let same : first.after ≡ after = append_cancel_left word first.after after (sym first.line_is ∙ cut ∙ ap (λ ds. ds ++ after) digits) in
+          let same : first.after ≡ after =
+          append_cancel_left word first.after after (sym first.line_is ∙ cut ∙ ap (λ ds. ds ++ after) digits) in
           absurd (no_space after some other (rw same at first.ends))
       | inr none ↦ not_digits word none
     ]

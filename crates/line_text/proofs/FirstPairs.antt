@@ -34,7 +34,8 @@ lines-cons b [] = go (is_newline b)
 lines-cons b (d ∷ text) = go (is_newline b) (lines-cons d text)
   where
     go : (v : Bool) → lines (d ∷ text) ≡ front (d ∷ text) ∷ lines (after (d ∷ text))
-        → cond v ([] ∷ lines (d ∷ text)) (onto_first b (lines (d ∷ text))) ≡ cond v [] (b ∷ front (d ∷ text)) ∷ lines (cond v (d ∷ text) (after (d ∷ text)))
+        → cond v ([] ∷ lines (d ∷ text)) (onto_first b (lines (d ∷ text)))
+        ≡ cond v [] (b ∷ front (d ∷ text)) ∷ lines (cond v (d ∷ text) (after (d ∷ text)))
     go true rest = refl
     go false rest = ap (onto_first b) rest
 
@@ -44,7 +45,8 @@ first_pair_of text = option_and_then (λ line. short_pair_of (words line)) (slic
 first_pair_is : (text : List ℕ) → first_pair_of text ≡ short_pair_of (words (front text))
 unfolding lines words
 first_pair_is [] = refl
-first_pair_is (b ∷ text) = ap (λ (ls : List (List ℕ)). option_and_then (λ line. short_pair_of (words line)) (slice_get ls 0)) (lines-cons b text)
+first_pair_is (b ∷ text) =
+    ap (λ (ls : List (List ℕ)). option_and_then (λ line. short_pair_of (words line)) (slice_get ls 0)) (lines-cons b text)
 
 lines-after : (text : List ℕ) → lines (after text) ≡ drop 1 (lines text)
 unfolding lines
@@ -54,7 +56,8 @@ lines-after (b ∷ text) = sym (ap (λ (ls : List (List ℕ)). drop 1 ls) (lines
 front-append : (part text : List ℕ) → IsLine part → front (part ++ text) ≡ part ++ front text
 front-append [] text all = refl
 front-append (b ∷ part) text all =
-    rw (All-head (λ x. is_newline x ≡ false) b part all) (ap (λ (t : List ℕ). b ∷ t) (front-append part text (All-tail (λ x. is_newline x ≡ false) b part all)))
+    rw (All-head (λ x. is_newline x ≡ false) b part all)
+    (ap (λ (t : List ℕ). b ∷ t) (front-append part text (All-tail (λ x. is_newline x ≡ false) b part all)))
 
 after-append : (part text : List ℕ) → IsLine part → after (part ++ text) ≡ after text
 after-append [] text all = refl
@@ -80,7 +83,8 @@ leading_digits-front (b ∷ text) = elim (cases_Bool (is_newline b)) [
 -- what stands after the digits in the line
 cut_line : (text tail : List ℕ) → text ≡ leading_digits text ++ tail → front text ≡ leading_digits (front text) ++ front tail
 cut_line text tail cut =
-    ap front cut ∙ front-append (leading_digits text) tail (are_in_line text) ∙ ap (λ (ds : List ℕ). ds ++ front tail) (sym (leading_digits-front text))
+    ap front cut ∙ front-append (leading_digits text) tail (are_in_line text)
+    ∙ ap (λ (ds : List ℕ). ds ++ front tail) (sym (leading_digits-front text))
 
 no_number_in_front : (text : List ℕ) → leading_number_of text ≡ None → first_number_of (front text) ≡ None
 no_number_in_front text none = no_first_number (front text) (ap short_number_of (leading_digits-front text) ∙ none)
@@ -148,7 +152,8 @@ no_second text more cut none =
     ∙ second_is_none (leading_digits text) (words (front more)) (no_number_in_front more none)
 
 -- neither the end nor a newline stands after the second number
-pub no_end : (text more tail : List ℕ) → text ≡ leading_digits text ++ 32 ∷ more → more ≡ leading_digits more ++ tail → 0 < length tail → slice_get tail 0 ≢ Some 10
+pub no_end : (text more tail : List ℕ) → text ≡ leading_digits text ++ 32 ∷ more → more ≡ leading_digits more ++ tail → 0 < length tail →
+    slice_get tail 0 ≢ Some 10
     → first_pair_of text ≡ None
 no_end text more tail cut cut_more some other = first_pair_is text ∙ ap short_pair_of (words_after text more cut) ∙ go tail refl
   where
@@ -162,11 +167,13 @@ no_end text more tail cut cut_more some other = first_pair_is text ∙ ap short_
           let first : get_or (front tail) 0 0 ≡ b = ap (λ (t : List ℕ). get_or t 0 0) left in
           elim (cases_Bool (is_space b)) [
             | inl space ↦
-                ap (λ (ws : List (List ℕ)). short_pair_of (leading_digits text ∷ ws)) (word_before (front more) (front tail) (cut_line more tail cut_more) there (first ∙ eqb-true b 32 space))
+                ap (λ (ws : List (List ℕ)). short_pair_of (leading_digits text ∷ ws))
+                (word_before (front more) (front tail) (cut_line more tail cut_more) there (first ∙ eqb-true b 32 space))
                 ∙ more_words (leading_digits text) (leading_digits (front more)) (drop 1 (front tail))
             | inr letter ↦
                 second_is_none (leading_digits text) (words (front more))
-                (no_word_end (front more) (front tail) (cut_line more tail cut_more) there (λ is_32. absurd (differs b (sym first ∙ is_32) letter)))
+                (no_word_end (front more) (front tail) (cut_line more tail cut_more) there
+                (λ is_32. absurd (differs b (sym first ∙ is_32) letter)))
           ]
     ]
       where
@@ -174,18 +181,22 @@ no_end text more tail cut cut_more some other = first_pair_is text ∙ ap short_
         differs b e ne = let f = rw e at ne in absurd cc
 
 -- the line ends after the second number
-pub pair_ends : (text more tail : List ℕ) (m n : ℕ) → text ≡ leading_digits text ++ 32 ∷ more → more ≡ leading_digits more ++ tail → front tail ≡ []
+pub pair_ends : (text more tail : List ℕ) (m n : ℕ) → text ≡ leading_digits text ++ 32 ∷ more → more ≡ leading_digits more ++ tail →
+    front tail ≡ []
     → Some m ≡ leading_number_of text → Some n ≡ leading_number_of more → Some (m, n) ≡ first_pair_of text
 pair_ends text more tail m n cut cut_more ends first second =
     let two : words (front text) ≡ leading_digits text ∷ leading_digits more ∷ [] =
     words_after text more cut
     ∙ ap (λ (ws : List (List ℕ)). leading_digits text ∷ ws)
-    (only_word (front more) (front tail) (cut_line more tail cut_more) (ap length ends) ∙ ap (λ (ds : List ℕ). ds ∷ []) (leading_digits-front more)) in
+    (only_word (front more) (front tail) (cut_line more tail cut_more) (ap length ends)
+    ∙ ap (λ (ds : List ℕ). ds ∷ []) (leading_digits-front more)) in
     sym (first_pair_is text ∙ ap short_pair_of two ∙ rw (← first, ← second) refl)
 
-pub after_pair : (text more tail : List ℕ) → text ≡ leading_digits text ++ 32 ∷ more → more ≡ leading_digits more ++ tail → lines (after tail) ≡ drop 1 (lines text)
+pub after_pair : (text more tail : List ℕ) → text ≡ leading_digits text ++ 32 ∷ more → more ≡ leading_digits more ++ tail →
+    lines (after tail) ≡ drop 1 (lines text)
 after_pair text more tail cut cut_more =
-    ap lines (sym (ap after cut ∙ after-append (leading_digits text) (32 ∷ more) (are_in_line text) ∙ ap after cut_more ∙ after-append (leading_digits more) tail (are_in_line more)))
+    ap lines (sym (ap after cut ∙ after-append (leading_digits text) (32 ∷ more) (are_in_line text) ∙ ap after cut_more
+    ∙ after-append (leading_digits more) tail (are_in_line more)))
     ∙ lines-after text
 
 -- where nothing is left, neither a line nor a text after it is

@@ -32,8 +32,10 @@ hex-hex_of (a ∷ b ∷ []) n e = go (is_hex_digit a && is_hex_digit b) refl e
         let both = and_parts (is_hex_digit a) (is_hex_digit b) digits in
         let is_n : 16 * digit_value a + digit_value b ≡ n = cc in
         let high : n / 16 ≡ digit_value a = omega (arith, is_n, value_lt b both.1) in
-        let low : n % 16 ≡ digit_value b = omega (arith, is_n, value_lt b both.1) in
-        (omega (arith, is_n, value_lt a both.0, value_lt b both.1), rw (high, low, digit_char-digit_value a both.0, digit_char-digit_value b both.1) refl)
+        let low : n % 16 ≡ digit_value b = omega (arith, is_n, value_lt b both.1) in (
+          omega (arith, is_n, value_lt a both.0, value_lt b both.1),
+          rw (high, low, digit_char-digit_value a both.0, digit_char-digit_value b both.1) refl,
+        )
     go false digits e = absurd cc
 hex-hex_of (a ∷ b ∷ c ∷ word) n e = absurd cc
 
@@ -43,4 +45,5 @@ unfolding hex_of
 hex_of-hex n small =
     let high = is_hex_digit-digit_char (n / 16) (omega arith) in
     let low = is_hex_digit-digit_char (n % 16) (omega arith) in
-    rw (and_from _ _ high low, digit_value-digit_char (n / 16) (omega arith), digit_value-digit_char (n % 16) (omega arith)) (ap Some (omega arith))
+    rw (and_from _ _ high low, digit_value-digit_char (n / 16) (omega arith), digit_value-digit_char (n % 16) (omega arith))
+    (ap Some (omega arith))

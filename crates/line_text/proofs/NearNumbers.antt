@@ -23,7 +23,8 @@ pub record IsNear (line : List ℕ) (size : ℕ) : Type 0 where
 -- the line begins with no more digits
 near_prefix : (line : List ℕ) (size : ℕ) → IsNear line size → prefix_len is_ascii_digit line ≡ size
 near_prefix line size near =
-    let whole = ap (prefix_len is_ascii_digit) (sym (take-append-drop 19 line)) ∙ prefix_len-append is_ascii_digit (take 19 line) (drop 19 line) in
+    let whole =
+    ap (prefix_len is_ascii_digit) (sym (take-append-drop 19 line)) ∙ prefix_len-append is_ascii_digit (take 19 line) (drop 19 line) in
     let bytes : length (take 19 line) ≡ 19 = length-take-le 19 line near.long in
     let digits = near.digits in
     let ended = near.ended in
@@ -33,10 +34,12 @@ near_digits_are : (line : List ℕ) (size : ℕ) → IsNear line size → leadin
 near_digits_are line size near = ap (λ n. take n line) (near_prefix line size near)
 
 -- where a space ends them, they are the first word,
-pub near_word : (line : List ℕ) (size : ℕ) → IsNear line size → get_or (take 19 line) size 0 ≡ 32 → words line ≡ take size line ∷ words (drop (size + 1) line)
+pub near_word : (line : List ℕ) (size : ℕ) → IsNear line size → get_or (take 19 line) size 0 ≡ 32 →
+    words line ≡ take size line ∷ words (drop (size + 1) line)
 near_word line size near space =
     let digits = near_digits_are line size near in
-    let cut : line ≡ leading_digits line ++ drop size line = sym (take-append-drop size line) ∙ ap (λ ds. ds ++ drop size line) (sym digits) in
+    let cut : line ≡ leading_digits line ++ drop size line =
+    sym (take-append-drop size line) ∙ ap (λ ds. ds ++ drop size line) (sym digits) in
     let some : 0 < length (drop size line) = omega (arith, near.long, near.ended, length-drop size line) in
     let here : size + 0 ≡ size = omega arith in
     let byte : get_or (drop size line) 0 0 ≡ 32 =
@@ -52,7 +55,8 @@ near_number line size near some first =
     let all : list_all is_ascii_digit (take size line) ≡ true = rw digits at (are_digits line) in
     let same : get_or (take 19 line) 0 0 ≡ get_or line 0 0 = get_or-take 19 line 0 0 (omega arith) in
     ap short_number_of (sym digits)
-    ∙ a_number line size (omega (arith, near.long, near.ended)) (omega (arith, near.ended)) (near_prefix line size near) all some (rw same at first)
+    ∙ a_number line size (omega (arith, near.long, near.ended)) (omega (arith, near.ended)) (near_prefix line size near) all some
+    (rw same at first)
 
 -- ---- the word that is read, or left
 
@@ -86,8 +90,11 @@ near_short line short = short_line line (words line) refl short
 -- a first word that is no number, or one of more digits
 left_word : (word : List ℕ) (ws : List (List ℕ)) → (length word ≤ 18 → number_of word ≡ None) → near_number_of (word ∷ ws) ≡ None
 left_word word ws none = elim (cases_lt 18 (length word)) [
-  | inl many ↦ (let not : leb (length word) 18 ≡ false = lt-leb (length word) 18 many in rw (not, and_right (leb 19 (length (line_of (word ∷ ws)))) false refl) refl)
-  | inr few ↦ (let nothing = none few in rw nothing (cond_both (leb 19 (length (line_of (word ∷ ws))) && leb (length word) 18) None None (λ (o : Option ℕ). o ≡ None) (λ _. refl) (λ _. refl)))
+  | inl many ↦ (let not : leb (length word) 18 ≡ false = lt-leb (length word) 18 many in
+      rw (not, and_right (leb 19 (length (line_of (word ∷ ws)))) false refl) refl)
+  | inr few ↦ (let nothing = none few in
+      rw nothing (cond_both (leb 19 (length (line_of (word ∷ ws))) && leb (length word) 18) None None (λ (o : Option ℕ). o ≡ None)
+      (λ _. refl) (λ _. refl)))
 ]
 
 pub near_none : (line : List ℕ) → first_number_of line ≡ None → near_number_of (words line) ≡ None
@@ -101,7 +108,12 @@ pub near_many : (line : List ℕ) → 19 ≤ length line → list_all is_ascii_d
 near_many line long all = go (words line) refl
   where
     digits : 19 ≤ length (leading_digits line)
-    digits = omega (arith, reaches line 19 long all, length-take-le (prefix_len is_ascii_digit line) line (prefix_len-le-length is_ascii_digit line))
+    digits =
+        omega (
+          arith,
+          reaches line 19 long all,
+          length-take-le (prefix_len is_ascii_digit line) line (prefix_len-le-length is_ascii_digit line),
+        )
 
     go : (ws : List (List ℕ)) → words line ≡ ws → near_number_of ws ≡ None
     go [] parts = refl
@@ -114,7 +126,8 @@ near_many line long all = go (words line) refl
 pub near_other : (line : List ℕ) (size : ℕ) → IsNear line size → get_or (take 19 line) size 0 ≢ 32 → near_number_of (words line) ≡ None
 near_other line size near other =
     let digits = near_digits_are line size near in
-    let cut : line ≡ leading_digits line ++ drop size line = sym (take-append-drop size line) ∙ ap (λ ds. ds ++ drop size line) (sym digits) in
+    let cut : line ≡ leading_digits line ++ drop size line =
+    sym (take-append-drop size line) ∙ ap (λ ds. ds ++ drop size line) (sym digits) in
     let some : 0 < length (drop size line) = omega (arith, near.long, near.ended, length-drop size line) in
     let here : size + 0 ≡ size = omega arith in
     let byte : get_or (drop size line) 0 0 ≡ get_or (take 19 line) size 0 =
@@ -126,4 +139,5 @@ pub near_no_number : (line : List ℕ) (size : ℕ) → IsNear line size → (si
 near_no_number line size near why =
     let same : get_or (take 19 line) 0 0 ≡ get_or line 0 0 = get_or-take 19 line 0 0 (omega arith) in
     near_none line
-    (no_first_number line (no_number line size (omega (arith, near.long, near.ended)) (omega (arith, near.ended)) (near_prefix line size near) (rw same at why)))
+    (no_first_number line (no_number line size (omega (arith, near.long, near.ended)) (omega (arith, near.ended))
+    (near_prefix line size near) (rw same at why)))

@@ -18,7 +18,8 @@ use lib.Pointwise.{pointwise}
 
 -- ---- reading
 
-pub signed_of-minus : (word : List ℕ) → pointwise nat_eq (take 1 word) (45 ∷ []) ≡ true → signed_of word ≡ option_and_then negated (number_of (drop 1 word))
+pub signed_of-minus : (word : List ℕ) → pointwise nat_eq (take 1 word) (45 ∷ []) ≡ true →
+    signed_of word ≡ option_and_then negated (number_of (drop 1 word))
 unfolding signed_of
 signed_of-minus [] minus = absurd cc
 signed_of-minus (b ∷ digits) minus = let head : eqb b 45 ≡ true = (and_parts (eqb b 45) true minus).0 in rw head refl
@@ -65,7 +66,8 @@ signed_decimal-signed_of (b ∷ word) z fits e = go (eqb b 45) refl z fits e
 
 no_minus : (digits : List ℕ) → list_all is_ascii_digit digits ≡ true → pointwise nat_eq (take 1 digits) (45 ∷ []) ≡ false
 no_minus [] all = refl
-no_minus (c ∷ digits) all = let head : eqb c 45 ≡ false = other_byte c 45 (digit_at (c ∷ digits) 0 all (omega arith)) (omega arith) in rw head refl
+no_minus (c ∷ digits) all =
+    let head : eqb c 45 ≡ false = other_byte c 45 (digit_at (c ∷ digits) 0 all (omega arith)) (omega arith) in rw head refl
 
 pub signed_of-signed_decimal : (z : ℤ) → FitsSigned w64 z → signed_of (signed_decimal z) ≡ Some z
 unfolding signed_of
@@ -76,8 +78,10 @@ signed_of-signed_decimal (negsuc n) fits = rw (number_of-decimal (suc n) (omega 
 
 pub IsLine-signed_decimal : (z : ℤ) → FitsSigned w64 z → IsLine (signed_decimal z)
 IsLine-signed_decimal (pos n) fits = IsLine-decimal n (omega (arith, fits.sfits))
-IsLine-signed_decimal (negsuc n) fits = All-cons (λ b. is_newline b ≡ false) 45 (decimal (suc n)) refl (IsLine-decimal (suc n) (omega (arith, fits.sfits)))
+IsLine-signed_decimal (negsuc n) fits =
+    All-cons (λ b. is_newline b ≡ false) 45 (decimal (suc n)) refl (IsLine-decimal (suc n) (omega (arith, fits.sfits)))
 
 pub IsWord-signed_decimal : (z : ℤ) → FitsSigned w64 z → IsWord (signed_decimal z)
 IsWord-signed_decimal (pos n) fits = IsWord-decimal n (omega (arith, fits.sfits))
-IsWord-signed_decimal (negsuc n) fits = All-cons (λ b. is_space b ≡ false) 45 (decimal (suc n)) refl (IsWord-decimal (suc n) (omega (arith, fits.sfits)))
+IsWord-signed_decimal (negsuc n) fits =
+    All-cons (λ b. is_space b ≡ false) 45 (decimal (suc n)) refl (IsWord-decimal (suc n) (omega (arith, fits.sfits)))

@@ -4,9 +4,9 @@
 mod cutting;
 mod hexadecimal;
 pub mod laws;
-mod leading;
+mod leading_number;
 mod lines;
-mod near;
+mod near_digits;
 mod number;
 mod pair;
 mod search;

@@ -6,7 +6,7 @@ ghost use Rattle.std.specs.Option.{SomeIff, option_map};
 ghost use Rattle.std.specs.Str.Parse.{digits_value};
 ghost use Rattle.line_text.specs.Numbers.{number_of, classified};
 
-use crate::leading::leading_number;
+use crate::leading_number::leading_number;
 
 /// What a word spells as a number.
 #[derive(Debug, Clone, Copy, PartialEq, Eq)]
@@ -20,7 +20,7 @@ pub enum Number {
 }
 
 // Every number of this many digits is below 2^64.
-pub(crate) const SHORT: usize = 19;
+pub(crate) const SHORT_DIGITS: usize = 19;
 
 /// The number that a word of any length spells. Each number has one spelling: its decimal digits, without a leading 0 except in `0` itself.
 #[tactic(auto, using(crate::proofs::LeadingDigits::whole_number))]

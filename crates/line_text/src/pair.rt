@@ -4,7 +4,7 @@ ghost use Rattle.std.specs.Option.{option_map};
 ghost use Rattle.line_text.specs.Lines.{lines, words};
 ghost use Rattle.line_text.specs.Pairs.{short_pair_of};
 
-use crate::leading::leading_number;
+use crate::leading_number::leading_number;
 
 // the two numbers of the first line of a text, and the text after that line; `None` if the line is no such pair
 #[inline(always)]

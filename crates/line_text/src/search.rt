@@ -4,7 +4,7 @@ ghost use Rattle.memchr.specs.Find.{IsFirstByte, is_byte};
 use memchr::memchr;
 
 // Up to this length a search byte by byte is faster. Most lines and words are no longer.
-const NEAR: usize = 32;
+const SCAN_BYTES: usize = 32;
 
 // Inlined, like its two callers `next`: a call for each word would take longer than most words do.
 #[inline(always)]
@@ -15,7 +15,7 @@ pub(crate) fn first_place(byte: u8, bytes: &[u8]) -> Option<usize>
         if *other == byte {
             return Some(place);
         }
-        if place == NEAR {
+        if place == SCAN_BYTES {
             return memchr(byte, bytes);
         }
     }

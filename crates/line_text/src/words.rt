@@ -5,9 +5,9 @@ ghost use Rattle.std.specs.Option.{option_map};
 ghost use Rattle.line_text.specs.Lines.{words, words_left};
 ghost use Rattle.line_text.specs.Numbers.{classified, near_number_of, number_of, short_number_of};
 
-use crate::leading::leading_number;
-use crate::near::near_digits;
-use crate::number::{Number, SHORT, number_in};
+use crate::leading_number::leading_number;
+use crate::near_digits::near_digits;
+use crate::number::{Number, SHORT_DIGITS, number_in};
 use crate::search::first_place;
 use std::marker::Model;
 
@@ -75,7 +75,7 @@ impl<'a> Words<'a> {
         ensures kept { IfNone result (self.new ≡ self.old) }
     {
         let line = self.rest?;
-        let (bytes, _) = line.split_first_chunk::<SHORT>()?;
+        let (bytes, _) = line.split_first_chunk::<SHORT_DIGITS>()?;
         let (size, value) = near_digits(bytes)?;
         if bytes[size] != b' ' || size == 0 || (bytes[0] == b'0' && 1 < size) {
             return None;

@@ -15,7 +15,8 @@ unfolding bytes_at
 length-bytes_at memory i len = length-map-range_with_len (byte_at memory) i len
 
 -- bytes that agree one by one
-pub bytes_at_agree : (memory memory' : List Granule) (i len : ℕ) → ((k : ℕ) → k < len → byte_at memory (i + k) ≡ byte_at memory' (i + k)) → bytes_at memory i len ≡ bytes_at memory' i len
+pub bytes_at_agree : (memory memory' : List Granule) (i len : ℕ) → ((k : ℕ) → k < len → byte_at memory (i + k) ≡ byte_at memory' (i + k)) →
+    bytes_at memory i len ≡ bytes_at memory' i len
 unfolding bytes_at
 bytes_at_agree memory memory' i len same =
     fill_by_all (λ k. byte_at memory' (i + k)) (bytes_at memory i len) len 0 (length-bytes_at memory i len)
@@ -24,7 +25,8 @@ bytes_at_agree memory memory' i len same =
     (λ k h. get_or-map-range_with_len (byte_at memory') i len k (i + k) 0 h refl))
 
 -- a byte of a memory whose granules a change makes
-byte_at_changed : (change : ℕ → Granule → Granule) (memory : List Granule) (j : ℕ) → j / 16 < length memory → byte_at (each_granule change memory) j ≡ slice_index (change (j / 16) (granule_at memory (j / 16))).bytes (j % 16)
+byte_at_changed : (change : ℕ → Granule → Granule) (memory : List Granule) (j : ℕ) → j / 16 < length memory →
+    byte_at (each_granule change memory) j ≡ slice_index (change (j / 16) (granule_at memory (j / 16))).bytes (j % 16)
 byte_at_changed change memory j h = ap (λ (x : Granule). slice_index x.bytes (j % 16)) (granule_at-each_granule change memory (j / 16) h)
 
 byte_at_past : (memory : List Granule) (j : ℕ) → length memory ≤ j / 16 → byte_at memory j ≡ 0
@@ -32,22 +34,28 @@ byte_at_past memory j h = ap (λ (x : Granule). slice_index x.bytes (j % 16)) (g
 
 -- a byte that a change leaves in its granule stays
 byte_at_same : (change : ℕ → Granule → Granule) (memory : List Granule) (j : ℕ) →
-    (j / 16 < length memory → slice_index (change (j / 16) (granule_at memory (j / 16))).bytes (j % 16) ≡ byte_at memory j) → byte_at (each_granule change memory) j ≡ byte_at memory j
+    (j / 16 < length memory → slice_index (change (j / 16) (granule_at memory (j / 16))).bytes (j % 16) ≡ byte_at memory j) →
+    byte_at (each_granule change memory) j ≡ byte_at memory j
 byte_at_same change memory j same = elim (cases_lt (j / 16) (length memory)) [
   | inl within ↦ byte_at_changed change memory j within ∙ same within
-  | inr past ↦ byte_at_past (each_granule change memory) j (subst (λ n. n ≤ j / 16) (sym (length-each_granule change memory)) past) ∙ sym (byte_at_past memory j past)
+  | inr past ↦ byte_at_past (each_granule change memory) j (subst (λ n. n ≤ j / 16) (sym (length-each_granule change memory)) past)
+      ∙ sym (byte_at_past memory j past)
 ]
 
 pub byte_at-tagged : (first count tag : ℕ) (memory : List Granule) (j : ℕ) → byte_at (tagged first count tag memory) j ≡ byte_at memory j
 unfolding tagged
 byte_at-tagged first count tag memory j =
     byte_at_same (λ g granule. cond (is_among first count g) (record granule { tag = tag }) granule) memory j
-    (λ _. cond_both (is_among first count (j / 16)) (record (granule_at memory (j / 16)) { tag = tag }) (granule_at memory (j / 16)) (λ x. slice_index x.bytes (j % 16) ≡ byte_at memory j) (λ _. refl) (λ _. refl))
+    (λ _. cond_both (is_among first count (j / 16)) (record (granule_at memory (j / 16)) { tag = tag }) (granule_at memory (j / 16))
+    (λ x. slice_index x.bytes (j % 16) ≡ byte_at memory j) (λ _. refl) (λ _. refl))
 
-pub bytes_at-tagged : (first count tag : ℕ) (memory : List Granule) (j len : ℕ) → bytes_at (tagged first count tag memory) j len ≡ bytes_at memory j len
-bytes_at-tagged first count tag memory j len = bytes_at_agree (tagged first count tag memory) memory j len (λ k h. byte_at-tagged first count tag memory (j + k))
+pub bytes_at-tagged : (first count tag : ℕ) (memory : List Granule) (j len : ℕ) →
+    bytes_at (tagged first count tag memory) j len ≡ bytes_at memory j len
+bytes_at-tagged first count tag memory j len =
+    bytes_at_agree (tagged first count tag memory) memory j len (λ k h. byte_at-tagged first count tag memory (j + k))
 
-pub byte_at-written_outside : (i : ℕ) (new : List ℕ) (memory : List Granule) (j : ℕ) → (j < i) ⊎ (i + length new ≤ j) → byte_at (written i new memory) j ≡ byte_at memory j
+pub byte_at-written_outside : (i : ℕ) (new : List ℕ) (memory : List Granule) (j : ℕ) → (j < i) ⊎ (i + length new ≤ j) →
+    byte_at (written i new memory) j ≡ byte_at memory j
 unfolding written
 byte_at-written_outside i new memory j out =
     byte_at_same (λ g granule. record granule { bytes = bytes_after i new g granule.bytes }) memory j
@@ -56,11 +64,18 @@ byte_at-written_outside i new memory j out =
     place : j ≡ 16 * (j / 16) + j % 16
     place = omega arith
 
-    in_granule : (bytes : List ℕ) → (j % 16 < length bytes) ⊎ (length bytes ≤ j % 16) → get_or (bytes_after i new (j / 16) bytes) (j % 16) 0 ≡ get_or bytes (j % 16) 0
-    in_granule bytes (inl within) = byte-bytes_after i new (j / 16) bytes (j % 16) within ∙ byte_after-outside i new (16 * (j / 16) + j % 16) (get_or bytes (j % 16) 0) (subst (λ n. (n < i) ⊎ (i + length new ≤ n)) place out)
-    in_granule bytes (inr past) = get_or_past (bytes_after i new (j / 16) bytes) (j % 16) 0 (subst (λ n. n ≤ j % 16) (sym (length-bytes_after i new (j / 16) bytes)) past) ∙ sym (get_or_past bytes (j % 16) 0 past)
+    in_granule : (bytes : List ℕ) → (j % 16 < length bytes) ⊎ (length bytes ≤ j % 16) →
+        get_or (bytes_after i new (j / 16) bytes) (j % 16) 0 ≡ get_or bytes (j % 16) 0
+    in_granule bytes (inl within) =
+        byte-bytes_after i new (j / 16) bytes (j % 16) within
+        ∙ byte_after-outside i new (16 * (j / 16) + j % 16) (get_or bytes (j % 16) 0)
+        (subst (λ n. (n < i) ⊎ (i + length new ≤ n)) place out)
+    in_granule bytes (inr past) =
+        get_or_past (bytes_after i new (j / 16) bytes) (j % 16) 0
+        (subst (λ n. n ≤ j % 16) (sym (length-bytes_after i new (j / 16) bytes)) past) ∙ sym (get_or_past bytes (j % 16) 0 past)
 
-pub bytes_at-written_outside : (i : ℕ) (new : List ℕ) (memory : List Granule) (j len : ℕ) → (j + len ≤ i) ⊎ (i + length new ≤ j) → bytes_at (written i new memory) j len ≡ bytes_at memory j len
+pub bytes_at-written_outside : (i : ℕ) (new : List ℕ) (memory : List Granule) (j len : ℕ) → (j + len ≤ i) ⊎ (i + length new ≤ j) →
+    bytes_at (written i new memory) j len ≡ bytes_at memory j len
 bytes_at-written_outside i new memory j len out =
     bytes_at_agree (written i new memory) memory j len (λ k h. byte_at-written_outside i new memory (j + k) (apart k h out))
   where
@@ -68,7 +83,8 @@ bytes_at-written_outside i new memory j len out =
     apart k h (inl before) = inl (omega arith)
     apart k h (inr after) = inr (omega arith)
 
-pub byte_at-written_inside : (i : ℕ) (new : List ℕ) (memory : List Granule) (j : ℕ) → IsMemory memory → j < 16 * length memory → i ≤ j → j < i + length new → byte_at (written i new memory) j ≡ get_or new (j - i) 0
+pub byte_at-written_inside : (i : ℕ) (new : List ℕ) (memory : List Granule) (j : ℕ) → IsMemory memory → j < 16 * length memory → i ≤ j →
+    j < i + length new → byte_at (written i new memory) j ≡ get_or new (j - i) 0
 unfolding written
 byte_at-written_inside i new memory j is within from to =
     let granule : IsGranule (granule_at memory (j / 16)) = is.granules (j / 16) no_granule (omega arith) in
@@ -78,15 +94,18 @@ byte_at-written_inside i new memory j is within from to =
     ∙ ap (λ n. byte_after i new n (byte_at memory j)) place
     ∙ byte_after-inside i new j (byte_at memory j) from to
 
-pub bytes_at-written_same : (i : ℕ) (new : List ℕ) (memory : List Granule) → IsMemory memory → i + length new ≤ 16 * length memory → bytes_at (written i new memory) i (length new) ≡ new
+pub bytes_at-written_same : (i : ℕ) (new : List ℕ) (memory : List Granule) → IsMemory memory → i + length new ≤ 16 * length memory →
+    bytes_at (written i new memory) i (length new) ≡ new
 unfolding bytes_at
 bytes_at-written_same i new memory is within =
-    fill_by_all (λ k. get_or new k 0) (bytes_at (written i new memory) i (length new)) (length new) 0 (length-bytes_at (written i new memory) i (length new))
+    fill_by_all (λ k. get_or new k 0) (bytes_at (written i new memory) i (length new)) (length new) 0
+    (length-bytes_at (written i new memory) i (length new))
     (λ k h. get_or-map-range_with_len (byte_at (written i new memory)) i (length new) k (i + k) 0 h refl
     ∙ byte_at-written_inside i new memory (i + k) is (omega arith) (omega arith) (omega arith) ∙ ap (λ n. get_or new n 0) (omega arith))
     ∙ sym (fill_by_all (λ k. get_or new k 0) new (length new) 0 refl (λ k h. refl))
 
-pub word_at-written : (i w : ℕ) (memory : List Granule) → IsMemory memory → w < 2 ^ 64 → i + 8 ≤ 16 * length memory → word_at (written i (to_le_bytes w64 w) memory) i ≡ w
+pub word_at-written : (i w : ℕ) (memory : List Granule) → IsMemory memory → w < 2 ^ 64 → i + 8 ≤ 16 * length memory →
+    word_at (written i (to_le_bytes w64 w) memory) i ≡ w
 unfolding word_at
 word_at-written i w memory is below within =
     ap (from_le_bytes w64) (bytes_at-written_same i (to_le_bytes w64 w) memory is within) ∙ from_le_bytes-to_le_bytes_8 w below

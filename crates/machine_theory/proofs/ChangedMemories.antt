@@ -23,16 +23,20 @@ IsMemory-new granules least most =
     record {
       least = subst (λ n. 64 ≤ n) (sym long) least;
       most = subst (λ n. n ≤ 262144) (sym long) most;
-      granules = All-replicate IsGranule granules new_granule (record { tag = omega arith; sixteen = refl; bytes = All-replicate (λ b. b < 256) 16 0 (omega arith) });
+      granules =
+          All-replicate IsGranule granules new_granule
+          (record { tag = omega arith; sixteen = refl; bytes = All-replicate (λ b. b < 256) 16 0 (omega arith) });
     }
 
 -- a change that makes granules of granules
-IsGranule-each : (change : ℕ → Granule → Granule) (memory : List Granule) → ((g : ℕ) (x : Granule) → IsGranule x → IsGranule (change g x)) → All IsGranule memory → All IsGranule (each_granule change memory)
+IsGranule-each : (change : ℕ → Granule → Granule) (memory : List Granule) → ((g : ℕ) (x : Granule) → IsGranule x → IsGranule (change g x)) →
+    All IsGranule memory → All IsGranule (each_granule change memory)
 unfolding each_granule
 IsGranule-each change memory kept each =
     All-map IsGranule (λ g. change g (granule_at memory g)) (range_with_len 0 (length memory))
     (λ k d h. let within : k < length memory = subst (λ n. k < n) (length-range_with_len 0 (length memory)) h in
-    subst (λ g. IsGranule (change g (granule_at memory g))) (sym (get_or-range_with_len 0 (length memory) k d within)) (kept (0 + k) (granule_at memory (0 + k)) (each (0 + k) no_granule (omega arith))))
+    subst (λ g. IsGranule (change g (granule_at memory g))) (sym (get_or-range_with_len 0 (length memory) k d within))
+    (kept (0 + k) (granule_at memory (0 + k)) (each (0 + k) no_granule (omega arith))))
 
 pub IsMemory-tagged : (first count tag : ℕ) (memory : List Granule) → tag < 16 → IsMemory memory → IsMemory (tagged first count tag memory)
 unfolding tagged
@@ -42,18 +46,23 @@ IsMemory-tagged first count tag memory below is =
       least = subst (λ n. 64 ≤ n) (sym long) is.least;
       most = subst (λ n. n ≤ 262144) (sym long) is.most;
       granules = IsGranule-each (λ g granule. cond (is_among first count g) (record granule { tag = tag }) granule) memory
-          (λ g x granule. cond_both (is_among first count g) (record x { tag = tag }) x IsGranule (λ _. record { tag = below; sixteen = granule.sixteen; bytes = granule.bytes }) (λ _. granule)) is.granules;
+          (λ g x granule. cond_both (is_among first count g) (record x { tag = tag }) x IsGranule
+          (λ _. record { tag = below; sixteen = granule.sixteen; bytes = granule.bytes }) (λ _. granule)) is.granules;
     }
 
-bytes_after-below : (i : ℕ) (new : List ℕ) (g : ℕ) (bytes : List ℕ) → All (λ b. b < 256) new → All (λ b. b < 256) bytes → All (λ b. b < 256) (bytes_after i new g bytes)
+bytes_after-below : (i : ℕ) (new : List ℕ) (g : ℕ) (bytes : List ℕ) → All (λ b. b < 256) new → All (λ b. b < 256) bytes →
+    All (λ b. b < 256) (bytes_after i new g bytes)
 bytes_after-below i new g bytes new_below below =
     All-map (λ b. b < 256) (λ k. byte_after i new (16 * g + k) (slice_index bytes k)) (range_with_len 0 (length bytes))
     (λ k d h. each (get_or (range_with_len 0 (length bytes)) k d))
   where
     each : (k : ℕ) → byte_after i new (16 * g + k) (slice_index bytes k) < 256
-    each k = cond_both (is_among i (length new) (16 * g + k)) (slice_index new (16 * g + k - i)) (slice_index bytes k) (λ b. b < 256) (λ _. byte_below new (16 * g + k - i) new_below) (λ _. byte_below bytes k below)
+    each k =
+        cond_both (is_among i (length new) (16 * g + k)) (slice_index new (16 * g + k - i)) (slice_index bytes k) (λ b. b < 256)
+        (λ _. byte_below new (16 * g + k - i) new_below) (λ _. byte_below bytes k below)
 
-pub IsMemory-written : (i : ℕ) (new : List ℕ) (memory : List Granule) → All (λ b. b < 256) new → IsMemory memory → IsMemory (written i new memory)
+pub IsMemory-written : (i : ℕ) (new : List ℕ) (memory : List Granule) → All (λ b. b < 256) new → IsMemory memory →
+    IsMemory (written i new memory)
 unfolding written
 IsMemory-written i new memory bytes is =
     let long = length-each_granule (λ g granule. record granule { bytes = bytes_after i new g granule.bytes }) memory in
@@ -61,5 +70,9 @@ IsMemory-written i new memory bytes is =
       least = subst (λ n. 64 ≤ n) (sym long) is.least;
       most = subst (λ n. n ≤ 262144) (sym long) is.most;
       granules = IsGranule-each (λ g granule. record granule { bytes = bytes_after i new g granule.bytes }) memory
-          (λ g x granule. record { tag = granule.tag; sixteen = length-bytes_after i new g x.bytes ∙ granule.sixteen; bytes = bytes_after-below i new g x.bytes bytes granule.bytes }) is.granules;
+          (λ g x granule. record {
+            tag = granule.tag;
+            sixteen = length-bytes_after i new g x.bytes ∙ granule.sixteen;
+            bytes = bytes_after-below i new g x.bytes bytes granule.bytes;
+          }) is.granules;
     }

@@ -9,18 +9,22 @@ pub length-each_granule : (change : ℕ → Granule → Granule) (memory : List 
 unfolding each_granule
 length-each_granule change memory = length-map-range_with_len (λ g. change g (granule_at memory g)) 0 (length memory)
 
-pub granule_at-each_granule : (change : ℕ → Granule → Granule) (memory : List Granule) (g : ℕ) → g < length memory → granule_at (each_granule change memory) g ≡ change g (granule_at memory g)
+pub granule_at-each_granule : (change : ℕ → Granule → Granule) (memory : List Granule) (g : ℕ) → g < length memory →
+    granule_at (each_granule change memory) g ≡ change g (granule_at memory g)
 unfolding each_granule
-granule_at-each_granule change memory g h = get_or-map-range_with_len (λ g. change g (granule_at memory g)) 0 (length memory) g g no_granule h (omega arith)
+granule_at-each_granule change memory g h =
+    get_or-map-range_with_len (λ g. change g (granule_at memory g)) 0 (length memory) g g no_granule h (omega arith)
 
 pub tag_at_past : (memory : List Granule) (g : ℕ) → length memory ≤ g → tag_at memory g ≡ 0
 tag_at_past memory g h = ap (λ (x : Granule). x.tag) (get_or_past memory g no_granule h)
 
 -- a change that leaves the tag of granule g leaves it
-tag_at_same : (change : ℕ → Granule → Granule) (memory : List Granule) (g : ℕ) → (change g (granule_at memory g)).tag ≡ tag_at memory g → tag_at (each_granule change memory) g ≡ tag_at memory g
+tag_at_same : (change : ℕ → Granule → Granule) (memory : List Granule) (g : ℕ) → (change g (granule_at memory g)).tag ≡ tag_at memory g →
+    tag_at (each_granule change memory) g ≡ tag_at memory g
 tag_at_same change memory g e = elim (cases_lt g (length memory)) [
   | inl within ↦ ap (λ (x : Granule). x.tag) (granule_at-each_granule change memory g within) ∙ e
-  | inr past ↦ tag_at_past (each_granule change memory) g (subst (λ n. n ≤ g) (sym (length-each_granule change memory)) past) ∙ sym (tag_at_past memory g past)
+  | inr past ↦ tag_at_past (each_granule change memory) g (subst (λ n. n ≤ g) (sym (length-each_granule change memory)) past)
+      ∙ sym (tag_at_past memory g past)
 ]
 
 pub length-tagged : (first count tag : ℕ) (memory : List Granule) → length (tagged first count tag memory) ≡ length memory
@@ -35,17 +39,22 @@ pub tag_at-written : (i : ℕ) (new : List ℕ) (memory : List Granule) (g : ℕ
 unfolding written
 tag_at-written i new memory g = tag_at_same (λ g granule. record granule { bytes = bytes_after i new g granule.bytes }) memory g refl
 
-pub tag_at-tagged_inside : (first count tag : ℕ) (memory : List Granule) (g : ℕ) → first ≤ g → g < first + count → g < length memory → tag_at (tagged first count tag memory) g ≡ tag
+pub tag_at-tagged_inside : (first count tag : ℕ) (memory : List Granule) (g : ℕ) → first ≤ g → g < first + count → g < length memory →
+    tag_at (tagged first count tag memory) g ≡ tag
 unfolding tagged
 tag_at-tagged_inside first count tag memory g above below within =
-    ap (λ (x : Granule). x.tag) (granule_at-each_granule _ memory g within ∙ cond-true (is_among first count g) (record (granule_at memory g) { tag = tag }) (granule_at memory g)
+    ap (λ (x : Granule). x.tag)
+    (granule_at-each_granule _ memory g within
+    ∙ cond-true (is_among first count g) (record (granule_at memory g) { tag = tag }) (granule_at memory g)
     (and_from (leb first g) (ltb g (first + count)) (le-leb _ _ above) (lt-ltb _ _ below)))
 
-pub tag_at-tagged_outside : (first count tag : ℕ) (memory : List Granule) (g : ℕ) → (g < first) ⊎ (first + count ≤ g) → tag_at (tagged first count tag memory) g ≡ tag_at memory g
+pub tag_at-tagged_outside : (first count tag : ℕ) (memory : List Granule) (g : ℕ) → (g < first) ⊎ (first + count ≤ g) →
+    tag_at (tagged first count tag memory) g ≡ tag_at memory g
 unfolding tagged
 tag_at-tagged_outside first count tag memory g outside =
     tag_at_same (λ g granule. cond (is_among first count g) (record granule { tag = tag }) granule) memory g
-    (ap (λ (x : Granule). x.tag) (cond-false (is_among first count g) (record (granule_at memory g) { tag = tag }) (granule_at memory g) (not_among outside)))
+    (ap (λ (x : Granule). x.tag)
+    (cond-false (is_among first count g) (record (granule_at memory g) { tag = tag }) (granule_at memory g) (not_among outside)))
   where
     not_among : (g < first) ⊎ (first + count ≤ g) → is_among first count g ≡ false
     not_among (inl h) = and_left _ _ (lt-leb _ _ h)

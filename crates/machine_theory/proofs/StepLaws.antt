@@ -21,7 +21,8 @@ tags_after_at : (tag j d : ℕ) → j < 16 → get_or (tags_after tag) j d ≡ (
 tags_after_at tag j d h = get_or-map-range_with_len (λ k. (tag + k) % 16) 1 16 j (1 + j) d h refl
 
 -- the tags from a later one on are those from an earlier one, turned
-tags_after_turned : (tag j : ℕ) → j < 16 → tags_after ((tag + (1 + j)) % 16) ≡ drop (suc j) (tags_after tag) ++ take (suc j) (tags_after tag)
+tags_after_turned : (tag j : ℕ) → j < 16 →
+    tags_after ((tag + (1 + j)) % 16) ≡ drop (suc j) (tags_after tag) ++ take (suc j) (tags_after tag)
 tags_after_turned tag j h =
     tags_after_from_zero ((tag + (1 + j)) % 16)
     ∙ sym (fill_by_all (λ k. ((tag + (1 + j)) % 16 + (1 + k)) % 16) (drop (suc j) (tags_after tag) ++ take (suc j) (tags_after tag)) 16 0
@@ -29,8 +30,10 @@ tags_after_turned tag j h =
     (λ k below. elim (cases_lt k (15 - j)) [
       | inl front ↦ get_or_append_left (drop (suc j) (tags_after tag)) (take (suc j) (tags_after tag)) 0 k (omega (arith, drop_long))
           ∙ get_or-drop (suc j) (tags_after tag) k 0 ∙ tags_after_at tag (suc j + k) 0 (omega arith) ∙ omega arith
-      | inr back ↦ get_or-append_right (drop (suc j) (tags_after tag)) (take (suc j) (tags_after tag)) (15 - j) k 0 (drop_long ∙ omega arith) back
-          ∙ get_or-take (suc j) (tags_after tag) (k - (15 - j)) 0 (omega arith) ∙ tags_after_at tag (k - (15 - j)) 0 (omega arith) ∙ omega arith
+      | inr back ↦ get_or-append_right (drop (suc j) (tags_after tag)) (take (suc j) (tags_after tag)) (15 - j) k 0
+          (drop_long ∙ omega arith) back
+          ∙ get_or-take (suc j) (tags_after tag) (k - (15 - j)) 0 (omega arith) ∙ tags_after_at tag (k - (15 - j)) 0 (omega arith)
+          ∙ omega arith
     ]))
   where
     drop_long : length (drop (suc j) (tags_after tag)) ≡ 15 - j
@@ -60,7 +63,8 @@ stands_at p (x ∷ xs) i h = by_head (p x) refl i h (stands_at p xs)
     without_head : (ys : List ℕ) → p x ≡ false → filter p (x ∷ ys) ≡ filter p ys
     without_head ys e = cond-false (p x) (x ∷ filter p ys) (filter p ys) e
 
-    by_head : (b : Bool) → p x ≡ b → (i : ℕ) → i < length (filter p (x ∷ xs)) → ((i : ℕ) → i < length (filter p xs) → StandsAt p xs i) → StandsAt p (x ∷ xs) i
+    by_head : (b : Bool) → p x ≡ b → (i : ℕ) → i < length (filter p (x ∷ xs)) → ((i : ℕ) → i < length (filter p xs) → StandsAt p xs i) →
+        StandsAt p (x ∷ xs) i
     by_head true e zero h rest = record {
       place = 0;
       within = omega arith;
@@ -89,12 +93,14 @@ stands_at p (x ∷ xs) i h = by_head (p x) refl i h (stands_at p xs)
 
 -- the allowed tags after an allowed tag are those after an earlier one, turned
 allowed_turned : (tag exclude i : ℕ) → i < length (allowed_after tag exclude) →
-    allowed_after (get_or (allowed_after tag exclude) i 0) exclude ≡ drop (suc i) (allowed_after tag exclude) ++ take (suc i) (allowed_after tag exclude)
+    allowed_after (get_or (allowed_after tag exclude) i 0) exclude ≡ drop (suc i) (allowed_after tag exclude)
+    ++ take (suc i) (allowed_after tag exclude)
 unfolding allowed_after
 allowed_turned tag exclude i h =
     let r = stands_at (λ t. not (is_excluded exclude t)) (tags_after tag) i h in
     let place_below : r.place < 16 = r.within in
-    let tag_is : get_or (filter (λ t. not (is_excluded exclude t)) (tags_after tag)) i 0 ≡ (tag + (1 + r.place)) % 16 = sym r.is ∙ tags_after_at tag r.place 0 place_below in
+    let tag_is : get_or (filter (λ t. not (is_excluded exclude t)) (tags_after tag)) i 0 ≡ (tag + (1 + r.place)) % 16 =
+    sym r.is ∙ tags_after_at tag r.place 0 place_below in
     ap (λ t. filter (λ t. not (is_excluded exclude t)) (tags_after t)) tag_is
     ∙ ap (filter (λ t. not (is_excluded exclude t))) (tags_after_turned tag r.place place_below)
     ∙ filter-append (λ t. not (is_excluded exclude t)) (drop (suc r.place) (tags_after tag)) (take (suc r.place) (tags_after tag))
@@ -102,15 +108,18 @@ allowed_turned tag exclude i h =
 
 -- the allowed tag after the i-th one is the one after it, and the first after the last
 next_in_turn : (tag exclude i : ℕ) → i < length (allowed_after tag exclude) →
-    next_allowed exclude (get_or (allowed_after tag exclude) i 0) ≡ get_or (allowed_after tag exclude) ((i + 1) % length (allowed_after tag exclude)) 0
+    next_allowed exclude (get_or (allowed_after tag exclude) i 0)
+    ≡ get_or (allowed_after tag exclude) ((i + 1) % length (allowed_after tag exclude)) 0
 next_in_turn tag exclude i h =
     ap (λ ys. get_or ys 0 0) (allowed_turned tag exclude i h) ∙ at (allowed_after tag exclude) h
   where
     at : (l : List ℕ) → i < length l → get_or (drop (suc i) l ++ take (suc i) l) 0 0 ≡ get_or l ((i + 1) % length l) 0
     at l h = elim (cases_lt (suc i) (length l)) [
-      | inl more ↦ get_or_append_left (drop (suc i) l) (take (suc i) l) 0 0 (omega (arith, length-drop (suc i) l)) ∙ get_or-drop (suc i) l 0 0
+      | inl more ↦ get_or_append_left (drop (suc i) l) (take (suc i) l) 0 0 (omega (arith, length-drop (suc i) l))
+          ∙ get_or-drop (suc i) l 0 0
           ∙ ap (λ k. get_or l k 0) (omega arith ∙ sym (mod-eq_of_lt {n = i + 1} {m = length l} (omega arith)))
-      | inr last ↦ get_or-append_right (drop (suc i) l) (take (suc i) l) 0 0 0 (length-drop (suc i) l ∙ omega arith) (omega arith) ∙ get_or-take (suc i) l 0 0 (omega arith)
+      | inr last ↦ get_or-append_right (drop (suc i) l) (take (suc i) l) 0 0 0 (length-drop (suc i) l ∙ omega arith) (omega arith)
+          ∙ get_or-take (suc i) l 0 0 (omega arith)
           ∙ ap (λ k. get_or l k 0) (sym (whole l i last h))
     ]
       where
@@ -123,9 +132,12 @@ next_in_turn tag exclude i h =
 pub next_allowed_here : (tag exclude : ℕ) → is_excluded exclude ((tag + 1) % 16) ≡ false → next_allowed exclude tag ≡ (tag + 1) % 16
 unfolding allowed_after
 next_allowed_here tag exclude e =
-    ap (λ b. get_or (cond (not b) ((tag + 1) % 16 ∷ filter (λ t. not (is_excluded exclude t)) (map (λ k. (tag + k) % 16) (range_with_len 2 15))) (filter (λ t. not (is_excluded exclude t)) (map (λ k. (tag + k) % 16) (range_with_len 2 15)))) 0 0) e
+    ap (λ b. get_or (cond (not b)
+    ((tag + 1) % 16 ∷ filter (λ t. not (is_excluded exclude t)) (map (λ k. (tag + k) % 16) (range_with_len 2 15)))
+    (filter (λ t. not (is_excluded exclude t)) (map (λ k. (tag + k) % 16) (range_with_len 2 15)))) 0 0) e
 
-pub next_allowed_on : (tag exclude : ℕ) → is_excluded exclude ((tag + 1) % 16) ≡ true → next_allowed exclude tag ≡ next_allowed exclude ((tag + 1) % 16)
+pub next_allowed_on : (tag exclude : ℕ) → is_excluded exclude ((tag + 1) % 16) ≡ true →
+    next_allowed exclude tag ≡ next_allowed exclude ((tag + 1) % 16)
 unfolding allowed_after
 next_allowed_on tag exclude e =
     ap (λ ys. get_or ys 0 0)
@@ -142,37 +154,44 @@ next_allowed_on tag exclude e =
 pub choose_zero_free : (tag exclude other : ℕ) → tag < 16 → is_excluded exclude tag ≡ false → choose_tag tag 0 exclude ≡ tag
 unfolding choose_tag
 choose_zero_free tag exclude other below free =
-    cond-false (length (allowed_after tag exclude) == 0) _ _ (ne_eqb _ _ (λ e. omega (arith, allowed_some tag exclude tag below below free)))
+    cond-false (length (allowed_after tag exclude) == 0) _ _
+    (ne_eqb _ _ (λ e. omega (arith, allowed_some tag exclude tag below below free)))
     ∙ cond-false (is_excluded exclude tag) (slice_index (allowed_after tag exclude) 0) tag free
 
 pub choose_zero_excluded : (tag exclude : ℕ) → is_excluded exclude tag ≡ true → choose_tag tag 0 exclude ≡ next_allowed exclude tag
 unfolding choose_tag
 choose_zero_excluded tag exclude out = elim (cases_Bool (length (allowed_after tag exclude) == 0)) [
-  | inl none ↦ cond-true (length (allowed_after tag exclude) == 0) _ _ none ∙ sym (get_or_past (allowed_after tag exclude) 0 0 (omega (arith, eqb-true _ _ none)))
-  | inr some ↦ cond-false (length (allowed_after tag exclude) == 0) _ _ some ∙ cond-true (is_excluded exclude tag) (slice_index (allowed_after tag exclude) 0) tag out
+  | inl none ↦ cond-true (length (allowed_after tag exclude) == 0) _ _ none
+      ∙ sym (get_or_past (allowed_after tag exclude) 0 0 (omega (arith, eqb-true _ _ none)))
+  | inr some ↦ cond-false (length (allowed_after tag exclude) == 0) _ _ some
+      ∙ cond-true (is_excluded exclude tag) (slice_index (allowed_after tag exclude) 0) tag out
 ]
 
 -- offset 1, and one more
 pub choose_one : (tag exclude : ℕ) → choose_tag tag 1 exclude ≡ next_allowed exclude tag
 unfolding choose_tag
 choose_one tag exclude = elim (cases_Bool (length (allowed_after tag exclude) == 0)) [
-  | inl none ↦ cond-true (length (allowed_after tag exclude) == 0) _ _ none ∙ sym (get_or_past (allowed_after tag exclude) 0 0 (omega (arith, eqb-true _ _ none)))
+  | inl none ↦ cond-true (length (allowed_after tag exclude) == 0) _ _ none
+      ∙ sym (get_or_past (allowed_after tag exclude) 0 0 (omega (arith, eqb-true _ _ none)))
   | inr some ↦ let ne : length (allowed_after tag exclude) ≡ 0 → ⊥ = eqb-false _ _ some in
       cond-false (length (allowed_after tag exclude) == 0) _ _ some
       ∙ ap (slice_index (allowed_after tag exclude)) (mod-eq_of_lt {n = 0} {m = length (allowed_after tag exclude)} (omega arith))
 ]
 
-choose_at : (tag offset exclude : ℕ) → 0 < length (allowed_after tag exclude) → choose_tag tag (offset + 1) exclude ≡ get_or (allowed_after tag exclude) (offset % length (allowed_after tag exclude)) 0
+choose_at : (tag offset exclude : ℕ) → 0 < length (allowed_after tag exclude) →
+    choose_tag tag (offset + 1) exclude ≡ get_or (allowed_after tag exclude) (offset % length (allowed_after tag exclude)) 0
 unfolding choose_tag
 choose_at tag offset exclude some =
     cond-false (length (allowed_after tag exclude) == 0) _ _ (ne_eqb _ _ (λ e. omega arith))
     ∙ cond-false (offset + 1 == 0) _ _ (ne_eqb _ _ (λ e. omega arith))
     ∙ ap (λ k. get_or (allowed_after tag exclude) (k % length (allowed_after tag exclude)) 0) (omega arith)
 
-pub choose_more : (tag offset exclude other : ℕ) → tag < 16 → other < 16 → is_excluded exclude other ≡ false → choose_tag tag (offset + 2) exclude ≡ next_allowed exclude (choose_tag tag (offset + 1) exclude)
+pub choose_more : (tag offset exclude other : ℕ) → tag < 16 → other < 16 → is_excluded exclude other ≡ false →
+    choose_tag tag (offset + 2) exclude ≡ next_allowed exclude (choose_tag tag (offset + 1) exclude)
 choose_more tag offset exclude other below other_below free =
     let some : 0 < length (allowed_after tag exclude) = allowed_some tag exclude other below other_below free in
-    let within : offset % length (allowed_after tag exclude) < length (allowed_after tag exclude) = mod_below offset (length (allowed_after tag exclude)) some in
+    let within : offset % length (allowed_after tag exclude) < length (allowed_after tag exclude) =
+    mod_below offset (length (allowed_after tag exclude)) some in
     ap (λ k. choose_tag tag k exclude) (omega arith)
     ∙ choose_at tag (offset + 1) exclude some
     ∙ ap (λ k. get_or (allowed_after tag exclude) k 0) (sym (mod-add-mod offset (length (allowed_after tag exclude)) 1))

@@ -13,7 +13,8 @@ use Rattle.machine_theory.specs.Seed.{next_offset}
 use Rattle.machine_theory.specs.Instructions.{drawn_tag}
 
 -- a filter that passes an element keeps at least one
-filter_keeps : {X : Type 0} (p : X → Bool) (xs : List X) (i : ℕ) (d : X) → i < length xs → p (get_or xs i d) ≡ true → 0 < length (filter p xs)
+filter_keeps : {X : Type 0} (p : X → Bool) (xs : List X) (i : ℕ) (d : X) → i < length xs → p (get_or xs i d) ≡ true →
+    0 < length (filter p xs)
 filter_keeps p [] i d h e = absurd (omega arith)
 filter_keeps p (x ∷ xs) zero d h e = subst (λ b. 0 < length (cond b (x ∷ filter p xs) (filter p xs))) (sym e) (omega arith)
 filter_keeps p (x ∷ xs) (suc i) d h e =
@@ -29,7 +30,8 @@ unfolding allowed_after
 allowed_each tag exclude k d h =
     let test : ℕ → Bool = λ t. not (is_excluded exclude t) in
     let low : All (λ t. t < 16) (filter test (tags_after tag)) =
-    All-filter test (λ t. t < 16) (tags_after tag) (All-map (λ t. t < 16) (λ k. (tag + k) % 16) (range_with_len 1 16) (λ i e l. mod_below _ 16 (omega arith))) in
+    All-filter test (λ t. t < 16) (tags_after tag)
+    (All-map (λ t. t < 16) (λ k. (tag + k) % 16) (range_with_len 1 16) (λ i e l. mod_below _ 16 (omega arith))) in
     record {
       below = low k d h;
       free = not-true _ (filter_passes test (tags_after tag) k d h);
@@ -50,7 +52,8 @@ allowed_some tag exclude t in_range t_in_range free =
     not_of : {b : Bool} → b ≡ false → not b ≡ true
     not_of e = ap not e
 
-pub choose_tag_allowed : (tag offset exclude t : ℕ) → tag < 16 → t < 16 → is_excluded exclude t ≡ false → IsAllowed exclude (choose_tag tag offset exclude)
+pub choose_tag_allowed : (tag offset exclude t : ℕ) → tag < 16 → t < 16 → is_excluded exclude t ≡ false →
+    IsAllowed exclude (choose_tag tag offset exclude)
 unfolding choose_tag
 choose_tag_allowed tag offset exclude t in_range t_in_range free =
     let some : 0 < length (allowed_after tag exclude) = allowed_some tag exclude t in_range t_in_range free in
@@ -61,19 +64,25 @@ choose_tag_allowed tag offset exclude t in_range t_in_range free =
     (λ _. at_tag tag exclude in_range (each 0 0 some))
     (λ _. each ((offset - 1) % length (allowed_after tag exclude)) 0 (mod_below _ _ some)))
   where
-    at_tag : (tag exclude : ℕ) → tag < 16 → IsAllowed exclude (get_or (allowed_after tag exclude) 0 0) → IsAllowed exclude (cond (is_excluded exclude tag) (get_or (allowed_after tag exclude) 0 0) tag)
-    at_tag tag exclude in_range first = cond_both (is_excluded exclude tag) _ _ (IsAllowed exclude) (λ _. first) (λ e. record { below = in_range; free = e })
+    at_tag : (tag exclude : ℕ) → tag < 16 → IsAllowed exclude (get_or (allowed_after tag exclude) 0 0) →
+        IsAllowed exclude (cond (is_excluded exclude tag) (get_or (allowed_after tag exclude) 0 0) tag)
+    at_tag tag exclude in_range first =
+        cond_both (is_excluded exclude tag) _ _ (IsAllowed exclude) (λ _. first) (λ e. record { below = in_range; free = e })
 
 -- a filter that passes no element keeps none
 filter_none : {X : Type 0} (p : X → Bool) (xs : List X) → All (λ x. p x ≡ false) xs → filter p xs ≡ []
 filter_none p [] none = refl
-filter_none p (x ∷ xs) none = cond-false (p x) (x ∷ filter p xs) (filter p xs) (none 0 x (omega arith)) ∙ filter_none p xs (λ k d h. none (suc k) d (omega arith))
+filter_none p (x ∷ xs) none =
+    cond-false (p x) (x ∷ filter p xs) (filter p xs) (none 0 x (omega arith)) ∙ filter_none p xs (λ k d h. none (suc k) d (omega arith))
 
-pub choose_tag_none : (tag offset exclude : ℕ) → ((other : ℕ) → other < 16 → is_excluded exclude other ≡ true) → choose_tag tag offset exclude ≡ 0
+pub choose_tag_none : (tag offset exclude : ℕ) → ((other : ℕ) → other < 16 → is_excluded exclude other ≡ true) →
+    choose_tag tag offset exclude ≡ 0
 unfolding choose_tag allowed_after
 choose_tag_none tag offset exclude each =
     let none : filter (λ t. not (is_excluded exclude t)) (tags_after tag) ≡ [] =
-    filter_none (λ t. not (is_excluded exclude t)) (tags_after tag) (All-map (λ t. not (is_excluded exclude t) ≡ false) (λ k. (tag + k) % 16) (range_with_len 1 16) (λ i d h. ap not (each _ (mod_below _ 16 (omega arith))))) in
+    filter_none (λ t. not (is_excluded exclude t)) (tags_after tag)
+    (All-map (λ t. not (is_excluded exclude t) ≡ false) (λ k. (tag + k) % 16) (range_with_len 1 16)
+    (λ i d h. ap not (each _ (mod_below _ 16 (omega arith))))) in
     cond-true (length (filter (λ t. not (is_excluded exclude t)) (tags_after tag)) == 0) _ _ (ap (λ ts. length ts == 0) none)
 
 -- ---- masks
@@ -111,7 +120,8 @@ odd_from t h e =
 
 pub even_from : (t : ℕ) → t < 16 → is_excluded 0xAAAB t ≡ false → (t % 2 ≡ 0) × (0 < t)
 even_from t h e =
-    let table : is_excluded 0xAAAB t ≡ ((t % 2 == 1) || (t == 0)) = agree_below_at (λ t. is_excluded 0xAAAB t) (λ t. (t % 2 == 1) || (t == 0)) 16 t refl h in
+    let table : is_excluded 0xAAAB t ≡ ((t % 2 == 1) || (t == 0)) =
+    agree_below_at (λ t. is_excluded 0xAAAB t) (λ t. (t % 2 == 1) || (t == 0)) 16 t refl h in
     let parts = or_parts _ _ (sym table ∙ e) in
     let odd : t % 2 ≡ 1 → ⊥ = eqb-false _ _ parts.0 in
     let none : t ≡ 0 → ⊥ = eqb-false _ _ parts.1 in
@@ -137,7 +147,8 @@ parity_mask : ℕ → ℕ → ℕ
 parity_mask mask last = bit_or (bit_or mask (2 ^ last)) 1
 
 -- where it leaves two tags of the other parity, the chosen one is not excluded by any part of it
-chosen : (mask x y : ℕ) (tag offset last : ℕ) → tag < 16 → x ≢ y → x < 16 → y < 16 → is_excluded mask x ≡ false → is_excluded mask y ≡ false → is_excluded 1 x ≡ false → is_excluded 1 y ≡ false →
+chosen : (mask x y : ℕ) (tag offset last : ℕ) → tag < 16 → x ≢ y → x < 16 → y < 16 → is_excluded mask x ≡ false →
+    is_excluded mask y ≡ false → is_excluded 1 x ≡ false → is_excluded 1 y ≡ false →
     IsAllowed mask (choose_tag tag offset (parity_mask mask last)) × (choose_tag tag offset (parity_mask mask last) ≢ last)
 unfolding parity_mask
 chosen mask x y tag offset last in_range apart x_below y_below x_free y_free x_some y_some =
@@ -146,23 +157,28 @@ chosen mask x y tag offset last in_range apart x_below y_below x_free y_free x_s
     let free : is_excluded mask left.0 ≡ false = either (λ t. is_excluded mask t ≡ false) left.0 left.1 x_free y_free in
     let some : is_excluded 1 left.0 ≡ false = either (λ t. is_excluded 1 t ≡ false) left.0 left.1 x_some y_some in
     let a = choose_tag_allowed tag offset (bit_or (bit_or mask (2 ^ last)) 1) left.0 in_range below
-    (is_excluded-or (bit_or mask (2 ^ last)) 1 left.0 (is_excluded-or mask (2 ^ last) left.0 free (is_excluded-one last left.0 left.2)) some) in
-    let outer = is_excluded-or_left (bit_or mask (2 ^ last)) 1 _ a.free in
-    (record { below = a.below; free = is_excluded-or_left mask (2 ^ last) _ outer }, not_the_one last _ (is_excluded-or_right mask (2 ^ last) _ outer))
+    (is_excluded-or (bit_or mask (2 ^ last)) 1 left.0 (is_excluded-or mask (2 ^ last) left.0 free (is_excluded-one last left.0 left.2))
+    some) in
+    let outer = is_excluded-or_left (bit_or mask (2 ^ last)) 1 _ a.free in (
+      record { below = a.below; free = is_excluded-or_left mask (2 ^ last) _ outer },
+      not_the_one last _ (is_excluded-or_right mask (2 ^ last) _ outer),
+    )
   where
     either : (P : ℕ → Type 0) (t : ℕ) → (t ≡ x) ⊎ (t ≡ y) → P x → P y → P t
     either P t (inl e) px py = subst P (sym e) px
     either P t (inr e) px py = subst P (sym e) py
 
 pub odd_drawn : (tag seed last : ℕ) → tag < 16 →
-    (drawn_tag tag seed (bit_or 0x5555 (2 ^ last)) < 16) × (drawn_tag tag seed (bit_or 0x5555 (2 ^ last)) % 2 ≡ 1) × (drawn_tag tag seed (bit_or 0x5555 (2 ^ last)) ≢ last)
+    (drawn_tag tag seed (bit_or 0x5555 (2 ^ last)) < 16) × (drawn_tag tag seed (bit_or 0x5555 (2 ^ last)) % 2 ≡ 1)
+    × (drawn_tag tag seed (bit_or 0x5555 (2 ^ last)) ≢ last)
 unfolding drawn_tag parity_mask
 odd_drawn tag seed last in_range =
     let c = chosen 0x5555 1 3 tag (next_offset seed) last in_range (omega arith) (omega arith) (omega arith) refl refl refl refl in
     (c.0.below, odd_from _ c.0.below c.0.free, c.1)
 
 pub even_drawn : (tag seed last : ℕ) → tag < 16 →
-    (drawn_tag tag seed (bit_or 0xAAAB (2 ^ last)) < 16) × (drawn_tag tag seed (bit_or 0xAAAB (2 ^ last)) % 2 ≡ 0) × (0 < drawn_tag tag seed (bit_or 0xAAAB (2 ^ last))) × (drawn_tag tag seed (bit_or 0xAAAB (2 ^ last)) ≢ last)
+    (drawn_tag tag seed (bit_or 0xAAAB (2 ^ last)) < 16) × (drawn_tag tag seed (bit_or 0xAAAB (2 ^ last)) % 2 ≡ 0)
+    × (0 < drawn_tag tag seed (bit_or 0xAAAB (2 ^ last))) × (drawn_tag tag seed (bit_or 0xAAAB (2 ^ last)) ≢ last)
 unfolding drawn_tag parity_mask
 even_drawn tag seed last in_range =
     let c = chosen 0xAAAB 2 4 tag (next_offset seed) last in_range (omega arith) (omega arith) (omega arith) refl refl refl refl in

@@ -38,7 +38,8 @@ draws_once_round = refl
 
 -- tags that are drawn in a row among those of one parity and but one, as a heap draws them
 tags_in_a_row : map (λ (d : ℕ × ℕ × ℕ). irg_tag (machine (seed_after d.0 1) d.1) d.2)
-    ((0, 0, 0x5555) ∷ (1, 1, 0xAAAB) ∷ (2, 2, 0x5555) ∷ (3, 1, 0x5557) ∷ (4, 13, 0xAAAF) ∷ (5, 14, 0xAAAB) ∷ (6, 8, 0x5557) ∷ (7, 15, 0x5557) ∷ (8, 3, 0x5555) ∷ [])
+    ((0, 0, 0x5555) ∷ (1, 1, 0xAAAB) ∷ (2, 2, 0x5555) ∷ (3, 1, 0x5557) ∷ (4, 13, 0xAAAF) ∷ (5, 14, 0xAAAB) ∷ (6, 8, 0x5557)
+    ∷ (7, 15, 0x5557) ∷ (8, 3, 0x5555) ∷ [])
     ≡ 1 ∷ 2 ∷ 1 ∷ 13 ∷ 14 ∷ 8 ∷ 15 ∷ 3 ∷ 9 ∷ []
 unfolding machine drawn_tag choose_tag allowed_after next_offset next_seed
 tags_in_a_row = refl

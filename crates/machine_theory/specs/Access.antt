@@ -11,11 +11,13 @@ use Rattle.machine_theory.specs.Memory.{Granule, tag_at, bytes_at, written}
 -- whether each byte of the access lies in the region of this many granules, and bits 63 to 60 of the address are 0
 abbrev pub is_mapped : ℕ → ℕ → ℕ → Bool
 is_mapped granules address len =
-    nat_lt address (2 ^ 60) && nat_le region_start (place_of address) && nat_le (place_of address + len) (region_start + GRANULE_BYTES * granules)
+    nat_lt address (2 ^ 60) && nat_le region_start (place_of address)
+    && nat_le (place_of address + len) (region_start + GRANULE_BYTES * granules)
 
 -- the granules that a mapped access of one byte or more touches: from the one of its first byte to the one of its last
 abbrev pub touched : ℕ → ℕ → List ℕ
-touched address len = range_with_len (granule_of (place_of address)) (granule_of (place_of address + len - 1) + 1 - granule_of (place_of address))
+touched address len =
+    range_with_len (granule_of (place_of address)) (granule_of (place_of address + len - 1) + 1 - granule_of (place_of address))
 
 -- the first of these granules whose tag is not the pointer's, as a fault
 abbrev pub tag_fault : List Granule → ℕ → List ℕ → Option Fault

@@ -49,14 +49,16 @@ gmi xn xm = bit_or xm (2 ^ logical_tag xn)
 
 unfoldable pub ldg : List Granule → ℕ → ℕ → Result ℕ Fault
 ldg memory xt xn =
-    if is_mapped (length memory) (aligned xn) GRANULE_BYTES then Ok (with_tag xt (tag_at memory (granule_of (place_of xn)))) else Err Unmapped
+    if is_mapped (length memory) (aligned xn) GRANULE_BYTES then Ok (with_tag xt (tag_at memory (granule_of (place_of xn)))) else Err
+    Unmapped
 
 -- ---- STG, ST2G, STZG Xt, [Xn]: Xt's tag to granules from Xn on
 
 -- the fault of a store of tags to `count` granules, or None where it succeeds
 unfoldable pub tag_store_fault : List Granule → ℕ → ℕ → Option Fault
 tag_store_fault memory count xn =
-    if xn % GRANULE_BYTES == 0 then (if is_mapped (length memory) xn (GRANULE_BYTES * count) then None else Some Unmapped) else Some Alignment
+    if xn % GRANULE_BYTES == 0 then (if is_mapped (length memory) xn (GRANULE_BYTES * count) then None else Some Unmapped) else Some
+    Alignment
 
 -- the memory that STG leaves where it succeeds: one granule has the tag
 abbrev pub stg : List Granule → ℕ → ℕ → List Granule

@@ -14,7 +14,8 @@ all_read all input None bytes end = absurd bytes
 all_read all input (Some rest) bytes end = bytes ∙ ap (λ (t : List ℕ). input ++ t) end ∙ append-nil input
 
 -- so an answer to what was read is one to the input
-answers_input : (answers : List ℕ → Result Answer InputFault → Type 0) (all input : List ℕ) (after : Option (List ℕ)) (answer : Result Answer InputFault)
+answers_input : (answers : List ℕ → Result Answer InputFault → Type 0) (all input : List ℕ) (after : Option (List ℕ))
+    (answer : Result Answer InputFault)
     → Consumes (Some all) after input → IsAtEnd after → length input ≤ most_input → answers input answer → AnswersInput answers all answer
 answers_input answers all input after answer bytes end short given =
     let same = all_read all input after bytes end in
@@ -22,7 +23,8 @@ answers_input answers all input after answer bytes end short given =
     rw fits (subst (λ (text : List ℕ). answers text answer) (sym same) given)
 
 -- a write failed: the sink took a prefix of the answer's text
-pub write_failed : (answers : List ℕ → Result Answer InputFault → Type 0) (source source' before after : Option (List ℕ)) (input text : List ℕ) (status : Status)
+pub write_failed : (answers : List ℕ → Result Answer InputFault → Type 0) (source source' before after : Option (List ℕ))
+    (input text : List ℕ) (status : Status)
     (written rest : List ℕ) → length input ≤ most_input → Consumes source source' input → IsAtEnd source'
     → answers input (Ok (record { text = text; status = status })) → text ≡ written ++ rest → Appends before after written
     → ReportsFor answers source before after (Err WriteFault)

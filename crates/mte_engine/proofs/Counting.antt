@@ -15,7 +15,8 @@ pub none_left : {A : Type 0} (xs : List A) → slice_get xs 0 ≡ None → xs �
 none_left [] e = refl
 none_left (y ∷ xs) e = cc
 
-pub one_taken : (all taken : List Event) (old rest : List Event) (event : Event) → all ≡ taken ++ old → old ≡ event ∷ rest → all ≡ (taken ++ event ∷ []) ++ rest
+pub one_taken : (all taken : List Event) (old rest : List Event) (event : Event) → all ≡ taken ++ old → old ≡ event ∷ rest →
+    all ≡ (taken ++ event ∷ []) ++ rest
 one_taken all taken old rest event e f = e ∙ ap (λ (t : List Event). taken ++ t) f ∙ sym (append_assoc taken (event ∷ []) rest)
 
 -- an event requests at most one size
@@ -23,7 +24,8 @@ pub length-requested_sizes : (events : List Event) → length (requested_sizes e
 length-requested_sizes [] = omega arith
 length-requested_sizes (event ∷ events) = go (request_size event) (length-requested_sizes events)
   where
-    go : (size : Option ℕ) → length (requested_sizes events) ≤ length events → length (cons_option size (requested_sizes events)) ≤ suc (length events)
+    go : (size : Option ℕ) → length (requested_sizes events) ≤ length events →
+        length (cons_option size (requested_sizes events)) ≤ suc (length events)
     go None few = omega arith
     go (Some n) few = omega arith
 

@@ -20,7 +20,8 @@ use Rattle.mte_engine.specs.declared.fault.InputFault.TheVariants.{Table}
 use Rattle.mte_engine.proofs.TracePieces.{finished_whole, nothing_fed, trace_ends, trace_refused}
 
 -- an input of no bytes has no class line
-pub no_class_line : (config : Config) (has_ended : Bool) (line : List ℕ) (reading : Reading) (bytes : List ℕ) → KeepsLineAndEvents has_ended line reading bytes
+pub no_class_line : (config : Config) (has_ended : Bool) (line : List ℕ) (reading : Reading) (bytes : List ℕ) →
+    KeepsLineAndEvents has_ended line reading bytes
     → has_ended ≡ false → length line ≡ 0 → ReplayAnswers config bytes (Err (Table BadLine))
 unfolding replay_answer lines
 no_class_line config false line reading bytes keeps unended none = rw (sym keeps.0 ∙ nil_from_length line none) refl
@@ -28,7 +29,8 @@ no_class_line config true line reading bytes keeps unended none = cc
 
 -- the first line of an input, and the trace after it
 pub line_and_trace : (has_ended : Bool) (line : List ℕ) (reading : Reading) (bytes : List ℕ)
-    → KeepsLineAndEvents has_ended line reading bytes → (has_ended ≡ false → 0 < length line) → (trace : List ℕ) × IsLineAndTrace bytes line trace reading
+    → KeepsLineAndEvents has_ended line reading bytes → (has_ended ≡ false → 0 < length line) →
+    (trace : List ℕ) × IsLineAndTrace bytes line trace reading
 unfolding lines
 line_and_trace false line reading bytes keeps some =
     let whole : lines bytes ≡ bytes ∷ [] = cut_lines_are_read [] bytes (All-nil IsLine) keeps.1 (rw keeps.0 at (some refl)) in
@@ -37,7 +39,8 @@ line_and_trace true line reading bytes keeps some =
     (keeps.0, record { parts = ap lines keeps.1 ∙ line_in_front_is_read line keeps.0 keeps.2; keeps = keeps.3 })
 
 module _ (config : Config) (bytes line trace : List ℕ) (reading : Reading) (is : IsLineAndTrace bytes line trace reading) where
-  pub table_refused : (error : AnswerError) → GivesPart {A = List ℕ} (Err error) (table_part (table_of_line line)) → GivesFault (ReplayAnswers config bytes) error
+  pub table_refused : (error : AnswerError) → GivesPart {A = List ℕ} (Err error) (table_part (table_of_line line)) →
+      GivesFault (ReplayAnswers config bytes) error
   unfolding replay_answer
   table_refused OutOfMemory gives = tt
   table_refused (Input fault) gives = rw (is.parts, gives) refl
@@ -46,7 +49,8 @@ module _ (config : Config) (bytes line trace : List ℕ) (reading : Reading) (is
     finished_is : finished reading ≡ whole_reading (trace_of trace)
     finished_is = ap finished is.keeps ∙ finished_whole trace
 
-    pub replay_refused : (error : AnswerError) → HasEnded 1 (finished reading).state (Err error) → GivesFault (ReplayAnswers config bytes) error
+    pub replay_refused : (error : AnswerError) → HasEnded 1 (finished reading).state (Err error) →
+        GivesFault (ReplayAnswers config bytes) error
     unfolding replay_answer
     replay_refused OutOfMemory ended = tt
     replay_refused (Input refused) ended =

@@ -12,21 +12,28 @@ use Rattle.class_table.specs.Layout.{Partition}
 use Rattle.mte_engine.specs.Report.{report_from}
 
 -- one event was replayed, and its line appended
-pub reported_more : (before after line : List ℕ) (stored stored' : Stored) (events events' : List Event) (event : Event) → events ≡ event ∷ events'
-    → line ≡ report_line (stored.totals.events + 1) (answer_of stored.replay event) → stored' ≡ stored_after stored event → after ≡ before ++ line
+pub reported_more : (before after line : List ℕ) (stored stored' : Stored) (events events' : List Event) (event : Event) →
+    events ≡ event ∷ events'
+    → line ≡ report_line (stored.totals.events + 1) (answer_of stored.replay event) → stored' ≡ stored_after stored event →
+    after ≡ before ++ line
     → after ++ report_from stored' events' ≡ before ++ report_from stored events
 unfolding report_from
 reported_more before after line stored stored' events events' event es is_line is_stored is_after =
-    rw (es, is_after, is_stored, is_line) (append_assoc before (report_line (stored.totals.events + 1) (answer_of stored.replay event)) (report_from (stored_after stored event) events'))
+    rw (es, is_after, is_stored, is_line)
+    (append_assoc before (report_line (stored.totals.events + 1) (answer_of stored.replay event))
+    (report_from (stored_after stored event) events'))
 
 -- all events were replayed, and the totals appended
-pub reported_all : (before after : List ℕ) (stored : Stored) (events : List Event) → events ≡ [] → after ≡ before ++ totals_text stored.totals
+pub reported_all : (before after : List ℕ) (stored : Stored) (events : List Event) → events ≡ [] →
+    after ≡ before ++ totals_text stored.totals
     → after ++ [] ≡ before ++ report_from stored events
 unfolding report_from
-reported_all before after stored events none is_after = append-nil after ∙ is_after ∙ ap (λ (t : List Event). before ++ report_from stored t) (sym none)
+reported_all before after stored events none is_after =
+    append-nil after ∙ is_after ∙ ap (λ (t : List Event). before ++ report_from stored t) (sym none)
 
 -- nothing has been counted at first,
-pub first_events : (stored : Stored) (layout : Partition) (seed quarantine : ℕ) → stored ≡ first_stored layout seed quarantine → stored.totals.events ≡ 0
+pub first_events : (stored : Stored) (layout : Partition) (seed quarantine : ℕ) → stored ≡ first_stored layout seed quarantine →
+    stored.totals.events ≡ 0
 unfolding first_stored
 first_events stored layout seed quarantine is = ap (λ (s : Stored). s.totals.events) is
 
@@ -38,7 +45,8 @@ events_after stored event = refl
 -- From a new replay on, the lines and the totals are the report.
 module _ (layout : Partition) (seed quarantine : ℕ) where
   report_goes_on : (before rest : List Event)
-      → lines_of layout seed quarantine before ++ report_from (stored_of layout seed quarantine before) rest ≡ report layout seed quarantine (before ++ rest)
+      → lines_of layout seed quarantine before ++ report_from (stored_of layout seed quarantine before) rest
+      ≡ report layout seed quarantine (before ++ rest)
   unfolding report_from
   report_goes_on before [] =
       sym (report_is_lines_and_totals layout seed quarantine before) ∙ ap (report layout seed quarantine) (sym (append-nil before))
@@ -59,7 +67,8 @@ module _ (layout : Partition) (seed quarantine : ℕ) where
       ∙ report_goes_on [] events
 
 -- what is left of the buffer and what comes after it, once some of it was written
-pub advanced : (items later : List ℕ) (written n : ℕ) → n ≤ length (drop written items) → drop (written + n) items ++ later ≡ drop n (drop written items ++ later)
+pub advanced : (items later : List ℕ) (written n : ℕ) → n ≤ length (drop written items) →
+    drop (written + n) items ++ later ≡ drop n (drop written items ++ later)
 advanced items later written n fits =
     sym (drop-append-le n (drop written items) later fits ∙ ap (λ (t : List ℕ). t ++ later) (drop-drop n written items))
 

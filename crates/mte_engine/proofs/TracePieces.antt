@@ -50,12 +50,14 @@ module _ (bytes piece : List ℕ) where
 
   split : after ≡ added before.events (fed emptied piece)
   split =
-      let whole : before ≡ added before.events emptied = ap (λ (e : List Event). record { events = e; state = before.state }) (sym (append-nil before.events)) in
+      let whole : before ≡ added before.events emptied =
+      ap (λ (e : List Event). record { events = e; state = before.state }) (sym (append-nil before.events)) in
       sym (pieces_are_joined nothing_read bytes piece) ∙ ap (λ (r : Reading). fed r piece) whole
       ∙ fed_after_events before.events emptied piece
 
   -- one more piece was fed, and its events were counted and taken out
-  pub counts_more : (reader fed_reader : Reading) (profile profile' : Counted) → KeepsCounts reader profile bytes → fed_reader ≡ fed reader piece
+  pub counts_more : (reader fed_reader : Reading) (profile profile' : Counted) → KeepsCounts reader profile bytes →
+      fed_reader ≡ fed reader piece
       → ((sizes : List ℕ) → length sizes + length fed_reader.events ≤ 1000000 → profile ≡ profile_of_sizes sizes
       → profile' ≡ profile_of_sizes (sizes ++ requested_sizes fed_reader.events))
       → KeepsCounts (record { events = []; state = fed_reader.state }) profile' (bytes ++ piece)
@@ -65,7 +67,8 @@ module _ (bytes piece : List ℕ) where
       let events : after.events ≡ before.events ++ fed_reader.events = ap (λ (r : Reading). r.events) all in
       let fits : length before.events + length fed_reader.events ≤ 1000000 =
       omega (arith, pieces_have_few_events ((bytes ++ piece) ∷ []), ap length events, length-append before.events fed_reader.events) in
-      let room : length (requested_sizes before.events) + length fed_reader.events ≤ 1000000 = omega (arith, length-requested_sizes before.events) in
+      let room : length (requested_sizes before.events) + length fed_reader.events ≤ 1000000 =
+      omega (arith, length-requested_sizes before.events) in
       record {
         state = ap (λ (s : State). record { events = []; state = s }) (sym (ap (λ (r : Reading). r.state) all));
         counts = counted (requested_sizes before.events) room keeps.counts
@@ -78,18 +81,21 @@ no_fault : (fault : Option (ℕ × TraceFault)) → ended_state fault ≡ Finish
 no_fault None e = refl
 no_fault (Some (number, fault)) e = cc
 
-the_fault : (fault : Option (ℕ × TraceFault)) (number : ℕ) (found : TraceFault) → ended_state fault ≡ Failed (Line number found) → fault ≡ Some (number, found)
+the_fault : (fault : Option (ℕ × TraceFault)) (number : ℕ) (found : TraceFault) → ended_state fault ≡ Failed (Line number found) →
+    fault ≡ Some (number, found)
 the_fault None number found e = cc
 the_fault (Some (n, f)) number found e = cc
 
 -- a trace that ended without a fault is its events
-pub trace_ends : (lines : ℕ) (trace : Trace) (state : State) → state ≡ ended_state trace.fault → HasEnded lines state (Ok tt) → trace_part lines trace ≡ Ok trace.events
+pub trace_ends : (lines : ℕ) (trace : Trace) (state : State) → state ≡ ended_state trace.fault → HasEnded lines state (Ok tt) →
+    trace_part lines trace ≡ Ok trace.events
 trace_ends lines trace state is ended = rw (no_fault trace.fault (sym is ∙ ended)) refl
 
 -- and one that ended at a fault is that fault
 pub trace_refused : (lines : ℕ) (trace : Trace) (state : State) (refused : InputFault) → state ≡ ended_state trace.fault
     → HasEnded lines state (Err (Input refused)) → trace_part lines trace ≡ Err refused
-trace_refused lines trace state refused is (number, fault, failed, same) = rw (the_fault trace.fault number fault (sym is ∙ failed), same) refl
+trace_refused lines trace state refused is (number, fault, failed, same) =
+    rw (the_fault trace.fault number fault (sym is ∙ failed), same) refl
 
 module _ (bytes : List ℕ) where
   -- all events wait
@@ -103,12 +109,14 @@ module _ (bytes : List ℕ) where
   pub finished_rest : added (fed nothing_read bytes).events (finished left) ≡ whole_reading (trace_of bytes)
   finished_rest =
       let read = fed nothing_read bytes in
-      let same : read ≡ added read.events left = ap (λ (e : List Event). record { events = e; state = read.state }) (sym (append-nil read.events)) in
+      let same : read ≡ added read.events left =
+      ap (λ (e : List Event). record { events = e; state = read.state }) (sym (append-nil read.events)) in
       sym (finished_after_events read.events left) ∙ ap finished (sym same) ∙ finished_whole
 
   -- ---- the answer of `profile`
 
-  state_of_rest : (reader : Reading) (profile : Counted) → KeepsCounts reader profile bytes → (finished reader).state ≡ ended_state (trace_of bytes).fault
+  state_of_rest : (reader : Reading) (profile : Counted) → KeepsCounts reader profile bytes →
+      (finished reader).state ≡ ended_state (trace_of bytes).fault
   state_of_rest reader profile keeps = ap (λ (r : Reading). (finished r).state) keeps.state ∙ ap (λ (r : Reading). r.state) finished_rest
 
   pub profile_refused : (reader : Reading) (profile : Counted) (error : AnswerError) → KeepsCounts reader profile bytes

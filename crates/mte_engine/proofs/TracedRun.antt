@@ -22,9 +22,11 @@ module _ (limit step : ℕ) (config : Config) (reading : Reading) (bytes : List 
   finished_is : finished reading ≡ whole_reading (trace_of bytes)
   finished_is = ap finished keeps ∙ finished_whole bytes
 
-  pub run_refused : (error : AnswerError) → HasEnded 0 (finished reading).state (Err error) → GivesFault (RunAnswers limit step config bytes) error
+  pub run_refused : (error : AnswerError) → HasEnded 0 (finished reading).state (Err error) →
+      GivesFault (RunAnswers limit step config bytes) error
   run_refused OutOfMemory ended = tt
-  run_refused (Input refused) ended = trace_refused 0 (trace_of bytes) (finished reading).state refused (ap (λ (r : Reading). r.state) finished_is) ended
+  run_refused (Input refused) ended =
+      trace_refused 0 (trace_of bytes) (finished reading).state refused (ap (λ (r : Reading). r.state) finished_is) ended
 
   pub run_written : (reading' : Reading) (profile : Counted) (sheet : Sheet) (text : List ℕ) → HasEnded 0 (finished reading).state (Ok tt)
       → reading' ≡ finished reading → profile ≡ profile_of_events reading'.events → IsTuned profile.counts step limit sheet
@@ -33,5 +35,9 @@ module _ (limit step : ℕ) (config : Config) (reading : Reading) (bytes : List 
   run_written reading' profile sheet text ended same is_profile tuned is_text =
       let events = reading'.events in
       let part = trace_ends 0 (trace_of bytes) (finished reading).state (ap (λ (r : Reading). r.state) finished_is) ended in
-      let is_tuned : IsTuned (profile_of_events events).counts step limit sheet = subst (λ (p : Counted). IsTuned p.counts step limit sheet) is_profile tuned in
-      (events, part ∙ ap (λ (r : Reading). Ok r.events) (sym (same ∙ finished_is)), rw is_text (headline limit step config events sheet is_tuned))
+      let is_tuned : IsTuned (profile_of_events events).counts step limit sheet =
+      subst (λ (p : Counted). IsTuned p.counts step limit sheet) is_profile tuned in (
+        events,
+        part ∙ ap (λ (r : Reading). Ok r.events) (sym (same ∙ finished_is)),
+        rw is_text (headline limit step config events sheet is_tuned),
+      )

@@ -8,10 +8,13 @@ use Rattle.mte_engine.specs.Streams.{failed_writes}
 -- ---- reading
 
 -- the first bytes of a buffer that was read into
-pub piece_of : (n len : ℕ) (buffer rest piece : List ℕ) → length buffer ≡ len → piece ≡ take len (buffer ++ rest) → take n piece ≡ take n buffer
-piece_of n len buffer rest piece full same = ap (take n) (same ∙ ap (λ (k : ℕ). take k (buffer ++ rest)) (sym full) ∙ take-append_seam buffer rest)
+pub piece_of : (n len : ℕ) (buffer rest piece : List ℕ) → length buffer ≡ len → piece ≡ take len (buffer ++ rest) →
+    take n piece ≡ take n buffer
+piece_of n len buffer rest piece full same =
+    ap (take n) (same ∙ ap (λ (k : ℕ). take k (buffer ++ rest)) (sym full) ∙ take-append_seam buffer rest)
 
-pub consumes_more : (first now next : Option (List ℕ)) (a b : List ℕ) → Consumes first now a → Consumes now next b → Consumes first next (a ++ b)
+pub consumes_more : (first now next : Option (List ℕ)) (a b : List ℕ) → Consumes first now a → Consumes now next b →
+    Consumes first next (a ++ b)
 consumes_more None now next a b e f = tt
 consumes_more (Some xs) None next a b e f = absurd e
 consumes_more (Some xs) (Some ys) None a b e f = absurd f
@@ -20,7 +23,8 @@ consumes_more (Some xs) (Some ys) (Some zs) a b e f = e ∙ ap (λ (t : List ℕ
 -- ---- writing
 
 -- a piece of what was still to come was written
-pub written_more : (text written rest rest' : List ℕ) (n : ℕ) → text ≡ written ++ rest → rest' ≡ drop n rest → text ≡ (written ++ take n rest) ++ rest'
+pub written_more : (text written rest rest' : List ℕ) (n : ℕ) → text ≡ written ++ rest → rest' ≡ drop n rest →
+    text ≡ (written ++ take n rest) ++ rest'
 written_more text written rest rest' n e f =
     e ∙ ap (λ (t : List ℕ). written ++ t) (sym (take-append-drop n rest)) ∙ sym (append_assoc written (take n rest) (drop n rest))
     ∙ ap (λ (t : List ℕ). (written ++ take n rest) ++ t) (sym f)
@@ -29,7 +33,8 @@ written_more text written rest rest' n e f =
 pub first_ready : (rest ready later : List ℕ) (n : ℕ) → rest ≡ ready ++ later → n ≤ length ready → take n ready ≡ take n rest
 first_ready rest ready later n e fits = sym (ap (take n) e ∙ take-append-le n ready later fits)
 
-pub appends_more : (first now next : Option (List ℕ)) (a b : List ℕ) → Appends first now a → Appends now next b → Appends first next (a ++ b)
+pub appends_more : (first now next : Option (List ℕ)) (a b : List ℕ) → Appends first now a → Appends now next b →
+    Appends first next (a ++ b)
 appends_more None now next a b e f = tt
 appends_more (Some xs) None next a b e f = absurd e
 appends_more (Some xs) (Some ys) None a b e f = absurd f

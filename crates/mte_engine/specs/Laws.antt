@@ -32,7 +32,8 @@ TunedRunIsHeadline =
 -- An input has one answer of `tune`.
 abbrev pub TuneHasOneAnswer : Type 0
 TuneHasOneAnswer =
-    (limit step : ℕ) (text : List ℕ) (a b : Result Answer InputFault) → TuneAnswers limit step text a → TuneAnswers limit step text b → a ≡ b
+    (limit step : ℕ) (text : List ℕ) (a b : Result Answer InputFault) → TuneAnswers limit step text a → TuneAnswers limit step text b →
+    a ≡ b
 
 -- An input has one answer of `run`.
 abbrev pub RunHasOneAnswer : Type 0

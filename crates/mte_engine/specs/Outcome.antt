@@ -50,14 +50,18 @@ fault_of_answer (Refused fault) = Input fault
 -- What a call wrote, if these are the answers to its input. `before` and `after` are the bytes that the sink had taken, if it knows
 -- them. Where the engine finished, the sink took the whole text; after a failed write a prefix of it; after any other fault nothing.
 abbrev pub Reports : (Result Answer InputFault → Type 0) → Option (List ℕ) → Option (List ℕ) → Result Status ToolFault → Type 0
-Reports answers before after (Ok status) = (text : List ℕ) × answers (Ok (record { text = text; status = status })) × Appends before after text
+Reports answers before after (Ok status) =
+    (text : List ℕ) × answers (Ok (record { text = text; status = status })) × Appends before after text
 Reports answers before after (Err OutOfMemory) = after ≡ before
 Reports answers before after (Err (Input fault)) = answers (Err fault) × (after ≡ before)
 Reports answers before after (Err ReadFault) = after ≡ before
-Reports answers before after (Err WriteFault) = (written rest : List ℕ) × (status : Status) × answers (Ok (record { text = written ++ rest; status = status })) × Appends before after written
+Reports answers before after (Err WriteFault) =
+    (written rest : List ℕ) × (status : Status) × answers (Ok (record { text = written ++ rest; status = status }))
+    × Appends before after written
 
 -- The same for an input that the source knows; nothing is said of one that it doesn't.
-abbrev pub ReportsFor : (List ℕ → Result Answer InputFault → Type 0) → Option (List ℕ) → Option (List ℕ) → Option (List ℕ) → Result Status ToolFault → Type 0
+abbrev pub ReportsFor : (List ℕ → Result Answer InputFault → Type 0) → Option (List ℕ) → Option (List ℕ) → Option (List ℕ) →
+    Result Status ToolFault → Type 0
 ReportsFor answers None before after result = ⊤
 ReportsFor answers (Some input) before after result = Reports (AnswersInput answers input) before after result
 
@@ -75,7 +79,8 @@ pub record IsReady (source : SourceState) (sink : SinkState) : Type 0 where
   pub writing : sink.failed < 2 ^ 63
 
 -- What a call of an engine with these answers does, from a source to a sink.
-pub record Runs (answers : List ℕ → Result Answer InputFault → Type 0) (source source' : SourceState) {W : Type 0} (state : W → SinkState) (sink sink' : W)
+pub record Runs (answers : List ℕ → Result Answer InputFault → Type 0) (source source' : SourceState) {W : Type 0} (state : W → SinkState)
+    (sink sink' : W)
     (result : Result Status ToolFault) : Type 0 where
   -- a failed read is reported exactly where one failed, and so is a failed write
   pub read_fault : (result ≡ Err ReadFault) ↔ (source.failed < source'.failed)

@@ -1,4 +1,5 @@
--- The headline: the answers of `run`. It tunes a class table for the requests of a trace, and replays the trace on the heap over that table.
+-- The headline: the answers of `run`. It tunes a class table for the requests of a trace, and replays the trace on the heap over that
+-- table.
 use Rattle.std.specs.Prelude.{◌≡◌, ℕ, ◌≤◌, List, ◌++◌, length, zip, Result, Ok, Err}
 use Rattle.class_table.specs.Tables.{IsLegalTable}
 use Rattle.class_tuner.specs.Tuned.{IsTuned}
@@ -42,7 +43,8 @@ totals_on config table events = totals_of table (zip events (answers_on config t
 
 -- ---- the headline
 
--- What is written for the events of a trace, for at most `limit` classes that are multiples of `step`, on a heap that is set up by `config`.
+-- What is written for the events of a trace, for at most `limit` classes that are multiples of `step`, on a heap that is set up by
+-- `config`.
 pub record IsTunedRun (limit step : ℕ) (config : Config) (events : List Event) (answer : Answer) : Type 0 where
   pub sheet : Sheet
   -- The sheet's table is legal, within the limit, and serves every counted request.
@@ -66,10 +68,12 @@ pub record IsTunedRun (limit step : ℕ) (config : Config) (events : List Event)
   -- The bytes lost in the replay are at most the waste, and exactly the waste where no request was exhausted and no realloc was refused
   -- for its pointer.
   pub loss : (totals_on config sheet.table events).loss ≤ sheet.waste
-  pub all_loss : (totals_on config sheet.table events).null_exhausted ≡ 0 → refused_reallocs (zip events (answers_on config sheet.table events)) ≡ 0
+  pub all_loss : (totals_on config sheet.table events).null_exhausted ≡ 0 →
+      refused_reallocs (zip events (answers_on config sheet.table events)) ≡ 0
       → (totals_on config sheet.table events).loss ≡ sheet.waste
 
 -- The whole text is a trace. The answer is the headline for its events, or the trace's first fault.
 abbrev pub RunAnswers : ℕ → ℕ → Config → List ℕ → Result Answer InputFault → Type 0
-RunAnswers limit step config text (Ok answer) = (events : List Event) × (trace_part 0 (trace_of text) ≡ Ok events) × IsTunedRun limit step config events answer
+RunAnswers limit step config text (Ok answer) =
+    (events : List Event) × (trace_part 0 (trace_of text) ≡ Ok events) × IsTunedRun limit step config events answer
 RunAnswers limit step config text (Err fault) = trace_part 0 (trace_of text) ≡ Err fault

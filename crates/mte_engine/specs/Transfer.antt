@@ -5,7 +5,7 @@ use Rattle.mte_engine.specs.Streams.{SinkState, SourceState}
 use Rattle.mte_engine.specs.declared.fault.ReadError.{ReadError}
 use Rattle.mte_engine.specs.declared.fault.ReadError.TheVariants.{OutOfMemory, TooLong, Failed}
 use Rattle.mte_engine.specs.declared.streams.Failure.{Failure}
-use Rattle.mte_engine.specs.declared.moving.TheConstants.{MOST_INPUT}
+use Rattle.mte_engine.specs.declared.transfer.TheConstants.{MOST_INPUT}
 
 -- The most bytes of an input.
 abbrev pub most_input : ℕ
@@ -22,7 +22,8 @@ IsReadFewTimes old new = old.reads < 2 ^ 62 → new.reads ≤ old.reads + most_r
 -- All bytes that were to come were read, and taken by the input; or there are too many; or a read failed; or memory ran out.
 abbrev pub HasRead : (List ℕ → Type 0) → SourceState → SourceState → Result (Unit {0}) ReadError → Type 0
 HasRead has_taken old new (Ok done) =
-    (bytes : List ℕ) × has_taken bytes × (length bytes ≤ most_input) × Consumes old.remaining new.remaining bytes × IsAtEnd new.remaining × (new.failed ≡ old.failed)
+    (bytes : List ℕ) × has_taken bytes × (length bytes ≤ most_input) × Consumes old.remaining new.remaining bytes × IsAtEnd new.remaining
+    × (new.failed ≡ old.failed)
 HasRead has_taken old new (Err OutOfMemory) = new.failed ≡ old.failed
 HasRead has_taken old new (Err TooLong) = IfSome old.remaining (λ all. most_input < length all) × (new.failed ≡ old.failed)
 HasRead has_taken old new (Err Failed) = new.failed ≡ old.failed + 1

@@ -18,5 +18,6 @@ pub record IsTunedText (limit step : ℕ) (profile : Counted) (answer : Answer) 
 
 -- The whole text is a profile. The answer is the tuned sheet's text, or the profile's first fault.
 abbrev pub TuneAnswers : ℕ → ℕ → List ℕ → Result Answer InputFault → Type 0
-TuneAnswers limit step text (Ok answer) = (profile : Counted) × (profile_part 0 (profile_of text) ≡ Ok profile) × IsTunedText limit step profile answer
+TuneAnswers limit step text (Ok answer) =
+    (profile : Counted) × (profile_part 0 (profile_of text) ≡ Ok profile) × IsTunedText limit step profile answer
 TuneAnswers limit step text (Err fault) = profile_part 0 (profile_of text) ≡ Err fault

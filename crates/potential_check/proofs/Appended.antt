@@ -16,7 +16,8 @@ pub goes_on-same : (old new : List ℕ) → new ≡ old → GoesOn old new
 goes_on-same old new same = record { after = []; is = same ∙ sym (append-nil old) }
 
 pub goes_on-more : (old mid new more : List ℕ) → GoesOn old mid → new ≡ mid ++ more → GoesOn old new
-goes_on-more old mid new more goes_on is = record { after = goes_on.after ++ more; is = is ∙ rw goes_on.is (append_assoc old goes_on.after more) }
+goes_on-more old mid new more goes_on is =
+    record { after = goes_on.after ++ more; is = is ∙ rw goes_on.is (append_assoc old goes_on.after more) }
 
 pub goes_on-through : (old mid new : List ℕ) → GoesOn old mid → GoesOn mid new → GoesOn old new
 goes_on-through old mid new first second = goes_on-more old mid new second.after first second.is
@@ -37,4 +38,5 @@ pub rows_text-more : (name : List ℕ) (rows : List (List ℕ)) (i : ℕ) (row :
 rows_text-more name rows i row is =
     let here : get_or rows i [] ≡ row = get_or_from_slice_get rows i row [] is in
     let more : take (i + 1) rows ≡ take i rows ++ row ∷ [] = take_more rows i [] (slice_get_within rows i row is) ∙ rw here refl in
-    rw (more, map-append, flat_map-append) (ap (λ (line : List ℕ). text_of (map (named_line name) (take i rows)) ++ line) (append-nil (ended (named_line name row))))
+    rw (more, map-append, flat_map-append)
+    (ap (λ (line : List ℕ). text_of (map (named_line name) (take i rows)) ++ line) (append-nil (ended (named_line name row))))

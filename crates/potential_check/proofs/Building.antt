@@ -49,13 +49,16 @@ with_need-in : (need i : ℕ) (needs : List ℕ) → i < length needs → slice_
 with_need-in need i [] lt e = absurd (omega arith)
 with_need-in need zero (x ∷ xs) lt e = cond-true _ _ _ (eq-eqb x need e)
 with_need-in need (suc i) (x ∷ xs) lt e =
-    cond_both (eqb x need) _ _ (λ (ys : List ℕ). ys ≡ x ∷ xs) (λ _. refl) (λ _. ap (λ (ys : List ℕ). x ∷ ys) (with_need-in need i xs (omega arith) e))
+    cond_both (eqb x need) _ _ (λ (ys : List ℕ). ys ≡ x ∷ xs) (λ _. refl)
+    (λ _. ap (λ (ys : List ℕ). x ∷ ys) (with_need-in need i xs (omega arith) e))
 
-with_need-above : (need : ℕ) (needs : List ℕ) → ((i : ℕ) → i < length needs → slice_index needs i < need) → with_need needs need ≡ needs ++ need ∷ []
+with_need-above : (need : ℕ) (needs : List ℕ) → ((i : ℕ) → i < length needs → slice_index needs i < need) →
+    with_need needs need ≡ needs ++ need ∷ []
 with_need-above need [] below = refl
 with_need-above need (x ∷ xs) below =
     let first : x < need = below 0 (omega arith) in
-    cond-false _ _ _ (ne_eqb x need (λ e. omega arith)) ∙ ap (λ (ys : List ℕ). x ∷ ys) (with_need-above need xs (λ i lt. below (suc i) (omega arith)))
+    cond-false _ _ _ (ne_eqb x need (λ e. omega arith))
+    ∙ ap (λ (ys : List ℕ). x ∷ ys) (with_need-above need xs (λ i lt. below (suc i) (omega arith)))
 
 need_in-old : (needs : List ℕ) (need i : ℕ) → i ≤ length needs → need_in (needs ++ need ∷ []) i ≡ need_in needs i
 need_in-old needs need i le = get_or_append_left (0 ∷ needs) (need ∷ []) 0 i (omega arith)
@@ -104,14 +107,16 @@ sum_up_to-skips f step n high none =
     sum_below-more _ n ∙ omega (arith, cond_both (leb (rounded_need step n) high) (f n) 0 (λ v. v ≡ 0) (λ _. none) (λ _. refl))
 
 -- a sum up to a need that covers all
-sum_up_to-all : (f : ℕ → ℕ) (step n high : ℕ) → ((k : ℕ) → k < n → 0 < f k → rounded_need step k ≤ high) → sum_up_to f step n high ≡ sum_below f n
+sum_up_to-all : (f : ℕ → ℕ) (step n high : ℕ) → ((k : ℕ) → k < n → 0 < f k → rounded_need step k ≤ high) →
+    sum_up_to f step n high ≡ sum_below f n
 sum_up_to-all f step n high covers = sum_below-same _ f n (λ k lt. whole k lt (cases_lt 0 (f k)))
   where
     whole : (k : ℕ) → k < n → (0 < f k) ⊎ (f k ≤ 0) → cond (leb (rounded_need step k) high) (f k) 0 ≡ f k
     whole k lt (inl some) = cond-true _ _ _ (le-leb (rounded_need step k) high (covers k lt some))
     whole k lt (inr none) = cond_both (leb (rounded_need step k) high) (f k) 0 (λ v. v ≡ f k) (λ _. refl) (λ _. omega arith)
 
-sums-skip : (f : ℕ → ℕ) (step n total : ℕ) (needs sums : List ℕ) → f n ≡ 0 → AreSumsBefore f step n needs sums total → AreSumsBefore f step (suc n) needs sums total
+sums-skip : (f : ℕ → ℕ) (step n total : ℕ) (needs sums : List ℕ) → f n ≡ 0 → AreSumsBefore f step n needs sums total →
+    AreSumsBefore f step (suc n) needs sums total
 sums-skip f step n total needs sums none s = record {
   size = s.size;
   sums_are = λ i lt. s.sums_are i lt ∙ sym (sum_up_to-skips f step n (need_in needs i) none);
@@ -128,14 +133,16 @@ sums-add f step n total needs sums below s = record {
 
 -- the total stands after the sums, as the sum up to the last need
 pub sums-pushed : (f : ℕ → ℕ) (step n total : ℕ) (needs sums : List ℕ) → ((k : ℕ) → k < n → 0 < f k → rounded_need step k ≤ last_need needs)
-    → AreSumsBefore f step n needs sums total → (i : ℕ) → i ≤ length needs → slice_index (sums ++ total ∷ []) i ≡ sum_up_to f step n (need_in needs i)
+    → AreSumsBefore f step n needs sums total → (i : ℕ) → i ≤ length needs →
+    slice_index (sums ++ total ∷ []) i ≡ sum_up_to f step n (need_in needs i)
 sums-pushed f step n total needs sums covers s i le =
     elim (cases_lt i (length needs)) [
       | inl lt ↦ get_or_append_left sums (total ∷ []) 0 i (omega (arith, s.size)) ∙ s.sums_are i lt
       | inr not ↦ (let here : i ≡ length sums = omega (arith, s.size) in
           let last : i ≡ length needs = omega arith in
           (ap (slice_index (sums ++ total ∷ [])) here ∙ get_or-append_seam sums total [] 0)
-          ∙ ((s.total_is ∙ sym (sum_up_to-all f step n (last_need needs) covers)) ∙ ap (λ m. sum_up_to f step n (need_in needs m)) (sym last)))
+          ∙ ((s.total_is ∙ sym (sum_up_to-all f step n (last_need needs) covers))
+          ∙ ap (λ m. sum_up_to f step n (need_in needs m)) (sym last)))
     ]
 
 sums-new : (f : ℕ → ℕ) (step n total need : ℕ) (needs sums : List ℕ) → ((k : ℕ) → k < n → 0 < f k → rounded_need step k ≤ last_need needs)
@@ -167,9 +174,16 @@ module _ (counts : List ℕ) (step : ℕ) (is_step : IsStep step) where
 
   pub built-none : IsBuilt counts step 0 [] [] [] 0 0
   built-none = record {
-    needs_are = record { needs_are = refl; ascending = λ i lt. absurd (omega arith); reached = λ m le. omega arith; covered = λ k lt some. absurd (omega arith) };
+    needs_are =
+        record {
+          needs_are = refl;
+          ascending = λ i lt. absurd (omega arith);
+          reached = λ m le. omega arith;
+          covered = λ k lt some. absurd (omega arith);
+        };
     counted_are = record { size = refl; sums_are = λ i lt. absurd (omega arith); total_is = sym (sum_below-none (slice_index counts)) };
-    bytes_are = record { size = refl; sums_are = λ i lt. absurd (omega arith); total_is = sym (sum_below-none (λ k. slice_index counts k * k)) };
+    bytes_are =
+        record { size = refl; sums_are = λ i lt. absurd (omega arith); total_is = sym (sum_below-none (λ k. slice_index counts k * k)) };
   }
 
   module _ (n total total_bytes : ℕ) (needs counted bytes : List ℕ) where
@@ -220,7 +234,8 @@ module _ (counts : List ℕ) (step : ℕ) (is_step : IsStep step) where
         → HasPlace counts step n (needs ++ rounded_need step n ∷ []) (counted ++ total ∷ []) (bytes ++ total_bytes ∷ []) total total_bytes
     place-new new b =
         let lower : last_need needs < rounded_need step n = omega (arith, b.needs_are.reached n (omega arith), new) in
-        let size : length (needs ++ rounded_need step n ∷ []) ≡ suc (length needs) = omega (arith, length-append {A = ℕ} needs (rounded_need step n ∷ [])) in
+        let size : length (needs ++ rounded_need step n ∷ []) ≡ suc (length needs) =
+        omega (arith, length-append {A = ℕ} needs (rounded_need step n ∷ [])) in
         let last = need_in-new needs (rounded_need step n) in
         record {
           needs_are = record {
@@ -247,7 +262,8 @@ module _ (counts : List ℕ) (step : ℕ) (is_step : IsStep step) where
     pub built-add : 0 < slice_index counts n → HasPlace counts step n needs counted bytes total total_bytes
         → IsBuilt counts step (suc n) needs counted bytes (total + slice_index counts n) (total_bytes + slice_index counts n * n)
     built-add some b =
-        let below : (i : ℕ) → i < length needs → need_in needs i < rounded_need step n = (λ i lt. omega (arith, b.needs_are.ascending i lt, b.last_is)) in
+        let below : (i : ℕ) → i < length needs → need_in needs i < rounded_need step n =
+        (λ i lt. omega (arith, b.needs_are.ascending i lt, b.last_is)) in
         record {
           needs_are = record {
             needs_are = b.needs_are.needs_are ∙ sym (cond-true _ _ _ (lt-ltb 0 (slice_index counts n) some));
@@ -264,21 +280,25 @@ module _ (counts : List ℕ) (step : ℕ) (is_step : IsStep step) where
 
 -- ---- all sizes
 
-pub built-end : (counts : List ℕ) (step n total total_bytes : ℕ) (needs counted bytes : List ℕ) → IsStep step → AreCounts counts → n ≡ length counts
-    → IsBuilt counts step n needs counted bytes total total_bytes → HoldsSums counts step needs (counted ++ total ∷ []) (bytes ++ total_bytes ∷ [])
+pub built-end : (counts : List ℕ) (step n total total_bytes : ℕ) (needs counted bytes : List ℕ) → IsStep step → AreCounts counts →
+    n ≡ length counts
+    → IsBuilt counts step n needs counted bytes total total_bytes →
+    HoldsSums counts step needs (counted ++ total ∷ []) (bytes ++ total_bytes ∷ [])
 built-end counts step n total total_bytes needs counted bytes is_step are end b = record {
   is_step = is_step;
   are_counts = are;
   needs_are = all.needs_are.needs_are;
   counted_are = sums (slice_index counts) total counted (λ k lt some. some) all.counted_are;
-  bytes_are = sums (λ k. slice_index counts k * k) total_bytes bytes (λ k lt some. product-some (slice_index counts k) k some) all.bytes_are;
+  bytes_are =
+      sums (λ k. slice_index counts k * k) total_bytes bytes (λ k lt some. product-some (slice_index counts k) k some) all.bytes_are;
 }
   where
     all : IsBuilt counts step (length counts) needs counted bytes total total_bytes
     all = subst (λ (m : ℕ). IsBuilt counts step m needs counted bytes total total_bytes) end b
 
     sums : (f : ℕ → ℕ) (total : ℕ) (xs : List ℕ) → ((k : ℕ) → k < length counts → 0 < f k → 0 < slice_index counts k)
-        → AreSumsBefore f step (length counts) needs xs total → AreSumsUpTo (sum_up_to f step (length counts)) counts step (xs ++ total ∷ [])
+        → AreSumsBefore f step (length counts) needs xs total →
+        AreSumsUpTo (sum_up_to f step (length counts)) counts step (xs ++ total ∷ [])
     sums f total xs counted_too s = record {
       size = omega (arith, s.size, length-append {A = ℕ} xs (total ∷ []), ap length all.needs_are.needs_are);
       sums_are = λ i le.
@@ -290,7 +310,11 @@ built-end counts step n total total_bytes needs counted bytes is_step are end b 
 pub built-small : (counts : List ℕ) (step n total total_bytes : ℕ) (needs counted bytes : List ℕ) → AreCounts counts → n ≤ 16369
     → IsBuilt counts step n needs counted bytes total total_bytes → (total ≤ 16369 * 1000000000) × (total_bytes ≤ 16369 * 16368000000000)
 built-small counts step n total total_bytes needs counted bytes are le b = (
-  omega (arith, b.counted_are.total_is, sum_below-bounded (slice_index counts) n 1000000000 (λ k lt. are.in_range k 0 (omega (arith, are.sizes)))),
+  omega (
+    arith,
+    b.counted_are.total_is,
+    sum_below-bounded (slice_index counts) n 1000000000 (λ k lt. are.in_range k 0 (omega (arith, are.sizes))),
+  ),
   omega (
     arith,
     b.bytes_are.total_is,

@@ -13,7 +13,8 @@ use Rattle.tuner_theory.specs.declared.verdict.Refusal.TheVariants.{Shape, LastC
 use Rattle.tuner_theory.specs.declared.verdict.Verdict.TheVariants.{Optimal, Refused}
 
 -- row k, counted from 1, is the one at m, counted from 0
-number-is : (rows : List (List ℕ)) (k m i : ℕ) (d : List ℕ) → k ≡ m + 1 → m < length rows → number_at rows k i ≡ slice_index (slice_index_or rows m d) i
+number-is : (rows : List (List ℕ)) (k m i : ℕ) (d : List ℕ) → k ≡ m + 1 → m < length rows →
+    number_at rows k i ≡ slice_index (slice_index_or rows m d) i
 number-is rows k m i d e lt =
     let front : k - 1 ≡ m = omega arith in
     ap (λ m. slice_index (slice_index_or rows m []) i) front ∙ ap (λ (row : List ℕ). slice_index row i) (get_or_default rows m [] d lt)

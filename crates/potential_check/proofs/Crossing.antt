@@ -21,7 +21,12 @@ module _ (s : Spanned) (is_step : IsStep s.step) (before row : List ℕ) (start 
       → EdgesHoldWithin s before row start stop low high
   edges-join within tight here left right = λ i j from below lt above upto.
       elim (cases_order i middle) [
-        | inl same ↦ omega (arith, ap (slice_index row) same, ap (λ m. edge_bound s before m j) same, tight.least j (omega arith) above upto)
+        | inl same ↦ omega (
+          arith,
+          ap (slice_index row) same,
+          ap (λ m. edge_bound s before m j) same,
+          tight.least j (omega arith) above upto,
+        )
         | inr (inl earlier) ↦ elim (cases_lt end j) [
           | inl past ↦ omega (
             arith,

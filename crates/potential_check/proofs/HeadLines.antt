@@ -16,14 +16,16 @@ Gave old line new = YieldsFirstBy {S = List (List ℕ)} {A = Bor (List ℕ)} {B 
 abbrev pub IsRead : {A : Type 0} → (List ℕ → Option A) → Option (Bor (List ℕ)) → Option A → Type 0
 IsRead reading line read = MatchOption line (read ≡ None) (λ x. read ≡ reading x.now)
 
-pub line_at-some : {A : Type 0} (number : ℕ) (reading : List ℕ → Option A) (old new : List (List ℕ)) (line : Option (Bor (List ℕ))) (read : Option A) (x : A)
+pub line_at-some : {A : Type 0} (number : ℕ) (reading : List ℕ → Option A) (old new : List (List ℕ)) (line : Option (Bor (List ℕ)))
+    (read : Option A) (x : A)
     → Gave old line new → IsRead reading line read → read ≡ Some x → line_at number reading old ≡ Ok (x, new)
 line_at-some number reading old new None read x gave is e = absurd cc
 line_at-some number reading old new (Some y) read x gave is e =
     let found : reading y.now ≡ Some x = cc in
     rw (gave, found) refl
 
-pub line_at-none : {A : Type 0} (number : ℕ) (reading : List ℕ → Option A) (old new : List (List ℕ)) (line : Option (Bor (List ℕ))) (read : Option A)
+pub line_at-none : {A : Type 0} (number : ℕ) (reading : List ℕ → Option A) (old new : List (List ℕ)) (line : Option (Bor (List ℕ)))
+    (read : Option A)
     → Gave old line new → IsRead reading line read → read ≡ None → line_at number reading old ≡ Err number
 line_at-none number reading old new None read gave is e = rw gave.0 refl
 line_at-none number reading old new (Some y) read gave is e =
@@ -33,7 +35,8 @@ line_at-none number reading old new (Some y) read gave is e =
 -- ---- a fault
 
 -- where nothing was read off a line, its number is the error
-pub fault_given : {A B X : Type 0} (view : X → B) (result : Result X SheetError) (y e : SheetError) (read : Option A) (number : ℕ) (whole : Result B ℕ) → result ≡ Err y → y ≡ e
+pub fault_given : {A B X : Type 0} (view : X → B) (result : Result X SheetError) (y e : SheetError) (read : Option A) (number : ℕ)
+    (whole : Result B ℕ) → result ≡ Err y → y ≡ e
     → Err e ≡ ok_or read (Line number) → read ≡ None → whole ≡ Err number → Gives view result whole
 fault_given view result y e read number whole is same given none fault =
     let line : e ≡ Line number = (let err = rw none at given in cc) in
@@ -57,11 +60,13 @@ module _ (ls : List (List ℕ)) where
       no_step none = rw (is_table, is_limit, none) refl
 
       module _ (step : ℕ) (after_step : List (List ℕ)) (is_step : step_at after_limit ≡ Some (step, after_step)) where
-        pub no_waste : line_at (waste_number step) waste_in after_step ≡ Err (waste_number step) → head_of_lines ls ≡ Err (waste_number step)
+        pub no_waste : line_at (waste_number step) waste_in after_step ≡ Err (waste_number step) →
+            head_of_lines ls ≡ Err (waste_number step)
         unfolding head_of_lines
         no_waste none = rw (is_table, is_limit, is_step, none) refl
 
-        module _ (waste : ℕ) (after_waste : List (List ℕ)) (is_waste : line_at (waste_number step) waste_in after_step ≡ Ok (waste, after_waste)) where
+        module _ (waste : ℕ) (after_waste : List (List ℕ))
+            (is_waste : line_at (waste_number step) waste_in after_step ≡ Ok (waste, after_waste)) where
           pub all_read : head_of_lines ls ≡ Ok (record { table = table; limit = limit; step = step; waste = waste }, after_waste)
           unfolding head_of_lines
           all_read = rw (is_table, is_limit, is_step, is_waste) refl

@@ -10,7 +10,7 @@ use Rattle.potential_check.specs.SheetText.{Gives, head_of_lines, is_named, is_w
 use Rattle.potential_check.proofs.RowNumbers.{passing-some}
 use Rattle.potential_check.specs.declared.fault.SheetError.{SheetError}
 use Rattle.potential_check.specs.declared.fault.SheetError.TheVariants.{OutOfMemory, Line}
-use Rattle.potential_check.specs.declared.leading.LeadingSheet.{LeadingSheet}
+use Rattle.potential_check.specs.declared.leading_sheet.LeadingSheet.{LeadingSheet}
 use Rattle.potential_check.specs.declared.reading.Head.{Head}
 use Rattle.potential_check.specs.declared.sheet.Sheet.{Sheet as Held}
 use Rattle.potential_check.specs.Sheets.{sheet_of}
@@ -55,12 +55,14 @@ one_row_more [] number row read = refl
 one_row_more (line ∷ ls) number row (Ok rows) = ap Err (omega arith)
 one_row_more (line ∷ ls) number row (Err fault) = refl
 
-rows_from-all : (ls : List (List ℕ)) (number most : ℕ) → rows_from number most ls ≡ unless_more (rest_of ls) number (rows_from number most (rows_of ls))
+rows_from-all : (ls : List (List ℕ)) (number most : ℕ) →
+    rows_from number most ls ≡ unless_more (rest_of ls) number (rows_from number most (rows_of ls))
 unfolding rows_from
 rows_from-all [] number most = refl
 rows_from-all (line ∷ ls) number zero = go (is_row_line line) refl
   where
-    go : (is : Bool) → is_row_line line ≡ is → rows_from number zero (line ∷ ls) ≡ unless_more (rest_of (line ∷ ls)) number (rows_from number zero (rows_of (line ∷ ls)))
+    go : (is : Bool) → is_row_line line ≡ is →
+        rows_from number zero (line ∷ ls) ≡ unless_more (rest_of (line ∷ ls)) number (rows_from number zero (rows_of (line ∷ ls)))
     go false e = rw (no_rows_of line ls e, add-zero) refl
     go true e = rw (rows_of-row (line ∷ ls) ls line refl e) (either (rest_of ls))
       where
@@ -69,8 +71,10 @@ rows_from-all (line ∷ ls) number zero = go (is_row_line line) refl
         either (line ∷ ls) = refl
 rows_from-all (line ∷ ls) number (suc most) = go (rows_from-all ls (suc number) most) (is_row_line line) refl
   where
-    go : rows_from (suc number) most ls ≡ unless_more (rest_of ls) (suc number) (rows_from (suc number) most (rows_of ls)) → (is : Bool) → is_row_line line ≡ is
-        → rows_from number (suc most) (line ∷ ls) ≡ unless_more (rest_of (line ∷ ls)) number (rows_from number (suc most) (rows_of (line ∷ ls)))
+    go : rows_from (suc number) most ls ≡ unless_more (rest_of ls) (suc number) (rows_from (suc number) most (rows_of ls)) → (is : Bool) →
+        is_row_line line ≡ is
+        → rows_from number (suc most) (line ∷ ls)
+        ≡ unless_more (rest_of (line ∷ ls)) number (rows_from number (suc most) (rows_of (line ∷ ls)))
     go others false e = rw (no_rows_of line ls e, no_row line e, add-zero) refl
     go others true e = rw (rows_of-row (line ∷ ls) ls line refl e) (found (row_in line) refl)
       where
@@ -84,13 +88,15 @@ rows_from-all (line ∷ ls) number (suc most) = go (rows_from-all ls (suc number
         found (Some row) f = rw (f, others) (one_row_more (rest_of ls) number row (rows_from (suc number) most (rows_of ls)))
 
 -- each line is a row
-pub rows_from-length : (ls : List (List ℕ)) (number most : ℕ) (rows : List (List ℕ)) → rows_from number most ls ≡ Ok rows → (length rows ≡ length ls) × (length rows ≤ most)
+pub rows_from-length : (ls : List (List ℕ)) (number most : ℕ) (rows : List (List ℕ)) → rows_from number most ls ≡ Ok rows →
+    (length rows ≡ length ls) × (length rows ≤ most)
 unfolding rows_from
 rows_from-length [] number most rows e =
     let none : [] ≡ rows = cc in
     rw (← none) (refl, omega arith)
 rows_from-length (line ∷ ls) number zero rows e = absurd cc
-rows_from-length (line ∷ ls) number (suc most) rows e = go (rows_from-length ls (suc number) most) (row_in line) refl (rows_from (suc number) most ls) refl
+rows_from-length (line ∷ ls) number (suc most) rows e =
+    go (rows_from-length ls (suc number) most) (row_in line) refl (rows_from (suc number) most ls) refl
   where
     go : ((rows : List (List ℕ)) → rows_from (suc number) most ls ≡ Ok rows → (length rows ≡ length ls) × (length rows ≤ most))
         → (o : Option (List ℕ)) → row_in line ≡ o → (r : Result (List (List ℕ)) ℕ) → rows_from (suc number) most ls ≡ r
@@ -128,10 +134,12 @@ module _ (a b c : List ℕ) (xs : List (List ℕ)) where
   unfolding head_of_lines leading_lines lines_after
   three e = go (table_in a) refl (limit_in b) refl (waste_in c) refl
     where
-      go : (table : Option (List ℕ)) → table_in a ≡ table → (limit : Option ℕ) → limit_in b ≡ limit → (waste : Option ℕ) → waste_in c ≡ waste → Heading (a ∷ b ∷ c ∷ xs)
+      go : (table : Option (List ℕ)) → table_in a ≡ table → (limit : Option ℕ) → limit_in b ≡ limit → (waste : Option ℕ) →
+          waste_in c ≡ waste → Heading (a ∷ b ∷ c ∷ xs)
       go None is_table limit is_limit waste is_waste = Faulty 1 (rw is_table refl) (rw (e, is_table) refl)
       go (Some table) is_table None is_limit waste is_waste = Faulty 2 (rw (is_table, is_limit) refl) (rw (e, is_table, is_limit) refl)
-      go (Some table) is_table (Some limit) is_limit None is_waste = Faulty 3 (rw (is_table, is_limit, e, is_waste) refl) (rw (e, is_table, is_limit, e, is_waste) refl)
+      go (Some table) is_table (Some limit) is_limit None is_waste =
+          Faulty 3 (rw (is_table, is_limit, e, is_waste) refl) (rw (e, is_table, is_limit, e, is_waste) refl)
       go (Some table) is_table (Some limit) is_limit (Some waste) is_waste =
           Found (record { table = table; limit = limit; step = 1; waste = waste }) xs (rw (is_table, is_limit, e, is_waste) refl)
           (record { leading = rw (e, is_table, is_limit, e, is_waste) refl; size = rw e (omega arith); rest = rw e refl })
@@ -142,16 +150,25 @@ module _ (a b c d : List ℕ) (xs : List (List ℕ)) where
   unfolding head_of_lines leading_lines lines_after
   four e = go (table_in a) refl (limit_in b) refl (step_in c) refl (waste_in d) refl
     where
-      go : (table : Option (List ℕ)) → table_in a ≡ table → (limit : Option ℕ) → limit_in b ≡ limit → (step : Option ℕ) → step_in c ≡ step → (waste : Option ℕ) → waste_in d ≡ waste
+      go : (table : Option (List ℕ)) → table_in a ≡ table → (limit : Option ℕ) → limit_in b ≡ limit → (step : Option ℕ) → step_in c ≡ step →
+          (waste : Option ℕ) → waste_in d ≡ waste
           → Heading (a ∷ b ∷ c ∷ d ∷ xs)
       go None is_table limit is_limit step is_step waste is_waste = Faulty 1 (rw is_table refl) (rw (e, is_table) refl)
-      go (Some table) is_table None is_limit step is_step waste is_waste = Faulty 2 (rw (is_table, is_limit) refl) (rw (e, is_table, is_limit) refl)
-      go (Some table) is_table (Some limit) is_limit None is_step waste is_waste = Faulty 3 (rw (is_table, is_limit, e, is_step) refl) (rw (e, is_table, is_limit, e, is_step) refl)
+      go (Some table) is_table None is_limit step is_step waste is_waste =
+          Faulty 2 (rw (is_table, is_limit) refl) (rw (e, is_table, is_limit) refl)
+      go (Some table) is_table (Some limit) is_limit None is_step waste is_waste =
+          Faulty 3 (rw (is_table, is_limit, e, is_step) refl) (rw (e, is_table, is_limit, e, is_step) refl)
       go (Some table) is_table (Some limit) is_limit (Some step) is_step None is_waste =
-          Faulty (waste_number step) (rw (is_table, is_limit, e, is_step, is_waste) refl) (rw (e, is_table, is_limit, e, is_step, is_waste) refl)
+          Faulty (waste_number step) (rw (is_table, is_limit, e, is_step, is_waste) refl)
+          (rw (e, is_table, is_limit, e, is_step, is_waste) refl)
       go (Some table) is_table (Some limit) is_limit (Some step) is_step (Some waste) is_waste =
-          Found (record { table = table; limit = limit; step = step; waste = waste }) xs (rw (is_table, is_limit, e, is_step, is_waste) refl)
-          (record { leading = rw (e, is_table, is_limit, e, is_step, is_waste) refl; size = rw (e, written_not_one (option_and_then only_one (numbers_in (codes "step") c)) step is_step) (omega arith); rest = rw e refl })
+          Found (record { table = table; limit = limit; step = step; waste = waste }) xs
+          (rw (is_table, is_limit, e, is_step, is_waste) refl)
+          (record {
+            leading = rw (e, is_table, is_limit, e, is_step, is_waste) refl;
+            size = rw (e, written_not_one (option_and_then only_one (numbers_in (codes "step") c)) step is_step) (omega arith);
+            rest = rw e refl;
+          })
 
 -- ---- fewer lines
 
@@ -199,11 +216,14 @@ cut_heading a b c e = go (table_in a) refl (limit_in b) refl (step_in c) refl
     all : leading_lines (a ∷ b ∷ c ∷ []) ≡ a ∷ b ∷ c ∷ []
     all = rw e refl
 
-    go : (table : Option (List ℕ)) → table_in a ≡ table → (limit : Option ℕ) → limit_in b ≡ limit → (step : Option ℕ) → step_in c ≡ step → Heading (a ∷ b ∷ c ∷ [])
+    go : (table : Option (List ℕ)) → table_in a ≡ table → (limit : Option ℕ) → limit_in b ≡ limit → (step : Option ℕ) → step_in c ≡ step →
+        Heading (a ∷ b ∷ c ∷ [])
     go None is_table limit is_limit step is_step = same_fault (a ∷ b ∷ c ∷ []) 1 all (rw is_table refl)
     go (Some table) is_table None is_limit step is_step = same_fault (a ∷ b ∷ c ∷ []) 2 all (rw (is_table, is_limit) refl)
-    go (Some table) is_table (Some limit) is_limit None is_step = same_fault (a ∷ b ∷ c ∷ []) 3 all (rw (is_table, is_limit, e, is_step) refl)
-    go (Some table) is_table (Some limit) is_limit (Some step) is_step = same_fault (a ∷ b ∷ c ∷ []) (waste_number step) all (rw (is_table, is_limit, e, is_step) refl)
+    go (Some table) is_table (Some limit) is_limit None is_step =
+        same_fault (a ∷ b ∷ c ∷ []) 3 all (rw (is_table, is_limit, e, is_step) refl)
+    go (Some table) is_table (Some limit) is_limit (Some step) is_step =
+        same_fault (a ∷ b ∷ c ∷ []) (waste_number step) all (rw (is_table, is_limit, e, is_step) refl)
 
 heading : (ls : List (List ℕ)) → Heading ls
 unfolding head_of_lines
@@ -238,7 +258,8 @@ same_head h g xs ys e =
     let same : ◌≡◌ {A = Head × List (List ℕ)} (h, xs) (g, ys) = cc in
     (ap (λ (p : Head × List (List ℕ)). p.0) same, ap (λ (p : Head × List (List ℕ)). p.1) same)
 
-pub leading-faulty : (ls : List (List ℕ)) (number : ℕ) → head_of_lines ls ≡ head_fault number → sheet_of_lines (leading_lines ls) ≡ Err number
+pub leading-faulty : (ls : List (List ℕ)) (number : ℕ) → head_of_lines ls ≡ head_fault number →
+    sheet_of_lines (leading_lines ls) ≡ Err number
 unfolding sheet_of_lines
 leading-faulty ls number e = elim (heading ls) [
   | Faulty k all leading ↦
@@ -247,7 +268,8 @@ leading-faulty ls number e = elim (heading ls) [
   | Found head after all found ↦ absurd cc
 ]
 
-pub head-is_found : (ls : List (List ℕ)) (head : Head) (after : List (List ℕ)) → head_of_lines ls ≡ head_and head after → HeadIsFound ls head after
+pub head-is_found : (ls : List (List ℕ)) (head : Head) (after : List (List ℕ)) → head_of_lines ls ≡ head_and head after →
+    HeadIsFound ls head after
 head-is_found ls head after e = elim (heading ls) [
   | Faulty k all leading ↦ absurd cc
   | Found h b all found ↦
@@ -256,25 +278,31 @@ head-is_found ls head after e = elim (heading ls) [
 ]
 
 module _ (ls : List (List ℕ)) (head : Head) (after : List (List ℕ)) (found : HeadIsFound ls head after) where
-  pub leading-read : (rows : List (List ℕ)) → rows_from (waste_number head.step + 1) 32 (rows_of after) ≡ Ok rows → sheet_of_lines (leading_lines ls) ≡ Ok (with_rows head rows)
+  pub leading-read : (rows : List (List ℕ)) → rows_from (waste_number head.step + 1) 32 (rows_of after) ≡ Ok rows →
+      sheet_of_lines (leading_lines ls) ≡ Ok (with_rows head rows)
   unfolding sheet_of_lines
   leading-read rows e = rw (found.leading, ← add-one (waste_number head.step), e) refl
 
-  pub leading-row_fault : (number : ℕ) → rows_from (waste_number head.step + 1) 32 (rows_of after) ≡ Err number → sheet_of_lines (leading_lines ls) ≡ Err number
+  pub leading-row_fault : (number : ℕ) → rows_from (waste_number head.step + 1) 32 (rows_of after) ≡ Err number →
+      sheet_of_lines (leading_lines ls) ≡ Err number
   unfolding sheet_of_lines
   leading-row_fault number e = rw (found.leading, ← add-one (waste_number head.step), e) refl
 
 -- ---- faults
 
-pub head_fault_given : {A : Type 0} (view : A → Head × List (List ℕ)) (ls : List (List ℕ)) (result : Result LeadingSheet SheetError) (y e : SheetError) → result ≡ Err y → y ≡ e
+pub head_fault_given : {A : Type 0} (view : A → Head × List (List ℕ)) (ls : List (List ℕ)) (result : Result LeadingSheet SheetError)
+    (y e : SheetError) → result ≡ Err y → y ≡ e
     → Gives view (Err e) (head_of_lines ls) → GivesLeading ls result
 head_fault_given view ls result y OutOfMemory is same given = rw (is, same) tt
 head_fault_given view ls result y (Line number) is same given = rw (is, same) (leading-faulty ls number given)
 
-pub row_fault_given : (ls : List (List ℕ)) (head : Head) (after : List (List ℕ)) (result : Result LeadingSheet SheetError) (y e : SheetError) → HeadIsFound ls head after
-    → result ≡ Err y → y ≡ e → Gives (λ (rows : List (List ℕ)). rows) (Err e) (rows_from (waste_number head.step + 1) 32 (rows_of after)) → GivesLeading ls result
+pub row_fault_given : (ls : List (List ℕ)) (head : Head) (after : List (List ℕ)) (result : Result LeadingSheet SheetError)
+    (y e : SheetError) → HeadIsFound ls head after
+    → result ≡ Err y → y ≡ e → Gives (λ (rows : List (List ℕ)). rows) (Err e) (rows_from (waste_number head.step + 1) 32 (rows_of after)) →
+    GivesLeading ls result
 row_fault_given ls head after result y OutOfMemory found is same given = rw (is, same) tt
-row_fault_given ls head after result y (Line number) found is same given = rw (is, same) (leading-row_fault ls head after found number given)
+row_fault_given ls head after result y (Line number) found is same given =
+    rw (is, same) (leading-row_fault ls head after found number given)
 
 -- ---- all lines
 
@@ -285,7 +313,8 @@ unless_line (line ∷ ls) size (Ok s) = Err (size + 1)
 unless_line (line ∷ ls) size (Err number) = Err number
 
 -- What is read of all lines is the sheet in front of them, where it is all of them.
-pub sheet_of_all : (ls : List (List ℕ)) → sheet_of_lines ls ≡ unless_line (lines_after ls) (length (leading_lines ls)) (sheet_of_lines (leading_lines ls))
+pub sheet_of_all : (ls : List (List ℕ)) →
+    sheet_of_lines ls ≡ unless_line (lines_after ls) (length (leading_lines ls)) (sheet_of_lines (leading_lines ls))
 unfolding sheet_of_lines
 sheet_of_all ls = elim (heading ls) [
   | Faulty k all leading ↦ rw (all, leading) (either (lines_after ls) k)
@@ -299,14 +328,16 @@ sheet_of_all ls = elim (heading ls) [
     either [] k = refl
     either (line ∷ rest) k = refl
 
-    more : (head : Head) (rest : List (List ℕ)) (size : ℕ) (read : Result (List (List ℕ)) ℕ) → ((rows : List (List ℕ)) → read ≡ Ok rows → length rows ≡ size)
+    more : (head : Head) (rest : List (List ℕ)) (size : ℕ) (read : Result (List (List ℕ)) ℕ) →
+        ((rows : List (List ℕ)) → read ≡ Ok rows → length rows ≡ size)
         → (unless_more rest (suc (waste_number head.step)) read >>= λ rows. Ok (with_rows head rows))
         ≡ unless_line rest (waste_number head.step + size) (read >>= λ rows. Ok (with_rows head rows))
     more head [] size read long = refl
     more head (line ∷ rest) size (Ok rows) long = ap Err (omega (arith, long rows refl))
     more head (line ∷ rest) size (Err number) long = refl
 
-pub all_fault_given : (ls : List (List ℕ)) (result : Result Held SheetError) (y e : SheetError) → result ≡ Err y → y ≡ e → GivesLeading ls (Err e) → Gives sheet_of result (sheet_of_lines ls)
+pub all_fault_given : (ls : List (List ℕ)) (result : Result Held SheetError) (y e : SheetError) → result ≡ Err y → y ≡ e →
+    GivesLeading ls (Err e) → Gives sheet_of result (sheet_of_lines ls)
 all_fault_given ls result y OutOfMemory is same given = rw (is, same) tt
 all_fault_given ls result y (Line number) is same given = rw (is, same) (sheet_of_all ls ∙ rw given (either (lines_after ls)))
   where
@@ -314,12 +345,14 @@ all_fault_given ls result y (Line number) is same given = rw (is, same) (sheet_o
     either [] = refl
     either (line ∷ rest) = refl
 
-pub all_read : (ls : List (List ℕ)) (leading : LeadingSheet) → IsLeading ls leading → lines leading.rest.now ≡ [] → sheet_of_lines ls ≡ Ok (sheet_of leading.sheet)
+pub all_read : (ls : List (List ℕ)) (leading : LeadingSheet) → IsLeading ls leading → lines leading.rest.now ≡ [] →
+    sheet_of_lines ls ≡ Ok (sheet_of leading.sheet)
 all_read ls leading is none =
     let rest : lines_after ls ≡ [] = sym is.after ∙ none in
     sheet_of_all ls ∙ rw (rest, is.sheet) refl
 
-pub line_after : (ls new : List (List ℕ)) (line : List ℕ) (leading : LeadingSheet) → IsLeading ls leading → lines leading.rest.now ≡ line ∷ new
+pub line_after : (ls new : List (List ℕ)) (line : List ℕ) (leading : LeadingSheet) → IsLeading ls leading →
+    lines leading.rest.now ≡ line ∷ new
     → sheet_of_lines ls ≡ Err (leading.lines + 1)
 line_after ls new line leading is some =
     let rest : lines_after ls ≡ line ∷ new = sym is.after ∙ some in

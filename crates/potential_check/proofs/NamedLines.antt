@@ -26,12 +26,14 @@ pub record IsName (name : List ℕ) : Type 0 where
 decimals-lines : (ns : List ℕ) → AreSmall ns → All IsLine (map decimal ns)
 decimals-lines [] small = All-nil IsLine
 decimals-lines (n ∷ ns) small =
-    All-cons IsLine (decimal n) (map decimal ns) (laws.word n (All-head (λ n. n < 2 ^ 64) n ns small)).0 (decimals-lines ns (All-tail (λ n. n < 2 ^ 64) n ns small))
+    All-cons IsLine (decimal n) (map decimal ns) (laws.word n (All-head (λ n. n < 2 ^ 64) n ns small)).0
+    (decimals-lines ns (All-tail (λ n. n < 2 ^ 64) n ns small))
 
 decimals-words : (ns : List ℕ) → AreSmall ns → All IsWord (map decimal ns)
 decimals-words [] small = All-nil IsWord
 decimals-words (n ∷ ns) small =
-    All-cons IsWord (decimal n) (map decimal ns) (laws.word n (All-head (λ n. n < 2 ^ 64) n ns small)).1 (decimals-words ns (All-tail (λ n. n < 2 ^ 64) n ns small))
+    All-cons IsWord (decimal n) (map decimal ns) (laws.word n (All-head (λ n. n < 2 ^ 64) n ns small)).1
+    (decimals-words ns (All-tail (λ n. n < 2 ^ 64) n ns small))
 
 numbers_of-decimals : (ns : List ℕ) → AreSmall ns → numbers_of (map decimal ns) ≡ Some ns
 unfolding numbers_of
@@ -60,7 +62,8 @@ numbers_in-named_line name ns is_name small =
     let same : bytes_eq name name ≡ true = (bytes_eq-Decides name name).1 refl in
     rw (words-named_line name ns is_name small, same) (numbers_of-decimals ns small)
 
-pub number_in-named_line : (name : List ℕ) (test : ℕ → Bool) (n : ℕ) → IsName name → n < 2 ^ 64 → test n ≡ true → number_in name test (named_line name (n ∷ [])) ≡ Some n
+pub number_in-named_line : (name : List ℕ) (test : ℕ → Bool) (n : ℕ) → IsName name → n < 2 ^ 64 → test n ≡ true →
+    number_in name test (named_line name (n ∷ [])) ≡ Some n
 number_in-named_line name test n is_name small passes =
     rw (numbers_in-named_line name (n ∷ []) is_name (All-cons (λ n. n < 2 ^ 64) n [] small (All-nil (λ n. n < 2 ^ 64))), passes) refl
 
@@ -81,7 +84,8 @@ first_number w ws ns e = go (number_of w) refl (numbers_of ws) refl
     go (Some n) f None g = let none = rw (f, g) at e in absurd cc
     go (Some n) f (Some others) g = let is = rw (f, g) at e in (n, others, f, g, sym (same_some (n ∷ others) ns is))
 
-decimals_more : (w : List ℕ) (ws : List (List ℕ)) (n : ℕ) (others ns : List ℕ) → w ≡ decimal n → ws ≡ map decimal others → ns ≡ n ∷ others → w ∷ ws ≡ map decimal ns
+decimals_more : (w : List ℕ) (ws : List (List ℕ)) (n : ℕ) (others ns : List ℕ) → w ≡ decimal n → ws ≡ map decimal others → ns ≡ n ∷ others →
+    w ∷ ws ≡ map decimal ns
 decimals_more w ws n others ns word after is = rw (is, word, after) refl
 
 -- words that are read as these numbers
@@ -119,7 +123,8 @@ one_number (Some []) n e = absurd cc
 one_number (Some (m ∷ k ∷ ns)) n e = absurd cc
 one_number (Some (m ∷ [])) n e = let same : m ≡ n = cc in rw same refl
 
-pub line-number_in : (name : List ℕ) (test : ℕ → Bool) (line : List ℕ) (n : ℕ) → number_in name test line ≡ Some n → ((m : ℕ) → test m ≡ true → m < 2 ^ 64)
+pub line-number_in : (name : List ℕ) (test : ℕ → Bool) (line : List ℕ) (n : ℕ) → number_in name test line ≡ Some n →
+    ((m : ℕ) → test m ≡ true → m < 2 ^ 64)
     → (line ≡ named_line name (n ∷ [])) × (test n ≡ true)
 line-number_in name test line n e small =
     let passed = passing-some test (option_and_then only_one (numbers_in name line)) n e in

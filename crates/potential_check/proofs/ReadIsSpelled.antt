@@ -16,7 +16,8 @@ use Rattle.tuner_theory.specs.Sheets.{Sheet}
 -- ---- what a step of the reading gave
 
 -- what went on had been read
-went_on : {A B P : Type 0} (read : Result A ℕ) (more : A → Result B ℕ) (y : B) → (read >>= more) ≡ Ok y → ((x : A) → read ≡ Ok x → more x ≡ Ok y → P) → P
+went_on : {A B P : Type 0} (read : Result A ℕ) (more : A → Result B ℕ) (y : B) → (read >>= more) ≡ Ok y →
+    ((x : A) → read ≡ Ok x → more x ≡ Ok y → P) → P
 went_on (Ok x) more y e then = then x refl e
 went_on (Err number) more y e then = absurd cc
 
@@ -34,7 +35,8 @@ record WasRead {A : Type 0} (reading : List ℕ → Option A) (ls after : List (
   first : ls ≡ line ∷ after
   read : reading line ≡ Some x
 
-was_read : {A : Type 0} (number : ℕ) (reading : List ℕ → Option A) (ls after : List (List ℕ)) (x : A) → line_at number reading ls ≡ Ok (x, after) → WasRead reading ls after x
+was_read : {A : Type 0} (number : ℕ) (reading : List ℕ → Option A) (ls after : List (List ℕ)) (x : A) →
+    line_at number reading ls ≡ Ok (x, after) → WasRead reading ls after x
 was_read {A = A} number reading [] after x e = absurd cc
 was_read {A = A} number reading (line ∷ ls) after x e = go (reading line) refl
   where
@@ -74,15 +76,21 @@ rows_read [] number most rows e =
 rows_read (line ∷ ls) number zero rows e = absurd cc
 rows_read (line ∷ ls) number (suc most) rows e = go (rows_read ls (suc number) most) (row_in line) refl
   where
-    go : ((rows : List (List ℕ)) → rows_from (suc number) most ls ≡ Ok rows → (ls ≡ map (named_line (codes "row")) rows) × (length rows ≤ most) × All IsRow rows)
-        → (o : Option (List ℕ)) → row_in line ≡ o → (line ∷ ls ≡ map (named_line (codes "row")) rows) × (length rows ≤ suc most) × All IsRow rows
+    go : ((rows : List (List ℕ)) → rows_from (suc number) most ls ≡ Ok rows →
+        (ls ≡ map (named_line (codes "row")) rows) × (length rows ≤ most) × All IsRow rows)
+        → (o : Option (List ℕ)) → row_in line ≡ o →
+        (line ∷ ls ≡ map (named_line (codes "row")) rows) × (length rows ≤ suc most) × All IsRow rows
     go others None f = let none = rw f at e in absurd cc
     go others (Some row) f =
         let spelled = line-row_in line row f in
         went_on (rows_from (suc number) most ls) (λ more. Ok (row ∷ more)) rows (rw f at e) (λ more is_more is.
         let same : row ∷ more ≡ rows = cc in
         let rest = others more is_more in
-        rw (← same, spelled.0) (ap (λ (after : List (List ℕ)). named_line (codes "row") row ∷ after) rest.0, omega (arith, rest.1), All-cons IsRow row more spelled.1 rest.2))
+        rw (← same, spelled.0) (
+          ap (λ (after : List (List ℕ)). named_line (codes "row") row ∷ after) rest.0,
+          omega (arith, rest.1),
+          All-cons IsRow row more spelled.1 rest.2,
+        ))
 
 abbrev as_read : Sheet → Result Sheet ℕ
 as_read s = Ok s
@@ -91,9 +99,11 @@ same_sheet : (s t : Sheet) → as_read s ≡ as_read t → s ≡ t
 same_sheet s t e = cc
 
 -- all that was read
-whole_read : (ls after_table after_limit after_step after_waste : List (List ℕ)) (s : Sheet) → All IsLine ls → line_at 1 table_in ls ≡ Ok (s.table, after_table)
+whole_read : (ls after_table after_limit after_step after_waste : List (List ℕ)) (s : Sheet) → All IsLine ls →
+    line_at 1 table_in ls ≡ Ok (s.table, after_table)
     → line_at 2 limit_in after_table ≡ Ok (s.limit, after_limit) → step_at after_limit ≡ Some (s.step, after_step)
-    → line_at (waste_number s.step) waste_in after_step ≡ Ok (s.waste, after_waste) → rows_from (suc (waste_number s.step)) 32 after_waste ≡ Ok s.rows
+    → line_at (waste_number s.step) waste_in after_step ≡ Ok (s.waste, after_waste) →
+    rows_from (suc (waste_number s.step)) 32 after_waste ≡ Ok s.rows
     → (ls ≡ sheet_lines s) × IsWithinLimits s
 whole_read ls after_table after_limit after_step after_waste s all is_table is_limit is_step is_waste is_rows =
     let first = was_read 1 table_in ls after_table s.table is_table in
@@ -152,7 +162,9 @@ lines_read ls s all e =
     went_on (head_of_lines ls) _ s e (λ head is_head e.
     went_on (rows_from (suc (waste_number head.0.step)) 32 head.1) _ s e (λ rows is_rows e.
     let parts = head_read ls head.1 head.0 is_head in
-    let read = whole_read ls parts.after_table parts.after_limit parts.after_step head.1 (with_rows head.0 rows) all parts.table parts.limit parts.step parts.waste is_rows in
+    let read =
+    whole_read ls parts.after_table parts.after_limit parts.after_step head.1 (with_rows head.0 rows) all parts.table parts.limit
+    parts.step parts.waste is_rows in
     subst (λ (t : Sheet). (ls ≡ sheet_lines t) × IsWithinLimits t) (same_sheet (with_rows head.0 rows) s e) read))
 
 -- What is read as a sheet is its text, and the sheet is within the limits.

@@ -6,7 +6,8 @@ use Rattle.potential_check.specs.Leading.{is_row_line}
 use Rattle.potential_check.specs.SheetText.{row_in, row_of_words, rows_from, words_after}
 
 -- A line with this name is a row line, and it is the row that its other words spell.
-pub named_row : (line : List ℕ) (rest : List (List ℕ)) → words_after (codes "row") (words line) ≡ Some rest → (is_row_line line ≡ true) × (row_in line ≡ row_of_words rest)
+pub named_row : (line : List ℕ) (rest : List (List ℕ)) → words_after (codes "row") (words line) ≡ Some rest →
+    (is_row_line line ≡ true) × (row_in line ≡ row_of_words rest)
 named_row line rest named = (rw named refl, rw named refl)
 
 -- What is read, where these rows were read before.
@@ -19,13 +20,15 @@ pub record RowsSoFar (first : ℕ) (all rest front : List (List ℕ)) : Type 0 w
   pub few : length front ≤ 32
 
 -- a line more than there is room for
-pub rows_from-full : (first : ℕ) (all rest new front : List (List ℕ)) (line : List ℕ) → RowsSoFar first all rest front → rest ≡ line ∷ new → length front ≡ 32
+pub rows_from-full : (first : ℕ) (all rest new front : List (List ℕ)) (line : List ℕ) → RowsSoFar first all rest front → rest ≡ line ∷ new →
+    length front ≡ 32
     → rows_from first 32 all ≡ Err (first + length front)
 unfolding rows_from
 rows_from-full first all rest new front line so_far parts full = so_far.read ∙ rw (parts, full) refl
 
 -- a line that is no row
-pub rows_from-no_row : (first : ℕ) (all rest new front : List (List ℕ)) (line : List ℕ) → RowsSoFar first all rest front → rest ≡ line ∷ new → length front < 32
+pub rows_from-no_row : (first : ℕ) (all rest new front : List (List ℕ)) (line : List ℕ) → RowsSoFar first all rest front →
+    rest ≡ line ∷ new → length front < 32
     → row_in line ≡ None → rows_from first 32 all ≡ Err (first + length front)
 unfolding rows_from
 rows_from-no_row first all rest new front line so_far parts room none =
@@ -33,7 +36,8 @@ rows_from-no_row first all rest new front line so_far parts room none =
     so_far.read ∙ rw (parts, most, none) refl
 
 -- a row more
-pub rows_from-more : (first : ℕ) (all rest new front : List (List ℕ)) (line row : List ℕ) → RowsSoFar first all rest front → rest ≡ line ∷ new → length front < 32
+pub rows_from-more : (first : ℕ) (all rest new front : List (List ℕ)) (line row : List ℕ) → RowsSoFar first all rest front →
+    rest ≡ line ∷ new → length front < 32
     → row_in line ≡ Some row → RowsSoFar first all new (front ++ row ∷ [])
 unfolding rows_from
 rows_from-more first all rest new front line row so_far parts room is_row =
@@ -42,7 +46,9 @@ rows_from-more first all rest new front line row so_far parts room is_row =
     let number : first + suc (length front) ≡ suc (first + length front) = omega arith in
     let left : 32 - suc (length front) ≡ 31 - length front = omega arith in
     record {
-      read = so_far.read ∙ rw (parts, most, is_row, longer, number, left) (go (rows_from (suc (first + length front)) (31 - length front) new));
+      read =
+          so_far.read ∙ rw (parts, most, is_row, longer, number, left)
+          (go (rows_from (suc (first + length front)) (31 - length front) new));
       few = omega arith;
     }
   where
@@ -51,6 +57,7 @@ rows_from-more first all rest new front line row so_far parts room is_row =
     go (Err number) = refl
 
 -- no line more
-pub rows_from-end : (first : ℕ) (all rest front : List (List ℕ)) → RowsSoFar first all rest front → rest ≡ [] → rows_from first 32 all ≡ Ok front
+pub rows_from-end : (first : ℕ) (all rest front : List (List ℕ)) → RowsSoFar first all rest front → rest ≡ [] →
+    rows_from first 32 all ≡ Ok front
 unfolding rows_from
 rows_from-end first all rest front so_far none = so_far.read ∙ rw (none, append-nil front) refl

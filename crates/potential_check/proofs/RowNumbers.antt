@@ -34,7 +34,8 @@ pub record IsNextWord (old new : List (List ℕ)) (read : Number) : Type 0 where
   pub parts : old ≡ word ∷ new
   pub says : read ≡ classified (number_of word)
 
-pub next_word : (old new : List (List ℕ)) (read : Number) → Some read ≡ option_map (λ word. classified (number_of word)) (slice_get old 0) → new ≡ drop 1 old
+pub next_word : (old new : List (List ℕ)) (read : Number) → Some read ≡ option_map (λ word. classified (number_of word)) (slice_get old 0) →
+    new ≡ drop 1 old
     → IsNextWord old new read
 next_word [] new read number taken = absurd cc
 next_word (w ∷ ws) new read number taken = record { word = w; parts = ap (λ (rest : List (List ℕ)). w ∷ rest) (sym taken); says = cc }
@@ -61,7 +62,9 @@ pub only-more : (w x : List ℕ) (ws : List (List ℕ)) → only (w ∷ x ∷ ws
 unfolding numbers_of
 only-more w x ws = go (number_of w) (number_of x) (numbers_of ws)
   where
-    go : (o p : Option ℕ) (q : Option (List ℕ)) → passing fits (option_and_then only_one (option_and_then (λ n. option_map (λ ns. n ∷ ns) (option_and_then (λ n. option_map (λ ns. n ∷ ns) q) p)) o)) ≡ None
+    go : (o p : Option ℕ) (q : Option (List ℕ)) →
+        passing fits (option_and_then only_one
+        (option_and_then (λ n. option_map (λ ns. n ∷ ns) (option_and_then (λ n. option_map (λ ns. n ∷ ns) q) p)) o)) ≡ None
     go None p q = refl
     go (Some n) None q = refl
     go (Some n) (Some m) None = refl
@@ -72,7 +75,8 @@ pub only-one : (w : List ℕ) → only (w ∷ []) ≡ passing fits (number_of w)
 unfolding numbers_of
 only-one w = go (number_of w)
   where
-    go : (o : Option ℕ) → passing fits (option_and_then only_one (option_and_then (λ n. option_map (λ ns. n ∷ ns) (Some [])) o)) ≡ passing fits o
+    go : (o : Option ℕ) → passing fits (option_and_then only_one (option_and_then (λ n. option_map (λ ns. n ∷ ns) (Some [])) o))
+        ≡ passing fits o
     go None = refl
     go (Some n) = refl
 
@@ -100,14 +104,18 @@ pub record RowSoFar (all rest : List (List ℕ)) (front : List ℕ) : Type 0 whe
   pub small : list_all fits front ≡ true
 
 -- a word that is no number of at most 64 bits
-pub row_on-no_number : (front : List ℕ) (rest new : List (List ℕ)) (w : List ℕ) → rest ≡ w ∷ new → passing fits (number_of w) ≡ None → row_on front rest ≡ None
+pub row_on-no_number : (front : List ℕ) (rest new : List (List ℕ)) (w : List ℕ) → rest ≡ w ∷ new → passing fits (number_of w) ≡ None →
+    row_on front rest ≡ None
 unfolding numbers_of
 row_on-no_number front rest new w parts none = rw parts (go (number_of w) none (numbers_of new))
   where
     large : (n : ℕ) (ns : List ℕ) → fits n ≡ false → is_row (front ++ n ∷ ns) ≡ false
-    large n ns e = and_right (leb (length (front ++ n ∷ ns)) 1023) _ (list_all-append fits front (n ∷ ns) ∙ rw e (and_right (list_all fits front) false refl))
+    large n ns e =
+        and_right (leb (length (front ++ n ∷ ns)) 1023) _
+        (list_all-append fits front (n ∷ ns) ∙ rw e (and_right (list_all fits front) false refl))
 
-    go : (o : Option ℕ) → passing fits o ≡ None → (p : Option (List ℕ)) → passing is_row (option_map (λ ns. front ++ ns) (option_and_then (λ n. option_map (λ ns. n ∷ ns) p) o)) ≡ None
+    go : (o : Option ℕ) → passing fits o ≡ None → (p : Option (List ℕ)) →
+        passing is_row (option_map (λ ns. front ++ ns) (option_and_then (λ n. option_map (λ ns. n ∷ ns) p) o)) ≡ None
     go None e p = refl
     go (Some n) e None = refl
     go (Some n) e (Some ns) = rw (large n ns (no_fit n (fits n) refl e)) refl
@@ -124,13 +132,15 @@ row_on-full front rest new w parts full = rw parts (go (number_of w) (numbers_of
     long : (n : ℕ) (ns : List ℕ) → is_row (front ++ n ∷ ns) ≡ false
     long n ns = and_left _ (list_all fits (front ++ n ∷ ns)) (lt-leb _ 1023 (omega (arith, length-append front (n ∷ ns))))
 
-    go : (o : Option ℕ) (p : Option (List ℕ)) → passing is_row (option_map (λ ns. front ++ ns) (option_and_then (λ n. option_map (λ ns. n ∷ ns) p) o)) ≡ None
+    go : (o : Option ℕ) (p : Option (List ℕ)) →
+        passing is_row (option_map (λ ns. front ++ ns) (option_and_then (λ n. option_map (λ ns. n ∷ ns) p) o)) ≡ None
     go None p = refl
     go (Some n) None = refl
     go (Some n) (Some ns) = rw (long n ns) refl
 
 -- a number more
-pub row_on-more : (all rest new : List (List ℕ)) (w front : List ℕ) (n : ℕ) → RowSoFar all rest front → rest ≡ w ∷ new → passing fits (number_of w) ≡ Some n
+pub row_on-more : (all rest new : List (List ℕ)) (w front : List ℕ) (n : ℕ) → RowSoFar all rest front → rest ≡ w ∷ new →
+    passing fits (number_of w) ≡ Some n
     → length front < 1023 → RowSoFar all new (front ++ n ∷ [])
 unfolding numbers_of
 row_on-more all rest new w front n so_far parts passes room =
@@ -141,7 +151,9 @@ row_on-more all rest new w front n so_far parts passes room =
       small = list_all-append fits front (n ∷ []) ∙ rw (so_far.small, is.1) refl;
     }
   where
-    go : (p : Option (List ℕ)) → passing is_row (option_map (λ ns. front ++ ns) (option_map (λ ns. n ∷ ns) p)) ≡ passing is_row (option_map (λ ns. front ++ n ∷ [] ++ ns) p)
+    go : (p : Option (List ℕ)) →
+        passing is_row (option_map (λ ns. front ++ ns) (option_map (λ ns. n ∷ ns) p))
+        ≡ passing is_row (option_map (λ ns. front ++ n ∷ [] ++ ns) p)
     go None = refl
     go (Some ns) = rw (append_assoc front (n ∷ []) ns) refl
 

@@ -66,7 +66,9 @@ step_small s is_step = let small : s ≤ 8 = grind (arith, nat_tests) in omega a
 
 all_fit : (ns : List ℕ) → AreSmall ns → list_all fits ns ≡ true
 all_fit [] small = refl
-all_fit (n ∷ ns) small = and_from (fits n) (list_all fits ns) (lt-ltb n (2 ^ 64) (All-head (λ n. n < 2 ^ 64) n ns small)) (all_fit ns (All-tail (λ n. n < 2 ^ 64) n ns small))
+all_fit (n ∷ ns) small =
+    and_from (fits n) (list_all fits ns) (lt-ltb n (2 ^ 64) (All-head (λ n. n < 2 ^ 64) n ns small))
+    (all_fit ns (All-tail (λ n. n < 2 ^ 64) n ns small))
 
 fitted : (ns : List ℕ) → list_all fits ns ≡ true → AreSmall ns
 fitted ns e = All-weaker (λ n. fits n ≡ true) (λ n. n < 2 ^ 64) (λ n f. ltb-true n (2 ^ 64) f) ns (AllPass-from_list_all fits ns e)
@@ -97,7 +99,8 @@ pub row_in-line : (ns : List ℕ) → IsRow ns → row_in (named_line (codes "ro
 row_in-line ns is = rw (numbers_in-named_line (codes "row") ns row_is_name is.1, row_passes ns is) refl
 
 pub legal_small : (table : List ℕ) → IsLegalTable 1 table → AreSmall table
-legal_small table legal = All-weaker (λ class. (2 ≤ class) × (class ≤ 1024)) (λ n. n < 2 ^ 64) (λ class within. omega (arith, within.1)) table legal.in_range
+legal_small table legal =
+    All-weaker (λ class. (2 ≤ class) × (class ≤ 1024)) (λ n. n < 2 ^ 64) (λ class within. omega (arith, within.1)) table legal.in_range
 
 pub classes_is_name : IsName (codes "classes")
 unfolding is_plain

@@ -14,7 +14,8 @@ need-class counts step (suc i) need needs counted bytes held some le e =
     let front : suc i - 1 ≡ i = omega arith in
     let at = place_is_class counts step (suc i) held.is_step held.are_counts some le in
     let is : need ≡ need_at counts step (suc i) =
-    e ∙ (ap (λ k. get_or needs k need) front ∙ (ap (λ (xs : List ℕ). get_or xs i need) held.needs_are ∙ get_or_default (distinct_needs counts step) i need 0 le)) in
+    e ∙ (ap (λ k. get_or needs k need) front
+    ∙ (ap (λ (xs : List ℕ). get_or xs i need) held.needs_are ∙ get_or_default (distinct_needs counts step) i need 0 le)) in
     (omega (arith, at.0, is), omega (arith, at.1, is))
 
 -- the waste by the need at the span's end and the sums up to its two ends, each step of it a number of 64 bits

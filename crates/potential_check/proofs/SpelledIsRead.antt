@@ -22,7 +22,8 @@ full_line name ns is_name small = (named_line-is_line name ns is_name small, nam
 rows-full : (rows : List (List ℕ)) → All IsRow rows → All IsFullLine (map (named_line (codes "row")) rows)
 rows-full [] all = All-nil IsFullLine
 rows-full (row ∷ rows) all =
-    All-cons IsFullLine (named_line (codes "row") row) (map (named_line (codes "row")) rows) (full_line (codes "row") row row_is_name (All-head IsRow row rows all).1)
+    All-cons IsFullLine (named_line (codes "row") row) (map (named_line (codes "row")) rows)
+    (full_line (codes "row") row row_is_name (All-head IsRow row rows all).1)
     (rows-full rows (All-tail IsRow row rows all))
 
 step_lines-full : (step : ℕ) → IsStep step → All IsFullLine (step_lines step)
@@ -30,7 +31,8 @@ step_lines-full step is_step = elim (cases_eq step 1) [
   | inl one ↦ rw one (All-nil IsFullLine)
   | inr other ↦
       rw (ne_eqb step 1 other)
-      (All-cons IsFullLine (named_line (codes "step") (step ∷ [])) [] (full_line (codes "step") (step ∷ []) step_is_name (one_small step (step_small step is_step))) (All-nil IsFullLine))
+      (All-cons IsFullLine (named_line (codes "step") (step ∷ [])) []
+      (full_line (codes "step") (step ∷ []) step_is_name (one_small step (step_small step is_step))) (All-nil IsFullLine))
 ]
 
 sheet_lines-full : (s : Sheet) → IsWithinLimits s → All IsFullLine (sheet_lines s)
@@ -47,7 +49,8 @@ sheet_lines-full s within =
 
 -- ---- they are read one after the other
 
-read_at : {A : Type 0} (number : ℕ) (reading : List ℕ → Option A) (line : List ℕ) (ls : List (List ℕ)) (x : A) → reading line ≡ Some x → line_at number reading (line ∷ ls) ≡ Ok (x, ls)
+read_at : {A : Type 0} (number : ℕ) (reading : List ℕ → Option A) (line : List ℕ) (ls : List (List ℕ)) (x : A) → reading line ≡ Some x →
+    line_at number reading (line ∷ ls) ≡ Ok (x, ls)
 read_at number reading line ls x e = rw e refl
 
 -- the line of another name is no step line
@@ -56,15 +59,21 @@ step_at-lines : (step waste : ℕ) (ls : List (List ℕ)) → IsStep step → wa
 step_at-lines step waste ls is_step small = elim (cases_eq step 1) [
   | inl one ↦ rw (one, words-named_line (codes "waste") (waste ∷ []) waste_is_name (one_small waste small)) refl
   | inr other ↦
-      rw (ne_eqb step 1 other, step_in-line step is_step other, words-named_line (codes "step") (step ∷ []) step_is_name (one_small step (step_small step is_step))) refl
+      rw (
+        ne_eqb step 1 other,
+        step_in-line step is_step other,
+        words-named_line (codes "step") (step ∷ []) step_is_name (one_small step (step_small step is_step)),
+      ) refl
 ]
 
-rows_from-lines : (rows : List (List ℕ)) (number most : ℕ) → length rows ≤ most → All IsRow rows → rows_from number most (map (named_line (codes "row")) rows) ≡ Ok rows
+rows_from-lines : (rows : List (List ℕ)) (number most : ℕ) → length rows ≤ most → All IsRow rows →
+    rows_from number most (map (named_line (codes "row")) rows) ≡ Ok rows
 unfolding rows_from
 rows_from-lines [] number most few all = refl
 rows_from-lines (row ∷ rows) number zero few all = absurd (omega arith)
 rows_from-lines (row ∷ rows) number (suc most) few all =
-    rw (row_in-line row (All-head IsRow row rows all), rows_from-lines rows (suc number) most (omega arith) (All-tail IsRow row rows all)) refl
+    rw (row_in-line row (All-head IsRow row rows all), rows_from-lines rows (suc number) most (omega arith) (All-tail IsRow row rows all))
+    refl
 
 -- the rows after a head are read
 read_on : (ls after : List (List ℕ)) (head : Head) (rows : List (List ℕ)) → head_of_lines ls ≡ Ok (head, after)
@@ -80,6 +89,7 @@ sheet_in-spelled text s spells =
     let table = read_at 1 table_in (class_line s.table) _ s.table (table_in-line s.table within.table) in
     let limit = read_at 2 limit_in (named_line (codes "limit") (s.limit ∷ [])) _ s.limit (limit_in-line s.limit within.limit) in
     let step = step_at-lines s.step s.waste (map (named_line (codes "row")) s.rows) within.step within.waste in
-    let waste = read_at (waste_number s.step) waste_in (named_line (codes "waste") (s.waste ∷ [])) _ s.waste (waste_in-line s.waste within.waste) in
+    let waste =
+    read_at (waste_number s.step) waste_in (named_line (codes "waste") (s.waste ∷ [])) _ s.waste (waste_in-line s.waste within.waste) in
     let rows = rows_from-lines s.rows (waste_number s.step + 1) 32 within.few within.rows in
     ap sheet_of_lines is ∙ read_on _ _ _ s.rows (all_read _ _ _ table _ _ limit _ _ step _ _ waste) rows

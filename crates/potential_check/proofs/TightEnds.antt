@@ -43,12 +43,14 @@ module _ (s : Spanned) (is_step : IsStep s.step) (before row : List ℕ) (full :
         walked.hold k end from within (omega arith) (omega arith) walked.within,
         places_cross s.counts s.step i k j end is_step (omega arith) (omega arith) (omega arith) walked.within,
       )
-      | inr not ↦ (let same : k ≡ i = omega arith in omega (arith, ap (slice_index row) same, ap (λ m. edge_bound s before m j) same, here j (omega arith) above below))
+      | inr not ↦ (let same : k ≡ i = omega arith in
+          omega (arith, ap (slice_index row) same, ap (λ m. edge_bound s before m j) same, here j (omega arith) above below))
     ]
   ]
 
   -- a place more
-  pub walked-more : (i later end tight : ℕ) → later ≡ i + 1 → IsWalked s before row later end → i < length row → IsTightEnd s before row i end tight
+  pub walked-more : (i later end tight : ℕ) → later ≡ i + 1 → IsWalked s before row later end → i < length row →
+      IsTightEnd s before row i end tight
       → IsWalked s before row i tight
   walked-more i later end tight is so_far some found = let walked : IsWalked s before row (i + 1) end = rw is at so_far in record {
     within = omega (arith, walked.within, found.within);
@@ -76,9 +78,12 @@ module _ (s : Spanned) (is_step : IsStep s.step) (before row : List ℕ) (full :
   }
 
   -- the whole row
-  pub walked-all : (i end : ℕ) → i ≡ 0 → IsWalked s before row i end → ((j : ℕ) → 0 < j → j < end → slice_index row 0 ≤ edge_bound s before 0 j) → EdgesHold s before row
+  pub walked-all : (i end : ℕ) → i ≡ 0 → IsWalked s before row i end →
+      ((j : ℕ) → 0 < j → j < end → slice_index row 0 ≤ edge_bound s before 0 j) → EdgesHold s before row
   walked-all i end is so_far first = let walked : IsWalked s before row 0 end = rw is at so_far in record {
-    each = λ i j some lt upto. walked-lower 0 end 0 walked (omega arith) (λ j later _ below. first j later below) i j (omega arith) some lt (omega arith) upto;
+    each =
+        λ i j some lt upto. walked-lower 0 end 0 walked (omega arith) (λ j later _ below. first j later below) i j (omega arith) some lt
+        (omega arith) upto;
   }
 
   -- where all edges hold, a place with a tight end has one up to that of the next place

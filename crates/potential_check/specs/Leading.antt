@@ -6,7 +6,7 @@ use Rattle.potential_check.specs.Sheets.{sheet_of}
 use Rattle.potential_check.specs.SheetText.{is_named, sheet_of_lines}
 use Rattle.potential_check.specs.declared.fault.SheetError.{SheetError}
 use Rattle.potential_check.specs.declared.fault.SheetError.TheVariants.{OutOfMemory, Line}
-use Rattle.potential_check.specs.declared.leading.LeadingSheet.{LeadingSheet}
+use Rattle.potential_check.specs.declared.leading_sheet.LeadingSheet.{LeadingSheet}
 
 -- Whether a line's first word is `row`.
 abbrev pub is_row_line : List ℕ → Bool

@@ -6,7 +6,7 @@ mod certificate;
 mod checker;
 mod fault;
 pub mod laws;
-mod leading;
+mod leading_sheet;
 mod reading;
 mod rows;
 mod sheet;
@@ -17,7 +17,7 @@ mod writing;
 
 pub use checker::check;
 pub use fault::SheetError;
-pub use leading::LeadingSheet;
+pub use leading_sheet::LeadingSheet;
 pub use reading::{read_leading_sheet, read_sheet};
 pub use rows::Rows;
 pub use sheet::Sheet;

@@ -7,7 +7,7 @@ ghost use Rattle.potential_check.specs.Sheets.{sheet_of};
 ghost use Rattle.potential_check.specs.SheetText.{Gives, IsNextNamed, IsWithinLimits, head_of_lines, is_named, rows_from, sheet_in, step_at, waste_number};
 
 use crate::fault::SheetError;
-use crate::leading::LeadingSheet;
+use crate::leading_sheet::LeadingSheet;
 use crate::rows::Rows;
 use crate::sheet::Sheet;
 use crate::sheet_line::{ROW, STEP, limit_in, row_in, step_in, table_in, waste_in, words_after};

@@ -21,7 +21,8 @@ unfolding requests_below
 get_or-requests_below n sizes k within = get_or-map-range_with_len (requests_of sizes) 0 n k k 0 within (omega arith)
 
 -- a list with the number of each size's requests is that of the counts
-requests_below-is : (counts : List ℕ) (n : ℕ) (sizes : List ℕ) → length counts ≡ n → ((k : ℕ) → k < n → get_or counts k 0 ≡ requests_of sizes k) → counts ≡ requests_below n sizes
+requests_below-is : (counts : List ℕ) (n : ℕ) (sizes : List ℕ) → length counts ≡ n →
+    ((k : ℕ) → k < n → get_or counts k 0 ≡ requests_of sizes k) → counts ≡ requests_below n sizes
 unfolding requests_below
 requests_below-is counts n sizes long each = fill_by_all (requests_of sizes) counts n 0 long each
 
@@ -34,10 +35,12 @@ requests_of-other : (sizes : List ℕ) (n k : ℕ) → n ≢ k → requests_of (
 requests_of-other sizes n k other = sum_by_push (λ size. cond (eqb size k) 1 0) sizes n ∙ rw (ne_eqb n k other) (omega arith)
 
 large_requests-more : (sizes : List ℕ) (n : ℕ) → largest_counted < n → large_requests (sizes ++ n ∷ []) ≡ large_requests sizes + 1
-large_requests-more sizes n large = sum_by_push (λ size. cond (ltb largest_counted size) 1 0) sizes n ∙ rw (lt-ltb largest_counted n large) refl
+large_requests-more sizes n large =
+    sum_by_push (λ size. cond (ltb largest_counted size) 1 0) sizes n ∙ rw (lt-ltb largest_counted n large) refl
 
 large_requests-same : (sizes : List ℕ) (n : ℕ) → n ≤ largest_counted → large_requests (sizes ++ n ∷ []) ≡ large_requests sizes
-large_requests-same sizes n small = sum_by_push (λ size. cond (ltb largest_counted size) 1 0) sizes n ∙ rw (le-ltb largest_counted n small) (omega arith)
+large_requests-same sizes n small =
+    sum_by_push (λ size. cond (ltb largest_counted size) 1 0) sizes n ∙ rw (le-ltb largest_counted n small) (omega arith)
 
 -- a request of a size below the bound raises the count of its size,
 requests_below-raised : (bound : ℕ) (sizes : List ℕ) (n : ℕ) → n < bound
@@ -47,8 +50,10 @@ requests_below-raised bound sizes n within =
     let raised = set before n (get_or before n 0 + 1) in
     let long : length before ≡ bound = length-requests_below bound sizes in
     requests_below-is raised bound (sizes ++ n ∷ []) (length-set before n (get_or before n 0 + 1) ∙ long) (λ k below. elim (cases_eq k n) [
-      | inl same ↦ rw (same, requests_of-same sizes n, ← get_or-requests_below bound sizes n within) (get_or-set_same before n (get_or before n 0 + 1) 0 (omega (arith, long)))
-      | inr other ↦ get_or-set_other before n k (get_or before n 0 + 1) 0 other ∙ get_or-requests_below bound sizes k below ∙ sym (requests_of-other sizes n k (λ same. other (sym same)))
+      | inl same ↦ rw (same, requests_of-same sizes n, ← get_or-requests_below bound sizes n within)
+          (get_or-set_same before n (get_or before n 0 + 1) 0 (omega (arith, long)))
+      | inr other ↦ get_or-set_other before n k (get_or before n 0 + 1) 0 other ∙ get_or-requests_below bound sizes k below
+          ∙ sym (requests_of-other sizes n k (λ same. other (sym same)))
     ])
 
 -- and one of another size none of them
@@ -57,11 +62,13 @@ requests_below-same bound sizes n past =
     requests_below-is (requests_below bound sizes) bound (sizes ++ n ∷ []) (length-requests_below bound sizes)
     (λ k below. get_or-requests_below bound sizes k below ∙ sym (requests_of-other sizes n k (λ same. omega arith)))
 
-same_parts : (a b : List ℕ) (c d : ℕ) → a ≡ b → c ≡ d → (let p : Profile = record { counts = a; large = c } in p) ≡ record { counts = b; large = d }
+same_parts : (a b : List ℕ) (c d : ℕ) → a ≡ b → c ≡ d →
+    (let p : Profile = record { counts = a; large = c } in p) ≡ record { counts = b; large = d }
 same_parts a b c d counts large = rw (counts, large) refl
 
 -- One request more gives the profile of all of them.
-pub with_one_more-profile_of_sizes : (sizes : List ℕ) (n : ℕ) → with_one_more (profile_of_sizes sizes) n ≡ profile_of_sizes (sizes ++ n ∷ [])
+pub with_one_more-profile_of_sizes : (sizes : List ℕ) (n : ℕ) →
+    with_one_more (profile_of_sizes sizes) n ≡ profile_of_sizes (sizes ++ n ∷ [])
 with_one_more-profile_of_sizes sizes n = go (leb n largest_counted) refl
   where
     go : (b : Bool) → leb n largest_counted ≡ b → with_one_more (profile_of_sizes sizes) n ≡ profile_of_sizes (sizes ++ n ∷ [])

@@ -39,7 +39,15 @@ entry_of-words : (next : ℕ) (entry : Entry) → IsNext next 0 entry → entry_
 entry_of-words next (Size size count) is =
     let small : size < 2 ^ 64 = omega (arith, is.2) in
     let small_count : count < 2 ^ 64 = omega (arith, is.4) in
-    rw (number_is_not_large size small, laws.read size small, laws.read count small_count, le-ltb largest_counted size is.2, le-ltb size next is.1, le-leb 1 count is.3, le-leb count most_counted is.4) refl
+    rw (
+      number_is_not_large size small,
+      laws.read size small,
+      laws.read count small_count,
+      le-ltb largest_counted size is.2,
+      le-ltb size next is.1,
+      le-leb 1 count is.3,
+      le-leb count most_counted is.4,
+    ) refl
 entry_of-words next (Large count) is =
     let small : count < 2 ^ 64 = omega (arith, is.2) in
     rw (laws.read count small, le-leb 1 count is.1, le-leb count most_counted is.2) refl
@@ -52,15 +60,18 @@ name_is_word = (
 )
 
 -- two words make a line, and are its words
-two_words : (a b : List ℕ) → IsLine a × IsWord a → IsLine b × IsWord b → IsLine (line_of (a ∷ b ∷ [])) × (words (line_of (a ∷ b ∷ [])) ≡ a ∷ b ∷ [])
+two_words : (a b : List ℕ) → IsLine a × IsWord a → IsLine b × IsWord b →
+    IsLine (line_of (a ∷ b ∷ [])) × (words (line_of (a ∷ b ∷ [])) ≡ a ∷ b ∷ [])
 two_words a b of_a of_b = (
   laws.makes_line (a ∷ b ∷ []) (All-cons IsLine a (b ∷ []) of_a.0 (All-cons IsLine b [] of_b.0 (All-nil IsLine))),
   laws.written_words a (b ∷ []) (All-cons IsWord a (b ∷ []) of_a.1 (All-cons IsWord b [] of_b.1 (All-nil IsWord))),
 )
 
 -- an entry's line is a line, and its words are the entry's
-line_of_entry : (next : ℕ) (entry : Entry) → IsNext next 0 entry → IsLine (entry_line entry) × (words (entry_line entry) ≡ entry_words entry)
-line_of_entry next (Size size count) is = two_words (decimal size) (decimal count) (laws.word size (omega (arith, is.2))) (laws.word count (omega (arith, is.4)))
+line_of_entry : (next : ℕ) (entry : Entry) → IsNext next 0 entry →
+    IsLine (entry_line entry) × (words (entry_line entry) ≡ entry_words entry)
+line_of_entry next (Size size count) is =
+    two_words (decimal size) (decimal count) (laws.word size (omega (arith, is.2))) (laws.word count (omega (arith, is.4)))
 line_of_entry next (Large count) is = two_words (codes "large") (decimal count) name_is_word (laws.word count (omega (arith, is.2)))
 
 -- An entry's line is one;
@@ -84,10 +95,12 @@ record IsRead (next : ℕ) (first second : List ℕ) (entry : Entry) : Type 0 wh
   spelled : first ∷ second ∷ [] ≡ entry_words entry
 
 -- a count that is taken is in range
-counted_parts : (entry : ℕ → Entry) (count : ℕ) (read : Entry) → counted entry count ≡ Ok read → (entry count ≡ read) × (1 ≤ count) × (count ≤ most_counted)
+counted_parts : (entry : ℕ → Entry) (count : ℕ) (read : Entry) → counted entry count ≡ Ok read →
+    (entry count ≡ read) × (1 ≤ count) × (count ≤ most_counted)
 counted_parts entry count read e = go (leb 1 count) refl (leb count most_counted) refl
   where
-    go : (some : Bool) → leb 1 count ≡ some → (few : Bool) → leb count most_counted ≡ few → (entry count ≡ read) × (1 ≤ count) × (count ≤ most_counted)
+    go : (some : Bool) → leb 1 count ≡ some → (few : Bool) → leb count most_counted ≡ few →
+        (entry count ≡ read) × (1 ≤ count) × (count ≤ most_counted)
     go false f few g = let none = rw f at e in absurd cc
     go true f false g = let none = rw (f, g) at e in absurd cc
     go true f true g =
@@ -95,7 +108,8 @@ counted_parts entry count read e = go (leb 1 count) refl (leb count most_counted
         (is, leb-true 1 count f, leb-true count most_counted g)
 
 -- two numbers in range
-size_read : (next : ℕ) (first second : List ℕ) (size count : ℕ) (entry : Entry) → number_of first ≡ Some size → number_of second ≡ Some count
+size_read : (next : ℕ) (first second : List ℕ) (size count : ℕ) (entry : Entry) → number_of first ≡ Some size →
+    number_of second ≡ Some count
     → size_entry next size count ≡ Ok entry → IsRead next first second entry
 size_read next first second size count entry is_size is_count e = go (ltb largest_counted size) refl (ltb size next) refl
   where
@@ -114,7 +128,8 @@ numbers_read : (next : ℕ) (first second : List ℕ) (o p : Option ℕ) (entry 
     → numbers_entry next o p ≡ Ok entry → IsRead next first second entry
 numbers_read next first second None p entry is_size is_count e = absurd cc
 numbers_read next first second (Some size) None entry is_size is_count e = absurd cc
-numbers_read next first second (Some size) (Some count) entry is_size is_count e = size_read next first second size count entry is_size is_count e
+numbers_read next first second (Some size) (Some count) entry is_size is_count e =
+    size_read next first second size count entry is_size is_count e
 
 -- the word `large` and a number
 large_read : (next : ℕ) (first second : List ℕ) (o : Option ℕ) (entry : Entry) → first ≡ codes "large" → number_of second ≡ o
@@ -130,13 +145,16 @@ two_words_read : (next large : ℕ) (first second : List ℕ) (entry : Entry) �
     → (large ≡ 0) × IsRead next first second entry
 two_words_read next large first second entry e = go (ltb 0 large) refl (bytes_eq first (codes "large")) refl
   where
-    go : (ended : Bool) → ltb 0 large ≡ ended → (named : Bool) → bytes_eq first (codes "large") ≡ named → (large ≡ 0) × IsRead next first second entry
+    go : (ended : Bool) → ltb 0 large ≡ ended → (named : Bool) → bytes_eq first (codes "large") ≡ named →
+        (large ≡ 0) × IsRead next first second entry
     go true f named g = let none = rw f at e in absurd cc
     go false f true g =
         let name : first ≡ codes "large" = (bytes_eq-Decides first (codes "large")).0 g in
         (omega (arith, ltb-false 0 large f), large_read next first second (number_of second) entry name refl (rw (f, g) at e))
-    go false f false g =
-        (omega (arith, ltb-false 0 large f), numbers_read next first second (number_of first) (number_of second) entry refl refl (rw (f, g) at e))
+    go false f false g = (
+      omega (arith, ltb-false 0 large f),
+      numbers_read next first second (number_of first) (number_of second) entry refl refl (rw (f, g) at e),
+    )
 
 -- Words that are read as an entry are its words,
 entry_words-read : (next large : ℕ) (ws : List (List ℕ)) (entry : Entry) → entry_of next large ws ≡ Ok entry

@@ -13,7 +13,8 @@ pub position-le-length : (n : ℕ) (classes : List ℕ) → position_or_len (ser
 position-le-length n classes = prefix_len-le-length (λ class. not (serves n class)) classes
 
 -- a place that the walk has come to, whose class serves n, is the first such
-pub reached : (n i : ℕ) (classes : List ℕ) → i ≤ position_or_len (serves n) classes → i < length classes → serves n (get_or classes i 0) ≡ true → position_or_len (serves n) classes ≡ i
+pub reached : (n i : ℕ) (classes : List ℕ) → i ≤ position_or_len (serves n) classes → i < length classes →
+    serves n (get_or classes i 0) ≡ true → position_or_len (serves n) classes ≡ i
 reached n i classes before within serving =
     elim (cases_lt i (position_or_len (serves n) classes)) [
       | inl earlier ↦ absurd (both_ways _ (not_from_true _ serving) (prefix_len_passes (λ class. not (serves n class)) classes i 0 earlier))
@@ -21,7 +22,8 @@ reached n i classes before within serving =
     ]
 
 -- past a class that doesn't serve n the walk goes on
-pub passed : (n i : ℕ) (classes : List ℕ) → i ≤ position_or_len (serves n) classes → i < length classes → serves n (get_or classes i 0) ≡ false → i + 1 ≤ position_or_len (serves n) classes
+pub passed : (n i : ℕ) (classes : List ℕ) → i ≤ position_or_len (serves n) classes → i < length classes →
+    serves n (get_or classes i 0) ≡ false → i + 1 ≤ position_or_len (serves n) classes
 passed n i [] before within other = absurd (omega arith)
 passed n zero (class ∷ classes) before within other = rw other (omega arith)
 passed n (suc i) (class ∷ classes) before within other =
@@ -48,13 +50,16 @@ position-mono n m (class ∷ classes) le =
 
 -- ---- the class of a size by that place
 
-pub class_there : (n number : ℕ) (classes : List ℕ) → number ≡ position_or_len (serves n) classes → class_for classes n ≡ slice_get classes number
+pub class_there : (n number : ℕ) (classes : List ℕ) → number ≡ position_or_len (serves n) classes →
+    class_for classes n ≡ slice_get classes number
 class_there n number classes e = find_at (serves n) classes ∙ ap (slice_get classes) (sym e)
 
-pub no_class : (n number : ℕ) (classes : List ℕ) → number ≡ position_or_len (serves n) classes → length classes ≤ number → class_for classes n ≡ None
+pub no_class : (n number : ℕ) (classes : List ℕ) → number ≡ position_or_len (serves n) classes → length classes ≤ number →
+    class_for classes n ≡ None
 no_class n number classes e past = class_there n number classes e ∙ slice_get_past classes number past
 
-pub serving_there : (n number : ℕ) (classes : List ℕ) → number ≡ position_or_len (serves n) classes → number < length classes → serves n (get_or classes number 0) ≡ true
+pub serving_there : (n number : ℕ) (classes : List ℕ) → number ≡ position_or_len (serves n) classes → number < length classes →
+    serves n (get_or classes number 0) ≡ true
 serving_there n number classes e within =
     elim (cases_Bool (serves n (get_or classes number 0))) [
       | inl serving ↦ serving
@@ -68,7 +73,10 @@ some_class n i classes within serving =
       | inl earlier ↦ absurd (both_ways _ (not_from_true _ serving) (prefix_len_passes (λ class. not (serves n class)) classes i 0 earlier))
       | inr there ↦
           let within_too : position_or_len (serves n) classes < length classes = omega arith in
-          rw (class_there n (position_or_len (serves n) classes) classes refl, slice_get-get_or classes (position_or_len (serves n) classes) 0 within_too) refl
+          rw (
+            class_there n (position_or_len (serves n) classes) classes refl,
+            slice_get-get_or classes (position_or_len (serves n) classes) 0 within_too,
+          ) refl
     ]
 
 -- ---- the sizes that a class serves
@@ -88,7 +96,8 @@ next_ready from number class classes most within is ready past =
 -- it serves all sizes before its end,
 pub next_served : (n number class : ℕ) (classes : List ℕ) → 2 ≤ class → number < length classes → get_or classes number 0 ≡ class
     → n < 16 * class - 15 → IsSome (class_for classes n)
-next_served n number class classes most within is before = some_class n number classes within (ap (serves n) is ∙ below_end n class most before)
+next_served n number class classes most within is before =
+    some_class n number classes within (ap (serves n) is ∙ below_end n class most before)
 
 -- and is the class of those that no earlier one serves
 pub next_class : (from n number class : ℕ) (classes : List ℕ) → 2 ≤ class → number < length classes → get_or classes number 0 ≡ class
@@ -99,6 +108,7 @@ next_class from n number class classes most within is ready le before =
     class_there n number classes (sym first) ∙ slice_get-get_or classes number 0 within ∙ ap Some is
 
 -- after all classes none is left for any size from here on
-pub none_left : (from n number : ℕ) (classes : List ℕ) → number ≤ position_or_len (serves from) classes → length classes ≤ number → from ≤ n → class_for classes n ≡ None
+pub none_left : (from n number : ℕ) (classes : List ℕ) → number ≤ position_or_len (serves from) classes → length classes ≤ number →
+    from ≤ n → class_for classes n ≡ None
 none_left from n number classes ready all le =
     no_class n (position_or_len (serves n) classes) classes refl (omega (arith, ready, position-mono from n classes le))

@@ -6,12 +6,14 @@ use Rattle.profile_count.specs.ProfileText.{Reading, entry_of, with_entry, profi
 use Rattle.profile_count.specs.declared.entry.Entry.{Entry}
 use Rattle.profile_count.specs.declared.fault.ProfileFault.{ProfileFault}
 
-pub line_read : (number : ℕ) (r : Reading) (rest new : List (List ℕ)) (line : List ℕ) (entry : Entry) → rest ≡ line ∷ new → Ok entry ≡ entry_of r.next r.profile.large (words line)
+pub line_read : (number : ℕ) (r : Reading) (rest new : List (List ℕ)) (line : List ℕ) (entry : Entry) → rest ≡ line ∷ new →
+    Ok entry ≡ entry_of r.next r.profile.large (words line)
     → profile_from number r rest ≡ profile_from (number + 1) (with_entry r entry) new
 unfolding profile_from
 line_read number r rest new line entry parts is = rw (parts, ← is, add-one) refl
 
-pub line_faulty : (number : ℕ) (r : Reading) (rest new : List (List ℕ)) (line : List ℕ) (fault : ProfileFault) → rest ≡ line ∷ new → Err fault ≡ entry_of r.next r.profile.large (words line)
+pub line_faulty : (number : ℕ) (r : Reading) (rest new : List (List ℕ)) (line : List ℕ) (fault : ProfileFault) → rest ≡ line ∷ new →
+    Err fault ≡ entry_of r.next r.profile.large (words line)
     → profile_from number r rest ≡ Err (number, fault)
 unfolding profile_from
 line_faulty number r rest new line fault parts is = rw (parts, ← is) refl
@@ -27,9 +29,11 @@ IsFirst r ls read = read ≡ option_map (λ line. entry_of r.next r.profile.larg
 pub entry_read : (number : ℕ) (r : Reading) (ls new : List (List ℕ)) (entry : Entry) → IsFirst r ls (Some (Ok entry)) → new ≡ drop 1 ls
     → profile_from number r ls ≡ profile_from (number + 1) (with_entry r entry) new
 entry_read number r [] new entry first rest = absurd cc
-entry_read number r (line ∷ ls) new entry first rest = line_read number r (line ∷ ls) new line entry (ap (λ (t : List (List ℕ)). line ∷ t) (sym rest)) cc
+entry_read number r (line ∷ ls) new entry first rest =
+    line_read number r (line ∷ ls) new line entry (ap (λ (t : List (List ℕ)). line ∷ t) (sym rest)) cc
 
-pub entry_faulty : (number : ℕ) (r : Reading) (ls : List (List ℕ)) (fault : ProfileFault) → IsFirst r ls (Some (Err fault)) → profile_from number r ls ≡ Err (number, fault)
+pub entry_faulty : (number : ℕ) (r : Reading) (ls : List (List ℕ)) (fault : ProfileFault) → IsFirst r ls (Some (Err fault)) →
+    profile_from number r ls ≡ Err (number, fault)
 entry_faulty number r [] fault first = absurd cc
 entry_faulty number r (line ∷ ls) fault first = line_faulty number r (line ∷ ls) ls line fault refl cc
 

@@ -31,7 +31,8 @@ number_is_not_large word n is = false_from_ne_true _ (λ same.
     let some : None ≡ Some n = sym large_is_no_number ∙ ap number_of (sym large) ∙ is in
     cc)
 
-entry_of-pair : (next size count : ℕ) (ws : List (List ℕ)) → pair_is size count (short_pair_of ws) → entry_of next 0 ws ≡ size_entry next size count
+entry_of-pair : (next size count : ℕ) (ws : List (List ℕ)) → pair_is size count (short_pair_of ws) →
+    entry_of next 0 ws ≡ size_entry next size count
 entry_of-pair next size count [] e = absurd cc
 entry_of-pair next size count (a ∷ []) e = absurd cc
 entry_of-pair next size count (a ∷ b ∷ []) e =
@@ -42,7 +43,8 @@ entry_of-pair next size count (a ∷ b ∷ []) e =
 entry_of-pair next size count (a ∷ b ∷ c ∷ ws) e = absurd cc
 
 -- the entry of the first line, which was read as two numbers
-pub first_entry : (next size count : ℕ) (ls : List (List ℕ)) → pair_is size count (option_and_then (λ line. short_pair_of (words line)) (slice_get ls 0))
+pub first_entry : (next size count : ℕ) (ls : List (List ℕ)) →
+    pair_is size count (option_and_then (λ line. short_pair_of (words line)) (slice_get ls 0))
     → Some (size_entry next size count) ≡ option_map (λ line. entry_of next 0 (words line)) (slice_get ls 0)
 first_entry next size count [] e = absurd cc
 first_entry next size count (line ∷ ls) e = ap Some (sym (entry_of-pair next size count (words line) e))

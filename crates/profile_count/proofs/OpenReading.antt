@@ -25,7 +25,8 @@ pub other_count : (counts : List ℕ) (size count k : ℕ) → k ≢ size → ge
 other_count counts size count k other = get_or-set_other counts size k count 0 other
 
 -- a reading stays open after the line of a size
-pub is_open-size_read : (reading : Reading) (size count : ℕ) → IsOpen reading → IsNext reading.next 0 (Size size count) → IsOpen (with_entry reading (Size size count))
+pub is_open-size_read : (reading : Reading) (size count : ℕ) → IsOpen reading → IsNext reading.next 0 (Size size count) →
+    IsOpen (with_entry reading (Size size count))
 is_open-size_read reading size count is_open next =
     record {
       counts = record {

@@ -14,7 +14,8 @@ use Rattle.profile_count.proofs.EntryLines.{entry_line, entry_line-read}
 use Rattle.profile_count.proofs.OpenReading.{IsOpen, nothing_read, is_open-nothing_read, other_count, is_open-size_read}
 use Rattle.profile_count.proofs.SizeLines.{size_lines_from, size_lines-none, size_lines-counted, size_lines-passed}
 
--- After a reading, lines spell a profile: what it counts from the next size on, and its large requests. Below that size it counts what was read.
+-- After a reading, lines spell a profile: what it counts from the next size on, and its large requests. Below that size it counts what was
+-- read.
 record SpellsRest (reading : Reading) (ls : List (List ℕ)) (p : Profile) : Type 0 where
   profile : IsProfile p
   kept : (k : ℕ) → k < reading.next → get_or p.counts k 0 ≡ get_or reading.profile.counts k 0
@@ -25,7 +26,8 @@ record SpellsRest (reading : Reading) (ls : List (List ℕ)) (p : Profile) : Typ
 -- from the next size on nothing is counted
 no_size_lines : (reading : Reading) → IsOpen reading → size_lines_from reading.profile.counts reading.next ≡ []
 no_size_lines reading is_open =
-    size_lines-none reading.next (drop reading.next reading.profile.counts) (λ k. get_or-drop reading.next reading.profile.counts k 0 ∙ is_open.none (reading.next + k) (omega arith))
+    size_lines-none reading.next (drop reading.next reading.profile.counts)
+    (λ k. get_or-drop reading.next reading.profile.counts k 0 ∙ is_open.none (reading.next + k) (omega arith))
 
 -- no line more spells what was read
 spells_rest-nil : (reading : Reading) → IsOpen reading → SpellsRest reading [] reading.profile
@@ -37,7 +39,8 @@ spells_rest-nil reading is_open =
     }
 
 -- a `large` line alone spells its count
-spells_rest-large : (reading : Reading) (count : ℕ) → IsOpen reading → IsNext reading.next 0 (Large count) → SpellsRest reading (entry_line (Large count) ∷ []) (with_large reading.profile count)
+spells_rest-large : (reading : Reading) (count : ℕ) → IsOpen reading → IsNext reading.next 0 (Large count) →
+    SpellsRest reading (entry_line (Large count) ∷ []) (with_large reading.profile count)
 spells_rest-large reading count is_open next =
     record {
       profile = record { counts = is_open.counts; large = next.2 };
@@ -46,12 +49,15 @@ spells_rest-large reading count is_open next =
     }
 
 -- the line of a size spells its count, and that the sizes before it are not counted
-spells_rest-size : (reading : Reading) (size count : ℕ) (ls : List (List ℕ)) (p : Profile) → IsOpen reading → IsNext reading.next 0 (Size size count)
+spells_rest-size : (reading : Reading) (size count : ℕ) (ls : List (List ℕ)) (p : Profile) → IsOpen reading →
+    IsNext reading.next 0 (Size size count)
     → SpellsRest (with_entry reading (Size size count)) ls p → SpellsRest reading (entry_line (Size size count) ∷ ls) p
 spells_rest-size reading size count ls p is_open next rest =
     let within : size < length p.counts = omega (arith, next.2, rest.profile.counts.sizes) in
-    let here : get_or p.counts size 0 ≡ count = rest.kept size (omega arith) ∙ get_or-set_same reading.profile.counts size count 0 (omega (arith, next.2, is_open.counts.sizes)) in
-    let kept = λ (k : ℕ) (below : k < size). rest.kept k (omega arith) ∙ other_count reading.profile.counts size count k (λ same. omega arith) in
+    let here : get_or p.counts size 0 ≡ count =
+    rest.kept size (omega arith) ∙ get_or-set_same reading.profile.counts size count 0 (omega (arith, next.2, is_open.counts.sizes)) in
+    let kept =
+    λ (k : ℕ) (below : k < size). rest.kept k (omega arith) ∙ other_count reading.profile.counts size count k (λ same. omega arith) in
     let passed = size_lines-passed p.counts reading.next size next.1 (omega arith) (λ k from below. kept k below ∙ is_open.none k from) in
     let counted = size_lines-counted size count (drop (suc size) p.counts) (λ none. omega (arith, next.3)) in
     record {
@@ -70,28 +76,35 @@ same_profile : (a b : Profile) → as_read a ≡ as_read b → a ≡ b
 same_profile a b e = cc
 
 -- no line follows a `large` line
-nothing_after_large : (number : ℕ) (reading : Reading) (ls : List (List ℕ)) (p : Profile) → 0 < reading.profile.large → profile_from number reading ls ≡ Ok p
+nothing_after_large : (number : ℕ) (reading : Reading) (ls : List (List ℕ)) (p : Profile) → 0 < reading.profile.large →
+    profile_from number reading ls ≡ Ok p
     → (ls ≡ []) × (reading.profile ≡ p)
 unfolding profile_from
 nothing_after_large number reading [] p some e = (refl, same_profile reading.profile p e)
 nothing_after_large number reading (line ∷ ls) p some e = go (entry_of reading.next reading.profile.large (words line)) refl
   where
-    go : (read : Result Entry ProfileFault) → entry_of reading.next reading.profile.large (words line) ≡ read → (line ∷ ls ≡ []) × (reading.profile ≡ p)
+    go : (read : Result Entry ProfileFault) → entry_of reading.next reading.profile.large (words line) ≡ read →
+        (line ∷ ls ≡ []) × (reading.profile ≡ p)
     go (Err fault) is = let none = rw is at e in absurd cc
     go (Ok entry) is = absurd (omega (arith, (entry_line-read reading.next reading.profile.large line entry is).0))
 
 -- lines that are read as a profile spell it
-spells_rest-read : (ls : List (List ℕ)) (number : ℕ) (reading : Reading) (p : Profile) → IsOpen reading → profile_from number reading ls ≡ Ok p → SpellsRest reading ls p
+spells_rest-read : (ls : List (List ℕ)) (number : ℕ) (reading : Reading) (p : Profile) → IsOpen reading →
+    profile_from number reading ls ≡ Ok p → SpellsRest reading ls p
 unfolding profile_from
 spells_rest-read [] number reading p is_open e = rw (← same_profile reading.profile p e) (spells_rest-nil reading is_open)
-spells_rest-read (line ∷ ls) number reading p is_open e = go (spells_rest-read ls) (entry_of reading.next reading.profile.large (words line)) refl
+spells_rest-read (line ∷ ls) number reading p is_open e =
+    go (spells_rest-read ls) (entry_of reading.next reading.profile.large (words line)) refl
   where
     go : ((number : ℕ) (reading : Reading) (p : Profile) → IsOpen reading → profile_from number reading ls ≡ Ok p → SpellsRest reading ls p)
-        → (read : Result Entry ProfileFault) → entry_of reading.next reading.profile.large (words line) ≡ read → SpellsRest reading (line ∷ ls) p
+        → (read : Result Entry ProfileFault) → entry_of reading.next reading.profile.large (words line) ≡ read →
+        SpellsRest reading (line ∷ ls) p
     go others (Err fault) is = let none = rw is at e in absurd cc
     go others (Ok (Size size count)) is =
         let read = entry_line-read reading.next reading.profile.large line (Size size count) is in
-        let after = others (suc number) (with_entry reading (Size size count)) p (is_open-size_read reading size count is_open read.1) (rw is at e) in
+        let after =
+        others (suc number) (with_entry reading (Size size count)) p (is_open-size_read reading size count is_open read.1)
+        (rw is at e) in
         rw read.2 (spells_rest-size reading size count ls p is_open read.1 after)
     go others (Ok (Large count)) is =
         let read = entry_line-read reading.next reading.profile.large line (Large count) is in

@@ -12,7 +12,8 @@ size_lines-none size [] none = refl
 size_lines-none size (count ∷ counts) none = rw (none 0) (size_lines-none (suc size) counts (λ k. none (suc k)))
 
 -- a size that is counted has the first line
-pub size_lines-counted : (size count : ℕ) (counts : List ℕ) → count ≢ 0 → size_lines size (count ∷ counts) ≡ size_line size count ∷ size_lines (suc size) counts
+pub size_lines-counted : (size count : ℕ) (counts : List ℕ) → count ≢ 0 →
+    size_lines size (count ∷ counts) ≡ size_line size count ∷ size_lines (suc size) counts
 unfolding size_lines
 size_lines-counted size count counts some = rw (ne_eqb count 0 some) refl
 
@@ -30,10 +31,12 @@ passed counts size zero within none = rw add-zero refl
 passed counts size (suc n) within none =
     let here : get_or counts size 0 ≡ 0 = none size (omega arith) (omega arith) in
     let next : size + suc n ≡ suc size + n = omega arith in
-    rw (drop-cons counts size 0 (omega arith), here, size_lines-zero, next) (passed counts (suc size) n (omega arith) (λ k from below. none k (omega arith) (omega arith)))
+    rw (drop-cons counts size 0 (omega arith), here, size_lines-zero, next)
+    (passed counts (suc size) n (omega arith) (λ k from below. none k (omega arith) (omega arith)))
 
 -- sizes that are not counted are passed by
-pub size_lines-passed : (counts : List ℕ) (low high : ℕ) → low ≤ high → high ≤ length counts → ((k : ℕ) → low ≤ k → k < high → get_or counts k 0 ≡ 0)
+pub size_lines-passed : (counts : List ℕ) (low high : ℕ) → low ≤ high → high ≤ length counts →
+    ((k : ℕ) → low ≤ k → k < high → get_or counts k 0 ≡ 0)
     → size_lines_from counts low ≡ size_lines_from counts high
 size_lines-passed counts low high order within none =
     let is : low + (high - low) ≡ high = omega arith in
@@ -48,10 +51,15 @@ text_from counts size = text_of (size_lines_from counts size)
 pub text_from-counted : (counts : List ℕ) (size : ℕ) → size < length counts → 0 < get_or counts size 0
     → text_from counts size ≡ ended (size_line size (get_or counts size 0)) ++ text_from counts (size + 1)
 text_from-counted counts size within some =
-    rw (drop-cons counts size 0 within, size_lines-counted size (get_or counts size 0) (drop (suc size) counts) (λ none. omega arith), add-one) refl
+    rw (
+      drop-cons counts size 0 within,
+      size_lines-counted size (get_or counts size 0) (drop (suc size) counts) (λ none. omega arith),
+      add-one,
+    ) refl
 
 -- one that is not has none,
-pub text_from-zero : (counts : List ℕ) (size : ℕ) → size < length counts → get_or counts size 0 ≡ 0 → text_from counts size ≡ text_from counts (size + 1)
+pub text_from-zero : (counts : List ℕ) (size : ℕ) → size < length counts → get_or counts size 0 ≡ 0 →
+    text_from counts size ≡ text_from counts (size + 1)
 text_from-zero counts size within none = rw (drop-cons counts size 0 within, none, size_lines-zero, add-one) refl
 
 -- and after the last size there is nothing

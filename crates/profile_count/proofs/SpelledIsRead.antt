@@ -38,10 +38,12 @@ drop_parts xs rest n x e =
 -- ---- lines are read one by one
 
 -- an entry's line is read, and then the others
-profile_from-entry_line : (number : ℕ) (reading : Reading) (entry : Entry) (ls : List (List ℕ)) → reading.profile.large ≡ 0 → IsNext reading.next 0 entry
+profile_from-entry_line : (number : ℕ) (reading : Reading) (entry : Entry) (ls : List (List ℕ)) → reading.profile.large ≡ 0 →
+    IsNext reading.next 0 entry
     → profile_from number reading (entry_line entry ∷ ls) ≡ profile_from (number + 1) (with_entry reading entry) ls
 profile_from-entry_line number reading entry ls none next =
-    line_read number reading (entry_line entry ∷ ls) ls (entry_line entry) entry refl (rw none (sym (entry_of-line reading.next entry next)))
+    line_read number reading (entry_line entry ∷ ls) ls (entry_line entry) entry refl
+    (rw none (sym (entry_of-line reading.next entry next)))
 
 -- the `large` line is read last, where there is one
 profile_from-large_lines : (number : ℕ) (reading : Reading) (large : ℕ) → reading.profile.large ≡ 0 → large ≤ most_counted
@@ -49,56 +51,76 @@ profile_from-large_lines : (number : ℕ) (reading : Reading) (large : ℕ) → 
 profile_from-large_lines number reading zero none small = rw (← none) (no_line number reading [] refl)
 profile_from-large_lines number reading (suc n) none small =
     rw (ne_eqb (suc n) 0 (λ e. omega arith))
-    (profile_from-entry_line number reading (Large (suc n)) [] none (refl, omega arith, small) ∙ no_line (number + 1) (with_entry reading (Large (suc n))) [] refl)
+    (profile_from-entry_line number reading (Large (suc n)) [] none (refl, omega arith, small)
+    ∙ no_line (number + 1) (with_entry reading (Large (suc n))) [] refl)
 
 -- The lines from a size on are read as the profile whose counts of the sizes below were read.
-profile_from-size_lines : (counts : List ℕ) (size number : ℕ) (reading : Reading) (p : Profile) → IsOpen reading → IsProfile p → reading.next ≤ size
-    → AgreeBelow reading.profile.counts p.counts size → drop size p.counts ≡ counts → profile_from number reading (size_lines size counts ++ large_lines p.large) ≡ Ok p
+profile_from-size_lines : (counts : List ℕ) (size number : ℕ) (reading : Reading) (p : Profile) → IsOpen reading → IsProfile p →
+    reading.next ≤ size
+    → AgreeBelow reading.profile.counts p.counts size → drop size p.counts ≡ counts →
+    profile_from number reading (size_lines size counts ++ large_lines p.large) ≡ Ok p
 unfolding size_lines
 profile_from-size_lines [] size number reading p is_open is_profile next same parts =
     let past : length p.counts ≤ size = omega (arith, length-drop size p.counts, ap length parts) in
     let sizes : length reading.profile.counts ≡ length p.counts = is_open.counts.sizes ∙ sym is_profile.counts.sizes in
-    let counts : reading.profile.counts ≡ p.counts = same_number_lists reading.profile.counts p.counts sizes (λ k within. same k (omega arith)) in
-    profile_from-large_lines number reading p.large is_open.large is_profile.large ∙ ap (λ counts. Ok (record { counts = counts; large = p.large })) counts
+    let counts : reading.profile.counts ≡ p.counts =
+    same_number_lists reading.profile.counts p.counts sizes (λ k within. same k (omega arith)) in
+    profile_from-large_lines number reading p.large is_open.large is_profile.large
+    ∙ ap (λ counts. Ok (record { counts = counts; large = p.large })) counts
 profile_from-size_lines (zero ∷ counts) size number reading p is_open is_profile next same parts =
     let first = drop_parts p.counts counts size 0 parts in
     let here : get_or reading.profile.counts size 0 ≡ get_or p.counts size 0 = is_open.none size next ∙ sym first.1 in
-    profile_from-size_lines counts (suc size) number reading p is_open is_profile (omega arith) (one_more reading.profile.counts p.counts size same here) first.2
+    profile_from-size_lines counts (suc size) number reading p is_open is_profile (omega arith)
+    (one_more reading.profile.counts p.counts size same here) first.2
 profile_from-size_lines (suc n ∷ counts) size number reading p is_open is_profile next same parts =
     let first = drop_parts p.counts counts size (suc n) parts in
     let small : suc n ≤ most_counted = rw first.1 at (is_profile.counts.in_range size 0 first.0) in
-    let may_come : IsNext reading.next 0 (Size size (suc n)) = (refl, next, omega (arith, first.0, is_profile.counts.sizes), omega arith, small) in
+    let may_come : IsNext reading.next 0 (Size size (suc n)) =
+    (refl, next, omega (arith, first.0, is_profile.counts.sizes), omega arith, small) in
     let within : size < length reading.profile.counts = omega (arith, first.0, is_open.counts.sizes, is_profile.counts.sizes) in
-    let here : get_or (set reading.profile.counts size (suc n)) size 0 ≡ get_or p.counts size 0 = get_or-set_same reading.profile.counts size (suc n) 0 within ∙ sym first.1 in
-    let below : AgreeBelow (set reading.profile.counts size (suc n)) p.counts size = λ k lower. other_count reading.profile.counts size (suc n) k (λ e. omega arith) ∙ same k lower in
-    let after = profile_from-size_lines counts (suc size) (number + 1) (with_entry reading (Size size (suc n))) p (is_open-size_read reading size (suc n) is_open may_come) is_profile
+    let here : get_or (set reading.profile.counts size (suc n)) size 0 ≡ get_or p.counts size 0 =
+    get_or-set_same reading.profile.counts size (suc n) 0 within ∙ sym first.1 in
+    let below : AgreeBelow (set reading.profile.counts size (suc n)) p.counts size =
+    λ k lower. other_count reading.profile.counts size (suc n) k (λ e. omega arith) ∙ same k lower in
+    let after =
+    profile_from-size_lines counts (suc size) (number + 1) (with_entry reading (Size size (suc n))) p
+    (is_open-size_read reading size (suc n) is_open may_come) is_profile
     (omega arith) (one_more (set reading.profile.counts size (suc n)) p.counts size below here) first.2 in
     rw (ne_eqb (suc n) 0 (λ e. omega arith))
-    (profile_from-entry_line number reading (Size size (suc n)) (size_lines (suc size) counts ++ large_lines p.large) is_open.large may_come ∙ after)
+    (profile_from-entry_line number reading (Size size (suc n)) (size_lines (suc size) counts ++ large_lines p.large) is_open.large may_come
+    ∙ after)
 
 -- ---- the lines of a profile are lines, and not empty
 
 full_line : (entry : Entry) → IsNext 0 0 entry → IsFullLine (entry_line entry)
 full_line entry next = (entry_line-is_line 0 entry next, entry_line-some entry)
 
-size_lines-full : (counts : List ℕ) (size : ℕ) → size + length counts ≤ 16369 → All (λ count. count ≤ most_counted) counts → All IsFullLine (size_lines size counts)
+size_lines-full : (counts : List ℕ) (size : ℕ) → size + length counts ≤ 16369 → All (λ count. count ≤ most_counted) counts →
+    All IsFullLine (size_lines size counts)
 unfolding size_lines
 size_lines-full [] size few small = All-nil IsFullLine
-size_lines-full (zero ∷ counts) size few small = size_lines-full counts (suc size) (omega arith) (All-tail (λ count. count ≤ most_counted) 0 counts small)
+size_lines-full (zero ∷ counts) size few small =
+    size_lines-full counts (suc size) (omega arith) (All-tail (λ count. count ≤ most_counted) 0 counts small)
 size_lines-full (suc n ∷ counts) size few small =
-    let line = full_line (Size size (suc n)) (refl, omega arith, omega arith, omega arith, All-head (λ count. count ≤ most_counted) (suc n) counts small) in
+    let line =
+    full_line (Size size (suc n))
+    (refl, omega arith, omega arith, omega arith, All-head (λ count. count ≤ most_counted) (suc n) counts small) in
     let others = size_lines-full counts (suc size) (omega arith) (All-tail (λ count. count ≤ most_counted) (suc n) counts small) in
-    rw (ne_eqb (suc n) 0 (λ e. omega arith)) (All-cons IsFullLine (entry_line (Size size (suc n))) (size_lines (suc size) counts) line others)
+    rw (ne_eqb (suc n) 0 (λ e. omega arith))
+    (All-cons IsFullLine (entry_line (Size size (suc n))) (size_lines (suc size) counts) line others)
 
 large_lines-full : (large : ℕ) → large ≤ most_counted → All IsFullLine (large_lines large)
 large_lines-full zero small = All-nil IsFullLine
 large_lines-full (suc n) small =
-    rw (ne_eqb (suc n) 0 (λ e. omega arith)) (All-cons IsFullLine (entry_line (Large (suc n))) [] (full_line (Large (suc n)) (refl, omega arith, small)) (All-nil IsFullLine))
+    rw (ne_eqb (suc n) 0 (λ e. omega arith))
+    (All-cons IsFullLine (entry_line (Large (suc n))) [] (full_line (Large (suc n)) (refl, omega arith, small)) (All-nil IsFullLine))
 
 -- The text of a profile is read as that profile.
 pub profile_of-spelled : (text : List ℕ) (p : Profile) → SpellsProfile text p → profile_of text ≡ Ok p
 profile_of-spelled text p spells =
     let sizes = size_lines-full p.counts 0 (omega (arith, spells.profile.counts.sizes)) spells.profile.counts.in_range in
     let full = All-append IsFullLine (size_lines 0 p.counts) (large_lines p.large) sizes (large_lines-full p.large spells.profile.large) in
-    let is : lines text ≡ size_lines 0 p.counts ++ large_lines p.large = laws.full_lines (size_lines 0 p.counts ++ large_lines p.large) text full spells.spelled in
-    rw is (profile_from-size_lines p.counts 0 1 nothing_read p is_open-nothing_read spells.profile (omega arith) (λ k below. absurd (omega arith)) refl)
+    let is : lines text ≡ size_lines 0 p.counts ++ large_lines p.large =
+    laws.full_lines (size_lines 0 p.counts ++ large_lines p.large) text full spells.spelled in
+    rw is (profile_from-size_lines p.counts 0 1 nothing_read p is_open-nothing_read spells.profile (omega arith)
+    (λ k below. absurd (omega arith)) refl)

@@ -13,24 +13,28 @@ use Rattle.profile_count.specs.Counts.{unserved_from, unserved_of}
 abbrev pub unserved_after : List ℕ → List ℕ → ℕ → Option ℕ
 unserved_after counts classes n = unserved_from classes n (drop n counts)
 
-pub unserved_here : (counts classes : List ℕ) (n : ℕ) → n < length counts → 0 < get_or counts n 0 → class_for classes n ≡ None → unserved_after counts classes n ≡ Some n
+pub unserved_here : (counts classes : List ℕ) (n : ℕ) → n < length counts → 0 < get_or counts n 0 → class_for classes n ≡ None →
+    unserved_after counts classes n ≡ Some n
 unfolding unserved_from
 unserved_here counts classes n within some none =
     let test : ltb 0 (get_or counts n 0) ≡ true = lt-ltb 0 _ some in
     rw (drop-cons counts n 0 within, test, none) refl
 
-pub not_counted_here : (counts classes : List ℕ) (n : ℕ) → n < length counts → get_or counts n 0 ≤ 0 → unserved_after counts classes n ≡ unserved_after counts classes (n + 1)
+pub not_counted_here : (counts classes : List ℕ) (n : ℕ) → n < length counts → get_or counts n 0 ≤ 0 →
+    unserved_after counts classes n ≡ unserved_after counts classes (n + 1)
 unfolding unserved_from
 not_counted_here counts classes n within none =
     let test : ltb 0 (get_or counts n 0) ≡ false = le-ltb 0 _ none in
     rw (drop-cons counts n 0 within, test, add-one) refl
 
-pub served_here : (counts classes : List ℕ) (n class : ℕ) → n < length counts → class_for classes n ≡ Some class → unserved_after counts classes n ≡ unserved_after counts classes (n + 1)
+pub served_here : (counts classes : List ℕ) (n class : ℕ) → n < length counts → class_for classes n ≡ Some class →
+    unserved_after counts classes n ≡ unserved_after counts classes (n + 1)
 unfolding unserved_from
 served_here counts classes n class within served =
     rw (drop-cons counts n 0 within, served, add-one) (go (ltb 0 (get_or counts n 0)))
   where
-    go : (b : Bool) → cond (b && false) (Some n) (unserved_from classes (suc n) (drop (suc n) counts)) ≡ unserved_from classes (suc n) (drop (suc n) counts)
+    go : (b : Bool) → cond (b && false) (Some n) (unserved_from classes (suc n) (drop (suc n) counts))
+        ≡ unserved_from classes (suc n) (drop (suc n) counts)
     go true = refl
     go false = refl
 
@@ -72,9 +76,11 @@ one_later classes counts count n at e first (suc k) lt some none =
 first_from : (classes counts : List ℕ) (n size : ℕ) → unserved_from classes n counts ≡ Some size → IsFirstUnserved classes counts n size
 unfolding unserved_from
 first_from classes [] n size found = absurd cc
-first_from classes (count ∷ counts) n size found = go (ltb 0 count && is_none (class_for classes n)) refl (first_from classes counts (suc n) size)
+first_from classes (count ∷ counts) n size found =
+    go (ltb 0 count && is_none (class_for classes n)) refl (first_from classes counts (suc n) size)
   where
-    go : (b : Bool) → (ltb 0 count && is_none (class_for classes n)) ≡ b → (unserved_from classes (suc n) counts ≡ Some size → IsFirstUnserved classes counts (suc n) size)
+    go : (b : Bool) → (ltb 0 count && is_none (class_for classes n)) ≡ b →
+        (unserved_from classes (suc n) counts ≡ Some size → IsFirstUnserved classes counts (suc n) size)
         → IsFirstUnserved classes (count ∷ counts) n size
     go true e later =
         let same : n ≡ size = (let f = rw e at found in cc) in
@@ -102,27 +108,31 @@ is_some-not_None : (o : Option ℕ) → (o ≡ None → ⊥) → IsSome o
 is_some-not_None None other = absurd (other refl)
 is_some-not_None (Some x) other = refl
 
-all_served : (classes counts : List ℕ) (n : ℕ) → unserved_from classes n counts ≡ None → (k : ℕ) → k < length counts → 0 < get_or counts k 0 → class_for classes (n + k) ≡ None → ⊥
+all_served : (classes counts : List ℕ) (n : ℕ) → unserved_from classes n counts ≡ None → (k : ℕ) → k < length counts →
+    0 < get_or counts k 0 → class_for classes (n + k) ≡ None → ⊥
 unfolding unserved_from
 all_served classes [] n none = λ k lt. absurd (omega arith)
 all_served classes (count ∷ counts) n none = go (ltb 0 count && is_none (class_for classes n)) refl (all_served classes counts (suc n))
   where
     go : (b : Bool) → (ltb 0 count && is_none (class_for classes n)) ≡ b
-        → (unserved_from classes (suc n) counts ≡ None → (k : ℕ) → k < length counts → 0 < get_or counts k 0 → class_for classes (suc n + k) ≡ None → ⊥)
+        → (unserved_from classes (suc n) counts ≡ None → (k : ℕ) → k < length counts → 0 < get_or counts k 0 →
+        class_for classes (suc n + k) ≡ None → ⊥)
         → (k : ℕ) → k < length (count ∷ counts) → 0 < get_or (count ∷ counts) k 0 → class_for classes (n + k) ≡ None → ⊥
     go true e later k lt some = let f = rw e at none in absurd cc
     go false e later k lt some = one_later classes counts count n (length counts) e (later (rw e at none)) k lt some
 
 -- ---- the three clauses
 
-pub found : (counts classes : List ℕ) (size : Option ℕ) → size ≡ unserved_of counts classes → IfSome size (λ n. IsCounted counts n × (class_for classes n ≡ None))
+pub found : (counts classes : List ℕ) (size : Option ℕ) → size ≡ unserved_of counts classes →
+    IfSome size (λ n. IsCounted counts n × (class_for classes n ≡ None))
 found counts classes None e = tt
 found counts classes (Some size) e =
     let at = first_from classes counts 0 size (sym e) in
     let place : at.at ≡ size = omega (arith, at.is) in
     (rw (← place) (at.within, at.some), at.none)
 
-pub least : (counts classes : List ℕ) (size : Option ℕ) → size ≡ unserved_of counts classes → IfSome size (λ n. (m : ℕ) → m < n → IsCounted counts m → IsSome (class_for classes m))
+pub least : (counts classes : List ℕ) (size : Option ℕ) → size ≡ unserved_of counts classes →
+    IfSome size (λ n. (m : ℕ) → m < n → IsCounted counts m → IsSome (class_for classes m))
 least counts classes None e = tt
 least counts classes (Some size) e = λ m lt counted.
     let at = first_from classes counts 0 size (sym e) in
@@ -131,21 +141,25 @@ least counts classes (Some size) e = λ m lt counted.
 
 pub serving : (counts classes : List ℕ) (size : Option ℕ) → size ≡ unserved_of counts classes → IfNone size (Serves counts classes)
 serving counts classes None e = λ n counted.
-    is_some-not_None (class_for classes n) (λ none. let same : n ≡ 0 + n = omega arith in all_served classes counts 0 (sym e) n counted.0 counted.1 (rw same at none))
+    is_some-not_None (class_for classes n)
+    (λ none. let same : n ≡ 0 + n = omega arith in all_served classes counts 0 (sym e) n counted.0 counted.1 (rw same at none))
 serving counts classes (Some size) e = tt
 
 -- the walk begins where the classes end
-pub skips_served : (counts classes : List ℕ) (n : ℕ) → ((m : ℕ) → m < n → IsSome (class_for classes m)) → unserved_of counts classes ≡ unserved_after counts classes n
+pub skips_served : (counts classes : List ℕ) (n : ℕ) → ((m : ℕ) → m < n → IsSome (class_for classes m)) →
+    unserved_of counts classes ≡ unserved_after counts classes n
 skips_served counts classes zero served = refl
 skips_served counts classes (suc n) served =
     let before = skips_served counts classes n (λ m lt. served m (omega arith)) in
     let next : n + 1 ≡ suc n = omega arith in
     elim (cases_lt n (length counts)) [
-      | inl within ↦ before ∙ is_served counts classes n within (class_for classes n) refl (served n (omega arith)) ∙ ap (unserved_after counts classes) next
+      | inl within ↦ before ∙ is_served counts classes n within (class_for classes n) refl (served n (omega arith))
+          ∙ ap (unserved_after counts classes) next
       | inr past ↦ before ∙ none_after counts classes n past ∙ sym (none_after counts classes (suc n) (omega arith))
     ]
   where
-    is_served : (counts classes : List ℕ) (n : ℕ) → n < length counts → (o : Option ℕ) → class_for classes n ≡ o → IsSome (class_for classes n)
+    is_served : (counts classes : List ℕ) (n : ℕ) → n < length counts → (o : Option ℕ) → class_for classes n ≡ o →
+        IsSome (class_for classes n)
         → unserved_after counts classes n ≡ unserved_after counts classes (n + 1)
     is_served counts classes n within None is some = let none = rw is at some in absurd cc
     is_served counts classes n within (Some class) is some = served_here counts classes n class within is

@@ -31,7 +31,8 @@ sum_below-rest f from (suc end) le none =
     ]
 
 -- what is lost in a class on the sizes that it is the class of
-pub waste_in_class : (counts classes : List ℕ) (n class end : ℕ) → class_for classes n ≡ Some class → end ≡ 16 * class - 15 → 2 ≤ class → waste_at counts classes n ≡ get_or counts n 0 * (end - 1 - n)
+pub waste_in_class : (counts classes : List ℕ) (n class end : ℕ) → class_for classes n ≡ Some class → end ≡ 16 * class - 15 → 2 ≤ class →
+    waste_at counts classes n ≡ get_or counts n 0 * (end - 1 - n)
 waste_in_class counts classes n class end is ends most =
     ap (λ (o : Option ℕ). get_or counts n 0 * loss_of n (unwrap_or o 0)) is ∙ ap (λ k. get_or counts n 0 * k) (omega arith)
 

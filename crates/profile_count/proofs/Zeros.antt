@@ -21,4 +21,8 @@ get_or-zeros n k = elim (cases_lt k n) [
 pub counts-zeros : (items : List ℕ) → items ≡ zeros 16369 → AreCounts items
 counts-zeros items are =
     let sizes : length items ≡ 16369 = ap length are ∙ length-zeros 16369 in
-    record { sizes = sizes; in_range = All-from_get_or (λ count. count ≤ most_counted) items 0 (λ k within. rw (are, get_or-zeros) (omega arith)) }
+    record {
+      sizes = sizes;
+      in_range = All-from_get_or (λ count. count ≤ most_counted) items 0
+          (λ k within. rw (are, get_or-zeros) (omega arith));
+    }

@@ -92,7 +92,9 @@ go_on number (Err fault) more = Err (number, fault)
 -- has this number.
 unfoldable pub profile_from : ℕ → Reading → List (List ℕ) → Result Profile (ℕ × ProfileFault)
 profile_from number reading [] = Ok reading.profile
-profile_from number reading (line ∷ ls) = go_on number (entry_of reading.next reading.profile.large (words line)) (λ entry. profile_from (suc number) (with_entry reading entry) ls)
+profile_from number reading (line ∷ ls) =
+    go_on number (entry_of reading.next reading.profile.large (words line))
+    (λ entry. profile_from (suc number) (with_entry reading entry) ls)
 
 abbrev pub profile_of_lines : List (List ℕ) → Result Profile (ℕ × ProfileFault)
 profile_of_lines ls = profile_from 1 (record { profile = nothing_counted; next = 0 }) ls

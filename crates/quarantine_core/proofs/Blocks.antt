@@ -38,13 +38,15 @@ sum_by-le f m (x ∷ xs) all =
 pub small_block : (layout : Partition) (s : ℕ) → IsPartition layout → s < slot_count layout → block_bytes (slot_of layout s) ≤ 16384
 small_block layout s partition within =
     let listed : Contains layout.classes (slot_of layout s).class = slots_have_classes layout s within in
-    let small = subst (λ class. (2 ≤ class) × (class ≤ 1024)) listed.2 (partition.table.in_range listed.0 (slot_of layout s).class listed.1) in
+    let small =
+    subst (λ class. (2 ≤ class) × (class ≤ 1024)) listed.2 (partition.table.in_range listed.0 (slot_of layout s).class listed.1) in
     omega (arith, small.1)
 
 pub few_bytes : (layout : Partition) (slots : List ℕ) → IsPartition layout → slot_count layout ≤ 131072 →
     ((s : ℕ) → Contains slots s → s < slot_count layout) → AllPairs (λ s r. s ≢ r) slots → bytes_of layout slots ≤ 2 ^ 31
 few_bytes layout slots partition few within apart =
-    let long : length slots ≤ slot_count layout = few_below (slot_count layout) slots (λ k d at. within (get_or slots k d) (Contains-get_or slots k d at)) apart in
+    let long : length slots ≤ slot_count layout =
+    few_below (slot_count layout) slots (λ k d at. within (get_or slots k d) (Contains-get_or slots k d at)) apart in
     let sum : bytes_of layout slots ≤ 16384 * length slots =
     sum_by-le (λ s. block_bytes (slot_of layout s)) 16384 slots (λ k d at. small_block layout (get_or slots k d) partition
     (within (get_or slots k d) (Contains-get_or slots k d at))) in

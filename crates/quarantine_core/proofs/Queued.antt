@@ -24,9 +24,12 @@ no_last (s ∷ r ∷ rest) is = absurd (some r rest is)
     some r (q ∷ more) is = some q more is
 
 -- the last slot is of the layout
-pub last_within : (value : Queue) (layout : Partition) (memory : List Granule) (queue : List ℕ) → AreQueued value layout memory queue → value.back ≢ 0 →
+pub last_within : (value : Queue) (layout : Partition) (memory : List Granule) (queue : List ℕ) → AreQueued value layout memory queue →
+    value.back ≢ 0 →
     value.back - 1 < slot_count layout
-last_within value layout memory queue old some = subst (λ last. last - 1 < slot_count layout) (sym old.back) (last_in queue (λ k d at. old.slots (get_or queue k d) (Contains-get_or queue k d at)) (λ none. some (old.back ∙ none)))
+last_within value layout memory queue old some =
+    subst (λ last. last - 1 < slot_count layout) (sym old.back)
+    (last_in queue (λ k d at. old.slots (get_or queue k d) (Contains-get_or queue k d at)) (λ none. some (old.back ∙ none)))
   where
     last_in : (slots : List ℕ) → All (λ s. s < slot_count layout) slots → last_link slots ≢ 0 → last_link slots - 1 < slot_count layout
     last_in [] within some = absurd (some refl)
@@ -34,14 +37,17 @@ last_within value layout memory queue old some = subst (λ last. last - 1 < slot
     last_in (s ∷ r ∷ rest) within some = last_in (r ∷ rest) (λ k d at. within (suc k) d (omega arith)) some
 
 pub put_first : (value new : Queue) (layout : Partition) (memory : List Granule) (queue : List ℕ) (slot bytes : ℕ) →
-    AreQueued value layout memory queue → value.back ≡ 0 → slot < slot_count layout → next_in layout memory slot ≡ 0 → bytes ≡ block_bytes (slot_of layout slot) →
+    AreQueued value layout memory queue → value.back ≡ 0 → slot < slot_count layout → next_in layout memory slot ≡ 0 →
+    bytes ≡ block_bytes (slot_of layout slot) →
     new.front ≡ suc slot → new.back ≡ suc slot → new.held ≡ value.held + bytes → AreQueued new layout memory (queue ++ slot ∷ [])
 put_first value new layout memory queue slot bytes old none within ends is front back held =
     let empty : queue ≡ [] = no_last queue (sym old.back ∙ none) in
     let alone : bytes_of layout queue ≡ 0 = ap (bytes_of layout) empty in
     subst (λ q. AreQueued new layout memory (q ++ slot ∷ [])) (sym empty)
     (record {
-      slots = λ s there. ⊎_elim (λ same. subst (λ n. n < slot_count layout) same within) (λ none. absurd (omega (arith, none.1))) (Contains-cases slot [] s there);
+      slots =
+          λ s there. ⊎_elim (λ same. subst (λ n. n < slot_count layout) same within) (λ none. absurd (omega (arith, none.1)))
+          (Contains-cases slot [] s there);
       linked = (front, ends);
       back = back;
       held = held ∙ omega (arith, old.held, alone, is);
@@ -72,13 +78,16 @@ put_at_end value new layout memory after queue last slot next bytes old some lin
 -- ---- a slot is taken off
 
 -- a queue of some bytes has a first slot
-pub some_held : (value : Queue) (layout : Partition) (memory : List Granule) (queue : List ℕ) → AreQueued value layout memory queue → 0 < value.held →
+pub some_held : (value : Queue) (layout : Partition) (memory : List Granule) (queue : List ℕ) → AreQueued value layout memory queue →
+    0 < value.held →
     queue ≡ (value.front - 1) ∷ drop 1 queue
 some_held value layout memory [] old some = absurd (omega (arith, old.held))
-some_held value layout memory (s ∷ rest) old some = let front : s ≡ value.front - 1 = omega (arith, old.linked.0) in ap (λ r. r ∷ rest) front
+some_held value layout memory (s ∷ rest) old some =
+    let front : s ≡ value.front - 1 = omega (arith, old.linked.0) in ap (λ r. r ∷ rest) front
 
 -- which is of the layout
-pub first_within : (value : Queue) (layout : Partition) (memory : List Granule) (queue : List ℕ) → AreQueued value layout memory queue → 0 < value.held →
+pub first_within : (value : Queue) (layout : Partition) (memory : List Granule) (queue : List ℕ) → AreQueued value layout memory queue →
+    0 < value.held →
     (1 ≤ value.front) × (value.front - 1 < slot_count layout)
 first_within value layout memory [] old some = absurd (omega (arith, old.held))
 first_within value layout memory (s ∷ rest) old some =
@@ -104,14 +113,17 @@ take_oldest value new layout memory after slot next queue old link is front none
         (λ is. each_once (next_in layout memory) value.front (slot ∷ queue) old.linked 0 (suc there.0) r (omega arith)
         (omega (arith, there.1)) (sym (there.2 ∙ is)))
 
-    back : (queue : List ℕ) → IsLinked (next_in layout memory) (next_in layout memory slot) queue → value.back ≡ last_link (slot ∷ queue) → new.back ≡ last_link queue
+    back : (queue : List ℕ) → IsLinked (next_in layout memory) (next_in layout memory slot) queue → value.back ≡ last_link (slot ∷ queue) →
+        new.back ≡ last_link queue
     back [] linked last = none (is ∙ linked)
     back (r ∷ rest) linked last = some (λ zero. omega (arith, linked.0)) ∙ last
 
 -- the first slot's block is among the bytes that are held
 pub oldest_held : (value : Queue) (layout : Partition) (memory : List Granule) (queue : List ℕ) (front bytes held : ℕ) →
-    AreQueued value layout memory queue → 0 < value.held → front ≡ value.front → bytes ≡ block_bytes (slot_of layout (front - 1)) → held ≡ value.held → bytes ≤ held
+    AreQueued value layout memory queue → 0 < value.held → front ≡ value.front → bytes ≡ block_bytes (slot_of layout (front - 1)) →
+    held ≡ value.held → bytes ≤ held
 oldest_held value layout memory queue front bytes held old some is block all =
-    let first : queue ≡ (front - 1) ∷ drop 1 queue = subst (λ f. queue ≡ (f - 1) ∷ drop 1 queue) (sym is) (some_held value layout memory queue old some) in
+    let first : queue ≡ (front - 1) ∷ drop 1 queue =
+    subst (λ f. queue ≡ (f - 1) ∷ drop 1 queue) (sym is) (some_held value layout memory queue old some) in
     let sum : bytes_of layout queue ≡ bytes_of layout ((front - 1) ∷ drop 1 queue) = ap (bytes_of layout) first in
     omega (arith, old.held, sum, block, all, sum_by-cons (λ s. block_bytes (slot_of layout s)) (front - 1) (drop 1 queue))

@@ -17,7 +17,8 @@ pub record Queue : Type 0 where
 abbrev pub bytes_of : Partition → List ℕ → ℕ
 bytes_of layout slots = sum_by (λ s. block_bytes (slot_of layout s)) slots
 
--- From the front the links show these slots of the layout, the one put in first at the front, and then end; the back is the link to the last
+-- From the front the links show these slots of the layout, the one put in first at the front, and then end; the back is the link to the
+-- last
 -- of them, and what is held are the bytes of their blocks.
 pub record AreQueued (value : Queue) (layout : Partition) (memory : List Granule) (queue : List ℕ) : Type 0 where
   pub slots : (s : ℕ) → Contains queue s → s < slot_count layout

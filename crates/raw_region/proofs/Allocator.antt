@@ -28,31 +28,39 @@ use Rattle.std.specs.contracts.impls.GlobalAllocator.deallocate as DE
 module _ {M : Type 1} {𝓤 : Ura M} {𝓛 : Logic 𝓤} {K : Type 0} {Γ : List (Item 𝓤)} {G : Goal 𝓤 𝓛.H} where
   -- the handle in a local's cell is lent: [a `&` to it; the loan's token; the way back]
   pub lends_handle : K → Soaks G → (a : Global) (b o : ℕ)
-      → ((n : ℕ) → Seq K 𝓛 (‵ (hidden_shr the_row (n ∷ []) a b o) ∷ ‵ (flft (n ∷ []) full_share) ∷ ‵ (flent (n ∷ []) (part_at the_row full_share a b o)) ∷ Γ) G)
+      → ((n : ℕ) → Seq K 𝓛 (‵ (hidden_shr the_row (n ∷ []) a b o) ∷ ‵ (flft (n ∷ []) full_share) ∷ ‵
+      (flent (n ∷ []) (part_at the_row full_share a b o)) ∷ Γ) G)
       → Seq K 𝓛 (‵ (fat full_share laws.mir b o heap_val) ∷ Γ) G
   unfolding part_of
   lends_handle t z a b o k =
       use1 𝓛 (‵ (cell_at full_share the_row.mir (heap_val ∷ []) b o)) (𝓛.laws.at_raw full_share laws.mir b o heap_val) $
       -- all that a handle owns is what its machine value is
-      owned t the_row (Is the_row) (LL.makes the_type laws.the_plain 𝓛) a (heap_val ∷ []) ((vstruct (vcons vunit vnil) ∷ [], tt), (refl, (((vunit ∷ [], tt), (refl, (refl, tt))), tt))) $ move t (1 ∷ 0 ∷ []) $ fjoin t $
+      owned t the_row (Is the_row) (LL.makes the_type laws.the_plain 𝓛) a (heap_val ∷ [])
+      ((vstruct (vcons vunit vnil) ∷ [], tt), (refl, (((vunit ∷ [], tt), (refl, (refl, tt))), tt))) $ move t (1 ∷ 0 ∷ []) $ fjoin t $
       fpack t (List Val) (λ us. fsep (cell_at full_share the_row.mir us b o) (the_row.own_val a us)) (heap_val ∷ []) $
       lft_new t z (λ n. let κ : Lft = n ∷ [] in move t (1 ∷ []) $ bor_new t z κ $ move t (0 ∷ 2 ∷ []) $
-      use2 𝓛 (later (‵ (hidden_shr the_row κ a b o) ⊛ ‵ (flft κ full_share))) (laws.the_row_laws.shares 𝓛 a κ ((κ, full_share) ∷ []) b o (⊑_static _) (Incl-refl κ)) $ await t z $ split t $ k n)
+      use2 𝓛 (later (‵ (hidden_shr the_row κ a b o) ⊛ ‵ (flft κ full_share)))
+      (laws.the_row_laws.shares 𝓛 a κ ((κ, full_share) ∷ []) b o (⊑_static _) (Incl-refl κ)) $ await t z $ split t $ k n)
 
   -- the loan is over: [the local's cell]
   pub takes_handle : K → Soaks G → (a : Global) (b o n : ℕ)
-      → Step K 𝓛 (‵ (fat full_share laws.mir b o heap_val) ∷ Γ) G (‵ (flft (n ∷ []) full_share) ∷ ‵ (flent (n ∷ []) (part_at the_row full_share a b o)) ∷ Γ) G
+      → Step K 𝓛 (‵ (fat full_share laws.mir b o heap_val) ∷ Γ) G
+      (‵ (flft (n ∷ []) full_share) ∷ ‵ (flent (n ∷ []) (part_at the_row full_share a b o)) ∷ Γ) G
   unfolding part_of
   takes_handle t z a b o n = step (λ k.
-      lft_end t z $ lent_back t z $ fpick t (λ us. fsplit t $ move t (1 ∷ []) $ peeks t the_row (Is the_row) (shows 𝓛 the_row) a us (λ is. drop t $
-      rewrite t 0 (λ (vs : List Val). ‵ (cell_at full_share the_row.mir vs b o)) (heap_Tells a us is) refl $ use1 𝓛 (‵ (fat full_share laws.mir b o heap_val)) (𝓛.laws.raw_at full_share laws.mir b o heap_val) $ k)))
+      lft_end t z $ lent_back t z $
+      fpick t (λ us. fsplit t $ move t (1 ∷ []) $ peeks t the_row (Is the_row) (shows 𝓛 the_row) a us (λ is. drop t $
+      rewrite t 0 (λ (vs : List Val). ‵ (cell_at full_share the_row.mir vs b o)) (heap_Tells a us is) refl $
+      use1 𝓛 (‵ (fat full_share laws.mir b o heap_val)) (𝓛.laws.raw_at full_share laws.mir b o heap_val) $ k)))
 
 -- the heap, as std's lemmas on any allocator take one
 abbrev pub Z : Al
 Z = record { row = the_row; laws = laws.the_row_laws; g = ghosts; d = no_dict 0; drops = no_dict 0 }
 
--- a call by a `&` to the handle a at hb, ho, whose lifetime κ has the token q, for a block of the type τ, which has s bytes and the alignment al
-module _ {M : Type 1} {𝓤 : Ura M} (𝓛 : Logic 𝓤) (at_mem : Memory → SProp 𝓤) (run : Routine → Fun 𝓤) (κ : Lft) (q : Share) (hb ho : ℕ) (a : Global) (s al : ℕ) (τ : Ty) where
+-- a call by a `&` to the handle a at hb, ho, whose lifetime κ has the token q, for a block of the type τ, which has s bytes and the
+-- alignment al
+module _ {M : Type 1} {𝓤 : Ura M} (𝓛 : Logic 𝓤) (at_mem : Memory → SProp 𝓤) (run : Routine → Fun 𝓤) (κ : Lft) (q : Share) (hb ho : ℕ)
+    (a : Global) (s al : ℕ) (τ : Ty) where
   open 𝓛 use {H, A}
 
   abbrev IsFor : Type 0
@@ -65,18 +73,30 @@ module _ {M : Type 1} {𝓤 : Ura M} (𝓛 : Logic 𝓤) (at_mem : Memory → SP
   Allocates = triple_of 𝓛 AL.signature (AL.spec 𝓛 at_mem run)
 
   abbrev pub allocates : Allocates.Ghost
-  allocates = (((κ, tt), (q, tt), tt, (record { ref_ptr = (hb, ho); now = a }, (s, (al, tt))), (vptr hb ho ∷ [], (vint w64 s ∷ [], (vint w64 al ∷ [], tt)))), τ)
+  allocates = (
+    (
+      (κ, tt),
+      (q, tt),
+      tt,
+      (record { ref_ptr = (hb, ho); now = a }, (s, (al, tt))),
+      (vptr hb ho ∷ [], (vint w64 s ∷ [], (vint w64 al ∷ [], tt))),
+    ),
+    τ,
+  )
 
   pub allocate_goes : IsFor → s < 2 ^ 64 → al < 2 ^ 64 → ent 𝓤 (sep 𝓤 (sem 𝓛 Handle) (A.lft κ q)) (Allocates.pre allocates)
   allocate_goes is fs fa =
       qed 𝓛 (‵ Handle ∷ ‵ (flft κ q) ∷ []) ∵ use0 𝓛 (raw (fact 𝓤 IsFor)) (fact_i 𝓤 IsFor (emp 𝓤) is) $ move ! (1 ∷ 2 ∷ 0 ∷ []) $
-      nothing ! $ owned ! usize _ (uint_Makes 𝓛 w64) al _ (refl, fa) $ fjoin ! $ owned ! usize _ (uint_Makes 𝓛 w64) s _ (refl, fs) $ fjoin ! $
+      nothing ! $ owned ! usize _ (uint_Makes 𝓛 w64) al _ (refl, fa) $ fjoin ! $ owned ! usize _ (uint_Makes 𝓛 w64) s _ (refl, fs) $
+      fjoin ! $
       move ! (1 ∷ []) $ feq_i ! (List Val) (vptr hb ho ∷ []) _ refl $ fjoin ! $ move ! (0 ∷ 1 ∷ []) $ fjoin ! $
       move ! (1 ∷ []) $ nothing ! $ move ! (1 ∷ 0 ∷ []) $ join ! $ move ! (0 ∷ 1 ∷ []) $ join ! $ join ! $ done !
 
   -- the call's answer r, with the block if there is one
   abbrev Rest : Answer.Denot → Item 𝓤
-  Rest r = some (λ (ws : Unit {0} × (Unit {0} × (Unit {0} × Unit {0}))). ‵ (fsep ftrue (fsep ftrue (fsep ftrue ftrue))) ⊛ ‵ (block_if_ok (ghosts.dealloc_token a) τ r))
+  Rest r =
+      some (λ (ws : Unit {0} × (Unit {0} × (Unit {0} × Unit {0}))). ‵ (fsep ftrue (fsep ftrue (fsep ftrue ftrue))) ⊛ ‵
+      (block_if_ok (ghosts.dealloc_token a) τ r))
 
   -- a call under a bound has the token in two halves, and leaves else the same; std's lemma says what that is
   abbrev Halved : Val → Answer.Denot → Item 𝓤
@@ -85,12 +105,14 @@ module _ {M : Type 1} {𝓤 : Ura M} (𝓛 : Logic 𝓤) (at_mem : Memory → SP
   bound : (v : Val) (r : Answer.Denot) → ent 𝓤 (mean 𝓛 (Halved v r)) (H.⇛ (sep 𝓤 (Answered Z 𝓛 at_mem run a τ v) (A.lft κ q)))
   bound v r =
       let some_answer : SProp 𝓤 = ex 𝓤 (λ x. mean 𝓛 (Halved v x)) in
-      via 𝓤 (H.⇛ some_answer) (via 𝓤 some_answer (ex_i 𝓤 (λ x. mean 𝓛 (Halved v x)) r) (𝓛.laws.⇛_intro some_answer)) (std.Takes-gives Z 𝓛 at_mem run κ q (hb, ho) a s al τ v)
+      via 𝓤 (H.⇛ some_answer) (via 𝓤 some_answer (ex_i 𝓤 (λ x. mean 𝓛 (Halved v x)) r) (𝓛.laws.⇛_intro some_answer))
+      (std.Takes-gives Z 𝓛 at_mem run κ q (hb, ho) a s al τ v)
 
   pub allocate_gives : (v : Val) → ent 𝓤 (Allocates.post allocates v) (H.⇛ (sep 𝓤 (Answered Z 𝓛 at_mem run a τ v) (A.lft κ q)))
   allocate_gives v =
       qed 𝓛 (raw (Allocates.post allocates v) ∷ []) ∵ updating ! $
-      use1 𝓛 (later (some (λ (r : Answer.Denot). ((‵ (flft κ q) ⊛ ‵ ftrue) ⊛ ‵ (Answer.own_val r (v ∷ []))) ⊛ Rest r))) (id⊢ 𝓤 _) $ await ! tt $ pick ! (λ r. split ! $ split ! $ split ! $
+      use1 𝓛 (later (some (λ (r : Answer.Denot). ((‵ (flft κ q) ⊛ ‵ ftrue) ⊛ ‵ (Answer.own_val r (v ∷ []))) ⊛ Rest r))) (id⊢ 𝓤 _) $
+      await ! tt $ pick ! (λ r. split ! $ split ! $ split ! $
       use1 𝓛 (‵ (flft κ (Share.left q)) ⊛ ‵ (flft κ (Share.right q))) (𝓛.lfts.lft_split κ q) $ split ! $
       -- [the halves; nothing; the answer; the rest]
       move ! (1 ∷ 2 ∷ []) $ join ! $ move ! (1 ∷ 0 ∷ []) $ join ! $ join ! $ join ! $
@@ -102,22 +124,35 @@ module _ {M : Type 1} {𝓤 : Ura M} (𝓛 : Logic 𝓤) (at_mem : Memory → SP
     Deallocates = triple_of 𝓛 DE.signature (DE.spec 𝓛 at_mem run)
 
     abbrev pub deallocates : Deallocates.Ghost
-    deallocates = (((κ, tt), (q, tt), tt, (record { ref_ptr = (hb, ho); now = a }, (block_ptr b o, (s, (al, tt)))), (vptr hb ho ∷ [], (vptr b o ∷ [], (vint w64 s ∷ [], (vint w64 al ∷ [], tt))))), τ)
+    deallocates = (
+      (
+        (κ, tt),
+        (q, tt),
+        tt,
+        (record { ref_ptr = (hb, ho); now = a }, (block_ptr b o, (s, (al, tt)))),
+        (vptr hb ho ∷ [], (vptr b o ∷ [], (vint w64 s ∷ [], (vint w64 al ∷ [], tt)))),
+      ),
+      τ,
+    )
 
     abbrev Deed : Fml
     Deed = ghosts.dealloc_token a τ (block_ptr b o)
 
-    pub deallocate_goes : IsFor → s < 2 ^ 64 → al < 2 ^ 64 → ent 𝓤 (sep 𝓤 (H.room τ b o) (sep 𝓤 (sem 𝓛 Deed) (sep 𝓤 (sem 𝓛 Handle) (A.lft κ q)))) (Deallocates.pre deallocates)
+    pub deallocate_goes : IsFor → s < 2 ^ 64 → al < 2 ^ 64 →
+        ent 𝓤 (sep 𝓤 (H.room τ b o) (sep 𝓤 (sem 𝓛 Deed) (sep 𝓤 (sem 𝓛 Handle) (A.lft κ q)))) (Deallocates.pre deallocates)
     deallocate_goes is fs fa =
         qed 𝓛 (‵ (froom τ b o) ∷ ‵ Deed ∷ ‵ Handle ∷ ‵ (flft κ q) ∷ []) ∵ fjoin ! $
         use0 𝓛 (raw (fact 𝓤 IsFor)) (fact_i 𝓤 IsFor (emp 𝓤) is) $ join ! $
-        nothing ! $ owned ! usize _ (uint_Makes 𝓛 w64) al _ (refl, fa) $ fjoin ! $ owned ! usize _ (uint_Makes 𝓛 w64) s _ (refl, fs) $ fjoin ! $
-        feq_i ! (List Val) (vptr b o ∷ []) _ refl $ fjoin ! $ move ! (2 ∷ []) $ feq_i ! (List Val) (vptr hb ho ∷ []) _ refl $ fjoin ! $ move ! (0 ∷ 1 ∷ []) $ fjoin ! $
+        nothing ! $ owned ! usize _ (uint_Makes 𝓛 w64) al _ (refl, fa) $ fjoin ! $ owned ! usize _ (uint_Makes 𝓛 w64) s _ (refl, fs) $
+        fjoin ! $
+        feq_i ! (List Val) (vptr b o ∷ []) _ refl $ fjoin ! $ move ! (2 ∷ []) $ feq_i ! (List Val) (vptr hb ho ∷ []) _ refl $ fjoin ! $
+        move ! (0 ∷ 1 ∷ []) $ fjoin ! $
         move ! (2 ∷ []) $ nothing ! $ move ! (1 ∷ 0 ∷ []) $ join ! $ move ! (0 ∷ 1 ∷ []) $ join ! $ join ! $ done !
 
     pub deallocate_gives : (v : Val) → ent 𝓤 (Deallocates.post deallocates v) (H.⇛ (guard 𝓤 (v ≡ vunit) (A.lft κ q)))
     deallocate_gives v =
         qed 𝓛 (raw (Deallocates.post deallocates v) ∷ []) ∵ updating ! $
         use1 𝓛 (later (some (λ (r : Unit {0}). ((‵ (flft κ q) ⊛ ‵ ftrue) ⊛ ‵ (unit.own_val r (v ∷ [])))
-        ⊛ some (λ (ws : Unit {0} × (Unit {0} × (Unit {0} × (Unit {0} × Unit {0})))). ‵ (fsep ftrue (fsep ftrue (fsep ftrue (fsep ftrue ftrue)))) ⊛ ‵ ftrue)))) (id⊢ 𝓤 _) $ await ! tt $ pick ! (λ r.
+        ⊛ some (λ (ws : Unit {0} × (Unit {0} × (Unit {0} × (Unit {0} × Unit {0})))). ‵
+        (fsep ftrue (fsep ftrue (fsep ftrue (fsep ftrue ftrue)))) ⊛ ‵ ftrue)))) (id⊢ 𝓤 _) $ await ! tt $ pick ! (λ r.
         split ! $ split ! $ move ! (1 ∷ []) $ feq_l ! (λ told. split ! $ at_once ! $ check ! (ap only told) $ keep ! (0 ∷ []) $ done !))

@@ -26,25 +26,35 @@ module _ (xs new : List ℕ) (i : ℕ) (fits : i + length new ≤ length xs) whe
       let front = take i xs ++ new in let rest = drop (i + length new) xs in let n : ℕ = j - (i + length new) in
       let at : j ≡ length front + n = omega (arith, length-append (take i xs) new, length-take-le i xs (omega arith)) in
       let back : i + length new + n ≡ j = omega arith in
-      ap (λ (k : ℕ). drop k (front ++ rest)) at ∙ drop-append-add front rest n ∙ drop-drop n (i + length new) xs ∙ ap (λ (k : ℕ). drop k xs) back
+      ap (λ (k : ℕ). drop k (front ++ rest)) at ∙ drop-append-add front rest n ∙ drop-drop n (i + length new) xs
+      ∙ ap (λ (k : ℕ). drop k xs) back
 
   byte-with_bytes : (k : ℕ) → (k < i) ⊎ (i + length new ≤ k) → slice_index ys k ≡ slice_index xs k
   byte-with_bytes k (inl low) =
       sym (get_or-take i ys k 0 low) ∙ ap (λ (zs : List ℕ). get_or zs k 0) (take-with_bytes i (omega arith)) ∙ get_or-take i xs k 0 low
   byte-with_bytes k (inr past) =
-      ap (λ (n : ℕ). get_or ys n 0) (sym (add-zero k)) ∙ sym (get_or-drop k ys 0 0) ∙ ap (λ (zs : List ℕ). get_or zs 0 0) (drop-with_bytes k past) ∙
+      ap (λ (n : ℕ). get_or ys n 0) (sym (add-zero k)) ∙ sym (get_or-drop k ys 0 0)
+      ∙ ap (λ (zs : List ℕ). get_or zs 0 0) (drop-with_bytes k past) ∙
       get_or-drop k xs 0 0 ∙ ap (λ (n : ℕ). get_or xs n 0) (add-zero k)
 
   range-with_bytes : (j n : ℕ) → (j + n ≤ i) ⊎ (i + length new ≤ j) → slice_range ys j (j + n) ≡ slice_range xs j (j + n)
   range-with_bytes j n (inl low) =
-      slice_range-add ys j n ∙ sym (drop-take j n ys) ∙ ap (drop j) (take-with_bytes (j + n) low) ∙ drop-take j n xs ∙ sym (slice_range-add xs j n)
+      slice_range-add ys j n ∙ sym (drop-take j n ys) ∙ ap (drop j) (take-with_bytes (j + n) low) ∙ drop-take j n xs
+      ∙ sym (slice_range-add xs j n)
   range-with_bytes j n (inr past) =
       slice_range-add ys j n ∙ ap (take n) (drop-with_bytes j past) ∙ sym (slice_range-add xs j n)
 
   length-with_bytes : length ys ≡ length xs
   length-with_bytes =
       let front = take i xs ++ new in
-      omega (arith, fits, length-append front (drop (i + length new) xs), length-append (take i xs) new, length-take-le i xs (omega (arith, fits)), length-drop (i + length new) xs)
+      omega (
+        arith,
+        fits,
+        length-append front (drop (i + length new) xs),
+        length-append (take i xs) new,
+        length-take-le i xs (omega (arith, fits)),
+        length-drop (i + length new) xs,
+      )
 
   changes : ChangesOnly xs ys i (i + length new)
   unfolding word_at
@@ -57,7 +67,9 @@ module _ (xs new : List ℕ) (i : ℕ) (fits : i + length new ≤ length xs) whe
   }
 
 -- the same of a list that is known to be so written
-pub changes_only : (xs new ys : List ℕ) (i to : ℕ) → ys ≡ with_bytes xs i new → i + length new ≡ to → to ≤ length xs → ChangesOnly xs ys i to
+pub changes_only : (xs new ys : List ℕ) (i to : ℕ) → ys ≡ with_bytes xs i new → i + length new ≡ to → to ≤ length xs →
+    ChangesOnly xs ys i to
 changes_only xs new ys i to written ends fits =
     let within : i + length new ≤ length xs = omega arith in
-    subst (λ (k : ℕ). ChangesOnly xs ys i k) ends (subst (λ (zs : List ℕ). ChangesOnly xs zs i (i + length new)) (sym written) (changes xs new i within))
+    subst (λ (k : ℕ). ChangesOnly xs ys i k) ends
+    (subst (λ (zs : List ℕ). ChangesOnly xs zs i (i + length new)) (sym written) (changes xs new i within))

@@ -21,21 +21,28 @@ module _ (heap : Heap) (sound : IsSoundHeap heap) (a : ℕ) (off : ℤ) (len : �
   mapped_is_tagged : IsMapped (length heap.memory) (moved_by a off) len → (a ≡ 0) ⊎ (logical_tag a ≢ 0) → logical_tag (moved_by a off) ≢ 0
   mapped_is_tagged mapped (inl null) same =
       let at_null = subst (λ z. IsMapped (length heap.memory) (moved_by z off) len) null mapped in
-      laws.moved_null off 0 (omega arith) (omega arith) (omega (arith, at_null.from)) (omega (arith, at_null.to, sound.long, sound.region.most))
-  mapped_is_tagged mapped (inr tagged) same = tagged (sym (laws.moved_tag a off 0 (omega arith) (omega arith) (omega (arith, mapped.from)) (omega (arith, mapped.to, sound.long, sound.region.most))) ∙ same)
+      laws.moved_null off 0 (omega arith) (omega arith) (omega (arith, at_null.from))
+      (omega (arith, at_null.to, sound.long, sound.region.most))
+  mapped_is_tagged mapped (inr tagged) same =
+      tagged (sym (laws.moved_tag a off 0 (omega arith) (omega arith) (omega (arith, mapped.from))
+      (omega (arith, mapped.to, sound.long, sound.region.most))) ∙ same)
 
-  pub tagged_or_not_mapped : (a ≡ 0) ⊎ (logical_tag a ≢ 0) → (logical_tag (moved_by a off) ≢ 0) ⊎ IsFalse (is_mapped (length heap.memory) (moved_by a off) len)
+  pub tagged_or_not_mapped : (a ≡ 0) ⊎ (logical_tag a ≢ 0) →
+      (logical_tag (moved_by a off) ≢ 0) ⊎ IsFalse (is_mapped (length heap.memory) (moved_by a off) len)
   tagged_or_not_mapped null_or_tagged = by_test (is_mapped (length heap.memory) (moved_by a off) len) refl
     where
-      by_test : (b : Bool) → is_mapped (length heap.memory) (moved_by a off) len ≡ b → (logical_tag (moved_by a off) ≢ 0) ⊎ IsFalse (is_mapped (length heap.memory) (moved_by a off) len)
+      by_test : (b : Bool) → is_mapped (length heap.memory) (moved_by a off) len ≡ b →
+          (logical_tag (moved_by a off) ≢ 0) ⊎ IsFalse (is_mapped (length heap.memory) (moved_by a off) len)
       by_test true is = inl (mapped_is_tagged ((laws.mapped (length heap.memory) (moved_by a off) len).0 is) null_or_tagged)
       by_test false is = inr is
 
 -- a store that succeeds, of bytes that are all the same
-pub store_is : (heap new : Heap) (address len byte : ℕ) (bytes : List ℕ) → bytes ≡ replicate len byte → ok_unless (access_fault heap.memory address (length bytes)) ≡ Ok tt →
+pub store_is : (heap new : Heap) (address len byte : ℕ) (bytes : List ℕ) → bytes ≡ replicate len byte →
+    ok_unless (access_fault heap.memory address (length bytes)) ≡ Ok tt →
     new ≡ record heap { memory = stored heap.memory address bytes } → new ≡ store_step heap address (replicate len byte)
 unfolding store_step
-store_is heap new address len byte bytes same done is = subst (λ all. new ≡ store_step heap address all) same (by_fault (access_fault heap.memory address (length bytes)) done)
+store_is heap new address len byte bytes same done is =
+    subst (λ all. new ≡ store_step heap address all) same (by_fault (access_fault heap.memory address (length bytes)) done)
   where
     by_fault : (o : Option Fault) → ok_unless o ≡ Ok tt → new ≡ store_with heap address bytes o
     by_fault None done = is

@@ -22,7 +22,8 @@ one_if-le : (b : Bool) → one_if b ≤ 1
 one_if-le true = omega arith
 one_if-le false = omega arith
 
-loss_of_event-le : (classes : List ℕ) (p : Event × Answer) → IsLegalTable 1 classes → loss_of_event classes p ≤ 16368 * one_if (is_request p.0)
+loss_of_event-le : (classes : List ℕ) (p : Event × Answer) → IsLegalTable 1 classes →
+    loss_of_event classes p ≤ 16368 * one_if (is_request p.0)
 loss_of_event-le classes p legal = by_test (is_silent p.1) (request_size p.0)
   where
     by_test : (b : Bool) (size : Option ℕ) → cond b (loss_of_request classes size) 0 ≤ 16368 * one_if (is_some size)
@@ -31,7 +32,8 @@ loss_of_event-le classes p legal = by_test (is_silent p.1) (request_size p.0)
     by_test false (Some n) = omega arith
     by_test false None = omega arith
 
-pub AreBounded-after : (classes : List ℕ) (t : Totals) (p : Event × Answer) → IsLegalTable 1 classes → AreBounded t → t.events < 2 ^ 40 → AreBounded (totals_after classes t p)
+pub AreBounded-after : (classes : List ℕ) (t : Totals) (p : Event × Answer) → IsLegalTable 1 classes → AreBounded t → t.events < 2 ^ 40 →
+    AreBounded (totals_after classes t p)
 unfolding totals_after
 AreBounded-after classes t p legal b few = record {
   events = omega arith;
@@ -46,9 +48,12 @@ AreBounded-after classes t p legal b few = record {
 }
 
 -- one event more, counted in parts
-pub counted_in_parts : (classes : List ℕ) (t answered requested : Totals) (size : Option ℕ) (event : Event) (answer : Answer) → answered ≡ with_answer t answer → size ≡ request_size event →
-    requested ≡ with_request classes answered size answer → record requested { events = requested.events + 1 } ≡ totals_after classes t (event, answer)
+pub counted_in_parts : (classes : List ℕ) (t answered requested : Totals) (size : Option ℕ) (event : Event) (answer : Answer) →
+    answered ≡ with_answer t answer → size ≡ request_size event →
+    requested ≡ with_request classes answered size answer →
+    record requested { events = requested.events + 1 } ≡ totals_after classes t (event, answer)
 unfolding totals_after
 counted_in_parts classes t answered requested size event answer first is second =
     ap (λ (x : Totals). record x { events = x.events + 1 })
-    (second ∙ ap (λ (x : Totals). with_request classes x size answer) first ∙ ap (λ (n : Option ℕ). with_request classes (with_answer t answer) n answer) is)
+    (second ∙ ap (λ (x : Totals). with_request classes x size answer) first
+    ∙ ap (λ (n : Option ℕ). with_request classes (with_answer t answer) n answer) is)

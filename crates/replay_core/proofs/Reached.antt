@@ -23,7 +23,8 @@ sound_heap stored i =
 
 pub null_or_tagged : (stored : Stored) → IsStored stored → AreNullOrTagged stored.replay.variables
 null_or_tagged stored i v =
-    subst (λ (r : Replay). (variable r v ≡ 0) ⊎ (logical_tag (variable r v) ≢ 0)) (laws.stored_part i.layout i.seed i.quarantine i.events ∙ sym (replay_is stored i))
+    subst (λ (r : Replay). (variable r v ≡ 0) ⊎ (logical_tag (variable r v) ≢ 0))
+    (laws.stored_part i.layout i.seed i.quarantine i.events ∙ sym (replay_is stored i))
     (laws.variables i.layout i.seed i.quarantine i.events i.region v)
 
 pub IsStored-after : (stored : Stored) (e : Event) → IsStored stored → IsStored (stored_after stored e)
@@ -37,15 +38,20 @@ IsStored-after stored e i = record {
 }
 
 -- the parts of what is stored, each after the event
-pub stored_in_parts : (stored : Stored) (e : Event) (heap : Heap) (variables : List ℕ) (totals : Totals) (classes : List ℕ) (answer : Answer) → heap ≡ heap_after stored.replay e →
-    variables ≡ variables_after stored.replay e → answer ≡ answer_of stored.replay e → classes ≡ stored.replay.heap.layout.classes → totals ≡ totals_after classes stored.totals (e, answer) →
+pub stored_in_parts : (stored : Stored) (e : Event) (heap : Heap) (variables : List ℕ) (totals : Totals) (classes : List ℕ)
+    (answer : Answer) → heap ≡ heap_after stored.replay e →
+    variables ≡ variables_after stored.replay e → answer ≡ answer_of stored.replay e → classes ≡ stored.replay.heap.layout.classes →
+    totals ≡ totals_after classes stored.totals (e, answer) →
     record { replay = over heap variables; totals = totals } ≡ stored_after stored e
 unfolding stored_after replay_after
 stored_in_parts stored e heap variables totals classes answer heap_is variables_are answer_is classes_are totals_are =
-    let counted = totals_are ∙ ap (λ c. totals_after c stored.totals (e, answer)) classes_are ∙ ap (λ a. totals_after stored.replay.heap.layout.classes stored.totals (e, a)) answer_is in
+    let counted =
+    totals_are ∙ ap (λ c. totals_after c stored.totals (e, answer)) classes_are
+    ∙ ap (λ a. totals_after stored.replay.heap.layout.classes stored.totals (e, a)) answer_is in
     λ i. record { replay = record { heap = heap_is i; variables = variables_are i }; totals = counted i }
 
 -- the run, with what is not stored, goes on with it
-pub run_goes_on : (w : Run) (stored : Stored) (e : Event) → w.replay ≡ stored.replay → (run_after w e).replay ≡ (stored_after stored e).replay
+pub run_goes_on : (w : Run) (stored : Stored) (e : Event) → w.replay ≡ stored.replay →
+    (run_after w e).replay ≡ (stored_after stored e).replay
 unfolding run_after stored_after
 run_goes_on w stored e same = ap (λ r. replay_after r e) same

@@ -54,7 +54,9 @@ StoredOfOneMore =
     stored_of layout seed quarantine (events ++ event ∷ []) ≡ stored_after (stored_of layout seed quarantine events) event
 
 abbrev pub StepsAreEvents : Type 0
-StepsAreEvents = (layout : Partition) (seed quarantine : ℕ) (events : List Event) → (stored_of layout seed quarantine events).totals.events ≡ length events
+StepsAreEvents =
+    (layout : Partition) (seed quarantine : ℕ) (events : List Event) →
+    (stored_of layout seed quarantine events).totals.events ≡ length events
 
 abbrev pub LinesOfNone : Type 0
 LinesOfNone = (layout : Partition) (seed quarantine : ℕ) → lines_of layout seed quarantine [] ≡ []
@@ -62,7 +64,8 @@ LinesOfNone = (layout : Partition) (seed quarantine : ℕ) → lines_of layout s
 -- What is stored of the events before an event determines its line,
 abbrev pub LinesOfOneMore : Type 0
 LinesOfOneMore =
-    (layout : Partition) (seed quarantine : ℕ) (events : List Event) (event : Event) → let before = stored_of layout seed quarantine events in
+    (layout : Partition) (seed quarantine : ℕ) (events : List Event) (event : Event) → let before =
+    stored_of layout seed quarantine events in
     lines_of layout seed quarantine (events ++ event ∷ []) ≡
     lines_of layout seed quarantine events ++ report_line (before.totals.events + 1) (answer_of before.replay event)
 
@@ -70,4 +73,5 @@ LinesOfOneMore =
 abbrev pub ReportIsLinesAndTotals : Type 0
 ReportIsLinesAndTotals =
     (layout : Partition) (seed quarantine : ℕ) (events : List Event) →
-    report layout seed quarantine events ≡ lines_of layout seed quarantine events ++ totals_text (stored_of layout seed quarantine events).totals
+    report layout seed quarantine events ≡ lines_of layout seed quarantine events
+    ++ totals_text (stored_of layout seed quarantine events).totals

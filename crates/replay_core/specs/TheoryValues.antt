@@ -47,10 +47,10 @@ pub record AreVariables (variables : List ℕ) : Type 0 where
   pub tagged : AreNullOrTagged variables
 
 -- The buffer, of 64 bytes, has as many as were loaded.
-abbrev pub IsFilled : TheAnswer → Type 0
-IsFilled ItIsSilent = ⊤
-IsFilled (ItLoaded len) = len ≤ MOST_BYTES
-IsFilled ItIsNotMapped = ⊤
-IsFilled (ItIsATagFault granule memory_tag pointer_tag kind) = ⊤
-IsFilled (ItHasNoPointer cause) = ⊤
-IsFilled (ItIsNotFreed error) = ⊤
+abbrev pub FitsBuffer : TheAnswer → Type 0
+FitsBuffer ItIsSilent = ⊤
+FitsBuffer (ItLoaded len) = len ≤ MOST_BYTES
+FitsBuffer ItIsNotMapped = ⊤
+FitsBuffer (ItIsATagFault granule memory_tag pointer_tag kind) = ⊤
+FitsBuffer (ItHasNoPointer cause) = ⊤
+FitsBuffer (ItIsNotFreed error) = ⊤

@@ -3,7 +3,7 @@ ghost use Rattle.heap_theory.specs.Run.{access_answer, fault_answer, store_step}
 ghost use Rattle.heap_theory.specs.Run.Answer.{Loaded, Silent};
 ghost use Rattle.machine_theory.specs.Access.{access_fault, is_mapped, loaded};
 ghost use Rattle.machine_theory.specs.Address.{logical_tag, moved_by};
-ghost use Rattle.replay_core.specs.TheoryValues.{IsFilled, shown};
+ghost use Rattle.replay_core.specs.TheoryValues.{FitsBuffer, shown};
 ghost use Rattle.std.specs.Prelude.{◌≡◌, ◌≢◌, ◌⊎◌, ◌≤◌, IsFalse, List, length, replicate, ℕ};
 
 use crate::answer::Answer;
@@ -28,7 +28,7 @@ pub(crate) fn load(heap: &Heap, address: u64, len: u8, bytes: &mut [u8; MOST_BYT
     ensures answer { shown bytes.new result
         ≡ access_answer heap.now.state (Loaded (loaded heap.now.state.memory address len))
         (access_fault heap.now.state.memory address len) }
-    ensures filled { IsFilled result }
+    ensures filled { FitsBuffer result }
 {
     match heap.load(address, &mut bytes[..usize::from(len)]) {
         Ok(()) => Answer::Loaded { len },
@@ -43,7 +43,7 @@ pub(crate) fn store(heap: &mut Heap, address: u64, len: u8, byte: u8) -> Answer
     requires tagged { (logical_tag address ≢ 0) ⊎ IsFalse (is_mapped (length heap.old.state.memory) address len) }
     ensures answer { (bytes : List ℕ)
         → shown bytes result ≡ access_answer heap.old.state Silent (access_fault heap.old.state.memory address len) }
-    ensures filled { IsFilled result }
+    ensures filled { FitsBuffer result }
     ensures state { heap.new.state ≡ store_step heap.old.state address (replicate len byte) }
     ensures frees { heap.new.frees ≡ heap.old.frees }
 {
@@ -57,7 +57,7 @@ pub(crate) fn store(heap: &mut Heap, address: u64, len: u8, byte: u8) -> Answer
 // The answer of a fault. An access meets no Alignment fault.
 fn fault_answer(heap: &Heap, fault: Fault) -> Answer
     ensures answer { (bytes : List ℕ) → shown bytes result ≡ fault_answer heap.now.state fault }
-    ensures filled { IsFilled result }
+    ensures filled { FitsBuffer result }
 {
     match fault {
         Fault::Unmapped | Fault::Alignment => Answer::NotMapped,

@@ -2,7 +2,7 @@
 ghost use Rattle.heap_theory.specs.Report.{cause_word, error_word, kind_word, report_line};
 ghost use Rattle.heap_theory.specs.Run.Answer.{Loaded, TagFault};
 ghost use Rattle.line_text.specs.Lines.{ended, line_of};
-ghost use Rattle.replay_core.specs.TheoryValues.{IsFilled, shown};
+ghost use Rattle.replay_core.specs.TheoryValues.{FitsBuffer, shown};
 ghost use Rattle.std.specs.Fmt.{decimal};
 ghost use Rattle.std.specs.Prelude.{◌≡◌, ◌∷◌, ◌+◌, ◌≤◌, [], length};
 
@@ -22,7 +22,7 @@ pub(crate) fn write_line(
     answer: &Answer,
     bytes: &[u8; MOST_BYTES],
 )
-    requires { IsFilled answer.now }
+    requires { FitsBuffer answer.now }
     ensures { line.new.items ≡ report_line number (shown bytes.now answer.now) }
 {
     line.clear();

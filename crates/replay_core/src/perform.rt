@@ -1,9 +1,9 @@
 //! What an event does to the heap and to the variables.
 ghost use Rattle.heap_theory.specs.Calls.{free_step, realloc_step};
 ghost use Rattle.heap_theory.specs.Ranges.{IsInRange};
-ghost use Rattle.heap_theory.specs.Run.{answer_of, free_answer, heap_after, malloc_answer, realloc_answer, variables_after};
+ghost use Rattle.heap_theory.specs.Run.{answer_of, free_answer, malloc_answer, realloc_answer, replay_after};
 ghost use Rattle.heap_theory.specs.Sound.{IsSoundHeap};
-ghost use Rattle.replay_core.specs.TheoryValues.{AreVariables, IsFilled, over, shown};
+ghost use Rattle.replay_core.specs.TheoryValues.{AreVariables, FitsBuffer, over, shown};
 ghost use Rattle.std.specs.Prelude.{◌≡◌, ◌+◌, ◌^◌, ◌<◌, ◌≤◌, List, length, slice_index, slice_set, ℕ};
 ghost use Rattle.std.specs.Result.{result_unwrap_or};
 
@@ -13,7 +13,7 @@ use heap_theory::{Event, NullCause, ReallocError};
 use tagged_heap::Heap;
 
 // Performs the event. A load fills the first bytes of `bytes`.
-#[tactic(auto, unfolding(heap_theory::specs::Run::heap_after, heap_theory::specs::Run::variables_after, heap_theory::specs::Run::answer_of))]
+#[tactic(auto, unfolding(heap_theory::specs::Run::replay_after, heap_theory::specs::Run::heap_after, heap_theory::specs::Run::variables_after, heap_theory::specs::Run::answer_of))]
 pub(crate) fn perform(
     heap: &mut Heap,
     variables: &mut [u64],
@@ -24,10 +24,9 @@ pub(crate) fn perform(
     requires sound { IsSoundHeap heap.old.state }
     requires variables { AreVariables variables.old }
     requires few { heap.old.frees < 2 ^ 48 }
-    ensures state { heap.new.state ≡ heap_after (over heap.old.state variables.old) event.now }
-    ensures variables { variables.new ≡ variables_after (over heap.old.state variables.old) event.now }
+    ensures after { over heap.new.state variables.new ≡ replay_after (over heap.old.state variables.old) event.now }
     ensures answer { shown bytes.new result ≡ answer_of (over heap.old.state variables.old) event.now }
-    ensures filled { IsFilled result }
+    ensures filled { FitsBuffer result }
     ensures frees { heap.new.frees ≤ heap.old.frees + 1 }
 {
     match *event {
@@ -57,7 +56,7 @@ fn give(variables: &mut [u64], v: u16, given: Result<u64, NullCause>) -> Answer
     requires { v < length variables.old }
     ensures variables { variables.new ≡ slice_set variables.old v (result_unwrap_or given 0) }
     ensures answer { (bytes : List ℕ) → shown bytes result ≡ malloc_answer given }
-    ensures filled { IsFilled result }
+    ensures filled { FitsBuffer result }
 {
     match given {
         Ok(p) => {
@@ -81,7 +80,7 @@ fn reallocate(heap: &mut Heap, variables: &mut [u64], v: u16, n: u32) -> Answer
         (slice_index variables.old v)) }
     ensures answer { (bytes : List ℕ)
         → shown bytes result ≡ realloc_answer (realloc_step heap.old.state (slice_index variables.old v) n).answer }
-    ensures filled { IsFilled result }
+    ensures filled { FitsBuffer result }
     ensures frees { heap.new.frees ≤ heap.old.frees + 1 }
 {
     match heap.realloc(variables[usize::from(v)], n) {
@@ -99,7 +98,7 @@ fn free(heap: &mut Heap, p: u64) -> Answer
     requires { heap.old.frees < 2 ^ 48 }
     ensures state { heap.new.state ≡ (free_step heap.old.state p).heap }
     ensures answer { (bytes : List ℕ) → shown bytes result ≡ free_answer (free_step heap.old.state p).answer }
-    ensures filled { IsFilled result }
+    ensures filled { FitsBuffer result }
     ensures frees { heap.new.frees ≤ heap.old.frees + 1 }
 {
     match heap.free(p) {

@@ -22,9 +22,11 @@ bit_at_shl n s j h =
     sym (bit_at_cat_low ((n * 2 ^ s) / 2 ^ 16) 16 ((n * 2 ^ s) % 2 ^ 16) j h) ∙ ap (λ m. bit_at m j) parts
 
 -- a bit of a number of sixteen bits that is turned r to the right
-bit_at_turned : (n r j : ℕ) → n < 2 ^ 16 → r < 16 → j < 16 → bit_at (bit_or (n / 2 ^ r) ((n * 2 ^ ((16 - r) % 16)) % 2 ^ 16)) j ≡ bit_at n ((r + j) % 16)
+bit_at_turned : (n r j : ℕ) → n < 2 ^ 16 → r < 16 → j < 16 →
+    bit_at (bit_or (n / 2 ^ r) ((n * 2 ^ ((16 - r) % 16)) % 2 ^ 16)) j ≡ bit_at n ((r + j) % 16)
 bit_at_turned n r j n_below r_below j_below =
-    bit_at_or (n / 2 ^ r) ((n * 2 ^ ((16 - r) % 16)) % 2 ^ 16) j ∙ (λ i. max (bit_at_shr n r j i) (bit_at_shl n ((16 - r) % 16) j j_below i)) ∙ at (cases_eq r 0) (cases_lt (r + j) 16)
+    bit_at_or (n / 2 ^ r) ((n * 2 ^ ((16 - r) % 16)) % 2 ^ 16) j
+    ∙ (λ i. max (bit_at_shr n r j i) (bit_at_shl n ((16 - r) % 16) j j_below i)) ∙ at (cases_eq r 0) (cases_lt (r + j) 16)
   where
     both : (x y z : ℕ) → x ≡ z → y ≡ z → max x y ≡ z
     both x y z e f = omega arith
@@ -35,7 +37,8 @@ bit_at_turned n r j n_below r_below j_below =
     right : (x y z : ℕ) → x ≡ 0 → y ≡ z → max x y ≡ z
     right x y z e f = omega arith
 
-    at : (r ≡ 0) ⊎ (r ≡ 0 → ⊥) → (r + j < 16) ⊎ (16 ≤ r + j) → max (bit_at n (j + r)) (bit_at (n * 2 ^ ((16 - r) % 16) + 0) j) ≡ bit_at n ((r + j) % 16)
+    at : (r ≡ 0) ⊎ (r ≡ 0 → ⊥) → (r + j < 16) ⊎ (16 ≤ r + j) →
+        max (bit_at n (j + r)) (bit_at (n * 2 ^ ((16 - r) % 16) + 0) j) ≡ bit_at n ((r + j) % 16)
     at (inl still) within =
         let shift : (16 - r) % 16 ≡ 0 = omega arith in
         let same : n * 1 + 0 ≡ n = omega arith in
@@ -53,42 +56,52 @@ bit_at_turned n r j n_below r_below j_below =
 filter-map : {X Y : Type 0} (p : Y → Bool) (f : X → Y) (xs : List X) → filter p (map f xs) ≡ map f (filter (λ x. p (f x)) xs)
 filter-map p f [] = refl
 filter-map p f (x ∷ xs) = let rest = filter-map p f xs in elim (cases_Bool (p (f x))) [
-  | inl pass ↦ cond-true (p (f x)) (f x ∷ filter p (map f xs)) (filter p (map f xs)) pass ∙ ap (λ ys. f x ∷ ys) rest ∙ ap (map f) (sym (cond-true (p (f x)) (x ∷ filter (λ x. p (f x)) xs) (filter (λ x. p (f x)) xs) pass))
-  | inr fail ↦ cond-false (p (f x)) (f x ∷ filter p (map f xs)) (filter p (map f xs)) fail ∙ rest ∙ ap (map f) (sym (cond-false (p (f x)) (x ∷ filter (λ x. p (f x)) xs) (filter (λ x. p (f x)) xs) fail))
+  | inl pass ↦ cond-true (p (f x)) (f x ∷ filter p (map f xs)) (filter p (map f xs)) pass ∙ ap (λ ys. f x ∷ ys) rest
+      ∙ ap (map f) (sym (cond-true (p (f x)) (x ∷ filter (λ x. p (f x)) xs) (filter (λ x. p (f x)) xs) pass))
+  | inr fail ↦ cond-false (p (f x)) (f x ∷ filter p (map f xs)) (filter p (map f xs)) fail ∙ rest
+      ∙ ap (map f) (sym (cond-false (p (f x)) (x ∷ filter (λ x. p (f x)) xs) (filter (λ x. p (f x)) xs) fail))
 ]
 
 abbrev pub allowed_mask : ℕ → ℕ → ℕ
 allowed_mask tag exclude = rotate_right w16 (bit_not w16 exclude) (tag + 1)
 
 -- bit j of it tells whether the tag j + 1 steps above `tag` is allowed
-allowed_bit : (tag exclude j : ℕ) → tag < 16 → exclude < 2 ^ 16 → j < 16 → not (is_excluded exclude ((tag + (1 + j)) % 16)) ≡ (bit_at (allowed_mask tag exclude) j == 1)
+allowed_bit : (tag exclude j : ℕ) → tag < 16 → exclude < 2 ^ 16 → j < 16 →
+    not (is_excluded exclude ((tag + (1 + j)) % 16)) ≡ (bit_at (allowed_mask tag exclude) j == 1)
 allowed_bit tag exclude j tag_below exclude_below j_below =
     let sum : ((tag + 1) % 16 + j) % 16 ≡ (tag + (1 + j)) % 16 = omega arith in
     let below : (tag + (1 + j)) % 16 < 16 = omega arith in
     flipped (bit_at exclude ((tag + (1 + j)) % 16)) (bit_at-lt exclude ((tag + (1 + j)) % 16))
-    ∙ ap (λ b. b == 1) (sym (bit_at_turned (bit_not w16 exclude) ((tag + 1) % 16) j (omega arith) (omega arith) j_below ∙ ap (bit_at (bit_not w16 exclude)) sum ∙ bit_at_not w16 exclude ((tag + (1 + j)) % 16) exclude_below below))
+    ∙ ap (λ b. b == 1) (sym (bit_at_turned (bit_not w16 exclude) ((tag + 1) % 16) j (omega arith) (omega arith) j_below
+    ∙ ap (bit_at (bit_not w16 exclude)) sum ∙ bit_at_not w16 exclude ((tag + (1 + j)) % 16) exclude_below below))
   where
     flipped : (b : ℕ) → b < 2 → not (b == 1) ≡ (1 - b == 1)
     flipped zero h = refl
     flipped (suc zero) h = refl
     flipped (suc (suc b)) h = absurd (omega arith)
 
-pub allowed_places : (tag exclude mask : ℕ) → tag < 16 → exclude < 2 ^ 16 → mask ≡ allowed_mask tag exclude → allowed_after tag exclude ≡ map (λ k. (tag + (1 + k)) % 16) (set_bits mask)
+pub allowed_places : (tag exclude mask : ℕ) → tag < 16 → exclude < 2 ^ 16 → mask ≡ allowed_mask tag exclude →
+    allowed_after tag exclude ≡ map (λ k. (tag + (1 + k)) % 16) (set_bits mask)
 unfolding allowed_after set_bits
 allowed_places tag exclude mask tag_below exclude_below is =
     filter-map (λ t. not (is_excluded exclude t)) (λ k. (tag + (1 + k)) % 16) (range_with_len 0 16)
-    ∙ ap (map (λ k. (tag + (1 + k)) % 16)) (filter_places 16 0 (allowed_mask tag exclude) (λ k. not (is_excluded exclude ((tag + (1 + k)) % 16)))
-    (λ j h. let same : 0 + j ≡ j = omega arith in ap (λ k. not (is_excluded exclude ((tag + (1 + k)) % 16))) same ∙ allowed_bit tag exclude j tag_below exclude_below h)
+    ∙ ap (map (λ k. (tag + (1 + k)) % 16))
+    (filter_places 16 0 (allowed_mask tag exclude) (λ k. not (is_excluded exclude ((tag + (1 + k)) % 16)))
+    (λ j h. let same : 0 + j ≡ j = omega arith in
+    ap (λ k. not (is_excluded exclude ((tag + (1 + k)) % 16))) same ∙ allowed_bit tag exclude j tag_below exclude_below h)
     ∙ sym (ap set_bits is ∙ set_bits-places (allowed_mask tag exclude)))
 
 -- ---- the choice, by a mask whose set bits are the allowed tags
 
-module _ (tag exclude mask : ℕ) (mask_below : mask < 2 ^ 16) (places : allowed_after tag exclude ≡ map (λ k. (tag + (1 + k)) % 16) (set_bits mask)) where
+module _ (tag exclude mask : ℕ) (mask_below : mask < 2 ^ 16)
+    (places : allowed_after tag exclude ≡ map (λ k. (tag + (1 + k)) % 16) (set_bits mask)) where
   as_many : length (allowed_after tag exclude) ≡ ones mask
   as_many = ap length places ∙ length-map (set_bits mask) (λ k. (tag + (1 + k)) % 16) ∙ length-set_bits mask mask_below
 
   entry : (i : ℕ) → i < ones mask → slice_index (allowed_after tag exclude) i ≡ (tag + (1 + slice_index (set_bits mask) i)) % 16
-  entry i h = ap (λ ts. slice_index ts i) places ∙ get_or-map (λ k. (tag + (1 + k)) % 16) (set_bits mask) i 0 0 (omega (arith, length-set_bits mask mask_below))
+  entry i h =
+      ap (λ ts. slice_index ts i) places
+      ∙ get_or-map (λ k. (tag + (1 + k)) % 16) (set_bits mask) i 0 0 (omega (arith, length-set_bits mask mask_below))
 
   pub mask_some : mask ≢ 0 → 0 < ones mask
   mask_some other = elim (cases_eq (ones mask) 0) [
@@ -106,7 +119,8 @@ module _ (tag exclude mask : ℕ) (mask_below : mask < 2 ^ 16) (places : allowed
       cond-false (length (allowed_after tag exclude) == 0) _ _ (ne_eqb _ _ (λ e. omega (arith, mask_some other, as_many)))
       ∙ cond-false (is_excluded exclude tag) (slice_index (allowed_after tag exclude) 0) tag free
 
-  pub chosen_on : (offset : ℕ) → mask ≢ 0 → (offset ≡ 0 → is_excluded exclude tag ≡ true) → choose_tag tag offset exclude ≡ (tag + (1 + slice_index (set_bits mask) ((offset - 1) % ones mask))) % 16
+  pub chosen_on : (offset : ℕ) → mask ≢ 0 → (offset ≡ 0 → is_excluded exclude tag ≡ true) →
+      choose_tag tag offset exclude ≡ (tag + (1 + slice_index (set_bits mask) ((offset - 1) % ones mask))) % 16
   unfolding choose_tag
   chosen_on offset other out =
       let some : 0 < ones mask = mask_some other in
@@ -114,8 +128,12 @@ module _ (tag exclude mask : ℕ) (mask_below : mask < 2 ^ 16) (places : allowed
       ∙ at (cases_eq offset 0) some
       ∙ entry ((offset - 1) % ones mask) (mod_below (offset - 1) (ones mask) some)
     where
-      at : (offset ≡ 0) ⊎ (offset ≡ 0 → ⊥) → 0 < ones mask → cond (offset == 0) (cond (is_excluded exclude tag) (slice_index (allowed_after tag exclude) 0) tag) (slice_index (allowed_after tag exclude) ((offset - 1) % length (allowed_after tag exclude)))
+      at : (offset ≡ 0) ⊎ (offset ≡ 0 → ⊥) → 0 < ones mask →
+          cond (offset == 0) (cond (is_excluded exclude tag) (slice_index (allowed_after tag exclude) 0) tag)
+          (slice_index (allowed_after tag exclude) ((offset - 1) % length (allowed_after tag exclude)))
           ≡ slice_index (allowed_after tag exclude) ((offset - 1) % ones mask)
       at (inl none) some = cond-true (offset == 0) _ _ (eq-eqb _ _ none) ∙ cond-true (is_excluded exclude tag) _ _ (out none)
-          ∙ ap (slice_index (allowed_after tag exclude)) (sym (ap (λ o. (o - 1) % ones mask) none ∙ mod-eq_of_lt {n = 0} {m = ones mask} some))
-      at (inr more) some = cond-false (offset == 0) _ _ (ne_eqb _ _ more) ∙ ap (λ n. slice_index (allowed_after tag exclude) ((offset - 1) % n)) as_many
+          ∙ ap (slice_index (allowed_after tag exclude))
+          (sym (ap (λ o. (o - 1) % ones mask) none ∙ mod-eq_of_lt {n = 0} {m = ones mask} some))
+      at (inr more) some =
+          cond-false (offset == 0) _ _ (ne_eqb _ _ more) ∙ ap (λ n. slice_index (allowed_after tag exclude) ((offset - 1) % n)) as_many

@@ -9,7 +9,9 @@ use Rattle.machine_theory.specs.Seed.{next_bit, next_offset}
 
 -- a number shifted to the right
 pub bit_at_shr : (n k i : ℕ) → bit_at (n / 2 ^ k) i ≡ bit_at n (i + k)
-bit_at_shr n k i = let more : k + i ≡ i + k = omega arith in ap (λ m. m % 2) (div-div-eq-div-mul n (2 ^ k) (2 ^ i) ∙ ap (λ p. n / p) (sym (pow-add 2 k i)) ∙ ap (λ j. n / 2 ^ j) more)
+bit_at_shr n k i =
+    let more : k + i ≡ i + k = omega arith in
+    ap (λ m. m % 2) (div-div-eq-div-mul n (2 ^ k) (2 ^ i) ∙ ap (λ p. n / p) (sym (pow-add 2 k i)) ∙ ap (λ j. n / 2 ^ j) more)
 
 mixed : ℕ → ℕ
 mixed seed = bit_xor (bit_xor (bit_xor seed (seed / 4)) (seed / 8)) (seed / 32)
@@ -18,7 +20,8 @@ mixed_bit : (seed n : ℕ) → bit_at (mixed seed) n ≡ next_bit seed n
 unfolding mixed
 mixed_bit seed n =
     let outer : bit_at (mixed seed) n ≡ (bit_at (bit_xor (bit_xor seed (seed / 4)) (seed / 8)) n + bit_at seed (n + 5)) % 2 =
-    bit_at_xor (bit_xor (bit_xor seed (seed / 4)) (seed / 8)) (seed / 32) n ∙ ap (λ b. (bit_at (bit_xor (bit_xor seed (seed / 4)) (seed / 8)) n + b) % 2) (bit_at_shr seed 5 n) in
+    bit_at_xor (bit_xor (bit_xor seed (seed / 4)) (seed / 8)) (seed / 32) n
+    ∙ ap (λ b. (bit_at (bit_xor (bit_xor seed (seed / 4)) (seed / 8)) n + b) % 2) (bit_at_shr seed 5 n) in
     let middle : bit_at (bit_xor (bit_xor seed (seed / 4)) (seed / 8)) n ≡ (bit_at (bit_xor seed (seed / 4)) n + bit_at seed (n + 3)) % 2 =
     bit_at_xor (bit_xor seed (seed / 4)) (seed / 8) n ∙ ap (λ b. (bit_at (bit_xor seed (seed / 4)) n + b) % 2) (bit_at_shr seed 3 n) in
     let inner : bit_at (bit_xor seed (seed / 4)) n ≡ (bit_at seed n + bit_at seed (n + 2)) % 2 =

@@ -16,14 +16,17 @@ places zero k n = []
 places (suc w) k n = cond (n % 2 == 1) (k ∷ places w (k + 1) (n / 2)) (places w (k + 1) (n / 2))
 
 -- a filter of numbers from k on, whose test of k + j is that of bit j
-pub filter_places : (w k n : ℕ) (test : ℕ → Bool) → ((j : ℕ) → j < w → test (k + j) ≡ (bit_at n j == 1)) → filter test (range_with_len k w) ≡ places w k n
+pub filter_places : (w k n : ℕ) (test : ℕ → Bool) → ((j : ℕ) → j < w → test (k + j) ≡ (bit_at n j == 1)) →
+    filter test (range_with_len k w) ≡ places w k n
 unfolding places
 filter_places zero k n test same = refl
 filter_places (suc w) k n test same =
     let first : k ≡ k + 0 = omega arith in
     let here : test k ≡ (n % 2 == 1) = ap test first ∙ same 0 (omega arith) ∙ ap (λ b. b == 1) (bit_at_lowest n) in
     let rest : filter test (range_with_len (k + 1) w) ≡ places w (k + 1) (n / 2) =
-    filter_places w (k + 1) (n / 2) test (λ j h. let next : k + 1 + j ≡ k + suc j = omega arith in ap test next ∙ same (suc j) (omega arith) ∙ ap (λ b. b == 1) (bit_at-suc n j)) in
+    filter_places w (k + 1) (n / 2) test
+    (λ j h. let next : k + 1 + j ≡ k + suc j = omega arith in
+    ap test next ∙ same (suc j) (omega arith) ∙ ap (λ b. b == 1) (bit_at-suc n j)) in
     λ i. cond (here i) (k ∷ rest i) (rest i)
 
 -- a number is even or odd
@@ -53,8 +56,10 @@ unfolding places ones ones_in
 length-places zero k n h = let none : n ≡ 0 = omega arith in ap ones (sym none)
 length-places (suc w) k n h =
     by_lowest_bit (λ m. m < 2 * 2 ^ w → length (places (suc w) k m) ≡ ones m)
-    (λ half below. ap length (places_even w k half) ∙ length-places w (k + 1) half (omega arith) ∙ sym (ones_cat 1 half 0 (omega arith) ∙ omega arith))
-    (λ half below. ap length (places_odd w k half) ∙ ap suc (length-places w (k + 1) half (omega arith)) ∙ sym (ones_cat 1 half 1 (omega arith) ∙ omega arith))
+    (λ half below. ap length (places_even w k half) ∙ length-places w (k + 1) half (omega arith)
+    ∙ sym (ones_cat 1 half 0 (omega arith) ∙ omega arith))
+    (λ half below. ap length (places_odd w k half) ∙ ap suc (length-places w (k + 1) half (omega arith))
+    ∙ sym (ones_cat 1 half 1 (omega arith) ∙ omega arith))
     n (omega (arith, pow-suc))
 
 -- the first is where `trailing_zeros` says
@@ -66,11 +71,13 @@ first_of_places (suc w) k n some h =
     (λ half more below.
     let even : (half * 2 + 0) % 2 ≡ 0 = omega arith in
     let halved : (half * 2 + 0) / 2 ≡ half = omega arith in
-    ap (λ xs. get_or xs 0 0) (places_even w k half) ∙ first_of_places w (k + 1) half (omega arith) (omega arith) ∙ later k (count_trailing_zeros w half)
+    ap (λ xs. get_or xs 0 0) (places_even w k half) ∙ first_of_places w (k + 1) half (omega arith) (omega arith)
+    ∙ later k (count_trailing_zeros w half)
     ∙ (λ i. k + under (sym even i) (count_trailing_zeros w (sym halved i))))
     (λ half more below.
     let odd : (half * 2 + 1) % 2 ≡ 1 = omega arith in
-    ap (λ xs. get_or xs 0 0) (places_odd w k half) ∙ sym (add-zero k) ∙ ap (λ b. k + under b (count_trailing_zeros w ((half * 2 + 1) / 2))) (sym odd))
+    ap (λ xs. get_or xs 0 0) (places_odd w k half) ∙ sym (add-zero k)
+    ∙ ap (λ b. k + under b (count_trailing_zeros w ((half * 2 + 1) / 2))) (sym odd))
     n some (omega (arith, pow-suc))
   where
     later : (k t : ℕ) → k + 1 + t ≡ k + suc t
@@ -84,11 +91,13 @@ places_cleared (suc w) k n some =
     by_lowest_bit (λ m. 0 < m → places (suc w) k (bit_and m (m - 1)) ≡ drop 1 (places (suc w) k m))
     (λ half more.
     let before : half * 2 + 0 - 1 ≡ (half - 1) * 2 + 1 = omega arith in
-    ap (places (suc w) k) (ap (bit_and (half * 2 + 0)) before ∙ and_block 1 half (half - 1) 0 1 (omega arith) (omega arith)) ∙ places_even w k (bit_and half (half - 1))
+    ap (places (suc w) k) (ap (bit_and (half * 2 + 0)) before ∙ and_block 1 half (half - 1) 0 1 (omega arith) (omega arith))
+    ∙ places_even w k (bit_and half (half - 1))
     ∙ places_cleared w (k + 1) half (omega arith) ∙ ap (drop 1) (sym (places_even w k half)))
     (λ half more.
     let before : half * 2 + 1 - 1 ≡ half * 2 + 0 = omega arith in
-    ap (places (suc w) k) (ap (bit_and (half * 2 + 1)) before ∙ and_block 1 half half 1 0 (omega arith) (omega arith) ∙ ap (λ h. h * 2 + 0) (and_self half)) ∙ places_even w k half
+    ap (places (suc w) k) (ap (bit_and (half * 2 + 1)) before ∙ and_block 1 half half 1 0 (omega arith) (omega arith)
+    ∙ ap (λ h. h * 2 + 0) (and_self half)) ∙ places_even w k half
     ∙ ap (drop 1) (sym (places_odd w k half)))
     n some
 
@@ -96,7 +105,8 @@ places_cleared (suc w) k n some =
 
 pub set_bits-places : (n : ℕ) → set_bits n ≡ places 16 0 n
 unfolding set_bits
-set_bits-places n = filter_places 16 0 n (λ k. bit_at n k == 1) (λ j _. let same : 0 + j ≡ j = omega arith in ap (λ k. bit_at n k == 1) same)
+set_bits-places n =
+    filter_places 16 0 n (λ k. bit_at n k == 1) (λ j _. let same : 0 + j ≡ j = omega arith in ap (λ k. bit_at n k == 1) same)
 
 pub length-set_bits : (n : ℕ) → n < 2 ^ 16 → length (set_bits n) ≡ ones n
 length-set_bits n h = ap length (set_bits-places n) ∙ length-places 16 0 n h

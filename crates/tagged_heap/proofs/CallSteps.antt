@@ -12,7 +12,7 @@ use Rattle.heap_theory.specs.declared.fault.NullCause.{NullCause}
 use Rattle.heap_theory.specs.declared.fault.ReallocError.TheVariants.{Null}
 use Rattle.heap_theory.specs.State.State.{Fresh, Live}
 use Rattle.machine_theory.specs.Memory.{Granule, bytes_at, tagged}
-use Rattle.tagged_heap.specs.HeapView.{Counted}
+use Rattle.tagged_heap.specs.HeapView.{HeapAndFrees}
 use Rattle.tagged_heap.specs.Chunks.{IsChunk}
 use Rattle.tagged_heap.specs.declared.freeing.Chunk.{Chunk as Found}
 use Rattle.tagged_heap.specs.Frees.{frees_for_slot}
@@ -63,13 +63,13 @@ all_named f (Err e) out cases = err_under f e out cases
 -- ---- a chunk that moves
 
 -- what a move leaves where it has a slot
-abbrev pub IsMoved : Counted → Chunk → ℕ → Counted → ℕ → Type 0
+abbrev pub IsMoved : HeapAndFrees → Chunk → ℕ → HeapAndFrees → ℕ → Type 0
 IsMoved old chunk n new p =
     (s : ℕ) × (slot_for_request old.state n ≡ Ok s) × (p ≡ pointer_to (given_out old.state s n) s) ×
     (new ≡ record { state = moved old.state chunk s n; frees = old.frees + 1 })
 
 -- and what the call answers and leaves then, or where it has none
-pub moves : (old new : Counted) (chunk : Chunk) (n : ℕ) (r : Result ℕ NullCause) → IfOk r (IsMoved old chunk n new) →
+pub moves : (old new : HeapAndFrees) (chunk : Chunk) (n : ℕ) (r : Result ℕ NullCause) → IfOk r (IsMoved old chunk n new) →
     IfErr r (λ cause. slot_for_request old.state n ≡ Err cause) → OnErr r (new ≡ old) → let step =
     move_with old.state chunk n (slot_for_request old.state n) in
     (result_map_both (λ p. p) Null r ≡ step.answer) × (new.state ≡ step.heap) ×

@@ -10,7 +10,7 @@ pub mod Changed
 pub mod Firsts
 pub mod Giving
 pub mod InPlace
-pub mod LettingGo
+pub mod ReleasingOldest
 pub mod TakingBack
 pub mod FirstHeld
 pub mod PayloadWritten

@@ -2,13 +2,13 @@
 use Rattle.heap_theory.specs.State.{Heap}
 use Rattle.tagged_heap.specs.declared.heap.Heap.TheInside.{Inside}
 use Rattle.tagged_heap.specs.Representation.{Parts}
-use Rattle.tagged_heap.specs.HeapView.{Counted, shown_heap, IsHeldIn}
+use Rattle.tagged_heap.specs.HeapView.{HeapAndFrees, shown_heap, IsHeldIn}
 
 abbrev pub state_of : Inside → Heap
 state_of heap =
     shown_heap heap.layout heap.quarantine.limit heap.machine.memory heap.total heap.machine.seed heap.machine.tag
 
-abbrev pub seen : Inside → Counted
+abbrev pub seen : Inside → HeapAndFrees
 seen heap = record { state = state_of heap; frees = heap.frees }
 
 abbrev pub parts_of : Inside → Parts

@@ -105,6 +105,6 @@ Takes layout memory new fronts fronts' firsts firsts' number (Some s) =
 -- ---- a slot is put into its class's list
 
 -- The class of this number has a front, and the number fits its field in a header.
-pub record IsListed (fronts : List ℕ) (number : ℕ) : Type 0 where
+pub record HasFront (fronts : List ℕ) (number : ℕ) : Type 0 where
   pub few : number < MOST_CLASSES
   pub listed : number < length fronts

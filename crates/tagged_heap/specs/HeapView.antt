@@ -8,7 +8,7 @@ use Rattle.heap_theory.specs.State.{State, Heap, without_headers}
 use Rattle.tagged_heap.specs.Representation.{header_in, Parts, IsKept, AreFirstFresh}
 
 -- A heap's state, and how many chunks were freed.
-pub record Counted : Type 0 where
+pub record HeapAndFrees : Type 0 where
   pub state : Heap
   pub frees : ℕ
 

@@ -12,8 +12,8 @@ ghost use Rattle.std.specs.Prelude.{◌≡◌, ◌↔◌, ◌*◌, ◌<◌, ◌�
 use crate::bytes::zero;
 use crate::chunks::give_out;
 use crate::heap::Heap;
+use crate::next_slot::take_slot;
 use crate::tags::chunk_granules;
-use crate::taking::take_slot;
 use class_table::{GRANULE_BYTES, LARGEST_COUNTED, Layout};
 use heap_theory::NullCause;
 

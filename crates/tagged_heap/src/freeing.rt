@@ -8,7 +8,7 @@ ghost use Rattle.heap_theory.specs.Sound.{IsSoundHeap};
 ghost use Rattle.heap_theory.specs.State.{without_headers, Heap as TheHeap};
 ghost use Rattle.machine_theory.specs.Memory.{IsMemory};
 ghost use Rattle.std.specs.Prelude.{◌≡◌, ◌≢◌, ◌↔◌, ◌+◌, ◌^◌, ◌<◌, ◌≤◌, length, slice_index, slice_set, IfErr, IfOk, Ok, OnErr, OnOk, ℕ};
-ghost use Rattle.tagged_heap.specs.Chunks.{IsChunk, IsListed};
+ghost use Rattle.tagged_heap.specs.Chunks.{IsChunk, HasFront};
 ghost use Rattle.tagged_heap.specs.Representation.{header_in, IsKept, IsRewritten, SomeIsKept};
 
 use crate::chunks::retire;
@@ -54,7 +54,7 @@ impl Heap {
             return Ok(());
         }
         let chunk = self.chunk(p)?;
-        self.release(chunk);
+        self.free_chunk(chunk);
         Ok(())
     }
 
@@ -88,7 +88,7 @@ impl Heap {
     }
 
     // Takes a live chunk back.
-    pub(crate) fn release(&mut self, chunk: Chunk)
+    pub(crate) fn free_chunk(&mut self, chunk: Chunk)
         requires live { IsChunk self.old.state chunk }
         requires few { self.old.frees < 2 ^ 48 }
         ensures { self.new
@@ -100,14 +100,19 @@ impl Heap {
         let bytes = GRANULE_BYTES * class;
         let memory = self.machine.memory_mut();
         self.quarantine.put(memory, &self.layout, slot, bytes);
-        let_go(memory, &self.layout, &mut self.quarantine, &mut self.lists);
+        release_oldest(memory, &self.layout, &mut self.quarantine, &mut self.lists);
         self.total += u64::from(bytes);
         self.frees += 1;
     }
 }
 
 // Releases the oldest slots of the quarantine to their classes' lists while it holds more than its limit.
-fn let_go(memory: &mut Memory, layout: &Layout, quarantine: &mut Quarantine, lists: &mut ClassLists)
+fn release_oldest(
+    memory: &mut Memory,
+    layout: &Layout,
+    quarantine: &mut Quarantine,
+    lists: &mut ClassLists,
+)
     requires kept { SomeIsKept layout.now
         (record { memory = memory.old; quarantine = quarantine.old; fronts = lists.old }) }
     ensures kept { (heap : TheHeap) →
@@ -117,17 +122,17 @@ fn let_go(memory: &mut Memory, layout: &Layout, quarantine: &mut Quarantine, lis
     ensures held { quarantine.new.held ≤ quarantine.new.limit }
 {
     while let Some(slot) = quarantine.next_out(memory, layout) {
-        list_freed(memory, layout, lists, slot);
+        list_released(memory, layout, lists, slot);
     }
 }
 
 // Puts a slot that the quarantine let go into its class's list.
-fn list_freed(memory: &mut Memory, layout: &Layout, lists: &mut ClassLists, slot: u32)
+fn list_released(memory: &mut Memory, layout: &Layout, lists: &mut ClassLists, slot: u32)
     requires slot { slot < slot_count layout.now }
     requires region { length memory.old ≡ layout.now.granules }
     requires memory { IsMemory memory.old }
     requires order { AreInOrder layout.now }
-    requires class { IsListed lists.old (header_in layout.now memory.old slot).class }
+    requires class { HasFront lists.old (header_in layout.now memory.old slot).class }
     ensures header { let before = header_in layout.now memory.old slot in
         let after = record before { standing = Freed; next = slice_index lists.old before.class } in
         IsRewritten layout.now memory.old memory.new slot after (without_headers layout.now memory.old) }

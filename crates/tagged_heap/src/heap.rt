@@ -55,9 +55,9 @@ pub struct Heap {
 }
 
 impl Model for Heap {
-    ghost use Rattle.tagged_heap.specs.HeapView.{Counted};
+    ghost use Rattle.tagged_heap.specs.HeapView.{HeapAndFrees};
 
-    ghost Value = { Counted };
+    ghost Value = { HeapAndFrees };
 
     ghost use Rattle.tagged_heap.specs.Abstraction.{seen, IsHeld};
 

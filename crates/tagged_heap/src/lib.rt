@@ -13,10 +13,10 @@ mod fresh;
 mod headers;
 mod heap;
 pub mod laws;
+mod next_slot;
 mod pointers;
 mod resizing;
 mod tags;
-mod taking;
 
 pub use heap::{Config, Heap};
 pub use heap_theory::{FreeError, NullCause, PlaceKind, ReallocError};

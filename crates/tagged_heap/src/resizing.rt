@@ -61,7 +61,7 @@ impl Heap {
     {
         let given = self.allocate(n)?;
         self.copy_payload(chunk, given, chunk.size.min(n));
-        self.release(chunk);
+        self.free_chunk(chunk);
         Ok(given.address)
     }
 

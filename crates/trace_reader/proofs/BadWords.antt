@@ -35,10 +35,12 @@ many_words (name ∷ a ∷ []) many = absurd (omega arith)
 many_words (name ∷ a ∷ b ∷ []) many = absurd (omega arith)
 many_words (name ∷ a ∷ b ∷ c ∷ []) many = absurd (omega arith)
 many_words (name ∷ a ∷ b ∷ c ∷ d ∷ []) many = absurd (omega arith)
-many_words (name ∷ a ∷ b ∷ c ∷ d ∷ e ∷ ws) many = either (list_any is_empty_word (name ∷ a ∷ b ∷ c ∷ d ∷ e ∷ ws)) bad _ refl (many_named name a b c d e ws)
+many_words (name ∷ a ∷ b ∷ c ∷ d ∷ e ∷ ws) many =
+    either (list_any is_empty_word (name ∷ a ∷ b ∷ c ∷ d ∷ e ∷ ws)) bad _ refl (many_named name a b c d e ws)
 
 -- a word among the others
-list_any-among : {X : Type 0} (test : X → Bool) (front : List X) (x : X) (after : List X) → test x ≡ true → list_any test (front ++ x ∷ after) ≡ true
+list_any-among : {X : Type 0} (test : X → Bool) (front : List X) (x : X) (after : List X) → test x ≡ true →
+    list_any test (front ++ x ∷ after) ≡ true
 list_any-among test [] x after is = rw is refl
 list_any-among test (y ∷ front) x after is = go (test y) (list_any-among test front x after is)
   where
@@ -46,15 +48,18 @@ list_any-among test (y ∷ front) x after is = go (test y) (list_any-among test 
     go true e = refl
     go false e = e
 
-pub empty_word : (front : List (List ℕ)) (word : List ℕ) (after ws : List (List ℕ)) → ws ≡ front ++ word ∷ after → length word ≡ 0 → event_of_words ws ≡ Err BadWord
+pub empty_word : (front : List (List ℕ)) (word : List ℕ) (after ws : List (List ℕ)) → ws ≡ front ++ word ∷ after → length word ≡ 0 →
+    event_of_words ws ≡ Err BadWord
 unfolding event_of_words
 empty_word front word after ws is none = rw (is, list_any-among is_empty_word front word after (eq-eqb (length word) 0 none)) refl
 
 -- one full word more
-pub list_any-push : {X : Type 0} (test : X → Bool) (front : List X) (x : X) → list_any test front ≡ false → test x ≡ false → list_any test (front ++ x ∷ []) ≡ false
+pub list_any-push : {X : Type 0} (test : X → Bool) (front : List X) (x : X) → list_any test front ≡ false → test x ≡ false →
+    list_any test (front ++ x ∷ []) ≡ false
 list_any-push test [] x none is = rw is refl
 list_any-push test (y ∷ front) x none is = go (test y) none (λ others. list_any-push test front x others is)
   where
-    go : (v : Bool) → (v || list_any test front) ≡ false → (list_any test front ≡ false → list_any test (front ++ x ∷ []) ≡ false) → (v || list_any test (front ++ x ∷ [])) ≡ false
+    go : (v : Bool) → (v || list_any test front) ≡ false → (list_any test front ≡ false → list_any test (front ++ x ∷ []) ≡ false) →
+        (v || list_any test (front ++ x ∷ [])) ≡ false
     go true e next = absurd cc
     go false e next = next e

@@ -43,7 +43,8 @@ going_on-append a b c = go c.whole c.unfinished
 pub going_on-joined : (front : List ℕ) (c d : Cut) → going_on front (joined c d) ≡ joined (going_on front c) d
 going_on-joined front c d = go c.whole c.unfinished
   where
-    go : (ls : List (List ℕ)) (rest : List ℕ) → going_on front (joined (record { whole = ls; unfinished = rest }) d) ≡ joined (bytes_in_front front ls rest) d
+    go : (ls : List (List ℕ)) (rest : List ℕ) →
+        going_on front (joined (record { whole = ls; unfinished = rest }) d) ≡ joined (bytes_in_front front ls rest) d
     go [] rest = going_on-append front rest d
     go (line ∷ ls) rest = refl
 
@@ -53,7 +54,8 @@ cut-append [] b = sym (going_on-nil (cut b))
 cut-append (x ∷ a) b = go (is_newline x) (cut-append a b)
   where
     go : (v : Bool) → cut (a ++ b) ≡ joined (cut a) (cut b)
-        → cond v (line_in_front [] (cut (a ++ b))) (going_on (x ∷ []) (cut (a ++ b))) ≡ joined (cond v (line_in_front [] (cut a)) (going_on (x ∷ []) (cut a))) (cut b)
+        → cond v (line_in_front [] (cut (a ++ b))) (going_on (x ∷ []) (cut (a ++ b)))
+        ≡ joined (cond v (line_in_front [] (cut a)) (going_on (x ∷ []) (cut a))) (cut b)
     go true e = ap (line_in_front []) e
     go false e = ap (going_on (x ∷ [])) e ∙ going_on-joined (x ∷ []) (cut a) (cut b)
 
@@ -68,14 +70,18 @@ unfolding cut lines
 lines-cut [] = refl
 lines-cut (b ∷ text) = go (is_newline b) (lines-cut text) (cut text).whole (cut text).unfinished refl
   where
-    onto : (ls : List (List ℕ)) (rest : List ℕ) → onto_first b (ls ++ last_lines rest) ≡ (bytes_in_front (b ∷ []) ls rest).whole ++ last_lines (bytes_in_front (b ∷ []) ls rest).unfinished
+    onto : (ls : List (List ℕ)) (rest : List ℕ) →
+        onto_first b (ls ++ last_lines rest) ≡ (bytes_in_front (b ∷ []) ls rest).whole
+        ++ last_lines (bytes_in_front (b ∷ []) ls rest).unfinished
     onto [] [] = refl
     onto [] (x ∷ rest) = refl
     onto (line ∷ ls) rest = refl
 
-    go : (v : Bool) → lines text ≡ (cut text).whole ++ last_lines (cut text).unfinished → (ls : List (List ℕ)) (rest : List ℕ) → cut text ≡ record { whole = ls; unfinished = rest }
+    go : (v : Bool) → lines text ≡ (cut text).whole ++ last_lines (cut text).unfinished → (ls : List (List ℕ)) (rest : List ℕ) →
+        cut text ≡ record { whole = ls; unfinished = rest }
         → cond v ([] ∷ lines text) (onto_first b (lines text))
-        ≡ (cond v (line_in_front [] (cut text)) (going_on (b ∷ []) (cut text))).whole ++ last_lines (cond v (line_in_front [] (cut text)) (going_on (b ∷ []) (cut text))).unfinished
+        ≡ (cond v (line_in_front [] (cut text)) (going_on (b ∷ []) (cut text))).whole
+        ++ last_lines (cond v (line_in_front [] (cut text)) (going_on (b ∷ []) (cut text))).unfinished
     go true e ls rest is = ap (λ (t : List (List ℕ)). [] ∷ t) e
     go false e ls rest is = ap (onto_first b) e ∙ onto (cut text).whole (cut text).unfinished
 
@@ -86,11 +92,13 @@ unfolding cut
 text_of-cut [] = refl
 text_of-cut (b ∷ text) = go (is_newline b) refl (text_of-cut text)
   where
-    onto : (ls : List (List ℕ)) (rest : List ℕ) → text_of (bytes_in_front (b ∷ []) ls rest).whole ++ (bytes_in_front (b ∷ []) ls rest).unfinished ≡ b ∷ (text_of ls ++ rest)
+    onto : (ls : List (List ℕ)) (rest : List ℕ) →
+        text_of (bytes_in_front (b ∷ []) ls rest).whole ++ (bytes_in_front (b ∷ []) ls rest).unfinished ≡ b ∷ (text_of ls ++ rest)
     onto [] rest = refl
     onto (line ∷ ls) rest = refl
 
     go : (v : Bool) → is_newline b ≡ v → text_of (cut text).whole ++ (cut text).unfinished ≡ text
-        → text_of (cond v (line_in_front [] (cut text)) (going_on (b ∷ []) (cut text))).whole ++ (cond v (line_in_front [] (cut text)) (going_on (b ∷ []) (cut text))).unfinished ≡ b ∷ text
+        → text_of (cond v (line_in_front [] (cut text)) (going_on (b ∷ []) (cut text))).whole
+        ++ (cond v (line_in_front [] (cut text)) (going_on (b ∷ []) (cut text))).unfinished ≡ b ∷ text
     go true newline e = rw (eqb-true b 10 newline) (ap (λ (t : List ℕ). 10 ∷ t) e)
     go false newline e = onto (cut text).whole (cut text).unfinished ∙ ap (λ (t : List ℕ). b ∷ t) e

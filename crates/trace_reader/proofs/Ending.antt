@@ -32,64 +32,83 @@ kept_so : (events : List Event) (lines : ℕ) (rest bytes : List ℕ) → IsLine
     → fed (open_at events lines rest) bytes ≡ at events (cond v (Failed (Line (suc lines) LineTooLong)) (Open lines (rest ++ bytes)))
 kept_so events lines rest bytes line v is = fed_at-line events lines rest bytes line ∙ rw is refl
 
-pub is_open-kept : (old : Reading) (bytes : List ℕ) → is_open old ≡ true → IsLine bytes → Ok tt ≡ answer_of (fed old bytes).state → is_open (fed old bytes) ≡ true
+pub is_open-kept : (old : Reading) (bytes : List ℕ) → is_open old ≡ true → IsLine bytes → Ok tt ≡ answer_of (fed old bytes).state →
+    is_open (fed old bytes) ≡ true
 is_open-kept old bytes open_now line answer = go old.state open_now answer
   where
-    short : (lines : ℕ) (rest : List ℕ) → Ok tt ≡ answer_of (fed (open_at old.events lines rest) bytes).state → (v : Bool) → ltb 80 (length (rest ++ bytes)) ≡ v → is_open (fed (open_at old.events lines rest) bytes) ≡ true
-    short lines rest answer true is = let f = answer ∙ ap (λ (r : Reading). answer_of r.state) (kept_so old.events lines rest bytes line true is) in absurd cc
+    short : (lines : ℕ) (rest : List ℕ) → Ok tt ≡ answer_of (fed (open_at old.events lines rest) bytes).state → (v : Bool) →
+        ltb 80 (length (rest ++ bytes)) ≡ v → is_open (fed (open_at old.events lines rest) bytes) ≡ true
+    short lines rest answer true is =
+        let f = answer ∙ ap (λ (r : Reading). answer_of r.state) (kept_so old.events lines rest bytes line true is) in absurd cc
     short lines rest answer false is = ap is_open (kept_so old.events lines rest bytes line false is)
 
-    go : (state : State) → is_open (at old.events state) ≡ true → Ok tt ≡ answer_of (fed (at old.events state) bytes).state → is_open (fed (at old.events state) bytes) ≡ true
+    go : (state : State) → is_open (at old.events state) ≡ true → Ok tt ≡ answer_of (fed (at old.events state) bytes).state →
+        is_open (fed (at old.events state) bytes) ≡ true
     go (Open lines rest) open_now answer = short lines rest answer (ltb 80 (length (rest ++ bytes))) refl
     go (Failed error) open_now answer = absurd cc
     go Finished open_now answer = absurd cc
 
-judged_either : (lines : ℕ) (rest other : List ℕ) (judged : Result Event TraceFault) → judged_in (Open lines rest) judged ≡ judged_in (Open lines other) judged
+judged_either : (lines : ℕ) (rest other : List ℕ) (judged : Result Event TraceFault) →
+    judged_in (Open lines rest) judged ≡ judged_in (Open lines other) judged
 judged_either lines rest other (Ok event) = refl
 judged_either lines rest other (Err fault) = refl
 
-pub line_ended-kept : (old : Reading) (bytes : List ℕ) → is_open old ≡ true → IsLine bytes → Ok tt ≡ answer_of (fed old bytes).state → line_ended (fed old bytes) [] ≡ line_ended old bytes
+pub line_ended-kept : (old : Reading) (bytes : List ℕ) → is_open old ≡ true → IsLine bytes → Ok tt ≡ answer_of (fed old bytes).state →
+    line_ended (fed old bytes) [] ≡ line_ended old bytes
 unfolding with_judged
 line_ended-kept old bytes open_now line answer = go old.state open_now answer
   where
-    short : (lines : ℕ) (rest : List ℕ) → Ok tt ≡ answer_of (fed (open_at old.events lines rest) bytes).state → (v : Bool) → ltb 80 (length (rest ++ bytes)) ≡ v
+    short : (lines : ℕ) (rest : List ℕ) → Ok tt ≡ answer_of (fed (open_at old.events lines rest) bytes).state → (v : Bool) →
+        ltb 80 (length (rest ++ bytes)) ≡ v
         → line_ended (fed (open_at old.events lines rest) bytes) [] ≡ line_ended (open_at old.events lines rest) bytes
-    short lines rest answer true is = let f = answer ∙ ap (λ (r : Reading). answer_of r.state) (kept_so old.events lines rest bytes line true is) in absurd cc
+    short lines rest answer true is =
+        let f = answer ∙ ap (λ (r : Reading). answer_of r.state) (kept_so old.events lines rest bytes line true is) in absurd cc
     short lines rest answer false is =
         ap (λ (r : Reading). line_ended r []) (kept_so old.events lines rest bytes line false is)
-        ∙ ap (λ (all : List ℕ). added old.events (judged_in (Open lines (rest ++ bytes)) (event_of_line (suc lines) all))) (append-nil (rest ++ bytes))
+        ∙ ap (λ (all : List ℕ). added old.events (judged_in (Open lines (rest ++ bytes)) (event_of_line (suc lines) all)))
+        (append-nil (rest ++ bytes))
         ∙ ap (added old.events) (judged_either lines (rest ++ bytes) rest (event_of_line (suc lines) (rest ++ bytes)))
 
-    go : (state : State) → is_open (at old.events state) ≡ true → Ok tt ≡ answer_of (fed (at old.events state) bytes).state → line_ended (fed (at old.events state) bytes) [] ≡ line_ended (at old.events state) bytes
+    go : (state : State) → is_open (at old.events state) ≡ true → Ok tt ≡ answer_of (fed (at old.events state) bytes).state →
+        line_ended (fed (at old.events state) bytes) [] ≡ line_ended (at old.events state) bytes
     go (Open lines rest) open_now answer = short lines rest answer (ltb 80 (length (rest ++ bytes))) refl
     go (Failed error) open_now answer = absurd cc
     go Finished open_now answer = absurd cc
 
-pub line_ended-long : (old : Reading) (bytes : List ℕ) (error : TraceError) → is_open old ≡ true → IsLine bytes → Err error ≡ answer_of (fed old bytes).state → fed old bytes ≡ line_ended old bytes
+pub line_ended-long : (old : Reading) (bytes : List ℕ) (error : TraceError) → is_open old ≡ true → IsLine bytes →
+    Err error ≡ answer_of (fed old bytes).state → fed old bytes ≡ line_ended old bytes
 unfolding with_judged
 line_ended-long old bytes error open_now line answer = go old.state open_now answer
   where
-    long : (lines : ℕ) (rest : List ℕ) → Err error ≡ answer_of (fed (open_at old.events lines rest) bytes).state → (v : Bool) → ltb 80 (length (rest ++ bytes)) ≡ v
+    long : (lines : ℕ) (rest : List ℕ) → Err error ≡ answer_of (fed (open_at old.events lines rest) bytes).state → (v : Bool) →
+        ltb 80 (length (rest ++ bytes)) ≡ v
         → fed (open_at old.events lines rest) bytes ≡ line_ended (open_at old.events lines rest) bytes
     long lines rest answer true is =
-        kept_so old.events lines rest bytes line true is ∙ rw (event_of_line-long (suc lines) (rest ++ bytes) (ltb-true 80 (length (rest ++ bytes)) is), append-nil old.events) refl
-    long lines rest answer false is = let f = answer ∙ ap (λ (r : Reading). answer_of r.state) (kept_so old.events lines rest bytes line false is) in absurd cc
+        kept_so old.events lines rest bytes line true is
+        ∙ rw (event_of_line-long (suc lines) (rest ++ bytes) (ltb-true 80 (length (rest ++ bytes)) is), append-nil old.events) refl
+    long lines rest answer false is =
+        let f = answer ∙ ap (λ (r : Reading). answer_of r.state) (kept_so old.events lines rest bytes line false is) in absurd cc
 
-    go : (state : State) → is_open (at old.events state) ≡ true → Err error ≡ answer_of (fed (at old.events state) bytes).state → fed (at old.events state) bytes ≡ line_ended (at old.events state) bytes
+    go : (state : State) → is_open (at old.events state) ≡ true → Err error ≡ answer_of (fed (at old.events state) bytes).state →
+        fed (at old.events state) bytes ≡ line_ended (at old.events state) bytes
     go (Open lines rest) open_now answer = long lines rest answer (ltb 80 (length (rest ++ bytes))) refl
     go (Failed error) open_now answer = absurd cc
     go Finished open_now answer = absurd cc
 
 -- ---- a line with its newline, and what comes after it
 
-fed_in-ended : (lines : ℕ) (rest line : List ℕ) → IsLine line → fed_in (Open lines rest) (line ++ 10 ∷ []) ≡ judged_in (Open lines rest) (event_of_line (suc lines) (rest ++ line))
+fed_in-ended : (lines : ℕ) (rest line : List ℕ) → IsLine line →
+    fed_in (Open lines rest) (line ++ 10 ∷ []) ≡ judged_in (Open lines rest) (event_of_line (suc lines) (rest ++ line))
 unfolding cut
 fed_in-ended lines rest line is_line =
     ap (λ (c : Cut). reading_of_cut lines (going_on rest c)) (cut-ended line [] is_line)
-    ∙ ap (λ (t : Trace). record { events = t.events; state = state_after (lines + 1) [] t.fault }) (trace_from-one (suc lines) (rest ++ line))
+    ∙ ap (λ (t : Trace). record { events = t.events; state = state_after (lines + 1) [] t.fault })
+    (trace_from-one (suc lines) (rest ++ line))
     ∙ go (event_of_line (suc lines) (rest ++ line))
   where
-    go : (judged : Result Event TraceFault) → at (with_line (suc lines) judged no_lines).events (state_after (lines + 1) [] (with_line (suc lines) judged no_lines).fault) ≡ judged_in (Open lines rest) judged
+    go : (judged : Result Event TraceFault) →
+        at (with_line (suc lines) judged no_lines).events (state_after (lines + 1) [] (with_line (suc lines) judged no_lines).fault)
+        ≡ judged_in (Open lines rest) judged
     go (Ok event) = rw (add-one lines) refl
     go (Err fault) = refl
 
@@ -97,24 +116,30 @@ pub fed-ended : (old : Reading) (line : List ℕ) → is_open old ≡ true → I
 unfolding fed with_judged
 fed-ended old line open_now is_line = go old.state open_now
   where
-    go : (state : State) → is_open (at old.events state) ≡ true → fed (at old.events state) (line ++ 10 ∷ []) ≡ line_ended (at old.events state) line
+    go : (state : State) → is_open (at old.events state) ≡ true →
+        fed (at old.events state) (line ++ 10 ∷ []) ≡ line_ended (at old.events state) line
     go (Open lines rest) open_now = ap (added old.events) (fed_in-ended lines rest line is_line)
     go (Failed error) open_now = absurd cc
     go Finished open_now = absurd cc
 
-pub fed-after : (old : Reading) (line after : List ℕ) → is_open old ≡ true → IsLine line → fed old (line ++ 10 ∷ after) ≡ fed (line_ended old line) after
+pub fed-after : (old : Reading) (line after : List ℕ) → is_open old ≡ true → IsLine line →
+    fed old (line ++ 10 ∷ after) ≡ fed (line_ended old line) after
 fed-after old line after open_now is_line =
-    ap (fed old) (sym (append_assoc line (10 ∷ []) after)) ∙ sym (fed-append old (line ++ 10 ∷ []) after) ∙ ap (λ (r : Reading). fed r after) (fed-ended old line open_now is_line)
+    ap (fed old) (sym (append_assoc line (10 ∷ []) after)) ∙ sym (fed-append old (line ++ 10 ∷ []) after)
+    ∙ ap (λ (r : Reading). fed r after) (fed-ended old line open_now is_line)
 
-pub is_open-ended : (old : Reading) (line : List ℕ) → is_open old ≡ true → Ok tt ≡ answer_of (line_ended old line).state → is_open (line_ended old line) ≡ true
+pub is_open-ended : (old : Reading) (line : List ℕ) → is_open old ≡ true → Ok tt ≡ answer_of (line_ended old line).state →
+    is_open (line_ended old line) ≡ true
 unfolding with_judged
 is_open-ended old line open_now answer = go old.state open_now answer
   where
-    judged : (lines : ℕ) (rest : List ℕ) (j : Result Event TraceFault) → Ok tt ≡ answer_of (judged_in (Open lines rest) j).state → is_open (judged_in (Open lines rest) j) ≡ true
+    judged : (lines : ℕ) (rest : List ℕ) (j : Result Event TraceFault) → Ok tt ≡ answer_of (judged_in (Open lines rest) j).state →
+        is_open (judged_in (Open lines rest) j) ≡ true
     judged lines rest (Ok event) answer = refl
     judged lines rest (Err fault) answer = absurd cc
 
-    go : (state : State) → is_open (at old.events state) ≡ true → Ok tt ≡ answer_of (line_ended (at old.events state) line).state → is_open (line_ended (at old.events state) line) ≡ true
+    go : (state : State) → is_open (at old.events state) ≡ true → Ok tt ≡ answer_of (line_ended (at old.events state) line).state →
+        is_open (line_ended (at old.events state) line) ≡ true
     go (Open lines rest) open_now answer = judged lines rest (event_of_line (suc lines) (rest ++ line)) answer
     go (Failed error) open_now answer = absurd cc
     go Finished open_now answer = absurd cc
@@ -157,22 +182,29 @@ is_finished-fed r piece unfinished = go r.state unfinished
     go (Failed error) unfinished = refl
     go Finished unfinished = absurd cc
 
-pub unfinished_after : (old new : Reading) (piece : List ℕ) (result : Answer) → is_finished old ≡ false → HasReached old (fed old piece) new result → is_finished new ≡ false
-unfinished_after old new piece (Ok done) unfinished reached = ap is_finished (reached.reading (λ e. absurd cc)) ∙ is_finished-fed old piece unfinished
-unfinished_after old new piece (Err error) unfinished reached = ap (λ (s : State). is_finished (at [] s)) (failed_at new error reached.answer)
+pub unfinished_after : (old new : Reading) (piece : List ℕ) (result : Answer) → is_finished old ≡ false →
+    HasReached old (fed old piece) new result → is_finished new ≡ false
+unfinished_after old new piece (Ok done) unfinished reached =
+    ap is_finished (reached.reading (λ e. absurd cc)) ∙ is_finished-fed old piece unfinished
+unfinished_after old new piece (Err error) unfinished reached =
+    ap (λ (s : State). is_finished (at [] s)) (failed_at new error reached.answer)
 
 -- ---- where an error ends a call
 
 pub failed_on_the_way : (old mid new : Reading) (error : TraceError) (piece line after : List ℕ) → is_open mid ≡ true → IsLine line
-    → fed old piece ≡ fed mid (line ++ 10 ∷ after) → IsFrontOf old.events mid.events → HasReached mid (line_ended mid line) new (Err error) → HasReached old (fed old piece) new (Err error)
+    → fed old piece ≡ fed mid (line ++ 10 ∷ after) → IsFrontOf old.events mid.events →
+    HasReached mid (line_ended mid line) new (Err error) → HasReached old (fed old piece) new (Err error)
 failed_on_the_way old mid new error piece line after open_now is_line same kept reached =
     let rest : fed old piece ≡ fed (line_ended mid line) after = same ∙ fed-after mid line after open_now is_line in
     record {
       answer = reached.answer;
-      reading = λ other. sym (rest ∙ ap (λ (r : Reading). fed r after) (sym (reached.reading other)) ∙ fed-failed new error after (failed_at new error reached.answer));
+      reading =
+          λ other. sym (rest ∙ ap (λ (r : Reading). fed r after) (sym (reached.reading other))
+          ∙ fed-failed new error after (failed_at new error reached.answer));
       kept = IsFrontOf-trans old.events mid.events new.events kept reached.kept;
       front = IsFrontOf-trans new.events (line_ended mid line).events (fed old piece).events reached.front
-          (IsFrontOf-trans (line_ended mid line).events (fed (line_ended mid line) after).events (fed old piece).events (IsFrontOf-fed (line_ended mid line) after) (IsFrontOf-is _ _ (sym (ap (λ (r : Reading). r.events) rest))));
+          (IsFrontOf-trans (line_ended mid line).events (fed (line_ended mid line) after).events (fed old piece).events
+          (IsFrontOf-fed (line_ended mid line) after) (IsFrontOf-is _ _ (sym (ap (λ (r : Reading). r.events) rest))));
     }
 
 -- ---- from one reading to another
@@ -181,20 +213,24 @@ pub IsFrontOf-ended : (r : Reading) (line : List ℕ) → IsFrontOf r.events (li
 unfolding with_judged
 IsFrontOf-ended r line = ((judged_in r.state (judgement_in r.state line)).events, refl)
 
-pub reached_from : (old mid wanted wanted' new : Reading) (result : Answer) → wanted ≡ wanted' → IsFrontOf old.events mid.events → HasReached mid wanted new result → HasReached old wanted' new result
+pub reached_from : (old mid wanted wanted' new : Reading) (result : Answer) → wanted ≡ wanted' → IsFrontOf old.events mid.events →
+    HasReached mid wanted new result → HasReached old wanted' new result
 reached_from old mid wanted wanted' new result same kept reached =
     record {
       answer = reached.answer;
       reading = λ other. reached.reading other ∙ same;
       kept = IsFrontOf-trans old.events mid.events new.events kept reached.kept;
-      front = IsFrontOf-trans new.events wanted.events wanted'.events reached.front (IsFrontOf-is _ _ (ap (λ (r : Reading). r.events) same));
+      front =
+          IsFrontOf-trans new.events wanted.events wanted'.events reached.front (IsFrontOf-is _ _ (ap (λ (r : Reading). r.events) same));
     }
 
 pub reached_ok : (old wanted new : Reading) → HasReached old wanted new (Ok tt) → new ≡ wanted
 reached_ok old wanted new reached = reached.reading (λ e. absurd cc)
 
-pub state_failed : (old : Reading) (events : List Event) (lines : ℕ) (rest : List ℕ) (status : Status) (error : TraceError) → fields events lines rest status ≡ old → status ≡ HasFailed error → old.state ≡ Failed error
-state_failed old events lines rest status error is failed = sym (ap (λ (r : Reading). r.state) is) ∙ ap (λ (s : Status). state_of s lines rest) failed
+pub state_failed : (old : Reading) (events : List Event) (lines : ℕ) (rest : List ℕ) (status : Status) (error : TraceError) →
+    fields events lines rest status ≡ old → status ≡ HasFailed error → old.state ≡ Failed error
+state_failed old events lines rest status error is failed =
+    sym (ap (λ (r : Reading). r.state) is) ∙ ap (λ (s : Status). state_of s lines rest) failed
 
 -- an open reading stands at no error
 pub unchanged_if_failed : (old new : Reading) → is_open old ≡ true → (error : TraceError) → old.state ≡ Failed error → new ≡ old
@@ -203,51 +239,67 @@ unchanged_if_failed old new open_now error failed = let f = sym open_now ∙ ap 
 -- ---- the end of the text
 
 -- without an unfinished line
-pub finished-empty : (events : List Event) (lines : ℕ) (rest : List ℕ) → length rest ≡ 0 → finished (open_at events lines rest) ≡ at events Finished
+pub finished-empty : (events : List Event) (lines : ℕ) (rest : List ℕ) → length rest ≡ 0 →
+    finished (open_at events lines rest) ≡ at events Finished
 unfolding finished
 finished-empty events lines [] none = rw (append-nil events) refl
 finished-empty events lines (b ∷ rest) none = absurd (omega arith)
 
 -- the reading of the last line
-last_line_in : (lines : ℕ) (rest : List ℕ) → (length rest ≡ 0 → ⊥) → finished_in (Open lines rest) ≡ whole_reading (with_line (suc lines) (event_of_line (suc lines) (rest ++ [])) no_lines)
+last_line_in : (lines : ℕ) (rest : List ℕ) → (length rest ≡ 0 → ⊥) →
+    finished_in (Open lines rest) ≡ whole_reading (with_line (suc lines) (event_of_line (suc lines) (rest ++ [])) no_lines)
 last_line_in lines [] some = absurd (some refl)
 last_line_in lines (b ∷ rest) some = rw (append-nil (b ∷ rest)) refl
 
-pub finished-line : (events : List Event) (lines : ℕ) (rest : List ℕ) → (length rest ≡ 0 → ⊥) → Ok tt ≡ answer_of (line_ended (open_at events lines rest) []).state
+pub finished-line : (events : List Event) (lines : ℕ) (rest : List ℕ) → (length rest ≡ 0 → ⊥) →
+    Ok tt ≡ answer_of (line_ended (open_at events lines rest) []).state
     → finished (open_at events lines rest) ≡ at (line_ended (open_at events lines rest) []).events Finished
 unfolding finished with_judged
-finished-line events lines rest some answer = ap (added events) (last_line_in lines rest some) ∙ go (event_of_line (suc lines) (rest ++ [])) answer
+finished-line events lines rest some answer =
+    ap (added events) (last_line_in lines rest some) ∙ go (event_of_line (suc lines) (rest ++ [])) answer
   where
-    go : (j : Result Event TraceFault) → Ok tt ≡ answer_of (judged_in (Open lines rest) j).state → added events (whole_reading (with_line (suc lines) j no_lines)) ≡ at (events ++ (judged_in (Open lines rest) j).events) Finished
+    go : (j : Result Event TraceFault) → Ok tt ≡ answer_of (judged_in (Open lines rest) j).state →
+        added events (whole_reading (with_line (suc lines) j no_lines)) ≡ at (events ++ (judged_in (Open lines rest) j).events) Finished
     go (Ok event) answer = refl
     go (Err fault) answer = absurd cc
 
-finished-events : (events : List Event) (lines : ℕ) (rest : List ℕ) → (length rest ≡ 0 → ⊥) → (finished (open_at events lines rest)).events ≡ (line_ended (open_at events lines rest) []).events
+finished-events : (events : List Event) (lines : ℕ) (rest : List ℕ) → (length rest ≡ 0 → ⊥) →
+    (finished (open_at events lines rest)).events ≡ (line_ended (open_at events lines rest) []).events
 unfolding finished with_judged
-finished-events events lines rest some = ap (λ (r : Reading). events ++ r.events) (last_line_in lines rest some) ∙ go (event_of_line (suc lines) (rest ++ []))
+finished-events events lines rest some =
+    ap (λ (r : Reading). events ++ r.events) (last_line_in lines rest some) ∙ go (event_of_line (suc lines) (rest ++ []))
   where
-    go : (j : Result Event TraceFault) → events ++ (whole_reading (with_line (suc lines) j no_lines)).events ≡ events ++ (judged_in (Open lines rest) j).events
+    go : (j : Result Event TraceFault) →
+        events ++ (whole_reading (with_line (suc lines) j no_lines)).events ≡ events ++ (judged_in (Open lines rest) j).events
     go (Ok event) = refl
     go (Err fault) = refl
 
-finished-fault : (events : List Event) (lines : ℕ) (rest : List ℕ) (error : TraceError) → (length rest ≡ 0 → ⊥) → Err error ≡ answer_of (line_ended (open_at events lines rest) []).state
+finished-fault : (events : List Event) (lines : ℕ) (rest : List ℕ) (error : TraceError) → (length rest ≡ 0 → ⊥) →
+    Err error ≡ answer_of (line_ended (open_at events lines rest) []).state
     → finished (open_at events lines rest) ≡ line_ended (open_at events lines rest) []
 unfolding finished with_judged
-finished-fault events lines rest error some answer = ap (added events) (last_line_in lines rest some) ∙ go (event_of_line (suc lines) (rest ++ [])) answer
+finished-fault events lines rest error some answer =
+    ap (added events) (last_line_in lines rest some) ∙ go (event_of_line (suc lines) (rest ++ [])) answer
   where
-    go : (j : Result Event TraceFault) → Err error ≡ answer_of (judged_in (Open lines rest) j).state → added events (whole_reading (with_line (suc lines) j no_lines)) ≡ added events (judged_in (Open lines rest) j)
+    go : (j : Result Event TraceFault) → Err error ≡ answer_of (judged_in (Open lines rest) j).state →
+        added events (whole_reading (with_line (suc lines) j no_lines)) ≡ added events (judged_in (Open lines rest) j)
     go (Ok event) answer = absurd cc
     go (Err fault) answer = refl
 
 failed_at_end : (events : List Event) (lines : ℕ) (rest : List ℕ) (new : Reading) (error : TraceError) → (length rest ≡ 0 → ⊥)
-    → HasReached (open_at events lines rest) (line_ended (open_at events lines rest) []) new (Err error) → HasReached (open_at events lines rest) (finished (open_at events lines rest)) new (Err error)
+    → HasReached (open_at events lines rest) (line_ended (open_at events lines rest) []) new (Err error) →
+    HasReached (open_at events lines rest) (finished (open_at events lines rest)) new (Err error)
 failed_at_end events lines rest new error some reached =
     let old = open_at events lines rest in
     record {
       answer = reached.answer;
-      reading = λ other. let is = reached.reading other in is ∙ sym (finished-fault events lines rest error some (reached.answer ∙ ap (λ (r : Reading). answer_of r.state) is));
+      reading =
+          λ other. let is = reached.reading other in
+          is ∙ sym (finished-fault events lines rest error some (reached.answer ∙ ap (λ (r : Reading). answer_of r.state) is));
       kept = reached.kept;
-      front = IsFrontOf-trans new.events (line_ended old []).events (finished old).events reached.front (IsFrontOf-is _ _ (sym (finished-events events lines rest some)));
+      front =
+          IsFrontOf-trans new.events (line_ended old []).events (finished old).events reached.front
+          (IsFrontOf-is _ _ (sym (finished-events events lines rest some)));
     }
 
 -- an unfinished line that is not empty
@@ -255,28 +307,39 @@ pub not_empty : (rest : List ℕ) (empty : Bool) → empty ≡ eqb (length rest)
 not_empty rest empty is isn_t none = let f = sym isn_t ∙ is ∙ eq-eqb (length rest) 0 none in absurd cc
 
 pub finish_failed : (old new : Reading) (events : List Event) (lines : ℕ) (rest : List ℕ) (status : Status) (error : TraceError)
-    → fields events lines rest status ≡ old → is_open old ≡ true → (length rest ≡ 0 → ⊥) → HasReached old (line_ended old []) new (Err error) → HasReached old (finished old) new (Err error)
+    → fields events lines rest status ≡ old → is_open old ≡ true → (length rest ≡ 0 → ⊥) →
+    HasReached old (line_ended old []) new (Err error) → HasReached old (finished old) new (Err error)
 finish_failed old new events lines rest status error is open_now some reached =
     let s = is_open_at old events lines rest status is open_now in
-    let at_it : HasReached (open_at events lines rest) (line_ended (open_at events lines rest) []) new (Err error) = subst (λ (r : Reading). HasReached r (line_ended r []) new (Err error)) s.1 reached in
+    let at_it : HasReached (open_at events lines rest) (line_ended (open_at events lines rest) []) new (Err error) =
+    subst (λ (r : Reading). HasReached r (line_ended r []) new (Err error)) s.1 reached in
     subst (λ (r : Reading). HasReached r (finished r) new (Err error)) (sym s.1) (failed_at_end events lines rest new error some at_it)
 
 pub finish_line : (old mid : Reading) (events : List Event) (lines : ℕ) (rest : List ℕ) (status : Status) (events' : List Event)
-    → fields events lines rest status ≡ old → is_open old ≡ true → (length rest ≡ 0 → ⊥) → HasReached old (line_ended old []) mid (Ok tt) → events' ≡ mid.events → HasReached old (finished old) (at events' Finished) (Ok tt)
+    → fields events lines rest status ≡ old → is_open old ≡ true → (length rest ≡ 0 → ⊥) → HasReached old (line_ended old []) mid (Ok tt) →
+    events' ≡ mid.events → HasReached old (finished old) (at events' Finished) (Ok tt)
 finish_line old mid events lines rest status events' is open_now some reached same =
     let s = is_open_at old events lines rest status is open_now in
     let now = reached_ok old (line_ended old []) mid reached in
-    let answer : Ok tt ≡ answer_of (line_ended (open_at events lines rest) []).state = reached.answer ∙ ap (λ (r : Reading). answer_of r.state) (now ∙ ap (λ (r : Reading). line_ended r []) s.1) in
+    let answer : Ok tt ≡ answer_of (line_ended (open_at events lines rest) []).state =
+    reached.answer ∙ ap (λ (r : Reading). answer_of r.state) (now ∙ ap (λ (r : Reading). line_ended r []) s.1) in
     let ends : finished old ≡ at events' Finished =
-    ap finished s.1 ∙ finished-line events lines rest some answer ∙ ap (λ (es : List Event). at es Finished) (sym (same ∙ ap (λ (r : Reading). r.events) (now ∙ ap (λ (r : Reading). line_ended r []) s.1))) in
-    came old (finished old) (at events' Finished) (Ok tt) (sym ends) (ap (λ (r : Reading). answer_of r.state) (sym ends)) (IsFrontOf-finished old)
+    ap finished s.1 ∙ finished-line events lines rest some answer
+    ∙ ap (λ (es : List Event). at es Finished)
+    (sym (same ∙ ap (λ (r : Reading). r.events) (now ∙ ap (λ (r : Reading). line_ended r []) s.1))) in
+    came old (finished old) (at events' Finished) (Ok tt) (sym ends) (ap (λ (r : Reading). answer_of r.state) (sym ends))
+    (IsFrontOf-finished old)
 
 pub finish_empty : (old : Reading) (events : List Event) (lines : ℕ) (rest : List ℕ) (status : Status) (events' : List Event)
-    → fields events lines rest status ≡ old → is_open old ≡ true → length rest ≡ 0 → events' ≡ old.events → HasReached old (finished old) (at events' Finished) (Ok tt)
+    → fields events lines rest status ≡ old → is_open old ≡ true → length rest ≡ 0 → events' ≡ old.events →
+    HasReached old (finished old) (at events' Finished) (Ok tt)
 finish_empty old events lines rest status events' is open_now none same =
     let s = is_open_at old events lines rest status is open_now in
-    let ends : finished old ≡ at events' Finished = ap finished s.1 ∙ finished-empty events lines rest none ∙ ap (λ (es : List Event). at es Finished) (sym (same ∙ ap (λ (r : Reading). r.events) s.1)) in
-    came old (finished old) (at events' Finished) (Ok tt) (sym ends) (ap (λ (r : Reading). answer_of r.state) (sym ends)) (IsFrontOf-finished old)
+    let ends : finished old ≡ at events' Finished =
+    ap finished s.1 ∙ finished-empty events lines rest none
+    ∙ ap (λ (es : List Event). at es Finished) (sym (same ∙ ap (λ (r : Reading). r.events) s.1)) in
+    came old (finished old) (at events' Finished) (Ok tt) (sym ends) (ap (λ (r : Reading). answer_of r.state) (sym ends))
+    (IsFrontOf-finished old)
 
 pub finished_after : (old new : Reading) (error : TraceError) → HasReached old (finished old) new (Err error) → is_finished new ≡ false
 finished_after old new error reached = ap (λ (s : State). is_finished (at [] s)) (failed_at new error reached.answer)

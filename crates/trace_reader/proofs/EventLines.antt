@@ -40,7 +40,8 @@ no_word : AreTexts []
 no_word = record { lines = All-nil _; words = All-nil _ }
 
 one_word_more : {ws : List (List ℕ)} (word : List ℕ) → IsText word → AreTexts ws → AreTexts (word ∷ ws)
-one_word_more {ws} word text others = record { lines = All-cons IsLine word ws text.0 others.lines; words = All-cons IsWord word ws text.1 others.words }
+one_word_more {ws} word text others =
+    record { lines = All-cons IsLine word ws text.0 others.lines; words = All-cons IsWord word ws text.1 others.words }
 
 number_word : {ws : List (List ℕ)} → (n : ℕ) → n < 2 ^ 64 → AreTexts ws → AreTexts (decimal n ∷ ws)
 number_word n small others = one_word_more (decimal n) (spelled_number_is_a_word n small) others
@@ -166,13 +167,20 @@ offset_len (pos n) near = omega (arith, number_len n (omega (arith, near)))
 offset_len (negsuc n) near = omega (arith, number_len (suc n) (omega (arith, near)))
 
 -- one word more
-len_more : (k m : ℕ) (word next : List ℕ) (ws : List (List ℕ)) → length word ≤ k → length (line_of (next ∷ ws)) ≤ m → length (line_of (word ∷ next ∷ ws)) ≤ k + suc m
+len_more : (k m : ℕ) (word next : List ℕ) (ws : List (List ℕ)) → length word ≤ k → length (line_of (next ∷ ws)) ≤ m →
+    length (line_of (word ∷ next ∷ ws)) ≤ k + suc m
 len_more k m word next ws of_word of_line = omega (arith, length-append word (32 ∷ line_of (next ∷ ws)), of_word, of_line)
 
 request_len : (name : List ℕ) (v n : ℕ) → length name ≤ 7 → v ≤ 1023 → n ≤ 2147483647 → length (line_of (request_words name v n)) ≤ 80
-request_len name v n short v_in n_in = omega (arith, len_more 7 21 name (decimal v) (decimal n ∷ []) short (len_more 10 10 (decimal v) (decimal n) [] (number_len v (omega (arith, v_in))) (number_len n n_in)))
+request_len name v n short v_in n_in =
+    omega (
+      arith,
+      len_more 7 21 name (decimal v) (decimal n ∷ []) short
+          (len_more 10 10 (decimal v) (decimal n) [] (number_len v (omega (arith, v_in))) (number_len n n_in)),
+    )
 
-move_len : (name : List ℕ) (v w u6 u4 : ℕ) → length name ≤ 7 → v ≤ 1023 → w ≤ 1023 → u6 ≤ 63 → u4 ≤ 15 → length (line_of (move_words name v w u6 u4)) ≤ 80
+move_len : (name : List ℕ) (v w u6 u4 : ℕ) → length name ≤ 7 → v ≤ 1023 → w ≤ 1023 → u6 ≤ 63 → u4 ≤ 15 →
+    length (line_of (move_words name v w u6 u4)) ≤ 80
 move_len name v w u6 u4 short v_in w_in u6_in u4_in =
     let tags = len_more 10 10 (decimal u6) (decimal u4) [] (number_len u6 (omega (arith, u6_in))) (number_len u4 (omega (arith, u4_in))) in
     let other = len_more 10 21 (decimal w) (decimal u6) (decimal u4 ∷ []) (number_len w (omega (arith, w_in))) tags in
@@ -191,7 +199,8 @@ event_len (Load v off len) is =
 event_len (Store v off len byte) is =
     let bytes = len_more 10 2 (decimal len) (hex byte) [] (number_len len (omega (arith, is.0.3))) (omega arith) in
     let access = len_more 11 13 (signed_decimal off) (decimal len) (hex byte ∷ []) (offset_len off is.0.1) bytes in
-    let numbers = len_more 10 25 (decimal v) (signed_decimal off) (decimal len ∷ hex byte ∷ []) (number_len v (omega (arith, is.0.0))) access in
+    let numbers =
+    len_more 10 25 (decimal v) (signed_decimal off) (decimal len ∷ hex byte ∷ []) (number_len v (omega (arith, is.0.0))) access in
     omega (arith, len_more 5 36 (codes "store") (decimal v) (signed_decimal off ∷ decimal len ∷ hex byte ∷ []) (omega arith) numbers)
 event_len (Addg v w u6 u4) is = move_len (codes "addg") v w u6 u4 (omega arith) is.0 is.1 is.2 is.3
 event_len (Subg v w u6 u4) is = move_len (codes "subg") v w u6 u4 (omega arith) is.0 is.1 is.2 is.3

@@ -18,12 +18,15 @@ reading_of lines rest t = record { events = t.events; state = state_after lines 
 
 -- an unfinished line that is too long is the fault, whatever comes after it
 too_long : (lines : ℕ) (c d : Cut) → 80 < length c.unfinished
-    → reading_of (lines + length (c.whole ++ (going_on c.unfinished d).whole)) (going_on c.unfinished d).unfinished (trace_from (suc lines + length c.whole) (going_on c.unfinished d).whole)
+    → reading_of (lines + length (c.whole ++ (going_on c.unfinished d).whole)) (going_on c.unfinished d).unfinished
+    (trace_from (suc lines + length c.whole) (going_on c.unfinished d).whole)
     ≡ record { events = []; state = Failed (Line (suc (lines + length c.whole)) LineTooLong) }
 too_long lines c d long = go d.whole d.unfinished
   where
     go : (ls : List (List ℕ)) (rest : List ℕ)
-        → reading_of (lines + length (c.whole ++ (bytes_in_front c.unfinished ls rest).whole)) (bytes_in_front c.unfinished ls rest).unfinished (trace_from (suc lines + length c.whole) (bytes_in_front c.unfinished ls rest).whole)
+        → reading_of (lines + length (c.whole ++ (bytes_in_front c.unfinished ls rest).whole))
+        (bytes_in_front c.unfinished ls rest).unfinished
+        (trace_from (suc lines + length c.whole) (bytes_in_front c.unfinished ls rest).whole)
         ≡ record { events = []; state = Failed (Line (suc (lines + length c.whole)) LineTooLong) }
     go [] rest =
         let longer : 80 < length (c.unfinished ++ rest) = omega (arith, length-append c.unfinished rest, long) in
@@ -36,13 +39,16 @@ too_long lines c d long = go d.whole d.unfinished
 -- the whole lines of both
 both : (lines : ℕ) (c d : Cut) (piece : List ℕ) → cut piece ≡ d → (t : Trace) (fault : Option (ℕ × TraceFault)) → t.fault ≡ fault
     → added t.events (fed_in (state_after (lines + length c.whole) c.unfinished fault) piece)
-    ≡ reading_of (lines + length (joined c d).whole) (joined c d).unfinished (followed_by fault t.events (trace_from (suc lines + length c.whole) (going_on c.unfinished d).whole))
+    ≡ reading_of (lines + length (joined c d).whole) (joined c d).unfinished
+    (followed_by fault t.events (trace_from (suc lines + length c.whole) (going_on c.unfinished d).whole))
 both lines c d piece is t (Some fault) faulty = rw (append-nil t.events) refl
 both lines c d piece is t None faultless = go (ltb 80 (length c.unfinished)) refl
   where
     go : (v : Bool) → ltb 80 (length c.unfinished) ≡ v
-        → added t.events (fed_in (cond v (Failed (Line (suc (lines + length c.whole)) LineTooLong)) (Open (lines + length c.whole) c.unfinished)) piece)
-        ≡ added t.events (reading_of (lines + length (joined c d).whole) (joined c d).unfinished (trace_from (suc lines + length c.whole) (going_on c.unfinished d).whole))
+        → added t.events (fed_in
+        (cond v (Failed (Line (suc (lines + length c.whole)) LineTooLong)) (Open (lines + length c.whole) c.unfinished)) piece)
+        ≡ added t.events (reading_of (lines + length (joined c d).whole) (joined c d).unfinished
+        (trace_from (suc lines + length c.whole) (going_on c.unfinished d).whole))
     go true long = ap (added t.events) (sym (too_long lines c d (ltb-true 80 (length c.unfinished) long)))
     go false short =
         let count : suc lines + length c.whole ≡ suc (lines + length c.whole) = omega arith in
@@ -57,7 +63,8 @@ fed_in-append (Open lines rest) a b =
     ∙ sym (
     ap (λ (d : Cut). reading_of_cut lines (going_on rest d)) (cut-append a b)
     ∙ ap (reading_of_cut lines) (going_on-joined rest (cut a) (cut b))
-    ∙ ap (λ (u : Trace). reading_of (lines + length (joined c (cut b)).whole) (joined c (cut b)).unfinished u) (trace_from-append (suc lines) c.whole (going_on c.unfinished (cut b)).whole)
+    ∙ ap (λ (u : Trace). reading_of (lines + length (joined c (cut b)).whole) (joined c (cut b)).unfinished u)
+    (trace_from-append (suc lines) c.whole (going_on c.unfinished (cut b)).whole)
     )
 fed_in-append (Failed error) a b = refl
 fed_in-append Finished a b = refl

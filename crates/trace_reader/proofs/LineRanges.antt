@@ -36,14 +36,17 @@ both_pass false b e = absurd cc
 
 IfOk-number_from : (low high : ℕ) (word : List ℕ) → IfOk (number_from low high word) (λ n. (low ≤ n) × (n ≤ high))
 IfOk-number_from low high word =
-    IfOk-ranged (λ n. (low ≤ n) × (n ≤ high)) (λ n. leb low n && leb n high) (λ n e. let p = both_pass (leb low n) (leb n high) e in (leb-true low n p.0, leb-true n high p.1)) (number_of word)
+    IfOk-ranged (λ n. (low ≤ n) × (n ≤ high)) (λ n. leb low n && leb n high)
+    (λ n e. let p = both_pass (leb low n) (leb n high) e in (leb-true low n p.0, leb-true n high p.1)) (number_of word)
 
 pub IfOk-offset_of : (word : List ℕ) → IfOk (offset_of word) (λ z. nat_abs z ≤ 1048576)
-IfOk-offset_of word = IfOk-ranged (λ z. nat_abs z ≤ 1048576) (λ z. leb (nat_abs z) 1048576) (λ z e. leb-true (nat_abs z) 1048576 e) (signed_of word)
+IfOk-offset_of word =
+    IfOk-ranged (λ z. nat_abs z ≤ 1048576) (λ z. leb (nat_abs z) 1048576) (λ z e. leb-true (nat_abs z) 1048576 e) (signed_of word)
 
 -- ---- one value after another
 
-pub IfOk-and_then : {A B : Type 0} (P : A → Type 0) (Q : B → Type 0) (r : Result A TraceFault) (f : A → Result B TraceFault) → IfOk r P → ((x : A) → P x → IfOk (f x) Q) → IfOk (r >>= f) Q
+pub IfOk-and_then : {A B : Type 0} (P : A → Type 0) (Q : B → Type 0) (r : Result A TraceFault) (f : A → Result B TraceFault) → IfOk r P →
+    ((x : A) → P x → IfOk (f x) Q) → IfOk (r >>= f) Q
 IfOk-and_then P Q (Ok x) f holds more = more x holds
 IfOk-and_then P Q (Err fault) f holds more = tt
 
@@ -56,11 +59,14 @@ IfOk-byte_of word = go (hex_of word) refl
 
 -- ---- the words after a name
 
-IfOk-request_of : (event : ℕ → ℕ → Event) → ((v n : ℕ) → v ≤ 1023 → n ≤ 2147483647 → IsInRange (event v n)) → (ws : List (List ℕ)) → IfOk (request_of event ws) IsInRange
+IfOk-request_of : (event : ℕ → ℕ → Event) → ((v n : ℕ) → v ≤ 1023 → n ≤ 2147483647 → IsInRange (event v n)) → (ws : List (List ℕ)) →
+    IfOk (request_of event ws) IsInRange
 IfOk-request_of event within [] = tt
 IfOk-request_of event within (v ∷ []) = tt
 IfOk-request_of event within (v ∷ n ∷ []) =
-    IfOk-and_then _ IsInRange (variable_of v) _ (IfOk-number_from 0 1023 v) (λ v v_in. IfOk-and_then _ IsInRange (size_of n) _ (IfOk-number_from 0 2147483647 n) (λ n n_in. within v n (omega (arith, v_in.1)) (omega (arith, n_in.1))))
+    IfOk-and_then _ IsInRange (variable_of v) _ (IfOk-number_from 0 1023 v)
+    (λ v v_in. IfOk-and_then _ IsInRange (size_of n) _ (IfOk-number_from 0 2147483647 n)
+    (λ n n_in. within v n (omega (arith, v_in.1)) (omega (arith, n_in.1))))
 IfOk-request_of event within (v ∷ n ∷ other ∷ ws) = tt
 
 IfOk-free_of : (ws : List (List ℕ)) → IfOk (free_of ws) IsInRange
@@ -74,7 +80,9 @@ IfOk-load_of (v ∷ []) = tt
 IfOk-load_of (v ∷ off ∷ []) = tt
 IfOk-load_of (v ∷ off ∷ len ∷ []) =
     IfOk-and_then _ IsInRange (variable_of v) _ (IfOk-number_from 0 1023 v)
-    (λ v v_in. IfOk-and_then _ IsInRange (offset_of off) _ (IfOk-offset_of off) (λ off off_in. IfOk-and_then _ IsInRange (len_of len) _ (IfOk-number_from 1 64 len) (λ len len_in. (omega (arith, v_in.1), off_in, len_in.0, len_in.1))))
+    (λ v v_in. IfOk-and_then _ IsInRange (offset_of off) _ (IfOk-offset_of off)
+    (λ off off_in. IfOk-and_then _ IsInRange (len_of len) _ (IfOk-number_from 1 64 len)
+    (λ len len_in. (omega (arith, v_in.1), off_in, len_in.0, len_in.1))))
 IfOk-load_of (v ∷ off ∷ len ∷ other ∷ ws) = tt
 
 IfOk-store_of : (ws : List (List ℕ)) → IfOk (store_of ws) IsInRange
@@ -100,7 +108,8 @@ IfOk-move_of event within (v ∷ w ∷ u6 ∷ u4 ∷ []) =
     IfOk-and_then _ IsInRange (variable_of v) _ (IfOk-number_from 0 1023 v)
     (λ v v_in. IfOk-and_then _ IsInRange (variable_of w) _ (IfOk-number_from 0 1023 w)
     (λ w w_in. IfOk-and_then _ IsInRange (number_from 0 63 u6) _ (IfOk-number_from 0 63 u6)
-    (λ u6 u6_in. IfOk-and_then _ IsInRange (number_from 0 15 u4) _ (IfOk-number_from 0 15 u4) (λ u4 u4_in. within v w u6 u4 (omega (arith, v_in.1)) (omega (arith, w_in.1)) u6_in.1 u4_in.1))))
+    (λ u6 u6_in. IfOk-and_then _ IsInRange (number_from 0 15 u4) _ (IfOk-number_from 0 15 u4)
+    (λ u4 u4_in. within v w u6 u4 (omega (arith, v_in.1)) (omega (arith, w_in.1)) u6_in.1 u4_in.1))))
 IfOk-move_of event within (v ∷ w ∷ u6 ∷ u4 ∷ other ∷ ws) = tt
 
 -- ---- a line
@@ -118,7 +127,8 @@ IfOk-event_named name ws =
     (IfOk-either (bytes_eq name (codes "load")) (load_of ws) _ (IfOk-load_of ws)
     (IfOk-either (bytes_eq name (codes "store")) (store_of ws) _ (IfOk-store_of ws)
     (IfOk-either (bytes_eq name (codes "addg")) (move_of Addg ws) _ (IfOk-move_of Addg (λ v w u6 u4 a b c d. (a, b, c, d)) ws)
-    (IfOk-either (bytes_eq name (codes "subg")) (move_of Subg ws) (Err BadWord) (IfOk-move_of Subg (λ v w u6 u4 a b c d. (a, b, c, d)) ws) tt)))))))
+    (IfOk-either (bytes_eq name (codes "subg")) (move_of Subg ws) (Err BadWord) (IfOk-move_of Subg (λ v w u6 u4 a b c d. (a, b, c, d)) ws)
+    tt)))))))
 
 IfOk-event_of_words : (ws : List (List ℕ)) → IfOk (event_of_words ws) IsInRange
 unfolding event_of_words
@@ -143,7 +153,8 @@ few_events number line = go (ltb 80 (length line)) (ltb 1000000 number) refl (ev
     few le (Ok event) = le
     few le (Err fault) = tt
 
-    go : (v w : Bool) → ltb 1000000 number ≡ w → (r : Result Event TraceFault) → IfOk (cond v (Err LineTooLong) (cond w (Err TooManyEvents) r)) (λ event. number ≤ 1000000)
+    go : (v w : Bool) → ltb 1000000 number ≡ w → (r : Result Event TraceFault) →
+        IfOk (cond v (Err LineTooLong) (cond w (Err TooManyEvents) r)) (λ event. number ≤ 1000000)
     go true w is r = tt
     go false true is r = tt
     go false false is r = few (ltb-false 1000000 number is) r
@@ -155,7 +166,8 @@ unfolding trace_from
 few_from number [] low = omega (arith, low)
 few_from number (line ∷ ls) low = go (event_of_line number line) (few_events number line) (λ lower. few_from (suc number) ls lower)
   where
-    go : (r : Result Event TraceFault) → IfOk r (λ event. number ≤ 1000000) → (suc number ≤ 1000001 → suc number + length (trace_from (suc number) ls).events ≤ 1000001)
+    go : (r : Result Event TraceFault) → IfOk r (λ event. number ≤ 1000000) →
+        (suc number ≤ 1000001 → suc number + length (trace_from (suc number) ls).events ≤ 1000001)
         → number + length (with_line number r (trace_from (suc number) ls)).events ≤ 1000001
     go (Ok event) few next = omega (arith, next (omega (arith, few)))
     go (Err fault) few next = omega (arith, low)

@@ -18,7 +18,8 @@ use Rattle.trace_reader.proofs.Traces.{followed, followed_by, trace_from-append,
 fed_all-fed : (r : Reading) (a : List ℕ) (pieces : List (List ℕ)) → fed_all (fed r a) pieces ≡ fed r (a ++ concat pieces)
 fed_all-fed r a [] = ap (fed r) (sym (append-nil a))
 fed_all-fed r a (piece ∷ pieces) =
-    ap (λ (x : Reading). fed_all x pieces) (fed-append r a piece) ∙ fed_all-fed r (a ++ piece) pieces ∙ ap (fed r) (append_assoc a piece (concat pieces))
+    ap (λ (x : Reading). fed_all x pieces) (fed-append r a piece) ∙ fed_all-fed r (a ++ piece) pieces
+    ∙ ap (fed r) (append_assoc a piece (concat pieces))
 
 fed_all-concat : (pieces : List (List ℕ)) → fed_all nothing_read pieces ≡ fed nothing_read (concat pieces)
 unfolding fed cut trace_from
@@ -30,18 +31,21 @@ last_line-trace : (n : ℕ) (rest : List ℕ) → last_line n rest ≡ trace_fro
 last_line-trace n [] = sym (trace_from-none (suc n))
 last_line-trace n (b ∷ rest) = sym (trace_from-one (suc n) (b ∷ rest))
 
-too_long-trace : (n : ℕ) (rest : List ℕ) → ltb 80 (length rest) ≡ true → trace_from (suc n) (last_lines rest) ≡ record { events = []; fault = Some (suc n, LineTooLong) }
+too_long-trace : (n : ℕ) (rest : List ℕ) → ltb 80 (length rest) ≡ true →
+    trace_from (suc n) (last_lines rest) ≡ record { events = []; fault = Some (suc n, LineTooLong) }
 too_long-trace n [] long = absurd cc
 too_long-trace n (b ∷ rest) long = trace_from-long (suc n) (b ∷ rest) [] (ltb-true 80 (length (b ∷ rest)) long)
 
 -- the end after a whole text
 at_end : (n : ℕ) (c : Cut) (t : Trace) (fault : Option (ℕ × TraceFault)) → t.fault ≡ fault
-    → added t.events (finished_in (state_after n c.unfinished fault)) ≡ whole_reading (followed_by fault t.events (trace_from (suc n) (last_lines c.unfinished)))
+    → added t.events (finished_in (state_after n c.unfinished fault))
+    ≡ whole_reading (followed_by fault t.events (trace_from (suc n) (last_lines c.unfinished)))
 at_end n c t (Some fault) is = rw (append-nil t.events) refl
 at_end n c t None is = go (ltb 80 (length c.unfinished)) refl
   where
     go : (v : Bool) → ltb 80 (length c.unfinished) ≡ v
-        → added t.events (finished_in (cond v (Failed (Line (suc n) LineTooLong)) (Open n c.unfinished))) ≡ whole_reading (followed_by None t.events (trace_from (suc n) (last_lines c.unfinished)))
+        → added t.events (finished_in (cond v (Failed (Line (suc n) LineTooLong)) (Open n c.unfinished)))
+        ≡ whole_reading (followed_by None t.events (trace_from (suc n) (last_lines c.unfinished)))
     go true long = rw (too_long-trace n c.unfinished long) refl
     go false short = rw (last_line-trace n c.unfinished) refl
 
@@ -55,7 +59,8 @@ whole_text text =
     ap (λ (d : Cut). added (reading_of_cut 0 d).events (finished_in (reading_of_cut 0 d).state)) (going_on-nil c)
     ∙ at_end n c t t.fault refl
     ∙ ap (λ (k : ℕ). whole_reading (followed t (trace_from k (last_lines c.unfinished)))) count
-    ∙ sym (ap (λ (ls : List (List ℕ)). whole_reading (trace_from 1 ls)) (lines-cut text) ∙ ap whole_reading (trace_from-append 1 c.whole (last_lines c.unfinished)))
+    ∙ sym (ap (λ (ls : List (List ℕ)). whole_reading (trace_from 1 ls)) (lines-cut text)
+    ∙ ap whole_reading (trace_from-append 1 c.whole (last_lines c.unfinished)))
 
 pub in_pieces : (pieces : List (List ℕ)) → finished (fed_all nothing_read pieces) ≡ whole_reading (trace_of (concat pieces))
 in_pieces pieces = ap finished (fed_all-concat pieces) ∙ whole_text (concat pieces)

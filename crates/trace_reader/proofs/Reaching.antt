@@ -44,7 +44,8 @@ IsFrontOf-finished r = ((finished_in r.state).events, refl)
 
 -- ---- where a call ends
 
-pub came : (old wanted new : Reading) (result : Answer) → new ≡ wanted → result ≡ answer_of wanted.state → IsFrontOf old.events wanted.events → HasReached old wanted new result
+pub came : (old wanted new : Reading) (result : Answer) → new ≡ wanted → result ≡ answer_of wanted.state →
+    IsFrontOf old.events wanted.events → HasReached old wanted new result
 came old wanted new result is answer kept =
     record {
       answer = answer ∙ sym (ap (λ (r : Reading). answer_of r.state) is);
@@ -53,7 +54,8 @@ came old wanted new result is answer kept =
       front = IsFrontOf-is new.events wanted.events (ap (λ (r : Reading). r.events) is);
     }
 
-pub ran_out : (old wanted new : Reading) (result : Answer) → new ≡ record { events = old.events; state = Failed OutOfMemory } → result ≡ Err OutOfMemory → IsFrontOf old.events wanted.events → HasReached old wanted new result
+pub ran_out : (old wanted new : Reading) (result : Answer) → new ≡ record { events = old.events; state = Failed OutOfMemory } →
+    result ≡ Err OutOfMemory → IsFrontOf old.events wanted.events → HasReached old wanted new result
 ran_out old wanted new result is answer kept =
     let same : new.events ≡ old.events = ap (λ (r : Reading). r.events) is in
     record {
@@ -76,14 +78,16 @@ status_open IsOpen lines rest e = refl
 status_open (HasFailed error) lines rest e = absurd cc
 status_open HasFinished lines rest e = absurd cc
 
-pub is_open_at : (old : Reading) (events : List Event) (lines : ℕ) (rest : List ℕ) (status : Status) → fields events lines rest status ≡ old → is_open old ≡ true → (status ≡ IsOpen) × (old ≡ open_at events lines rest)
+pub is_open_at : (old : Reading) (events : List Event) (lines : ℕ) (rest : List ℕ) (status : Status) →
+    fields events lines rest status ≡ old → is_open old ≡ true → (status ≡ IsOpen) × (old ≡ open_at events lines rest)
 is_open_at old events lines rest status is open_now =
     let s = status_open status lines rest (ap is_open is ∙ open_now) in
     (s, sym is ∙ ap (fields events lines rest) s)
 
 -- ---- a line that was judged
 
-pub judged_event : (old : Reading) (events : List Event) (lines : ℕ) (rest : List ℕ) (status : Status) (event : Event) (events' : List Event) (rest' : List ℕ)
+pub judged_event : (old : Reading) (events : List Event) (lines : ℕ) (rest : List ℕ) (status : Status) (event : Event)
+    (events' : List Event) (rest' : List ℕ)
     → fields events lines rest status ≡ old → is_open old ≡ true → events' ≡ events ++ event ∷ [] → rest' ≡ []
     → HasReached old (with_judged old (Ok event)) (fields events' (lines + 1) rest' status) (Ok tt)
 unfolding with_judged
@@ -92,36 +96,44 @@ judged_event old events lines rest status event events' rest' is open_now more n
     rw s.1
     (came (open_at events lines rest) _ _ _ (rw (s.0, more, none, add-one lines) refl) refl (event ∷ [], refl))
 
-pub judged_memory : (old new : Reading) (events : List Event) (lines : ℕ) (rest : List ℕ) (status : Status) (event : Event) (result : Answer)
-    → fields events lines rest status ≡ old → is_open old ≡ true → new ≡ record { events = events; state = Failed OutOfMemory } → result ≡ Err OutOfMemory
+pub judged_memory : (old new : Reading) (events : List Event) (lines : ℕ) (rest : List ℕ) (status : Status) (event : Event)
+    (result : Answer)
+    → fields events lines rest status ≡ old → is_open old ≡ true → new ≡ record { events = events; state = Failed OutOfMemory } →
+    result ≡ Err OutOfMemory
     → HasReached old (with_judged old (Ok event)) new result
 unfolding with_judged
 judged_memory old new events lines rest status event result is open_now failed answer =
     let s = is_open_at old events lines rest status is open_now in
     rw s.1 (ran_out (open_at events lines rest) _ new result failed answer (event ∷ [], refl))
 
-pub judged_fault : (old new : Reading) (events : List Event) (lines : ℕ) (rest : List ℕ) (status : Status) (fault : TraceFault) (result : Answer)
-    → fields events lines rest status ≡ old → is_open old ≡ true → new ≡ record { events = old.events; state = Failed (Line (lines + 1) fault) } → result ≡ Err (Line (lines + 1) fault)
+pub judged_fault : (old new : Reading) (events : List Event) (lines : ℕ) (rest : List ℕ) (status : Status) (fault : TraceFault)
+    (result : Answer)
+    → fields events lines rest status ≡ old → is_open old ≡ true →
+    new ≡ record { events = old.events; state = Failed (Line (lines + 1) fault) } → result ≡ Err (Line (lines + 1) fault)
     → HasReached old (with_judged old (Err fault)) new result
 unfolding with_judged
 judged_fault old new events lines rest status fault result is open_now failed answer =
     let s = is_open_at old events lines rest status is open_now in
     rw s.1
-    (came (open_at events lines rest) _ new result (failed ∙ rw (s.1, append-nil events, add-one lines) refl) (answer ∙ rw (add-one lines) refl) ([], refl))
+    (came (open_at events lines rest) _ new result (failed ∙ rw (s.1, append-nil events, add-one lines) refl)
+    (answer ∙ rw (add-one lines) refl) ([], refl))
 
 pub judgement : (old : Reading) (events : List Event) (lines : ℕ) (rest : List ℕ) (status : Status) (end line : List ℕ)
-    → fields events lines rest status ≡ old → is_open old ≡ true → line ≡ rest ++ end → event_of_line (lines + 1) line ≡ judgement_in old.state end
+    → fields events lines rest status ≡ old → is_open old ≡ true → line ≡ rest ++ end →
+    event_of_line (lines + 1) line ≡ judgement_in old.state end
 judgement old events lines rest status end line is open_now all =
     let s = is_open_at old events lines rest status is open_now in
     rw (s.1, all, add-one lines) refl
 
 pub judgement-next : (old : Reading) (events : List Event) (lines : ℕ) (rest : List ℕ) (status : Status) (judged : Result Event TraceFault)
-    → fields events lines rest status ≡ old → is_open old ≡ true → IfOk judged IsInRange → IfOk judged (λ event. lines + 1 ≤ 1000000) → IsJudgementIn old.state judged
+    → fields events lines rest status ≡ old → is_open old ≡ true → IfOk judged IsInRange → IfOk judged (λ event. lines + 1 ≤ 1000000) →
+    IsJudgementIn old.state judged
 judgement-next old events lines rest status judged is open_now ranges few =
     let s = is_open_at old events lines rest status is open_now in
     rw s.1 (both judged ranges few)
   where
-    both : (judged : Result Event TraceFault) → IfOk judged IsInRange → IfOk judged (λ event. lines + 1 ≤ 1000000) → IfOk judged (λ event. IsInRange event × (lines < 1000000))
+    both : (judged : Result Event TraceFault) → IfOk judged IsInRange → IfOk judged (λ event. lines + 1 ≤ 1000000) →
+        IfOk judged (λ event. IsInRange event × (lines < 1000000))
     both (Ok event) a b = (a, omega (arith, b))
     both (Err fault) a b = tt
 
@@ -132,7 +144,8 @@ pub fed_at-line : (events : List Event) (lines : ℕ) (rest bytes : List ℕ) �
 unfolding fed
 fed_at-line events lines rest bytes line =
     let whole : fed_in (Open lines rest) bytes ≡ record { events = []; state = unfinished_state lines (rest ++ bytes) } =
-    ap (λ (c : Cut). reading_of_cut lines (going_on rest c)) (cut-line bytes line) ∙ rw (trace_from-none (suc lines), add-zero lines) refl in
+    ap (λ (c : Cut). reading_of_cut lines (going_on rest c)) (cut-line bytes line)
+    ∙ rw (trace_from-none (suc lines), add-zero lines) refl in
     ap (added events) whole ∙ rw (append-nil events) refl
 
 -- what an extension that fits says
@@ -146,7 +159,8 @@ not_extended (Ok done) Fits failed fits holds = absurd cc
 not_extended (Err e) Fits failed fits holds = let ok = fits.1 holds in absurd cc
 
 pub keeps : (old : Reading) (events : List Event) (lines : ℕ) (rest bytes rest' : List ℕ) (status : Status)
-    → fields events lines rest status ≡ old → is_open old ≡ true → IsLine bytes → length (rest ++ bytes) ≤ 80 → rest' ≡ rest ++ bytes → fields events lines rest' status ≡ fed old bytes
+    → fields events lines rest status ≡ old → is_open old ≡ true → IsLine bytes → length (rest ++ bytes) ≤ 80 → rest' ≡ rest ++ bytes →
+    fields events lines rest' status ≡ fed old bytes
 keeps old events lines rest bytes rest' status is open_now line fits all =
     let s = is_open_at old events lines rest status is open_now in
     let short : ltb 80 (length (rest ++ bytes)) ≡ false = grind (arith, nat_tests) in

@@ -22,7 +22,8 @@ use Rattle.trace_reader.proofs.Offsets.{fits_signed}
 -- ---- words
 
 -- what was read and passes the test
-IfOk-ranged_of : {A : Type 0} (P : A → Type 0) (test : A → Bool) (o : Option A) → ((x : A) → o ≡ Some x → test x ≡ true → P x) → IfOk (ranged test o) P
+IfOk-ranged_of : {A : Type 0} (P : A → Type 0) (test : A → Bool) (o : Option A) → ((x : A) → o ≡ Some x → test x ≡ true → P x) →
+    IfOk (ranged test o) P
 IfOk-ranged_of P test None passed = tt
 IfOk-ranged_of P test (Some x) passed = go (test x) refl
   where
@@ -106,14 +107,17 @@ spelled_move name event is (v ∷ w ∷ u6 ∷ u4 ∷ other ∷ ws) = tt
 
 -- where the name is the one that is tested
 if_named : (name wanted : List ℕ) (ws : List (List ℕ)) (a b : Result Event TraceFault)
-    → IfOk a (λ e. wanted ∷ ws ≡ event_words e) → IfOk b (λ e. name ∷ ws ≡ event_words e) → IfOk (cond (bytes_eq name wanted) a b) (λ e. name ∷ ws ≡ event_words e)
+    → IfOk a (λ e. wanted ∷ ws ≡ event_words e) → IfOk b (λ e. name ∷ ws ≡ event_words e) →
+    IfOk (cond (bytes_eq name wanted) a b) (λ e. name ∷ ws ≡ event_words e)
 if_named name wanted ws a b is other = go (bytes_eq name wanted) refl a is
   where
-    same : name ≡ wanted → (r : Result Event TraceFault) → IfOk r (λ e. wanted ∷ ws ≡ event_words e) → IfOk r (λ e. name ∷ ws ≡ event_words e)
+    same : name ≡ wanted → (r : Result Event TraceFault) → IfOk r (λ e. wanted ∷ ws ≡ event_words e) →
+        IfOk r (λ e. name ∷ ws ≡ event_words e)
     same e (Ok event) is = rw e is
     same e (Err fault) is = tt
 
-    go : (v : Bool) → bytes_eq name wanted ≡ v → (a : Result Event TraceFault) → IfOk a (λ e. wanted ∷ ws ≡ event_words e) → IfOk (cond v a b) (λ e. name ∷ ws ≡ event_words e)
+    go : (v : Bool) → bytes_eq name wanted ≡ v → (a : Result Event TraceFault) → IfOk a (λ e. wanted ∷ ws ≡ event_words e) →
+        IfOk (cond v a b) (λ e. name ∷ ws ≡ event_words e)
     go true e a is = same ((bytes_eq-Decides name wanted).0 e) a is
     go false e a is = other
 
@@ -136,7 +140,8 @@ spelled_words ws = go (list_any is_empty_word ws) (full ws)
     full [] = tt
     full (name ∷ ws) = spelled_named name ws
 
-    go : (v : Bool) → IfOk (event_of_full_words ws) (λ e. ws ≡ event_words e) → IfOk (cond v (Err BadWord) (event_of_full_words ws)) (λ e. ws ≡ event_words e)
+    go : (v : Bool) → IfOk (event_of_full_words ws) (λ e. ws ≡ event_words e) →
+        IfOk (cond v (Err BadWord) (event_of_full_words ws)) (λ e. ws ≡ event_words e)
     go true is = tt
     go false is = is
 
@@ -148,7 +153,8 @@ spelled_line number line = go (ltb 80 (length line)) (ltb 1000000 number) (event
     by_words (Ok event) is = sym (line_is_its_words line) ∙ ap line_of is
     by_words (Err fault) is = tt
 
-    go : (v w : Bool) (r : Result Event TraceFault) → IfOk r (λ e. words line ≡ event_words e) → IfOk (cond v (Err LineTooLong) (cond w (Err TooManyEvents) r)) (λ e. line ≡ event_line e)
+    go : (v w : Bool) (r : Result Event TraceFault) → IfOk r (λ e. words line ≡ event_words e) →
+        IfOk (cond v (Err LineTooLong) (cond w (Err TooManyEvents) r)) (λ e. line ≡ event_line e)
     go true w r is = tt
     go false true r is = tt
     go false false r is = by_words r is

@@ -36,14 +36,16 @@ full_byte (b ∷ word) n e = ne_eqb (length (b ∷ word)) 0 (omega arith)
 -- ---- the numbers of each kind of event
 
 pub request_read : (ws more left : List (List ℕ)) (v n : ℕ) (event : ℕ → ℕ → Event)
-    → IsRead (number_from 0 1023) ws more v → IsRead (number_from 0 2147483647) more left n → left ≡ [] → AreRead (request_of event) ws (event v n)
+    → IsRead (number_from 0 1023) ws more v → IsRead (number_from 0 2147483647) more left n → left ≡ [] →
+    AreRead (request_of event) ws (event v n)
 request_read ws more left v n event a b none = record {
   is = rw (a.words, b.words, none) (rw (a.is, b.is) refl);
   full = rw (a.words, b.words, none) (rw (full_number 0 1023 a.word v a.is, full_number 0 2147483647 b.word n b.is) refl);
 }
 
 pub free_read : (ws left : List (List ℕ)) (v : ℕ) → IsRead (number_from 0 1023) ws left v → left ≡ [] → AreRead free_of ws (Free v)
-free_read ws left v a none = record { is = rw (a.words, none) (rw a.is refl); full = rw (a.words, none) (rw (full_number 0 1023 a.word v a.is) refl) }
+free_read ws left v a none =
+    record { is = rw (a.words, none) (rw a.is refl); full = rw (a.words, none) (rw (full_number 0 1023 a.word v a.is) refl) }
 
 -- an offset without a sign is a number
 signed_is_number : (word : List ℕ) (n : ℕ) → number_of word ≡ Some n → signed_of word ≡ Some (pos n)
@@ -60,7 +62,8 @@ short_is_number word n e = elim (cases_Bool (leb (length word) 19)) [
   | inr long ↦ let h = rw long at e in absurd cc
 ]
 
-pub offset_without_sign : (ws left : List (List ℕ)) (n : ℕ) → Some n ≡ option_and_then short_number_of (slice_get ws 0) → left ≡ drop 1 ws → n ≤ 1048576
+pub offset_without_sign : (ws left : List (List ℕ)) (n : ℕ) → Some n ≡ option_and_then short_number_of (slice_get ws 0) → left ≡ drop 1 ws →
+    n ≤ 1048576
     → IsRead offset_of ws left (to_z w32 n)
 offset_without_sign [] left n e rest near = absurd cc
 offset_without_sign (word ∷ ws) left n e rest near =
@@ -80,7 +83,9 @@ pub load_read : (ws more third left : List (List ℕ)) (v len : ℕ) (off : ℤ)
     → AreRead load_of ws (Load v off len)
 load_read ws more third left v len off a o b none = record {
   is = rw (a.words, o.words, b.words, none) (rw (a.is, o.is, b.is) refl);
-  full = rw (a.words, o.words, b.words, none) (rw (full_number 0 1023 a.word v a.is, full_offset o.word off o.is, full_number 1 64 b.word len b.is) refl);
+  full =
+      rw (a.words, o.words, b.words, none)
+      (rw (full_number 0 1023 a.word v a.is, full_offset o.word off o.is, full_number 1 64 b.word len b.is) refl);
 }
 
 pub store_read : (ws more third last_one left : List (List ℕ)) (v len byte : ℕ) (off : ℤ)
@@ -90,7 +95,8 @@ pub store_read : (ws more third last_one left : List (List ℕ)) (v len byte : �
 store_read ws more third last_one left v len byte off a o b h none = record {
   is = rw (a.words, o.words, b.words, h.words, none) (rw (a.is, o.is, b.is, h.is) refl);
   full = rw (a.words, o.words, b.words, h.words, none)
-      (rw (full_number 0 1023 a.word v a.is, full_offset o.word off o.is, full_number 1 64 b.word len b.is, full_byte h.word byte h.is) refl);
+      (rw (full_number 0 1023 a.word v a.is, full_offset o.word off o.is, full_number 1 64 b.word len b.is, full_byte h.word byte h.is)
+      refl);
 }
 
 pub move_read : (ws more third last_one left : List (List ℕ)) (v w u6 u4 : ℕ) (event : ℕ → ℕ → ℕ → ℕ → Event)
@@ -100,22 +106,30 @@ pub move_read : (ws more third last_one left : List (List ℕ)) (v w u6 u4 : ℕ
 move_read ws more third last_one left v w u6 u4 event a b c d none = record {
   is = rw (a.words, b.words, c.words, d.words, none) (rw (a.is, b.is, c.is, d.is) refl);
   full = rw (a.words, b.words, c.words, d.words, none)
-      (rw (full_number 0 1023 a.word v a.is, full_number 0 1023 b.word w b.is, full_number 0 63 c.word u6 c.is, full_number 0 15 d.word u4 d.is) refl);
+      (rw (
+        full_number 0 1023 a.word v a.is,
+        full_number 0 1023 b.word w b.is,
+        full_number 0 63 c.word u6 c.is,
+        full_number 0 15 d.word u4 d.is,
+      ) refl);
 }
 
 -- ---- the name in front of them
 
-pub malloc_line : (line : List ℕ) (left : List (List ℕ)) (event : Event) → AreAfter (codes "malloc ") line left → AreRead (request_of Malloc) left event
+pub malloc_line : (line : List ℕ) (left : List (List ℕ)) (event : Event) → AreAfter (codes "malloc ") line left →
+    AreRead (request_of Malloc) left event
     → event_of_words (words line) ≡ Ok event
 unfolding words event_of_words
 malloc_line line left event after read = rw after.line_is (rw (sym after.are, read.full) read.is)
 
-pub calloc_line : (line : List ℕ) (left : List (List ℕ)) (event : Event) → AreAfter (codes "calloc ") line left → AreRead (request_of Calloc) left event
+pub calloc_line : (line : List ℕ) (left : List (List ℕ)) (event : Event) → AreAfter (codes "calloc ") line left →
+    AreRead (request_of Calloc) left event
     → event_of_words (words line) ≡ Ok event
 unfolding words event_of_words
 calloc_line line left event after read = rw after.line_is (rw (sym after.are, read.full) read.is)
 
-pub realloc_line : (line : List ℕ) (left : List (List ℕ)) (event : Event) → AreAfter (codes "realloc ") line left → AreRead (request_of Realloc) left event
+pub realloc_line : (line : List ℕ) (left : List (List ℕ)) (event : Event) → AreAfter (codes "realloc ") line left →
+    AreRead (request_of Realloc) left event
     → event_of_words (words line) ≡ Ok event
 unfolding words event_of_words
 realloc_line line left event after read = rw after.line_is (rw (sym after.are, read.full) read.is)
@@ -135,12 +149,14 @@ pub store_line : (line : List ℕ) (left : List (List ℕ)) (event : Event) → 
 unfolding words event_of_words
 store_line line left event after read = rw after.line_is (rw (sym after.are, read.full) read.is)
 
-pub addg_line : (line : List ℕ) (left : List (List ℕ)) (event : Event) → AreAfter (codes "addg ") line left → AreRead (move_of Addg) left event
+pub addg_line : (line : List ℕ) (left : List (List ℕ)) (event : Event) → AreAfter (codes "addg ") line left →
+    AreRead (move_of Addg) left event
     → event_of_words (words line) ≡ Ok event
 unfolding words event_of_words
 addg_line line left event after read = rw after.line_is (rw (sym after.are, read.full) read.is)
 
-pub subg_line : (line : List ℕ) (left : List (List ℕ)) (event : Event) → AreAfter (codes "subg ") line left → AreRead (move_of Subg) left event
+pub subg_line : (line : List ℕ) (left : List (List ℕ)) (event : Event) → AreAfter (codes "subg ") line left →
+    AreRead (move_of Subg) left event
     → event_of_words (words line) ≡ Ok event
 unfolding words event_of_words
 subg_line line left event after read = rw after.line_is (rw (sym after.are, read.full) read.is)

@@ -24,9 +24,15 @@ record SpellLines (number : ℕ) (ls : List (List ℕ)) (events : List Event) : 
   few : 0 < length events → number + length events ≤ 1000001
 
 -- a line in front
-no_fault : (number : ℕ) (r : Result Event TraceFault) (t : Trace) (events : List Event) → with_line number r t ≡ whole events → (e : Event) × (es : List Event) × (r ≡ Ok e) × (events ≡ e ∷ es) × (t ≡ whole es)
-no_fault number (Ok e) t events is =
-    (e, t.events, refl, sym (ap (λ (x : Trace). x.events) is), ap (λ (f : Option (ℕ × TraceFault)). record { events = t.events; fault = f }) (ap (λ (x : Trace). x.fault) is))
+no_fault : (number : ℕ) (r : Result Event TraceFault) (t : Trace) (events : List Event) → with_line number r t ≡ whole events →
+    (e : Event) × (es : List Event) × (r ≡ Ok e) × (events ≡ e ∷ es) × (t ≡ whole es)
+no_fault number (Ok e) t events is = (
+  e,
+  t.events,
+  refl,
+  sym (ap (λ (x : Trace). x.events) is),
+  ap (λ (f : Option (ℕ × TraceFault)). record { events = t.events; fault = f }) (ap (λ (x : Trace). x.fault) is),
+)
 no_fault number (Err fault) t events is = let f = ap (λ (x : Trace). x.fault) is in absurd cc
 
 no_event : (events : List Event) → no_lines ≡ whole events → events ≡ []
@@ -49,9 +55,14 @@ spelled_lines number (line ∷ ls) events is =
     let spells = of_ok (λ e. line ≡ event_line e) (event_of_line number line) e first.2 (spelled_line number line) in
     let low = of_ok (λ e. number ≤ 1000000) (event_of_line number line) e first.2 (few_events number line) in
     rw first.3
-    (record { ranges = All-cons IsInRange e es in_range others.ranges; spelled = rw (← spells, ← others.spelled) refl; few = λ some. few_more number low es others.few })
+    (record {
+      ranges = All-cons IsInRange e es in_range others.ranges;
+      spelled = rw (← spells, ← others.spelled) refl;
+      few = λ some. few_more number low es others.few;
+    })
   where
-    few_more : (number : ℕ) → number ≤ 1000000 → (es : List Event) → (0 < length es → suc number + length es ≤ 1000001) → number + suc (length es) ≤ 1000001
+    few_more : (number : ℕ) → number ≤ 1000000 → (es : List Event) → (0 < length es → suc number + length es ≤ 1000001) →
+        number + suc (length es) ≤ 1000001
     few_more number low [] few = omega (arith, low)
     few_more number low (e ∷ es) few = omega (arith, few (omega arith))
 
@@ -64,7 +75,8 @@ spelled-trace_of text events is =
     few [] more = omega arith
     few (e ∷ es) more = omega (arith, more (omega arith))
 
-    turned : (text_of (lines text) ≡ text) ⊎ (text_of (lines text) ≡ ended text) → lines text ≡ map event_line events → (text ≡ trace_text events) ⊎ (ended text ≡ trace_text events)
+    turned : (text_of (lines text) ≡ text) ⊎ (text_of (lines text) ≡ ended text) → lines text ≡ map event_line events →
+        (text ≡ trace_text events) ⊎ (ended text ≡ trace_text events)
     turned (inl e) same = inl (sym e ∙ ap text_of same)
     turned (inr e) same = inr (sym e ∙ ap text_of same)
 
@@ -101,7 +113,8 @@ abbrev number_of_fault : Option (ℕ × TraceFault) → ℕ
 number_of_fault None = 0
 number_of_fault (Some fault) = fault.0
 
-events_before : (number : ℕ) (ls : List (List ℕ)) (at : ℕ) (fault : TraceFault) → (trace_from number ls).fault ≡ Some (at, fault) → at ≡ number + length (trace_from number ls).events
+events_before : (number : ℕ) (ls : List (List ℕ)) (at : ℕ) (fault : TraceFault) → (trace_from number ls).fault ≡ Some (at, fault) →
+    at ≡ number + length (trace_from number ls).events
 unfolding trace_from
 events_before number [] at fault is = absurd cc
 events_before number (line ∷ ls) at fault is = go (event_of_line number line) is (events_before (suc number) ls at fault)
@@ -112,7 +125,8 @@ events_before number (line ∷ ls) at fault is = go (event_of_line number line) 
     go (Ok e) is next = omega (arith, next is)
     go (Err f) is next = omega (arith, ap number_of_fault is)
 
-pub fault_is_after : (text : List ℕ) (at : ℕ) (fault : TraceFault) → (trace_of text).fault ≡ Some (at, fault) → at ≡ suc (length (trace_of text).events)
+pub fault_is_after : (text : List ℕ) (at : ℕ) (fault : TraceFault) → (trace_of text).fault ≡ Some (at, fault) →
+    at ≡ suc (length (trace_of text).events)
 fault_is_after text at fault is = omega (arith, events_before 1 (lines text) at fault is)
 
 ranges_from : (number : ℕ) (ls : List (List ℕ)) → All IsInRange (trace_from number ls).events
@@ -120,7 +134,8 @@ unfolding trace_from
 ranges_from number [] = All-nil IsInRange
 ranges_from number (line ∷ ls) = go (event_of_line number line) (IfOk-event_of_line number line) (ranges_from (suc number) ls)
   where
-    go : (r : Result Event TraceFault) → IfOk r IsInRange → All IsInRange (trace_from (suc number) ls).events → All IsInRange (with_line number r (trace_from (suc number) ls)).events
+    go : (r : Result Event TraceFault) → IfOk r IsInRange → All IsInRange (trace_from (suc number) ls).events →
+        All IsInRange (with_line number r (trace_from (suc number) ls)).events
     go (Ok e) is others = All-cons IsInRange e (trace_from (suc number) ls).events is others
     go (Err f) is others = All-nil IsInRange
 

@@ -15,21 +15,25 @@ followed_by (Some fault) events t = record { events = events; fault = Some fault
 abbrev pub followed : Trace → Trace → Trace
 followed t u = followed_by t.fault t.events u
 
-followed-line : (number : ℕ) (judged : Result Event TraceFault) (t u : Trace) → followed (with_line number judged t) u ≡ with_line number judged (followed t u)
+followed-line : (number : ℕ) (judged : Result Event TraceFault) (t u : Trace) →
+    followed (with_line number judged t) u ≡ with_line number judged (followed t u)
 followed-line number (Ok event) t u = go t.fault
   where
-    go : (fault : Option (ℕ × TraceFault)) → followed_by fault (event ∷ t.events) u ≡ with_line number (Ok event) (followed_by fault t.events u)
+    go : (fault : Option (ℕ × TraceFault)) →
+        followed_by fault (event ∷ t.events) u ≡ with_line number (Ok event) (followed_by fault t.events u)
     go None = refl
     go (Some fault) = refl
 followed-line number (Err fault) t u = refl
 
-pub trace_from-append : (number : ℕ) (a b : List (List ℕ)) → trace_from number (a ++ b) ≡ followed (trace_from number a) (trace_from (number + length a) b)
+pub trace_from-append : (number : ℕ) (a b : List (List ℕ)) →
+    trace_from number (a ++ b) ≡ followed (trace_from number a) (trace_from (number + length a) b)
 unfolding trace_from
 trace_from-append number [] b = rw add-zero refl
 trace_from-append number (line ∷ a) b =
     let count : suc number + length a ≡ number + suc (length a) = omega arith in
     let more = trace_from-append (suc number) a b ∙ ap (λ (n : ℕ). followed (trace_from (suc number) a) (trace_from n b)) count in
-    ap (with_line number (event_of_line number line)) more ∙ sym (followed-line number (event_of_line number line) (trace_from (suc number) a) (trace_from (number + suc (length a)) b))
+    ap (with_line number (event_of_line number line)) more
+    ∙ sym (followed-line number (event_of_line number line) (trace_from (suc number) a) (trace_from (number + suc (length a)) b))
 
 -- ---- a line that is too long
 
@@ -37,7 +41,8 @@ pub event_of_line-long : (number : ℕ) (line : List ℕ) → 80 < length line �
 unfolding event_of_line
 event_of_line-long number line long = rw (lt-ltb 80 (length line) long) refl
 
-pub trace_from-long : (number : ℕ) (line : List ℕ) (ls : List (List ℕ)) → 80 < length line → trace_from number (line ∷ ls) ≡ record { events = []; fault = Some (number, LineTooLong) }
+pub trace_from-long : (number : ℕ) (line : List ℕ) (ls : List (List ℕ)) → 80 < length line →
+    trace_from number (line ∷ ls) ≡ record { events = []; fault = Some (number, LineTooLong) }
 unfolding trace_from
 trace_from-long number line ls long = rw (event_of_line-long number line long) refl
 

@@ -37,7 +37,8 @@ accesses_of_one_chunk :
     ∷ []) ++ codes "load 1 1008 1")
     ≡ record {
       events =
-          Malloc 1 100 ∷ Malloc 2 1 ∷ Malloc 3 1009 ∷ Malloc 4 16369 ∷ Load 1 (pos 96) 16 ∷ Load 1 (pos 104) 16 ∷ Load 2 (pos 0) 1 ∷ Load 1 (negsuc 15) 1 ∷ Load 1 (negsuc 16) 1
+          Malloc 1 100 ∷ Malloc 2 1 ∷ Malloc 3 1009 ∷ Malloc 4 16369 ∷ Load 1 (pos 96) 16 ∷ Load 1 (pos 104) 16 ∷ Load 2 (pos 0) 1 ∷ Load 1
+          (negsuc 15) 1 ∷ Load 1 (negsuc 16) 1
           ∷ Load 1 (pos 1008) 1 ∷ [];
       fault = None;
     }
@@ -56,7 +57,9 @@ every_kind_of_event :
     ∷ codes "subg 3 3 0 0"
     ∷ []))
     ≡ record {
-      events = Malloc 0 0 ∷ Calloc 1023 2147483647 ∷ Realloc 7 32 ∷ Free 1023 ∷ Load 1 (negsuc 1048575) 64 ∷ Store 2 (pos 1048576) 1 160 ∷ Addg 6 5 63 15 ∷ Subg 3 3 0 0 ∷ [];
+      events =
+          Malloc 0 0 ∷ Calloc 1023 2147483647 ∷ Realloc 7 32 ∷ Free 1023 ∷ Load 1 (negsuc 1048575) 64 ∷ Store 2 (pos 1048576) 1 160 ∷ Addg 6
+          5 63 15 ∷ Subg 3 3 0 0 ∷ [];
       fault = None;
     }
 unfolding shown
@@ -98,11 +101,13 @@ empty_line : shown (10 ∷ []) ≡ fault_at 1 BadWord
 unfolding shown
 empty_line = refl
 
-events_before_a_cut_line : shown (codes "malloc 1 16" ++ 10 ∷ codes "store 1 16 1") ≡ record { events = Malloc 1 16 ∷ []; fault = Some (2, BadWord) }
+events_before_a_cut_line : shown (codes "malloc 1 16" ++ 10 ∷ codes "store 1 16 1")
+    ≡ record { events = Malloc 1 16 ∷ []; fault = Some (2, BadWord) }
 unfolding shown
 events_before_a_cut_line = refl
 
-events_before_half_a_byte : shown (codes "malloc 1 16" ++ 10 ∷ codes "store 1 16 1 a") ≡ record { events = Malloc 1 16 ∷ []; fault = Some (2, BadNumber) }
+events_before_half_a_byte : shown (codes "malloc 1 16" ++ 10 ∷ codes "store 1 16 1 a")
+    ≡ record { events = Malloc 1 16 ∷ []; fault = Some (2, BadNumber) }
 unfolding shown
 events_before_half_a_byte = refl
 
@@ -130,11 +135,13 @@ part_of_a_line : fed_first (codes "free 1" ++ 10 ∷ codes "mal") ≡ record { e
 unfolding fed_first
 part_of_a_line = refl
 
-line_of_two_pieces : fed (fed_first (codes "free 1" ++ 10 ∷ codes "mal")) (codes "loc 2 5" ++ 10 ∷ []) ≡ record { events = Free 1 ∷ Malloc 2 5 ∷ []; state = Open 2 [] }
+line_of_two_pieces : fed (fed_first (codes "free 1" ++ 10 ∷ codes "mal")) (codes "loc 2 5" ++ 10 ∷ [])
+    ≡ record { events = Free 1 ∷ Malloc 2 5 ∷ []; state = Open 2 [] }
 unfolding words number_of event_of_words event_of_line trace_from cut fed fed_first
 line_of_two_pieces = refl
 
-last_line_without_newline : finished (fed_first (codes "free 1" ++ 10 ∷ codes "free 2")) ≡ record { events = Free 1 ∷ Free 2 ∷ []; state = Finished }
+last_line_without_newline : finished (fed_first (codes "free 1" ++ 10 ∷ codes "free 2"))
+    ≡ record { events = Free 1 ∷ Free 2 ∷ []; state = Finished }
 unfolding words number_of event_of_words event_of_line finished fed_first
 last_line_without_newline = refl
 

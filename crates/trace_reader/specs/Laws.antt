@@ -30,7 +30,8 @@ TextSpellsOneTrace = (text : List ℕ) (a b : List Event) → SpellsTrace text a
 -- The events before a fault are those of the lines before it; they are not too many, and are in their ranges, there too.
 abbrev pub FaultIsAfterItsEvents : Type 0
 FaultIsAfterItsEvents =
-    (text : List ℕ) (number : ℕ) (fault : TraceFault) → (trace_of text).fault ≡ Some (number, fault) → number ≡ suc (length (trace_of text).events)
+    (text : List ℕ) (number : ℕ) (fault : TraceFault) → (trace_of text).fault ≡ Some (number, fault) →
+    number ≡ suc (length (trace_of text).events)
 
 abbrev pub EventsAreFew : Type 0
 EventsAreFew = (text : List ℕ) → length (trace_of text).events ≤ most_events
@@ -65,7 +66,8 @@ PiecesHaveFewEvents = (pieces : List (List ℕ)) → length (fed_all nothing_rea
 
 -- Events that were read, taken out or not, do not change what comes after them.
 abbrev pub FedAfterEvents : Type 0
-FedAfterEvents = (events : List Event) (reading : Reading) (piece : List ℕ) → fed (added events reading) piece ≡ added events (fed reading piece)
+FedAfterEvents =
+    (events : List Event) (reading : Reading) (piece : List ℕ) → fed (added events reading) piece ≡ added events (fed reading piece)
 
 abbrev pub FinishedAfterEvents : Type 0
 FinishedAfterEvents = (events : List Event) (reading : Reading) → finished (added events reading) ≡ added events (finished reading)

@@ -45,7 +45,12 @@ module _ (counts : List ℕ) (step : ℕ) (pos : 0 < step) (limit : ℕ) (potent
       let all = waste_above-cons counts step pos low c cs one legal.0 legal.2 in
       let farther : i ≤ j.0 = j.1.last i r.within (omega (arith, r.reached, legal.0)) in
       elim (cases_lt 0 k) [
-        | inl more ↦ omega (arith, one-class (span_waste counts step) d limit potential valid k i j.0 _ more le farther j.1.within rest, first, all)
+        | inl more ↦ omega (
+          arith,
+          one-class (span_waste counts step) d limit potential valid k i j.0 _ more le farther j.1.within rest,
+          first,
+          all,
+        )
         | inr none ↦ (let alone : suc k ≡ 1 = omega arith in
             omega (
               arith,

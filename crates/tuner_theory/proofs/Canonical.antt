@@ -71,12 +71,14 @@ module _ (counts : List ℕ) (step : ℕ) (pos : 0 < step) where
       let u = used-to c cs (omega (arith, above.0)) above.3 used.1 k (omega arith) in
       (u.0, u.1, omega (arith, above.0, u.2), class_for-later step pos u.0 c cs (omega (arith, above.0)) above.2 u.2 ∙ u.3)
 
-  used-from_all : (classes : List ℕ) → AreClassesAbove step 1 classes → All (IsUsed counts classes) classes → AreUsedAbove counts step 1 classes
+  used-from_all : (classes : List ℕ) → AreClassesAbove step 1 classes → All (IsUsed counts classes) classes →
+      AreUsedAbove counts step 1 classes
   used-from_all classes above used =
       used-from 1 classes (omega arith) above
       (λ k lt. let u = used k 0 lt in (u.0, u.1, rounded-positive step pos u.0, u.2))
 
-  all-from_used : (classes : List ℕ) → AreClassesAbove step 1 classes → AreUsedAbove counts step 1 classes → All (IsUsed counts classes) classes
+  all-from_used : (classes : List ℕ) → AreClassesAbove step 1 classes → AreUsedAbove counts step 1 classes →
+      All (IsUsed counts classes) classes
   all-from_used classes above used k d lt =
       let u = used-to 1 classes (omega arith) above used k lt in
       subst (IsUsed counts classes) (get_or_default classes k 0 d lt) (u.0, u.1, u.3)
@@ -150,12 +152,14 @@ module _ (counts : List ℕ) (step : ℕ) (pos : 0 < step) (limit : ℕ) (rows e
       let row = least.later_row (suc k) i (omega arith) (omega arith) (ltb-true i d e) in
       let end = ends (suc (suc k)) i in
       let rest : rows (suc k) j.0 ≤ waste_above counts step c cs =
-      bound counts step pos limit rows (rows-valid _ _ _ rows ends least) cs (suc k) c j.0 (omega (arith, above.0)) j.1 above.3 (omega arith) (omega arith) later in
+      bound counts step pos limit rows (rows-valid _ _ _ rows ends least) cs (suc k) c j.0 (omega (arith, above.0)) j.1 above.3
+      (omega arith) (omega arith) later in
       let first = span-least counts step pos low c i j.0 r j.1 in
       let all = waste_above-cons counts step pos low c cs one above.0 above.2 in
       elim (cases_lt (need_at counts step end) c) [
         | inl lt ↦ inl lt
-        | inr ge ↦ (let no_later : j.0 ≤ end = (reach-at counts step pos end row.0.within).last j.0 j.1.within (omega (arith, j.1.reached)) in
+        | inr ge ↦ (let no_later : j.0 ≤ end = (reach-at counts step pos end row.0.within).last j.0 j.1.within
+            (omega (arith, j.1.reached)) in
             elim (cases_lt j.0 end) [
               | inl before ↦ absurd (omega (arith, row.0.first j.0 far before, row.1, rest, first, all, wasted))
               | inr not ↦ (let same : j.0 ≡ end = omega arith in
@@ -172,7 +176,8 @@ module _ (counts : List ℕ) (step : ℕ) (pos : 0 < step) (limit : ℕ) (rows e
 -- ---- the table from the last row and place 0
 
 pub tuned-canonical : (counts : List ℕ) (step limit : ℕ) (rows ends : ℕ → ℕ → ℕ) → AreTunedRows counts step limit rows ends
-    → IsCanonical counts step limit (tuned_table counts step limit ends) × (waste_of counts (tuned_table counts step limit ends) ≡ rows limit 0)
+    → IsCanonical counts step limit (tuned_table counts step limit ends)
+    × (waste_of counts (tuned_table counts step limit ends) ≡ rows limit 0)
 tuned-canonical counts step zero rows ends tuned = absurd (omega (arith, tuned.some))
 tuned-canonical counts step (suc k) rows ends tuned = (record { best = best; used = used; least = least }, wasted)
   where
@@ -183,7 +188,9 @@ tuned-canonical counts step (suc k) rows ends tuned = (record { best = best; use
     table = tuned_table counts step (suc k) ends
 
     is : IsTableFor counts step (suc k) 1 (rows (suc k) 0) table
-    is = table-tuned counts step tuned.is_step (omega (arith, tuned.are_counts.sizes)) (suc k) rows ends tuned.least k 0 1 (omega arith) (omega arith) (reach-one counts step pos)
+    is =
+        table-tuned counts step tuned.is_step (omega (arith, tuned.are_counts.sizes)) (suc k) rows ends tuned.least k 0 1 (omega arith)
+        (omega arith) (reach-one counts step pos)
 
     wasted : waste_of counts table ≡ rows (suc k) 0
     wasted = omega (arith, waste_above-all counts step pos table, is.wasted)
@@ -198,11 +205,18 @@ tuned-canonical counts step (suc k) rows ends tuned = (record { best = best; use
     best : IsBest counts step (suc k) table
     best = record {
       candidate = candidate;
-      least = λ other question. omega (arith, wasted, potentials-bound counts step pos (suc k) rows (rows-valid _ _ _ rows ends tuned.least) other question);
+      least =
+          λ other question. omega (
+            arith,
+            wasted,
+            potentials-bound counts step pos (suc k) rows (rows-valid _ _ _ rows ends tuned.least) other question,
+          );
     }
 
     used : All (IsUsed counts table) table
-    used = all-from_used counts step pos table is.above (tuned-used counts step pos (suc k) rows ends tuned.least (suc k) 0 1 (omega arith) (reach-one counts step pos))
+    used =
+        all-from_used counts step pos table is.above
+        (tuned-used counts step pos (suc k) rows ends tuned.least (suc k) 0 1 (omega arith) (reach-one counts step pos))
 
     least : (other : List ℕ) → IsBest counts step (suc k) other → All (IsUsed counts other) other → IsLexicographicallyAtMost table other
     least other best_too used_too =

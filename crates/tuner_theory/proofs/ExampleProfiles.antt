@@ -21,7 +21,8 @@ empty_request = 1 ∷ []
 
 -- ---- rounding
 
-rounds_up : (round_up 2 1 ≡ 2) × (round_up 3 2 ≡ 4) × (round_up 4 2 ≡ 4) × (round_up 5 4 ≡ 8) × (round_up 2 8 ≡ 8) × (round_up 1024 8 ≡ 1024)
+rounds_up : (round_up 2 1 ≡ 2) × (round_up 3 2 ≡ 4) × (round_up 4 2 ≡ 4) × (round_up 5 4 ≡ 8) × (round_up 2 8 ≡ 8)
+    × (round_up 1024 8 ≡ 1024)
 rounds_up = (refl, refl, refl, refl, refl, refl)
 
 -- ---- distinct needs
@@ -29,7 +30,8 @@ rounds_up = (refl, refl, refl, refl, refl, refl)
 needs_of_two_sizes : (distinct_needs two_sizes 1 ≡ 2 ∷ 4 ∷ []) × (distinct_needs two_sizes 4 ≡ 4 ∷ [])
 needs_of_two_sizes = (refl, refl)
 
-needs_of_three_sizes : (distinct_needs three_sizes 1 ≡ 2 ∷ 3 ∷ 4 ∷ []) × (distinct_needs three_sizes 2 ≡ 2 ∷ 4 ∷ []) × (distinct_needs three_sizes 8 ≡ 8 ∷ [])
+needs_of_three_sizes : (distinct_needs three_sizes 1 ≡ 2 ∷ 3 ∷ 4 ∷ []) × (distinct_needs three_sizes 2 ≡ 2 ∷ 4 ∷ [])
+    × (distinct_needs three_sizes 8 ≡ 8 ∷ [])
 needs_of_three_sizes = (refl, refl, refl)
 
 needs_of_empty_request : (distinct_needs empty_request 1 ≡ 2 ∷ []) × (distinct_needs [] 1 ≡ [])
@@ -46,7 +48,8 @@ spans_of_three_sizes : (span_waste three_sizes 1 0 1 ≡ 0) × (span_waste three
 unfolding sum_below
 spans_of_three_sizes = (refl, refl, refl, refl, refl, refl)
 
-spans_of_three_sizes_in_steps : (span_waste three_sizes 2 0 1 ≡ 0) × (span_waste three_sizes 2 0 2 ≡ 48) × (span_waste three_sizes 2 1 2 ≡ 16)
+spans_of_three_sizes_in_steps : (span_waste three_sizes 2 0 1 ≡ 0) × (span_waste three_sizes 2 0 2 ≡ 48)
+    × (span_waste three_sizes 2 1 2 ≡ 16)
     × (span_waste three_sizes 8 0 1 ≡ 240)
 unfolding sum_below
 spans_of_three_sizes_in_steps = (refl, refl, refl, refl)
@@ -62,7 +65,8 @@ unfolding sum_below
 wastes_of_two_sizes = (refl, refl)
 
 -- two tables that waste the same, and which of them comes first
-tied_tables : (waste_of three_sizes (2 ∷ 4 ∷ []) ≡ 16) × (waste_of three_sizes (3 ∷ 4 ∷ []) ≡ 16) × IsLexicographicallyAtMost (2 ∷ 4 ∷ []) (3 ∷ 4 ∷ [])
+tied_tables : (waste_of three_sizes (2 ∷ 4 ∷ []) ≡ 16) × (waste_of three_sizes (3 ∷ 4 ∷ []) ≡ 16)
+    × IsLexicographicallyAtMost (2 ∷ 4 ∷ []) (3 ∷ 4 ∷ [])
 unfolding sum_below
 tied_tables = (refl, refl, inl (omega arith))
 

@@ -35,10 +35,12 @@ all_below-at p (suc m) n h lt =
       | inr other ↦ (let same : n ≡ m = omega arith in rw same both.1)
     ]
 
-serves-by_test : (counts classes : List ℕ) → all_below (λ n. not (ltb 0 (slice_index counts n)) || is_some (class_for classes n)) (length counts) ≡ true
+serves-by_test : (counts classes : List ℕ) →
+    all_below (λ n. not (ltb 0 (slice_index counts n)) || is_some (class_for classes n)) (length counts) ≡ true
     → Serves counts classes
 serves-by_test counts classes h n counted =
-    elim (or_cases (not (ltb 0 (slice_index counts n))) (is_some (class_for classes n)) (all_below-at (λ n. not (ltb 0 (slice_index counts n)) || is_some (class_for classes n)) (length counts) n h counted.0)) [
+    elim (or_cases (not (ltb 0 (slice_index counts n))) (is_some (class_for classes n))
+    (all_below-at (λ n. not (ltb 0 (slice_index counts n)) || is_some (class_for classes n)) (length counts) n h counted.0)) [
       | inl none ↦ absurd (false≢true (rw (lt-ltb 0 (slice_index counts n) counted.1) at none))
       | inr some ↦ some
     ]

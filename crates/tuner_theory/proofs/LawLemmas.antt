@@ -90,4 +90,5 @@ pub tuned_sheet_is_optimal : TunedSheetIsOptimal
 tuned_sheet_is_optimal = tuned-optimal
 
 pub one_canonical : OneCanonical
-one_canonical counts step limit a b of_a of_b = order-antisymmetric a b (of_a.least b of_b.best of_b.used) (of_b.least a of_a.best of_a.used)
+one_canonical counts step limit a b of_a of_b =
+    order-antisymmetric a b (of_a.least b of_b.best of_b.used) (of_b.least a of_a.best of_a.used)

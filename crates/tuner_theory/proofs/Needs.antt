@@ -34,7 +34,8 @@ Ascends-first low [] i up lt = absurd (omega arith)
 Ascends-first low (x ∷ xs) zero up lt = up.0
 Ascends-first low (x ∷ xs) (suc i) up lt = omega (arith, up.0, Ascends-first x xs i up.1 (omega arith))
 
-Ascends-places : (low : ℕ) (xs : List ℕ) (i j : ℕ) → Ascends low xs → i < j → j ≤ length xs → slice_index (low ∷ xs) i < slice_index (low ∷ xs) j
+Ascends-places : (low : ℕ) (xs : List ℕ) (i j : ℕ) → Ascends low xs → i < j → j ≤ length xs →
+    slice_index (low ∷ xs) i < slice_index (low ∷ xs) j
 Ascends-places low xs i zero up lt le = absurd (omega arith)
 Ascends-places low xs zero (suc j) up lt le = Ascends-first low xs j up (omega arith)
 Ascends-places low [] (suc i) (suc j) up lt le = absurd (omega arith)
@@ -58,7 +59,8 @@ with_need-keeps need (x ∷ xs) zero lt =
     cond_both (eqb x need) _ _ (λ (ys : List ℕ). HasAt x ys 0) (λ e. (omega arith, refl)) (λ e. (omega arith, refl))
 with_need-keeps need (x ∷ xs) (suc i) lt =
     let later = with_need-keeps need xs i (omega arith) in
-    cond_both (eqb x need) _ _ (λ (ys : List ℕ). HasAt (slice_index xs i) ys (suc i)) (λ e. (lt, refl)) (λ e. (omega (arith, later.0), later.1))
+    cond_both (eqb x need) _ _ (λ (ys : List ℕ). HasAt (slice_index xs i) ys (suc i)) (λ e. (lt, refl))
+    (λ e. (omega (arith, later.0), later.1))
 
 with_need-from : (need : ℕ) (xs : List ℕ) (i : ℕ) → i < length (with_need xs need)
     → HasAt (slice_index (with_need xs need) i) xs i ⊎ (slice_index (with_need xs need) i ≡ need)
@@ -79,7 +81,8 @@ with_need-from need (x ∷ xs) (suc i) lt =
 abbrev IsNeedBelow : List ℕ → ℕ → ℕ → ℕ → Type 0
 IsNeedBelow counts step m need = (n : ℕ) × (n < m) × (0 < slice_index counts n) × (rounded_need step n ≡ need)
 
-needs-from : (counts : List ℕ) (step m i : ℕ) → i < length (needs_below counts step m) → IsNeedBelow counts step m (slice_index (needs_below counts step m) i)
+needs-from : (counts : List ℕ) (step m i : ℕ) → i < length (needs_below counts step m) →
+    IsNeedBelow counts step m (slice_index (needs_below counts step m) i)
 needs-from counts step zero i lt = absurd (omega arith)
 needs-from counts step (suc m) i lt =
     let before = needs-from counts step m in
@@ -90,7 +93,8 @@ needs-from counts step (suc m) i lt =
     ])
     (λ e lt. let b = before i lt in (b.0, omega (arith, b.1), b.2, b.3)) lt
 
-needs-has : (counts : List ℕ) (step m n : ℕ) → n < m → 0 < slice_index counts n → (i : ℕ) × HasAt (rounded_need step n) (needs_below counts step m) i
+needs-has : (counts : List ℕ) (step m n : ℕ) → n < m → 0 < slice_index counts n →
+    (i : ℕ) × HasAt (rounded_need step n) (needs_below counts step m) i
 needs-has counts step zero n lt some = absurd (omega arith)
 needs-has counts step (suc m) n lt some =
     let before = needs-has counts step m n in
@@ -99,7 +103,8 @@ needs-has counts step (suc m) n lt some =
       | inl below ↦ (let b = before below some in
           let kept = with_need-keeps (rounded_need step m) (needs_below counts step m) b.0 b.1.0 in (b.0, (kept.0, kept.1 ∙ b.1.1)))
       | inr not ↦ (let same : m ≡ n = omega arith in
-          let new = with_need-has (rounded_need step m) (needs_below counts step m) in (new.0, (new.1.0, new.1.1 ∙ ap (rounded_need step) same)))
+          let new = with_need-has (rounded_need step m) (needs_below counts step m) in
+          (new.0, (new.1.0, new.1.1 ∙ ap (rounded_need step) same)))
     ])
     (λ e. elim (cases_lt n m) [
       | inl below ↦ before below some
@@ -170,7 +175,11 @@ few-places counts step is_step small = few (places counts step) (omega arith)
     few : (d : ℕ) → d ≤ places counts step → d ≤ 1023
     few zero le = omega arith
     few (suc d) le =
-        omega (arith, need_at-large counts step d (step-positive step is_step) le, (place-class counts step (suc d) is_step small (omega arith) le).1)
+        omega (
+          arith,
+          need_at-large counts step d (step-positive step is_step) le,
+          (place-class counts step (suc d) is_step small (omega arith) le).1,
+        )
 
 -- ---- how far a number reaches
 

@@ -11,7 +11,8 @@ use Rattle.tuner_theory.proofs.Rounding.{rounded-positive, step-positive}
 use Rattle.tuner_theory.proofs.Tables.{legal-from_classes, lower_above}
 use Rattle.tuner_theory.proofs.TunedTable.{IsTableFor, table-tuned}
 
-module _ (counts : List ℕ) (step : ℕ) (is_step : IsStep step) (small : length counts ≤ 16369) (limit : ℕ) (few : limit ≤ 32) (rows ends : ℕ → ℕ → ℕ)
+module _ (counts : List ℕ) (step : ℕ) (is_step : IsStep step) (small : length counts ≤ 16369) (limit : ℕ) (few : limit ≤ 32)
+    (rows ends : ℕ → ℕ → ℕ)
     (least : AreLeastRows (span_waste counts step) (places counts step) limit rows ends) where
   rest-at : (k i : ℕ) → suc k ≤ limit → i < places counts step → IsRest counts step (suc k) i (rows (suc k) i)
   rest-at k i le lt = record {

@@ -38,7 +38,8 @@ optimal-best counts sheet legal meets = record {
     arith,
     meets WasteWrong,
     meets NotTight,
-    potentials-bound counts sheet.step (step-positive sheet.step (meets OffStep).0) sheet.limit (number_at sheet.rows) valid other candidate,
+    potentials-bound counts sheet.step (step-positive sheet.step (meets OffStep).0) sheet.limit (number_at sheet.rows) valid other
+        candidate,
   );
 }
   where
@@ -50,13 +51,15 @@ optimal-best counts sheet legal meets = record {
       at_end = rows-end sheet.rows sheet.limit (places counts sheet.step) (meets Shape);
     }
 
-pub tuned-optimal : (counts : List ℕ) (step limit : ℕ) (rows : List (List ℕ)) (ends : ℕ → ℕ → ℕ) → AreTunedRows counts step limit (number_at rows) ends
+pub tuned-optimal : (counts : List ℕ) (step limit : ℕ) (rows : List (List ℕ)) (ends : ℕ → ℕ → ℕ) →
+    AreTunedRows counts step limit (number_at rows) ends
     → HasShape rows limit (places counts step)
     → let table = tuned_table counts step limit ends in
     IsVerdict counts (record { table = table; limit = limit; step = step; waste = waste_of counts table; rows = rows }) Optimal
 tuned-optimal counts step limit rows ends tuned shape = meets
   where
-    canonical : IsCanonical counts step limit (tuned_table counts step limit ends) × (waste_of counts (tuned_table counts step limit ends) ≡ number_at rows limit 0)
+    canonical : IsCanonical counts step limit (tuned_table counts step limit ends)
+        × (waste_of counts (tuned_table counts step limit ends) ≡ number_at rows limit 0)
     canonical = tuned-canonical counts step limit (number_at rows) ends tuned
 
     valid : AreValidPotentials (span_waste counts step) (places counts step) limit (number_at rows)
@@ -65,7 +68,8 @@ tuned-optimal counts step limit rows ends tuned shape = meets
     table : List ℕ
     table = tuned_table counts step limit ends
 
-    meets : (refusal : Refusal) → Meets counts (record { table = table; limit = limit; step = step; waste = waste_of counts table; rows = rows }) refusal
+    meets : (refusal : Refusal) →
+        Meets counts (record { table = table; limit = limit; step = step; waste = waste_of counts table; rows = rows }) refusal
     meets OffStep = (tuned.is_step, canonical.0.best.candidate.legal.fitting)
     meets OverLimit = canonical.0.best.candidate.few
     meets NotServing = canonical.0.best.candidate.serving

@@ -76,7 +76,8 @@ module _ (counts : List ℕ) (step : ℕ) (pos : 0 < step) (low high : ℕ) (le 
       (λ fits. omega (arith, rounded-fits step pos n high fits)))
 
   up_to-mono : (f : ℕ → ℕ)
-      → sum_below (λ n. cond (leb (rounded_need step n) low) (f n) 0) (length counts) ≤ sum_below (λ n. cond (leb (rounded_need step n) high) (f n) 0) (length counts)
+      → sum_below (λ n. cond (leb (rounded_need step n) low) (f n) 0) (length counts) ≤ sum_below
+      (λ n. cond (leb (rounded_need step n) high) (f n) 0) (length counts)
   up_to-mono f = sum_at_most _ _ (length counts) (λ n lt. wider (rounded_need step n) (f n))
     where
       wider : (x v : ℕ) → cond (leb x low) v 0 ≤ cond (leb x high) v 0
@@ -89,10 +90,12 @@ module _ (counts : List ℕ) (step : ℕ) (pos : 0 < step) (low high : ℕ) (le 
   bytes-mono = up_to-mono (λ n. slice_index counts n * n)
 
   pub sums-waste : waste_between counts step low high
-      ≡ 16 * (high - 1) * (counted_up_to counts step high - counted_up_to counts step low) - (bytes_up_to counts step high - bytes_up_to counts step low)
+      ≡ 16 * (high - 1) * (counted_up_to counts step high - counted_up_to counts step low)
+      - (bytes_up_to counts step high - bytes_up_to counts step low)
   sums-waste = (solved _ _ _ _ _ (16 * (high - 1)) counted-mono bytes-mono sums-balance).0
 
-  pub sums-ascend : IsWasteOfSums high (counted_up_to counts step low) (counted_up_to counts step high) (bytes_up_to counts step low) (bytes_up_to counts step high)
+  pub sums-ascend : IsWasteOfSums high (counted_up_to counts step low) (counted_up_to counts step high) (bytes_up_to counts step low)
+      (bytes_up_to counts step high)
   sums-ascend = record {
     counted = counted-mono;
     bytes = bytes-mono;
@@ -109,7 +112,8 @@ count-small counts n are =
 up_to-bounded : (counts : List ℕ) (step high bound : ℕ) (f : ℕ → ℕ) → ((n : ℕ) → n < length counts → f n ≤ bound)
     → sum_below (λ n. cond (leb (rounded_need step n) high) (f n) 0) (length counts) ≤ length counts * bound
 up_to-bounded counts step high bound f each =
-    sum_bounded _ (length counts) bound (λ n lt. cond_both (leb (rounded_need step n) high) _ _ (λ v. v ≤ bound) (λ e. each n lt) (λ e. omega arith))
+    sum_bounded _ (length counts) bound
+    (λ n lt. cond_both (leb (rounded_need step n) high) _ _ (λ v. v ≤ bound) (λ e. each n lt) (λ e. omega arith))
 
 pub sums-fit : (counts : List ℕ) (step high : ℕ) → AreCounts counts
     → (counted_up_to counts step high < 2 ^ 44) × (bytes_up_to counts step high < 2 ^ 58)
@@ -119,14 +123,16 @@ sums-fit counts step high are =
     (λ n lt. let within : n ≤ 16368 = omega (arith, are.sizes) in mul-le-mul (count-small counts n are) within) in
     (omega (arith, counted, are.sizes), omega (arith, bytes, are.sizes))
 
-pub spans-fit : (counts : List ℕ) (step i j : ℕ) → IsStep step → AreCounts counts → i < j → j ≤ places counts step → span_waste counts step i j < 2 ^ 58
+pub spans-fit : (counts : List ℕ) (step i j : ℕ) → IsStep step → AreCounts counts → i < j → j ≤ places counts step →
+    span_waste counts step i j < 2 ^ 58
 spans-fit counts step i j is_step are lt le =
     let class = place-class counts step j is_step (omega (arith, are.sizes)) (omega arith) le in
     let each = sum_bounded _ (length counts) (1000000000 * 16368) (λ n within. at_one n class.1) in
     omega (arith, each, are.sizes)
   where
     at_one : (n : ℕ) → need_at counts step j ≤ 1024
-        → cond (ltb (need_at counts step i) (rounded_need step n) && leb (rounded_need step n) (need_at counts step j)) (slice_index counts n * loss_of n (need_at counts step j)) 0
+        → cond (ltb (need_at counts step i) (rounded_need step n) && leb (rounded_need step n) (need_at counts step j))
+        (slice_index counts n * loss_of n (need_at counts step j)) 0
         ≤ 1000000000 * 16368
     at_one n small =
         let loss : loss_of n (need_at counts step j) ≤ 16368 = omega arith in

@@ -29,7 +29,8 @@ classes-from step low (c ∷ cs) first up range fits = (
   first (omega arith),
   (range 0 0 (omega arith)).1,
   fits 0 0 (omega arith),
-  classes-from step c cs (λ some. let next : 0 + 1 ≡ suc 0 = refl in subst (λ (k : ℕ). c < slice_index (c ∷ cs) k) next (up 0 (omega arith)))
+  classes-from step c cs (λ some. let next : 0 + 1 ≡ suc 0 = refl in
+      subst (λ (k : ℕ). c < slice_index (c ∷ cs) k) next (up 0 (omega arith)))
       (λ k lt. let next : suc k + 1 ≡ suc (k + 1) = omega arith in
       subst (λ (m : ℕ). slice_index cs k < slice_index (c ∷ cs) m) next (up (suc k) (omega arith)))
       (λ k d lt. range (suc k) d (omega arith)) (λ k d lt. fits (suc k) d (omega arith)),
@@ -94,7 +95,8 @@ ServesAbove counts step low classes = (n : ℕ) → IsCounted counts n → low <
 
 pub waste_above-none : (counts : List ℕ) (step low : ℕ) → waste_above counts step low [] ≡ 0
 waste_above-none counts step low =
-    sum_none _ (length counts) (λ n lt. cond_both (ltb low (rounded_need step n)) _ _ (λ (v : ℕ). v ≡ 0) (λ e. none (slice_index counts n) n) (λ e. refl))
+    sum_none _ (length counts)
+    (λ n lt. cond_both (ltb low (rounded_need step n)) _ _ (λ (v : ℕ). v ≡ 0) (λ e. none (slice_index counts n) n) (λ e. refl))
   where
     none : (k n : ℕ) → k * (16 * 0 - 16 - n) ≡ 0
     none k n = let zero-loss : 16 * 0 - 16 - n ≡ 0 = omega arith in rw zero-loss (omega arith)
@@ -128,9 +130,11 @@ module _ (counts : List ℕ) (step : ℕ) (pos : 0 < step) where
       (λ n within. first-or-later (rounded_need step n) low c (slice_index counts n) n (class_for cs n) lt
       (rounded-fits step pos n c) (fits-rounded step pos n c (omega arith) multiple))
 
-  pub ServesAbove-later : (low c : ℕ) (cs : List ℕ) → 1 ≤ low → low < c → c % step ≡ 0 → ServesAbove counts step low (c ∷ cs) → ServesAbove counts step c cs
+  pub ServesAbove-later : (low c : ℕ) (cs : List ℕ) → 1 ≤ low → low < c → c % step ≡ 0 → ServesAbove counts step low (c ∷ cs) →
+      ServesAbove counts step c cs
   ServesAbove-later low c cs one lt multiple served n counted above =
-      subst (λ (class : Option ℕ). IsSome class) (class_for-later step pos n c cs (omega arith) multiple above) (served n counted (omega arith))
+      subst (λ (class : Option ℕ). IsSome class) (class_for-later step pos n c cs (omega arith) multiple above)
+      (served n counted (omega arith))
 
   -- a class c after low wastes at least what the span of the places between them does
   pub span-least : (low c i j : ℕ) → Reaches counts step low (places counts step) i → Reaches counts step c (places counts step) j
@@ -138,7 +142,8 @@ module _ (counts : List ℕ) (step : ℕ) (pos : 0 < step) where
   span-least low c i j ri rj =
       sum_at_most _ _ (length counts) (λ n lt.
       elim (cases_lt 0 (slice_index counts n)) [
-        | inl some ↦ span-at_one (rounded_need step n) low c _ _ (slice_index counts n) _ _ (reach-covers counts step pos low i n ri (lt, some)) rj.reached
+        | inl some ↦ span-at_one (rounded_need step n) low c _ _ (slice_index counts n) _ _
+            (reach-covers counts step pos low i n ri (lt, some)) rj.reached
             (loss-mono (slice_index counts n) n _ c rj.reached)
         | inr none ↦ span-at_none (rounded_need step n) _ _ (slice_index counts n) _ _ none
       ])

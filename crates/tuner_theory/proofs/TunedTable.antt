@@ -21,7 +21,8 @@ pub record IsTableFor (counts : List ℕ) (step k low waste : ℕ) (classes : Li
 
 module _ (counts : List ℕ) (step : ℕ) (pos : 0 < step) where
   -- what is above the places that low reaches is above low
-  pub next-above : (low i j : ℕ) → Reaches counts step low (places counts step) i → i < j → j ≤ places counts step → low < need_at counts step j
+  pub next-above : (low i j : ℕ) → Reaches counts step low (places counts step) i → i < j → j ≤ places counts step →
+      low < need_at counts step j
   next-above low i j r lt le =
       elim (cases_lt low (need_at counts step j)) [ inl above ↦ above | inr not ↦ absurd (omega (arith, r.last j le not)) ]
 
@@ -33,7 +34,8 @@ module _ (counts : List ℕ) (step : ℕ) (pos : 0 < step) where
         arith,
         span-least counts step pos low (need_at counts step j) i j r (reach-at counts step pos j le),
         sum_at_most _ _ (length counts) (λ n lt.
-            wider (rounded_need step n) (need_at counts step i) low (need_at counts step j) (slice_index counts n * loss_of n (need_at counts step j)) r.reached),
+            wider (rounded_need step n) (need_at counts step i) low (need_at counts step j)
+            (slice_index counts n * loss_of n (need_at counts step j)) r.reached),
       )
     where
       wider : (x a b c v : ℕ) → a ≤ b → cond (ltb b x && leb x c) v 0 ≤ cond (ltb a x && leb x c) v 0
@@ -61,17 +63,20 @@ module _ (counts : List ℕ) (step : ℕ) (pos : 0 < step) where
       record {
         above = (over, class.1, class.2, table.above);
         few = omega (arith, table.few);
-        wasted = omega (arith, waste_above-cons counts step pos low c classes one over class.2, table.wasted, span-same low i j r le, whole);
+        wasted =
+            omega (arith, waste_above-cons counts step pos low c classes one over class.2, table.wasted, span-same low i j r le, whole);
         served = λ n counted above. elim (cases_lt c (rounded_need step n)) [
           | inr first ↦ subst (λ (class : Option ℕ). IsSome class) (sym (class_for-first step pos n c classes first)) refl
-          | inl later ↦ subst (λ (class : Option ℕ). IsSome class) (sym (class_for-later step pos n c classes class.0 class.2 later)) (table.served n counted later)
+          | inl later ↦ subst (λ (class : Option ℕ). IsSome class) (sym (class_for-later step pos n c classes class.0 class.2 later))
+              (table.served n counted later)
         ];
       }
 
 module _ (counts : List ℕ) (step : ℕ) (is_step : IsStep step) (small : length counts ≤ 16369) (limit : ℕ) (rows ends : ℕ → ℕ → ℕ)
     (least : AreLeastRows (span_waste counts step) (places counts step) limit rows ends) where
   -- no class more, where low reaches all places already
-  none-left : (k i low : ℕ) → Reaches counts step low (places counts step) i → places counts step ≤ i → IsTableFor counts step k low (rows k i) []
+  none-left : (k i low : ℕ) → Reaches counts step low (places counts step) i → places counts step ≤ i →
+      IsTableFor counts step k low (rows k i) []
   none-left k i low r past =
       let end : i ≡ places counts step = omega (arith, r.within) in
       let empty = table-none counts step (step-positive step is_step) k low (subst (Reaches counts step low (places counts step)) end r) in
@@ -86,7 +91,8 @@ module _ (counts : List ℕ) (step : ℕ) (is_step : IsStep step) (small : lengt
       (λ e. let lt = ltb-true i d e in
       let row = least.first_row i (omega arith) lt in
       let nothing = table-none counts step pos 0 (need_at counts step d) (reach-at counts step pos d (omega arith)) in
-      let table = table-cons counts step pos 0 low i d 0 (rows 1 i) [] is_step small one r lt (omega arith) nothing (omega (arith, row.0)) in
+      let table =
+      table-cons counts step pos 0 low i d 0 (rows 1 i) [] is_step small one r lt (omega arith) nothing (omega (arith, row.0)) in
       subst (λ (j : ℕ). IsTableFor counts step 1 low (rows 1 i) (need_at counts step j ∷ [])) (sym row.1) table)
       (λ e. none-left 1 i low r (ltb-false i d e))
   table-tuned (suc k) i low le one r =
@@ -97,6 +103,8 @@ module _ (counts : List ℕ) (step : ℕ) (is_step : IsStep step) (small : lengt
       let row = least.later_row (suc k) i (omega arith) (omega arith) lt in
       let j = ends (suc (suc k)) i in
       let class = place-class counts step j is_step small (omega (arith, row.0.after)) row.0.within in
-      let later = table-tuned k j (need_at counts step j) (omega arith) (omega (arith, class.0)) (reach-at counts step pos j row.0.within) in
-      table-cons counts step pos (suc k) low i j (rows (suc k) j) (rows (suc (suc k)) i) _ is_step small one r row.0.after row.0.within later row.1)
+      let later =
+      table-tuned k j (need_at counts step j) (omega arith) (omega (arith, class.0)) (reach-at counts step pos j row.0.within) in
+      table-cons counts step pos (suc k) low i j (rows (suc k) j) (rows (suc (suc k)) i) _ is_step small one r row.0.after row.0.within
+      later row.1)
       (λ e. none-left (suc (suc k)) i low r (ltb-false i d e))

@@ -28,7 +28,8 @@ RoundingFits = (step need : ℕ) → IsStep step → need ≤ LARGEST_CLASS → 
 
 -- The needs ascend from place to place,
 abbrev pub PlacesAscend : Type 0
-PlacesAscend = (counts : List ℕ) (step i j : ℕ) → IsStep step → i < j → j ≤ places counts step → need_at counts step i < need_at counts step j
+PlacesAscend =
+    (counts : List ℕ) (step i j : ℕ) → IsStep step → i < j → j ≤ places counts step → need_at counts step i < need_at counts step j
 
 -- each is the rounded need of a counted size,
 abbrev pub PlaceIsCounted : Type 0
@@ -72,7 +73,8 @@ NothingBetween = (counts : List ℕ) (step i : ℕ) → span_waste counts step i
 
 -- The waste of any span fits 64 bits.
 abbrev pub SpansFit : Type 0
-SpansFit = (counts : List ℕ) (step i j : ℕ) → IsStep step → AreCounts counts → i < j → j ≤ places counts step → span_waste counts step i j < 2 ^ 58
+SpansFit =
+    (counts : List ℕ) (step i j : ℕ) → IsStep step → AreCounts counts → i < j → j ≤ places counts step → span_waste counts step i j < 2 ^ 58
 
 -- ---- the waste of a span by two sums up to a need
 

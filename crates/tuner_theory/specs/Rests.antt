@@ -7,7 +7,8 @@ use Rattle.tuner_theory.specs.Waste.{waste_of}
 -- The counts of the sizes from n on, without those whose rounded need is at most `low`.
 abbrev pub counts_above_from : ℕ → List ℕ → ℕ → ℕ → List ℕ
 counts_above_from n [] step low = []
-counts_above_from n (count ∷ counts) step low = (if nat_le (rounded_need step n) low then 0 else count) ∷ counts_above_from (suc n) counts step low
+counts_above_from n (count ∷ counts) step low =
+    (if nat_le (rounded_need step n) low then 0 else count) ∷ counts_above_from (suc n) counts step low
 
 -- The counts without the sizes whose rounded need is at most the one at place i.
 abbrev pub counts_above : List ℕ → ℕ → ℕ → List ℕ

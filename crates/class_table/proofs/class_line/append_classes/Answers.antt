@@ -13,5 +13,12 @@ loop-class-preserved c =
     c.append.ensures ∙ rw (c.push.ensures.items, digits) (append_assoc line (32 ∷ []) (decimal class)) in
     record {
       written = items ∙ rw c.loop-class.invariant.written (sym (class_line-more c.args.classes.now i c.loop-class-test.true));
-      room = omega (arith, ap length items, length-append line (32 ∷ decimal class), short class (c.requires.legal.in_range i 0 c.loop-class-test.true).1, c.loop-class.invariant.room);
+      room =
+          omega (
+            arith,
+            ap length items,
+            length-append line (32 ∷ decimal class),
+            short class (c.requires.legal.in_range i 0 c.loop-class-test.true).1,
+            c.loop-class.invariant.room,
+          );
     }

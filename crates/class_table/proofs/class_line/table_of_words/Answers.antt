@@ -5,7 +5,8 @@ use Rattle.class_table.proofs.Words.{faulty, room, no_room, too_many_read, few_r
 use Rattle.class_table.proofs.class_line.table_of_words.Goals as goal
 
 pub returns-in_default-clause-exact : goal.returns-in_default-clause-exact
-returns-in_default-clause-exact c = faulty _ _ _ _ _ _ c.loop-word.invariant c.in-Some.ensures.steps (no_number _ c.in_default.ensures.number)
+returns-in_default-clause-exact c =
+    faulty _ _ _ _ _ _ c.loop-word.invariant c.in-Some.ensures.steps (no_number _ c.in_default.ensures.number)
 
 pub loop-word-preserved : goal.loop-word-preserved
 loop-word-preserved c =

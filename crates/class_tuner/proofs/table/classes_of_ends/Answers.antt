@@ -15,13 +15,19 @@ loop-done-preserved c =
       | then-place-places w ↦
           (let later = c.requires.later (c.args.limit - c.loop-done.done) c.loop-done.place (omega arith) (omega arith) (omega arith) in
           record {
-            read = rw (w.classes-is, w.place-is, w.push.ensures.items) (read-more need ends d (c.args.limit - c.loop-done.done) _ c.loop-done.place _ _ _ _
+            read =
+                rw (w.classes-is, w.place-is, w.push.ensures.items)
+                (read-more need ends d (c.args.limit - c.loop-done.done) _ c.loop-done.place _ _ _ _
                 (omega arith) (omega arith) w.end_at-place.ensures w.need.ensures.need c.loop-done.invariant.read);
             within = omega (arith, w.place-is, w.end_at-place.ensures, later.1);
-            few = rw (w.classes-is, w.push.ensures.items) (omega (arith, length-append {A = ℕ} c.loop-done.classes.items (w.need.result ∷ []), c.loop-done.invariant.few));
+            few =
+                rw (w.classes-is, w.push.ensures.items)
+                (omega (arith, length-append {A = ℕ} c.loop-done.classes.items (w.need.result ∷ []), c.loop-done.invariant.few));
           })
       | else-place-places w ↦ record {
-        read = rw (w.classes-is, w.place-is) (read-past need ends d (c.args.limit - c.loop-done.done) _ c.loop-done.place _ _ (omega arith) c.loop-done.invariant.read);
+        read =
+            rw (w.classes-is, w.place-is)
+            (read-past need ends d (c.args.limit - c.loop-done.done) _ c.loop-done.place _ _ (omega arith) c.loop-done.invariant.read);
         within = omega (arith, w.place-is, c.loop-done.invariant.within);
         few = rw w.classes-is (omega arith);
       }

@@ -7,7 +7,8 @@ use Rattle.class_tuner.proofs.table.classes_of_ends.Given as goal
 
 abbrev pub invariant-loop-done : goal.invariant-loop-done
 invariant-loop-done l = record {
-  read : l.classes.items ++ table_of_ends (need_at l.spans.counts l.spans.step) (number_at (lists_of l.ends)) (places l.spans.counts l.spans.step) (l.limit - l.done) l.place
+  read : l.classes.items ++ table_of_ends (need_at l.spans.counts l.spans.step) (number_at (lists_of l.ends))
+      (places l.spans.counts l.spans.step) (l.limit - l.done) l.place
       ≡ tuned_table l.spans.counts l.spans.step l.limit (number_at (lists_of l.ends));
   within : l.place ≤ places l.spans.counts l.spans.step;
   few : length l.classes.items ≤ l.done;

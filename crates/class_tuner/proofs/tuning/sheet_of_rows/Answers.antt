@@ -16,5 +16,7 @@ table_of_ends-table-requires-clause-legal c =
 pub returns-clause-tuned : goal.returns-clause-tuned
 returns-clause-tuned c =
     rw (c.step.ensures, c.new-rows.ensures)
-    (tuned-sheet c.args.spans.now c.args.limit (lists_of c.args.filled.rows.items) (lists_of c.args.filled.ends.items) c.requires.spans c.requires.some c.requires.few c.requires.filled
-    c.table_of_ends-table.result c.number-waste.result (rw c.deref.ensures.value at c.table_of_ends-table.ensures) (rw c.new-rows.ensures at c.number-waste.ensures))
+    (tuned-sheet c.args.spans.now c.args.limit (lists_of c.args.filled.rows.items) (lists_of c.args.filled.ends.items) c.requires.spans
+    c.requires.some c.requires.few c.requires.filled
+    c.table_of_ends-table.result c.number-waste.result (rw c.deref.ensures.value at c.table_of_ends-table.ensures)
+    (rw c.new-rows.ensures at c.number-waste.ensures))

@@ -9,7 +9,11 @@ use Rattle.command_line.proofs.call.call_of.Goals as goal
 pub returns-in_err-of_options-in-Some-replay-default : goal.returns-in_err-of_options-in-Some-replay-default
 returns-in_err-of_options-in-Some-replay-default c =
     let some = c.in-Some-replay-default in
-    let error = err_from_is_err_and c.from_residual-in_err-of_options-in-Some-replay-default.result c.from_residual-in_err-of_options-in-Some-replay-default.ensures.1 in
+    let error =
+    err_from_is_err_and c.from_residual-in_err-of_options-in-Some-replay-default.result
+    c.from_residual-in_err-of_options-in-Some-replay-default.ensures.1 in
     let options = rows_of (found_of some.options.now) in
-    let is_replay = entered _ _ (out-ArgMatches c.args.matches.now).subcommand (codes "replay") options (sym some.ensures.name ∙ ap Some some.is-replay) (sym some.ensures.rows) in
+    let is_replay =
+    entered _ _ (out-ArgMatches c.args.matches.now).subcommand (codes "replay") options (sym some.ensures.name ∙ ap Some some.is-replay)
+    (sym some.ensures.rows) in
     rw error.1 (subst IsNoCall (sym is_replay) (no_replay options c.in_err-of_options-in-Some-replay-default.ensures))

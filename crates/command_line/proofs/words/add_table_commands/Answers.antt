@@ -7,4 +7,5 @@ pub returns : goal.returns
 returns c =
     let one = c.in_ok-subcommand.ensures.shape c.words.ensures.1 ∙ ap (with_subcommand (app_of c.args.command)) c.words.ensures.0 in
     let two = c.in_ok-subcommand-2.ensures.shape c.in_ok-words.ensures.1 ∙ ap₂ with_subcommand one c.in_ok-words.ensures.0 in
-    IfOk-weaker c.subcommand-3.result _ _ (λ r added. added.shape c.words-3.ensures.1 ∙ ap₂ with_subcommand two c.words-3.ensures.0) c.subcommand-3.ensures
+    IfOk-weaker c.subcommand-3.result _ _ (λ r added. added.shape c.words-3.ensures.1 ∙ ap₂ with_subcommand two c.words-3.ensures.0)
+    c.subcommand-3.ensures

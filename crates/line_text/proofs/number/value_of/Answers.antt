@@ -17,14 +17,18 @@ returns-in_err-value c =
     let i = c.loop-digit.digit-index in
     let more = one_more digits i (omega arith) (digit_at digits i c.requires (omega arith)) in
     let least = digits_value-take-le 10 digits (i + 1) (omega arith) in
-    rw c.from_residual-in_err-value.ensures (λ fits. c.in_err-value.ensures (omega (arith, more, least, fits, c.in_ok-checked_mul.ensures, c.from.ensures)))
+    rw c.from_residual-in_err-value.ensures
+    (λ fits. c.in_err-value.ensures (omega (arith, more, least, fits, c.in_ok-checked_mul.ensures, c.from.ensures)))
 
 pub loop-digit-preserved : goal.loop-digit-preserved
 loop-digit-preserved c =
     let digits = c.args.digits.now in
     let i = c.loop-digit.digit-index in
     let more = one_more digits i (omega arith) (digit_at digits i c.requires (omega arith)) in
-    record { value = omega (arith, more, c.in_ok-value.ensures, c.in_ok-checked_mul.ensures, c.from.ensures); fits = omega (arith, c.in_ok-value.ensures) }
+    record {
+      value = omega (arith, more, c.in_ok-value.ensures, c.in_ok-checked_mul.ensures, c.from.ensures);
+      fits = omega (arith, c.in_ok-value.ensures);
+    }
 
 pub returns : goal.returns
 returns c =

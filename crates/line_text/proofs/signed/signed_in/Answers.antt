@@ -8,4 +8,6 @@ returns-in-Some c =
     rw (signed_of-minus c.args.word.now digits.0, ← digits.1) (c.negative.ensures (number_of c.in-Some.digits.now) c.number_in.ensures)
 
 pub returns-in-None : goal.returns-in-None
-returns-in-None c = rw (signed_of-other c.args.word.now c.in-None.ensures.cases) (c.not_negative.ensures (number_of c.args.word.now) c.number_in-in-None.ensures)
+returns-in-None c =
+    rw (signed_of-other c.args.word.now c.in-None.ensures.cases)
+    (c.not_negative.ensures (number_of c.args.word.now) c.number_in-in-None.ensures)

@@ -13,7 +13,8 @@ returns-in_err-profile c =
     let error = err_from_is_err_and c.from_residual-in_err-profile.result c.from_residual-in_err-profile.ensures.1 in
     let leading = c.in_ok-leading.ensures in
     rw (error.1, error.2)
-    (profile_refused c.args.text.now c.in_ok-leading.leading.rest.now (sheet_of c.in_ok-leading.leading.sheet) c.in_ok-leading.leading.lines leading.sheet leading.lines.0 leading.rest
+    (profile_refused c.args.text.now c.in_ok-leading.leading.rest.now (sheet_of c.in_ok-leading.leading.sheet) c.in_ok-leading.leading.lines
+    leading.sheet leading.lines.0 leading.rest
     c.in_err-profile.field-0.0 c.in_err-profile.ensures)
 
 pub returns : goal.returns
@@ -22,7 +23,8 @@ returns c =
     let sheet = sheet_of c.in_ok-leading.leading.sheet in
     let profile = c.in_ok-profile.profile in (
       (sheet, profile),
-      both_read c.args.text.now c.in_ok-leading.leading.rest.now sheet c.in_ok-leading.leading.lines leading.sheet leading.lines.0 leading.rest profile c.in_ok-profile.ensures,
+      both_read c.args.text.now c.in_ok-leading.leading.rest.now sheet c.in_ok-leading.leading.lines leading.sheet leading.lines.0
+          leading.rest profile c.in_ok-profile.ensures,
       record {
         verdict = c.in_ok-verdict.verdict;
         is_verdict = c.in_ok-verdict.ensures.verdict;

@@ -14,7 +14,8 @@ returns-in_err-write_all g c =
     rw (error.1, error.2) record {
       read_fault = search rules;
       write_fault = search rules;
-      answer = write_failed (g.E.Engine.answers c.args.engine.now) (source c.args.source.now).remaining (source c.read_all.new.source).remaining
+      answer =
+          write_failed (g.E.Engine.answers c.args.engine.now) (source c.args.source.now).remaining (source c.read_all.new.source).remaining
           (sink c.args.sink.now).taken (sink c.write_all.new.sink).taken read.0 (g.E.Output.Output.rest output)
           c.in_ok-output.status written.0 written.1 read.2 read.3 read.4 (c.in_ok-output.ensures read.0 read.1) written.2 written.3;
       consumed = search rules;

@@ -15,7 +15,8 @@ returns c = λ bytes keeps.
     let i = c.args.input in
     let some : i.has_ended ≡ false → 0 < length i.line.items =
     elim c.else-not-has_ended.branch [
-      | else-not-has_ended-via-then-not-has_ended+else-is_empty w ↦ λ unended. omega (arith, eqb-false (vec_len i.line) 0 (sym w.is_empty.ensures ∙ w.if-is_empty.false))
+      | else-not-has_ended-via-then-not-has_ended+else-is_empty w ↦ λ unended. omega
+          (arith, eqb-false (vec_len i.line) 0 (sym w.is_empty.ensures ∙ w.if-is_empty.false))
       | else-not-has_ended-via-else-not-has_ended w ↦ λ unended. cc (unended, w.if-not-has_ended.false)
     ] in
     let parts = line_and_trace i.has_ended i.line.items i.reader bytes keeps some in

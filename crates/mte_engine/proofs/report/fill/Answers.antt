@@ -7,7 +7,8 @@ use Rattle.mte_engine.proofs.report.fill.Goals as goal
 pub returns-in_default-clause-report : goal.returns-in_default-clause-report
 returns-in_default-clause-report c =
     let none = none_left c.lines.reader.events (sym c.in_default.ensures.event) in
-    reported_all c.lines.buffer.items c.append_totals.new.buffer.items c.lines.replay c.lines.reader.events none c.append_totals.ensures.items
+    reported_all c.lines.buffer.items c.append_totals.new.buffer.items c.lines.replay c.lines.reader.events none
+    c.append_totals.ensures.items
     ∙ c.lines.invariant.report
 
 pub lines-preserved : goal.lines-preserved
@@ -18,7 +19,8 @@ lines-preserved c =
     let new = c.next_event.new.self.events in
     let here = first_of old event (sym c.in-Some.ensures.event) ∙ ap (λ (t : List Event). event ∷ t) (sym c.in-Some.ensures.rest) in
     record {
-      report = reported_more c.lines.buffer.items c.append.new.buffer.items c.deref.result.now c.lines.replay c.step.new.self old new event here
+      report =
+          reported_more c.lines.buffer.items c.append.new.buffer.items c.deref.result.now c.lines.replay c.step.new.self old new event here
           (c.deref.ensures.0 ∙ c.step.ensures.line) c.step.ensures.stored c.append.ensures.items
           ∙ inv.report;
       few = omega (arith, inv.few, events_after c.lines.replay event, ap (λ s. s.totals.events) c.step.ensures.stored, ap length here);

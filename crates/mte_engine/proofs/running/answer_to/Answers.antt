@@ -28,4 +28,5 @@ returns c = λ bytes keeps.
     ∙ ap (λ (t : List ℕ). t ++ report_on c.args.config c.sheet-sheet.result.now.table events) text
     ∙ ap (λ (s : Sheet). sheet_text (sheet_of sheet) ++ report_on c.args.config s.table events) c.sheet-sheet.ensures in
     run_written c.args.limit c.args.step c.args.config c.args.reader bytes keeps c.end.new.reader profile
-    (sheet_of sheet) (text_left c.in_ok-report.report) c.in_ok-end.ensures.ended c.in_ok-end.ensures.events is_profile c.in_ok-tuned.ensures.tuned report
+    (sheet_of sheet) (text_left c.in_ok-report.report) c.in_ok-end.ensures.ended c.in_ok-end.ensures.events is_profile
+    c.in_ok-tuned.ensures.tuned report

@@ -16,7 +16,8 @@ pub returns-in_err-profile : goal.returns-in_err-profile
 returns-in_err-profile c =
     let p = err_from_is_err_and c.from_residual-in_err-profile.result c.from_residual-in_err-profile.ensures.1 in
     let parts = sym c.lines_in-lines.ensures ∙ c.in-Some.ensures.steps in
-    rw (p.1, p.2) (profile_refused c.args.text.now c.in-Some.line.now c.in_ok-table.table c.rest.result.now c.next.new.self c.in_err-profile.field-0.0
+    rw (p.1, p.2) (profile_refused c.args.text.now c.in-Some.line.now c.in_ok-table.table c.rest.result.now c.next.new.self
+    c.in_err-profile.field-0.0
     parts c.in_ok-table.ensures c.rest.ensures c.in_err-profile.ensures)
 
 pub returns : goal.returns

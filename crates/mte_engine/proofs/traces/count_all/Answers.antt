@@ -17,7 +17,8 @@ loop-place-preserved c =
     let within : place < length events = omega arith in
     let more : take (place + 1) events ≡ before ++ event ∷ [] =
     take_more events place event within ∙ ap (λ (e : Event). before ++ e ∷ []) (sym c.index.ensures) in
-    let short : length (requested_sizes before) < 1000000000 = omega (arith, length-requested_sizes before, simp length-take at (length-requested_sizes before), c.requires) in
+    let short : length (requested_sizes before) < 1000000000 =
+    omega (arith, length-requested_sizes before, simp length-take at (length-requested_sizes before), c.requires) in
     c.count.ensures (requested_sizes before) short c.loop-place.invariant
     ∙ ap profile_of_sizes (one_requested [] before event)
     ∙ ap profile_of_events (sym more)

@@ -14,7 +14,8 @@ loop-event-preserved c =
     let all = c.args.reader.now.events in
     let here = first_of c.loop-event.reader.events event (sym c.in-Some.ensures.event) in
     let parts : all ≡ (taken ++ event ∷ []) ++ c.next_event.new.self.events =
-    one_taken all taken c.loop-event.reader.events c.next_event.new.self.events event inv.parts (here ∙ ap (λ (t : List Event). event ∷ t) (sym c.in-Some.ensures.rest)) in (
+    one_taken all taken c.loop-event.reader.events c.next_event.new.self.events event inv.parts
+    (here ∙ ap (λ (t : List Event). event ∷ t) (sym c.in-Some.ensures.rest)) in (
       taken ++ event ∷ [],
       record {
         parts = parts;

@@ -32,7 +32,8 @@ returns-in_err-waste c =
     let limit = line_at-some 2 limit_in _ _ _ _ _ c.next-2.ensures.steps c.and_then-2.ensures c.in_ok-limit.ensures.ok_part in
     let step = rw c.in_ok-step.ensures.ok_part at c.step_at.ensures in
     let none = line_at-none number waste_in _ _ _ _ c.next-3.ensures.steps c.and_then-3.ensures c.in_err-waste.ensures.ok_part in
-    fault_given _ _ _ _ _ number _ error.1 error.2 (rw c.waste_number-number.ensures.number at c.in_err-waste.ensures.value) c.in_err-waste.ensures.ok_part
+    fault_given _ _ _ _ _ number _ error.1 error.2 (rw c.waste_number-number.ensures.number at c.in_err-waste.ensures.value)
+    c.in_err-waste.ensures.ok_part
     (no_waste _ _ _ table _ _ limit _ _ step none)
 
 pub returns : goal.returns

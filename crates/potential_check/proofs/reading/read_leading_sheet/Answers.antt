@@ -7,7 +7,8 @@ use Rattle.potential_check.proofs.reading.read_leading_sheet.Goals as goal
 pub returns-in_err-head : goal.returns-in_err-head
 returns-in_err-head c =
     let error = err_from_is_err_and c.from_residual.result c.from_residual.ensures.1 in
-    head_fault_given (λ (head : Head). (head, c.head_in.new.lines)) _ _ _ _ error.1 error.2 (rw c.lines_in-lines.ensures at c.in_err-head.ensures)
+    head_fault_given (λ (head : Head). (head, c.head_in.new.lines)) _ _ _ _ error.1 error.2
+    (rw c.lines_in-lines.ensures at c.in_err-head.ensures)
 
 pub returns-in_err-rows : goal.returns-in_err-rows
 returns-in_err-rows c =

@@ -19,7 +19,8 @@ returns-in_default-2-clause-rows c =
     let row = named_row next.line _ next.named in
     let len : c.len.result ≡ length (lists_of c.loop-words.rows.items) = rw length-map (omega arith) in
     let room : length (lists_of c.loop-words.rows.items) < 32 = omega (arith, c.loop-words.invariant.rows.few) in
-    rw len (rows_from-no_row _ _ _ _ _ _ c.loop-words.invariant.rows (rows_of-row _ _ _ next.first row.0) room (row.1 ∙ rw c.in_default-2.is at (sym c.in_ok-row.ensures)))
+    rw len (rows_from-no_row _ _ _ _ _ _ c.loop-words.invariant.rows (rows_of-row _ _ _ next.first row.0) room
+    (row.1 ∙ rw c.in_default-2.is at (sym c.in_ok-row.ensures)))
 
 pub loop-words-preserved : goal.loop-words-preserved
 loop-words-preserved c =
@@ -27,16 +28,21 @@ loop-words-preserved c =
     let row = named_row next.line _ next.named in
     let len : c.len.result ≡ length (lists_of c.loop-words.rows.items) = rw length-map (omega arith) in
     let room : length (lists_of c.loop-words.rows.items) < 32 = omega (arith, c.loop-words.invariant.rows.few) in
-    let pushed : c.push.new.self.items ≡ c.loop-words.rows.items ++ c.in-Some-2.row ∷ [] = c.push.ensures.items ∙ rw (← c.in_ok-map_err.ensures.variant) refl in
+    let pushed : c.push.new.self.items ≡ c.loop-words.rows.items ++ c.in-Some-2.row ∷ [] =
+    c.push.ensures.items ∙ rw (← c.in_ok-map_err.ensures.variant) refl in
     record {
-      rows = rw (pushed, map-append) (rows_from-more _ _ _ _ _ _ _ c.loop-words.invariant.rows (rows_of-row _ _ _ next.first row.0) room (row.1 ∙ rw c.in-Some-2.is at (sym c.in_ok-row.ensures)));
+      rows =
+          rw (pushed, map-append) (rows_from-more _ _ _ _ _ _ _ c.loop-words.invariant.rows (rows_of-row _ _ _ next.first row.0) room
+          (row.1 ∙ rw c.in-Some-2.is at (sym c.in_ok-row.ensures)));
       size = rw pushed (omega (
         arith,
         length-append c.loop-words.rows.items (c.in-Some-2.row ∷ []),
         c.loop-words.invariant.size,
         ap length (rows_of-row _ _ _ next.first row.0),
       ));
-      after = rw (pushed, length-append, add-one) (drop-line c.args.lines.now _ _ _ (length c.loop-words.rows.items) c.loop-words.invariant.after next.first);
+      after =
+          rw (pushed, length-append, add-one)
+          (drop-line c.args.lines.now _ _ _ (length c.loop-words.rows.items) c.loop-words.invariant.after next.first);
     }
 
 pub returns-clause-rows : goal.returns-clause-rows

@@ -9,7 +9,8 @@ returns-in-None c = (
   λ (hold, tight).
       let some : c.loop-place.place - 1 < length c.args.row.now = omega arith in
       let end = walked-end c.args.spans.now c.requires.step c.args.before.now c.args.row.now c.requires.row
-      (c.loop-place.place - 1) c.loop-place.place c.loop-place.end (omega arith) c.loop-place.invariant.walked some hold (tight.each _ some) in
+      (c.loop-place.place - 1) c.loop-place.place c.loop-place.end (omega arith) c.loop-place.invariant.walked some hold
+      (tight.each _ some) in
       absurd (c.in-None.ensures.none end hold),
 )
 
@@ -18,7 +19,8 @@ loop-place-preserved c =
     let found = c.in-Some.ensures.some in
     record {
       walked = walked-more c.args.spans.now c.requires.step c.args.before.now c.args.row.now c.requires.row
-          (c.loop-place.place - 1) c.loop-place.place c.loop-place.end c.in-Some.tight (omega arith) c.loop-place.invariant.walked (omega arith) found;
+          (c.loop-place.place - 1) c.loop-place.place c.loop-place.end c.in-Some.tight (omega arith) c.loop-place.invariant.walked
+          (omega arith) found;
       tight = λ k from within. elim (cases_lt (c.loop-place.place - 1) k) [
         | inl later ↦ c.loop-place.invariant.tight k (omega arith) within
         | inr not ↦ (let same : k ≡ c.loop-place.place - 1 = omega arith in
@@ -34,5 +36,6 @@ returns c = (
     record { each = λ k within. c.loop-place.invariant.tight k (omega arith) within },
   ),
   λ all. c.first_edges_hold.ensures.1
-      (λ j some below. all.0.each 0 j (omega (arith, c.loop-place.invariant.walked.within)) some (omega (arith, c.loop-place.invariant.walked.within))),
+      (λ j some below. all.0.each 0 j (omega (arith, c.loop-place.invariant.walked.within)) some
+      (omega (arith, c.loop-place.invariant.walked.within))),
 )

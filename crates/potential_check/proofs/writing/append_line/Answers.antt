@@ -21,7 +21,8 @@ loop-rest-preserved c =
     let text = c.loop-rest.text.items in
     let next = c.split_at.result.0.now in
     let later = c.split_at.result.1.now in
-    let split : next ++ later ≡ c.loop-rest.rest.now = rw (c.split_at.ensures.front, c.split_at.ensures.back) (take-append-drop c.min.result c.loop-rest.rest.now) in
+    let split : next ++ later ≡ c.loop-rest.rest.now =
+    rw (c.split_at.ensures.front, c.split_at.ensures.back) (take-append-drop c.min.result c.loop-rest.rest.now) in
     let parts : spaced next ++ spaced later ≡ spaced c.loop-rest.rest.now = sym (spaced-parts next later) ∙ ap spaced split in
     record {
       written = rw c.in_ok-append_spaced.ensures.written
@@ -37,7 +38,8 @@ returns-clause-written c =
     let text = c.loop-rest.text.items in
     let none : spaced c.loop-rest.rest.now ≡ [] = spaced-none c.loop-rest.rest.now (grind (arith, common_steps)) in
     let written : text ≡ old ++ (name ++ spaced numbers) =
-    sym (append-nil text) ∙ (ap (λ (more : List ℕ). text ++ more) (sym none) ∙ (c.loop-rest.invariant.written ∙ append_assoc old name (spaced numbers))) in
+    sym (append-nil text) ∙ (ap (λ (more : List ℕ). text ++ more) (sym none)
+    ∙ (c.loop-rest.invariant.written ∙ append_assoc old name (spaced numbers))) in
     let line : text ++ 10 ∷ [] ≡ old ++ ((name ++ spaced numbers) ++ 10 ∷ []) =
     ap (λ (front : List ℕ). front ++ 10 ∷ []) written ∙ append_assoc old (name ++ spaced numbers) (10 ∷ []) in
     c.in_ok-push.ensures.items ∙ (line ∙ ap (λ (line : List ℕ). old ++ (line ++ 10 ∷ [])) (sym (named_line-spaced name numbers)))

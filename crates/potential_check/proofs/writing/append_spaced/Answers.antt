@@ -19,8 +19,10 @@ few : (n : ℕ) → n < 18446744073709551616 → length (decimal n) ≤ 20
 few n fits = length-decimal-le 20 n (omega arith) (omega arith) fits
 
 pub write_digits-start-requires : goal.write_digits-start-requires
-write_digits-start-requires c =
-    (omega (arith, few (get_or c.args.numbers.now (c.loop-index.index - 1) 0) (omega (arith, c.type_inv.numbers (c.loop-index.index - 1)))), omega arith)
+write_digits-start-requires c = (
+  omega (arith, few (get_or c.args.numbers.now (c.loop-index.index - 1) 0) (omega (arith, c.type_inv.numbers (c.loop-index.index - 1)))),
+  omega arith,
+)
 
 pub overflow_sub-start : goal.overflow_sub-start
 overflow_sub-start c =

@@ -8,10 +8,12 @@ loop-n-init c = skips_served c.args.counts.now c.args.table.now c.served_below-n
 pub returns-then-counts-n-gt0 : goal.returns-then-counts-n-gt0
 returns-then-counts-n-gt0 c =
     sym (c.loop-n.invariant
-    ∙ unserved_here c.args.counts.now c.args.table.now c.loop-n.n (omega arith) c.if-counts-n-gt0.true (c.served_below-n.ensures.others c.loop-n.n (omega arith)))
+    ∙ unserved_here c.args.counts.now c.args.table.now c.loop-n.n (omega arith) c.if-counts-n-gt0.true
+    (c.served_below-n.ensures.others c.loop-n.n (omega arith)))
 
 pub loop-n-preserved : goal.loop-n-preserved
-loop-n-preserved c = c.loop-n.invariant ∙ not_counted_here c.args.counts.now c.args.table.now c.loop-n.n (omega arith) c.if-counts-n-gt0.false
+loop-n-preserved c =
+    c.loop-n.invariant ∙ not_counted_here c.args.counts.now c.args.table.now c.loop-n.n (omega arith) c.if-counts-n-gt0.false
 
 pub returns : goal.returns
 returns c = sym (c.loop-n.invariant ∙ none_after c.args.counts.now c.args.table.now c.loop-n.n (omega arith))

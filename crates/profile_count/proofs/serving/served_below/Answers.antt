@@ -16,19 +16,28 @@ loop-number-preserved c =
     let most : 2 ≤ c.class.result = c.class.ensures.in_range.0 in
     elim c.if-from-end_of_class.branch [
       | then-from-end_of_class w ↦
-          let ready : number ≤ position_or_len (serves c.if-from-end_of_class.from) table = omega (arith, i.ready, position-mono c.loop-number.from c.if-from-end_of_class.from table (omega arith)) in
+          let ready : number ≤ position_or_len (serves c.if-from-end_of_class.from) table =
+          omega (arith, i.ready, position-mono c.loop-number.from c.if-from-end_of_class.from table (omega arith)) in
           record {
-            served = λ n lt. next_served n number c.class.result table most within class (omega (arith, lt, w.from-is, c.served_end-end_of_class.ensures));
-            ready = next_ready c.if-from-end_of_class.from number c.class.result table most within class ready (omega (arith, w.from-is, c.served_end-end_of_class.ensures));
+            served =
+                λ n lt. next_served n number c.class.result table most within class
+                (omega (arith, lt, w.from-is, c.served_end-end_of_class.ensures));
+            ready =
+                next_ready c.if-from-end_of_class.from number c.class.result table most within class ready
+                (omega (arith, w.from-is, c.served_end-end_of_class.ensures));
           }
       | else-from-end_of_class w ↦
-          let ready : number ≤ position_or_len (serves c.if-from-end_of_class.from) table = omega (arith, i.ready, position-mono c.loop-number.from c.if-from-end_of_class.from table (omega arith)) in
+          let ready : number ≤ position_or_len (serves c.if-from-end_of_class.from) table =
+          omega (arith, i.ready, position-mono c.loop-number.from c.if-from-end_of_class.from table (omega arith)) in
           record {
             served = λ n lt. i.served n (omega (arith, lt, w.from-is));
-            ready = next_ready c.if-from-end_of_class.from number c.class.result table most within class ready (omega (arith, w.from-is, c.served_end-end_of_class.ensures));
+            ready =
+                next_ready c.if-from-end_of_class.from number c.class.result table most within class ready
+                (omega (arith, w.from-is, c.served_end-end_of_class.ensures));
           }
     ]
 
 pub returns-clause-others : goal.returns-clause-others
 returns-clause-others c = λ n le.
-    none_left c.loop-number.from n c.loop-number.number c.args.table.now c.loop-number.invariant.ready (omega (arith, c.len-number-end.ensures.len)) le
+    none_left c.loop-number.from n c.loop-number.number c.args.table.now c.loop-number.invariant.ready
+    (omega (arith, c.len-number-end.ensures.len)) le

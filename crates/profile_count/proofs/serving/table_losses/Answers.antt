@@ -10,7 +10,12 @@ use Rattle.profile_count.proofs.serving.table_losses.Goals.{then-from-end, else-
 
 pub loop-number-init : goal.loop-number-init
 loop-number-init c =
-    record { summed = sym (sum_below-none (waste_at c.args.counts.now c.args.table.now)); small = omega arith; inside = omega arith; ready = omega arith }
+    record {
+      summed = sym (sum_below-none (waste_at c.args.counts.now c.args.table.now));
+      small = omega arith;
+      inside = omega arith;
+      ready = omega arith;
+    }
 
 pub loop-number-preserved : goal.loop-number-preserved
 loop-number-preserved c =
@@ -23,23 +28,30 @@ loop-number-preserved c =
     let most : 2 ≤ c.class.result = c.class.ensures.in_range.0 in
     elim c.if-from-end.branch [
       | then-from-end w ↦
-          let ready : number ≤ position_or_len (serves c.if-from-end.from) table = omega (arith, i.ready, position-mono c.loop-number.from c.if-from-end.from table (omega arith)) in
+          let ready : number ≤ position_or_len (serves c.if-from-end.from) table =
+          omega (arith, i.ready, position-mono c.loop-number.from c.if-from-end.from table (omega arith)) in
           let sum = w.losses_below-total.ensures.sum (waste_at counts table) (λ n le lt.
           waste_in_class counts table n c.class.result c.served_end-end.result
-          (next_class c.loop-number.from n number c.class.result table most within class i.ready le (omega (arith, lt, c.served_end-end.ensures))) c.served_end-end.ensures most) in
+          (next_class c.loop-number.from n number c.class.result table most within class i.ready le
+          (omega (arith, lt, c.served_end-end.ensures))) c.served_end-end.ensures most) in
           record {
             summed = rw w.from-is (omega (arith, w.total-is, i.summed, sum));
             small = omega (arith, w.total-is, w.from-is, w.if-from-end.true, w.losses_below-total.ensures.small, i.small);
             inside = omega (arith, w.from-is, c.served_end-end.ensures, c.class.ensures.in_range.1);
-            ready = next_ready c.if-from-end.from number c.class.result table most within class ready (omega (arith, w.from-is, c.served_end-end.ensures));
+            ready =
+                next_ready c.if-from-end.from number c.class.result table most within class ready
+                (omega (arith, w.from-is, c.served_end-end.ensures));
           }
       | else-from-end w ↦
-          let ready : number ≤ position_or_len (serves c.if-from-end.from) table = omega (arith, i.ready, position-mono c.loop-number.from c.if-from-end.from table (omega arith)) in
+          let ready : number ≤ position_or_len (serves c.if-from-end.from) table =
+          omega (arith, i.ready, position-mono c.loop-number.from c.if-from-end.from table (omega arith)) in
           record {
             summed = rw w.from-is (omega (arith, w.total-is, i.summed));
             small = omega (arith, w.total-is, w.from-is, i.small);
             inside = omega (arith, w.from-is, i.inside);
-            ready = next_ready c.if-from-end.from number c.class.result table most within class ready (omega (arith, w.from-is, c.served_end-end.ensures));
+            ready =
+                next_ready c.if-from-end.from number c.class.result table most within class ready
+                (omega (arith, w.from-is, c.served_end-end.ensures));
           }
     ]
 

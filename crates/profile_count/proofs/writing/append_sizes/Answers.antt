@@ -17,10 +17,14 @@ loop-size-preserved c =
       | then-count-gt0+in_ok-append_line w ↦
           let count : c.count-count.result ≡ get_or counts size 0 = c.count-count.ensures.count in
           let word : w.as_bytes.result.now ≡ decimal size = w.as_bytes.ensures.value ∙ w.format.ensures.text in
-          let appended : c.if-count-gt0.text.items ≡ before ++ ended (size_line size (get_or counts size 0)) = rw w.text-is (w.in_ok-append_line.ensures.written ∙ rw (word, count) refl) in
+          let appended : c.if-count-gt0.text.items ≡ before ++ ended (size_line size (get_or counts size 0)) =
+          rw w.text-is (w.in_ok-append_line.ensures.written ∙ rw (word, count) refl) in
           let counted = text_from-counted counts size within (omega (arith, count, w.if-count-gt0.true)) in
           record {
-            rest = c.loop-size.invariant.rest ∙ rw (counted, appended) (sym (append_assoc before (ended (size_line size (get_or counts size 0))) (text_from counts (size + 1))));
+            rest =
+                c.loop-size.invariant.rest
+                ∙ rw (counted, appended)
+                (sym (append_assoc before (ended (size_line size (get_or counts size 0))) (text_from counts (size + 1))));
             kept = rw w.text-is (goes_on-through _ _ _ c.loop-size.invariant.kept w.in_ok-append_line.ensures.kept);
           }
       | else-count-gt0 w ↦
@@ -34,4 +38,5 @@ loop-size-preserved c =
 pub returns-clause-written : goal.returns-clause-written
 returns-clause-written c =
     let past : length c.args.profile.now.counts ≤ c.loop-size.size = omega (arith, c.requires.counts.sizes) in
-    sym (c.loop-size.invariant.rest ∙ rw (text_from-end c.args.profile.now.counts c.loop-size.size past) (append-nil c.loop-size.text.items))
+    sym (c.loop-size.invariant.rest
+    ∙ rw (text_from-end c.args.profile.now.counts c.loop-size.size past) (append-nil c.loop-size.text.items))

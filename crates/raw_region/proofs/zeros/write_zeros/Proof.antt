@@ -24,7 +24,8 @@ one_more : (i v : ℕ) → replicate i v ++ v ∷ [] ≡ replicate (suc i) v
 one_more zero v = refl
 one_more (suc i) v = ap (λ (xs : List ℕ). v ∷ xs) (one_more i v)
 
-module _ {M : Type 1} {𝓤 : Ura M} (𝓛 : Logic 𝓤) (𝓣 : Tables 𝓤 𝓛.H) (b o n : ℕ) (fn : n < 2 ^ 64) (Q : Val → SProp 𝓤) (ends : ent 𝓤 (sem 𝓛 (row u8 full_share (replicate n 0) b o)) (Q vunit)) where
+module _ {M : Type 1} {𝓤 : Ura M} (𝓛 : Logic 𝓤) (𝓣 : Tables 𝓤 𝓛.H) (b o n : ℕ) (fn : n < 2 ^ 64) (Q : Val → SProp 𝓤)
+    (ends : ent 𝓤 (sem 𝓛 (row u8 full_share (replicate n 0) b o)) (Q vunit)) where
   open 𝓛 use {H}
 
   -- how many are written
@@ -38,18 +39,23 @@ module _ {M : Type 1} {𝓤 : Ura M} (𝓛 : Logic 𝓤) (𝓣 : Tables 𝓤 �
   Left i = ‵ (froom (ty_array (ty_int w8) (n - i)) b (o + i))
 
   -- room for the rest is room for one byte and for the rest after it
-  uncons : (i : ℕ) → i < n → ent 𝓤 (H.room (ty_array (ty_int w8) (n - i)) b (o + i)) (sep 𝓤 (H.room (ty_int w8) b (i + o)) (H.room (ty_array (ty_int w8) (n - suc i)) b (o + suc i)))
+  uncons : (i : ℕ) → i < n →
+      ent 𝓤 (H.room (ty_array (ty_int w8) (n - i)) b (o + i))
+      (sep 𝓤 (H.room (ty_int w8) b (i + o)) (H.room (ty_array (ty_int w8) (n - suc i)) b (o + suc i)))
   uncons i lt =
       let e₁ : suc (n - suc i) ≡ n - i = omega arith in
       let e₂ : o + i ≡ i + o = add_comm o i in
       let e₃ : o + i + 1 ≡ o + suc i = omega arith in
       qed 𝓛 (‵ (froom (ty_array (ty_int w8) (n - i)) b (o + i)) ∷ []) ∵
       rewrite ! 0 (λ (k : ℕ). ‵ (froom (ty_array (ty_int w8) k) b (o + i))) (sym e₁) refl $
-      use1 𝓛 (‵ (froom (ty_int w8) b (o + i)) ⊛ ‵ (froom (ty_array (ty_int w8) (n - suc i)) b (o + i + 1))) (𝓛.laws.room_uncons (ty_int w8) (n - suc i) b (o + i)) $ split ! $
-      rewrite ! 0 (λ (k : ℕ). ‵ (froom (ty_int w8) b k)) e₂ refl $ rewrite ! 1 (λ (k : ℕ). ‵ (froom (ty_array (ty_int w8) (n - suc i)) b k)) e₃ refl $ done !
+      use1 𝓛 (‵ (froom (ty_int w8) b (o + i)) ⊛ ‵ (froom (ty_array (ty_int w8) (n - suc i)) b (o + i + 1)))
+      (𝓛.laws.room_uncons (ty_int w8) (n - suc i) b (o + i)) $ split ! $
+      rewrite ! 0 (λ (k : ℕ). ‵ (froom (ty_int w8) b k)) e₂ refl $
+      rewrite ! 1 (λ (k : ℕ). ‵ (froom (ty_array (ty_int w8) (n - suc i)) b k)) e₃ refl $ done !
 
   -- the next byte joins those before it
-  joins : (i : ℕ) → ent 𝓤 (sep 𝓤 (sem 𝓛 (row u8 full_share (replicate i 0) b o)) (H.at full_share (ty_int w8) b (i + o) (vint w8 0))) (sem 𝓛 (row u8 full_share (replicate (suc i) 0) b o))
+  joins : (i : ℕ) → ent 𝓤 (sep 𝓤 (sem 𝓛 (row u8 full_share (replicate i 0) b o)) (H.at full_share (ty_int w8) b (i + o) (vint w8 0)))
+      (sem 𝓛 (row u8 full_share (replicate (suc i) 0) b o))
   joins i =
       let e : i + o ≡ o + length (replicate i 0) = add_comm i o ∙ ap (λ (k : ℕ). o + k) (sym (length-replicate i 0)) in
       qed 𝓛 (‵ (row u8 full_share (replicate i 0) b o) ∷ ‵ (fat full_share (ty_int w8) b (i + o) (vint w8 0)) ∷ []) ∵
@@ -66,7 +72,9 @@ module _ {M : Type 1} {𝓤 : Ura M} (𝓛 : Logic 𝓤) (𝓣 : Tables 𝓤 �
     Now t = ‵ (row u8 full_share (replicate t.0 0) b o) ∷ Left t.0 ∷ holding 𝓛 En ((1, vptr b o) ∷ (2, vint w64 n) ∷ (3, vint w64 t.0) ∷ [])
 
     abbrev Turned : Moved → Out → SProp 𝓤
-    Turned t = after_turn 𝓤 H (Below 𝓛 Nearer Now t) (after_block 𝓤 H (after_seq 𝓤 H (Wp 𝓤 H 𝓣.C 𝓣.Λ En code.Mir.t-3 (at_return 𝓤 H En Q)) (at_return 𝓤 H En Q)))
+    Turned t =
+        after_turn 𝓤 H (Below 𝓛 Nearer Now t)
+        (after_block 𝓤 H (after_seq 𝓤 H (Wp 𝓤 H 𝓣.C 𝓣.Λ En code.Mir.t-3 (at_return 𝓤 H En Q)) (at_return 𝓤 H En Q)))
 
     turns : (t : Moved) → Sq 𝓛 (Now t) (runs 𝓣.C 𝓣.Λ En code.Mir.turn-1 (any_q (Turned t)))
     unfolding after_turn
@@ -80,12 +88,15 @@ module _ {M : Type 1} {𝓤 : Ura M} (𝓛 : Logic 𝓤) (𝓣 : Tables 𝓤 �
         move ! (1 ∷ []) $ use1 𝓛 (‵ (froom (ty_int w8) b (i + o)) ⊛ Left (suc i)) (uncons i h) $ split ! $
         -- [room for the byte; room for the rest; the bytes]
         assigns_last ! (of_opd ! (lit ! tt)) (through ! refl (stop !)) (init ! 0 refl (tt, record { fits = lit< tt })) $
-        exec ! 𝓣.C 𝓣.Λ En (after 3 code.Mir.turn-1) (any_q (Turned t)) $ sets_last ! (bin ! (get ! refl) (lit ! tt) (record { fits = fi })) refl (tt, record { fits = fi }) $
+        exec ! 𝓣.C 𝓣.Λ En (after 3 code.Mir.turn-1) (any_q (Turned t)) $
+        sets_last ! (bin ! (get ! refl) (lit ! tt) (record { fits = fi })) refl (tt, record { fits = fi }) $
         move ! (2 ∷ 0 ∷ 1 ∷ []) $ use2 𝓛 (‵ (row u8 full_share (replicate (suc i) 0) b o)) (joins i) $
-        forget_but ! En (1 ∷ 2 ∷ 3 ∷ []) refl $ take_at ! 3 $ rewrite ! 0 (λ (k : ℕ). ‵ (fat full_share (ty_int w64) (l 3) zero (vint w64 k))) (omega arith) refl $ give_at ! 3 $
+        forget_but ! En (1 ∷ 2 ∷ 3 ∷ []) refl $ take_at ! 3 $
+        rewrite ! 0 (λ (k : ℕ). ‵ (fat full_share (ty_int w64) (l 3) zero (vint w64 k))) (omega arith) refl $ give_at ! 3 $
         again ! Nearer Now t (suc i, omega arith) (omega arith))
         (λ over. let ge = nltb→le i n over in let all : i ≡ n = omega arith in
-        jumps ! $ exec ! 𝓣.C 𝓣.Λ En code.Mir.t-3 (at_ret En Q) $ rewrite ! 0 (λ (k : ℕ). ‵ (row u8 full_share (replicate k 0) b o)) all refl $
+        jumps ! $ exec ! 𝓣.C 𝓣.Λ En code.Mir.t-3 (at_ret En Q) $
+        rewrite ! 0 (λ (k : ℕ). ‵ (row u8 full_share (replicate k 0) b o)) all refl $
         sets ! (of_opd ! (unit_lit !)) refl (tt, tt) $ returns ! (look_at ! 0 refl) $ free_all ! refl $ keep ! (0 ∷ []) $ by ! ends)
 
   writes : ent 𝓤 (H.room (ty_array (ty_int w8) n) b o) (WpFn 𝓤 H 𝓣.C 𝓣.Λ code.function (vptr b o ∷ vint w64 n ∷ []) Q)
@@ -93,7 +104,8 @@ module _ {M : Type 1} {𝓤 : Ura M} (𝓛 : Logic 𝓤) (𝓣 : Tables 𝓤 �
       qed 𝓛 (‵ (froom (ty_array (ty_int w8) n) b o) ∷ []) ∵ enter ! 𝓣.C 𝓣.Λ code.function (vptr b o ∷ vint w64 n ∷ []) _ $
       alloc_all ! (λ l. pass_all ! refl ((tt, tt), ((tt, record { fits = fn }), tt)) $
       let all : n ≡ n - 0 = omega arith in
-      rewrite ! 0 (λ (k : ℕ). ‵ (froom (ty_array (ty_int w8) n) b k)) (sym (add-zero o)) refl $ rewrite ! 0 (λ (k : ℕ). ‵ (froom (ty_array (ty_int w8) k) b (o + 0))) all refl $ nothing ! $
+      rewrite ! 0 (λ (k : ℕ). ‵ (froom (ty_array (ty_int w8) n) b k)) (sym (add-zero o)) refl $
+      rewrite ! 0 (λ (k : ℕ). ‵ (froom (ty_array (ty_int w8) k) b (o + 0))) all refl $ nothing ! $
       sets ! (of_opd ! (lit ! tt)) refl (tt, record { fits = lit< tt }) $
       first ! $ blocks ! $ loops ! 𝓣 Nearer (InvImage.wf (λ (t : Moved). n - t.0) lt-wf_rel.wf) (Now l) (turns l) (0, omega arith))
 
@@ -101,7 +113,8 @@ pub write_zeros_spec : {M : Type 1} → statement M
 unfolding tables_of
 write_zeros_spec 𝓤 𝓛 𝓜 𝓡 wired =
     let c = f.clauses 𝓛 𝓜.mem 𝓡.returns in let W = walk_of 𝓛 f.ended stayed c in let 𝓣 = tables_of 𝓤 𝓛.H 𝓜 (tables 𝓤 𝓛.H 𝓜 𝓡 𝓡.env) in
-    proved 𝓛 f.ended stayed c 𝓜 𝓡 (Goes-dropped 𝓛 0 (plain (λ _. RawPtr)) yes (λ κs x w. refl), (Goes-dropped 𝓛 0 (plain (λ _. usize)) yes (λ κs x w. refl), tt))
+    proved 𝓛 f.ended stayed c 𝓜 𝓡
+    (Goes-dropped 𝓛 0 (plain (λ _. RawPtr)) yes (λ κs x w. refl), (Goes-dropped 𝓛 0 (plain (λ _. usize)) yes (λ κs x w. refl), tt))
     f.Key.name code.function (code.unfolded 𝓤 𝓛.H 𝓜 𝓡 wired)
     (λ κs. (rawptr_vals, (uint_vals w64, tt))) (λ κs. (rawptr_Tells, (uint_Tells w64, tt))) (λ κs qs bounds a _ are.
     let n = a.1.0 in
@@ -110,6 +123,8 @@ write_zeros_spec 𝓤 𝓛 𝓜 𝓡 wired =
     in_a_block ! a.0 (λ p. room_for (array_of u8 n) p) (id⊢ 𝓤 _) (λ b o e.
     regoal ! (λ p. prop (WpFn 𝓤 𝓛.H 𝓣.C 𝓣.Λ code.function (rawptr_vals p ++ (vint w64 n ∷ [])) (W.post (y p)))) e refl $
     by ! (writes 𝓛 𝓣 b o n are.1.0.1 (W.post (y (block_ptr b o)))
-    (qed 𝓛 (‵ (row u8 full_share (replicate n 0) b o) ∷ []) ∵ suffices ! _ (ends_at 𝓛 f.ended stayed c (y (block_ptr b o)) vunit tt (tt, (tt, tt)) (tt, (tt, tt))) $
-    feq_i ! ℕ (length (replicate n 0)) n (length-replicate n 0) $ fjoin ! $ use1 𝓛 (‵ (lies_at (Array u8 n) full_share (block_ptr b o) (replicate n 0))) (bytes_whole 𝓛 full_share n (replicate n 0) b o) $
+    (qed 𝓛 (‵ (row u8 full_share (replicate n 0) b o) ∷ []) ∵ suffices ! _
+    (ends_at 𝓛 f.ended stayed c (y (block_ptr b o)) vunit tt (tt, (tt, tt)) (tt, (tt, tt))) $
+    feq_i ! ℕ (length (replicate n 0)) n (length-replicate n 0) $ fjoin ! $
+    use1 𝓛 (‵ (lies_at (Array u8 n) full_share (block_ptr b o) (replicate n 0))) (bytes_whole 𝓛 full_share n (replicate n 0) b o) $
     feq_i ! _ (vunit ∷ []) _ refl $ nothing ! $ nothing ! $ join ! $ nothing ! $ join ! $ nothing ! $ group ! 3 $ done !))))

@@ -1,7 +1,7 @@
 use Rattle.std.proofs.Common.{◌≡◌, ℕ, ◌≤◌, take, ap, sym, ◌∙◌}
 use Rattle.std.specs.Prelude.{replicate}
 use Rattle.std.proofs.lemmas.List.{take-replicate}
-use Rattle.tagged_heap.specs.HeapView.{Counted}
+use Rattle.tagged_heap.specs.HeapView.{HeapAndFrees}
 use Rattle.replay_core.proofs.Accesses.{store_is}
 use Rattle.replay_core.proofs.access.store.Goals as goal
 
@@ -10,5 +10,6 @@ front n len byte is few = ap (λ k. take k (replicate 64 byte)) is ∙ take-repl
 
 pub returns-in-Ok-clause-state : goal.returns-in-Ok-clause-state
 returns-in-Ok-clause-state c =
-    store_is c.args.heap.now.state c.store.new.self.state c.args.address c.args.len c.args.byte _ (front c.from.result c.args.len c.args.byte c.from.ensures c.requires.len.1) (sym c.in-Ok.ensures.answer)
-    (ap (λ (v : Counted). v.state) c.in-Ok.ensures.ok)
+    store_is c.args.heap.now.state c.store.new.self.state c.args.address c.args.len c.args.byte _
+    (front c.from.result c.args.len c.args.byte c.from.ensures c.requires.len.1) (sym c.in-Ok.ensures.answer)
+    (ap (λ (v : HeapAndFrees). v.state) c.in-Ok.ensures.ok)

@@ -5,4 +5,5 @@ use Rattle.replay_core.proofs.line.write_data.Goals as goal
 pub returns : goal.returns
 unfolding report_line
 returns c =
-    rw (c.push.ensures.items, c.append_hex.ensures.items, c.append.ensures.items, c.append_number.ensures.items, c.requires.empty) (simp append_assoc)
+    rw (c.push.ensures.items, c.append_hex.ensures.items, c.append.ensures.items, c.append_number.ensures.items, c.requires.empty)
+    (simp append_assoc)

@@ -18,6 +18,7 @@ pub store-requires-clause-tagged : goal.store-requires-clause-tagged
 store-requires-clause-tagged c =
     let range = subst IsInRange c.in-Store.is c.requires.in_range in
     subst (λ a. (logical_tag a ≢ 0) ⊎ IsFalse (is_mapped (length c.args.heap.now.state.memory) a c.in-Store.len))
-    (sym (c.moved_by-in-Store.ensures ∙ ap (moved_by (slice_index c.args.variables.now c.from-in-Store.result)) (near_offset c.in-Store.off range.0.1)))
+    (sym (c.moved_by-in-Store.ensures
+    ∙ ap (moved_by (slice_index c.args.variables.now c.from-in-Store.result)) (near_offset c.in-Store.off range.0.1)))
     (tagged_or_not_mapped c.args.heap.now.state c.requires.sound _ c.in-Store.off c.in-Store.len range.0.1 range.0.2
     (c.requires.variables.tagged c.from-in-Store.result))

@@ -7,8 +7,10 @@ use Rattle.machine_theory.proofs.LawLemmas.{tag_fault_names}
 use Rattle.tag_machine.proofs.checks.check_access.Goals as goal
 
 -- a granule from the access's first to its last holds one of its bytes
-touches : (address len g : ℕ) → region_start ≤ place_of address → 0 < len → granule_of (place_of address) ≤ g → g ≤ granule_of (place_of address + len - 1) → Touches address len g
-touches address len g from some low high = (region_start + 16 * g - place_of address, omega arith, record { from = omega arith; to = omega arith })
+touches : (address len g : ℕ) → region_start ≤ place_of address → 0 < len → granule_of (place_of address) ≤ g →
+    g ≤ granule_of (place_of address + len - 1) → Touches address len g
+touches address len g from some low high =
+    (region_start + 16 * g - place_of address, omega arith, record { from = omega arith; to = omega arith })
 
 -- one that holds one of its bytes is from its first on
 touched_from : (address len g : ℕ) → Touches address len g → granule_of (place_of address) ≤ g
@@ -36,7 +38,8 @@ returns-then-memory_tag-pointer_tag-clause-fault c =
         | inl before ↦ absurd (other (c.loop-granule.invariant k (touched_from c.args.address c.args.len k t) before))
       ];
     } in
-    sym (ap ok_unless ((tag_fault_names memory c.args.address c.args.len g c.tag-memory_tag.result c.logical_tag-pointer_tag.result (omega arith)).1 fault))
+    sym (ap ok_unless ((tag_fault_names memory c.args.address c.args.len g c.tag-memory_tag.result c.logical_tag-pointer_tag.result
+    (omega arith)).1 fault))
 
 pub returns-then-not-is_mapped-clause-fault : goal.returns-then-not-is_mapped-clause-fault
 returns-then-not-is_mapped-clause-fault c =
@@ -47,4 +50,5 @@ pub returns-clause-fault : goal.returns-clause-fault
 returns-clause-fault c =
     let mapped : IsMapped (length c.args.memory.now) c.args.address c.args.len = c.is_mapped.ensures.mapped.0 c.if-not-is_mapped.false in
     sym (ap ok_unless (inside_succeeds c.args.memory.now c.args.address c.args.len (omega arith) mapped
-    (λ g t. c.loop-granule.invariant g (touched_from c.args.address c.args.len g t) (omega (arith, touched_to c.args.address c.args.len g t)))))
+    (λ g t. c.loop-granule.invariant g (touched_from c.args.address c.args.len g t)
+    (omega (arith, touched_to c.args.address c.args.len g t)))))

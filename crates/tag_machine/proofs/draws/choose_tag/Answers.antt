@@ -10,19 +10,24 @@ use Rattle.tag_machine.proofs.draws.choose_tag.Goals.{else-offset-eq0-via-then-o
 
 pub returns-then-allowed-eq0-clause-chosen : goal.returns-then-allowed-eq0-clause-chosen
 returns-then-allowed-eq0-clause-chosen c =
-    sym (chosen_none c.args.tag c.args.exclude c.allowed_above-allowed.result (omega arith) c.allowed_above-allowed.ensures c.args.offset c.if-allowed-eq0.true)
+    sym (chosen_none c.args.tag c.args.exclude c.allowed_above-allowed.result (omega arith) c.allowed_above-allowed.ensures c.args.offset
+    c.if-allowed-eq0.true)
 
 pub returns-then-not-is_excluded-clause-chosen : goal.returns-then-not-is_excluded-clause-chosen
 returns-then-not-is_excluded-clause-chosen c =
-    sym (chosen_here c.args.tag c.args.exclude c.allowed_above-allowed.result (omega arith) c.allowed_above-allowed.ensures c.if-allowed-eq0.false (sym c.is_excluded.ensures ∙ c.if-not-is_excluded.true))
+    sym (chosen_here c.args.tag c.args.exclude c.allowed_above-allowed.result (omega arith) c.allowed_above-allowed.ensures
+    c.if-allowed-eq0.false (sym c.is_excluded.ensures ∙ c.if-not-is_excluded.true))
     ∙ ap (λ o. choose_tag c.args.tag o c.args.exclude) (sym c.if-offset-eq0.true)
 
 pub nonzero_rem-skipped : goal.nonzero_rem-skipped
-nonzero_rem-skipped c = mask_some c.args.tag c.args.exclude c.allowed_above-allowed.result (omega arith) c.allowed_above-allowed.ensures c.if-allowed-eq0.false
+nonzero_rem-skipped c =
+    mask_some c.args.tag c.args.exclude c.allowed_above-allowed.result (omega arith) c.allowed_above-allowed.ensures c.if-allowed-eq0.false
 
 pub nth_set_bit-requires : goal.nth_set_bit-requires
 nth_set_bit-requires c =
-    let some = mask_some c.args.tag c.args.exclude c.allowed_above-allowed.result (omega arith) c.allowed_above-allowed.ensures c.if-allowed-eq0.false in
+    let some =
+    mask_some c.args.tag c.args.exclude c.allowed_above-allowed.result (omega arith) c.allowed_above-allowed.ensures
+    c.if-allowed-eq0.false in
     omega (arith, length-set_bits c.allowed_above-allowed.result (omega arith))
 
 pub returns-clause-chosen : goal.returns-clause-chosen
@@ -32,9 +37,12 @@ returns-clause-chosen c =
       | else-offset-eq0-via-else-offset-eq0 w ↦ absurd (w.if-offset-eq0.false none)
     ] in
     let place : c.nth_set_bit.result ≡ slice_index (set_bits c.allowed_above-allowed.result) ((c.args.offset - 1) % ones c.allowed_above-allowed.result) =
-    c.nth_set_bit.ensures.place ∙ ap (λ o. slice_index (set_bits c.allowed_above-allowed.result) (o % ones c.allowed_above-allowed.result)) (c.from.ensures ∙ c.saturating_sub.ensures) in
+    c.nth_set_bit.ensures.place
+    ∙ ap (λ o. slice_index (set_bits c.allowed_above-allowed.result) (o % ones c.allowed_above-allowed.result))
+    (c.from.ensures ∙ c.saturating_sub.ensures) in
     grouped c.args.tag c.nth_set_bit.result ∙ ap (λ k. (c.args.tag + (1 + k)) % 16) place
-    ∙ sym (chosen_on c.args.tag c.args.exclude c.allowed_above-allowed.result (omega arith) c.allowed_above-allowed.ensures c.args.offset c.if-allowed-eq0.false out)
+    ∙ sym (chosen_on c.args.tag c.args.exclude c.allowed_above-allowed.result (omega arith) c.allowed_above-allowed.ensures c.args.offset
+    c.if-allowed-eq0.false out)
   where
     grouped : (tag k : ℕ) → (tag + 1 + k) % 16 ≡ (tag + (1 + k)) % 16
     grouped tag k = omega arith

@@ -16,7 +16,8 @@ overflow_sub-left c = left_some c.args.bits c.loop-cleared.left c.loop-cleared._
 pub loop-cleared-preserved : goal.loop-cleared-preserved
 loop-cleared-preserved c =
     let some = left_some c.args.bits c.loop-cleared.left c.loop-cleared._cleared c.loop-cleared.invariant (omega arith) in
-    set_bits_cleared c.loop-cleared.left some ∙ ap (drop 1) c.loop-cleared.invariant ∙ drop-drop 1 c.loop-cleared._cleared (set_bits c.args.bits)
+    set_bits_cleared c.loop-cleared.left some ∙ ap (drop 1) c.loop-cleared.invariant
+    ∙ drop-drop 1 c.loop-cleared._cleared (set_bits c.args.bits)
 
 pub returns-clause-place : goal.returns-clause-place
 returns-clause-place c =

@@ -19,4 +19,6 @@ third event (a ∷ b ∷ c ∷ x ∷ y ∷ more) d v w fault len h i k = absurd 
 pub returns-in_err-u6 : goal.returns-in_err-u6
 returns-in_err-u6 c =
     let p = err_from_is_err_and c.from_residual-in_err-u6.result c.from_residual-in_err-u6.ensures.1 in
-    λ event. rw (p.1, p.2) (sym (third event c.args.words.now _ c.in_ok-v.v c.in_ok-w.w c.in_err-u6.field-0.0 (omega arith) (sym c.in_ok-v.ensures) (sym c.in_ok-w.ensures) (sym c.in_err-u6.ensures.number)))
+    λ event. rw (p.1, p.2) (sym
+    (third event c.args.words.now _ c.in_ok-v.v c.in_ok-w.w c.in_err-u6.field-0.0 (omega arith) (sym c.in_ok-v.ensures)
+    (sym c.in_ok-w.ensures) (sym c.in_err-u6.ensures.number)))

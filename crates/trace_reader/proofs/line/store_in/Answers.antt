@@ -18,4 +18,5 @@ third (a ∷ b ∷ c ∷ x ∷ y ∷ more) d v off fault len h i k = absurd (ome
 pub returns-in_err-len : goal.returns-in_err-len
 returns-in_err-len c =
     let p = err_from_is_err_and c.from_residual-in_err-len.result c.from_residual-in_err-len.ensures.1 in
-    rw (p.1, p.2) (sym (third c.args.words.now _ c.in_ok-v.v c.in_ok-off.off c.in_err-len.field-0.0 (omega arith) (sym c.in_ok-v.ensures) (sym c.in_ok-off.ensures) (sym c.in_err-len.ensures)))
+    rw (p.1, p.2) (sym (third c.args.words.now _ c.in_ok-v.v c.in_ok-off.off c.in_err-len.field-0.0 (omega arith) (sym c.in_ok-v.ensures)
+    (sym c.in_ok-off.ensures) (sym c.in_err-len.ensures)))

@@ -6,6 +6,7 @@ use Rattle.trace_reader.proofs.spelled.words_after.Goals as goal
 pub returns : goal.returns
 returns c = record {
   rest = c.in_ok-strip_prefix.field-0.now;
-  line_is = strip_prefix_is Decides-eqb c.args.line.now c.args.first.now (Some c.in_ok-strip_prefix.field-0) c.in_ok-strip_prefix.ensures.cases;
+  line_is =
+      strip_prefix_is Decides-eqb c.args.line.now c.args.first.now (Some c.in_ok-strip_prefix.field-0) c.in_ok-strip_prefix.ensures.cases;
   are = c.words_in.ensures;
 }

@@ -14,7 +14,8 @@ count_up_to-requires-clause-ascending c =
 class_of : (c : goal.After-count_up_to) → (1 ≤ c.count_up_to.result) × IsClassOf c.args.self.now c.args.slot (c.count_up_to.result - 1)
 class_of c =
     let firsts = c.deref.ensures.0 ∙ c.self.invariant.firsts ∙ ap firsts_of c.self.view_is in
-    class_of_point c.args.self.now c.args.slot c.count_up_to.result c.requires (rw (← firsts) c.count_up_to.ensures.bound) (rw (← firsts) c.count_up_to.ensures.below) (rw (← firsts) c.count_up_to.ensures.above)
+    class_of_point c.args.self.now c.args.slot c.count_up_to.result c.requires (rw (← firsts) c.count_up_to.ensures.bound)
+    (rw (← firsts) c.count_up_to.ensures.below) (rw (← firsts) c.count_up_to.ensures.above)
 
 pub overflow_sub-result : goal.overflow_sub-result
 overflow_sub-result c = (class_of c).0

@@ -4,24 +4,31 @@ use Rattle.class_table.proofs.Least.{ascending_classes, counted_place, number_co
 use Rattle.class_table.proofs.layout.Layout.find.Goals as goal
 
 pub count_up_to-number-requires-clause-ascending : goal.count_up_to-number-requires-clause-ascending
-count_up_to-number-requires-clause-ascending c = rw c.deref.ensures.0 (ascending_classes c.self.inside.classes.items c.self.invariant.partition.table.ascending)
+count_up_to-number-requires-clause-ascending c =
+    rw c.deref.ensures.0 (ascending_classes c.self.inside.classes.items c.self.invariant.partition.table.ascending)
 
 pub returns-then-number-len-clause-number : goal.returns-then-number-len-clause-number
 returns-then-number-len-clause-number c =
-    let classes : c.deref.result.now ≡ c.args.self.now.classes = c.deref.ensures.0 ∙ ap (λ (region : Partition). region.classes) c.self.view_is in
-    let place = counted_place 1 c.args.self.now.classes c.args.n c.count_up_to-number.result (rw c.self.view_is at c.self.invariant.partition).table
+    let classes : c.deref.result.now ≡ c.args.self.now.classes =
+    c.deref.ensures.0 ∙ ap (λ (region : Partition). region.classes) c.self.view_is in
+    let place =
+    counted_place 1 c.args.self.now.classes c.args.n c.count_up_to-number.result (rw c.self.view_is at c.self.invariant.partition).table
     (rw (← classes) c.count_up_to-number.ensures.bound)
     (rw (← classes, ← c.div_ceil.ensures) c.count_up_to-number.ensures.below)
     (rw (← classes, ← c.div_ceil.ensures) c.count_up_to-number.ensures.above) in
-    let len : c.len.result ≡ length c.args.self.now.classes = c.len.ensures.value ∙ ap (λ (region : Partition). length region.classes) c.self.view_is in
+    let len : c.len.result ≡ length c.args.self.now.classes =
+    c.len.ensures.value ∙ ap (λ (region : Partition). length region.classes) c.self.view_is in
     number_counted c.args.n c.args.self.now.classes c.count_up_to-number.result place (rw (← len) c.if-number-len.true)
 
 pub returns-else-number-len-clause-number : goal.returns-else-number-len-clause-number
 returns-else-number-len-clause-number c =
-    let classes : c.deref.result.now ≡ c.args.self.now.classes = c.deref.ensures.0 ∙ ap (λ (region : Partition). region.classes) c.self.view_is in
-    let place = counted_place 1 c.args.self.now.classes c.args.n c.count_up_to-number.result (rw c.self.view_is at c.self.invariant.partition).table
+    let classes : c.deref.result.now ≡ c.args.self.now.classes =
+    c.deref.ensures.0 ∙ ap (λ (region : Partition). region.classes) c.self.view_is in
+    let place =
+    counted_place 1 c.args.self.now.classes c.args.n c.count_up_to-number.result (rw c.self.view_is at c.self.invariant.partition).table
     (rw (← classes) c.count_up_to-number.ensures.bound)
     (rw (← classes, ← c.div_ceil.ensures) c.count_up_to-number.ensures.below)
     (rw (← classes, ← c.div_ceil.ensures) c.count_up_to-number.ensures.above) in
-    let len : c.len.result ≡ length c.args.self.now.classes = c.len.ensures.value ∙ ap (λ (region : Partition). length region.classes) c.self.view_is in
+    let len : c.len.result ≡ length c.args.self.now.classes =
+    c.len.ensures.value ∙ ap (λ (region : Partition). length region.classes) c.self.view_is in
     none_counted c.args.n c.args.self.now.classes c.count_up_to-number.result place (rw (← len) c.if-number-len.false)

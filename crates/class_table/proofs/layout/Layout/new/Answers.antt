@@ -13,15 +13,28 @@ push-requires-in-loop-number c =
 
 pub loop-number-preserved : goal.loop-number-preserved
 loop-number-preserved c =
-    let class : get_or c.args.table.now c.loop-number.number 0 ≡ c.class.result = get_or_from_slice_get c.args.table.now c.loop-number.number c.class.result 0 c.class.ensures.class in
-    rw (c.push.ensures.items, c.push-in-loop-number.ensures.items, c.from-class.ensures, ← class, c.share_of_each-share.ensures, c.len.ensures.len)
+    let class : get_or c.args.table.now c.loop-number.number 0 ≡ c.class.result =
+    get_or_from_slice_get c.args.table.now c.loop-number.number c.class.result 0 c.class.ensures.class in
+    rw (
+      c.push.ensures.items,
+      c.push-in-loop-number.ensures.items,
+      c.from-class.ensures,
+      ← class,
+      c.share_of_each-share.ensures,
+      c.len.ensures.len,
+    )
     (IsFilled-more _ _ _ _ _ c.loop-number.invariant (omega (arith, c.len-number-end.ensures.len)))
 
 pub overflow_add-slots : goal.overflow_add-slots
 overflow_add-slots c =
     let more = loop-number-preserved c in
-    let is : IsPartition (record { classes = c.args.table.now; granules = c.args.granules }) = record { table = c.len.ensures.legal; least = c.requires.least; most = c.requires.most } in
-    omega (arith, more.slots, first_slot-few (record { classes = c.args.table.now; granules = c.args.granules }) (c.loop-number.number + 1) is)
+    let is : IsPartition (record { classes = c.args.table.now; granules = c.args.granules }) =
+    record { table = c.len.ensures.legal; least = c.requires.least; most = c.requires.most } in
+    omega (
+      arith,
+      more.slots,
+      first_slot-few (record { classes = c.args.table.now; granules = c.args.granules }) (c.loop-number.number + 1) is,
+    )
 
 pub push-requires-2 : goal.push-requires-2
 push-requires-2 c =
@@ -31,10 +44,12 @@ push-requires-2 c =
 pub invariant_of-result : goal.invariant_of-result
 invariant_of-result c =
     let number : c.loop-number.number ≡ length c.args.table.now = omega (arith, c.len-number-end.ensures.len) in
-    let classes : c.loop-number.classes.items ≡ c.args.table.now = c.loop-number.invariant.classes ∙ take_all c.loop-number.number c.args.table.now (omega arith) in
+    let classes : c.loop-number.classes.items ≡ c.args.table.now =
+    c.loop-number.invariant.classes ∙ take_all c.loop-number.number c.args.table.now (omega arith) in
     rw classes (record {
       partition = record { table = c.len.ensures.legal; least = c.requires.least; most = c.requires.most };
       share = c.share_of_each-share.ensures ∙ ap (λ n. c.args.granules / n) c.len.ensures.len;
       firsts = c.push-2.ensures.items ∙ firsts_more _ _ _ _ _ c.loop-number.invariant
-          ∙ ap (λ n. map (first_slot (record { classes = c.args.table.now; granules = c.args.granules })) (range_with_len 0 (n + 1))) number;
+          ∙ ap (λ n. map (first_slot (record { classes = c.args.table.now; granules = c.args.granules })) (range_with_len 0 (n + 1)))
+          number;
     })

@@ -4,4 +4,5 @@ use Rattle.class_table.proofs.Slots.{slot_count-classes}
 use Rattle.class_table.proofs.layout.Layout.slots.Goals as goal
 
 pub returns-clause-slots : goal.returns-clause-slots
-returns-clause-slots c = c.first_slot.ensures.first ∙ ap (first_slot c.args.self.now) c.classes.ensures.classes ∙ sym (slot_count-classes c.args.self.now)
+returns-clause-slots c =
+    c.first_slot.ensures.first ∙ ap (first_slot c.args.self.now) c.classes.ensures.classes ∙ sym (slot_count-classes c.args.self.now)

@@ -9,7 +9,8 @@ returns-in_default-clause-exact c = ap table_of_lines (sym c.lines_in-lines.ensu
 
 pub returns-in-Some-next-clause-exact : goal.returns-in-Some-next-clause-exact
 unfolding table_of
-returns-in-Some-next-clause-exact c = ap table_of_lines (sym c.lines_in-lines.ensures ∙ rw c.in-Some-next.ensures.steps at c.in-Some.ensures.steps)
+returns-in-Some-next-clause-exact c =
+    ap table_of_lines (sym c.lines_in-lines.ensures ∙ rw c.in-Some-next.ensures.steps at c.in-Some.ensures.steps)
 
 pub returns-clause-exact : goal.returns-clause-exact
 unfolding table_of

@@ -7,4 +7,5 @@ pub returns-clause-variables : goal.returns-clause-variables
 returns-clause-variables c = variables_are_null_or_tagged
 
 pub returns-clause-faults : goal.returns-clause-faults
-returns-clause-faults c = λ layout seed quarantine events is. bookkeeping_out_of_reach _ (IsRunWith-run layout seed quarantine events is).sound
+returns-clause-faults c =
+    λ layout seed quarantine events is. bookkeeping_out_of_reach _ (IsRunWith-run layout seed quarantine events is).sound

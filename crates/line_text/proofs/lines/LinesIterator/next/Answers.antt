@@ -21,4 +21,7 @@ returns c =
     let text = c.self.inside.rest.now in
     let end = c.in-Some.end in
     let steps = sym c.self.view_is ∙ lines_at text end c.in-Some.ensures in
-    record { steps = rw take_rest steps; goes = record { on = λ h. (tt, h, rw take_rest (shorter _ _ _ steps)); keeps = tt; rests = λ h. tt } }
+    record {
+      steps = rw take_rest steps;
+      goes = record { on = λ h. (tt, h, rw take_rest (shorter _ _ _ steps)); keeps = tt; rests = λ h. tt };
+    }

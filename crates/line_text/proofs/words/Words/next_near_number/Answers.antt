@@ -38,12 +38,14 @@ returns-clause-taken c =
 
 pub returns-in_err-bytes-clause-number : goal.returns-in_err-bytes-clause-number
 returns-in_err-bytes-clause-number c =
-    let self_is : c.args.self.now ≡ words c.in_ok-line.line.now = sym c.self.view_is ∙ ap (λ r. words_left (option_map (λ x. x.now) r)) c.in_ok-line.was in
+    let self_is : c.args.self.now ≡ words c.in_ok-line.line.now =
+    sym c.self.view_is ∙ ap (λ r. words_left (option_map (λ x. x.now) r)) c.in_ok-line.was in
     rw (self_is, near_short c.in_ok-line.line.now c.in_err-bytes.ensures.cases) c.from_residual-in_err-bytes.ensures
 
 pub returns-in_err-size-clause-number : goal.returns-in_err-size-clause-number
 returns-in_err-size-clause-number c =
-    let self_is : c.args.self.now ≡ words c.in_ok-line.line.now = sym c.self.view_is ∙ ap (λ r. words_left (option_map (λ x. x.now) r)) c.in_ok-line.was in
+    let self_is : c.args.self.now ≡ words c.in_ok-line.line.now =
+    sym c.self.view_is ∙ ap (λ r. words_left (option_map (λ x. x.now) r)) c.in_ok-line.was in
     let digits = rw c.in_ok-bytes.ensures.cases.0 at c.in_err-size.ensures.all in
     rw (self_is, near_many c.in_ok-line.line.now (c.in_ok-bytes.ensures.variant.0 cc) digits) c.from_residual-in_err-size.ensures
 
@@ -58,7 +60,8 @@ returns-then-bytes-size-ne32-clause-number c =
       ended = c.in_ok-size.ensures.ended;
     } in
     rw self_is (sym (elim c.then-bytes-size-ne32.branch [
-      | then-bytes-size-ne32-via-then-bytes-size-ne32 w ↦ near_other line size near (rw c.in_ok-bytes.ensures.cases.0 at w.if-bytes-size-ne32.true)
+      | then-bytes-size-ne32-via-then-bytes-size-ne32 w ↦ near_other line size near
+          (rw c.in_ok-bytes.ensures.cases.0 at w.if-bytes-size-ne32.true)
       | then-bytes-size-ne32-via-else-bytes-size-ne32+then-size-eq0 w ↦ near_no_number line size near (inl w.if-size-eq0.true)
       | then-bytes-size-ne32-via-else-bytes-size-ne32+else-size-eq0+then-size-gt1 w ↦
           near_no_number line size near (inr (rw c.in_ok-bytes.ensures.cases.0 at w.if-size-gt1.true))

@@ -17,13 +17,15 @@ loop-n-init c = record {
 pub overflow_add-total : goal.overflow_add-total
 overflow_add-total c =
     let small = built-small c.args.profile.now.counts c.args.step c.loop-n.n c.loop-n.total c.loop-n.total_bytes
-    c.loop-n.needs.items c.loop-n.counted.items c.loop-n.bytes.items c.count.ensures.profile.counts (omega arith) c.loop-n.invariant.built in
+    c.loop-n.needs.items c.loop-n.counted.items c.loop-n.bytes.items c.count.ensures.profile.counts (omega arith)
+    c.loop-n.invariant.built in
     omega (arith, small.0)
 
 pub overflow_add-total_bytes : goal.overflow_add-total_bytes
 overflow_add-total_bytes c =
     let small = built-small c.args.profile.now.counts c.args.step c.loop-n.n c.loop-n.total c.loop-n.total_bytes
-    c.loop-n.needs.items c.loop-n.counted.items c.loop-n.bytes.items c.count.ensures.profile.counts (omega arith) c.loop-n.invariant.built in
+    c.loop-n.needs.items c.loop-n.counted.items c.loop-n.bytes.items c.count.ensures.profile.counts (omega arith)
+    c.loop-n.invariant.built in
     let count : c.from-count.result ≤ 1000000000 =
     omega (arith, c.count.ensures.profile.counts.in_range c.loop-n.n 0 (omega (arith, c.count.ensures.profile.counts.sizes))) in
     let n : c.from.result ≤ 16368 = omega arith in
@@ -34,13 +36,22 @@ loop-n-preserved c = record {
   built = rw add-one (elim c.if-count-gt0.branch [
     | else-count-gt0 w ↦ rw (w.needs-is, w.counted-is, w.bytes-is, w.total-is, w.total_bytes-is)
         (built-skip counts c.args.step c.requires c.loop-n.n _ _ _ _ _ (omega (arith, w.if-count-gt0.false)) c.loop-n.invariant.built)
-    | then-count-gt0 w ↦ (let place : HasPlace counts c.args.step c.loop-n.n w.if-not-is_last.needs.items w.if-not-is_last.counted.items w.if-not-is_last.bytes.items
+    | then-count-gt0 w ↦ (let place : HasPlace counts c.args.step c.loop-n.n w.if-not-is_last.needs.items w.if-not-is_last.counted.items
+        w.if-not-is_last.bytes.items
         c.loop-n.total c.loop-n.total_bytes = elim w.if-not-is_last.branch [
           | then-not-is_last+in_ok-push+in_ok-push-2+in_ok-push-3 v ↦
               (let new : last_need c.loop-n.needs.items ≡ rounded_need c.args.step c.loop-n.n → ⊥ =
               (λ e. both_ways w.is_last.result v.if-not-is_last.true
               (w.is_last.ensures.1 (rw (w.deref.ensures.value, w.rounded_need-need.ensures.need) e))) in
-              rw (v.needs-is, v.counted-is, v.bytes-is, v.in_ok-push.ensures.items, v.in_ok-push-2.ensures.items, v.in_ok-push-3.ensures.items, w.rounded_need-need.ensures.need)
+              rw (
+                v.needs-is,
+                v.counted-is,
+                v.bytes-is,
+                v.in_ok-push.ensures.items,
+                v.in_ok-push-2.ensures.items,
+                v.in_ok-push-3.ensures.items,
+                w.rounded_need-need.ensures.need,
+              )
               (place-new counts c.args.step c.requires c.loop-n.n _ _ _ _ _ new c.loop-n.invariant.built))
           | else-not-is_last v ↦
               (let last : last_need c.loop-n.needs.items ≡ rounded_need c.args.step c.loop-n.n =
@@ -61,8 +72,10 @@ loop-n-preserved c = record {
 pub invariant_of-result : goal.invariant_of-result
 invariant_of-result c =
     rw (c.in_ok-push-4.ensures.items, c.in_ok-push-5.ensures.items)
-    (built-end c.args.profile.now.counts c.args.step c.loop-n.n c.loop-n.total c.loop-n.total_bytes c.loop-n.needs.items c.loop-n.counted.items c.loop-n.bytes.items
-    c.requires (c.loop-n.invariant.are_counts (omega arith)) (omega (arith, (c.loop-n.invariant.are_counts (omega arith)).sizes)) c.loop-n.invariant.built)
+    (built-end c.args.profile.now.counts c.args.step c.loop-n.n c.loop-n.total c.loop-n.total_bytes c.loop-n.needs.items
+    c.loop-n.counted.items c.loop-n.bytes.items
+    c.requires (c.loop-n.invariant.are_counts (omega arith)) (omega (arith, (c.loop-n.invariant.are_counts (omega arith)).sizes))
+    c.loop-n.invariant.built)
 
 pub returns-clause-valid : goal.returns-clause-valid
 returns-clause-valid c = record { is_step = c.requires; are_counts = c.loop-n.invariant.are_counts (omega arith) }

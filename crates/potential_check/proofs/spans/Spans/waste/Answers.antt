@@ -4,7 +4,8 @@ use Rattle.potential_check.proofs.SpanSums.{HasSpanSums, span_sums}
 use Rattle.tuner_theory.specs.Spans.{span_waste}
 use Rattle.potential_check.proofs.spans.Spans.waste.Goals as goal
 
-facts : (c : goal.After-bytes_up_to-bytes) → HasSpanSums (span_waste c.args.self.now.counts c.args.self.now.step c.args.i c.args.j) c.need.result
+facts : (c : goal.After-bytes_up_to-bytes) →
+    HasSpanSums (span_waste c.args.self.now.counts c.args.self.now.step c.args.i c.args.j) c.need.result
     c.requests_up_to-requests_before.result c.requests_up_to-requests.result c.bytes_up_to-bytes_before.result c.bytes_up_to-bytes.result
 facts c =
     rw (
@@ -35,4 +36,5 @@ pub returns-clause-small : goal.returns-clause-small
 returns-clause-small c =
     let counted = c.requests_up_to-requests.ensures.valid in
     subst (λ waste. waste < 2 ^ 58) (sym (returns-clause-waste c))
-    (spans_fit c.args.self.now.counts c.args.self.now.step c.args.i c.args.j counted.is_step counted.are_counts c.requires.order c.requires.within)
+    (spans_fit c.args.self.now.counts c.args.self.now.step c.args.i c.args.j counted.is_step counted.are_counts c.requires.order
+    c.requires.within)

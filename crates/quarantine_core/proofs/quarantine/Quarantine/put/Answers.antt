@@ -15,7 +15,8 @@ pub returns-clause-queued : goal.returns-clause-queued
 returns-clause-queued c = λ queue old.
     let front : c.self.inside.front ≡ c.args.self.now.front = ap (λ q. q.front) c.self.view_is in
     let back : c.args.self.now.back ≡ c.self.inside.back = sym (ap (λ q. q.back) c.self.view_is) in
-    let held : c.self.inside.held + c.from.result ≡ c.args.self.now.held + c.args.bytes = omega (arith, ap (λ q. q.held) c.self.view_is, c.from.ensures) in
+    let held : c.self.inside.held + c.from.result ≡ c.args.self.now.held + c.args.bytes =
+    omega (arith, ap (λ q. q.held) c.self.view_is, c.from.ensures) in
     elim c.if-self-eq0.branch [
       | then-self-eq0 w ↦
           rw (w.self-inside-is, w.memory-is)
@@ -25,7 +26,8 @@ returns-clause-queued c = λ queue old.
           rw (w.self-inside-is, w.memory-is)
           (put_at_end c.args.self.now _ c.args.layout.now c.args.memory.now w.set_link.new.memory queue (c.self.inside.back - 1) c.args.slot
           (c.args.slot + 1) c.args.bytes old
-          (omega (arith, back, w.if-self-eq0.false)) w.set_link.ensures.link (omega arith) c.requires.slot (c.requires.outside queue old) c.requires.next c.requires.bytes
+          (omega (arith, back, w.if-self-eq0.false)) w.set_link.ensures.link (omega arith) c.requires.slot (c.requires.outside queue old)
+          c.requires.next c.requires.bytes
           front (omega arith) held)
     ]
 
@@ -45,7 +47,8 @@ returns-clause-lists c = λ front list within outside linked.
       | then-self-eq0 w ↦ rw w.memory-is linked
       | else-self-eq0 w ↦
           rw w.memory-is
-          (w.set_link.ensures.link.lists front list within (λ there. outside (c.self.inside.back - 1) there (omega (arith, back, w.if-self-eq0.false))) linked)
+          (w.set_link.ensures.link.lists front list within
+          (λ there. outside (c.self.inside.back - 1) there (omega (arith, back, w.if-self-eq0.false))) linked)
     ]
 
 pub returns-clause-linked : goal.returns-clause-linked

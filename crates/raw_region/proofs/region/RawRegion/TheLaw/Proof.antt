@@ -28,5 +28,7 @@ shares =
     (copy_shared RawPtr-field RawPtr-copy, (copy_shared usize-field usize-copy, (heap.the_field_shared, tt)))
     (λ M 𝓤 𝓛 d p.
     let l = C.the_row.lives in
-    Lends-first 𝓛 (lies_at (Array u8 d.len) full_share d.ptr d.bytes) (ghosts.dealloc_token d.alloc (array_of u8 d.len) d.ptr) (lent_at (Array u8 d.len) d.ptr d.bytes) l
-    (Lends-lies 𝓛 (Array u8 d.len) l d.ptr d.bytes (Shares-Array 𝓛 u8 tt d.len l (Shares-less 𝓛 u8 u8.lives l (⊑_static l) (byte_laws.shares 𝓛)) d.bytes)))
+    Lends-first 𝓛 (lies_at (Array u8 d.len) full_share d.ptr d.bytes) (ghosts.dealloc_token d.alloc (array_of u8 d.len) d.ptr)
+    (lent_at (Array u8 d.len) d.ptr d.bytes) l
+    (Lends-lies 𝓛 (Array u8 d.len) l d.ptr d.bytes
+    (Shares-Array 𝓛 u8 tt d.len l (Shares-less 𝓛 u8 u8.lives l (⊑_static l) (byte_laws.shares 𝓛)) d.bytes)))

@@ -32,24 +32,28 @@ drop_spec 𝓤 𝓛 𝓜 𝓡 wired =
     let n = h.len in let most = h.in_range.1 in let fl : n < 2 ^ 64 = omega arith in
     -- [the bytes; the right to free them]
     keep ! (0 ∷ 1 ∷ []) $ regoal ! (λ (ws : List Val). prop (WpFn 𝓤 𝓛.H 𝓣.C 𝓣.Λ code.function (ws ++ []) Post)) is refl $
-    enter ! 𝓣.C 𝓣.Λ code.function (words h b o) Post $ alloc_all ! (λ l. pass_all ! refl ((tt, (tt, (record { fits = fl }, (((tt, tt), tt), tt)))), tt) $
+    enter ! 𝓣.C 𝓣.Λ code.function (words h b o) Post $
+    alloc_all ! (λ l. pass_all ! refl ((tt, (tt, (record { fits = fl }, (((tt, tt), tt), tt)))), tt) $
     sets ! (of_opd ! (get_in ! (fld ! refl (stop !)) (sub ! 0 refl (whole !)))) refl (tt, tt) $
     sets ! (of_opd ! (get_in ! (fld ! refl (stop !)) (sub ! 1 refl (whole !)))) refl (tt, record { fits = fl }) $
     sets ! (of_opd ! (get_in ! (fld ! refl (stop !)) (sub ! 2 refl (whole !)))) refl (tt, ((tt, tt), tt)) $
     first ! $ blocks ! $
     sets ! (addr ! (from ! (stop !))) refl (tt, tt) $
     let long : length xs ≡ n = sym (h.counted ∙ ap length same) in let τ = array_of u8 n in
-    use1 𝓛 (‵ (froom (ty_array (ty_int w8) (length xs)) b o)) (bytes-room 𝓛 xs b o) $ rewrite ! 0 (λ (k : ℕ). ‵ (froom (ty_array (ty_int w8) k) b o)) long refl $
+    use1 𝓛 (‵ (froom (ty_array (ty_int w8) (length xs)) b o)) (bytes-room 𝓛 xs b o) $
+    rewrite ! 0 (λ (k : ℕ). ‵ (froom (ty_array (ty_int w8) k) b o)) long refl $
     rewrite ! 1 (λ (p : Ptr). ‵ (ghosts.dealloc_token h.alloc τ p)) e refl $
     take_at ! 4 $ lends_handle ! tt h.alloc (l 4) 0 (λ m.
     -- [a `&` to the handle; its token; the way back; room; the right to free]
     let D = Deallocates 𝓛 𝓜.mem 𝓡.returns (m ∷ []) full_share (l 4) 0 h.alloc n 1 τ b o in
     let y : D.Ghost = deallocates 𝓛 𝓜.mem 𝓡.returns (m ∷ []) full_share (l 4) 0 h.alloc n 1 τ b o in
     move ! (3 ∷ 4 ∷ 0 ∷ 1 ∷ 2 ∷ []) $ group ! 4 $
-    use1 𝓛 (raw (D.pre y)) (deallocate_goes 𝓛 𝓜.mem 𝓡.returns (m ∷ []) full_share (l 4) 0 h.alloc n 1 τ b o (capped_is (n * 1) (omega arith) ∙ omega arith, refl) fl (lit< tt)) $
+    use1 𝓛 (raw (D.pre y)) (deallocate_goes 𝓛 𝓜.mem 𝓡.returns (m ∷ []) full_share (l 4) 0 h.alloc n 1 τ b o
+    (capped_is (n * 1) (omega arith) ∙ omega arith, refl) fl (lit< tt)) $
     calls_at_last ! (framed 𝓤 𝓛.H 𝓜 𝓣) D (met 𝓤 𝓛 𝓜 𝓡 (code.calls-std_heap::GlobalAllocator::deallocate 𝓡.env wired)) y
     (and_then ! (get ! refl) (and_then ! (get ! refl) (and_then ! (get ! refl) (and_then ! (lit ! tt) (no_more !))))) (λ v.
-    use1 𝓛 (later (given (v ≡ vunit) (‵ (flft (m ∷ []) full_share)))) (deallocate_gives 𝓛 𝓜.mem 𝓡.returns (m ∷ []) full_share (l 4) 0 h.alloc n 1 τ b o v) $ await ! tt $ learn ! (λ told.
+    use1 𝓛 (later (given (v ≡ vunit) (‵ (flft (m ∷ []) full_share))))
+    (deallocate_gives 𝓛 𝓜.mem 𝓡.returns (m ∷ []) full_share (l 4) 0 h.alloc n 1 τ b o v) $ await ! tt $ learn ! (λ told.
     takes_handle ! tt h.alloc (l 4) 0 m $ give_at ! 4 $
     lands_last ! refl (subst (λ (u : Val). T (has_ty ty_unit u) × WT u) (sym told) (tt, tt)) $
     exec ! 𝓣.C 𝓣.Λ (env code.Mir.locals l) code.Mir.t-5 (at_ret _ Post) $

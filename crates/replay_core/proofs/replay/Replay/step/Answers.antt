@@ -5,7 +5,7 @@ use Rattle.class_table.specs.Layout.{Partition}
 use Rattle.class_table.specs.Tables.{IsLegalTable}
 use Rattle.heap_theory.specs.Report.{report_line}
 use Rattle.heap_theory.specs.declared.event.Event.{Event}
-use Rattle.heap_theory.specs.Run.{Replay, heap_after, variables_after, answer_of}
+use Rattle.heap_theory.specs.Run.{Replay, heap_after, replay_after, variables_after, answer_of}
 use Rattle.heap_theory.specs.Totals.{Totals, totals_after}
 use Rattle.heap_theory.specs.State.{Heap}
 use Rattle.replay_core.specs.Abstraction.{stored}
@@ -24,38 +24,59 @@ perform-answer-requires-clause-variables c =
     (record { long = c.self.invariant.long; tagged = null_or_tagged (stored c.self.inside) c.self.invariant.reached })
 
 -- no event changes the classes
-classes_stay : (replay : Replay) (event : Event) (after : Heap) → after ≡ heap_after replay event → after.layout.classes ≡ replay.heap.layout.classes
+classes_stay : (replay : Replay) (event : Event) (after : Heap) → after ≡ heap_after replay event →
+    after.layout.classes ≡ replay.heap.layout.classes
 classes_stay replay event after is = ap (λ (h : Heap). h.layout.classes) is ∙ ap (λ (l : Partition). l.classes) (layout_after replay event)
 
 pub count-requires-clause-legal : goal.count-requires-clause-legal
+unfolding replay_after
 count-requires-clause-legal c =
-    let heap_is = c.perform-answer.ensures.state ∙ ap (λ vs. heap_after (over c.self.inside.heap.state vs) c.args.event.now) c.deref_mut.ensures.value in
-    subst (IsLegalTable 1) (sym (classes_stay (stored c.self.inside).replay c.args.event.now c.perform-answer.new.heap.state heap_is)) c.self.invariant.legal
+    let heap_is =
+    ap (λ (r : Replay). r.heap) c.perform-answer.ensures.after
+    ∙ ap (λ vs. heap_after (over c.self.inside.heap.state vs) c.args.event.now) c.deref_mut.ensures.value in
+    subst (IsLegalTable 1) (sym (classes_stay (stored c.self.inside).replay c.args.event.now c.perform-answer.new.heap.state heap_is))
+    c.self.invariant.legal
 
 -- ---- the parts, after the event
 
 module _ (c : goal.After-write_line) where
   variables_are : c.perform-answer.new.variables ≡ variables_after (stored c.self.inside).replay c.args.event.now
-  variables_are = c.perform-answer.ensures.variables ∙ ap (λ vs. variables_after (over c.self.inside.heap.state vs) c.args.event.now) c.deref_mut.ensures.value
+  unfolding replay_after
+  variables_are =
+      ap (λ (r : Replay). r.variables) c.perform-answer.ensures.after
+      ∙ ap (λ vs. variables_after (over c.self.inside.heap.state vs) c.args.event.now) c.deref_mut.ensures.value
 
   heap_is : c.perform-answer.new.heap.state ≡ heap_after (stored c.self.inside).replay c.args.event.now
-  heap_is = c.perform-answer.ensures.state ∙ ap (λ vs. heap_after (over c.self.inside.heap.state vs) c.args.event.now) c.deref_mut.ensures.value
+  unfolding replay_after
+  heap_is =
+      ap (λ (r : Replay). r.heap) c.perform-answer.ensures.after
+      ∙ ap (λ vs. heap_after (over c.self.inside.heap.state vs) c.args.event.now) c.deref_mut.ensures.value
 
   classes_are : c.perform-answer.new.heap.state.layout.classes ≡ c.self.inside.heap.state.layout.classes
   classes_are = classes_stay (stored c.self.inside).replay c.args.event.now c.perform-answer.new.heap.state heap_is
 
   answer_is : shown c.perform-answer.new.bytes c.perform-answer.result ≡ answer_of (stored c.self.inside).replay c.args.event.now
-  answer_is = c.perform-answer.ensures.answer ∙ ap (λ vs. answer_of (over c.self.inside.heap.state vs) c.args.event.now) c.deref_mut.ensures.value
+  answer_is =
+      c.perform-answer.ensures.answer ∙ ap (λ vs. answer_of (over c.self.inside.heap.state vs) c.args.event.now) c.deref_mut.ensures.value
 
   items_are : (with_items c.self.inside.variables c.perform-answer.new.variables).items ≡ c.perform-answer.new.variables
-  items_are = with_items_is c.self.inside.variables c.perform-answer.new.variables (c.perform-answer.auto.variables ∙ c.deref_mut.ensures.len)
+  items_are =
+      with_items_is c.self.inside.variables c.perform-answer.new.variables (c.perform-answer.auto.variables ∙ c.deref_mut.ensures.len)
 
-  counted : totals_in c.count.new.self ≡ totals_after c.perform-answer.new.heap.state.layout.classes (stored c.self.inside).totals (c.args.event.now, shown c.perform-answer.new.bytes c.perform-answer.result)
+  counted : totals_in c.count.new.self
+      ≡ totals_after c.perform-answer.new.heap.state.layout.classes (stored c.self.inside).totals
+      (c.args.event.now, shown c.perform-answer.new.bytes c.perform-answer.result)
   counted = c.count.ensures.counted c.perform-answer.new.bytes
 
-  stored_is : record { replay = over c.perform-answer.new.heap.state (with_items c.self.inside.variables c.perform-answer.new.variables).items; totals = totals_in c.count.new.self } ≡ stored_after (stored c.self.inside) c.args.event.now
+  stored_is : record {
+    replay = over c.perform-answer.new.heap.state
+        (with_items c.self.inside.variables c.perform-answer.new.variables).items;
+    totals = totals_in c.count.new.self;
+  }
+      ≡ stored_after (stored c.self.inside) c.args.event.now
   stored_is =
-      stored_in_parts (stored c.self.inside) c.args.event.now c.perform-answer.new.heap.state _ (totals_in c.count.new.self) c.perform-answer.new.heap.state.layout.classes (shown c.perform-answer.new.bytes c.perform-answer.result)
+      stored_in_parts (stored c.self.inside) c.args.event.now c.perform-answer.new.heap.state _ (totals_in c.count.new.self)
+      c.perform-answer.new.heap.state.layout.classes (shown c.perform-answer.new.bytes c.perform-answer.result)
       heap_is (items_are ∙ variables_are) answer_is classes_are counted
 
   events_are : c.count.new.self.events ≡ c.self.inside.totals.events + 1
@@ -81,4 +102,5 @@ invariant_of-self c = record {
 }
 
 pub returns-clause-run : goal.returns-clause-run
-returns-clause-run c run same = run_goes_on run c.args.self.now c.args.event.now same ∙ sym (ap (λ (s : Stored). s.replay) (returns-clause-stored c))
+returns-clause-run c run same =
+    run_goes_on run c.args.self.now c.args.event.now same ∙ sym (ap (λ (s : Stored). s.replay) (returns-clause-stored c))

@@ -16,5 +16,7 @@ returns c =
     (total_line (codes "faults unmapped") c.args.self.now.faults_unmapped)
     (total_line (codes "refused frees") c.args.self.now.refused_frees)
     (total_line (codes "loss") c.args.self.now.loss)
-    _ _ _ _ _ _ _ _ _ _ c.clear.ensures c.append_total.ensures.items c.append_total-2.ensures.items c.append_total-3.ensures.items c.append_total-4.ensures.items
-    c.append_total-5.ensures.items c.append_total-6.ensures.items c.append_total-7.ensures.items c.append_total-8.ensures.items c.append_total-9.ensures.items
+    _ _ _ _ _ _ _ _ _ _ c.clear.ensures c.append_total.ensures.items c.append_total-2.ensures.items c.append_total-3.ensures.items
+    c.append_total-4.ensures.items
+    c.append_total-5.ensures.items c.append_total-6.ensures.items c.append_total-7.ensures.items c.append_total-8.ensures.items
+    c.append_total-9.ensures.items

@@ -3,7 +3,7 @@ use Rattle.std.proofs.Common.{refl, ap}
 use Rattle.std.proofs.lemmas.Bool.{ne_eqb}
 use Rattle.std.proofs.lemmas.Result.{err_from_is_err_and}
 use Rattle.heap_theory.specs.Calls.{free_step}
-use Rattle.tagged_heap.specs.HeapView.{Counted}
+use Rattle.tagged_heap.specs.HeapView.{HeapAndFrees}
 use Rattle.tagged_heap.proofs.CallSteps.{free_accepted}
 use Rattle.tagged_heap.proofs.heap.Heap.free.Goals as goal
 
@@ -19,10 +19,10 @@ returns-clause-answer c = rw (ne_eqb c.args.p 0 c.if-p-eq0.false, c.in_ok-chunk.
 
 pub returns-clause-state : goal.returns-clause-state
 unfolding free_step
-returns-clause-state c = rw (c.release.ensures, ne_eqb c.args.p 0 c.if-p-eq0.false, c.in_ok-chunk.ensures.ok) refl
+returns-clause-state c = rw (c.free_chunk.ensures, ne_eqb c.args.p 0 c.if-p-eq0.false, c.in_ok-chunk.ensures.ok) refl
 
 pub returns-clause-counted : goal.returns-clause-counted
-returns-clause-counted c = λ _. ap (λ (x : Counted). x.frees) c.release.ensures
+returns-clause-counted c = λ _. ap (λ (x : HeapAndFrees). x.frees) c.free_chunk.ensures
 
 -- what is answered is the definition's answer, of which the law speaks
 pub returns-in_err-chunk-clause-accepted : goal.returns-in_err-chunk-clause-accepted

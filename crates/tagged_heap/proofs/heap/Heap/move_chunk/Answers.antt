@@ -24,8 +24,8 @@ copy_payload-requires-clause-target c =
     let room = (laws.request _ _ _ c.allocate.ensures.sound (sym c.in_ok-given.ensures.slot)).room in
     rw (c.in_ok-given.ensures.given, same_slot) (omega (arith, room, c.min.ensures))
 
-pub release-requires-clause-live : goal.release-requires-clause-live
-release-requires-clause-live c =
+pub free_chunk-requires-clause-live : goal.free_chunk-requires-clause-live
+free_chunk-requires-clause-live c =
     let given = laws.request _ _ _ c.allocate.ensures.sound (sym c.in_ok-given.ensures.slot) in
     rw (c.copy_payload.ensures, c.in_ok-given.ensures.given) (chunk_written _ _ _ _ (chunk_stays _ _ _ _ c.requires.live given.reusable))
 
@@ -41,5 +41,5 @@ returns-clause-ok c =
       c.in_ok-given.given.slot,
       sym c.in_ok-given.ensures.slot,
       c.in_ok-given.ensures.address,
-      rw (c.release.ensures, c.copy_payload.ensures, c.in_ok-given.ensures.given, bytes, c.min.ensures) refl,
+      rw (c.free_chunk.ensures, c.copy_payload.ensures, c.in_ok-given.ensures.given, bytes, c.min.ensures) refl,
     )

@@ -9,19 +9,19 @@ use Rattle.heap_theory.specs.HeapInMemory.{HaveSameSlots}
 use Rattle.heap_theory.proofs.HeaderWords.{class_number-is}
 use Rattle.heap_theory.proofs.HeadersAgree.{header_words_stay}
 use Rattle.tagged_heap.specs.Abstraction.{state_of, seen, parts_of}
-use Rattle.tagged_heap.specs.HeapView.{Counted, shown_heap, IsHeldIn}
+use Rattle.tagged_heap.specs.HeapView.{HeapAndFrees, shown_heap, IsHeldIn}
 use Rattle.tagged_heap.proofs.PayloadWritten.{access_spared, tagged_access, fault_cases, written_held, written_shown}
 use Rattle.tagged_heap.proofs.heap.Heap.store.Goals as goal
 use Rattle.tagged_heap.proofs.heap.Heap.store.Goals.{After-store}
 
 -- what is seen of the heap around this machine
-abbrev around : After-store → Machine → Counted
+abbrev around : After-store → Machine → HeapAndFrees
 around c machine = record {
   state = shown_heap c.self.inside.layout c.self.inside.quarantine.limit machine.memory c.self.inside.total machine.seed machine.tag;
   frees = c.self.inside.frees;
 }
 
-abbrev with_stored : After-store → Counted → Counted
+abbrev with_stored : After-store → HeapAndFrees → HeapAndFrees
 with_stored c v = record v { state = record v.state { memory = stored v.state.memory c.args.address c.args.bytes.now } }
 
 -- a store that succeeds
@@ -82,10 +82,10 @@ returns-clause-headers c =
       | inr some ↦ rw (machine_stays c some.0 some.1) (record { layout = refl; states = refl; total = refl; quarantine = refl })
     ]))
   where
-    same : (v : Counted) → around c c.store.new.self ≡ with_stored c v → HaveSameSlots v.state (around c c.store.new.self).state
+    same : (v : HeapAndFrees) → around c c.store.new.self ≡ with_stored c v → HaveSameSlots v.state (around c c.store.new.self).state
     same v e = record {
-      layout = ap (λ (v : Counted). v.state.layout) e;
-      states = ap (λ (v : Counted). v.state.states) e;
-      total = ap (λ (v : Counted). v.state.total) e;
-      quarantine = ap (λ (v : Counted). v.state.quarantine) e;
+      layout = ap (λ (v : HeapAndFrees). v.state.layout) e;
+      states = ap (λ (v : HeapAndFrees). v.state.states) e;
+      total = ap (λ (v : HeapAndFrees). v.state.total) e;
+      quarantine = ap (λ (v : HeapAndFrees). v.state.quarantine) e;
     }

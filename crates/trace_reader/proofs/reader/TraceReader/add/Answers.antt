@@ -5,19 +5,24 @@ use Rattle.trace_reader.proofs.reader.TraceReader.add.Goals as goal
 pub returns-then-is_err : goal.returns-then-is_err
 returns-then-is_err c =
     let i = c.self.inside in
-    let kept : c.push_back.new.self.items ≡ i.events.items = c.push_back.ensures.items ∙ rw (c.is_err.ensures.negation, c.if-is_err.true) refl in
+    let kept : c.push_back.new.self.items ≡ i.events.items =
+    c.push_back.ensures.items ∙ rw (c.is_err.ensures.negation, c.if-is_err.true) refl in
     rw c.in-Ok.is
-    (judged_memory c.args.self.now c.fail.new.self i.events.items i.lines i.rest.items i.status c.in-Ok.event c.fail.result c.self.view_is c.requires.open (c.fail.ensures.failed ∙ rw kept refl) c.fail.ensures.answer)
+    (judged_memory c.args.self.now c.fail.new.self i.events.items i.lines i.rest.items i.status c.in-Ok.event c.fail.result c.self.view_is
+    c.requires.open (c.fail.ensures.failed ∙ rw kept refl) c.fail.ensures.answer)
 
 pub returns-else-is_err : goal.returns-else-is_err
 returns-else-is_err c =
     let i = c.self.inside in
-    let more : c.push_back.new.self.items ≡ i.events.items ++ c.in-Ok.event ∷ [] = c.push_back.ensures.items ∙ rw (c.is_err.ensures.negation, c.if-is_err.false) refl in
+    let more : c.push_back.new.self.items ≡ i.events.items ++ c.in-Ok.event ∷ [] =
+    c.push_back.ensures.items ∙ rw (c.is_err.ensures.negation, c.if-is_err.false) refl in
     rw c.in-Ok.is
-    (judged_event c.args.self.now i.events.items i.lines i.rest.items i.status c.in-Ok.event c.push_back.new.self.items c.clear.new.self.items c.self.view_is c.requires.open more c.clear.ensures)
+    (judged_event c.args.self.now i.events.items i.lines i.rest.items i.status c.in-Ok.event c.push_back.new.self.items
+    c.clear.new.self.items c.self.view_is c.requires.open more c.clear.ensures)
 
 pub returns-in-Err : goal.returns-in-Err
 returns-in-Err c =
     let i = c.fail-in-Err.inside in
     rw c.in-Err.is
-    (judged_fault c.args.self.now c.fail-in-Err-2.new.self i.events.items i.lines i.rest.items i.status c.in-Err.fault c.fail-in-Err-2.result c.fail-in-Err.view_is c.requires.open c.fail-in-Err-2.ensures.failed c.fail-in-Err-2.ensures.answer)
+    (judged_fault c.args.self.now c.fail-in-Err-2.new.self i.events.items i.lines i.rest.items i.status c.in-Err.fault
+    c.fail-in-Err-2.result c.fail-in-Err.view_is c.requires.open c.fail-in-Err-2.ensures.failed c.fail-in-Err-2.ensures.answer)

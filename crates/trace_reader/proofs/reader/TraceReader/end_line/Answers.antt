@@ -15,7 +15,8 @@ returns-in_err-keep c =
     let answer = c.in_err-keep.ensures.answer ∙ ap (λ (r : Reading). answer_of r.state) kept in
     let long = line_ended-long old end error c.requires.open c.requires.line answer in
     let p = err_from_is_err_and c.from_residual.result c.from_residual.ensures.1 in
-    rw (p.1, p.2) (came old (line_ended old end) c.keep.new.self (Err error) (kept ∙ long) (answer ∙ ap (λ (r : Reading). answer_of r.state) long) (IsFrontOf-ended old end))
+    rw (p.1, p.2) (came old (line_ended old end) c.keep.new.self (Err error) (kept ∙ long)
+    (answer ∙ ap (λ (r : Reading). answer_of r.state) long) (IsFrontOf-ended old end))
 
 pub judge_rest-requires : goal.judge_rest-requires
 judge_rest-requires c =
@@ -30,5 +31,7 @@ returns c =
     let kept = c.in_ok-keep.ensures.reading in
     let answer = c.in_ok-keep.ensures.answer ∙ ap (λ (r : Reading). answer_of r.state) kept in
     let same = ap (λ (r : Reading). line_ended r []) kept ∙ line_ended-kept old end c.requires.open c.requires.line answer in
-    let front = IsFrontOf-trans old.events (fed old end).events mid.events (IsFrontOf-fed old end) (IsFrontOf-is _ _ (sym (ap (λ (r : Reading). r.events) kept))) in
+    let front =
+    IsFrontOf-trans old.events (fed old end).events mid.events (IsFrontOf-fed old end)
+    (IsFrontOf-is _ _ (sym (ap (λ (r : Reading). r.events) kept))) in
     reached_from old mid (line_ended mid []) (line_ended old end) c.judge_rest.new.self c.judge_rest.result same front c.judge_rest.ensures

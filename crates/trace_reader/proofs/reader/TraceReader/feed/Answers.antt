@@ -9,7 +9,8 @@ use Rattle.trace_reader.proofs.reader.TraceReader.feed.Goals as goal
 pub returns-in-Failed-clause-reading : goal.returns-in-Failed-clause-reading
 returns-in-Failed-clause-reading c =
     let i = c.self.inside in
-    λ other. sym (fed-failed c.args.self.now c.in-Failed.error c.args.piece.now (state_failed c.args.self.now i.events.items i.lines i.rest.items i.status c.in-Failed.error c.self.view_is c.in-Failed.is))
+    λ other. sym (fed-failed c.args.self.now c.in-Failed.error c.args.piece.now
+    (state_failed c.args.self.now i.events.items i.lines i.rest.items i.status c.in-Failed.error c.self.view_is c.in-Failed.is))
 
 pub returns-in-Failed-clause-front : goal.returns-in-Failed-clause-front
 returns-in-Failed-clause-front c = IsFrontOf-fed c.args.self.now c.args.piece.now
@@ -22,9 +23,18 @@ returns-in_err-end_line c =
     let after = c.in-Some.after.now in
     let rest = c.loop-line.invariant.rest ∙ ap (fed mid) c.in-Some.ensures.cut in
     let p = err_from_is_err_and c.from_residual.result c.from_residual.ensures.1 in
-    let r = failed_on_the_way old mid c.end_line.new.self c.in_err-end_line.field-0.0 c.args.piece.now line after c.loop-line.invariant.still_open c.in-Some.ensures.line rest c.loop-line.invariant.kept c.in_err-end_line.ensures in
+    let r =
+    failed_on_the_way old mid c.end_line.new.self c.in_err-end_line.field-0.0 c.args.piece.now line after
+    c.loop-line.invariant.still_open c.in-Some.ensures.line rest c.loop-line.invariant.kept c.in_err-end_line.ensures in
     let open_now : is_open old ≡ true = search rules in
-    rw (p.1, p.2) (record { answer = r.answer; failed = unchanged_if_failed old c.end_line.new.self open_now; reading = r.reading; kept = r.kept; front = r.front; unfinished = unfinished_after old c.end_line.new.self c.args.piece.now (Err c.in_err-end_line.field-0.0) c.requires r })
+    rw (p.1, p.2) (record {
+      answer = r.answer;
+      failed = unchanged_if_failed old c.end_line.new.self open_now;
+      reading = r.reading;
+      kept = r.kept;
+      front = r.front;
+      unfinished = unfinished_after old c.end_line.new.self c.args.piece.now (Err c.in_err-end_line.field-0.0) c.requires r;
+    })
 
 pub loop-line-preserved : goal.loop-line-preserved
 loop-line-preserved c =
@@ -37,7 +47,10 @@ loop-line-preserved c =
     let answer = reached.answer ∙ ap (λ (r : Reading). answer_of r.state) now in
     record {
       still_open = rw now (is_open-ended mid line c.loop-line.invariant.still_open answer);
-      rest = c.loop-line.invariant.rest ∙ ap (fed mid) c.in-Some.ensures.cut ∙ fed-after mid line after c.loop-line.invariant.still_open c.in-Some.ensures.line ∙ ap (λ (r : Reading). fed r after) (sym now);
+      rest =
+          c.loop-line.invariant.rest ∙ ap (fed mid) c.in-Some.ensures.cut
+          ∙ fed-after mid line after c.loop-line.invariant.still_open c.in-Some.ensures.line
+          ∙ ap (λ (r : Reading). fed r after) (sym now);
       kept = IsFrontOf-trans old.events mid.events c.end_line.new.self.events c.loop-line.invariant.kept reached.kept;
     }
 
@@ -45,6 +58,15 @@ pub returns : goal.returns
 returns c =
     let old = c.args.self.now in
     let now = c.keep.ensures.reading ∙ sym c.loop-line.invariant.rest in
-    let r = came old (fed old c.args.piece.now) c.keep.new.self c.keep.result now (c.keep.ensures.answer ∙ ap (λ (r : Reading). answer_of r.state) now) (IsFrontOf-fed old c.args.piece.now) in
+    let r =
+    came old (fed old c.args.piece.now) c.keep.new.self c.keep.result now
+    (c.keep.ensures.answer ∙ ap (λ (r : Reading). answer_of r.state) now) (IsFrontOf-fed old c.args.piece.now) in
     let open_now : is_open old ≡ true = search rules in
-    record { answer = r.answer; failed = unchanged_if_failed old c.keep.new.self open_now; reading = r.reading; kept = r.kept; front = r.front; unfinished = unfinished_after old c.keep.new.self c.args.piece.now c.keep.result c.requires r }
+    record {
+      answer = r.answer;
+      failed = unchanged_if_failed old c.keep.new.self open_now;
+      reading = r.reading;
+      kept = r.kept;
+      front = r.front;
+      unfinished = unfinished_after old c.keep.new.self c.args.piece.now c.keep.result c.requires r;
+    }

@@ -11,7 +11,8 @@ use Rattle.trace_reader.proofs.reader.TraceReader.finish.Goals.{then-not-is_empt
 pub returns-in-Failed-clause-reading : goal.returns-in-Failed-clause-reading
 returns-in-Failed-clause-reading c =
     let i = c.self.inside in
-    λ other. sym (finished-failed c.args.self.now c.in-Failed.error (state_failed c.args.self.now i.events.items i.lines i.rest.items i.status c.in-Failed.error c.self.view_is c.in-Failed.is))
+    λ other. sym (finished-failed c.args.self.now c.in-Failed.error
+    (state_failed c.args.self.now i.events.items i.lines i.rest.items i.status c.in-Failed.error c.self.view_is c.in-Failed.is))
 
 pub returns-in-Failed-clause-front : goal.returns-in-Failed-clause-front
 returns-in-Failed-clause-front c = IsFrontOf-finished c.args.self.now
@@ -23,8 +24,18 @@ returns-in_err-judge_rest c =
     let open_now : is_open old ≡ true = search rules in
     let some = not_empty i.rest.items c.is_empty.result c.is_empty.ensures (search rules) in
     let p = err_from_is_err_and c.from_residual.result c.from_residual.ensures.1 in
-    let r = finish_failed old c.judge_rest.new.self i.events.items i.lines i.rest.items i.status c.in_err-judge_rest.field-0.0 c.self.view_is open_now some c.in_err-judge_rest.ensures in
-    rw (p.1, p.2) (record { answer = r.answer; failed = unchanged_if_failed old c.judge_rest.new.self open_now; reading = r.reading; kept = r.kept; front = r.front; finished = finished_after old c.judge_rest.new.self c.in_err-judge_rest.field-0.0 r; few = tt })
+    let r =
+    finish_failed old c.judge_rest.new.self i.events.items i.lines i.rest.items i.status c.in_err-judge_rest.field-0.0 c.self.view_is
+    open_now some c.in_err-judge_rest.ensures in
+    rw (p.1, p.2) (record {
+      answer = r.answer;
+      failed = unchanged_if_failed old c.judge_rest.new.self open_now;
+      reading = r.reading;
+      kept = r.kept;
+      front = r.front;
+      finished = finished_after old c.judge_rest.new.self c.in_err-judge_rest.field-0.0 r;
+      few = tt;
+    })
 
 pub returns : goal.returns
 returns c =
@@ -33,7 +44,19 @@ returns c =
     let open_now : is_open old ≡ true = search rules in
     let r : HasReached old (finished old) (record { events = c.self-2.inside.events.items; state = Finished }) (Ok tt) =
     elim c.if-not-is_empty.branch [
-      | then-not-is_empty+in_ok-judge_rest w ↦ finish_line old w.judge_rest.new.self i.events.items i.lines i.rest.items i.status c.self-2.inside.events.items c.self.view_is open_now (not_empty i.rest.items c.is_empty.result c.is_empty.ensures (search rules)) w.in_ok-judge_rest.ensures (ap (λ (r : Reading). r.events) (c.self-2.view_is ∙ w.self-is))
-      | else-not-is_empty w ↦ finish_empty old i.events.items i.lines i.rest.items i.status c.self-2.inside.events.items c.self.view_is open_now (eqb-true (length i.rest.items) 0 (sym c.is_empty.ensures ∙ search rules)) (ap (λ (r : Reading). r.events) (c.self-2.view_is ∙ w.self-is))
+      | then-not-is_empty+in_ok-judge_rest w ↦ finish_line old w.judge_rest.new.self i.events.items i.lines i.rest.items i.status
+          c.self-2.inside.events.items c.self.view_is open_now (not_empty i.rest.items c.is_empty.result c.is_empty.ensures (search rules))
+          w.in_ok-judge_rest.ensures (ap (λ (r : Reading). r.events) (c.self-2.view_is ∙ w.self-is))
+      | else-not-is_empty w ↦ finish_empty old i.events.items i.lines i.rest.items i.status c.self-2.inside.events.items c.self.view_is
+          open_now (eqb-true (length i.rest.items) 0 (sym c.is_empty.ensures ∙ search rules))
+          (ap (λ (r : Reading). r.events) (c.self-2.view_is ∙ w.self-is))
     ] in
-    record { answer = r.answer; failed = unchanged_if_failed old _ open_now; reading = r.reading; kept = r.kept; front = r.front; finished = refl; few = omega arith }
+    record {
+      answer = r.answer;
+      failed = unchanged_if_failed old _ open_now;
+      reading = r.reading;
+      kept = r.kept;
+      front = r.front;
+      finished = refl;
+      few = omega arith;
+    }

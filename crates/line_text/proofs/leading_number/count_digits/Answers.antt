@@ -1,24 +1,38 @@
 use Rattle.std.proofs.Common.{◌+◌, sym, ◌∙◌, arith}
 use Rattle.line_text.proofs.Digits.{one_more, digits_more, room_for_one}
 use Rattle.line_text.proofs.LeadingDigits.{leading_up_to, reaches}
-use Rattle.line_text.proofs.leading.count_digits.Goals as goal
+use Rattle.line_text.proofs.leading_number.count_digits.Goals as goal
 
-pub returns-then-end-eq-SHORT : goal.returns-then-end-eq-SHORT
-returns-then-end-eq-SHORT c =
+pub returns-then-end-eq-SHORT_DIGITS : goal.returns-then-end-eq-SHORT_DIGITS
+returns-then-end-eq-SHORT_DIGITS c =
     let text = c.args.text.now in
     let i = c.loop-byte.byte-index in
     let digit = sym c.is_ascii_digit.ensures.value ∙ c.if-not-is_ascii_digit.false in
-    omega (arith, reaches text (i + 1) (omega arith) (digits_more text i (omega arith) digit c.loop-byte.invariant.digits), c.if-end-eq-SHORT.true, c.loop-byte.invariant.end)
+    omega (
+      arith,
+      reaches text (i + 1) (omega arith) (digits_more text i (omega arith) digit c.loop-byte.invariant.digits),
+      c.if-end-eq-SHORT_DIGITS.true,
+      c.loop-byte.invariant.end,
+    )
 
 pub overflow_mul-value : goal.overflow_mul-value
 overflow_mul-value c =
     let digit = sym c.is_ascii_digit.ensures.value ∙ c.if-not-is_ascii_digit.false in
-    omega (arith, room_for_one c.args.text.now c.loop-byte.byte-index (omega arith) (omega (arith, c.if-end-eq-SHORT.false, c.loop-byte.invariant.end, c.loop-byte.invariant.few)) digit c.loop-byte.invariant.digits)
+    omega (
+      arith,
+      room_for_one c.args.text.now c.loop-byte.byte-index (omega arith)
+          (omega (arith, c.if-end-eq-SHORT_DIGITS.false, c.loop-byte.invariant.end, c.loop-byte.invariant.few)) digit
+          c.loop-byte.invariant.digits,
+    )
 
 pub overflow_add-value : goal.overflow_add-value
 overflow_add-value c =
     let digit = sym c.is_ascii_digit.ensures.value ∙ c.if-not-is_ascii_digit.false in
-    omega (arith, room_for_one c.args.text.now c.loop-byte.byte-index (omega arith) (omega arith) digit c.loop-byte.invariant.digits, c.from.ensures)
+    omega (
+      arith,
+      room_for_one c.args.text.now c.loop-byte.byte-index (omega arith) (omega arith) digit c.loop-byte.invariant.digits,
+      c.from.ensures,
+    )
 
 pub loop-byte-preserved : goal.loop-byte-preserved
 loop-byte-preserved c =
@@ -27,7 +41,7 @@ loop-byte-preserved c =
     let digit = sym c.is_ascii_digit.ensures.value ∙ c.if-not-is_ascii_digit.false in
     record {
       end = omega (arith, c.loop-byte.invariant.end);
-      few = omega (arith, c.if-end-eq-SHORT.false, c.loop-byte.invariant.end, c.loop-byte.invariant.few);
+      few = omega (arith, c.if-end-eq-SHORT_DIGITS.false, c.loop-byte.invariant.end, c.loop-byte.invariant.few);
       digits = digits_more text i (omega arith) digit c.loop-byte.invariant.digits;
       value = omega (arith, one_more text i (omega arith) digit, c.from.ensures);
     }
@@ -35,9 +49,11 @@ loop-byte-preserved c =
 pub returns-after-loop-byte : goal.returns-after-loop-byte
 returns-after-loop-byte c =
     let i = c.loop-byte.invariant in
-    leading_up_to c.args.text.now c.loop-byte.byte-index _ _ (omega arith) i.end i.few i.digits i.value (λ within. absurd (omega (arith, c.loop-byte-test.false, within)))
+    leading_up_to c.args.text.now c.loop-byte.byte-index _ _ (omega arith) i.end i.few i.digits i.value
+    (λ within. absurd (omega (arith, c.loop-byte-test.false, within)))
 
 pub returns-then-not-is_ascii_digit : goal.returns-then-not-is_ascii_digit
 returns-then-not-is_ascii_digit c =
     let i = c.loop-byte.invariant in
-    leading_up_to c.args.text.now c.loop-byte.byte-index _ _ (omega arith) i.end i.few i.digits i.value (λ within. sym c.is_ascii_digit.ensures.value ∙ c.if-not-is_ascii_digit.true)
+    leading_up_to c.args.text.now c.loop-byte.byte-index _ _ (omega arith) i.end i.few i.digits i.value
+    (λ within. sym c.is_ascii_digit.ensures.value ∙ c.if-not-is_ascii_digit.true)

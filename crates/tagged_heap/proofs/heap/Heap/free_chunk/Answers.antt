@@ -5,8 +5,8 @@ use Rattle.tagged_heap.specs.HeapView.{shown_heap}
 use Rattle.tagged_heap.specs.Representation.{IsKept}
 use Rattle.tagged_heap.proofs.Kept.{class_most}
 use Rattle.tagged_heap.proofs.TakingBack.{retire_room, can_be_put, kept_freed, freed_held, freed_shown}
-use Rattle.tagged_heap.proofs.heap.Heap.release.Goals as goal
-use Rattle.tagged_heap.proofs.heap.Heap.release.Goals.{After-put, After-from}
+use Rattle.tagged_heap.proofs.heap.Heap.free_chunk.Goals as goal
+use Rattle.tagged_heap.proofs.heap.Heap.free_chunk.Goals.{After-put, After-from}
 
 pub overflow_mul-bytes : goal.overflow_mul-bytes
 overflow_mul-bytes c =
@@ -40,23 +40,23 @@ put c =
     (rw c.memory_mut-memory.ensures.value at c.put.ensures.queued) c.put.ensures.value
     (rw c.memory_mut-memory.ensures.value at c.put.ensures.first) (rw c.memory_mut-memory.ensures.value at c.put.ensures.after)
 
-pub let_go-requires : goal.let_go-requires
+pub release_oldest-requires : goal.release_oldest-requires
 unfolding freed
-let_go-requires c = record {
-  kept = (freed (state_of c.self.inside) c.args.chunk.slot c.args.chunk.size, put (goal.at.let_go-requires c).After-put);
+release_oldest-requires c = record {
+  kept = (freed (state_of c.self.inside) c.args.chunk.slot c.args.chunk.size, put (goal.at.release_oldest-requires c).After-put);
 }
 
 -- after slots were released, the parts keep it
 kept : (c : After-from) → IsKept (freed (state_of c.self.inside) c.args.chunk.slot c.args.chunk.size)
-    (record { memory = c.let_go.new.memory; quarantine = c.let_go.new.quarantine; fronts = c.let_go.new.lists })
+    (record { memory = c.release_oldest.new.memory; quarantine = c.release_oldest.new.quarantine; fronts = c.release_oldest.new.lists })
 unfolding freed
 kept c =
-    c.let_go.ensures.kept (freed (state_of c.self.inside) c.args.chunk.slot c.args.chunk.size)
+    c.release_oldest.ensures.kept (freed (state_of c.self.inside) c.args.chunk.slot c.args.chunk.size)
     (put c.before.before.before.before.before.before)
 
 -- and show it
 shown : (c : After-from) →
-    shown_heap c.self.inside.layout c.let_go.new.quarantine.limit c.let_go.new.memory (c.self.inside.total + c.from.result)
+    shown_heap c.self.inside.layout c.release_oldest.new.quarantine.limit c.release_oldest.new.memory (c.self.inside.total + c.from.result)
     c.retire.new.machine.seed c.retire.new.machine.tag
     ≡ freed (state_of c.self.inside) c.args.chunk.slot c.args.chunk.size
 unfolding freed
@@ -72,7 +72,7 @@ invariant_of-self c =
     let chunk = rw (← c.self.view_is) at c.requires.live in
     rw (shown (goal.at.invariant_of-self c).After-from)
     (freed_held c.self.invariant c.args.chunk.slot c.args.chunk.size chunk.live.0 chunk.slot chunk.live.1
-    (rw (← c.self.view_is) at c.requires.few) (kept (goal.at.invariant_of-self c).After-from) c.let_go.ensures.held)
+    (rw (← c.self.view_is) at c.requires.few) (kept (goal.at.invariant_of-self c).After-from) c.release_oldest.ensures.held)
 
 pub returns : goal.returns
 unfolding freed

@@ -1,8 +1,8 @@
 use Rattle.std.proofs.Common.{refl, sym, subst}
 use Rattle.tagged_heap.specs.Representation.{IsKept}
 use Rattle.tagged_heap.proofs.Kept.{region_is}
-use Rattle.tagged_heap.proofs.LettingGo.{can_be_listed, let_go_step}
-use Rattle.tagged_heap.proofs.freeing.let_go.Goals as goal
+use Rattle.tagged_heap.proofs.ReleasingOldest.{can_be_listed, release_step}
+use Rattle.tagged_heap.proofs.freeing.release_oldest.Goals as goal
 
 pub next_out-requires-clause-region : goal.next_out-requires-clause-region
 next_out-requires-clause-region c = region_is (c.loop-slot.invariant c.requires.kept.0 c.requires.kept.1)
@@ -10,12 +10,13 @@ next_out-requires-clause-region c = region_is (c.loop-slot.invariant c.requires.
 pub next_out-requires-clause-linked : goal.next_out-requires-clause-linked
 next_out-requires-clause-linked c = let k = c.loop-slot.invariant c.requires.kept.0 c.requires.kept.1 in (k.queue, k.queued)
 
-pub list_freed-requires-clause-class : goal.list_freed-requires-clause-class
-list_freed-requires-clause-class c = can_be_listed (c.loop-slot.invariant c.requires.kept.0 c.requires.kept.1) c.in-Some.ensures.oldest
+pub list_released-requires-clause-class : goal.list_released-requires-clause-class
+list_released-requires-clause-class c = can_be_listed (c.loop-slot.invariant c.requires.kept.0 c.requires.kept.1) c.in-Some.ensures.oldest
 
 pub loop-slot-preserved : goal.loop-slot-preserved
 loop-slot-preserved c = λ heap before.
     subst (λ fronts. IsKept (record heap { layout = c.args.layout.now })
-    (record { memory = c.list_freed.new.memory; quarantine = c.next_out.new.self; fronts = fronts })) (sym c.list_freed.ensures.front)
-    (let_go_step (c.loop-slot.invariant heap before) c.in-Some.ensures.oldest (c.in-Some.ensures.over.0 refl) c.list_freed.ensures.header
-    c.list_freed.ensures.memory)
+    (record { memory = c.list_released.new.memory; quarantine = c.next_out.new.self; fronts = fronts })) (sym c.list_released.ensures.front)
+    (release_step (c.loop-slot.invariant heap before) c.in-Some.ensures.oldest (c.in-Some.ensures.over.0 refl)
+    c.list_released.ensures.header
+    c.list_released.ensures.memory)

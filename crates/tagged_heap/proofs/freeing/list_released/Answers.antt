@@ -5,7 +5,7 @@ use Rattle.heap_theory.specs.Header.{Header}
 use Rattle.heap_theory.specs.Header.Standing.{Freed}
 use Rattle.heap_theory.specs.State.{without_headers}
 use Rattle.tagged_heap.proofs.HeaderPlaces.{header_unseen, starts_differ}
-use Rattle.tagged_heap.proofs.freeing.list_freed.Goals as goal
+use Rattle.tagged_heap.proofs.freeing.list_released.Goals as goal
 
 -- the header is written as that of a freed slot, and then its link is set
 pub returns-clause-header : goal.returns-clause-header

@@ -1,6 +1,6 @@
 use Rattle.heap_theory.specs.State.{Heap}
 use Rattle.tagged_heap.specs.Representation.{IsKept}
-use Rattle.tagged_heap.proofs.freeing.let_go.Given as goal
+use Rattle.tagged_heap.proofs.freeing.release_oldest.Given as goal
 
 -- what was kept at the start is kept
 abbrev pub invariant-loop-slot : goal.invariant-loop-slot

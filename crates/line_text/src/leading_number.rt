@@ -4,7 +4,7 @@ ghost use Rattle.std.specs.Option.{option_map};
 ghost use Rattle.line_text.specs.Numbers.{leading_digits, leading_number_of};
 ghost use Rattle.line_text.specs.Pairs.{AreLeading};
 
-use crate::number::SHORT;
+use crate::number::SHORT_DIGITS;
 
 // the number that the digits at the start of a text spell, and the text after them; `None` if they spell none or are more than 19
 #[inline(always)]
@@ -25,8 +25,8 @@ fn digits_in_front(text: &[u8]) -> Option<(u64, usize)>
     ensures { AreLeading result text.now }
 {
     // The compiler unrolls the loop if the number of bytes is a constant.
-    if SHORT < text.len() {
-        count_digits(&text[..SHORT + 1])
+    if SHORT_DIGITS < text.len() {
+        count_digits(&text[..SHORT_DIGITS + 1])
     } else {
         count_digits(text)
     }
@@ -42,7 +42,7 @@ fn count_digits(text: &[u8]) -> Option<(u64, usize)>
         if !byte.is_ascii_digit() {
             break;
         }
-        if end == SHORT {
+        if end == SHORT_DIGITS {
             return None;
         }
         value = value * 10 + u64::from(*byte - b'0');

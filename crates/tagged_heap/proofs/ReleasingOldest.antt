@@ -15,7 +15,7 @@ use Rattle.heap_theory.proofs.Found.{Contains-cases}
 use Rattle.heap_theory.proofs.Marks.{one_mark, not_marked, chain_dead, chain_mark}
 use Rattle.quarantine_core.specs.Queue.{Queue, AreQueued, TakesOldest}
 use Rattle.tagged_heap.proofs.TheoryLemmas as laws
-use Rattle.tagged_heap.specs.Chunks.{IsListed}
+use Rattle.tagged_heap.specs.Chunks.{HasFront}
 use Rattle.tagged_heap.specs.Representation.{header_in, standing_from, header_from, IsRewritten, AreListed, Parts, IsKept}
 use Rattle.tagged_heap.proofs.Changed.{with_link, with_standing, listed_same, other_list}
 use Rattle.tagged_heap.proofs.HeaderPlaces.{header_unseen, starts_differ}
@@ -51,7 +51,7 @@ module _ {h : Heap} {p : Parts} (k : IsKept h p) {q1 : Queue} {m1 : List Granule
   in_lists : (header_in h.layout m1 s).class < length k.lists
   in_lists = subst (λ n. (header_in h.layout m1 s).class < n) (sym k.booked.long) (slice_get_within h.layout.classes _ _ class_found)
 
-  pub can_be_listed : IsListed p.fronts (header_in h.layout m1 s).class
+  pub can_be_listed : HasFront p.fronts (header_in h.layout m1 s).class
   can_be_listed = record {
     few = omega (arith, class_is, class_few h s k.sound out.slot);
     listed = subst (λ n. (header_in h.layout m1 s).class < n) (sym k.listed.long) in_lists;
@@ -59,11 +59,11 @@ module _ {h : Heap} {p : Parts} (k : IsKept h p) {q1 : Queue} {m1 : List Granule
 
   -- ---- it goes to the front of the class's list
 
-  pub let_go_step : {m2 : List Granule} → p.quarantine.limit < p.quarantine.held →
+  pub release_step : {m2 : List Granule} → p.quarantine.limit < p.quarantine.held →
       IsRewritten h.layout m1 m2 s (record (header_in h.layout m1 s)
       { standing = Freed; next = slice_index p.fronts (header_in h.layout m1 s).class }) (without_headers h.layout m1) →
       IsMemory m2 → IsKept h (record { memory = m2; quarantine = q1; fronts = slice_set p.fronts (header_in h.layout m1 s).class (s + 1) })
-  let_go_step {m2} over written memory = record {
+  release_step {m2} over written memory = record {
     from = to;
     queue = rest;
     lists = slice_set k.lists number (s ∷ list_of k.lists number);

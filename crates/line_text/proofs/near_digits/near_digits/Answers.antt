@@ -3,7 +3,7 @@ use Rattle.std.specs.Char.{is_ascii_digit}
 use Rattle.line_text.proofs.Digits.{one_more, digits_more, room_for_one}
 use Rattle.line_text.proofs.LeadingDigits.{ends_at}
 use Rattle.line_text.proofs.NearDigits.{distance, near_digit, far_digit}
-use Rattle.line_text.proofs.near.near_digits.Goals as goal
+use Rattle.line_text.proofs.near_digits.near_digits.Goals as goal
 
 pub returns-then-digit-gt9-clause-size : goal.returns-then-digit-gt9-clause-size
 returns-then-digit-gt9-clause-size c =
@@ -29,12 +29,18 @@ overflow_mul-value c =
 pub overflow_add-value : goal.overflow_add-value
 overflow_add-value c =
     rw c.from-in-loop-place.ensures
-    (omega (arith, (next c).value, room_for_one c.args.bytes.now c.loop-place.place (omega arith) (omega arith) (next c).digit c.loop-place.invariant.digits))
+    (omega (
+      arith,
+      (next c).value,
+      room_for_one c.args.bytes.now c.loop-place.place (omega arith) (omega arith) (next c).digit c.loop-place.invariant.digits,
+    ))
 
 pub loop-place-preserved : goal.loop-place-preserved
 loop-place-preserved c = record {
   digits = digits_more c.args.bytes.now c.loop-place.place (omega arith) (next c).digit c.loop-place.invariant.digits;
-  value = rw c.from-in-loop-place.ensures (omega (arith, (next c).value, one_more c.args.bytes.now c.loop-place.place (omega arith) (next c).digit));
+  value =
+      rw c.from-in-loop-place.ensures
+      (omega (arith, (next c).value, one_more c.args.bytes.now c.loop-place.place (omega arith) (next c).digit));
 }
 
 pub returns-clause-all : goal.returns-clause-all
