@@ -54,6 +54,42 @@ same_first l o ls os e = (cc, cc)
 no_first : {P : Type 0} (l : List ℕ) (ls : Lines) → [] ≡ l ∷ ls → P
 no_first l ls e = absurd cc
 
+-- ---- a first line, in all that reads lines so
+
+module _ {C : Type 0} (number at : ℕ) (whole : Lines → Result C ℕ) (l : List ℕ) (ls : Lines) where
+  -- The first line is faulty, whatever follows it.
+  stops_here : Sound whole → number ≡ at → ((os : Lines) → whole (l ∷ os) ≡ Err at) → Reported number whole (l ∷ ls) at
+  stops_here sound here faulty = (0, omega (arith, here), record { within = omega arith; sound = sound; before = refl; same = none })
+    where
+      none : FaultOfAll whole (l ∷ ls) 1 at
+      none [] t = no_first l [] t
+      none (o ∷ os) t = rw ((same_first l o [] [] t).0) (faulty os)
+
+  -- The first line has no fault, and what follows it is read so.
+  reads_on : (rest : Lines → Result C ℕ) → IsLine l → ((os : Lines) → whole (l ∷ os) ≡ rest os) → Reported (suc number) rest ls at
+      → Reported number whole (l ∷ ls) at
+  reads_on rest is_line same later = (
+    suc later.0,
+    (let is = later.1 in omega arith),
+    record {
+      within = omega (arith, later.2.within);
+      sound = record {
+        other = l ∷ later.2.sound.other;
+        value = later.2.sound.value;
+        all = All-cons IsLine l later.2.sound.other is_line later.2.sound.all;
+        read = same later.2.sound.other ∙ later.2.sound.read;
+      };
+      before = ap (λ (ls : Lines). l ∷ ls) later.2.before;
+      same = next later.0 later.2.same;
+    },
+  )
+    where
+      next : (ahead : ℕ) → FaultOfAll rest ls (suc ahead) at → FaultOfAll whole (l ∷ ls) (suc (suc ahead)) at
+      next ahead after [] t = no_first l (take (suc ahead) ls) t
+      next ahead after (o ∷ os) t =
+          let first = same_first l o (take (suc ahead) ls) (take (suc ahead) os) t in
+          rw (first.0) (same os ∙ after os first.1)
+
 -- ---- a line, and what reads on
 
 module _ {A B C : Type 0} (number : ℕ) (reading : List ℕ → Option A) (more : A × Lines → Result B ℕ) (last : B → Result C ℕ) where
@@ -85,38 +121,10 @@ module _ {A B C : Type 0} (number : ℕ) (reading : List ℕ → Option A) (more
       fault (l ∷ ls) at all e = go (reading l) refl
         where
           go : (o : Option A) → reading l ≡ o → Reported number line_then (l ∷ ls) at
-          go None f = (
-            0,
-            (let same : number ≡ at = (let is = rw f at e in cc) in omega arith),
-            record { within = omega arith; sound = default; before = refl; same = none },
-          )
-            where
-              none : FaultOfAll line_then (l ∷ ls) 1 at
-              none [] t = no_first l [] t
-              none (o ∷ os) t = rw ((same_first l o [] [] t).0, f) (rw f at e)
+          go None f = stops_here number at line_then l ls default (let is = rw f at e in cc) (λ os. rw f (rw f at e))
           go (Some y) f =
-              let later = (after y).fault ls at (All-tail IsLine l ls all) (rw f at e) in (
-                suc later.0,
-                (let is = later.1 in omega arith),
-                record {
-                  within = omega (arith, later.2.within);
-                  sound = record {
-                    other = l ∷ later.2.sound.other;
-                    value = later.2.sound.value;
-                    all = All-cons IsLine l later.2.sound.other (All-head IsLine l ls all) later.2.sound.all;
-                    read = rw f later.2.sound.read;
-                  };
-                  before = ap (λ (ls : Lines). l ∷ ls) later.2.before;
-                  same = next later.0 later.2.same;
-                },
-              )
-            where
-              next : (ahead : ℕ) → FaultOfAll (λ ls. more (y, ls) >>= last) ls (suc ahead) at
-                  → FaultOfAll line_then (l ∷ ls) (suc (suc ahead)) at
-              next ahead later [] t = no_first l (take (suc ahead) ls) t
-              next ahead later (o ∷ os) t =
-                  let first = same_first l o (take (suc ahead) ls) (take (suc ahead) os) t in
-                  rw (first.0, f) (later os first.1)
+              reads_on number at line_then l ls (λ ls. more (y, ls) >>= last) (All-head IsLine l ls all) (λ os. rw f refl)
+              ((after y).fault ls at (All-tail IsLine l ls all) (rw f at e))
 
 -- ---- rows
 
@@ -160,40 +168,13 @@ module _ (most number : ℕ) (later : Reports (suc number) (rows_from (suc numbe
       fault (l ∷ ls) at all e = go (row_in l) refl
         where
           go : (o : Option (List ℕ)) → row_in l ≡ o → Reported number (rows_from number (suc most)) (l ∷ ls) at
-          go None f = (
-            0,
-            (let same : number ≡ at = (let is = rw f at e in cc) in omega arith),
-            record { within = omega arith; sound = no_rows (suc most) number; before = refl; same = none },
-          )
-            where
-              none : FaultOfAll (rows_from number (suc most)) (l ∷ ls) 1 at
-              none [] t = no_first l [] t
-              none (o ∷ os) t = rw ((same_first l o [] [] t).0, f) (rw f at e)
+          go None f =
+              stops_here number at (rows_from number (suc most)) l ls (no_rows (suc most) number) (let is = rw f at e in cc)
+              (λ os. rw f (rw f at e))
           go (Some row) f =
               let more = reports-as (suc number) (rows_from (suc number) most) (λ (rows : List (List ℕ)). row ∷ rows) later in
-              let is = more.fault ls at (All-tail IsLine l ls all) (rw f at e) in (
-                suc is.0,
-                (let same = is.1 in omega arith),
-                record {
-                  within = omega (arith, is.2.within);
-                  sound = record {
-                    other = l ∷ is.2.sound.other;
-                    value = is.2.sound.value;
-                    all = All-cons IsLine l is.2.sound.other (All-head IsLine l ls all) is.2.sound.all;
-                    read = rw f is.2.sound.read;
-                  };
-                  before = ap (λ (ls : Lines). l ∷ ls) is.2.before;
-                  same = next is.0 is.2.same;
-                },
-              )
-            where
-              next : (ahead : ℕ)
-                  → FaultOfAll (λ ls. rows_from (suc number) most ls >>= λ rows. Ok (row ∷ rows)) ls (suc ahead) at
-                  → FaultOfAll (rows_from number (suc most)) (l ∷ ls) (suc (suc ahead)) at
-              next ahead after [] t = no_first l (take (suc ahead) ls) t
-              next ahead after (o ∷ os) t =
-                  let first = same_first l o (take (suc ahead) ls) (take (suc ahead) os) t in
-                  rw (first.0, f) (after os first.1)
+              reads_on number at (rows_from number (suc most)) l ls (λ ls. rows_from (suc number) most ls >>= λ rows. Ok (row ∷ rows))
+              (All-head IsLine l ls all) (λ os. rw f refl) (more.fault ls at (All-tail IsLine l ls all) (rw f at e))
 
 -- a row more than there may be is faulty, whatever it says
 rows-full : (number : ℕ) → Reports number (rows_from number 0)

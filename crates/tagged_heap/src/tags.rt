@@ -36,6 +36,7 @@ pub(crate) fn draw(machine: &mut Machine, exclude: u16) -> u8
     ensures below { result < 16 }
     ensures register { machine.new ≡ record machine.old { seed = next_seed machine.old.seed; tag = result } }
 {
+    // the tag that IRG chose is in the register
     machine.irg(0, u64::from(exclude));
     machine.rgsr().0
 }

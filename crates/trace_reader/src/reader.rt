@@ -22,8 +22,11 @@ use std::marker::Model;
 /// unfinished line, at most 80.
 #[derive(Debug, Drop)]
 pub struct TraceReader {
+    // the events that were not yet taken out
     events: VecDeque<Event>,
+    // the whole lines that were read
     lines: u32,
+    // what was read of the unfinished line
     rest: ArrayVec<u8, LONGEST_LINE>,
     status: Status,
 }

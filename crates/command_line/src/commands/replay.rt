@@ -7,6 +7,7 @@ ghost use Rattle.command_line.specs.Calls.{IsValid, Names};
 ghost use Rattle.command_line.specs.Program.{HasWords, replay_words};
 ghost use Rattle.command_line.specs.declared.call.Call.TheVariants.{Replay as ReplayCall};
 
+use crate::commands::help::trace_help;
 use crate::options::{config_of, granules, quarantine, seed};
 use crate::refusal::OptionFault;
 use clap::{ArgMatches, Command};
@@ -21,23 +22,11 @@ const ABOUT: &str = "Run a trace on the heap with memory tags, with a given clas
 
 const LONG: &str = "Run a trace on the heap with memory tags, with a given class table.";
 
-const AFTER: &str = "\
-Standard input is a class line, and then a trace, a line for each event:
+const AFTER: &str = trace_help!(
+    "Standard input is a class line, and then a trace, a line for each event:
 
-  classes C1 C2 ..   up to 32 block sizes in granules of 16 bytes, from 2 to 1024, ascending
-
-  malloc V N            calloc V N            realloc V N           free V
-  load V OFF LEN        store V OFF LEN HH    addg V W U6 U4        subg V W U6 U4
-
-  V, W    variables that hold pointers, 0 to 1023
-  N       a size in bytes, 0 to 2147483647
-  OFF     an offset in bytes, -1048576 to 1048576
-  LEN     bytes to load or store, 1 to 64
-  HH      the byte that is stored, two hexadecimal digits
-  U6, U4  granules, 0 to 63, and tags, 0 to 15, by which a pointer is moved
-
-A line has at most 80 bytes, and there are at most 1000000 events. docs/HEAP.md in the repository
-has the meaning of each event. The output has a line for each event E, counted from 1, that
+  classes C1 C2 ..   up to 32 block sizes in granules of 16 bytes, from 2 to 1024, ascending",
+    "The output has a line for each event E, counted from 1, that
 loaded, faulted or was refused:
 
   E data HEX..          the bytes that a load read
@@ -59,21 +48,13 @@ payloads beyond what they asked for.
 Example:
   printf 'classes 2\\nmalloc 1 5\\nfree 1\\nload 1 0 1\\n' | mte_tool replay --granules 64
 writes a line `3 fault tag granule 1 memory M pointer P in dead`, since the chunk was freed, and
-then the totals.
-
-Refused input, exit status 2; line 1 is the class line, the trace begins in line 2:
+then the totals.",
+    "Refused input, exit status 2; line 1 is the class line, the trace begins in line 2:
   20 TooMany           line 1 has more than 32 classes
   21 OutOfRange        a class of line 1 is not from 2 to 1024
   22 NotAscending      a class of line 1 is not above the one before it
-  23 BadLine           line 1 is no class line
-  70 BadWord           a line is no event, or has a word too many or too few
-  71 BadNumber         a word is no number of its kind, or not in its one spelling
-  72 OutOfRange        a number is not in its range
-  73 LineTooLong       a line has more than 80 bytes
-  74 TooManyEvents     there is a line after 1000000 events
-  80 InputTooLong      there are more than 67108864 bytes
-Failures, exit status 3:
-  1 OutOfMemory, 81 ReadFault, 82 WriteFault";
+  23 BadLine           line 1 is no class line"
+);
 
 /// The command's words.
 pub fn words<'a>(alloc: Global) -> Result<Command<'a>, AllocError>

@@ -7,6 +7,7 @@ ghost use Rattle.command_line.specs.Calls.{IsValid, Names};
 ghost use Rattle.command_line.specs.Program.{HasWords, run_words};
 ghost use Rattle.command_line.specs.declared.call.Call.TheVariants.{Run as RunCall};
 
+use crate::commands::help::trace_help;
 use crate::options::{config_of, granules, limit, limit_of, quarantine, seed, step, step_of};
 use crate::refusal::OptionFault;
 use clap::{ArgMatches, Command};
@@ -23,21 +24,9 @@ const LONG: &str = "\
 Find the class table that wastes least on the sizes that a trace requests, and run the trace on the
 heap with memory tags, with that table.";
 
-const AFTER: &str = "\
-Standard input is a trace, a line for each event:
-
-  malloc V N            calloc V N            realloc V N           free V
-  load V OFF LEN        store V OFF LEN HH    addg V W U6 U4        subg V W U6 U4
-
-  V, W    variables that hold pointers, 0 to 1023
-  N       a size in bytes, 0 to 2147483647
-  OFF     an offset in bytes, -1048576 to 1048576
-  LEN     bytes to load or store, 1 to 64
-  HH      the byte that is stored, two hexadecimal digits
-  U6, U4  granules, 0 to 63, and tags, 0 to 15, by which a pointer is moved
-
-A line has at most 80 bytes, and there are at most 1000000 lines. docs/HEAP.md in the repository
-has the meaning of each event. The output is the sheet that `tune` writes for the trace's profile:
+const AFTER: &str = trace_help!(
+    "Standard input is a trace, a line for each event:",
+    "The output is the sheet that `tune` writes for the trace's profile:
 
   classes C1 C2 ..   the table
   limit K            the most classes that it was allowed
@@ -61,18 +50,10 @@ and nine totals, `events` to `loss`. `mte_tool replay --help` explains these lin
 Example:
   printf 'malloc 1 16\\nfree 1\\nload 1 0 1\\n' | mte_tool run --limit 1 --granules 64
 writes the lines `classes 2`, `limit 1`, `waste 0` and `row 0`, then
-`3 fault tag granule 1 memory 3 pointer 1 in dead`, since the chunk was freed, and the totals.
-
-Refused, exit status 2:
-  83 BadOption         the step is 3, 5, 6 or 7; nothing is read then
-  70 BadWord           a line is no event, or has a word too many or too few
-  71 BadNumber         a word is no number of its kind, or not in its one spelling
-  72 OutOfRange        a number is not in its range
-  73 LineTooLong       a line has more than 80 bytes
-  74 TooManyEvents     there is a line after 1000000
-  80 InputTooLong      there are more than 67108864 bytes
-Failures, exit status 3:
-  1 OutOfMemory, 81 ReadFault, 82 WriteFault";
+`3 fault tag granule 1 memory 3 pointer 1 in dead`, since the chunk was freed, and the totals.",
+    "Refused, exit status 2:
+  83 BadOption         the step is 3, 5, 6 or 7; nothing is read then"
+);
 
 /// The command's words.
 pub fn words<'a>(alloc: Global) -> Result<Command<'a>, AllocError>
