@@ -47,6 +47,7 @@ pub trait CostSource {
         ensures value { result.0 ≡ end_cost (cost self.old) before.now place result.1 }
         ensures counted { self.new ≡ with_calls self.old (call_count self.old + (high - low) + 1) }
     {
+        // `Costs` has the same loop over its spans, which counts the calls at once
         let mut end = high;
         let mut least = self.at(place, high) + number_at(before, high);
         for j in (low..high).rev() {

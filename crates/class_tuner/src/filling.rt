@@ -13,7 +13,7 @@ use std::alloc::{AllocError, Global};
 /// most k spans. The end is the least place to which the first of these spans may go.
 #[derive(Debug, Drop)]
 pub struct Filled {
-    /// One row of costs for each number of spans, one number for each place from 0 on but the last.
+    /// One row of costs for each number of spans. A row has a number for each of the places 0 to D - 1, where D is the number of places.
     pub rows: Vec<Vec<u64>>,
     /// The least ends, in the same shape.
     pub ends: Vec<Vec<usize>>,

@@ -9,7 +9,8 @@ use arrayvec::ArrayVec;
 use class_table::{ClassTable, MOST_CLASSES};
 use potential_check::Spans;
 
-// The table that the ends give: the need at the end of place 0 in the last row, then on from that end in the row before.
+// The table that the ends give. Start at place 0 in row `limit`. The need at that place's end is a class. Go on from that end in the row
+// before, until the last place is an end.
 #[tactic(auto, using(class_table::proofs::LawLemmas::legal_is_faultless))]
 pub(crate) fn table_of_ends(spans: &Spans<'_>, ends: &[Vec<usize>], limit: u8) -> ClassTable
     requires few { limit ≤ MOST_CLASSES }
@@ -21,6 +22,7 @@ pub(crate) fn table_of_ends(spans: &Spans<'_>, ends: &[Vec<usize>], limit: u8) -
     ensures { result ≡ tuned_table spans.now.counts spans.now.step limit (number_at (lists_of ends.now)) }
 {
     let classes = classes_of_ends(spans, ends, limit);
+    // legal, since the classes ascend
     ClassTable::from_classes(&classes).unwrap()
 }
 

@@ -7,10 +7,11 @@ use clap::error::ErrorKind;
 use std::alloc::AllocError;
 use std::fmt;
 
-/// What is wrong with an option whose number is in its range. It is shown as its code and name.
+/// What is wrong with an option. It is shown as its code and name.
 #[derive(Debug, Clone, Copy, PartialEq, Eq)]
 pub enum OptionFault {
-    /// The step is 3, 5, 6 or 7.
+    /// The step is 3, 5, 6 or 7. Functions also return it for a number out of its range and for an unknown command. clap refuses these first,
+    /// but its contract doesn't say so.
     BadOption,
 }
 

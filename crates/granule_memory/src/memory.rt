@@ -12,7 +12,8 @@ use std::marker::Model;
 const GRANULE: usize = GRANULE_BYTES as usize;
 
 /// 64 to 262,144 granules of sixteen bytes, each with an Allocation Tag from 0 to 15. Contracts see it as the list of its granules.
-/// One region holds 17 bytes for each granule: first the bytes of all granules, so that words are aligned, then the tags.
+/// One region holds 17 bytes for each granule: first the bytes of all granules, so that byte i of the memory is byte i of the
+/// region, then the tags.
 #[derive(Drop)]
 pub struct Memory {
     region: RawRegion,

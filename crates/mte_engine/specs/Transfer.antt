@@ -11,7 +11,7 @@ use Rattle.mte_engine.specs.declared.transfer.TheConstants.{MOST_INPUT}
 abbrev pub most_input : ℕ
 most_input = MOST_INPUT
 
--- How often a source is read at most. Each read but the last takes at least one byte, so one read fewer would do.
+-- A bound on how often a source is read. Each read but the last takes at least one byte.
 abbrev pub most_reads : ℕ
 most_reads = 67108866
 

@@ -41,6 +41,7 @@ pub fn read_all<R: ByteSource, I: Input>(
         input.take(&piece[..n])?;
         taken += n;
     }
+    // not reached: each turn took a byte
     Err(ReadError::TooLong)
 }
 

@@ -15,8 +15,8 @@ use machine_theory::LONGEST_ACCESS;
 use tag_machine::Fault;
 
 impl Heap {
-    /// Reads `buf.len()` bytes, 1 to 64, from `address` on. The address must have a tag other than 0, or the access must not be mapped: so
-    /// it reads no header. The header words of all slots stay the same.
+    /// Reads `buf.len()` bytes, 1 to 64, from `address` on. Headers have tag 0, so the address must have another tag, or the access must not
+    /// be mapped. So no load reads a header. The header words of all slots stay the same.
     ///
     /// Errors, after which `buf` is unchanged: `Unmapped` if a byte lies outside the region or bits 63 to 60 of the address are not 0;
     /// otherwise `TagCheck` with the lowest granule that the access touches and whose tag differs from the address's.
@@ -33,8 +33,8 @@ impl Heap {
         self.machine.load(address, buf)
     }
 
-    /// Writes these bytes, 1 to 64 of them, from `address` on. The address must have a tag other than 0, or the access must not be mapped:
-    /// so it writes no header. The header words of all slots stay the same.
+    /// Writes these bytes, 1 to 64 of them, from `address` on. Headers have tag 0, so the address must have another tag, or the access must
+    /// not be mapped. So no store writes a header. The header words of all slots stay the same.
     ///
     /// Its errors are those of `load`. After an error nothing has changed.
     #[tactic(auto, using(crate::proofs::TheoryLemmas::accesses_seen))]

@@ -32,7 +32,8 @@ pub record IsFilled (cost : ℕ → ℕ → ℕ) (d limit : ℕ) (rows ends : Li
   pub ends_shape : HasShape ends limit d
   pub least : AreLeastRows cost d limit (number_at rows) (number_at ends)
 
--- The table that the ends give for the places above i, from row k on: the need at the end of i, then on from that end in the row before.
+-- The table that the ends give for the places above i, from row k on. The need at the end of i is a class. Go on from that end in the row
+-- before, until the last place is an end.
 abbrev pub table_of_ends : (ℕ → ℕ) → (ℕ → ℕ → ℕ) → ℕ → ℕ → ℕ → List ℕ
 table_of_ends need ends d zero i = []
 table_of_ends need ends d (suc k) i = if nat_lt i d then need (ends (suc k) i) ∷ table_of_ends need ends d k (ends (suc k) i) else []
