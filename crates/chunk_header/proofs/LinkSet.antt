@@ -1,36 +1,23 @@
-use Rattle.std.proofs.Common.{◌≡◌, ◌≢◌, ℕ, ◌+◌, ◌*◌, ◌<◌, List, ap, ◌∙◌, subst}
-use Rattle.std.specs.Prelude.{Contains}
+-- What a link that is set in a slot's header makes of the region.
+use Rattle.std.proofs.Common.{◌≡◌, ℕ, ◌<◌, List, length, sym, ap, ◌∙◌}
 use Rattle.machine_theory.specs.Memory.{Granule, IsMemory}
-use Rattle.granule_memory.specs.Changes.{ChangesOnlyBytes}
 use Rattle.class_table.specs.Layout.{Partition, IsPartition, slot_count, slot_of}
-use Rattle.heap_theory.specs.Header.{header_at}
-use Rattle.heap_theory.specs.Links.{next_in}
-use Rattle.heap_theory.proofs.HeaderWords.{next_in-other}
-use Rattle.heap_theory.proofs.Linked.{IsLinked-same}
+use Rattle.heap_theory.specs.Header.{Header, header_at}
+use Rattle.heap_theory.specs.Region.{region_of, with_slot_header}
+use Rattle.heap_theory.proofs.Regions.{header_in-region_of, region_of-read}
+use Rattle.chunk_header.specs.HeaderWrite.{WritesHeader}
 use Rattle.chunk_header.specs.Links.{SetsLink}
-use Rattle.chunk_header.specs.HeaderView.{with_next}
 
--- what a link that is set in a slot's header leaves as it was
-pub link_set : (layout : Partition) (old new : List Granule) (s next : ℕ) → IsPartition layout → s < slot_count layout →
-    new ≡ with_next old (slot_of layout s).start next →
-    header_at new (slot_of layout s).start ≡ record (header_at old (slot_of layout s).start) { next = next } →
-    ((g : ℕ) → g ≢ (slot_of layout s).start → header_at new g ≡ header_at old g) →
-    ChangesOnlyBytes old new (16 * (slot_of layout s).start) (16 * (slot_of layout s).start + 8) → IsMemory new →
+pub link_set : (layout : Partition) (old new : List Granule) (s next : ℕ) → IsPartition layout → IsMemory old →
+    length old ≡ layout.granules → s < slot_count layout →
+    WritesHeader old new (slot_of layout s).start 8 (record (header_at old (slot_of layout s).start) { next = next }) →
     SetsLink layout old new s next
-link_set layout old new s next partition within written header headers others memory = record {
-  written = written;
-  header = header;
-  headers = headers;
-  own = ap (λ h. h.next) header;
-  links = links;
-  lists = λ front list inside outside linked.
-      IsLinked-same (next_in layout old) (next_in layout new) front list
-      (λ r there. links r (inside r there) (λ same. outside (subst (Contains list) same there))) linked;
-  others = others;
-  memory = memory;
+link_set layout old new s next is memory_is long within w = record {
+  region =
+      region_of-read layout is old new s (record (header_at old (slot_of layout s).start) { next = next }) memory_is within w.written w.read
+      ∙ ap (λ (x : Header). with_slot_header (region_of layout old) s (record x { next = next }))
+      (sym (header_in-region_of layout old s within));
+  others = w.others;
+  long = w.others.len ∙ long;
+  memory = w.memory;
 }
-  where
-    links : (r : ℕ) → r < slot_count layout → r ≢ s → next_in layout new r ≡ next_in layout old r
-    links r inside other =
-        ap (λ memory. next_in layout memory r) written
-        ∙ next_in-other layout old s r (record (header_at old (slot_of layout s).start) { next = next }) partition within inside other

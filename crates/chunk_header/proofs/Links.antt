@@ -2,9 +2,8 @@
 use Rattle.std.proofs.Common.{◌≡◌, ℕ, ◌+◌, ◌*◌, List, sym, ◌∙◌, arith}
 use Rattle.std.specs.Int.{w64, to_le_bytes}
 use Rattle.machine_theory.specs.Memory.{Granule, IsMemory, word_at, written}
-use Rattle.heap_theory.specs.Header.{Header, first_word, header_of, header_at}
+use Rattle.heap_theory.specs.Header.{Header, first_word, header_of, header_at, with_header}
 use Rattle.heap_theory.proofs.HeaderWords.{with_header-words}
-use Rattle.chunk_header.specs.HeaderView.{with_next}
 use Rattle.chunk_header.proofs.Codes.{header_of-with_next}
 use Rattle.chunk_header.proofs.Rewrites.{word_written_over}
 
@@ -23,7 +22,7 @@ word_linked memory g next word second read =
 
 -- the second word is not written, since it would not change
 pub link_written : (old new : List Granule) (g next : ℕ) → IsMemory new → word_at new (16 * g + 8) ≡ word_at old (16 * g + 8) →
-    new ≡ written (16 * g) (to_le_bytes w64 (first_word (linked old g next))) old → new ≡ with_next old g next
+    new ≡ written (16 * g) (to_le_bytes w64 (first_word (linked old g next))) old → new ≡ with_header old g (linked old g next)
 unfolding header_at
 link_written old new g next is stays first =
     sym (word_written_over new (16 * g + 8) is)

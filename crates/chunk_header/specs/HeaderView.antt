@@ -1,7 +1,5 @@
--- Which header of the theory a value is, and the memory with another link in a header.
-use Rattle.std.specs.Prelude.{ℕ, List}
-use Rattle.machine_theory.specs.Memory.{Granule}
-use Rattle.heap_theory.specs.Header.{Standing, Header as TheHeader, header_at, with_header}
+-- Which header of the theory a value is.
+use Rattle.heap_theory.specs.Header.{Standing, Header as TheHeader}
 use Rattle.heap_theory.specs.Header.Standing.{Fresh as IsFresh, Live as IsLive, Quarantined as IsQuarantined, Freed as IsFreed}
 use Rattle.chunk_header.specs.declared.header.Header.{Header}
 use Rattle.chunk_header.specs.declared.header.State.{State}
@@ -23,7 +21,3 @@ seen header = record {
   next = header.next;
   mark = header.mark;
 }
-
--- The memory with this link in the header in a granule, whose other fields stay.
-abbrev pub with_next : List Granule → ℕ → ℕ → List Granule
-with_next memory granule next = with_header memory granule (record (header_at memory granule) { next = next })

@@ -1,7 +1,7 @@
 //! The links of a layout's slots, in the headers of a memory.
 ghost use Rattle.chunk_header.specs.Links.{SetsLink};
 ghost use Rattle.class_table.specs.Layout.{slot_count, slot_of};
-ghost use Rattle.heap_theory.specs.Links.{next_in};
+ghost use Rattle.heap_theory.specs.Region.{next_in, region_of};
 ghost use Rattle.std.specs.Prelude.{◌≡◌, ◌<◌, length};
 
 use crate::granule::{next, set_next};
@@ -12,7 +12,7 @@ use granule_memory::Memory;
 pub fn link(memory: &Memory, layout: &Layout, slot: u32) -> u32
     requires region { length memory.now ≡ layout.now.granules }
     requires slot { slot < slot_count layout.now }
-    ensures { result ≡ next_in layout.now memory.now slot }
+    ensures { result ≡ next_in (region_of layout.now memory.now) slot }
 {
     next(memory, layout.start(slot))
 }
@@ -21,8 +21,7 @@ pub fn link(memory: &Memory, layout: &Layout, slot: u32) -> u32
 pub fn set_link(memory: &mut Memory, layout: &Layout, slot: u32, link: u32)
     requires region { length memory.old ≡ layout.now.granules }
     requires slot { slot < slot_count layout.now }
-    ensures link { SetsLink layout.now memory.old memory.new slot link }
-    ensures region { length memory.new ≡ layout.now.granules }
+    ensures { SetsLink layout.now memory.old memory.new slot link }
 {
     prove!(memory.granules() == layout.granules());
     set_next(memory, layout.start(slot), link);
@@ -34,9 +33,8 @@ pub fn unlink(memory: &mut Memory, layout: &Layout, slot: u32, start: u32) -> u3
     requires region { length memory.old ≡ layout.now.granules }
     requires slot { slot < slot_count layout.now }
     requires start { start ≡ (slot_of layout.now slot).start }
-    ensures was { result ≡ next_in layout.now memory.old slot }
+    ensures was { result ≡ next_in (region_of layout.now memory.old) slot }
     ensures link { SetsLink layout.now memory.old memory.new slot 0 }
-    ensures region { length memory.new ≡ layout.now.granules }
 {
     prove!(memory.granules() == layout.granules());
     prove!(start == layout.start(slot));

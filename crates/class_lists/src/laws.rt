@@ -1,11 +1,11 @@
 //! What keeps a list, as the contract of a function that does nothing.
 ghost use Rattle.class_lists.specs.Laws.{
-  ChangesKeepLists,
   EachSlotIsOnce,
   EndIsEmptyList,
-  FrontIsInLayout,
+  FrontIsInRegion,
   ListIsOne,
   ListIsShort,
+  ListStays,
 };
 
 /// From a front the links show at most one list. It has each of its slots once, and it stays the same under each change that keeps the
@@ -16,6 +16,6 @@ pub fn law_lists()
     ensures one { ListIsOne }
     ensures once { EachSlotIsOnce }
     ensures short { ListIsShort }
-    ensures front { FrontIsInLayout }
-    ensures stays { ChangesKeepLists }
+    ensures front { FrontIsInRegion }
+    ensures stays { ListStays }
 {}

@@ -1,7 +1,7 @@
 ghost use Rattle.chunk_header.specs.Links.{SetsLink};
 ghost use Rattle.class_lists.specs.Lists.{ShowsList, TakesFirst};
 ghost use Rattle.class_table.specs.Layout.{slot_count};
-ghost use Rattle.machine_theory.specs.Memory.{Granule};
+ghost use Rattle.heap_theory.specs.Region.{Region, region_of};
 ghost use Rattle.std.specs.Prelude.{◌≡◌, ◌+◌, ◌<◌, ◌≤◌, ℕ, List, [], ◌∷◌, length, drop, replicate, slice_get, slice_index, slice_set, Contains, IfNone, IfSome};
 
 use arrayvec::ArrayVec;
@@ -30,8 +30,7 @@ impl ClassLists {
     /// An empty list for each class of the layout, whatever the memory holds.
     pub fn new(layout: &Layout) -> ClassLists
         ensures fronts { result ≡ replicate (length layout.now.classes) 0 }
-        ensures empty { (memory : List Granule) (class : ℕ)
-            → ShowsList layout.now memory (slice_index result class) [] }
+        ensures empty { (region : Region) (class : ℕ) → ShowsList region (slice_index result class) [] }
     {
         let mut fronts = ArrayVec::new();
         for _ in 0..layout.classes() {
@@ -49,10 +48,11 @@ impl ClassLists {
         requires granules { length memory.old ≡ layout.now.granules }
         ensures front { self.new ≡ slice_set self.old class (slot + 1) }
         ensures link { SetsLink layout.now memory.old memory.new slot (slice_index self.old class) }
-        ensures pushed { (list : List ℕ) → ShowsList layout.now memory.old (slice_index self.old class) list →
-            (Contains list slot → ⊥) → ShowsList layout.now memory.new (slot + 1) (slot ∷ list) }
-        ensures others { (front : ℕ) (list : List ℕ) → ShowsList layout.now memory.old front list →
-            (Contains list slot → ⊥) → ShowsList layout.now memory.new front list }
+        ensures pushed { (list : List ℕ) →
+            ShowsList (region_of layout.now memory.old) (slice_index self.old class) list →
+            (Contains list slot → ⊥) → ShowsList (region_of layout.now memory.new) (slot + 1) (slot ∷ list) }
+        ensures others { (front : ℕ) (list : List ℕ) → ShowsList (region_of layout.now memory.old) front list →
+            (Contains list slot → ⊥) → ShowsList (region_of layout.now memory.new) front list }
     {
         prove!(slot < layout.slots());
         set_link(memory, layout, slot, self.front(class));
@@ -69,10 +69,12 @@ impl ClassLists {
         ensures same { IfNone result ((self.new ≡ self.old) × (memory.new ≡ memory.old)) }
         ensures taken { IfSome result
             (λ slot. TakesFirst layout.now memory.old memory.new self.old self.new class slot) }
-        ensures popped { (list : List ℕ) → ShowsList layout.now memory.old (slice_index self.old class) list
-            → (result ≡ slice_get list 0) × ShowsList layout.now memory.new (slice_index self.new class) (drop 1 list) }
-        ensures others { (front : ℕ) (list : List ℕ) → ShowsList layout.now memory.old front list →
-            IfSome result (λ slot. Contains list slot → ⊥) → ShowsList layout.now memory.new front list }
+        ensures popped { (list : List ℕ) →
+            ShowsList (region_of layout.now memory.old) (slice_index self.old class) list →
+            (result ≡ slice_get list 0)
+            × ShowsList (region_of layout.now memory.new) (slice_index self.new class) (drop 1 list) }
+        ensures others { (front : ℕ) (list : List ℕ) → ShowsList (region_of layout.now memory.old) front list →
+            IfSome result (λ slot. Contains list slot → ⊥) → ShowsList (region_of layout.now memory.new) front list }
     {
         let front = self.front(class);
         if front == 0 {

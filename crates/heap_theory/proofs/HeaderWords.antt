@@ -7,12 +7,11 @@ use Rattle.std.proofs.lemmas.List.Elements.{All-append, All-contains, All-from_r
 use Rattle.std.proofs.lemmas.List.Quantifiers.{position-Some}
 use Rattle.std.proofs.lemmas.Option.{slice_get-get_or, slice_get_within}
 use Rattle.machine_theory.specs.Memory.{Granule, IsMemory, word_at, tag_at, tagged, written}
-use Rattle.class_table.specs.Layout.{Partition, IsPartition, slot_count, slot_of}
+use Rattle.class_table.specs.Layout.{Partition, slot_count, slot_of}
 use Rattle.heap_theory.proofs.TheoryLemmas as laws
 use Rattle.heap_theory.specs.Choice.{is_released, mark_of}
 use Rattle.heap_theory.specs.Header.{Standing, Header, FitsWords, code_of, standing_of, first_word, second_word, header_of, header_at, with_header, shown_state, size_of, standing_in, class_number, header_for}
 use Rattle.heap_theory.specs.Header.Standing.{Fresh, Live, Quarantined, Freed}
-use Rattle.heap_theory.specs.Links.{next_in}
 use Rattle.heap_theory.specs.Sound.{IfDead, IsChunkTag, IsSoundHeap}
 use Rattle.heap_theory.specs.State.{State, Heap, slot_in, state_at, last_tag, chunk_of}
 use Rattle.heap_theory.specs.State.State.{Fresh as NeverGiven, Live as Given, Dead}
@@ -210,26 +209,3 @@ header_for-fits h s next sound within link total = record {
     mark_fits NeverGiven is = omega arith
     mark_fits (Given n t) is = omega arith
     mark_fits (Dead n t m) is = omega arith
-
--- ---- links
-
-pub next_in-own : (layout : Partition) (memory : List Granule) (s : ℕ) (header : Header) → IsPartition layout → IsMemory memory →
-    length memory ≡ layout.granules →
-    s < slot_count layout → FitsWords header → next_in layout (with_header memory (slot_of layout s).start header) s ≡ header.next
-next_in-own layout memory s header is memory_is long within fits =
-    let order = laws.in_order 1 layout is.table in
-    ap (λ (header : Header). header.next)
-    (header_at-with_header memory (slot_of layout s).start header memory_is (omega (arith, order.inside s within, order.wide s within))
-    fits)
-
-pub next_in-other : (layout : Partition) (memory : List Granule) (s r : ℕ) (header : Header) → IsPartition layout → s < slot_count layout →
-    r < slot_count layout → r ≢ s →
-    next_in layout (with_header memory (slot_of layout s).start header) r ≡ next_in layout memory r
-next_in-other layout memory s r header is within there differs =
-    let order = laws.in_order 1 layout is.table in
-    ap (λ (header : Header). header.next)
-    (header_at-elsewhere memory (slot_of layout s).start (slot_of layout r).start header (λ same. elim (cases_order r s) [
-      | inl one ↦ differs one
-      | inr (inl before) ↦ omega (arith, order.apart r s before within, order.wide r there)
-      | inr (inr after) ↦ omega (arith, order.apart s r after there, order.wide s within)
-    ]))

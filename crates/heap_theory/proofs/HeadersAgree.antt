@@ -9,10 +9,12 @@ use Rattle.heap_theory.specs.Choice.{is_dead, mark_of}
 use Rattle.heap_theory.specs.Header.{first_word, second_word, header_at, class_number, header_for}
 use Rattle.heap_theory.specs.HeaderLaws.{ClassIsAtItsNumber}
 use Rattle.heap_theory.specs.HeapInMemory.{IsKeptIn, HaveSameSlots, HeaderWordsStay}
-use Rattle.heap_theory.specs.Links.{IsLinked, next_in, list_of}
+use Rattle.heap_theory.specs.Links.{IsLinked, list_of}
+use Rattle.heap_theory.specs.Region.{Region, header_in, next_in, region_of}
 use Rattle.heap_theory.specs.State.{Heap, state_at}
 use Rattle.heap_theory.proofs.Found.{Contains-head, Contains-tail, Contains-cases, Contains-none}
 use Rattle.heap_theory.proofs.HeaderWords.{words-header_of}
+use Rattle.heap_theory.proofs.Regions.{header_in-region_of}
 
 -- ---- lists in an order
 
@@ -70,7 +72,7 @@ links_agree next new front other (r ∷ rest) s l k there = elim (Contains-cases
 abbrev with_seen : Heap → List Granule → ℕ → ℕ → Heap
 with_seen h seen seed tag = record h { memory = seen; seed = seed; tag = tag }
 
-one_queue : (h : Heap) (seen : List Granule) (seed tag : ℕ) (m new : List Granule) → (a : IsKeptIn h m) →
+one_queue : (h : Heap) (seen : List Granule) (seed tag : ℕ) (m new : Region) → (a : IsKeptIn h m) →
     (b : IsKeptIn (with_seen h seen seed tag) new) → b.queue ≡ a.queue
 one_queue h seen seed tag m new a b =
     one_order (λ s r. mark_of (state_at h s) < mark_of (state_at h r)) b.queue a.queue (λ s r up down. omega (arith, up, down))
@@ -78,7 +80,7 @@ one_queue h seen seed tag m new a b =
     (λ r there. (a.queue_holds.slots r).1 ((b.queue_holds.slots r).0 there))
     (λ r there. (b.queue_holds.slots r).1 ((a.queue_holds.slots r).0 there))
 
-one_list : ClassIsAtItsNumber → (h : Heap) (seen : List Granule) (seed tag : ℕ) (m new : List Granule) → (a : IsKeptIn h m) →
+one_list : ClassIsAtItsNumber → (h : Heap) (seen : List Granule) (seed tag : ℕ) (m new : Region) → (a : IsKeptIn h m) →
     (b : IsKeptIn (with_seen h seen seed tag) new) → (s : ℕ) → s < slot_count h.layout →
     list_of b.lists (class_number h.layout s) ≡ list_of a.lists (class_number h.layout s)
 one_list class_is h seen seed tag m new a b s within =
@@ -91,14 +93,14 @@ one_list class_is h seen seed tag m new a b s within =
     (λ r there. (in_a.slots r).1 ((in_b.slots r).0 there))
     (λ r there. (in_b.slots r).1 ((in_a.slots r).0 there))
 
-next_agrees : ClassIsAtItsNumber → (h : Heap) (seen : List Granule) (seed tag : ℕ) (m new : List Granule) → IsKeptIn h m →
-    IsKeptIn (with_seen h seen seed tag) new → (s : ℕ) → s < slot_count h.layout → next_in h.layout new s ≡ next_in h.layout m s
+next_agrees : ClassIsAtItsNumber → (h : Heap) (seen : List Granule) (seed tag : ℕ) (m new : Region) → IsKeptIn h m →
+    IsKeptIn (with_seen h seen seed tag) new → (s : ℕ) → s < slot_count h.layout → next_in new s ≡ next_in m s
 next_agrees class_is h seen seed tag m new a b s within = elim (cases_Bool (is_dead (state_at h s))) [
   | inr alive ↦ b.unlinked s within alive ∙ sym (a.unlinked s within alive)
   | inl dead ↦ elim (cases_lt h.quarantine (h.total - mark_of (state_at h s))) [
     | inr held ↦
-        links_agree (next_in h.layout m) (next_in h.layout new) a.front b.front a.queue s a.queue_linked
-        (subst (IsLinked (next_in h.layout new) b.front) (one_queue h seen seed tag m new a b) b.queue_linked)
+        links_agree (next_in m) (next_in new) a.front b.front a.queue s a.queue_linked
+        (subst (IsLinked (next_in new) b.front) (one_queue h seen seed tag m new a b) b.queue_linked)
         ((a.queue_holds.slots s).1 (within, and_from _ _ dead (le-leb _ _ held)))
     | inl over ↦
         let number = class_number h.layout s in
@@ -106,16 +108,15 @@ next_agrees class_is h seen seed tag m new a b s within = elim (cases_Bool (is_d
         let found = class_is h.layout s within in
         let numbered : number < length h.layout.classes = slice_get_within h.layout.classes number class found in
         let linked = b.list_linked number (omega (arith, numbered, b.fronts_long)) in
-        links_agree (next_in h.layout m) (next_in h.layout new) _ _ (list_of a.lists number) s
+        links_agree (next_in m) (next_in new) _ _ (list_of a.lists number) s
         (a.list_linked number (omega (arith, numbered, a.fronts_long)))
-        (subst (IsLinked (next_in h.layout new) _) (one_list class_is h seen seed tag m new a b s within) linked)
+        (subst (IsLinked (next_in new) _) (one_list class_is h seen seed tag m new a b s within) linked)
         (((a.list_holds number class found).slots s).1 (within, refl, and_from _ _ dead (lt-ltb _ _ over)))
   ]
 ]
 
-header_agrees : ClassIsAtItsNumber → (h : Heap) (seen : List Granule) (seed tag : ℕ) (m new : List Granule) → IsKeptIn h m →
-    IsKeptIn (with_seen h seen seed tag) new → (s : ℕ) → s < slot_count h.layout →
-    header_at new (slot_of h.layout s).start ≡ header_at m (slot_of h.layout s).start
+header_agrees : ClassIsAtItsNumber → (h : Heap) (seen : List Granule) (seed tag : ℕ) (m new : Region) → IsKeptIn h m →
+    IsKeptIn (with_seen h seen seed tag) new → (s : ℕ) → s < slot_count h.layout → header_in new s ≡ header_in m s
 unfolding header_for
 header_agrees class_is h seen seed tag m new a b s within =
     b.headers s within ∙ ap (header_for h s) (next_agrees class_is h seen seed tag m new a b s within) ∙ sym (a.headers s within)
@@ -148,4 +149,8 @@ header_words_stay class_is h other same m new a b = record {
 }
   where
     header : (s : ℕ) → s < slot_count h.layout → header_at new (slot_of h.layout s).start ≡ header_at m (slot_of h.layout s).start
-    header = header_agrees class_is h other.memory other.seed other.tag m new a (subst (λ h. IsKeptIn h new) (as_one h other same) b)
+    header s within =
+        sym (header_in-region_of h.layout new s within)
+        ∙ header_agrees class_is h other.memory other.seed other.tag (region_of h.layout m) (region_of h.layout new) a
+        (subst (λ h. IsKeptIn h (region_of h.layout new)) (as_one h other same) b) s within
+        ∙ header_in-region_of h.layout m s within

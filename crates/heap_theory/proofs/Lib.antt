@@ -23,6 +23,7 @@ pub mod Marks
 pub mod OwnPointers
 pub mod Pointers
 pub mod ReallocExamples
+pub mod Regions
 pub mod Releasing
 pub mod RunKept
 pub mod SeenMemory

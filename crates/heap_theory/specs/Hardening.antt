@@ -1,5 +1,5 @@
 -- What hardens the heap, said of a run. An access touches each granule that holds one of its bytes, mapped as a whole or not.
-use Rattle.std.specs.Prelude.{◌≡◌, ◌≢◌, ◌⊎◌, ℕ, suc, ◌+◌, ◌-◌, ◌%◌, ◌^◌, ◌<◌, ◌≤◌, ℤ, nat_abs, length, Some, None, IsSome, ⊤}
+use Rattle.std.specs.Prelude.{◌≡◌, ◌≢◌, ◌⊎◌, ℕ, suc, ◌+◌, ◌-◌, ◌%◌, ◌<◌, ◌≤◌, ℤ, nat_abs, length, Some, None, IsSome, ⊤}
 use Rattle.machine_theory.specs.Access.{access_fault}
 use Rattle.machine_theory.specs.Address.{logical_tag, place_of, moved_by, Holds, Touches}
 use Rattle.machine_theory.specs.Memory.{tag_at}

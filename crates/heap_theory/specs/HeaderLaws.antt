@@ -7,7 +7,8 @@ use Rattle.machine_theory.specs.Memory.{Granule, IsMemory, new_granule, granule_
 use Rattle.class_table.specs.Layout.{Partition, IsPartition, slot_count, slot_of}
 use Rattle.heap_theory.specs.Header.{Header, FitsWords, first_word, second_word, header_of, header_at, with_header, shown_state, class_number, header_for}
 use Rattle.heap_theory.specs.HeapInMemory.{HaveSameSlots, HeaderWordsStay}
-use Rattle.heap_theory.specs.Links.{IsLinked, last_link, next_in}
+use Rattle.heap_theory.specs.Links.{IsLinked, last_link}
+use Rattle.heap_theory.specs.Region.{region_of, header_in, with_slot_header}
 use Rattle.heap_theory.specs.Sound.{IsSoundHeap}
 use Rattle.heap_theory.specs.State.{Heap, state_at, is_header, without_headers, first_memory, IsSlot}
 use Rattle.machine_theory.specs.declared.sizes.TheConstants.{GRANULE_BYTES}
@@ -102,19 +103,6 @@ OneListIsLinked = (next : ℕ → ℕ) (front : ℕ) (a b : List ℕ) → IsLink
 abbrev pub EachSlotOnce : Type 0
 EachSlotOnce = (next : ℕ → ℕ) (front : ℕ) (list : List ℕ) → IsLinked next front list → AllPairs (λ s r. s ≢ r) list
 
--- A slot's link is set in its header, and the links of other slots stay.
-abbrev pub OwnLinkIsSet : Type 0
-OwnLinkIsSet =
-    (layout : Partition) (memory : List Granule) (s : ℕ) (header : Header) → IsPartition layout → IsMemory memory →
-    length memory ≡ layout.granules →
-    s < slot_count layout → FitsWords header → next_in layout (with_header memory (slot_of layout s).start header) s ≡ header.next
-
-abbrev pub OtherLinksStay : Type 0
-OtherLinksStay =
-    (layout : Partition) (memory : List Granule) (s r : ℕ) (header : Header) → IsPartition layout → s < slot_count layout →
-    r < slot_count layout → r ≢ s →
-    next_in layout (with_header memory (slot_of layout s).start header) r ≡ next_in layout memory r
-
 -- The last slot is in the list, and its link is 0.
 abbrev pub LastSlotEnds : Type 0
 LastSlotEnds =
@@ -132,6 +120,36 @@ PutAtEnd =
 
 abbrev pub PutAtEndIsLast : Type 0
 PutAtEndIsLast = (list : List ℕ) (s : ℕ) → last_link (list ++ s ∷ []) ≡ suc s
+
+-- ---- regions
+
+-- A region has the header that is in each slot's first granule.
+abbrev pub RegionHasHeaders : Type 0
+RegionHasHeaders =
+    (layout : Partition) (memory : List Granule) (s : ℕ) → s < slot_count layout →
+    header_in (region_of layout memory) s ≡ header_at memory (slot_of layout s).start
+
+-- A slot's header that is written changes this header alone,
+abbrev pub OneHeaderIsWritten : Type 0
+OneHeaderIsWritten =
+    (layout : Partition) (memory : List Granule) (s : ℕ) (header : Header) → IsPartition layout → IsMemory memory →
+    length memory ≡ layout.granules → s < slot_count layout → FitsWords header →
+    region_of layout (with_header memory (slot_of layout s).start header) ≡ with_slot_header (region_of layout memory) s header
+
+-- and tags, and bytes that are in no header, change no header.
+abbrev pub TagsChangeNoHeader : Type 0
+TagsChangeNoHeader =
+    (layout : Partition) (first count tag : ℕ) (memory : List Granule) →
+    region_of layout (tagged first count tag memory)
+    ≡ record (region_of layout memory) { granules = tagged first count tag (without_headers layout memory) }
+
+abbrev pub OtherBytesChangeNoHeader : Type 0
+OtherBytesChangeNoHeader =
+    (layout : Partition) (i : ℕ) (new : List ℕ) (memory : List Granule) →
+    ((s : ℕ) → s < slot_count layout →
+    (i + length new ≤ GRANULE_BYTES * (slot_of layout s).start) ⊎ (GRANULE_BYTES * (slot_of layout s).start + GRANULE_BYTES ≤ i)) →
+    region_of layout (written i new memory)
+    ≡ record (region_of layout memory) { granules = written i new (without_headers layout memory) }
 
 -- ---- what is seen of a memory
 

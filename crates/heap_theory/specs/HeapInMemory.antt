@@ -1,32 +1,32 @@
--- How the headers and links of a memory show the slots of a heap.
+-- How the headers and links of a region show the slots of a heap.
 use Rattle.std.specs.Prelude.{◌≡◌, ◌≢◌, ℕ, ◌+◌, ◌*◌, ◌<◌, List, length, slice_get, slice_index, Some, AllPairs, Contains, IsFalse}
 use Rattle.machine_theory.specs.Memory.{Granule, word_at}
 use Rattle.class_table.specs.Layout.{Partition, slot_count, slot_of}
 use Rattle.heap_theory.specs.Booked.{HoldsQuarantined, HoldsReleased}
 use Rattle.heap_theory.specs.Choice.{is_dead}
-use Rattle.heap_theory.specs.Header.{header_at, header_for}
-use Rattle.heap_theory.specs.Links.{IsLinked, next_in, list_of}
-use Rattle.heap_theory.specs.State.{Heap, slot_in, state_at, without_headers, IsSlot}
+use Rattle.heap_theory.specs.Header.{header_for}
+use Rattle.heap_theory.specs.Links.{IsLinked, list_of}
+use Rattle.heap_theory.specs.Region.{Region, header_in, next_in, region_of}
+use Rattle.heap_theory.specs.State.{Heap, state_at, IsSlot}
 use Rattle.machine_theory.specs.declared.sizes.TheConstants.{GRANULE_BYTES}
 
 -- The region of a heap: its headers, and the queue and lists that are linked through them.
-pub record IsKeptIn (heap : Heap) (memory : List Granule) : Type 0 where
+pub record IsKeptIn (heap : Heap) (region : Region) : Type 0 where
   -- each header shows its slot's state
-  pub seen : without_headers heap.layout memory ≡ heap.memory
-  pub headers : (s : ℕ) → IsSlot heap s → header_at memory (slot_in heap s).start ≡ header_for heap s (next_in heap.layout memory s)
-  pub unlinked : (s : ℕ) → IsSlot heap s → IsFalse (is_dead (state_at heap s)) → next_in heap.layout memory s ≡ 0
+  pub seen : region.granules ≡ heap.memory
+  pub headers : (s : ℕ) → IsSlot heap s → header_in region s ≡ header_for heap s (next_in region s)
+  pub unlinked : (s : ℕ) → IsSlot heap s → IsFalse (is_dead (state_at heap s)) → next_in region s ≡ 0
   -- from the quarantine's front the links meet each quarantined slot once, in ascending mark, and end
   pub front : ℕ
   pub queue : List ℕ
-  pub queue_linked : IsLinked (next_in heap.layout memory) front queue
+  pub queue_linked : IsLinked (next_in region) front queue
   pub queue_holds : HoldsQuarantined heap queue
   pub queue_once : AllPairs (λ s r. s ≢ r) queue
   -- from each class's front they meet each of its released slots once, in descending mark, and end
   pub fronts : List ℕ
   pub lists : List (List ℕ)
   pub fronts_long : length fronts ≡ length heap.layout.classes
-  pub list_linked : (number : ℕ) → number < length fronts →
-      IsLinked (next_in heap.layout memory) (slice_index fronts number) (list_of lists number)
+  pub list_linked : (number : ℕ) → number < length fronts → IsLinked (next_in region) (slice_index fronts number) (list_of lists number)
   pub list_holds : (number class : ℕ) → slice_get heap.layout.classes number ≡ Some class → HoldsReleased heap class (list_of lists number)
   pub list_once : (number : ℕ) → number < length fronts → AllPairs (λ s r. s ≢ r) (list_of lists number)
   -- no slot is in two lists, or in a list and in the queue
@@ -43,11 +43,11 @@ pub record HaveSameHeaderWords (layout : Partition) (memory other : List Granule
       word_at other (GRANULE_BYTES * (slot_of layout s).start + 8) ≡ word_at memory (GRANULE_BYTES * (slot_of layout s).start + 8)
 
 -- Header words stay from one heap to another: whatever memory keeps the first and whatever memory keeps the second, the words of each
--- slot's
--- header are the same in both. So they are in the regions that `Heap::memory` lends before and after.
+-- slot's header are the same in both. So they are in the regions that `Heap::memory` lends before and after.
 abbrev pub HeaderWordsStay : Heap → Heap → Type 0
 HeaderWordsStay before after =
-    (memory new : List Granule) → IsKeptIn before memory → IsKeptIn after new → HaveSameHeaderWords before.layout memory new
+    (memory new : List Granule) → IsKeptIn before (region_of before.layout memory) → IsKeptIn after (region_of after.layout new) →
+    HaveSameHeaderWords before.layout memory new
 
 -- Two heaps with the same layout, slots, total and limit.
 pub record HaveSameSlots (heap other : Heap) : Type 0 where

@@ -14,6 +14,7 @@ pub mod Losses
 pub mod OwnPointers
 pub mod Places
 pub mod Ranges
+pub mod Region
 pub mod Report
 pub mod Run
 pub mod Sound

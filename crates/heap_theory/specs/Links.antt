@@ -1,17 +1,10 @@
 -- Lists that are linked through the headers of their slots. A link is the number of a slot plus one, or 0 where a list ends.
 use Rattle.std.specs.Prelude.{◌≡◌, ℕ, suc, List, [], ◌∷◌, slice_index_or}
-use Rattle.machine_theory.specs.Memory.{Granule}
-use Rattle.class_table.specs.Layout.{Partition, slot_of}
-use Rattle.heap_theory.specs.Header.{header_at}
 
 -- From the link `front` on, following the links of slots, these slots are met in order, and then the links end.
 abbrev pub IsLinked : (ℕ → ℕ) → ℕ → List ℕ → Type 0
 IsLinked next front [] = front ≡ 0
 IsLinked next front (s ∷ rest) = (front ≡ suc s) × IsLinked next (next s) rest
-
--- the link in the header of a slot
-abbrev pub next_in : Partition → List Granule → ℕ → ℕ
-next_in layout memory s = (header_at memory (slot_of layout s).start).next
 
 -- the link to the last slot of a list
 abbrev pub last_link : List ℕ → ℕ

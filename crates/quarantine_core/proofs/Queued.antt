@@ -1,13 +1,13 @@
 -- What putting a slot after a queue, and taking one off its front, make of it.
-use Rattle.std.proofs.Common.{◌≡◌, ◌≢◌, ℕ, suc, ◌+◌, ◌-◌, ◌<◌, ◌≤◌, List, [], ◌∷◌, ◌++◌, get_or, drop, refl, sym, ap, ◌∙◌, subst, ⊎_elim, arith}
+use Rattle.std.proofs.Common.{◌≡◌, ◌≢◌, ℕ, suc, ◌+◌, ◌-◌, ◌<◌, ◌≤◌, List, [], ◌∷◌, ◌++◌, length, get_or, drop, refl, sym, ap, ◌∙◌, subst, ⊎_elim, arith}
 use Rattle.std.specs.Prelude.{All, Contains}
 use Rattle.std.proofs.lemmas.List.Elements.{Contains-get_or}
 use Rattle.std.proofs.lemmas.List.Sums.{sum_by-cons, sum_by_push}
-use Rattle.machine_theory.specs.Memory.{Granule}
 use Rattle.class_table.specs.Layout.{Partition, block_bytes, slot_count, slot_of}
-use Rattle.heap_theory.specs.Links.{IsLinked, last_link, next_in}
+use Rattle.heap_theory.specs.Links.{IsLinked, last_link}
+use Rattle.heap_theory.specs.Region.{Region, next_in, with_slot_link}
 use Rattle.heap_theory.proofs.Found.{Contains-cases, Contains-last_cases, Contains-tail}
-use Rattle.chunk_header.specs.Links.{SetsLink}
+use Rattle.heap_theory.proofs.Regions.{other_link, own_link}
 use Rattle.quarantine_core.specs.Queue.{Queue, AreQueued, bytes_of}
 use Rattle.quarantine_core.proofs.TheoryLemmas.{each_once, last_ends, links_stay, put_after, put_is_last}
 
@@ -24,10 +24,10 @@ no_last (s ∷ r ∷ rest) is = absurd (some r rest is)
     some r (q ∷ more) is = some q more is
 
 -- the last slot is of the layout
-pub last_within : (value : Queue) (layout : Partition) (memory : List Granule) (queue : List ℕ) → AreQueued value layout memory queue →
+pub last_within : (value : Queue) (layout : Partition) (region : Region) (queue : List ℕ) → AreQueued value layout region queue →
     value.back ≢ 0 →
     value.back - 1 < slot_count layout
-last_within value layout memory queue old some =
+last_within value layout region queue old some =
     subst (λ last. last - 1 < slot_count layout) (sym old.back)
     (last_in queue (λ k d at. old.slots (get_or queue k d) (Contains-get_or queue k d at)) (λ none. some (old.back ∙ none)))
   where
@@ -36,14 +36,14 @@ last_within value layout memory queue old some =
     last_in (s ∷ []) within some = let first : s < slot_count layout = within 0 s (omega arith) in omega arith
     last_in (s ∷ r ∷ rest) within some = last_in (r ∷ rest) (λ k d at. within (suc k) d (omega arith)) some
 
-pub put_first : (value new : Queue) (layout : Partition) (memory : List Granule) (queue : List ℕ) (slot bytes : ℕ) →
-    AreQueued value layout memory queue → value.back ≡ 0 → slot < slot_count layout → next_in layout memory slot ≡ 0 →
+pub put_first : (value new : Queue) (layout : Partition) (region : Region) (queue : List ℕ) (slot bytes : ℕ) →
+    AreQueued value layout region queue → value.back ≡ 0 → slot < slot_count layout → next_in region slot ≡ 0 →
     bytes ≡ block_bytes (slot_of layout slot) →
-    new.front ≡ suc slot → new.back ≡ suc slot → new.held ≡ value.held + bytes → AreQueued new layout memory (queue ++ slot ∷ [])
-put_first value new layout memory queue slot bytes old none within ends is front back held =
+    new.front ≡ suc slot → new.back ≡ suc slot → new.held ≡ value.held + bytes → AreQueued new layout region (queue ++ slot ∷ [])
+put_first value new layout region queue slot bytes old none within ends is front back held =
     let empty : queue ≡ [] = no_last queue (sym old.back ∙ none) in
     let alone : bytes_of layout queue ≡ 0 = ap (bytes_of layout) empty in
-    subst (λ q. AreQueued new layout memory (q ++ slot ∷ [])) (sym empty)
+    subst (λ q. AreQueued new layout region (q ++ slot ∷ [])) (sym empty)
     (record {
       slots =
           λ s there. ⊎_elim (λ same. subst (λ n. n < slot_count layout) same within) (λ none. absurd (omega (arith, none.1)))
@@ -53,24 +53,25 @@ put_first value new layout memory queue slot bytes old none within ends is front
       held = held ∙ omega (arith, old.held, alone, is);
     })
 
-pub put_at_end : (value new : Queue) (layout : Partition) (memory after : List Granule) (queue : List ℕ) (last slot next bytes : ℕ) →
-    AreQueued value layout memory queue → value.back ≡ suc last → SetsLink layout memory after last next → next ≡ suc slot →
-    slot < slot_count layout → (Contains queue slot → ⊥) → next_in layout memory slot ≡ 0 → bytes ≡ block_bytes (slot_of layout slot) →
+pub put_at_end : (value new : Queue) (layout : Partition) (region after : Region) (queue : List ℕ) (last slot next bytes : ℕ) →
+    AreQueued value layout region queue → length region.headers ≡ slot_count layout → value.back ≡ suc last →
+    after ≡ with_slot_link region last next → next ≡ suc slot →
+    slot < slot_count layout → (Contains queue slot → ⊥) → next_in region slot ≡ 0 → bytes ≡ block_bytes (slot_of layout slot) →
     new.front ≡ value.front → new.back ≡ suc slot → new.held ≡ value.held + bytes → AreQueued new layout after (queue ++ slot ∷ [])
-put_at_end value new layout memory after queue last slot next bytes old some link to within outside ends is front back held = record {
+put_at_end value new layout region after queue last slot next bytes old long some link to within outside ends is front back held = record {
   slots = λ s there. ⊎_elim (λ same. subst (λ n. n < slot_count layout) same within) (old.slots s) (Contains-last_cases queue slot s there);
   linked =
-      subst (λ f. IsLinked (next_in layout after) f (queue ++ slot ∷ [])) (sym front)
-      (put_after (next_in layout memory) (next_in layout after) value.front last slot queue old.linked (sym old.back ∙ some)
-      (λ r there other. link.links r (old.slots r there) other)
-      (link.own ∙ to)
-      (link.links slot within another ∙ ends));
+      subst (λ f. IsLinked (next_in after) f (queue ++ slot ∷ [])) (sym front)
+      (put_after (next_in region) (next_in after) value.front last slot queue old.linked (sym old.back ∙ some)
+      (λ r there other. other_link region last next link r other)
+      (own_link region last next link (subst (λ n. last < n) (sym long) (old.slots last in_queue)) ∙ to)
+      (other_link region last next link slot another ∙ ends));
   back = back ∙ sym (put_is_last queue slot);
   held = held ∙ omega (arith, old.held, is, sum_by_push (λ s. block_bytes (slot_of layout s)) queue slot);
 }
   where
     in_queue : Contains queue last
-    in_queue = (last_ends (next_in layout memory) value.front last queue old.linked (sym old.back ∙ some)).0
+    in_queue = (last_ends (next_in region) value.front last queue old.linked (sym old.back ∙ some)).0
 
     another : slot ≢ last
     another same = outside (subst (Contains queue) (sym same) in_queue)
@@ -78,52 +79,52 @@ put_at_end value new layout memory after queue last slot next bytes old some lin
 -- ---- a slot is taken off
 
 -- a queue of some bytes has a first slot
-pub some_held : (value : Queue) (layout : Partition) (memory : List Granule) (queue : List ℕ) → AreQueued value layout memory queue →
+pub some_held : (value : Queue) (layout : Partition) (region : Region) (queue : List ℕ) → AreQueued value layout region queue →
     0 < value.held →
     queue ≡ (value.front - 1) ∷ drop 1 queue
-some_held value layout memory [] old some = absurd (omega (arith, old.held))
-some_held value layout memory (s ∷ rest) old some =
+some_held value layout region [] old some = absurd (omega (arith, old.held))
+some_held value layout region (s ∷ rest) old some =
     let front : s ≡ value.front - 1 = omega (arith, old.linked.0) in ap (λ r. r ∷ rest) front
 
 -- which is of the layout
-pub first_within : (value : Queue) (layout : Partition) (memory : List Granule) (queue : List ℕ) → AreQueued value layout memory queue →
+pub first_within : (value : Queue) (layout : Partition) (region : Region) (queue : List ℕ) → AreQueued value layout region queue →
     0 < value.held →
     (1 ≤ value.front) × (value.front - 1 < slot_count layout)
-first_within value layout memory [] old some = absurd (omega (arith, old.held))
-first_within value layout memory (s ∷ rest) old some =
+first_within value layout region [] old some = absurd (omega (arith, old.held))
+first_within value layout region (s ∷ rest) old some =
     let within : s < slot_count layout = old.slots s (0, omega arith, refl) in
     (omega (arith, old.linked.0), omega (arith, old.linked.0))
 
-pub take_oldest : (value new : Queue) (layout : Partition) (memory after : List Granule) (slot next : ℕ) (queue : List ℕ) →
-    AreQueued value layout memory (slot ∷ queue) → SetsLink layout memory after slot 0 → next ≡ next_in layout memory slot →
+pub take_oldest : (value new : Queue) (layout : Partition) (region after : Region) (slot next : ℕ) (queue : List ℕ) →
+    AreQueued value layout region (slot ∷ queue) → after ≡ with_slot_link region slot 0 → next ≡ next_in region slot →
     new.front ≡ next → (next ≡ 0 → new.back ≡ 0) → (next ≢ 0 → new.back ≡ value.back) →
     new.held + block_bytes (slot_of layout slot) ≡ value.held → AreQueued new layout after queue
-take_oldest value new layout memory after slot next queue old link is front none some held = record {
+take_oldest value new layout region after slot next queue old link is front none some held = record {
   slots = λ s there. old.slots s (Contains-tail slot queue s there);
   linked =
-      subst (λ f. IsLinked (next_in layout after) f queue) (sym (front ∙ is))
-      (links_stay (next_in layout memory) (next_in layout after) (next_in layout memory slot) queue same old.linked.1);
+      subst (λ f. IsLinked (next_in after) f queue) (sym (front ∙ is))
+      (links_stay (next_in region) (next_in after) (next_in region slot) queue same old.linked.1);
   back = back queue old.linked.1 old.back;
   held = omega (arith, old.held, held, sum_by-cons (λ s. block_bytes (slot_of layout s)) slot queue);
 }
   where
-    same : (r : ℕ) → Contains queue r → next_in layout after r ≡ next_in layout memory r
+    same : (r : ℕ) → Contains queue r → next_in after r ≡ next_in region r
     same r there =
-        link.links r (old.slots r (Contains-tail slot queue r there))
-        (λ is. each_once (next_in layout memory) value.front (slot ∷ queue) old.linked 0 (suc there.0) r (omega arith)
+        other_link region slot 0 link r
+        (λ is. each_once (next_in region) value.front (slot ∷ queue) old.linked 0 (suc there.0) r (omega arith)
         (omega (arith, there.1)) (sym (there.2 ∙ is)))
 
-    back : (queue : List ℕ) → IsLinked (next_in layout memory) (next_in layout memory slot) queue → value.back ≡ last_link (slot ∷ queue) →
+    back : (queue : List ℕ) → IsLinked (next_in region) (next_in region slot) queue → value.back ≡ last_link (slot ∷ queue) →
         new.back ≡ last_link queue
     back [] linked last = none (is ∙ linked)
     back (r ∷ rest) linked last = some (λ zero. omega (arith, linked.0)) ∙ last
 
 -- the first slot's block is among the bytes that are held
-pub oldest_held : (value : Queue) (layout : Partition) (memory : List Granule) (queue : List ℕ) (front bytes held : ℕ) →
-    AreQueued value layout memory queue → 0 < value.held → front ≡ value.front → bytes ≡ block_bytes (slot_of layout (front - 1)) →
+pub oldest_held : (value : Queue) (layout : Partition) (region : Region) (queue : List ℕ) (front bytes held : ℕ) →
+    AreQueued value layout region queue → 0 < value.held → front ≡ value.front → bytes ≡ block_bytes (slot_of layout (front - 1)) →
     held ≡ value.held → bytes ≤ held
-oldest_held value layout memory queue front bytes held old some is block all =
+oldest_held value layout region queue front bytes held old some is block all =
     let first : queue ≡ (front - 1) ∷ drop 1 queue =
-    subst (λ f. queue ≡ (f - 1) ∷ drop 1 queue) (sym is) (some_held value layout memory queue old some) in
+    subst (λ f. queue ≡ (f - 1) ∷ drop 1 queue) (sym is) (some_held value layout region queue old some) in
     let sum : bytes_of layout queue ≡ bytes_of layout ((front - 1) ∷ drop 1 queue) = ap (bytes_of layout) first in
     omega (arith, old.held, sum, block, all, sum_by-cons (λ s. block_bytes (slot_of layout s)) (front - 1) (drop 1 queue))

@@ -3,7 +3,8 @@ use Rattle.std.specs.Prelude.{◌≡◌, ℕ, suc, ◌+◌, ◌-◌, ◌<◌, �
 use Rattle.machine_theory.specs.Memory.{Granule}
 use Rattle.chunk_header.specs.Links.{SetsLink}
 use Rattle.class_table.specs.Layout.{Partition, block_bytes, slot_count, slot_of}
-use Rattle.heap_theory.specs.Links.{IsLinked, last_link, next_in}
+use Rattle.heap_theory.specs.Links.{IsLinked, last_link}
+use Rattle.heap_theory.specs.Region.{Region, next_in, region_of}
 
 -- What a quarantine keeps beside its slots' links: the links to the slot that was put in first and to the one that was put in last, or 0;
 -- the bytes of the blocks in it, and how many it may hold.
@@ -17,22 +18,21 @@ pub record Queue : Type 0 where
 abbrev pub bytes_of : Partition → List ℕ → ℕ
 bytes_of layout slots = sum_by (λ s. block_bytes (slot_of layout s)) slots
 
--- From the front the links show these slots of the layout, the one put in first at the front, and then end; the back is the link to the
--- last
--- of them, and what is held are the bytes of their blocks.
-pub record AreQueued (value : Queue) (layout : Partition) (memory : List Granule) (queue : List ℕ) : Type 0 where
+-- From the front the links of a region show these slots of the layout, the one put in first at the front, and then end; the back is the
+-- link to the last of them, and what is held are the bytes of their blocks.
+pub record AreQueued (value : Queue) (layout : Partition) (region : Region) (queue : List ℕ) : Type 0 where
   pub slots : (s : ℕ) → Contains queue s → s < slot_count layout
-  pub linked : IsLinked (next_in layout memory) value.front queue
+  pub linked : IsLinked (next_in region) value.front queue
   pub back : value.back ≡ last_link queue
   pub held : value.held ≡ bytes_of layout queue
 
 -- The links show some queue.
-abbrev pub LinksStand : Queue → Partition → List Granule → Type 0
-LinksStand value layout memory = (queue : List ℕ) × AreQueued value layout memory queue
+abbrev pub LinksStand : Queue → Partition → Region → Type 0
+LinksStand value layout region = (queue : List ℕ) × AreQueued value layout region queue
 
 -- the slot is not in the queue that the links show
-abbrev pub IsOutside : Queue → Partition → List Granule → ℕ → Type 0
-IsOutside value layout memory slot = (queue : List ℕ) → AreQueued value layout memory queue → Contains queue slot → ⊥
+abbrev pub IsOutside : Queue → Partition → Region → ℕ → Type 0
+IsOutside value layout region slot = (queue : List ℕ) → AreQueued value layout region queue → Contains queue slot → ⊥
 
 -- ---- what is made of it
 
@@ -60,18 +60,19 @@ without_oldest value next bytes = record {
 -- its link is 0, and its block has n bytes.
 pub record CanBePut (value : Queue) (layout : Partition) (memory : List Granule) (s n : ℕ) : Type 0 where
   pub region : length memory ≡ layout.granules
-  pub linked : LinksStand value layout memory
+  pub linked : LinksStand value layout (region_of layout memory)
   pub slot : s < slot_count layout
-  pub outside : IsOutside value layout memory s
-  pub next : next_in layout memory s ≡ 0
+  pub outside : IsOutside value layout (region_of layout memory) s
+  pub next : next_in (region_of layout memory) s ≡ 0
   pub bytes : n ≡ block_bytes (slot_of layout s)
 
 -- Slot s is taken out: it was the first of the queue, and the others stay in it. The bytes of its block are no longer held. Of the memory
 -- only its link changes: it becomes 0.
 pub record TakesOldest (old new : Queue) (layout : Partition) (memory after : List Granule) (s : ℕ) : Type 0 where
   pub slot : s < slot_count layout
-  pub first : (queue : List ℕ) → AreQueued old layout memory queue → queue ≡ s ∷ drop 1 queue
-  pub queued : (queue : List ℕ) → AreQueued old layout memory (s ∷ queue) → AreQueued new layout after queue
-  pub value : new ≡ without_oldest old (next_in layout memory s) (block_bytes (slot_of layout s))
+  pub first : (queue : List ℕ) → AreQueued old layout (region_of layout memory) queue → queue ≡ s ∷ drop 1 queue
+  pub queued : (queue : List ℕ) → AreQueued old layout (region_of layout memory) (s ∷ queue) →
+      AreQueued new layout (region_of layout after) queue
+  pub value : new ≡ without_oldest old (next_in (region_of layout memory) s) (block_bytes (slot_of layout s))
   pub held : new.held + block_bytes (slot_of layout s) ≡ old.held
   pub link : SetsLink layout memory after s 0

@@ -1,15 +1,6 @@
 //! What holds for the quarantine's queue. Each law is the contract of a function that does nothing.
 //! A program may call a law, which costs nothing.
-ghost use Rattle.quarantine_core.specs.QueueLaws.{
-  NothingIsQueued,
-  OneQueueIsShown,
-  OtherBytesKeepQueue,
-  OtherFieldsKeepQueue,
-  OtherHeadersKeepQueue,
-  QueueIsShort,
-  QueueStays,
-  TagsKeepQueue,
-};
+ghost use Rattle.quarantine_core.specs.QueueLaws.{NothingIsQueued, OneQueueIsShown, QueueIsShort, QueueStays};
 
 /// The links show one queue, and it ends. It stays the same under each change that keeps the links of its slots.
 #[tactic(auto, using(crate::proofs::TheoryLemmas::kept_links))]
@@ -18,8 +9,4 @@ pub fn law_queue()
     ensures one { OneQueueIsShown }
     ensures short { QueueIsShort }
     ensures links { QueueStays }
-    ensures tags { TagsKeepQueue }
-    ensures bytes { OtherBytesKeepQueue }
-    ensures headers { OtherHeadersKeepQueue }
-    ensures fields { OtherFieldsKeepQueue }
 {}

@@ -1,7 +1,6 @@
 ghost use Rattle.chunk_header.specs.Links.{SetsLink};
-ghost use Rattle.class_table.specs.Layout.{slot_count};
-ghost use Rattle.heap_theory.specs.Links.{IsLinked, next_in};
-ghost use Rattle.machine_theory.specs.Memory.{Granule};
+ghost use Rattle.heap_theory.specs.Links.{IsLinked};
+ghost use Rattle.heap_theory.specs.Region.{Region, next_in, region_of};
 ghost use Rattle.quarantine_core.specs.Queue.{
   AreQueued,
   CanBePut,
@@ -41,7 +40,7 @@ impl Quarantine {
     /// An empty quarantine. It releases nothing until its blocks exceed `limit` bytes.
     pub fn new(_layout: &Layout, limit: u32) -> Quarantine
         ensures value { result ≡ record { front = 0; back = 0; held = 0; limit = limit } }
-        ensures queued { (memory : List Granule) → AreQueued result _layout.now memory [] }
+        ensures queued { (region : Region) → AreQueued result _layout.now region [] }
     {
         Quarantine {
             front: 0,
@@ -63,20 +62,18 @@ impl Quarantine {
     #[tactic(auto, using(crate::proofs::TheoryLemmas::each_once, crate::proofs::Blocks::few_bytes))]
     pub fn put(&mut self, memory: &mut Memory, layout: &Layout, slot: u32, bytes: u32)
         requires { CanBePut self.old layout.now memory.old slot bytes }
-        ensures queued { (queue : List ℕ) → AreQueued self.old layout.now memory.old queue
-            → AreQueued self.new layout.now memory.new (queue ++ slot ∷ []) }
-        ensures linked { LinksStand self.new layout.now memory.new }
+        ensures queued { (queue : List ℕ) → AreQueued self.old layout.now (region_of layout.now memory.old) queue →
+            AreQueued self.new layout.now (region_of layout.now memory.new) (queue ++ slot ∷ []) }
+        ensures linked { LinksStand self.new layout.now (region_of layout.now memory.new) }
         ensures value { self.new ≡ with_newest self.old slot bytes }
 
         // what changes in the memory
         ensures first { self.old.back ≡ 0 → memory.new ≡ memory.old }
-        ensures after { (last : ℕ) → self.old.back ≡ suc last
-            → SetsLink layout.now memory.old memory.new last (suc slot) }
-        ensures lists { (front : ℕ) (list : List ℕ)
-            → ((s : ℕ) → Contains list s → s < slot_count layout.now)
-            → ((s : ℕ) → Contains list s → self.old.back ≢ suc s)
-            → IsLinked (next_in layout.now memory.old) front list
-            → IsLinked (next_in layout.now memory.new) front list }
+        ensures after { (last : ℕ) → self.old.back ≡ suc last →
+            SetsLink layout.now memory.old memory.new last (suc slot) }
+        ensures lists { (front : ℕ) (list : List ℕ) → ((s : ℕ) → Contains list s → self.old.back ≢ suc s) →
+            IsLinked (next_in (region_of layout.now memory.old)) front list →
+            IsLinked (next_in (region_of layout.now memory.new)) front list }
         ensures region { length memory.new ≡ layout.now.granules }
     {
         prove!(layout.granules() >= FEWEST_GRANULES);
@@ -94,9 +91,9 @@ impl Quarantine {
     /// memory only the slot's own link changes: it becomes 0.
     pub fn next_out(&mut self, memory: &mut Memory, layout: &Layout) -> Option<u32>
         requires region { length memory.old ≡ layout.now.granules }
-        requires linked { LinksStand self.old layout.now memory.old }
+        requires linked { LinksStand self.old layout.now (region_of layout.now memory.old) }
         ensures over { IsSome result ↔ (self.old.limit < self.old.held) }
-        ensures linked { LinksStand self.new layout.now memory.new }
+        ensures linked { LinksStand self.new layout.now (region_of layout.now memory.new) }
         ensures same { IfNone result ((self.new ≡ self.old) × (memory.new ≡ memory.old)) }
         ensures oldest { IfSome result
             (λ slot. TakesOldest self.old self.new layout.now memory.old memory.new slot) }
@@ -111,10 +108,10 @@ impl Quarantine {
     // takes off the slot that was put in first; the quarantine must hold some bytes
     fn take_oldest(&mut self, memory: &mut Memory, layout: &Layout) -> u32
         requires region { length memory.old ≡ layout.now.granules }
-        requires linked { LinksStand self.old layout.now memory.old }
+        requires linked { LinksStand self.old layout.now (region_of layout.now memory.old) }
         requires some { 0 < self.old.held }
         ensures oldest { TakesOldest self.old self.new layout.now memory.old memory.new result }
-        ensures linked { LinksStand self.new layout.now memory.new }
+        ensures linked { LinksStand self.new layout.now (region_of layout.now memory.new) }
         ensures region { length memory.new ≡ layout.now.granules }
     {
         let slot = self.front - 1;

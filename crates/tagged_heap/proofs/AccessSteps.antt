@@ -11,7 +11,8 @@ use Rattle.heap_theory.specs.Header.Standing.{Fresh as IsFresh, Live as IsLive, 
 use Rattle.heap_theory.specs.Places.{place_kind, kind_at, kind_of_chunk}
 use Rattle.heap_theory.specs.State.{State, Heap, slot_in, state_at, chunk_granules, chunk_of, payload_start, IsSlot}
 use Rattle.heap_theory.specs.State.State.{Fresh, Live, Dead}
-use Rattle.tagged_heap.specs.Representation.{header_in, standing_from, Parts, IsKept}
+use Rattle.tagged_heap.specs.Representation.{standing_from, Parts, IsKept}
+use Rattle.heap_theory.specs.Region.{region_of, header_in}
 use Rattle.tagged_heap.proofs.TheoryLemmas as laws
 use Rattle.tagged_heap.proofs.Kept.{class_most, size_most}
 
@@ -68,10 +69,10 @@ module _ {h : Heap} {p : Parts} (k : IsKept h p) {g s : ℕ} (before : ℕ) (the
       sym (cond-true (eqb (slot_in h s).start g) _ _ (eq-eqb (slot_in h s).start g (omega (arith, none, at))))
       ∙ ap (λ o. kind_at h o g) (sym there)
 
-  size_is : (header_in h.layout p.memory s).size ≡ size_of (state_at h s)
+  size_is : (header_in (region_of h.layout p.memory) s).size ≡ size_of (state_at h s)
   size_is = ap (λ (x : TheHeader). x.size) (k.headers.headers s in_range)
 
-  pub size_few : (header_in h.layout p.memory s).size ≤ 16368
+  pub size_few : (header_in (region_of h.layout p.memory) s).size ≤ 16368
   size_few =
       omega (
         arith,
@@ -88,15 +89,15 @@ module _ {h : Heap} {p : Parts} (k : IsKept h p) {g s : ℕ} (before : ℕ) (the
         sym (cond-false (eqb (slot_in h s).start g) _ _ (ne_eqb (slot_in h s).start g (λ is. other (omega (arith, is, at)))))
         ∙ ap (λ o. kind_at h o g) (sym there)
 
-    pub tail_kind : chunk_granules (header_in h.layout p.memory s).size < before → Tail ≡ place_kind h g
+    pub tail_kind : chunk_granules (header_in (region_of h.layout p.memory) s).size < before → Tail ≡ place_kind h g
     tail_kind after =
         let most = chunk_most (state_at h s) in
         let past : payload_start (slot_in h s) + chunk_of (state_at h s) ≤ g = omega (arith, ap chunk_granules size_is, at) in
         sym (cond-false (is_among (payload_start (slot_in h s)) (chunk_of (state_at h s)) g) _ _ (and_right _ _ (le-ltb g _ past)))
         ∙ payload_kind
 
-    pub chunk_granule_kind : before ≤ chunk_granules (header_in h.layout p.memory s).size →
-        kind_by (header_in h.layout p.memory s).standing ≡ place_kind h g
+    pub chunk_granule_kind : before ≤ chunk_granules (header_in (region_of h.layout p.memory) s).size →
+        kind_by (header_in (region_of h.layout p.memory) s).standing ≡ place_kind h g
     chunk_granule_kind within =
         ap (λ (x : TheHeader). kind_by x.standing) (k.headers.headers s in_range)
         ∙ chunk_kind k.from (payload_start (slot_in h s)) g (state_at h s) (omega (arith, other, at))

@@ -8,7 +8,8 @@ use Rattle.heap_theory.specs.Booked.{HasMark, IsBooked}
 use Rattle.heap_theory.specs.Calls.{chunk_tagged}
 use Rattle.heap_theory.specs.Choice.{is_dead}
 use Rattle.heap_theory.specs.Header.{Standing, Header, FitsWords, with_header}
-use Rattle.heap_theory.specs.Links.{IsLinked, next_in, list_of}
+use Rattle.heap_theory.specs.Links.{IsLinked, list_of}
+use Rattle.heap_theory.specs.Region.{Region, region_of, header_in, next_in}
 use Rattle.heap_theory.specs.Sound.{IsSoundHeap}
 use Rattle.heap_theory.specs.State.{State, Heap, slot_in, state_at, is_fresh, chunk_granules, payload_start, without_headers, IsSlot}
 use Rattle.heap_theory.specs.State.State.{Fresh, Live}
@@ -16,7 +17,7 @@ use Rattle.heap_theory.proofs.Marks.{chain_dead, list_dead, not_marked}
 use Rattle.heap_theory.proofs.Releasing.{list_of-here, list_of-there}
 use Rattle.heap_theory.proofs.SeenMemory.{length-without_headers}
 use Rattle.tagged_heap.proofs.TheoryLemmas as laws
-use Rattle.tagged_heap.specs.Representation.{header_in, header_from, IsRewritten, HasHeaders, AreListed, AreFirstFresh, Parts, IsKept}
+use Rattle.tagged_heap.specs.Representation.{header_from, IsRewritten, HasHeaders, AreListed, AreFirstFresh, Parts, IsKept}
 use Rattle.tagged_heap.proofs.HeaderPlaces.{then_tagged, then_written, written_header}
 use Rattle.tagged_heap.proofs.Kept.{header_fits, within_states, booked_same}
 
@@ -70,25 +71,25 @@ module _ (h : Heap) (s : ℕ) (state : State) (memory : List Granule) (total see
   state_there r other = get_or-set_other h.states s r state Fresh other
 
   -- the slot's header is that of its new state, and in other headers at most the links change
-  pub headers_changed : {m new : List Granule} {from : ℕ} → HasHeaders h m from →
-      header_in h.layout new s ≡ header_from h.layout from s state (next_in h.layout new s) →
-      ((r : ℕ) → IsSlot h r → r ≢ s → header_in h.layout new r ≡ with_link (header_in h.layout m r) (next_in h.layout new r)) →
-      (is_dead state ≡ false → next_in h.layout new s ≡ 0) →
-      ((r : ℕ) → IsSlot h r → r ≢ s → is_dead (state_at h r) ≡ false → next_in h.layout new r ≡ next_in h.layout m r) →
+  pub headers_changed : {m new : Region} {from : ℕ} → HasHeaders h m from →
+      header_in new s ≡ header_from h.layout from s state (next_in new s) →
+      ((r : ℕ) → IsSlot h r → r ≢ s → header_in new r ≡ with_link (header_in m r) (next_in new r)) →
+      (is_dead state ≡ false → next_in new s ≡ 0) →
+      ((r : ℕ) → IsSlot h r → r ≢ s → is_dead (state_at h r) ≡ false → next_in new r ≡ next_in m r) →
       HasHeaders (changed h s state memory total seed tag) new from
   headers_changed {m} {new} {from} before own others link links = record {
     headers = λ r in_range. elim (cases_eq r s) [
       | inl is ↦
-          subst (λ q. header_in h.layout new q ≡ header_from h.layout from q (state_at (changed h s state memory total seed tag) q)
-          (next_in h.layout new q)) (sym is)
-          (own ∙ ap (λ x. header_from h.layout from s x (next_in h.layout new s)) (sym state_here))
+          subst (λ q. header_in new q ≡ header_from h.layout from q (state_at (changed h s state memory total seed tag) q)
+          (next_in new q)) (sym is)
+          (own ∙ ap (λ x. header_from h.layout from s x (next_in new s)) (sym state_here))
       | inr other ↦
-          others r in_range other ∙ ap (λ x. with_link x (next_in h.layout new r)) (before.headers r in_range)
-          ∙ ap (λ x. header_from h.layout from r x (next_in h.layout new r)) (sym (state_there r other))
+          others r in_range other ∙ ap (λ x. with_link x (next_in new r)) (before.headers r in_range)
+          ∙ ap (λ x. header_from h.layout from r x (next_in new r)) (sym (state_there r other))
     ];
     unlinked = λ r in_range alive. elim (cases_eq r s) [
       | inl is ↦
-          ap (next_in h.layout new) is
+          ap (next_in new) is
           ∙ link (sym (ap is_dead state_here) ∙ ap (λ q. is_dead (state_at (changed h s state memory total seed tag) q)) (sym is) ∙ alive)
       | inr other ↦
           let alive' : is_dead (state_at h r) ≡ false = ap is_dead (sym (state_there r other)) ∙ alive in
@@ -132,7 +133,7 @@ module _ {h : Heap} {p : Parts} (k : IsKept h p) (s n tag seed drawn : ℕ) (in_
       let here = state_here h s (Live n tag) (alive h s n tag seed drawn).memory h.total seed drawn (within_states k s in_range) in
       let long : length m1 ≡ h.layout.granules = sym (length-without_headers h.layout m1) ∙ ap length before.seen_is ∙ k.sound.long in
       let written : IsRewritten h.layout m1 (with_header m1 (slot_in h s).start own) s own (without_headers h.layout m1) =
-      written_header h.layout m1 s own is k.sound.slots long in_range
+      written_header h.layout m1 s own is k.sound.region long in_range
       (subst (λ x. FitsWords (header_from h.layout k.from s x 0)) here
       (header_fits (alive h s n tag seed drawn) k.from s 0 sound in_range (omega arith) fits)) in
       let seen = subst (IsRewritten h.layout m1 (with_header m1 (slot_in h s).start own) s own) before.seen_is written in
@@ -142,7 +143,8 @@ module _ {h : Heap} {p : Parts} (k : IsKept h p) (s n tag seed drawn : ℕ) (in_
       subst (λ x. IsRewritten h.layout p.memory x s own (alive h s n tag seed drawn).memory)
       (sym (new_is ∙ (λ i. chunk_tagged (slot_in h s) n (tag_is i) (with_header m1 (slot_in h s).start (header_is i))))) all
 
-  pub kept_alive : {new : List Granule} {fronts : List ℕ} {lists : List (List ℕ)} → AreListed (next_in h.layout p.memory) fronts lists →
+  pub kept_alive : {new : List Granule} {fronts : List ℕ} {lists : List (List ℕ)} →
+      AreListed (next_in (region_of h.layout p.memory)) fronts lists →
       IsBooked (alive h s n tag seed drawn) k.queue lists →
       IsRewritten h.layout p.memory new s (header_from h.layout k.from s (Live n tag) 0) (alive h s n tag seed drawn).memory →
       IsMemory new → IsKept (alive h s n tag seed drawn) (record p { memory = new; fronts = fronts })
@@ -156,7 +158,8 @@ module _ {h : Heap} {p : Parts} (k : IsKept h p) (s n tag seed drawn : ℕ) (in_
     headers =
         headers_changed h s (Live n tag) now.memory h.total seed drawn (within_states k s in_range) k.headers
         (written.own ∙ ap (header_from h.layout k.from s (Live n tag)) (sym own_next))
-        (λ r inside other. written.others r inside other ∙ ap (with_link (header_in h.layout p.memory r)) (sym (other_next r inside other)))
+        (λ r inside other. written.others r inside other
+        ∙ ap (with_link (header_in (region_of h.layout p.memory) r)) (sym (other_next r inside other)))
         (λ _. own_next) (λ r inside other _. other_next r inside other);
     queued = record {
       slots = k.queued.slots;
@@ -177,13 +180,14 @@ module _ {h : Heap} {p : Parts} (k : IsKept h p) (s n tag seed drawn : ℕ) (in_
       now : Heap
       now = alive h s n tag seed drawn
 
-      own_next : next_in h.layout new s ≡ 0
+      own_next : next_in (region_of h.layout new) s ≡ 0
       own_next = ap (λ (x : Header). x.next) written.own
 
-      other_next : (r : ℕ) → IsSlot h r → r ≢ s → next_in h.layout new r ≡ next_in h.layout p.memory r
+      other_next : (r : ℕ) → IsSlot h r → r ≢ s → next_in (region_of h.layout new) r ≡ next_in (region_of h.layout p.memory) r
       other_next r inside other = ap (λ (x : Header). x.next) (written.others r inside other)
 
-      dead_next : (r mark : ℕ) → IsSlot h r → HasMark (state_at now r) mark → next_in h.layout new r ≡ next_in h.layout p.memory r
+      dead_next : (r mark : ℕ) → IsSlot h r → HasMark (state_at now r) mark →
+          next_in (region_of h.layout new) r ≡ next_in (region_of h.layout p.memory) r
       dead_next r mark inside marked =
           let here = state_here h s (Live n tag) now.memory h.total seed drawn (within_states k s in_range) in
           let live = λ (is : r ≡ s). subst (λ x. HasMark x mark) here (subst (λ q. HasMark (state_at now q) mark) is marked) in

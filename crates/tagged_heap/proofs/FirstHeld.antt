@@ -8,14 +8,15 @@ use Rattle.machine_theory.specs.Memory.{Granule, IsMemory, new_granule}
 use Rattle.class_table.specs.Layout.{Partition, IsPartition, slot_of, slot_count, first_slot}
 use Rattle.class_table.specs.Tables.{IsLegalTable}
 use Rattle.heap_theory.specs.Header.{Header, class_number}
-use Rattle.heap_theory.specs.Links.{IsLinked, next_in, list_of}
+use Rattle.heap_theory.specs.Links.{IsLinked, list_of}
+use Rattle.heap_theory.specs.Region.{region_of, header_in, next_in}
 use Rattle.heap_theory.specs.State.{State, state_at, is_fresh, first_heap, without_headers}
 use Rattle.heap_theory.specs.State.State.{Fresh}
 use Rattle.heap_theory.proofs.Found.{Contains-none}
 use Rattle.heap_theory.proofs.FirstHeap.{get_or-replicate_any}
 use Rattle.heap_theory.proofs.Marks.{one_number, number_is}
 use Rattle.tagged_heap.proofs.TheoryLemmas as laws
-use Rattle.tagged_heap.specs.Representation.{header_in, header_from, AreFirstFresh, Parts}
+use Rattle.tagged_heap.specs.Representation.{header_from, AreFirstFresh, Parts}
 use Rattle.tagged_heap.specs.HeapView.{shown_heap, IsHeldIn}
 use Rattle.tagged_heap.proofs.Kept.{shown_is}
 use Rattle.tagged_heap.proofs.Shares.{first_slot-le, share_of_slot}
@@ -60,9 +61,10 @@ module _ (layout : Partition) (seed quarantine : ℕ) (is : IsPartition layout) 
     fresh = λ number s within in_range class above. ap is_fresh (state_fresh s);
   }
 
-  module _ (m : List Granule) (headers : (s : ℕ) → s < slot_count layout → header_in layout m s ≡ header_from layout 0 s Fresh 0)
+  module _ (m : List Granule)
+      (headers : (s : ℕ) → s < slot_count layout → header_in (region_of layout m) s ≡ header_from layout 0 s Fresh 0)
       (seen : without_headers layout m ≡ without_headers layout (replicate layout.granules new_granule)) (memory : IsMemory m) where
-    no_link : (s : ℕ) → s < slot_count layout → next_in layout m s ≡ 0
+    no_link : (s : ℕ) → s < slot_count layout → next_in (region_of layout m) s ≡ 0
     no_link s within = ap (λ (x : Header). x.next) (headers s within)
 
     -- what a new heap is made of
@@ -90,16 +92,16 @@ module _ (layout : Partition) (seed quarantine : ℕ) (is : IsPartition layout) 
             headers = record {
               headers = λ s within.
                   headers s within ∙ ap (header_from layout 0 s Fresh) (sym (no_link s within))
-                  ∙ ap (λ (x : State). header_from layout booked.from s x (next_in layout m s)) (sym (state_fresh s));
+                  ∙ ap (λ (x : State). header_from layout booked.from s x (next_in (region_of layout m) s)) (sym (state_fresh s));
               unlinked = λ s within alive. no_link s within;
             };
             queued = record { slots = λ s there. absurd (Contains-none s there); linked = refl; back = refl; held = refl };
             listed = record {
               long = length-replicate (length layout.classes) 0 ∙ sym (length-replicate {A = List ℕ} (length layout.classes) []);
               linked = λ number within.
-                  subst (λ front. IsLinked (next_in layout m) front (list_of (replicate (length layout.classes) []) number))
+                  subst (λ front. IsLinked (next_in (region_of layout m)) front (list_of (replicate (length layout.classes) []) number))
                   (sym (get_or-replicate_any (length layout.classes) number 0))
-                  (subst (λ (list : List ℕ). IsLinked (next_in layout m) 0 list)
+                  (subst (λ (list : List ℕ). IsLinked (next_in (region_of layout m)) 0 list)
                   (sym (get_or-replicate_any {A = List ℕ} (length layout.classes) number [])) refl);
             };
             booked = booked.booked;

@@ -18,21 +18,22 @@ use Rattle.heap_theory.specs.Booked.{HasMark, IsBooked}
 use Rattle.heap_theory.specs.Calls.{given_out, next_tag, parity_exclude, chunk_tagged}
 use Rattle.heap_theory.specs.Choice.{IsGiven, slot_for, slot_for_request, slot_in_class, lowest_fresh, is_dead}
 use Rattle.heap_theory.specs.Header.{Header, with_header}
-use Rattle.heap_theory.specs.Links.{IsLinked, next_in, list_of}
-use Rattle.heap_theory.specs.State.{State, Heap, slot_in, state_at, last_tag, is_fresh, payload_place, pointer_to, without_headers, IsSlot}
+use Rattle.heap_theory.specs.Links.{IsLinked, list_of}
+use Rattle.heap_theory.specs.Region.{region_of, header_in, next_in}
+use Rattle.heap_theory.specs.State.{State, Heap, slot_in, state_at, last_tag, is_fresh, payload_place, pointer_to, IsSlot}
 use Rattle.heap_theory.specs.State.State.{Fresh, Live, Dead}
 use Rattle.heap_theory.proofs.Found.{Contains-head}
 use Rattle.heap_theory.proofs.SeenMemory.{length-without_headers}
-use Rattle.chunk_header.specs.HeaderView.{with_next}
+use Rattle.chunk_header.specs.Links.{SetsLink}
 use Rattle.tagged_heap.proofs.TheoryLemmas as laws
 use Rattle.tagged_heap.specs.Chunks.{given_header, tag_for, IsCauseFor, HasRoom, HasClass, Takes}
-use Rattle.tagged_heap.specs.Representation.{header_in, header_from, IsRewritten, AreListed, AreFirstFresh, Parts, IsKept}
+use Rattle.tagged_heap.specs.Representation.{header_from, IsRewritten, AreListed, AreFirstFresh, Parts, IsKept}
 use Rattle.tagged_heap.specs.HeapView.{shown_heap, IsHeldIn}
 use Rattle.tagged_heap.proofs.Changed.{with_link, other_list, state_here, firsts_changed, kept_alive, alive_memory}
 use Rattle.tagged_heap.proofs.Firsts.{firsts_step, counted, lowest_counted, lowest_none}
-use Rattle.tagged_heap.proofs.HeaderPlaces.{written_header}
+use Rattle.tagged_heap.proofs.HeaderPlaces.{link_set}
 use Rattle.tagged_heap.proofs.Shares.{share_of_slot}
-use Rattle.tagged_heap.proofs.Kept.{class_few, header_fits, within_states, within_lists, region_is, front_few, list_slot, booked_at_rest, shown_is}
+use Rattle.tagged_heap.proofs.Kept.{class_few, within_states, within_lists, region_is, front_few, list_slot, booked_at_rest, shown_is}
 
 -- ---- the request
 
@@ -86,7 +87,7 @@ pub record IsTaken (h : Heap) (p : Parts) (k : IsKept h p) (m1 : List Granule) (
   pub before : IsRewritten h.layout p.memory m1 s (header_from h.layout k.from s (state_at h s) 0) h.memory
   pub memory_is : IsMemory m1
   pub lists : List (List ℕ)
-  pub listed : AreListed (next_in h.layout p.memory) fronts lists
+  pub listed : AreListed (next_in (region_of h.layout p.memory)) fronts lists
   pub booked : IsBooked (given_out h s n) k.queue lists
   pub fresh : AreFirstFresh (given_out h s n) firsts
 
@@ -98,21 +99,19 @@ module _ {h : Heap} {frees : ℕ} {p : Parts} {firsts : List ℕ} (held : IsHeld
   booked : IsBooked h held.kept.queue held.kept.lists
   booked = booked_at_rest held.kept held.rests
 
-  linked : IsLinked (next_in h.layout p.memory) (slice_index p.fronts number) (list_of held.kept.lists number)
+  linked : IsLinked (next_in (region_of h.layout p.memory)) (slice_index p.fronts number) (list_of held.kept.lists number)
   linked = held.kept.listed.linked number (within_lists held.kept number within)
 
   -- the link of the slot that is taken off a list is set to 0
-  link_cleared : (s : ℕ) → IsSlot h s →
-      IsRewritten h.layout p.memory (with_next p.memory (slot_in h s).start 0) s (header_from h.layout held.kept.from s (state_at h s) 0)
-      h.memory
-  link_cleared s in_range =
-      let k = held.kept in
-      let own = header_from h.layout k.from s (state_at h s) 0 in
-      subst (IsRewritten h.layout p.memory (with_next p.memory (slot_in h s).start 0) s own) k.seen
-      (subst (λ x. IsRewritten h.layout p.memory (with_header p.memory (slot_in h s).start x) s own (without_headers h.layout p.memory))
-      (sym (ap (λ x. with_link x 0) (k.headers.headers s in_range)))
-      (written_header h.layout p.memory s own k.memory_is k.sound.slots (region_is k) in_range
-      (header_fits h k.from s 0 k.sound in_range (omega arith) held.fits)))
+  link_cleared : {m1 : List Granule} (s : ℕ) → IsSlot h s → SetsLink h.layout p.memory m1 s 0 →
+      IsRewritten h.layout p.memory m1 s (header_from h.layout held.kept.from s (state_at h s) 0) h.memory
+  link_cleared s in_range set =
+      let cleared = link_set set in_range in
+      record {
+        own = cleared.own ∙ ap (λ x. with_link x 0) (held.kept.headers.headers s in_range);
+        others = cleared.others;
+        seen_is = cleared.seen_is ∙ held.kept.seen;
+      }
 
   -- the front of the class's list is taken, or where the list is empty the lowest fresh slot
   pub taken : {m1 : List Granule} {fronts' firsts' : List ℕ} (s : ℕ) →
@@ -122,7 +121,8 @@ module _ {h : Heap} {frees : ℕ} {p : Parts} {firsts : List ℕ} (held : IsHeld
   taken s (inl t) is =
       let k = held.kept in
       let plus : s + 1 ≡ suc s = omega arith in
-      let first = first_of (next_in h.layout p.memory) (slice_index p.fronts number) s (list_of k.lists number) linked (t.front ∙ plus) in
+      let first =
+      first_of (next_in (region_of h.layout p.memory)) (slice_index p.fronts number) s (list_of k.lists number) linked (t.front ∙ plus) in
       let request : slot_for_request h n ≡ Ok s =
       request_served h n number _ (Some s) few numbered listed
       (laws.front_given h k.queue k.lists number _ s first.0 k.sound booked listed first.1) in
@@ -131,13 +131,11 @@ module _ {h : Heap} {frees : ℕ} {p : Parts} {firsts : List ℕ} (held : IsHeld
       record {
         request = request;
         given = laws.request h n s k.sound request;
-        before =
-            subst (λ x. IsRewritten h.layout p.memory x s (header_from h.layout k.from s (state_at h s) 0) h.memory) (sym t.link)
-            (link_cleared s freed.in_range);
+        before = link_cleared s freed.in_range t.link;
         memory_is = is;
         lists = slice_set k.lists number first.0;
-        listed = subst (λ x. AreListed (next_in h.layout p.memory) x (slice_set k.lists number first.0)) (sym t.fronts_are)
-            (other_list k.listed number (next_in h.layout p.memory s) first.0 (within_lists k number within) first.2);
+        listed = subst (λ x. AreListed (next_in (region_of h.layout p.memory)) x (slice_set k.lists number first.0)) (sym t.fronts_are)
+            (other_list k.listed number (next_in (region_of h.layout p.memory) s) first.0 (within_lists k number within) first.2);
         booked = laws.front_taken h k.queue k.lists number _ s n first.0 k.sound booked listed first.1;
         fresh = subst (AreFirstFresh (given_out h s n)) (sym t.firsts_are)
             (firsts_changed h s (Live n (next_tag h s)) _ _ _ _ (within_states k s freed.in_range)
@@ -150,7 +148,7 @@ module _ {h : Heap} {frees : ℕ} {p : Parts} {firsts : List ℕ} (held : IsHeld
       subst (λ x. IsSlot h x × ((slot_in h x).class ≡ slice_index h.layout.classes number) × (is_fresh (state_at h x) ≡ true))
       (sym t.counter)
       (counted h k.sound firsts held.fresh number within below) in
-      let none = none_of (next_in h.layout p.memory) (slice_index p.fronts number) (list_of k.lists number) linked t.empty in
+      let none = none_of (next_in (region_of h.layout p.memory)) (slice_index p.fronts number) (list_of k.lists number) linked t.empty in
       let lowest : lowest_fresh h (slice_index h.layout.classes number) ≡ Some s =
       lowest_counted h k.sound firsts held.fresh number within below ∙ ap Some (sym t.counter) in
       let request : slot_for_request h n ≡ Ok s =
@@ -170,7 +168,7 @@ module _ {h : Heap} {frees : ℕ} {p : Parts} {firsts : List ℕ} (held : IsHeld
             });
         memory_is = is;
         lists = k.lists;
-        listed = subst (λ x. AreListed (next_in h.layout p.memory) x k.lists) (sym t.fronts_are) k.listed;
+        listed = subst (λ x. AreListed (next_in (region_of h.layout p.memory)) x k.lists) (sym t.fronts_are) k.listed;
         booked = laws.fresh_taken h k.queue k.lists s n k.sound booked own.0 own.2;
         fresh = subst (AreFirstFresh (given_out h s n)) (sym t.firsts_are)
             (firsts_step h k.sound firsts held.fresh number within s (Live n (next_tag h s)) _ _ _ _ (within_states k s own.0) t.counter
@@ -191,7 +189,7 @@ module _ {h : Heap} {frees : ℕ} {p : Parts} {firsts : List ℕ} (held : IsHeld
       slot_for_request h n ≡ Err Exhausted
   exhausted t =
       let k = held.kept in
-      let none = none_of (next_in h.layout p.memory) (slice_index p.fronts number) (list_of k.lists number) linked t.empty in
+      let none = none_of (next_in (region_of h.layout p.memory)) (slice_index p.fronts number) (list_of k.lists number) linked t.empty in
       request_served h n number _ None few numbered listed
       (laws.fresh_given h k.queue k.lists number _ k.sound booked listed none
       ∙ lowest_none h k.sound firsts held.fresh number within (omega (arith, t.counter)))
@@ -235,7 +233,8 @@ module _ {h : Heap} {frees : ℕ} {p : Parts} {firsts : List ℕ} (held : IsHeld
   IsGivenBy machine =
       let drawn = tag_for h.layout (record { memory = m1; seed = h.seed; tag = h.tag }) s in
       machine ≡ record {
-        memory = chunk_tagged (slot_in h s) n drawn (with_header m1 (slot_in h s).start (given_header (header_in h.layout m1 s) n drawn));
+        memory = chunk_tagged (slot_in h s) n drawn
+            (with_header m1 (slot_in h s).start (given_header (header_in (region_of h.layout m1) s) n drawn));
         seed = next_seed h.seed;
         tag = drawn;
       }

@@ -1,56 +1,48 @@
 -- Headers of slots in a memory that changes.
-use Rattle.std.proofs.Common.{◌≡◌, ◌≢◌, ℕ, ◌*◌, ◌<◌, true, List, ◌++◌, length, refl, ap, ◌∙◌, inl, inr, arith}
-use Rattle.std.specs.Int.{w64, to_le_bytes}
-use Rattle.std.specs.Prelude.{◌==◌}
-use Rattle.std.proofs.lemmas.Bool.{cases_lt, eq-eqb}
-use Rattle.std.proofs.lemmas.List.{get_or_default}
-use Rattle.std.proofs.lemmas.List.Folds.{list_any-from_Any}
+use Rattle.std.proofs.Common.{◌≡◌, ℕ, ◌<◌, List, length, sym, ap, ◌∙◌, subst}
+use Rattle.std.specs.Prelude.{slice_set}
+use Rattle.std.proofs.lemmas.List.{get_or-set_same, get_or-set_other}
 use Rattle.machine_theory.specs.Memory.{Granule, IsMemory, tagged}
-use Rattle.class_table.specs.Layout.{Partition, AreInOrder, no_slot, slots_of, slot_of, slot_count}
-use Rattle.heap_theory.specs.Header.{Header, FitsWords, with_header, first_word, second_word}
-use Rattle.heap_theory.specs.State.{is_header, without_headers}
-use Rattle.tagged_heap.proofs.TheoryLemmas as laws
+use Rattle.class_table.specs.Layout.{Partition, IsPartition, slot_of, slot_count}
+use Rattle.chunk_header.specs.HeaderWrite.{WritesHeader}
+use Rattle.chunk_header.specs.Links.{SetsLink}
+use Rattle.heap_theory.specs.Header.{Header, FitsWords, with_header}
+use Rattle.heap_theory.specs.Region.{Region, header_in, headers_of, no_header, region_of}
+use Rattle.heap_theory.specs.State.{without_headers}
+use Rattle.heap_theory.proofs.Regions.{length-headers_of, region_of-header, region_of-read, region_of-tagged}
 use Rattle.tagged_heap.specs.Representation.{IsRewritten}
 
-pub start_is_header : (layout : Partition) (s : ℕ) → s < slot_count layout → is_header layout (slot_of layout s).start ≡ true
-start_is_header layout s within =
-    list_any-from_Any (λ slot. slot.start == (slot_of layout s).start) (slots_of layout)
-    (s, slot_of layout s, within, get_or_default (slots_of layout) s (slot_of layout s) no_slot within, eq-eqb _ _ refl)
+-- one header of the region is another
+pub as_rewritten : (layout : Partition) (old new : List Granule) (s : ℕ) (header : Header) (seen : List Granule) → s < slot_count layout →
+    region_of layout new ≡ record { headers = slice_set (headers_of layout old) s header; granules = seen } →
+    IsRewritten layout old new s header seen
+as_rewritten layout old new s header seen within set = record {
+  own =
+      ap (λ (x : Region). header_in x s) set
+      ∙ get_or-set_same (headers_of layout old) s header no_header (subst (λ n. s < n) (sym (length-headers_of layout old)) within);
+  others = λ r inside other. ap (λ (x : Region). header_in x r) set ∙ get_or-set_other (headers_of layout old) s r header no_header other;
+  seen_is = ap (λ (x : Region). x.granules) set;
+}
 
--- what is written in a slot's header is not seen
-pub header_unseen : (layout : Partition) (memory : List Granule) (s : ℕ) (header : Header) → IsMemory memory → s < slot_count layout →
-    without_headers layout (with_header memory (slot_of layout s).start header) ≡ without_headers layout memory
-unfolding with_header
-header_unseen layout memory s header is within =
-    laws.header_bytes_unseen layout (slot_of layout s).start (16 * (slot_of layout s).start)
-    (to_le_bytes w64 (first_word header) ++ to_le_bytes w64 (second_word header)) memory is
-    (start_is_header layout s within) (omega arith) (omega arith)
-
-pub starts_differ : (layout : Partition) (s r : ℕ) → AreInOrder layout → s < slot_count layout → r < slot_count layout → r ≢ s →
-    (slot_of layout r).start ≢ (slot_of layout s).start
-starts_differ layout s r order in_s in_r other is = elim (cases_lt r s) [
-  | inl less ↦ omega (arith, order.apart r s less in_s, order.wide r in_r)
-  | inr more ↦ elim (cases_lt s r) [
-    | inl less ↦ omega (arith, order.apart s r less in_r, order.wide s in_s)
-    | inr equal ↦ other (omega arith)
-  ]
-]
-
-pub start_inside : (layout : Partition) (s : ℕ) → AreInOrder layout → s < slot_count layout → (slot_of layout s).start < layout.granules
-start_inside layout s order within = omega (arith, order.inside s within, order.wide s within)
-
--- ---- a header is rewritten
-
-pub written_header : (layout : Partition) (m : List Granule) (s : ℕ) (header : Header) → IsMemory m → AreInOrder layout →
+pub written_header : (layout : Partition) (m : List Granule) (s : ℕ) (header : Header) → IsMemory m → IsPartition layout →
     length m ≡ layout.granules → s < slot_count layout → FitsWords header →
     IsRewritten layout m (with_header m (slot_of layout s).start header) s header (without_headers layout m)
-written_header layout m s header is order long within fits = record {
-  own = laws.header_read m (slot_of layout s).start header is (omega (arith, long, start_inside layout s order within)) fits;
-  others =
-      λ r inside other. laws.other_headers m (slot_of layout s).start (slot_of layout r).start header
-      (starts_differ layout s r order within inside other);
-  seen_is = header_unseen layout m s header is within;
-}
+written_header layout m s header is partition long within fits =
+    as_rewritten layout m (with_header m (slot_of layout s).start header) s header (without_headers layout m) within
+    (region_of-header layout partition m s header is long within fits)
+
+pub header_written : (layout : Partition) (old new : List Granule) (s n : ℕ) (header : Header) → IsPartition layout → IsMemory old →
+    s < slot_count layout → WritesHeader old new (slot_of layout s).start n header →
+    IsRewritten layout old new s header (without_headers layout old)
+header_written layout old new s n header partition is within w =
+    as_rewritten layout old new s header (without_headers layout old) within
+    (region_of-read layout partition old new s header is within w.written w.read)
+
+pub link_set : {layout : Partition} {old new : List Granule} {s next : ℕ} → SetsLink layout old new s next → s < slot_count layout →
+    IsRewritten layout old new s (record (header_in (region_of layout old) s) { next = next }) (without_headers layout old)
+link_set {layout} {old} {new} {s} {next} set within =
+    as_rewritten layout old new s (record (header_in (region_of layout old) s) { next = next }) (without_headers layout old) within
+    set.region
 
 pub then_written : {layout : Partition} {a b c x y : List Granule} {s : ℕ} {one other : Header} → IsRewritten layout a b s one x →
     IsRewritten layout b c s other y → IsRewritten layout a c s other y
@@ -62,8 +54,10 @@ then_written first second = record {
 
 pub then_tagged : {layout : Partition} {a b x : List Granule} {s : ℕ} {header : Header} → (first count tag : ℕ) →
     IsRewritten layout a b s header x → IsRewritten layout a (tagged first count tag b) s header (tagged first count tag x)
-then_tagged {layout} {a} {b} {x} {s} {header} first count tag r = record {
-  own = laws.tags_keep_headers first count tag (slot_of layout s).start b ∙ r.own;
-  others = λ q inside other. laws.tags_keep_headers first count tag (slot_of layout q).start b ∙ r.others q inside other;
-  seen_is = laws.tags_seen layout first count tag b ∙ ap (tagged first count tag) r.seen_is;
-}
+then_tagged {layout} {a} {b} {x} {s} {header} first count tag r =
+    let same = region_of-tagged layout first count tag b in
+    record {
+      own = ap (λ (x : Region). header_in x s) same ∙ r.own;
+      others = λ q inside other. ap (λ (x : Region). header_in x q) same ∙ r.others q inside other;
+      seen_is = ap (λ (x : Region). x.granules) same ∙ ap (tagged first count tag) r.seen_is;
+    }

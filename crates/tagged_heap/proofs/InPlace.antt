@@ -8,7 +8,8 @@ use Rattle.heap_theory.specs.Header.{Header, with_header}
 use Rattle.heap_theory.specs.State.{Heap, slot_in, state_at, is_fresh, last_tag, chunk_granules, IsSlot}
 use Rattle.heap_theory.specs.State.State.{Live}
 use Rattle.tagged_heap.proofs.TheoryLemmas as laws
-use Rattle.tagged_heap.specs.Representation.{header_in, header_from, Parts}
+use Rattle.tagged_heap.specs.Representation.{header_from, Parts}
+use Rattle.heap_theory.specs.Region.{region_of, header_in}
 use Rattle.tagged_heap.specs.HeapView.{shown_heap, IsHeldIn}
 use Rattle.tagged_heap.proofs.Changed.{firsts_changed, kept_alive, alive_memory}
 use Rattle.tagged_heap.proofs.Kept.{within_states, booked_at_rest, shown_is}
@@ -16,7 +17,7 @@ use Rattle.tagged_heap.proofs.Kept.{within_states, booked_at_rest, shown_is}
 module _ {h : Heap} {frees : ℕ} {p : Parts} {firsts : List ℕ} (held : IsHeldIn h frees p firsts) (s size tag n : ℕ) (in_range : IsSlot h s)
     (live : state_at h s ≡ Live size tag)
     (room : chunk_granules n < (slot_in h s).class) where
-  header_is : record (header_in h.layout p.memory s) { size = n }
+  header_is : record (header_in (region_of h.layout p.memory) s) { size = n }
       ≡ header_from h.layout held.kept.from s (Live n (last_tag (state_at h s))) 0
   header_is =
       ap (λ (x : Header). record x { size = n })
@@ -29,8 +30,8 @@ module _ {h : Heap} {frees : ℕ} {p : Parts} {firsts : List ℕ} (held : IsHeld
   abbrev pub IsResizedBy : Machine → Type 0
   IsResizedBy machine =
       machine ≡ record {
-        memory = chunk_tagged (slot_in h s) n (header_in h.layout p.memory s).tag
-            (with_header p.memory (slot_in h s).start (record (header_in h.layout p.memory s) { size = n }));
+        memory = chunk_tagged (slot_in h s) n (header_in (region_of h.layout p.memory) s).tag
+            (with_header p.memory (slot_in h s).start (record (header_in (region_of h.layout p.memory) s) { size = n }));
         seed = h.seed;
         tag = h.tag;
       }

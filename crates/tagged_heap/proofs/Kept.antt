@@ -1,24 +1,26 @@
 -- What is known of a heap that is kept in its parts.
 use Rattle.std.proofs.Common.{◌≡◌, ℕ, ◌+◌, ◌-◌, ◌^◌, ◌<◌, ◌≤◌, List, [], ◌∷◌, length, refl, sym, ap, ◌∙◌, subst, inl, inr, arith}
-use Rattle.std.specs.Prelude.{Contains, slice_index}
+use Rattle.std.specs.Prelude.{Contains, map, slice_index}
 use Rattle.std.proofs.lemmas.Bool.{cases_lt, lt-ltb, le-ltb, cond-true, cond-false}
-use Rattle.std.proofs.lemmas.List.FromFn.{fill_by_all}
+use Rattle.std.proofs.lemmas.List.{ext_get_or, get_or-map, length-map}
 use Rattle.std.proofs.lemmas.Option.{slice_get_within, get_or_from_slice_get}
 use Rattle.class_table.specs.Layout.{slot_count}
 use Rattle.heap_theory.specs.Booked.{HasMark, IsBooked, IsBookedFrom, bytes_in}
 use Rattle.heap_theory.specs.Header.{Header, FitsWords, header_for, shown_state, standing_in, state_by, class_number}
 use Rattle.heap_theory.specs.Header.Standing.{Freed, Quarantined}
 use Rattle.heap_theory.specs.HeapInMemory.{IsKeptIn}
-use Rattle.heap_theory.specs.Links.{IsLinked, next_in, list_of}
+use Rattle.heap_theory.specs.Links.{IsLinked, list_of}
+use Rattle.heap_theory.specs.Region.{region_of, headers_of, next_in, no_header}
 use Rattle.heap_theory.specs.Sound.{IsSoundHeap}
 use Rattle.heap_theory.specs.State.{State, Heap, slot_in, state_at, chunk_granules, IsSlot}
 use Rattle.heap_theory.specs.State.State.{Fresh, Live, Dead}
 use Rattle.heap_theory.proofs.Found.{Contains-head}
+use Rattle.heap_theory.proofs.Regions.{length-headers_of}
 use Rattle.heap_theory.proofs.Marks.{IsQueued, IsListed, chain_bytes, chain_dead, list_dead}
 use Rattle.heap_theory.proofs.SeenMemory.{length-without_headers}
 use Rattle.tagged_heap.proofs.TheoryLemmas as laws
 use Rattle.tagged_heap.specs.Chunks.{HasRoom}
-use Rattle.tagged_heap.specs.Representation.{standing_from, header_from, header_in, Parts, IsKept}
+use Rattle.tagged_heap.specs.Representation.{standing_from, header_from, Parts, IsKept}
 use Rattle.tagged_heap.specs.HeapView.{shown_heap, shown_states}
 
 -- ---- sizes
@@ -90,7 +92,7 @@ module _ {h : Heap} {p : Parts} (k : IsKept h p) where
   pub front_few : (number : ℕ) → number < length k.lists → slice_index p.fronts number ≤ slot_count h.layout
   front_few number within = by (list_of k.lists number) (k.listed.linked number within) (list_slot number)
     where
-      by : (list : List ℕ) → IsLinked (next_in h.layout p.memory) (slice_index p.fronts number) list →
+      by : (list : List ℕ) → IsLinked (next_in (region_of h.layout p.memory)) (slice_index p.fronts number) list →
           ((s : ℕ) → number < length k.lists → Contains list s → IsListed h (slice_index h.layout.classes number) k.from s) →
           slice_index p.fronts number ≤ slot_count h.layout
       by [] linked listed = omega (arith, linked)
@@ -122,11 +124,18 @@ module _ {h : Heap} {p : Parts} (k : IsKept h p) where
     tag = tag_is i;
   }
     where
+      headers : List Header
+      headers = headers_of h.layout p.memory
+
       states : h.states ≡ shown_states h.layout p.memory
       states =
-          fill_by_all (λ s. shown_state (header_in h.layout p.memory s)) h.states (slot_count h.layout) Fresh k.sound.states
-          (λ s within. sym (ap shown_state (k.headers.headers s within)
-          ∙ shows_state h k.from s (next_in h.layout p.memory s) (state_at h s)))
+          ext_get_or Fresh h.states (map shown_state headers)
+          (k.sound.states ∙ sym (length-map headers shown_state ∙ length-headers_of h.layout p.memory))
+          (λ s within.
+          let inside : s < length headers = omega (arith, within, k.sound.states, length-headers_of h.layout p.memory) in
+          let in_range : IsSlot h s = omega (arith, within, k.sound.states) in
+          sym (get_or-map shown_state headers s no_header Fresh inside ∙ ap shown_state (k.headers.headers s in_range)
+          ∙ shows_state h k.from s (next_in (region_of h.layout p.memory) s) (state_at h s)))
 
   -- ---- at rest
 
@@ -152,27 +161,27 @@ module _ {h : Heap} {p : Parts} (k : IsKept h p) where
     ]
 
     -- what is kept of a heap, said out
-    pub kept_said : IsKeptIn h p.memory
+    pub kept_said : IsKeptIn h (region_of h.layout p.memory)
     unfolding header_for
     kept_said = record {
       seen = k.seen;
       headers = λ s in_range.
           k.headers.headers s in_range
-          ∙ ap (λ x. record (header_for h s (next_in h.layout p.memory s)) { standing = x })
+          ∙ ap (λ x. record (header_for h s (next_in (region_of h.layout p.memory) s)) { standing = x })
           (standing_at_rest s (state_at h s) in_range refl);
       unlinked = k.headers.unlinked;
       front = p.quarantine.front;
       queue = k.queue;
       queue_linked = k.queued.linked;
       queue_holds = laws.queue_holds h k.queue k.lists k.sound booked_at_rest;
-      queue_once = laws.each_once (next_in h.layout p.memory) p.quarantine.front k.queue k.queued.linked;
+      queue_once = laws.each_once (next_in (region_of h.layout p.memory)) p.quarantine.front k.queue k.queued.linked;
       fronts = p.fronts;
       lists = k.lists;
       fronts_long = k.listed.long ∙ k.booked.long;
       list_linked = λ number within. k.listed.linked number (in_lists number within);
       list_holds = λ number class found. laws.lists_hold h k.queue k.lists number class k.sound booked_at_rest found;
       list_once =
-          λ number within. laws.each_once (next_in h.layout p.memory) _ (list_of k.lists number)
+          λ number within. laws.each_once (next_in (region_of h.layout p.memory)) _ (list_of k.lists number)
           (k.listed.linked number (in_lists number within));
       one_list =
           λ a b s in_a in_b there also. laws.one_list_has h k.queue k.lists a b s k.sound booked_at_rest (in_lists a in_a) (in_lists b in_b)

@@ -9,34 +9,38 @@ use Rattle.std.proofs.lemmas.List.Folds.{Any-from_list_any}
 use Rattle.std.proofs.lemmas.List.FromFn.{length-map-range_with_len, get_or-map-range_with_len}
 use Rattle.machine_theory.specs.declared.fault.Fault.{Fault}
 use Rattle.machine_theory.specs.declared.fault.Fault.TheVariants.{Unmapped}
-use Rattle.machine_theory.specs.Access.{access_fault, is_mapped, loaded, stored, tag_fault, touched}
+use Rattle.machine_theory.specs.Access.{access_fault, is_mapped, loaded, tag_fault, touched}
 use Rattle.machine_theory.specs.Address.{logical_tag, place_of, region_start, byte_of}
 use Rattle.machine_theory.specs.Memory.{Granule, IsGranule, IsMemory, no_granule, granule_at, byte_at, bytes_at, written}
 use Rattle.class_table.specs.Layout.{Partition, Slot, AreInOrder, end_of, no_slot, slots_of, slot_count, slot_of}
 use Rattle.heap_theory.specs.Calls.{with_payload}
-use Rattle.heap_theory.specs.Header.{Header}
-use Rattle.heap_theory.specs.Links.{next_in}
+use Rattle.heap_theory.specs.Region.{Region, region_of, header_in, headers_of, next_in}
 use Rattle.heap_theory.specs.State.{Heap, slot_in, state_at, payload_start, is_header, without_headers, IsSlot}
+use Rattle.heap_theory.proofs.Regions.{region_of-written, start_is_header}
 use Rattle.heap_theory.proofs.SeenMemory.{length-without_headers}
 use Rattle.tagged_heap.proofs.TheoryLemmas as laws
-use Rattle.tagged_heap.specs.Representation.{header_in, header_from, Parts, IsKept}
+use Rattle.tagged_heap.specs.Representation.{header_from, Parts, IsKept}
 use Rattle.tagged_heap.specs.HeapView.{shown_heap, IsHeldIn}
 use Rattle.tagged_heap.proofs.BytesInParts.{map_same}
 use Rattle.tagged_heap.proofs.Changed.{listed_same}
-use Rattle.tagged_heap.proofs.HeaderPlaces.{start_is_header}
-use Rattle.tagged_heap.proofs.Kept.{booked_same, list_slot, booked_at_rest, region_is, shown_is}
+use Rattle.tagged_heap.proofs.Kept.{booked_same, booked_at_rest, region_is, shown_is}
 
--- the header of each slot is in one memory as in the other
-abbrev pub KeepsHeaders : Partition → List Granule → List Granule → Type 0
-KeepsHeaders layout old new = (s : ℕ) → s < slot_count layout → header_in layout new s ≡ header_in layout old s
+-- these bytes from byte i on are in no header
+abbrev pub AreOutsideHeaders : Partition → ℕ → List ℕ → Type 0
+AreOutsideHeaders layout i bytes =
+    (s : ℕ) → s < slot_count layout → (i + length bytes ≤ 16 * (slot_of layout s).start) ⊎ (16 * (slot_of layout s).start + 16 ≤ i)
 
 -- ---- a heap stays kept
 
 module _ {h : Heap} {frees : ℕ} {p : Parts} {firsts : List ℕ} (held : IsHeldIn h frees p firsts) {new : List Granule} (i : ℕ)
     (bytes : List ℕ) (is : new ≡ written i bytes p.memory)
-    (same : KeepsHeaders h.layout p.memory (written i bytes p.memory)) (fit : All (λ b. b < 256) bytes) where
-  next_same : (s : ℕ) → s < slot_count h.layout → next_in h.layout (written i bytes p.memory) s ≡ next_in h.layout p.memory s
-  next_same s within = ap (λ (x : Header). x.next) (same s within)
+    (outside : AreOutsideHeaders h.layout i bytes) (fit : All (λ b. b < 256) bytes) where
+  same : region_of h.layout (written i bytes p.memory)
+      ≡ record { headers = headers_of h.layout p.memory; granules = written i bytes (without_headers h.layout p.memory) }
+  same = region_of-written h.layout i bytes p.memory outside
+
+  next_same : (s : ℕ) → next_in (region_of h.layout (written i bytes p.memory)) s ≡ next_in (region_of h.layout p.memory) s
+  next_same s = ap (λ (x : Region). next_in x s) same
 
   kept_written : IsKept (record h { memory = written i bytes h.memory }) (record p { memory = written i bytes p.memory })
   kept_written =
@@ -47,20 +51,20 @@ module _ {h : Heap} {frees : ℕ} {p : Parts} {firsts : List ℕ} (held : IsHeld
         lists = k.lists;
         sound = laws.written_sound h i bytes k.sound;
         memory_is = laws.memory_written i bytes p.memory fit k.memory_is;
-        seen = laws.bytes_seen h.layout i bytes p.memory ∙ ap (written i bytes) k.seen;
+        seen = ap (λ (x : Region). x.granules) same ∙ ap (written i bytes) k.seen;
         headers = record {
           headers =
-              λ s within. same s within ∙ k.headers.headers s within
-              ∙ ap (header_from h.layout k.from s (state_at h s)) (sym (next_same s within));
-          unlinked = λ s within alive. next_same s within ∙ k.headers.unlinked s within alive;
+              λ s within. ap (λ (x : Region). header_in x s) same ∙ k.headers.headers s within
+              ∙ ap (header_from h.layout k.from s (state_at h s)) (sym (next_same s));
+          unlinked = λ s within alive. next_same s ∙ k.headers.unlinked s within alive;
         };
         queued = record {
           slots = k.queued.slots;
-          linked = laws.links_stay _ _ _ k.queue (λ s there. next_same s (k.queued.slots s there)) k.queued.linked;
+          linked = laws.links_stay _ _ _ k.queue (λ s there. next_same s) k.queued.linked;
           back = k.queued.back;
           held = k.queued.held;
         };
-        listed = listed_same k.listed (λ number s inside there. next_same s (list_slot k number s inside there).in_range);
+        listed = listed_same k.listed (λ number s inside there. next_same s);
         booked =
             booked_same k refl refl (laws.memory_not_booked h (written i bytes h.memory) k.queue k.lists (booked_at_rest k held.rests));
         limit = k.limit;
@@ -86,16 +90,16 @@ pub payload_within : {h : Heap} {p : Parts} → IsKept h p → (s bytes : ℕ) �
     bytes + 16 ≤ 16 * (slot_of h.layout s).class → 16 * payload_start (slot_of h.layout s) + bytes ≤ 16 * length p.memory
 payload_within k s bytes within room = omega (arith, k.sound.slots.inside s within, region_is k)
 
-payload_spared : (layout : Partition) (m : List Granule) (s : ℕ) (bytes : List ℕ) → AreInOrder layout → s < slot_count layout →
-    length bytes + 16 ≤ 16 * (slot_of layout s).class → KeepsHeaders layout m (written (16 * payload_start (slot_of layout s)) bytes m)
-payload_spared layout m s bytes order in_s room r in_r =
-    laws.bytes_keep_headers (16 * payload_start (slot_of layout s)) (slot_of layout r).start bytes m (elim (cases_order r s) [
+payload_outside : (layout : Partition) (s : ℕ) (bytes : List ℕ) → AreInOrder layout → s < slot_count layout →
+    length bytes + 16 ≤ 16 * (slot_of layout s).class → AreOutsideHeaders layout (16 * payload_start (slot_of layout s)) bytes
+payload_outside layout s bytes order in_s room r in_r =
+    elim (cases_order r s) [
       | inl is ↦
           let same : (slot_of layout r).start ≡ (slot_of layout s).start = ap (λ n. (slot_of layout n).start) is in
           inr (omega (arith, same))
       | inr (inl less) ↦ inr (omega (arith, order.apart r s less in_s))
       | inr (inr more) ↦ inl (omega (arith, order.apart s r more in_r))
-    ])
+    ]
 
 module _ {h : Heap} {frees : ℕ} {p : Parts} {firsts : List ℕ} (held : IsHeldIn h frees p firsts) {new : List Granule} (s : ℕ)
     (bytes : List ℕ)
@@ -103,7 +107,7 @@ module _ {h : Heap} {frees : ℕ} {p : Parts} {firsts : List ℕ} (held : IsHeld
     (is : new ≡ written (16 * payload_start (slot_in h s)) bytes p.memory) where
   pub payload_held : IsHeldIn (with_payload h s bytes) frees (record p { memory = new }) firsts
   unfolding with_payload
-  payload_held = written_held held _ bytes is (payload_spared h.layout p.memory s bytes held.kept.sound.slots in_range room) fit
+  payload_held = written_held held _ bytes is (payload_outside h.layout s bytes held.kept.sound.slots in_range room) fit
 
   pub payload_shown : shown_heap h.layout p.quarantine.limit new h.total h.seed h.tag ≡ with_payload h s bytes
   unfolding with_payload
@@ -221,10 +225,10 @@ module _ {h : Heap} {p : Parts} (k : IsKept h p) (address len : ℕ) (tagged : l
       ∙ ap (λ m. loaded m address len) k.seen
 
 -- and leaves all headers where it writes
-pub access_spared : {h : Heap} {p : Parts} (k : IsKept h p) (address : ℕ) (bytes : List ℕ) → 1 ≤ length bytes → logical_tag address ≢ 0 →
-    access_fault p.memory address (length bytes) ≡ None → KeepsHeaders h.layout p.memory (stored p.memory address bytes)
-access_spared {h} {p} k address bytes some tagged none r in_r = laws.bytes_keep_headers (byte_of (place_of address)) start bytes p.memory
-    (elim (cases_lt (16 * start) (byte_of (place_of address) + length bytes)) [
+pub access_outside : {h : Heap} {p : Parts} (k : IsKept h p) (address : ℕ) (bytes : List ℕ) → 1 ≤ length bytes → logical_tag address ≢ 0 →
+    access_fault p.memory address (length bytes) ≡ None → AreOutsideHeaders h.layout (byte_of (place_of address)) bytes
+access_outside {h} {p} k address bytes some tagged none r in_r =
+    elim (cases_lt (16 * start) (byte_of (place_of address) + length bytes)) [
       | inr before ↦ inl before
       | inl less ↦ elim (cases_lt (byte_of (place_of address)) (16 * start + 16)) [
         | inr after ↦ inr after
@@ -234,7 +238,7 @@ access_spared {h} {p} k address bytes some tagged none r in_r = laws.bytes_keep_
             no_header k address (length bytes) tagged none (max (byte_of (place_of address)) (16 * start)) (omega arith) (omega arith) in
             absurd (false≢true (sym not ∙ ap (is_header h.layout) at ∙ start_is_header h.layout r in_r))
       ]
-    ])
+    ]
   where
     start : ℕ
     start = (slot_of h.layout r).start

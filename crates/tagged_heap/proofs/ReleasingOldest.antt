@@ -4,11 +4,12 @@ use Rattle.std.specs.Prelude.{Contains, slice_get, slice_index, slice_set}
 use Rattle.std.proofs.lemmas.Bool.{cases_eq, cases_lt, lt-ltb, le-ltb, cond-true, cond-false}
 use Rattle.std.proofs.lemmas.Option.{slice_get_within}
 use Rattle.machine_theory.specs.Memory.{Granule, IsMemory}
-use Rattle.class_table.specs.Layout.{slot_of, block_bytes}
+use Rattle.class_table.specs.Layout.{block_bytes}
 use Rattle.heap_theory.specs.Booked.{HasMark, IsChain, IsBookedFrom, bytes_in}
 use Rattle.heap_theory.specs.Header.{Header, class_number}
 use Rattle.heap_theory.specs.Header.Standing.{Freed, Quarantined}
-use Rattle.heap_theory.specs.Links.{IsLinked, next_in, list_of}
+use Rattle.heap_theory.specs.Links.{IsLinked, list_of}
+use Rattle.heap_theory.specs.Region.{region_of, header_in, next_in}
 use Rattle.heap_theory.specs.State.{State, Heap, slot_in, state_at, without_headers, IsSlot}
 use Rattle.heap_theory.specs.State.State.{Fresh, Live, Dead}
 use Rattle.heap_theory.proofs.Found.{Contains-cases}
@@ -16,9 +17,9 @@ use Rattle.heap_theory.proofs.Marks.{one_mark, not_marked, chain_dead, chain_mar
 use Rattle.quarantine_core.specs.Queue.{Queue, AreQueued, TakesOldest}
 use Rattle.tagged_heap.proofs.TheoryLemmas as laws
 use Rattle.tagged_heap.specs.Chunks.{HasFront}
-use Rattle.tagged_heap.specs.Representation.{header_in, standing_from, header_from, IsRewritten, AreListed, Parts, IsKept}
+use Rattle.tagged_heap.specs.Representation.{standing_from, header_from, IsRewritten, AreListed, Parts, IsKept}
 use Rattle.tagged_heap.proofs.Changed.{with_link, with_standing, listed_same, other_list}
-use Rattle.tagged_heap.proofs.HeaderPlaces.{header_unseen, starts_differ}
+use Rattle.tagged_heap.proofs.HeaderPlaces.{link_set}
 use Rattle.tagged_heap.proofs.Kept.{class_few, list_slot}
 
 -- ---- how slots stand
@@ -40,29 +41,36 @@ standing_between from to (Dead n t mark) le apart = elim (apart mark refl) [
 
 module _ {h : Heap} {p : Parts} (k : IsKept h p) {q1 : Queue} {m1 : List Granule} {s : ℕ}
     (out : TakesOldest p.quarantine q1 h.layout p.memory m1 s) where
+  unlinked : IsRewritten h.layout p.memory m1 s (record (header_in (region_of h.layout p.memory) s) { next = 0 })
+      (without_headers h.layout p.memory)
+  unlinked = link_set out.link out.slot
+
   -- ---- the class of the slot that is let go
 
-  class_is : (header_in h.layout m1 s).class ≡ class_number h.layout s
-  class_is = ap (λ (x : Header). x.class) (out.link.header ∙ ap (λ x. with_link x 0) (k.headers.headers s out.slot))
+  class_is : (header_in (region_of h.layout m1) s).class ≡ class_number h.layout s
+  class_is = ap (λ (x : Header). x.class) (unlinked.own ∙ ap (λ x. with_link x 0) (k.headers.headers s out.slot))
 
-  class_found : slice_get h.layout.classes (header_in h.layout m1 s).class ≡ Some (slot_in h s).class
+  class_found : slice_get h.layout.classes (header_in (region_of h.layout m1) s).class ≡ Some (slot_in h s).class
   class_found = ap (slice_get h.layout.classes) class_is ∙ laws.class_number_is h.layout s out.slot
 
-  in_lists : (header_in h.layout m1 s).class < length k.lists
-  in_lists = subst (λ n. (header_in h.layout m1 s).class < n) (sym k.booked.long) (slice_get_within h.layout.classes _ _ class_found)
+  in_lists : (header_in (region_of h.layout m1) s).class < length k.lists
+  in_lists =
+      subst (λ n. (header_in (region_of h.layout m1) s).class < n) (sym k.booked.long) (slice_get_within h.layout.classes _ _ class_found)
 
-  pub can_be_listed : HasFront p.fronts (header_in h.layout m1 s).class
+  pub can_be_listed : HasFront p.fronts (header_in (region_of h.layout m1) s).class
   can_be_listed = record {
     few = omega (arith, class_is, class_few h s k.sound out.slot);
-    listed = subst (λ n. (header_in h.layout m1 s).class < n) (sym k.listed.long) in_lists;
+    listed = subst (λ n. (header_in (region_of h.layout m1) s).class < n) (sym k.listed.long) in_lists;
   }
 
   -- ---- it goes to the front of the class's list
 
   pub release_step : {m2 : List Granule} → p.quarantine.limit < p.quarantine.held →
-      IsRewritten h.layout m1 m2 s (record (header_in h.layout m1 s)
-      { standing = Freed; next = slice_index p.fronts (header_in h.layout m1 s).class }) (without_headers h.layout m1) →
-      IsMemory m2 → IsKept h (record { memory = m2; quarantine = q1; fronts = slice_set p.fronts (header_in h.layout m1 s).class (s + 1) })
+      IsRewritten h.layout m1 m2 s (record (header_in (region_of h.layout m1) s)
+      { standing = Freed; next = slice_index p.fronts (header_in (region_of h.layout m1) s).class }) (without_headers h.layout m1) →
+      IsMemory m2 →
+      IsKept h (record
+      { memory = m2; quarantine = q1; fronts = slice_set p.fronts (header_in (region_of h.layout m1) s).class (s + 1) })
   release_step {m2} over written memory = record {
     from = to;
     queue = rest;
@@ -70,14 +78,15 @@ module _ {h : Heap} {p : Parts} (k : IsKept h p) {q1 : Queue} {m1 : List Granule
     sound = k.sound;
     memory_is = memory;
     seen =
-        written.seen_is ∙ ap (without_headers h.layout) out.link.written ∙ header_unseen h.layout p.memory s _ k.memory_is out.slot
-        ∙ k.seen;
+        written.seen_is ∙ unlinked.seen_is ∙ k.seen;
     headers = record {
       headers = λ r inside. elim (cases_eq r s) [
-        | inl is ↦ subst (λ q. header_in h.layout m2 q ≡ header_from h.layout to q (state_at h q) (next_in h.layout m2 q)) (sym is) here
+        | inl is ↦
+            let region = region_of h.layout m2 in
+            subst (λ q. header_in region q ≡ header_from h.layout to q (state_at h q) (next_in region q)) (sym is) here
         | inr other ↦
             there r inside other ∙ k.headers.headers r inside
-            ∙ ap (with_standing (header_from h.layout to r (state_at h r) (next_in h.layout p.memory r)))
+            ∙ ap (with_standing (header_from h.layout to r (state_at h r) (next_in (region_of h.layout p.memory) r)))
             (standing_between k.from to (state_at h r) (omega arith) (λ mark. apart r mark inside other))
             ∙ ap (header_from h.layout to r (state_at h r)) (sym (next_there r inside other))
       ];
@@ -93,11 +102,11 @@ module _ {h : Heap} {p : Parts} (k : IsKept h p) {q1 : Queue} {m1 : List Granule
     };
     listed =
         let plus : suc s ≡ s + 1 = omega arith in
-        subst (λ front. AreListed (next_in h.layout m2) (slice_set p.fronts number front)
+        subst (λ front. AreListed (next_in (region_of h.layout m2)) (slice_set p.fronts number front)
         (slice_set k.lists number (s ∷ list_of k.lists number))) plus
         (other_list old_lists number (suc s) (s ∷ list_of k.lists number) in_lists (
           refl,
-          subst (λ front. IsLinked (next_in h.layout m2) front (list_of k.lists number)) (sym next_here)
+          subst (λ front. IsLinked (next_in (region_of h.layout m2)) front (list_of k.lists number)) (sym next_here)
               (old_lists.linked number in_lists),
         ));
     booked =
@@ -108,7 +117,7 @@ module _ {h : Heap} {p : Parts} (k : IsKept h p) {q1 : Queue} {m1 : List Granule
   }
     where
       number : ℕ
-      number = (header_in h.layout m1 s).class
+      number = (header_in (region_of h.layout m1) s).class
 
       rest : List ℕ
       rest = drop 1 k.queue
@@ -122,8 +131,8 @@ module _ {h : Heap} {p : Parts} (k : IsKept h p) {q1 : Queue} {m1 : List Granule
       chain : IsChain h k.from (s ∷ rest)
       chain = subst (IsChain h k.from) oldest k.booked.chain
 
-      rest_queued : AreQueued q1 h.layout m1 rest
-      rest_queued = out.queued rest (subst (AreQueued p.quarantine h.layout p.memory) oldest k.queued)
+      rest_queued : AreQueued q1 h.layout (region_of h.layout m1) rest
+      rest_queued = out.queued rest (subst (AreQueued p.quarantine h.layout (region_of h.layout p.memory)) oldest k.queued)
 
       -- a slot with another mark is another slot
       differs : (r mark : ℕ) → HasMark (state_at h r) mark → mark ≢ k.from → r ≢ s
@@ -148,32 +157,31 @@ module _ {h : Heap} {p : Parts} (k : IsKept h p) {q1 : Queue} {m1 : List Granule
             ]
       ]
 
-      there : (r : ℕ) → IsSlot h r → r ≢ s → header_in h.layout m2 r ≡ header_in h.layout p.memory r
+      there : (r : ℕ) → IsSlot h r → r ≢ s → header_in (region_of h.layout m2) r ≡ header_in (region_of h.layout p.memory) r
       there r inside other =
-          written.others r inside other
-          ∙ out.link.headers (slot_of h.layout r).start (starts_differ h.layout s r k.sound.slots out.slot inside other)
+          written.others r inside other ∙ unlinked.others r inside other
 
-      next_there : (r : ℕ) → IsSlot h r → r ≢ s → next_in h.layout m2 r ≡ next_in h.layout p.memory r
+      next_there : (r : ℕ) → IsSlot h r → r ≢ s → next_in (region_of h.layout m2) r ≡ next_in (region_of h.layout p.memory) r
       next_there r inside other = ap (λ (x : Header). x.next) (there r inside other)
 
-      next_listed : (r : ℕ) → IsSlot h r → r ≢ s → next_in h.layout m2 r ≡ next_in h.layout m1 r
+      next_listed : (r : ℕ) → IsSlot h r → r ≢ s → next_in (region_of h.layout m2) r ≡ next_in (region_of h.layout m1) r
       next_listed r inside other = ap (λ (x : Header). x.next) (written.others r inside other)
 
-      next_here : next_in h.layout m2 s ≡ slice_index p.fronts (header_in h.layout m1 s).class
+      next_here : next_in (region_of h.layout m2) s ≡ slice_index p.fronts (header_in (region_of h.layout m1) s).class
       next_here = ap (λ (x : Header). x.next) written.own
 
-      here : header_in h.layout m2 s ≡ header_from h.layout to s (state_at h s) (next_in h.layout m2 s)
+      here : header_in (region_of h.layout m2) s ≡ header_from h.layout to s (state_at h s) (next_in (region_of h.layout m2) s)
       here =
           let two : 2 ≤ (slot_in h s).class = k.sound.slots.wide s out.slot in
-          let front = slice_index p.fronts (header_in h.layout m1 s).class in
+          let front = slice_index p.fronts (header_in (region_of h.layout m1) s).class in
           written.own
           ∙ ap (λ (x : Header). record x { standing = Freed; next = front })
-          (out.link.header ∙ ap (λ x. with_link x 0) (k.headers.headers s out.slot))
+          (unlinked.own ∙ ap (λ x. with_link x 0) (k.headers.headers s out.slot))
           ∙ ap (with_standing (header_from h.layout to s (state_at h s) front))
           (sym (standing_freed to k.from (state_at h s) chain.1 (omega arith)))
           ∙ ap (header_from h.layout to s (state_at h s)) (sym next_here)
 
-      old_lists : AreListed (next_in h.layout m2) p.fronts k.lists
+      old_lists : AreListed (next_in (region_of h.layout m2)) p.fronts k.lists
       old_lists =
           listed_same k.listed
           (λ n r inside there.

@@ -6,13 +6,13 @@ use Rattle.machine_theory.specs.Instructions.{drawn_tag}
 use Rattle.machine_theory.specs.Machine.{Machine}
 use Rattle.machine_theory.specs.Memory.{Granule, IsMemory, tagged}
 use Rattle.machine_theory.specs.Seed.{next_seed}
-use Rattle.class_table.specs.Layout.{slot_of, block_bytes}
+use Rattle.class_table.specs.Layout.{block_bytes}
 use Rattle.heap_theory.specs.Booked.{HasMark}
 use Rattle.heap_theory.specs.Calls.{freed, next_tag, parity_exclude}
 use Rattle.heap_theory.specs.Choice.{is_dead}
 use Rattle.heap_theory.specs.Header.{Header, FitsWords, with_header, size_of}
 use Rattle.heap_theory.specs.Header.Standing.{Quarantined, Freed}
-use Rattle.heap_theory.specs.Links.{next_in}
+use Rattle.heap_theory.specs.Region.{region_of, header_in, next_in}
 use Rattle.heap_theory.specs.Sound.{IsSoundHeap}
 use Rattle.heap_theory.specs.State.{State, Heap, slot_in, state_at, is_fresh, last_tag, chunk_granules, chunk_of, payload_start, without_headers, IsSlot}
 use Rattle.heap_theory.specs.State.State.{Live, Dead}
@@ -22,20 +22,20 @@ use Rattle.chunk_header.specs.Links.{SetsLink}
 use Rattle.quarantine_core.specs.Queue.{Queue, AreQueued, CanBePut, with_newest}
 use Rattle.tagged_heap.proofs.TheoryLemmas as laws
 use Rattle.tagged_heap.specs.Chunks.{HasRoom, retired_header, tag_for}
-use Rattle.tagged_heap.specs.Representation.{header_in, standing_from, header_from, IsRewritten, Parts, IsKept}
+use Rattle.tagged_heap.specs.Representation.{standing_from, header_from, IsRewritten, Parts, IsKept}
 use Rattle.tagged_heap.specs.HeapView.{shown_heap, IsHeldIn}
 use Rattle.tagged_heap.proofs.Changed.{with_link, listed_same, state_here, headers_changed, firsts_changed}
-use Rattle.tagged_heap.proofs.HeaderPlaces.{header_unseen, starts_differ, then_tagged, written_header}
+use Rattle.tagged_heap.proofs.HeaderPlaces.{link_set, then_tagged, written_header}
 use Rattle.tagged_heap.proofs.Kept.{class_most, size_most, header_fits, region_is, within_states, bytes_from, queue_slot, list_slot, has_room, booked_at_rest, shown_is}
 
 module _ {h : Heap} {frees : ℕ} {p : Parts} {firsts : List ℕ} (held : IsHeldIn h frees p firsts) (s n tag : ℕ) (in_range : IsSlot h s)
     (live : state_at h s ≡ Live n tag) where
   -- ---- the slot
 
-  header_size : (header_in h.layout p.memory s).size ≡ n
+  header_size : (header_in (region_of h.layout p.memory) s).size ≡ n
   header_size = ap (λ (x : Header). x.size) (held.kept.headers.headers s in_range) ∙ ap size_of live
 
-  pub retire_room : HasRoom h.layout p.memory s (header_in h.layout p.memory s).size
+  pub retire_room : HasRoom h.layout p.memory s (header_in (region_of h.layout p.memory) s).size
   retire_room =
       let room = subst (λ x. chunk_of x < (slot_in h s).class) live (held.kept.sound.tagged s in_range).room in
       subst (HasRoom h.layout p.memory s) (sym header_size)
@@ -49,7 +49,7 @@ module _ {h : Heap} {frees : ℕ} {p : Parts} {firsts : List ℕ} (held : IsHeld
   dead = Dead n (last_tag (state_at h s)) h.total
 
   -- the header that is written: the slot's mark is the last one
-  retired_is : retired_header (header_in h.layout p.memory s) h.total ≡ header_from h.layout held.kept.from s dead 0
+  retired_is : retired_header (header_in (region_of h.layout p.memory) s) h.total ≡ header_from h.layout held.kept.from s dead 0
   retired_is =
       let sum = bytes_from held.kept in
       let standing : standing_from held.kept.from dead ≡ Quarantined =
@@ -68,8 +68,8 @@ module _ {h : Heap} {frees : ℕ} {p : Parts} {firsts : List ℕ} (held : IsHeld
   IsRetiredBy machine =
       let drawn = tag_for h.layout (record { memory = p.memory; seed = h.seed; tag = h.tag }) s in
       machine ≡ record {
-        memory = tagged (payload_start (slot_in h s)) (chunk_granules (header_in h.layout p.memory s).size) drawn
-            (with_header p.memory (slot_in h s).start (retired_header (header_in h.layout p.memory s) h.total));
+        memory = tagged (payload_start (slot_in h s)) (chunk_granules (header_in (region_of h.layout p.memory) s).size) drawn
+            (with_header p.memory (slot_in h s).start (retired_header (header_in (region_of h.layout p.memory) s) h.total));
         seed = next_seed h.seed;
         tag = drawn;
       }
@@ -88,7 +88,7 @@ module _ {h : Heap} {frees : ℕ} {p : Parts} {firsts : List ℕ} (held : IsHeld
           let fits =
           subst (λ x. FitsWords (header_from h.layout k.from s x 0)) here
           (header_fits (freed h s n) k.from s 0 sound_after in_range (omega arith) total_after) in
-          let written = written_header h.layout p.memory s own k.memory_is k.sound.slots (region_is k) in_range fits in
+          let written = written_header h.layout p.memory s own k.memory_is k.sound.region (region_is k) in_range fits in
           let seen = subst (IsRewritten h.layout p.memory (with_header p.memory (slot_in h s).start own) s own) k.seen written in
           subst (λ x. IsRewritten h.layout p.memory x s own
           (tagged (payload_start (slot_in h s)) (chunk_granules n) (next_tag h s) h.memory))
@@ -98,12 +98,12 @@ module _ {h : Heap} {frees : ℕ} {p : Parts} {firsts : List ℕ} (held : IsHeld
           (then_tagged (payload_start (slot_in h s)) (chunk_granules n) (next_tag h s) seen)
 
       next_retired : (r mark : ℕ) → IsSlot h r → HasMark (state_at h r) mark →
-          next_in h.layout machine.memory r ≡ next_in h.layout p.memory r
+          next_in (region_of h.layout machine.memory) r ≡ next_in (region_of h.layout p.memory) r
       next_retired r mark inside marked = ap (λ (x : Header). x.next) (rewritten.others r inside (dead_differs r mark marked))
 
       -- ---- it can be put into the quarantine
 
-      queued_before : AreQueued p.quarantine h.layout machine.memory held.kept.queue
+      queued_before : AreQueued p.quarantine h.layout (region_of h.layout machine.memory) held.kept.queue
       queued_before = record {
         slots = held.kept.queued.slots;
         linked = laws.links_stay _ _ _ held.kept.queue
@@ -120,7 +120,8 @@ module _ {h : Heap} {frees : ℕ} {p : Parts} {firsts : List ℕ} (held : IsHeld
         slot = in_range;
         outside = λ queue queued there.
             let same =
-            laws.one_list (next_in h.layout machine.memory) p.quarantine.front queue held.kept.queue queued.linked queued_before.linked in
+            laws.one_list (next_in (region_of h.layout machine.memory)) p.quarantine.front queue held.kept.queue queued.linked
+            queued_before.linked in
             let d = queue_slot held.kept s (subst (λ list. Contains list s) same there) in
             dead_differs s d.mark d.marked refl;
         next = ap (λ (x : Header). x.next) rewritten.own;
@@ -132,8 +133,10 @@ module _ {h : Heap} {frees : ℕ} {p : Parts} {firsts : List ℕ} (held : IsHeld
       -- what the put leaves of headers: all but the link of the slot that was last
       record IsPut (new : List Granule) : Type 0 where
         pub headers : (r : ℕ) → IsSlot h r →
-            header_in h.layout new r ≡ with_link (header_in h.layout machine.memory r) (next_in h.layout new r)
-        pub links : (r : ℕ) → IsSlot h r → (Contains held.kept.queue r → ⊥) → next_in h.layout new r ≡ next_in h.layout machine.memory r
+            header_in (region_of h.layout new) r
+            ≡ with_link (header_in (region_of h.layout machine.memory) r) (next_in (region_of h.layout new) r)
+        pub links : (r : ℕ) → IsSlot h r → (Contains held.kept.queue r → ⊥) →
+            next_in (region_of h.layout new) r ≡ next_in (region_of h.layout machine.memory) r
         pub seen_is : without_headers h.layout new ≡ without_headers h.layout machine.memory
         pub memory_is : IsMemory new
 
@@ -146,29 +149,31 @@ module _ {h : Heap} {frees : ℕ} {p : Parts} {firsts : List ℕ} (held : IsHeld
               subst IsPut (sym (first is)) (record
               { headers = λ r inside. refl; links = λ r inside out. refl; seen_is = refl; memory_is = is1 })
           by (suc last) is =
-              let set = after last is in
               let k = held.kept in
               let ends =
-              laws.last_ends (next_in h.layout p.memory) p.quarantine.front last k.queue k.queued.linked (sym k.queued.back ∙ is) in
-              let last_slot = (queue_slot k last ends.0).in_range in
+              laws.last_ends (next_in (region_of h.layout p.memory)) p.quarantine.front last k.queue k.queued.linked
+              (sym k.queued.back ∙ is) in
+              let set = link_set (after last is) (queue_slot k last ends.0).in_range in
               record {
                 headers = λ r inside. elim (cases_eq r last) [
                   | inl same ↦
-                      subst (λ r. header_in h.layout new r ≡ with_link (header_in h.layout machine.memory r) (next_in h.layout new r))
-                      (sym same)
-                      (set.header ∙ ap (with_link (header_in h.layout machine.memory last)) (sym set.own))
+                      subst (λ r. header_in (region_of h.layout new) r
+                      ≡ with_link (header_in (region_of h.layout machine.memory) r) (next_in (region_of h.layout new) r)) (sym same)
+                      (set.own
+                      ∙ ap (with_link (header_in (region_of h.layout machine.memory) last)) (sym (ap (λ (x : Header). x.next) set.own)))
                   | inr differ ↦
-                      let apart = starts_differ h.layout last r k.sound.slots last_slot inside differ in
-                      let e = set.headers (slot_of h.layout r).start apart in
-                      e ∙ ap (with_link (header_in h.layout machine.memory r)) (sym (ap (λ (x : Header). x.next) e))
+                      let e = set.others r inside differ in
+                      e ∙ ap (with_link (header_in (region_of h.layout machine.memory) r)) (sym (ap (λ (x : Header). x.next) e))
                 ];
-                links = λ r inside out. set.links r inside (λ same. out (subst (Contains k.queue) (sym same) ends.0));
-                seen_is = ap (without_headers h.layout) set.written ∙ header_unseen h.layout machine.memory last _ is1 last_slot;
-                memory_is = set.memory;
+                links = λ r inside out.
+                    ap (λ (x : Header). x.next) (set.others r inside (λ same. out (subst (Contains k.queue) (sym same) ends.0)));
+                seen_is = set.seen_is;
+                memory_is = (after last is).memory;
               }
 
       pub kept_freed : {m2 : List Granule} {q2 : Queue} (bytes : ℕ) →
-          ((queue : List ℕ) → AreQueued p.quarantine h.layout machine.memory queue → AreQueued q2 h.layout m2 (queue ++ s ∷ [])) →
+          ((queue : List ℕ) → AreQueued p.quarantine h.layout (region_of h.layout machine.memory) queue →
+          AreQueued q2 h.layout (region_of h.layout m2) (queue ++ s ∷ [])) →
           q2 ≡ with_newest p.quarantine s bytes → (p.quarantine.back ≡ 0 → m2 ≡ machine.memory) →
           ((last : ℕ) → p.quarantine.back ≡ suc last → SetsLink h.layout machine.memory m2 last (suc s)) →
           IsKept (freed h s n) (record p { memory = m2; quarantine = q2 })
@@ -185,8 +190,9 @@ module _ {h : Heap} {frees : ℕ} {p : Parts} {firsts : List ℕ} (held : IsHeld
             seen = left.seen_is ∙ rewritten.seen_is;
             headers =
                 headers_changed h s dead _ _ _ _ (within_states k s in_range) k.headers
-                (left.headers s in_range ∙ ap (λ x. with_link x (next_in h.layout m2 s)) rewritten.own)
-                (λ r inside other. left.headers r inside ∙ ap (λ x. with_link x (next_in h.layout m2 r)) (rewritten.others r inside other))
+                (left.headers s in_range ∙ ap (λ x. with_link x (next_in (region_of h.layout m2) s)) rewritten.own)
+                (λ r inside other. left.headers r inside
+                ∙ ap (λ x. with_link x (next_in (region_of h.layout m2) r)) (rewritten.others r inside other))
                 (λ never. cc)
                 (λ r inside other alive.
                 left.links r inside (λ there. let d = queue_slot k r there in not_marked (state_at h r) d.mark alive d.marked)

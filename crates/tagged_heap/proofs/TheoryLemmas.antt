@@ -13,11 +13,10 @@ pub use Rattle.heap_theory.proofs.Releasing.{release as releases}
 pub use Rattle.heap_theory.proofs.Held.{holds_quarantined as queue_holds, holds_released as lists_hold, one_list_has, queue_or_list as queue_apart}
 -- headers
 pub use Rattle.heap_theory.proofs.HeaderWords.{class_number-is as class_number_is, header_for-fits as header_fits}
-pub use Rattle.heap_theory.proofs.HeaderWords.{header_at-with_header as header_read, header_at-elsewhere as other_headers, header_at-tagged as tags_keep_headers, header_at-written as bytes_keep_headers}
 pub use Rattle.heap_theory.proofs.Linked.{IsLinked-same as links_stay, IsLinked-ends as last_ends, IsLinked-one as one_list, IsLinked-once as each_once}
 -- what is seen of a memory
-pub use Rattle.heap_theory.proofs.SeenMemory.{without_headers-new as new_seen, without_headers-tagged as tags_seen, without_headers-written as bytes_seen, access_fault-without_headers as accesses_seen, granule_at-without_headers as granules_seen}
-pub use Rattle.heap_theory.proofs.SeenMemory.{without_headers-in_header as header_bytes_unseen, headers_spared as spared}
+pub use Rattle.heap_theory.proofs.SeenMemory.{without_headers-new as new_seen, access_fault-without_headers as accesses_seen, granule_at-without_headers as granules_seen}
+pub use Rattle.heap_theory.proofs.SeenMemory.{headers_spared as spared}
 -- memory
 pub use Rattle.machine_theory.proofs.ChangedMemories.{IsMemory-written as memory_written}
 -- sizes and layouts

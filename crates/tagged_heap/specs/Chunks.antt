@@ -10,19 +10,18 @@ use Rattle.heap_theory.specs.declared.fault.NullCause.{NullCause}
 use Rattle.heap_theory.specs.declared.fault.NullCause.TheVariants.{Large, NoClass, Exhausted}
 use Rattle.heap_theory.specs.Calls.{parity_exclude}
 use Rattle.heap_theory.specs.Header.{Header}
-use Rattle.heap_theory.specs.Links.{next_in}
+use Rattle.heap_theory.specs.Region.{region_of, header_in, next_in}
 use Rattle.heap_theory.specs.State.{Heap, slot_in, state_at, chunk_granules, IsSlot}
 use Rattle.heap_theory.specs.State.State.{Live as Given}
-use Rattle.chunk_header.specs.HeaderView.{with_next}
+use Rattle.chunk_header.specs.Links.{SetsLink}
 use Rattle.heap_theory.specs.Header.Standing.{Live, Quarantined}
 use Rattle.tagged_heap.specs.declared.freeing.Chunk.{Chunk}
-use Rattle.tagged_heap.specs.Representation.{header_in}
 use Rattle.class_table.specs.declared.table.TheConstants.{MOST_CLASSES}
 
 -- the tag that the machine draws for a slot, by what its header says of its last one
 abbrev pub tag_for : Partition → Machine → ℕ → ℕ
 tag_for layout machine s =
-    drawn_tag machine.tag machine.seed (bit_or (parity_exclude s) (2 ^ (header_in layout machine.memory s).tag))
+    drawn_tag machine.tag machine.seed (bit_or (parity_exclude s) (2 ^ (header_in (region_of layout machine.memory) s).tag))
 
 -- the header once the slot is given out
 abbrev pub given_header : Header → ℕ → ℕ → Header
@@ -54,7 +53,7 @@ pub record HasRoom (layout : Partition) (memory : List Granule) (s n : ℕ) : Ty
   pub memory_is : IsMemory memory
   pub size : n ≤ largest_counted
   pub room : chunk_granules n < (slot_of layout s).class
-  pub header : (header_in layout memory s).class < MOST_CLASSES
+  pub header : (header_in (region_of layout memory) s).class < MOST_CLASSES
 
 -- ---- a slot is taken for a request
 
@@ -72,8 +71,8 @@ pub record HasClass (layout : Partition) (memory : List Granule) (fronts firsts 
 pub record TakesFront (layout : Partition) (memory new : List Granule) (fronts fronts' firsts firsts' : List ℕ)
     (number s : ℕ) : Type 0 where
   pub front : slice_index fronts number ≡ s + 1
-  pub link : new ≡ with_next memory (slot_of layout s).start 0
-  pub fronts_are : fronts' ≡ slice_set fronts number (next_in layout memory s)
+  pub link : SetsLink layout memory new s 0
+  pub fronts_are : fronts' ≡ slice_set fronts number (next_in (region_of layout memory) s)
   pub firsts_are : firsts' ≡ firsts
 
 -- The list is empty, and the class's next fresh slot is taken.

@@ -1,11 +1,11 @@
 -- What a heap is seen as, and what its parts keep.
 use Rattle.std.specs.Prelude.{ℕ, ◌*◌, ◌^◌, ◌<◌, ◌≤◌, List, map}
-use Rattle.std.specs.List.{range_with_len}
 use Rattle.machine_theory.specs.Memory.{Granule}
-use Rattle.class_table.specs.Layout.{Partition, slot_count}
+use Rattle.class_table.specs.Layout.{Partition}
 use Rattle.heap_theory.specs.Header.{shown_state}
 use Rattle.heap_theory.specs.State.{State, Heap, without_headers}
-use Rattle.tagged_heap.specs.Representation.{header_in, Parts, IsKept, AreFirstFresh}
+use Rattle.tagged_heap.specs.Representation.{Parts, IsKept, AreFirstFresh}
+use Rattle.heap_theory.specs.Region.{headers_of}
 
 -- A heap's state, and how many chunks were freed.
 pub record HeapAndFrees : Type 0 where
@@ -14,7 +14,7 @@ pub record HeapAndFrees : Type 0 where
 
 -- The states that the headers in a memory show, and the heap with them.
 unfoldable pub shown_states : Partition → List Granule → List State
-shown_states layout memory = map (λ s. shown_state (header_in layout memory s)) (range_with_len 0 (slot_count layout))
+shown_states layout memory = map shown_state (headers_of layout memory)
 
 abbrev pub shown_heap : Partition → ℕ → List Granule → ℕ → ℕ → ℕ → Heap
 shown_heap layout quarantine memory total seed tag = record {

@@ -1,26 +1,23 @@
 -- How a heap is kept: in headers, in lists that are linked through them, and in a counter for each class.
 use Rattle.std.specs.Prelude.{◌≡◌, ◌≢◌, ℕ, ◌+◌, ◌<◌, ◌≤◌, nat_lt, if◌then◌else◌, List, length, slice_index, IsFalse, IsTrue}
 use Rattle.machine_theory.specs.Memory.{Granule, IsMemory}
-use Rattle.class_table.specs.Layout.{Partition, slot_count, slot_of, first_slot}
+use Rattle.class_table.specs.Layout.{Partition, slot_count, first_slot}
 use Rattle.heap_theory.specs.Booked.{IsBookedFrom}
 use Rattle.heap_theory.specs.Choice.{is_dead, mark_of}
-use Rattle.heap_theory.specs.Header.{Standing, Header, header_at, size_of, class_number}
+use Rattle.heap_theory.specs.Header.{Standing, Header, size_of, class_number}
 use Rattle.heap_theory.specs.Header.Standing.{Fresh, Live, Quarantined, Freed}
-use Rattle.heap_theory.specs.Links.{IsLinked, next_in, list_of}
+use Rattle.heap_theory.specs.Links.{IsLinked, list_of}
+use Rattle.heap_theory.specs.Region.{Region, region_of, header_in, next_in}
 use Rattle.heap_theory.specs.Sound.{IsSoundHeap}
 use Rattle.heap_theory.specs.State.{State, Heap, slot_in, state_at, is_fresh, last_tag, without_headers, IsSlot}
 use Rattle.heap_theory.specs.State.State.{Fresh as NeverGiven, Live as Given, Dead}
 use Rattle.quarantine_core.specs.Queue.{Queue, AreQueued}
 
--- the header of a slot
-abbrev pub header_in : Partition → List Granule → ℕ → Header
-header_in layout memory s = header_at memory (slot_of layout s).start
-
 -- A memory in which the header of one slot is another, and which is seen as this one.
 pub record IsRewritten (layout : Partition) (old new : List Granule) (s : ℕ) (header : Header) (seen : List Granule)
     : Type 0 where
-  pub own : header_in layout new s ≡ header
-  pub others : (r : ℕ) → r < slot_count layout → r ≢ s → header_in layout new r ≡ header_in layout old r
+  pub own : header_in (region_of layout new) s ≡ header
+  pub others : (r : ℕ) → r < slot_count layout → r ≢ s → header_in (region_of layout new) r ≡ header_in (region_of layout old) r
   pub seen_is : without_headers layout new ≡ seen
 
 -- ---- headers
@@ -43,10 +40,10 @@ header_from layout from s state next = record {
 }
 
 -- Each header shows its slot's state, and the links of slots that are not dead are 0.
-pub record HasHeaders (heap : Heap) (memory : List Granule) (from : ℕ) : Type 0 where
+pub record HasHeaders (heap : Heap) (region : Region) (from : ℕ) : Type 0 where
   pub headers : (s : ℕ) → IsSlot heap s →
-      header_in heap.layout memory s ≡ header_from heap.layout from s (state_at heap s) (next_in heap.layout memory s)
-  pub unlinked : (s : ℕ) → IsSlot heap s → IsFalse (is_dead (state_at heap s)) → next_in heap.layout memory s ≡ 0
+      header_in region s ≡ header_from heap.layout from s (state_at heap s) (next_in region s)
+  pub unlinked : (s : ℕ) → IsSlot heap s → IsFalse (is_dead (state_at heap s)) → next_in region s ≡ 0
 
 -- ---- lists
 
@@ -72,9 +69,9 @@ pub record IsKept (heap : Heap) (parts : Parts) : Type 0 where
   pub sound : IsSoundHeap heap
   pub memory_is : IsMemory parts.memory
   pub seen : without_headers heap.layout parts.memory ≡ heap.memory
-  pub headers : HasHeaders heap parts.memory from
-  pub queued : AreQueued parts.quarantine heap.layout parts.memory queue
-  pub listed : AreListed (next_in heap.layout parts.memory) parts.fronts lists
+  pub headers : HasHeaders heap (region_of heap.layout parts.memory) from
+  pub queued : AreQueued parts.quarantine heap.layout (region_of heap.layout parts.memory) queue
+  pub listed : AreListed (next_in (region_of heap.layout parts.memory)) parts.fronts lists
   pub booked : IsBookedFrom heap from queue lists
   pub limit : parts.quarantine.limit ≡ heap.quarantine
 

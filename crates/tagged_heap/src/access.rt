@@ -1,6 +1,7 @@
 //! The calls that read and write the region, and that look at it.
 ghost use Rattle.heap_theory.specs.HeapInMemory.{HeaderWordsStay, IsKeptIn};
 ghost use Rattle.heap_theory.specs.Places.{place_kind};
+ghost use Rattle.heap_theory.specs.Region.{region_of};
 ghost use Rattle.machine_theory.specs.Access.{IsMapped, access_fault, is_mapped, loaded, ok_unless, stored};
 ghost use Rattle.machine_theory.specs.Address.{logical_tag};
 ghost use Rattle.std.specs.Prelude.{◌≡◌, ◌≢◌, ◌↔◌, ◌⊎◌, ◌≤◌, IsFalse, IsTrue, OnErr, OnOk, length};
@@ -66,7 +67,7 @@ impl Heap {
     /// released slots once, in descending mark. No slot is in two of these lists, and no fresh or live slot is in one. So the header words
     /// depend on the heap's layout, slots, total and limit alone (`law_header_words`).
     pub fn memory(&self) -> &Memory
-        ensures { IsKeptIn self.now.state result.now }
+        ensures { IsKeptIn self.now.state (region_of self.now.state.layout result.now) }
     {
         self.machine.memory()
     }

@@ -10,7 +10,7 @@ ghost use Rattle.machine_theory.specs.Memory.{tagged, IsMemory};
 ghost use Rattle.machine_theory.specs.Seed.{next_seed};
 ghost use Rattle.std.specs.Prelude.{◌≡◌, ◌+◌, ◌^◌, ◌<◌, ◌≤◌, bit_or, length};
 ghost use Rattle.tagged_heap.specs.Chunks.{HasRoom, given_header, retired_header, tag_for};
-ghost use Rattle.tagged_heap.specs.Representation.{header_in};
+ghost use Rattle.heap_theory.specs.Region.{region_of, header_in};
 
 use crate::headers::header;
 use crate::pointers::payload_address;
@@ -34,7 +34,7 @@ pub(crate) fn give_out(
     ensures address { result
         ≡ with_tag (payload_place (slot_of layout.now slot)) (tag_for layout.now machine.old slot) }
     ensures machine { let tag = tag_for layout.now machine.old slot in
-        let header = given_header (header_in layout.now machine.old.memory slot) n tag in
+        let header = given_header (header_in (region_of layout.now machine.old.memory) slot) n tag in
         let place = slot_of layout.now slot in
         machine.new ≡ record {
           memory = chunk_tagged place n tag (with_header machine.old.memory place.start header);
@@ -63,7 +63,7 @@ pub(crate) fn resize(machine: &mut Machine, layout: &Layout, slot: u32, place: S
     requires room { HasRoom layout.now machine.old.memory slot n }
     requires start { place.start ≡ (slot_of layout.now slot).start }
     requires class { place.class ≡ (slot_of layout.now slot).class }
-    ensures machine { let before = header_in layout.now machine.old.memory slot in
+    ensures machine { let before = header_in (region_of layout.now machine.old.memory) slot in
         let place = slot_of layout.now slot in
         machine.new ≡ record machine.old {
           memory = chunk_tagged place n before.tag
@@ -83,9 +83,10 @@ pub(crate) fn resize(machine: &mut Machine, layout: &Layout, slot: u32, place: S
 /// Takes back the chunk of a live slot, which begins at granule `start`, with this mark: draws a tag, writes the header and tags the
 /// chunk.
 pub(crate) fn retire(machine: &mut Machine, layout: &Layout, slot: u32, start: u32, mark: u64)
-    requires room { HasRoom layout.now machine.old.memory slot (header_in layout.now machine.old.memory slot).size }
+    requires room { let before = header_in (region_of layout.now machine.old.memory) slot in
+        HasRoom layout.now machine.old.memory slot before.size }
     requires start { start ≡ (slot_of layout.now slot).start }
-    ensures machine { let before = header_in layout.now machine.old.memory slot in
+    ensures machine { let before = header_in (region_of layout.now machine.old.memory) slot in
         let tag = tag_for layout.now machine.old slot in
         let place = slot_of layout.now slot in
         machine.new ≡ record {

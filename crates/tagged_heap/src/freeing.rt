@@ -1,5 +1,5 @@
 //! The call that takes a chunk back.
-ghost use Rattle.class_table.specs.Layout.{slot_count, AreInOrder};
+ghost use Rattle.class_table.specs.Layout.{slot_count, IsPartition};
 ghost use Rattle.heap_theory.specs.Calls.{free_step, freed};
 ghost use Rattle.heap_theory.specs.Choice.{chunk_at};
 ghost use Rattle.heap_theory.specs.Header.Standing.{Freed};
@@ -9,7 +9,8 @@ ghost use Rattle.heap_theory.specs.State.{without_headers, Heap as TheHeap};
 ghost use Rattle.machine_theory.specs.Memory.{IsMemory};
 ghost use Rattle.std.specs.Prelude.{◌≡◌, ◌≢◌, ◌↔◌, ◌+◌, ◌^◌, ◌<◌, ◌≤◌, length, slice_index, slice_set, IfErr, IfOk, Ok, OnErr, OnOk, ℕ};
 ghost use Rattle.tagged_heap.specs.Chunks.{IsChunk, HasFront};
-ghost use Rattle.tagged_heap.specs.Representation.{header_in, IsKept, IsRewritten, SomeIsKept};
+ghost use Rattle.tagged_heap.specs.Representation.{IsKept, IsRewritten, SomeIsKept};
+ghost use Rattle.heap_theory.specs.Region.{region_of, header_in};
 
 use crate::chunks::retire;
 use crate::headers::header;
@@ -131,12 +132,13 @@ fn list_released(memory: &mut Memory, layout: &Layout, lists: &mut ClassLists, s
     requires slot { slot < slot_count layout.now }
     requires region { length memory.old ≡ layout.now.granules }
     requires memory { IsMemory memory.old }
-    requires order { AreInOrder layout.now }
-    requires class { HasFront lists.old (header_in layout.now memory.old slot).class }
-    ensures header { let before = header_in layout.now memory.old slot in
+    requires partition { IsPartition layout.now }
+    requires class { HasFront lists.old (header_in (region_of layout.now memory.old) slot).class }
+    ensures header { let before = header_in (region_of layout.now memory.old) slot in
         let after = record before { standing = Freed; next = slice_index lists.old before.class } in
         IsRewritten layout.now memory.old memory.new slot after (without_headers layout.now memory.old) }
-    ensures front { lists.new ≡ slice_set lists.old (header_in layout.now memory.old slot).class (slot + 1) }
+    ensures front { let before = header_in (region_of layout.now memory.old) slot in
+        lists.new ≡ slice_set lists.old before.class (slot + 1) }
     ensures memory { IsMemory memory.new }
 {
     let start = layout.start(slot);

@@ -5,7 +5,8 @@ ghost use Rattle.heap_theory.specs.State.State.{Fresh};
 ghost use Rattle.machine_theory.specs.Memory.{IsMemory};
 ghost use Rattle.std.specs.List.{range_with_len};
 ghost use Rattle.std.specs.Prelude.{◌≡◌, ◌+◌, ◌<◌, ◌≤◌, ℕ, length, map, slice_index, slice_set, IfNone, IfSome};
-ghost use Rattle.tagged_heap.specs.Representation.{header_from, header_in};
+ghost use Rattle.tagged_heap.specs.Representation.{header_from};
+ghost use Rattle.heap_theory.specs.Region.{region_of, header_in};
 
 use arrayvec::ArrayVec;
 use chunk_header::{Header, State, write};
@@ -17,7 +18,7 @@ pub(crate) fn write_fresh_headers(memory: &mut Memory, layout: &Layout)
     requires region { length memory.old ≡ layout.now.granules }
     requires memory { IsMemory memory.old }
     ensures headers { (s : ℕ) → s < slot_count layout.now →
-        header_in layout.now memory.new s ≡ header_from layout.now 0 s Fresh 0 }
+        header_in (region_of layout.now memory.new) s ≡ header_from layout.now 0 s Fresh 0 }
     ensures seen { without_headers layout.now memory.new ≡ without_headers layout.now memory.old }
     ensures memory { IsMemory memory.new }
     // What any layout is known to be.

@@ -1,6 +1,6 @@
 //! The headers of slots.
 ghost use Rattle.chunk_header.specs.HeaderView.{seen};
-ghost use Rattle.tagged_heap.specs.Representation.{header_in};
+ghost use Rattle.heap_theory.specs.Region.{region_of, header_in};
 ghost use Rattle.class_table.specs.Layout.{slot_count, slot_of};
 ghost use Rattle.heap_theory.specs.Header.{FitsWords};
 ghost use Rattle.std.specs.Prelude.{◌≡◌, ◌<◌, length};
@@ -14,8 +14,8 @@ pub(crate) fn header(memory: &Memory, layout: &Layout, _slot: u32, start: u32) -
     requires slot { _slot < slot_count layout.now }
     requires start { start ≡ (slot_of layout.now _slot).start }
     requires region { length memory.now ≡ layout.now.granules }
-    requires class { (header_in layout.now memory.now _slot).class < MOST_CLASSES }
-    ensures header { seen result ≡ header_in layout.now memory.now _slot }
+    requires class { (header_in (region_of layout.now memory.now) _slot).class < MOST_CLASSES }
+    ensures header { seen result ≡ header_in (region_of layout.now memory.now) _slot }
     ensures fits { FitsWords (seen result) }
 {
     // called for its contract: the proof needs `IsPartition` of the layout

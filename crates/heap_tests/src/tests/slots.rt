@@ -1,5 +1,5 @@
 //! The slots of a layout: their headers and links, the lists of free ones and the quarantine.
-use chunk_header::{Header, State, link, read, set_link, write};
+use chunk_header::{Header, State, is_header, link, read, set_link, write};
 use class_lists::ClassLists;
 use class_table::{ClassTable, Layout};
 use granule_memory::Memory;
@@ -51,6 +51,7 @@ fn a_link_is_set_alone(rt: HostRuntime) -> Result<(), Fail> {
     assert_eq!(rt; link(&memory, &layout, 31), 131_072);
     set_link(&mut memory, &layout, 31, 3);
     assert_eq!(rt; link(&memory, &layout, 31), 3);
+    assert!(rt; is_header(&memory, 62));
     assert_eq!(rt; read(&memory, 62), Header { next: 3, ..header });
     assert_eq!(rt; link(&memory, &layout, 30), 0);
     Ok(())

@@ -13,19 +13,21 @@ ghost use Rattle.heap_theory.specs.HeaderLaws.{
   LastSlotEnds,
   LinksStay,
   NewMemoryIsSeen,
+  OneHeaderIsWritten,
   OneListIsLinked,
+  OtherBytesChangeNoHeader,
   OtherBytesKeepHeaders,
   OtherGranulesAreSeen,
   OtherHeadersStay,
-  OtherLinksStay,
-  OwnLinkIsSet,
   PutAtEnd,
   PutAtEndIsLast,
   PutInFront,
   ReadHeaderFits,
+  RegionHasHeaders,
   SlotHeaderFits,
   SlotsGiveHeaderWords,
   TagsAreSeen,
+  TagsChangeNoHeader,
   TagsKeepHeaders,
   WordsAreOfHeader,
   WordsFit,
@@ -76,10 +78,12 @@ pub fn law_links()
     ensures last { PutAtEndIsLast }
 {}
 
-/// How the links of slots change with their headers.
-pub fn law_links_in_headers()
-    ensures own { OwnLinkIsSet }
-    ensures others { OtherLinksStay }
+/// How a change of the memory changes the region: the headers of the slots, and the granules without header bytes.
+pub fn law_region()
+    ensures headers { RegionHasHeaders }
+    ensures header { OneHeaderIsWritten }
+    ensures tags { TagsChangeNoHeader }
+    ensures bytes { OtherBytesChangeNoHeader }
 {}
 
 /// What a heap's caller sees of the memory: all but the bytes of headers.

@@ -1,10 +1,9 @@
 use Rattle.std.proofs.Common.{◌≡◌, ◌+◌, ◌*◌, sym, ap, subst, ◌∙◌, arith, inr}
 use Rattle.std.specs.Int.{w64, to_le_bytes}
 use Rattle.granule_memory.specs.Changes.{ChangesOnlyBytes}
-use Rattle.heap_theory.specs.Header.{header_at}
+use Rattle.heap_theory.specs.Header.{header_at, with_header}
 use Rattle.machine_theory.specs.Memory.{word_at, written}
 use Rattle.heap_theory.proofs.HeaderWords.{header_at-elsewhere}
-use Rattle.chunk_header.specs.HeaderView.{with_next}
 use Rattle.chunk_header.proofs.Links.{word_linked, link_written, link_read}
 use Rattle.chunk_header.proofs.granule.set_next.Goals as goal
 
@@ -17,7 +16,7 @@ returns c =
     let at : 16 * g + 0 ≡ 16 * g = omega arith in
     let word = c.with_next_in-word.ensures 0 ∙ word_linked old g c.args.next c.word.result 0 c.word.ensures in
     let second = c.set_word.ensures.others.word (16 * g + 8) (inr (omega arith)) in
-    let written_is : new ≡ with_next old g c.args.next =
+    let written_is : new ≡ with_header old g header =
     link_written old new g c.args.next c.set_word.ensures.memory second
     (c.set_word.ensures.written ∙ (λ i. written (at i) (to_le_bytes w64 (word i)) old)) in
     record {

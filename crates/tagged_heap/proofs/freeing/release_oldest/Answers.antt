@@ -10,6 +10,9 @@ next_out-requires-clause-region c = region_is (c.loop-slot.invariant c.requires.
 pub next_out-requires-clause-linked : goal.next_out-requires-clause-linked
 next_out-requires-clause-linked c = let k = c.loop-slot.invariant c.requires.kept.0 c.requires.kept.1 in (k.queue, k.queued)
 
+pub list_released-requires-clause-partition : goal.list_released-requires-clause-partition
+list_released-requires-clause-partition c = (c.loop-slot.invariant c.requires.kept.0 c.requires.kept.1).sound.region
+
 pub list_released-requires-clause-class : goal.list_released-requires-clause-class
 list_released-requires-clause-class c = can_be_listed (c.loop-slot.invariant c.requires.kept.0 c.requires.kept.1) c.in-Some.ensures.oldest
 

@@ -1,6 +1,8 @@
 use Rattle.std.proofs.Common.{◌≡◌, ◌≢◌, ◌+◌, ◌-◌, ◌<◌, [], ◌∷◌, ◌++◌, arith, sym, add-one, ap, ◌∙◌, subst}
 use Rattle.class_table.specs.Layout.{slot_count}
+use Rattle.heap_theory.proofs.Regions.{length-headers_of, other_link}
 use Rattle.quarantine_core.proofs.Queued.{last_within, put_first, put_at_end}
+use Rattle.quarantine_core.proofs.TheoryLemmas.{links_stay}
 use Rattle.quarantine_core.proofs.quarantine.Quarantine.put.Goals as goal
 use Rattle.quarantine_core.proofs.quarantine.Quarantine.put.Goals.{then-self-eq0, else-self-eq0}
 
@@ -9,7 +11,7 @@ set_link-requires-clause-slot c =
     let same : c.self.inside.back ≡ c.args.self.now.back = ap (λ q. q.back) c.self.view_is in
     let some : c.args.self.now.back ≢ 0 = λ none. c.if-self-eq0.false (same ∙ none) in
     subst (λ back. back - 1 < slot_count c.args.layout.now) (sym same)
-    (last_within c.args.self.now c.args.layout.now c.args.memory.now c.requires.linked.0 c.requires.linked.1 some)
+    (last_within c.args.self.now c.args.layout.now _ c.requires.linked.0 c.requires.linked.1 some)
 
 pub returns-clause-queued : goal.returns-clause-queued
 returns-clause-queued c = λ queue old.
@@ -20,13 +22,13 @@ returns-clause-queued c = λ queue old.
     elim c.if-self-eq0.branch [
       | then-self-eq0 w ↦
           rw (w.self-inside-is, w.memory-is)
-          (put_first c.args.self.now _ c.args.layout.now c.args.memory.now queue c.args.slot c.args.bytes old (back ∙ w.if-self-eq0.true)
-          c.requires.slot c.requires.next c.requires.bytes (omega arith) (omega arith) held)
+          (put_first c.args.self.now _ c.args.layout.now _ queue c.args.slot c.args.bytes old
+          (back ∙ w.if-self-eq0.true) c.requires.slot c.requires.next c.requires.bytes (omega arith) (omega arith) held)
       | else-self-eq0 w ↦
           rw (w.self-inside-is, w.memory-is)
-          (put_at_end c.args.self.now _ c.args.layout.now c.args.memory.now w.set_link.new.memory queue (c.self.inside.back - 1) c.args.slot
-          (c.args.slot + 1) c.args.bytes old
-          (omega (arith, back, w.if-self-eq0.false)) w.set_link.ensures.link (omega arith) c.requires.slot (c.requires.outside queue old)
+          (put_at_end c.args.self.now _ c.args.layout.now _ _ queue (c.self.inside.back - 1) c.args.slot
+          (c.args.slot + 1) c.args.bytes old (length-headers_of c.args.layout.now c.args.memory.now)
+          (omega (arith, back, w.if-self-eq0.false)) w.set_link.ensures.region (omega arith) c.requires.slot (c.requires.outside queue old)
           c.requires.next c.requires.bytes
           front (omega arith) held)
     ]
@@ -37,18 +39,19 @@ returns-clause-after c = λ last is.
     elim c.if-self-eq0.branch [
       | then-self-eq0 w ↦ absurd (omega (arith, back, is, w.if-self-eq0.true))
       | else-self-eq0 w ↦ (let place : c.self.inside.back - 1 ≡ last = omega (arith, back, is) in
-          rw (w.memory-is, ← place) (rw add-one at w.set_link.ensures.link))
+          rw (w.memory-is, ← place) (rw add-one at w.set_link.ensures))
     ]
 
 pub returns-clause-lists : goal.returns-clause-lists
-returns-clause-lists c = λ front list within outside linked.
+returns-clause-lists c = λ front list outside linked.
     let back : c.args.self.now.back ≡ c.self.inside.back = sym (ap (λ q. q.back) c.self.view_is) in
     elim c.if-self-eq0.branch [
       | then-self-eq0 w ↦ rw w.memory-is linked
       | else-self-eq0 w ↦
           rw w.memory-is
-          (w.set_link.ensures.link.lists front list within
-          (λ there. outside (c.self.inside.back - 1) there (omega (arith, back, w.if-self-eq0.false))) linked)
+          (links_stay _ _ front list
+          (λ r there. other_link _ (c.self.inside.back - 1) _ w.set_link.ensures.region r
+          (λ is. outside r there (omega (arith, back, w.if-self-eq0.false)))) linked)
     ]
 
 pub returns-clause-linked : goal.returns-clause-linked

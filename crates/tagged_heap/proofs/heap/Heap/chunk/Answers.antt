@@ -5,10 +5,10 @@ use Rattle.class_table.specs.Layout.{slot_of}
 use Rattle.chunk_header.specs.HeaderView.{seen as header_seen, standing_seen}
 use Rattle.heap_theory.specs.Header.{Header, Standing, class_number}
 use Rattle.heap_theory.specs.Header.Standing.{Fresh as IsFresh, Live as IsLive, Quarantined as IsQuarantined, Freed as IsFreed}
-use Rattle.heap_theory.specs.Links.{next_in}
+use Rattle.heap_theory.specs.Region.{region_of, header_in, next_in}
 use Rattle.heap_theory.specs.State.{state_at}
 use Rattle.tagged_heap.specs.Abstraction.{state_of}
-use Rattle.tagged_heap.specs.Representation.{header_in, header_from}
+use Rattle.tagged_heap.specs.Representation.{header_from}
 use Rattle.tagged_heap.proofs.TheoryLemmas as laws
 use Rattle.tagged_heap.proofs.Kept.{region_is, class_few}
 use Rattle.tagged_heap.proofs.NamedChunks.{misplaced, chunk_not_live, chunk_wrong_tag, chunk_live, live}
@@ -19,9 +19,9 @@ use Rattle.tagged_heap.proofs.heap.Heap.chunk.Goals.{After-header-header, After-
 shows : (c : After-header-header) →
     header_seen c.header-header.result
     ≡ header_from c.self.inside.layout c.self.invariant.kept.from c.in-Some.slot (state_at (state_of c.self.inside) c.in-Some.slot)
-    (next_in c.self.inside.layout c.self.inside.machine.memory c.in-Some.slot)
+    (next_in (region_of c.self.inside.layout c.self.inside.machine.memory) c.in-Some.slot)
 shows c =
-    c.header-header.ensures.header ∙ ap (λ m. header_in c.self.inside.layout m c.in-Some.slot) c.memory.ensures
+    c.header-header.ensures.header ∙ ap (λ m. header_in (region_of c.self.inside.layout m) c.in-Some.slot) c.memory.ensures
     ∙ c.self.invariant.kept.headers.headers c.in-Some.slot c.in-Some.ensures.slot.0
 
 pub returns-in_default-clause-err : goal.returns-in_default-clause-err

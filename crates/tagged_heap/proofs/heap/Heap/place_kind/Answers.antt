@@ -5,19 +5,20 @@ use Rattle.heap_theory.specs.Header.{Header}
 use Rattle.heap_theory.specs.Places.{place_kind}
 use Rattle.heap_theory.specs.State.{chunk_granules, IsSlot}
 use Rattle.tagged_heap.specs.Abstraction.{state_of}
-use Rattle.tagged_heap.specs.Representation.{header_in}
+use Rattle.heap_theory.specs.Region.{region_of, header_in}
 use Rattle.tagged_heap.proofs.AccessSteps.{kind_outside, in_range, start_kind, size_few, tail_kind, chunk_granule_kind, kind_by}
 use Rattle.tagged_heap.proofs.Kept.{region_is, class_few}
 use Rattle.tagged_heap.proofs.heap.Heap.place_kind.Goals as goal
 use Rattle.tagged_heap.proofs.heap.Heap.place_kind.Goals.{In-Some, After-header-header, After-chunk_granules}
 
 -- the header that is read
-shown : (c : After-header-header) → seen c.header-header.result ≡ header_in c.self.inside.layout c.self.inside.machine.memory c.in-Some.slot
+shown : (c : After-header-header) →
+    seen c.header-header.result ≡ header_in (region_of c.self.inside.layout c.self.inside.machine.memory) c.in-Some.slot
 shown c = rw c.memory-memory.ensures at c.header-header.ensures.header
 
 -- says how many granules the slot's chunk has,
 chunk_is : (c : After-chunk_granules) →
-    c.chunk_granules.result ≡ chunk_granules (header_in c.self.inside.layout c.self.inside.machine.memory c.in-Some.slot).size
+    c.chunk_granules.result ≡ chunk_granules (header_in (region_of c.self.inside.layout c.self.inside.machine.memory) c.in-Some.slot).size
 chunk_is c =
     c.chunk_granules.ensures.granules
     ∙ ap chunk_granules (c.from.ensures ∙ ap (λ (x : Header). x.size) (rw c.memory-memory.ensures at c.header-header.ensures.header))

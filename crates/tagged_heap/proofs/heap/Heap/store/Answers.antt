@@ -10,7 +10,7 @@ use Rattle.heap_theory.proofs.HeaderWords.{class_number-is}
 use Rattle.heap_theory.proofs.HeadersAgree.{header_words_stay}
 use Rattle.tagged_heap.specs.Abstraction.{state_of, seen, parts_of}
 use Rattle.tagged_heap.specs.HeapView.{HeapAndFrees, shown_heap, IsHeldIn}
-use Rattle.tagged_heap.proofs.PayloadWritten.{access_spared, tagged_access, fault_cases, written_held, written_shown}
+use Rattle.tagged_heap.proofs.PayloadWritten.{access_outside, tagged_access, fault_cases, written_held, written_shown}
 use Rattle.tagged_heap.proofs.heap.Heap.store.Goals as goal
 use Rattle.tagged_heap.proofs.heap.Heap.store.Goals.{After-store}
 
@@ -40,7 +40,7 @@ is_stored c none =
     c.store.ensures.ok in
     let tagged =
     tagged_access c.self.invariant.kept c.args.address (length c.args.bytes.now) (rw (← c.self.view_is) at c.requires.tagged) none in
-    let spared = access_spared c.self.invariant.kept c.args.address c.args.bytes.now c.requires.len.0 tagged none in
+    let spared = access_outside c.self.invariant.kept c.args.address c.args.bytes.now c.requires.len.0 tagged none in
     let fit : All (λ b. b < 256) c.args.bytes.now =
     All-from_get_or (λ b. b < 256) c.args.bytes.now 0 (λ i within. omega (arith, c.type_inv.bytes i)) in
     let shown = written_shown c.self.invariant (byte_of (place_of c.args.address)) c.args.bytes.now refl spared fit in
