@@ -1,4 +1,4 @@
-pub mod Codes
+pub mod FirstWords
 pub mod LinkSet
-pub mod Links
+pub mod LinkedHeaders
 pub mod Rewrites

@@ -4,7 +4,7 @@ ghost use Rattle.class_table.specs.Layout.{slot_count, slot_of};
 ghost use Rattle.heap_theory.specs.Region.{next_in, region_of};
 ghost use Rattle.std.specs.Prelude.{◌≡◌, ◌<◌, length};
 
-use crate::granule::{next, set_next};
+use crate::stored_header::{next, set_next};
 use class_table::Layout;
 use granule_memory::Memory;
 

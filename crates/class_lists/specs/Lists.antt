@@ -11,9 +11,9 @@ pub record ShowsList (region : Region) (front : ℕ) (list : List ℕ) : Type 0 
   pub linked : IsLinked (next_in region) front list
   pub slots : (s : ℕ) → Contains list s → s < length region.headers
 
--- Slot s is taken off the list of a class: the front of this list was the link to the slot, and now it is the link that the slot had.
--- Of the memory only the slot's link changes: it becomes 0.
-pub record TakesFirst (layout : Partition) (memory after : List Granule) (fronts fronts' : List ℕ) (class s : ℕ) : Type 0 where
-  pub was : slice_index fronts class ≡ s + 1
-  pub front : fronts' ≡ slice_set fronts class (next_in (region_of layout memory) s)
+-- Slot s is taken off the list of the class of this number: the front of the list was the link to the slot, and now it is the link that
+-- the slot had. Of the memory only the slot's link changes: it becomes 0.
+pub record TakesFirst (layout : Partition) (memory after : List Granule) (fronts fronts' : List ℕ) (number s : ℕ) : Type 0 where
+  pub was : slice_index fronts number ≡ s + 1
+  pub front : fronts' ≡ slice_set fronts number (next_in (region_of layout memory) s)
   pub link : SetsLink layout memory after s 0

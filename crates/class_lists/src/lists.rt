@@ -30,7 +30,7 @@ impl ClassLists {
     /// An empty list for each class of the layout, whatever the memory holds.
     pub fn new(layout: &Layout) -> ClassLists
         ensures fronts { result ≡ replicate (length layout.now.classes) 0 }
-        ensures empty { (region : Region) (class : ℕ) → ShowsList region (slice_index result class) [] }
+        ensures empty { (region : Region) (number : ℕ) → ShowsList region (slice_index result number) [] }
     {
         let mut fronts = ArrayVec::new();
         for _ in 0..layout.classes() {
@@ -42,61 +42,61 @@ impl ClassLists {
     /// Puts a slot of the layout in front of the list of a class, given by its number, so that it is the next to be popped.
     /// The slot must be in no list. The caller has to know that it is of that class.
     /// Of the memory only the slot's link changes.
-    pub fn push(&mut self, memory: &mut Memory, layout: &Layout, class: usize, slot: u32)
-        requires class { class < length self.old }
+    pub fn push(&mut self, memory: &mut Memory, layout: &Layout, number: usize, slot: u32)
+        requires number { number < length self.old }
         requires slot { slot < slot_count layout.now }
         requires granules { length memory.old ≡ layout.now.granules }
-        ensures front { self.new ≡ slice_set self.old class (slot + 1) }
-        ensures link { SetsLink layout.now memory.old memory.new slot (slice_index self.old class) }
+        ensures front { self.new ≡ slice_set self.old number (slot + 1) }
+        ensures link { SetsLink layout.now memory.old memory.new slot (slice_index self.old number) }
         ensures pushed { (list : List ℕ) →
-            ShowsList (region_of layout.now memory.old) (slice_index self.old class) list →
+            ShowsList (region_of layout.now memory.old) (slice_index self.old number) list →
             (Contains list slot → ⊥) → ShowsList (region_of layout.now memory.new) (slot + 1) (slot ∷ list) }
         ensures others { (front : ℕ) (list : List ℕ) → ShowsList (region_of layout.now memory.old) front list →
             (Contains list slot → ⊥) → ShowsList (region_of layout.now memory.new) front list }
     {
         prove!(slot < layout.slots());
-        set_link(memory, layout, slot, self.front(class));
-        self.set_front(class, slot + 1);
+        set_link(memory, layout, slot, self.front(number));
+        self.set_front(number, slot + 1);
     }
 
     /// Takes the first slot off the list of a class, given by its number. `None` if the list is empty.
     /// The slot's link becomes 0, and nothing else of the memory changes.
-    pub fn pop(&mut self, memory: &mut Memory, layout: &Layout, class: usize) -> Option<u32>
-        requires class { class < length self.old }
-        requires front { slice_index self.old class ≤ slot_count layout.now }
+    pub fn pop(&mut self, memory: &mut Memory, layout: &Layout, number: usize) -> Option<u32>
+        requires number { number < length self.old }
+        requires front { slice_index self.old number ≤ slot_count layout.now }
         requires granules { length memory.old ≡ layout.now.granules }
-        ensures none { IfNone result (slice_index self.old class ≡ 0) }
+        ensures none { IfNone result (slice_index self.old number ≡ 0) }
         ensures same { IfNone result ((self.new ≡ self.old) × (memory.new ≡ memory.old)) }
         ensures taken { IfSome result
-            (λ slot. TakesFirst layout.now memory.old memory.new self.old self.new class slot) }
+            (λ slot. TakesFirst layout.now memory.old memory.new self.old self.new number slot) }
         ensures popped { (list : List ℕ) →
-            ShowsList (region_of layout.now memory.old) (slice_index self.old class) list →
+            ShowsList (region_of layout.now memory.old) (slice_index self.old number) list →
             (result ≡ slice_get list 0)
-            × ShowsList (region_of layout.now memory.new) (slice_index self.new class) (drop 1 list) }
+            × ShowsList (region_of layout.now memory.new) (slice_index self.new number) (drop 1 list) }
         ensures others { (front : ℕ) (list : List ℕ) → ShowsList (region_of layout.now memory.old) front list →
             IfSome result (λ slot. Contains list slot → ⊥) → ShowsList (region_of layout.now memory.new) front list }
     {
-        let front = self.front(class);
+        let front = self.front(number);
         if front == 0 {
             return None;
         }
         let slot = front - 1;
         let next = unlink(memory, layout, slot, layout.start(slot));
-        self.set_front(class, next);
+        self.set_front(number, next);
         Some(slot)
     }
 
-    fn front(&self, class: usize) -> u32
-        requires { class < length self.now }
-        ensures { result ≡ slice_index self.now class }
+    fn front(&self, number: usize) -> u32
+        requires { number < length self.now }
+        ensures { result ≡ slice_index self.now number }
     {
-        self.fronts[class]
+        self.fronts[number]
     }
 
-    fn set_front(&mut self, class: usize, front: u32)
-        requires { class < length self.old }
-        ensures { self.new ≡ slice_set self.old class front }
+    fn set_front(&mut self, number: usize, front: u32)
+        requires { number < length self.old }
+        ensures { self.new ≡ slice_set self.old number front }
     {
-        self.fronts[class] = front;
+        self.fronts[number] = front;
     }
 }

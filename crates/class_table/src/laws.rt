@@ -1,5 +1,5 @@
 //! What holds for every size, table and class line. Each law is the contract of a function that does nothing.
-//! The proofs of a crate above cite the lemmas that the laws follow from; a program may call a law, which costs nothing.
+//! The proofs of a crate above cite the lemmas that the laws follow from.
 ghost use Rattle.class_table.specs.Laws.{
   FaultlessIsLegal,
   FaultyTextIsRefused,

@@ -13,7 +13,7 @@ pub use class_line::LINE_BYTES;
 pub use fault::TableError;
 pub use layout::{FEWEST_GRANULES, Layout, MOST_GRANULES, MOST_SLOTS, Slot};
 pub use sizes::{
-    GRANULE_BYTES, LARGEST_CLASS, LARGEST_COUNTED, MOST_NEEDS, SMALLEST_CLASS, loss, need,
+    GRANULE_BYTES, LARGEST_CLASS, LARGEST_COUNTED, MOST_NEEDS, SMALLEST_CLASS, is_step, loss, need,
     round_up, serves,
 };
 pub use table::{ClassTable, MOST_CLASSES};

@@ -1,4 +1,4 @@
-ghost use Rattle.std.specs.Prelude.{◌≡◌, ◌≤◌, IsTrue};
+ghost use Rattle.std.specs.Prelude.{◌≡◌, ◌↔◌, ◌≤◌, IsTrue};
 ghost use Rattle.class_table.specs.Steps.{IsStep, round_up};
 ghost use Rattle.class_table.specs.Sizes.{need_of, loss_of, serves};
 
@@ -41,7 +41,14 @@ pub fn loss(n: u32, class: u16) -> u32
     (GRANULE_BYTES * u32::from(class)).saturating_sub(GRANULE_BYTES) - n
 }
 
-/// A need in granules (2 to 1024), rounded up to a multiple of the step (1, 2, 4 or 8). It is at most 1024 too.
+/// Whether this is a step: 1, 2, 4 or 8 granules.
+pub fn is_step(step: u8) -> bool
+    ensures { IsTrue result ↔ IsStep step }
+{
+    matches!(step, 1 | 2 | 4 | 8)
+}
+
+/// A need in granules (2 to 1024), rounded up to a multiple of the step (`is_step`). It is at most 1024 too.
 pub fn round_up(need: u32, step: u8) -> u32
     requires need { (SMALLEST_CLASS ≤ need) × (need ≤ LARGEST_CLASS) }
     requires step { IsStep step }

@@ -71,7 +71,7 @@ impl ClassTable {
         self.classes[number]
     }
 
-    /// Whether each class is a multiple of the step (1, 2, 4 or 8), as blocks that come in such multiples need it.
+    /// Whether each class is a multiple of the step (`is_step`), as blocks that come in such multiples need it.
     pub fn fits(&self, step: u8) -> bool
         requires { IsStep step }
         ensures { IsTrue result ↔ FitsStep step self.now }

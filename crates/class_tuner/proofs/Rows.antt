@@ -3,12 +3,13 @@ use Rattle.std.proofs.Common.{◌≡◌, ℕ, zero, suc, ◌+◌, ◌-◌, ◌<�
 use Rattle.std.specs.Prelude.{Vec, slice_index_or}
 use Rattle.std.specs.declared.alloc.Global.{Global}
 use Rattle.std.proofs.lemmas.Bool.{cases_lt}
-use Rattle.std.proofs.lemmas.List.{get_or_append_left, get_or_past, get_or-map}
+use Rattle.std.proofs.lemmas.List.{get_or_append_left, get_or-map, get_or_past}
 use Rattle.std.proofs.lemmas.List.Elements.{All-push}
 use Rattle.std.proofs.Math.Seq.{get_or-append_seam}
 use Rattle.class_tuner.specs.Filling.{IsFilledWithin}
 use Rattle.potential_check.specs.Lists.{lists_of}
 use Rattle.tuner_theory.specs.Rows.{HasShape, IsFilled, IsLeastEnd, number_at}
+use Rattle.tuner_theory.proofs.Sheets.{rows-end}
 
 -- ---- numbers in rows
 
@@ -21,13 +22,6 @@ pub number_at-new : (rows : List (List ℕ)) (row : List ℕ) (k i : ℕ) → le
 number_at-new rows row k i size =
     let last : suc k - 1 ≡ length rows = omega arith in
     ap (λ m. slice_index (get_or (rows ++ row ∷ []) m []) i) last ∙ ap (λ (r : List ℕ). slice_index r i) (get_or-append_seam rows row [] [])
-
-number_at-end : (rows : List (List ℕ)) (limit d : ℕ) → HasShape rows limit d → (k : ℕ) → number_at rows k d ≡ 0
-number_at-end rows limit d shape k =
-    elim (cases_lt (k - 1) (length rows)) [
-      | inl inside ↦ get_or_past (slice_index_or rows (k - 1) []) d 0 (omega (arith, shape.row_lengths (k - 1) [] inside))
-      | inr past ↦ ap (λ (row : List ℕ). slice_index row d) (get_or_past rows (k - 1) [] past)
-    ]
 
 shape-pushed : (rows : List (List ℕ)) (row : List ℕ) (k d : ℕ) → HasShape rows k d → length row ≡ d → HasShape (rows ++ row ∷ []) (suc k) d
 shape-pushed rows row k d shape len = record {
@@ -68,7 +62,7 @@ filled-first cost d row ends row_len ends_len row_is ends_is = record {
   rows_shape = shape-one row d row_len;
   ends_shape = shape-one ends d ends_len;
   least = record {
-    at_end = number_at-end (row ∷ []) 1 d (shape-one row d row_len);
+    at_end = rows-end (row ∷ []) 1 d (shape-one row d row_len);
     first_row = λ i some lt. (row_is i lt, ends_is i lt);
     later_row = λ k i some few lt. absurd (omega arith);
   };
@@ -81,7 +75,7 @@ filled-more cost d k rows ends row end one f row_len end_len within = record {
   rows_shape = shape-pushed rows row k d f.rows_shape row_len;
   ends_shape = shape-pushed ends end k d f.ends_shape end_len;
   least = record {
-    at_end = number_at-end (rows ++ row ∷ []) (suc k) d (shape-pushed rows row k d f.rows_shape row_len);
+    at_end = rows-end (rows ++ row ∷ []) (suc k) d (shape-pushed rows row k d f.rows_shape row_len);
     first_row = λ i some lt.
         let old = f.least.first_row i one lt in (
           number_at-old rows row 1 i (omega arith) (omega (arith, f.rows_shape.row_count)) ∙ old.0,

@@ -3,6 +3,8 @@ ghost use Rattle.class_tuner.specs.Filling.{end_cost};
 ghost use Rattle.class_tuner.specs.Windows.{IsLeastWithin, IsWindowAfter};
 ghost use Rattle.tuner_theory.specs.Spans.{IsCrossing};
 
+use potential_check::number_in_row;
+
 /// A source of the costs of spans, which counts its calls. A span goes from a place to a later one. Places are counted from 1, and place 0
 /// is before them all. Code over any source knows costs by `at` and `least_end` alone.
 pub trait CostSource {
@@ -47,9 +49,8 @@ pub trait CostSource {
         ensures value { result.0 ≡ end_cost (cost self.old) before.now place result.1 }
         ensures counted { self.new ≡ with_calls self.old (call_count self.old + (high - low) + 1) }
     {
-        // `Costs` has the same loop over its spans, which counts the calls at once
         let mut end = high;
-        let mut least = self.at(place, high) + number_at(before, high);
+        let mut least = self.at(place, high) + number_in_row(before, high);
         for j in (low..high).rev() {
             let cost = self.at(place, j) + before[j];
             if cost <= least {
@@ -76,11 +77,4 @@ pub trait CostSource {
     ghost keeps_last: { (s : Self) (m n : ℕ) → with_calls (with_calls s m) n ≡ with_calls s n };
 
     ghost keeps_all: { (s : Self) → with_calls s (call_count s) ≡ s };
-}
-
-// the number of a row at a place, and 0 past its end
-pub(crate) fn number_at(row: &[u64], place: usize) -> u64
-    ensures { result ≡ slice_index row.now place }
-{
-    row.get(place).copied().unwrap_or(0)
 }

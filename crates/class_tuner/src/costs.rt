@@ -3,7 +3,7 @@ ghost use Rattle.potential_check.specs.Spanned.{IsSpanned};
 ghost use Rattle.tuner_theory.specs.Spans.{IsCrossing, places, span_waste};
 ghost use Rattle.class_table.specs.Steps.{IsStep};
 
-use crate::cost_source::{CostSource, number_at};
+use crate::cost_source::CostSource;
 use class_table::MOST_NEEDS;
 use potential_check::Spans;
 use profile_count::Profile;
@@ -26,8 +26,8 @@ struct LawfulSpans<'a> {
 }
 
 impl<'a> Costs<'a> {
-    /// The costs of a profile for blocks in multiples of a step (1, 2, 4 or 8 granules), with no call counted. The only error is that the
-    /// allocator refuses memory.
+    /// The costs of a profile for blocks in multiples of a step (1, 2, 4 or 8 granules), with no call counted: a source for `fill_rows`. The
+    /// only error is that the allocator refuses memory.
     pub fn new(alloc: Global, profile: &'a Profile, step: u8) -> Result<Costs<'a>, AllocError>
         requires { IsStep step }
         ensures cost { IfOk result
@@ -81,22 +81,6 @@ impl<'a> CostSource for Costs<'a> {
     fn at(&mut self, i: usize, j: usize) -> u64 {
         self.calls += 1;
         self.lawful.spans.waste(i, j)
-    }
-
-    // counts the calls once, so that the loop only reads
-    fn least_end(&mut self, before: &[u64], place: usize, low: usize, high: usize) -> (u64, usize) {
-        self.calls += (high - low) as u64 + 1;
-        let spans = &self.lawful.spans;
-        let mut end = high;
-        let mut least = spans.waste(place, high) + number_at(before, high);
-        for j in (low..high).rev() {
-            let cost = spans.waste(place, j) + before[j];
-            if cost <= least {
-                least = cost;
-                end = j;
-            }
-        }
-        (least, end)
     }
 
     ghost is_small = { λ s. s.lawful.small };

@@ -1,6 +1,5 @@
-//! One row by halving: the middle place first, then the places on either side of it, each with the ends on their side of its least end.
-//! By the law on spans that cross, a later place has no earlier least end. So each half needs only the ends on its side of the middle
-//! place's least end.
+//! One row by halving. The middle place comes first. By the law on spans that cross, a later place has no earlier least end. So the places
+//! before the middle need only the ends up to its least end, and the places after it only the ends from there on.
 ghost use Rattle.std.specs.Prelude.{◌≡◌, ℕ, ◌+◌, ◌-◌, ◌*◌, ◌^◌, ◌≤◌};
 ghost use Rattle.class_tuner.specs.Filling.{AreCallsForPart, AreEndsBetween, IsFilledWithin, IsLeastAt, IsPart, IsSmallRow, KeepsOutside, end_cost};
 ghost use Rattle.class_tuner.specs.Sources.{OnlyCounts};

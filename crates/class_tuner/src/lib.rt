@@ -7,7 +7,7 @@ mod costs;
 mod filling;
 mod halving;
 pub mod laws;
-mod table;
+mod read_off;
 mod tuning;
 
 pub use cost_source::CostSource;

@@ -11,7 +11,7 @@ ghost use Rattle.class_table.specs.Steps.{IsStep};
 use crate::cost_source::CostSource;
 use crate::costs::Costs;
 use crate::filling::{Filled, fill_rows};
-use crate::table::table_of_ends;
+use crate::read_off::table_of_ends;
 use class_table::MOST_CLASSES;
 use potential_check::{Rows, Sheet, Spans};
 use profile_count::Profile;

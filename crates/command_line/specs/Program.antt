@@ -1,6 +1,6 @@
 -- The words that the program takes.
-use Rattle.std.specs.Prelude.{◌≡◌, [], ◌∷◌, Some, codes, pos, true, false}
-use Rattle.clap.specs.Words.{App, Rule, new_app, new_rule, with_rule, with_subcommand, shape_of, rule_of}
+use Rattle.std.specs.Prelude.{◌≡◌, ℕ, List, [], ◌∷◌, Some, codes, pos, true, false}
+use Rattle.clap.specs.Words.{App, Rule, new_app, new_rule, app_of, with_rule, with_subcommand, rule_of}
 use Rattle.clap.specs.Simple.{on_top}
 use Rattle.clap.specs.declared.builder.arg.Arg.{Arg}
 use Rattle.clap.specs.declared.builder.command.Command.{Command}
@@ -10,46 +10,29 @@ use Rattle.class_table.specs.declared.layout.TheConstants.{FEWEST_GRANULES, MOST
 use Rattle.class_table.specs.declared.table.TheConstants.{MOST_CLASSES}
 use Rattle.tagged_heap.specs.declared.heap.TheConstants.Config.{MOST_QUARANTINE}
 
+-- An option of this name whose value is a number from `least` to `most`.
+abbrev pub number_rule : List ℕ → ℕ → ℕ → Rule
+number_rule name least most = record (new_rule name) {
+  long = Some name;
+  value_names = 1;
+  parser = Some (Signed (pos least) (pos most));
+}
+
 -- `--limit`, which may not be left out.
 abbrev pub limit_rule : Rule
-limit_rule = record (new_rule (codes "limit")) {
-  long = Some (codes "limit");
-  value_names = 1;
-  required = true;
-  parser = Some (Signed (pos 1) (pos MOST_CLASSES));
-}
+limit_rule = record (number_rule (codes "limit") 1 MOST_CLASSES) { required = true }
 
 abbrev pub step_rule : Rule
-step_rule = record (new_rule (codes "step")) {
-  long = Some (codes "step");
-  value_names = 1;
-  defaults = codes "1" ∷ [];
-  parser = Some (Signed (pos 1) (pos 8));
-}
+step_rule = record (number_rule (codes "step") 1 8) { defaults = codes "1" ∷ [] }
 
 abbrev pub granules_rule : Rule
-granules_rule = record (new_rule (codes "granules")) {
-  long = Some (codes "granules");
-  value_names = 1;
-  defaults = codes "65536" ∷ [];
-  parser = Some (Signed (pos FEWEST_GRANULES) (pos MOST_GRANULES));
-}
+granules_rule = record (number_rule (codes "granules") FEWEST_GRANULES MOST_GRANULES) { defaults = codes "65536" ∷ [] }
 
 abbrev pub seed_rule : Rule
-seed_rule = record (new_rule (codes "seed")) {
-  long = Some (codes "seed");
-  value_names = 1;
-  defaults = codes "1" ∷ [];
-  parser = Some (Signed (pos 1) (pos 65535));
-}
+seed_rule = record (number_rule (codes "seed") 1 65535) { defaults = codes "1" ∷ [] }
 
 abbrev pub quarantine_rule : Rule
-quarantine_rule = record (new_rule (codes "quarantine")) {
-  long = Some (codes "quarantine");
-  value_names = 1;
-  defaults = codes "65536" ∷ [];
-  parser = Some (Signed (pos 0) (pos MOST_QUARANTINE));
-}
+quarantine_rule = record (number_rule (codes "quarantine") 0 MOST_QUARANTINE) { defaults = codes "65536" ∷ [] }
 
 -- The commands.
 abbrev pub score_words : App
@@ -76,12 +59,16 @@ run_words =
 abbrev pub top : App
 top = on_top (λ s. record s { has_version = true; subcommand_required = true; arg_required_else_help = true }) (new_app (codes "mte_tool"))
 
+-- The words `a` with the command of the words `c`.
+abbrev pub with_command : App → App → App
+with_command a c = with_subcommand a c.top
+
 -- The commands that read and write tables, and those that read a trace.
 abbrev pub with_table_commands : App → App
-with_table_commands a = with_subcommand (with_subcommand (with_subcommand a score_words.top) tune_words.top) check_words.top
+with_table_commands a = with_command (with_command (with_command a score_words) tune_words) check_words
 
 abbrev pub with_trace_commands : App → App
-with_trace_commands a = with_subcommand (with_subcommand (with_subcommand a profile_words.top) replay_words.top) run_words.top
+with_trace_commands a = with_command (with_command (with_command a profile_words) replay_words) run_words
 
 abbrev pub program : App
 program = with_trace_commands (with_table_commands top)
@@ -91,4 +78,4 @@ abbrev pub IsOption : Arg → Rule → Type 0
 IsOption option rule = (rule_of option ≡ rule) × (option.global ≡ false)
 
 abbrev pub HasWords : Command → App → Type 0
-HasWords command words = (shape_of command ≡ words.top) × ((fields_of command).has_globals ≡ false)
+HasWords command words = (app_of command ≡ words) × ((fields_of command).has_globals ≡ false)

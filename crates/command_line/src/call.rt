@@ -54,12 +54,18 @@ impl Call {
         ensures { Runs (answers_of self) (R.state source.old) (R.state source.new) W.state sink.old sink.new result }
     {
         match self {
-            Call::Score => score::run(alloc, source, sink),
-            Call::Tune(options) => options.run(alloc, source, sink),
-            Call::Check => check::run(alloc, source, sink),
-            Call::Profile => profile::run(alloc, source, sink),
-            Call::Replay(options) => options.run(alloc, source, sink),
-            Call::Run(options) => options.run(alloc, source, sink),
+            Call::Score => mte_engine::score(alloc, source, sink),
+            Call::Tune(Tune { limit, step }) => mte_engine::tune(alloc, limit, step, source, sink),
+            Call::Check => mte_engine::check(alloc, source, sink),
+            Call::Profile => mte_engine::profile(alloc, source, sink),
+            Call::Replay(Replay { config }) => mte_engine::replay(alloc, config, source, sink),
+            Call::Run(
+                Run {
+                    limit,
+                    step,
+                    config,
+                },
+            ) => mte_engine::run(alloc, limit, step, config, source, sink),
         }
     }
 }

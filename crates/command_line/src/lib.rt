@@ -17,4 +17,4 @@ pub use commands::tune::Tune;
 pub use end::End;
 pub use program::run;
 pub use refusal::{OptionFault, Refusal};
-pub use words::run_words;
+pub use words::run_call_of;

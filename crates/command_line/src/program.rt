@@ -5,7 +5,7 @@ ghost use Rattle.command_line.specs.declared.end.End.TheVariants.{Ended};
 
 use crate::end::End;
 use crate::refusal::Refusal;
-use crate::words::{command, read_call, run_words};
+use crate::words::{command, read_call, run_call_of};
 use clap::error::ErrorKind;
 use mte_engine::{Status, StreamSink, StreamSource, ToolFault};
 use std::io;
@@ -26,13 +26,13 @@ pub fn run<R: Env + AllocGlobal + Input + Print + Eprint>(rt: &R, at_terminal: b
         Ok(words) => words,
         Err(refusal) => return refuse(rt, &refusal),
     };
-    // read here for the hint alone: `run_words` reads the words itself, so that its contract covers the whole run
+    // read here for the hint alone: `run_call_of` reads the words itself, so that its contract covers the whole run
     if at_terminal && read_call(rt.alloc(), words.as_slice()).is_ok() {
         let _ = eprintln!(rt; "{WAITS}");
     }
     let mut source = StreamSource::new(rt.reader());
     let mut sink = StreamSink::new(writer(rt));
-    match run_words(rt.alloc(), words.as_slice(), &mut source, &mut sink) {
+    match run_call_of(rt.alloc(), words.as_slice(), &mut source, &mut sink) {
         Ok(end) => finish(rt, end),
         Err(refusal) => refuse(rt, &refusal),
     }

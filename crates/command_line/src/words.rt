@@ -83,7 +83,7 @@ pub fn read_call(alloc: Global, words: &[String]) -> Result<Call, Refusal>
 
 /// Runs the call that these words mean. The first word is the program's name. The error says why no call ran: the words mean none, or the
 /// allocator refused memory. After an error source and sink are unchanged.
-pub fn run_words<R: ByteSource, W: ByteSink>(
+pub fn run_call_of<R: ByteSource, W: ByteSink>(
     alloc: Global,
     words: &[String],
     source: &mut R,

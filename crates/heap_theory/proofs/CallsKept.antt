@@ -10,7 +10,6 @@ use Rattle.machine_theory.specs.Address.{logical_tag}
 use Rattle.machine_theory.specs.Memory.{written}
 use Rattle.class_table.specs.Layout.{Partition, slot_count}
 use Rattle.heap_theory.specs.declared.fault.FreeError.{FreeError}
-use Rattle.heap_theory.specs.declared.fault.NullCause.{NullCause}
 use Rattle.heap_theory.specs.Calls.{Step, next_tag, given_out, freed, resized, with_payload, payload_bytes, moved, malloc_with, malloc_step, calloc_with, calloc_step, free_with, free_step, stays_in_class, move_with, realloc_with, realloc_step}
 use Rattle.heap_theory.specs.Choice.{Chunk, IsReusable, IsGiven, IsLiveChunk, is_released, slot_for_request, chunk_at}
 use Rattle.heap_theory.specs.Generations.{slot_if_moved}
@@ -18,7 +17,7 @@ use Rattle.heap_theory.specs.Run.{store_with, store_step}
 use Rattle.heap_theory.specs.Sound.{IsSoundHeap}
 use Rattle.heap_theory.specs.State.{State, Heap, state_at, last_tag, is_fresh, chunk_granules}
 use Rattle.heap_theory.specs.State.State.{Fresh, Live, Dead}
-use Rattle.heap_theory.proofs.Choices.{slot_for_request-is, chunk_at-is, room_in_place}
+use Rattle.heap_theory.proofs.Choices.{slot_for_request-cases, chunk_at-is, room_in_place}
 use Rattle.heap_theory.proofs.HeapKept.{in_states, IsSoundHeap-given_out, IsSoundHeap-resized, IsSoundHeap-freed, IsSoundHeap-written, IsSoundHeap-with_payload}
 
 -- ---- changes that give out no slot, and leave dead ones as they are
@@ -203,44 +202,27 @@ module _ where
 
   -- ---- the calls
 
+  -- a slot is given out, and keeps its state
+  IsKept-given : (h new : Heap) (n s : ℕ) → IsSoundHeap h → IsGiven h n s → IsSoundHeap new → KeepsGiven (given_out h s n) new →
+      state_at new s ≡ state_at (given_out h s n) s → IsKept h new (Some s)
+  IsKept-given h new n s sound given new_sound kept same =
+      let live = same ∙ state_at-given_out h s n (in_states h s sound given.reusable.in_range) in
+      record { sound = new_sound; change = record { n = n; given = given; kept = kept; live = live } }
+
   pub IsKept-malloc : (h : Heap) (n : ℕ) → IsSoundHeap h → IsKept h (malloc_step h n).heap (result_ok (slot_for_request h n))
   unfolding malloc_step
-  IsKept-malloc h n sound = by_slot (slot_for_request h n) refl
-    where
-      by_slot : (r : Result ℕ NullCause) → slot_for_request h n ≡ r → IsKept h (malloc_with h n r).heap (result_ok r)
-      by_slot (Err cause) was = IsKept-refl h sound
-      by_slot (Ok s) was =
-          let given = slot_for_request-is h n s sound was in
-          record {
-            sound = given_sound h n s sound given;
-            change =
-                record {
-                  n = n;
-                  given = given;
-                  kept = KeepsGiven-refl (given_out h s n);
-                  live = state_at-given_out h s n (in_states h s sound given.reusable.in_range);
-                };
-          }
+  IsKept-malloc h n sound =
+      slot_for_request-cases h n sound (λ r. IsKept h (malloc_with h n r).heap (result_ok r)) (λ cause. IsKept-refl h sound)
+      (λ s given. IsKept-given h (given_out h s n) n s sound given (given_sound h n s sound given) (KeepsGiven-refl (given_out h s n)) refl)
 
   pub IsKept-calloc : (h : Heap) (n : ℕ) → IsSoundHeap h → IsKept h (calloc_step h n).heap (result_ok (slot_for_request h n))
   unfolding calloc_step
-  IsKept-calloc h n sound = by_slot (slot_for_request h n) refl
-    where
-      by_slot : (r : Result ℕ NullCause) → slot_for_request h n ≡ r → IsKept h (calloc_with h n r).heap (result_ok r)
-      by_slot (Err cause) was = IsKept-refl h sound
-      by_slot (Ok s) was =
-          let given = slot_for_request-is h n s sound was in
-          record {
-            sound = IsSoundHeap-with_payload (given_out h s n) s (replicate (16 * chunk_granules n) 0) (given_sound h n s sound given);
-            change = record {
-              n = n;
-              given = given;
-              kept = KeepsGiven-with_payload (given_out h s n) s (replicate (16 * chunk_granules n) 0);
-              live =
-                  state_at-with_payload (given_out h s n) s s (replicate (16 * chunk_granules n) 0)
-                  ∙ state_at-given_out h s n (in_states h s sound given.reusable.in_range);
-            };
-          }
+  IsKept-calloc h n sound =
+      let zeroes = replicate (16 * chunk_granules n) 0 in
+      slot_for_request-cases h n sound (λ r. IsKept h (calloc_with h n r).heap (result_ok r)) (λ cause. IsKept-refl h sound)
+      (λ s given. IsKept-given h (with_payload (given_out h s n) s zeroes) n s sound given
+      (IsSoundHeap-with_payload (given_out h s n) s zeroes (given_sound h n s sound given))
+      (KeepsGiven-with_payload (given_out h s n) s zeroes) (state_at-with_payload (given_out h s n) s s zeroes))
 
   IsKept-either : {A : Type 0} (h : Heap) (b : Bool) (x y : Step A) (o q : Option ℕ) → (b ≡ true → IsKept h x.heap o) →
       (b ≡ false → IsKept h y.heap q) →
@@ -270,11 +252,6 @@ module _ where
   unfolding realloc_step
   IsKept-realloc h p n sound = IsKept-either h (p == 0) _ _ _ _ (λ _. IsKept-malloc h n sound) (λ _. by_chunk (chunk_at h p) refl)
     where
-      by_slot : (chunk : Chunk) → IsLiveChunk h p chunk → (r : Result ℕ NullCause) → slot_for_request h n ≡ r →
-          IsKept h (move_with h chunk n r).heap (result_ok r)
-      by_slot chunk c (Err cause) was = IsKept-refl h sound
-      by_slot chunk c (Ok s) was = IsKept-moved h p chunk s n sound c (slot_for_request-is h n s sound was)
-
       by_chunk : (r : Result Chunk FreeError) → chunk_at h p ≡ r → IsKept h (realloc_with h p n r).heap (slot_if_moved h n r)
       by_chunk (Err error) was = IsKept-refl h sound
       by_chunk (Ok chunk) was =
@@ -286,7 +263,8 @@ module _ where
                 (room_in_place h chunk n stays (sound.slots.wide chunk.slot c.in_range));
             change = KeepsGiven-resized h chunk.slot n chunk.size (logical_tag p) (in_states h chunk.slot sound c.in_range) c.live;
           })
-          (λ _. by_slot chunk c (slot_for_request h n) refl)
+          (λ _. slot_for_request-cases h n sound (λ o. IsKept h (move_with h chunk n o).heap (result_ok o)) (λ cause. IsKept-refl h sound)
+          (λ s given. IsKept-moved h p chunk s n sound c given))
 
   pub IsKept-store : (h : Heap) (address : ℕ) (bytes : List ℕ) → IsSoundHeap h → IsKept h (store_step h address bytes) None
   unfolding store_step

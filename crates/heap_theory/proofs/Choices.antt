@@ -117,6 +117,15 @@ slot_for_request-is h n s sound is = in_class (class_for_request h n) refl is
     in_class (Err cause) was is = absurd cc
     in_class (Ok class) was is = in_slot class (class_for_request-is h n class was) (slot_for h class) refl is
 
+-- what holds of each refusal and of each slot that may be given holds of what a request is given
+pub slot_for_request-cases : (h : Heap) (n : ℕ) → IsSoundHeap h → (P : Result ℕ NullCause → Type 0) →
+    ((cause : NullCause) → P (Err cause)) → ((s : ℕ) → IsGiven h n s → P (Ok s)) → P (slot_for_request h n)
+slot_for_request-cases h n sound P refused given = by_slot (slot_for_request h n) refl
+  where
+    by_slot : (r : Result ℕ NullCause) → slot_for_request h n ≡ r → P r
+    by_slot (Err cause) was = refused cause
+    by_slot (Ok s) was = given s (slot_for_request-is h n s sound was)
+
 -- ---- the chunk of a pointer
 
 pub slot_of_pointer-is : (h : Heap) (p s : ℕ) → slot_of_pointer h p ≡ Some s →

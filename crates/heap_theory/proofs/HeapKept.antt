@@ -20,6 +20,17 @@ in_region h s sound within = subst (λ n. end_of (slot_in h s) ≤ n) (sym sound
 pub in_states : (h : Heap) (s : ℕ) → IsSoundHeap h → s < slot_count h.layout → s < length h.states
 in_states h s sound within = subst (λ n. s < n) (sym sound.states) within
 
+-- what follows of the mark of a dead slot, and of the marks of two
+IfDead-so : (x : State) (P Q : ℕ → Type 0) → ((mark : ℕ) → P mark → Q mark) → IfDead x P → IfDead x Q
+IfDead-so Fresh P Q so p = tt
+IfDead-so (Live n t) P Q so p = tt
+IfDead-so (Dead n t mark) P Q so p = so mark p
+
+IfDead-both : (x y : State) (P Q : ℕ → Type 0) (R : ℕ → ℕ → Type 0) → ((mark other : ℕ) → P mark → Q other → R mark other) →
+    IfDead x P → IfDead y Q → IfDead x (λ mark. IfDead y (R mark))
+IfDead-both x y P Q R so p q =
+    IfDead-so x P (λ mark. IfDead y (R mark)) (λ mark here. IfDead-so y Q (R mark) (λ other there. so mark other here there) q) p
+
 -- a slot whose granules keep their tags stays tagged
 IsTaggedSlot-same : (memory other : List Granule) (s : ℕ) (slot : Slot) (state : State) →
     ((g : ℕ) → slot.start ≤ g → g < end_of slot → tag_at other g ≡ tag_at memory g) → IsTaggedSlot memory s slot state →
@@ -75,8 +86,10 @@ module _ (h : Heap) (s : ℕ) (state : State) (memory : List Granule) (total see
         tagged = λ r within. ⊎_elim (λ is. tagged_here r is) (λ not. tagged_there r within not) (cases_eq r s);
         slack = λ g none. others g (outside g none) ∙ sound.slack g none;
         marks = λ r. ⊎_elim
-            (λ is. subst (λ x. IfDead x (λ mark. mark < total)) (sym (here r is)) (below state marked))
-            (λ not. subst (λ x. IfDead x (λ mark. mark < total)) (sym (there r not)) (weaker (state_at h r) (sound.marks r)))
+            (λ is. subst (λ x. IfDead x (λ mark. mark < total)) (sym (here r is))
+            (IfDead-so state IsNew IsBelow (λ mark new. new.1) marked))
+            (λ not. subst (λ x. IfDead x (λ mark. mark < total)) (sym (there r not))
+            (IfDead-so (state_at h r) IsOld IsBelow (λ mark old. omega arith) (sound.marks r)))
             (cases_eq r s);
         marks_differ = λ r q apart. differ r q apart (cases_eq r s) (cases_eq q s);
       }
@@ -92,44 +105,33 @@ module _ (h : Heap) (s : ℕ) (state : State) (memory : List Granule) (total see
           (IsTaggedSlot-same h.memory memory r (slot_in h r) (state_at h r) (λ g from to. others g (apart r g within not from to))
           (sound.tagged r within))
 
-      below : (x : State) → IfDead x (λ mark. (h.total ≤ mark) × (mark < total)) → IfDead x (λ mark. mark < total)
-      below Fresh p = tt
-      below (Live n t) p = tt
-      below (Dead n t mark) p = p.1
+      IsOld : ℕ → Type 0
+      IsOld mark = mark < h.total
 
-      weaker : (x : State) → IfDead x (λ mark. mark < h.total) → IfDead x (λ mark. mark < total)
-      weaker Fresh p = tt
-      weaker (Live n t) p = tt
-      weaker (Dead n t mark) p = omega arith
+      IsNew : ℕ → Type 0
+      IsNew mark = (h.total ≤ mark) × (mark < total)
 
-      new_old : (x y : State) → IfDead x (λ mark. (h.total ≤ mark) × (mark < total)) → IfDead y (λ mark. mark < h.total) →
-          IfDead x (λ mark. IfDead y (λ other. mark ≢ other))
-      new_old Fresh y p q = tt
-      new_old (Live n t) y p q = tt
-      new_old (Dead n t m) Fresh p q = tt
-      new_old (Dead n t m) (Live a b) p q = tt
-      new_old (Dead n t m) (Dead a b k) p q = λ e. omega (arith, p.0)
-
-      old_new : (x y : State) → IfDead x (λ mark. mark < h.total) → IfDead y (λ mark. (h.total ≤ mark) × (mark < total)) →
-          IfDead x (λ mark. IfDead y (λ other. mark ≢ other))
-      old_new Fresh y p q = tt
-      old_new (Live n t) y p q = tt
-      old_new (Dead n t m) Fresh p q = tt
-      old_new (Dead n t m) (Live a b) p q = tt
-      old_new (Dead n t m) (Dead a b k) p q = λ e. omega (arith, q.0)
+      IsBelow : ℕ → Type 0
+      IsBelow mark = mark < total
 
       Differ : State → State → Type 0
       Differ x y = IfDead x (λ mark. IfDead y (λ other. mark ≢ other))
 
+      now_differ : (r q : ℕ) (x y : State) → get_or (slice_set h.states s state) r Fresh ≡ x →
+          get_or (slice_set h.states s state) q Fresh ≡ y → Differ x y →
+          Differ (get_or (slice_set h.states s state) r Fresh) (get_or (slice_set h.states s state) q Fresh)
+      now_differ r q x y r_is q_is differ =
+          subst (λ x. Differ x (get_or (slice_set h.states s state) q Fresh)) (sym r_is) (subst (Differ x) (sym q_is) differ)
+
       differ : (r q : ℕ) → r ≢ q → (r ≡ s) ⊎ (r ≡ s → ⊥) → (q ≡ s) ⊎ (q ≡ s → ⊥) →
           Differ (get_or (slice_set h.states s state) r Fresh) (get_or (slice_set h.states s state) q Fresh)
       differ r q apart (inl a) (inl b) = absurd (apart (a ∙ sym b))
-      differ r q apart (inl a) (inr b) = subst (λ x. Differ x (get_or (slice_set h.states s state) q Fresh)) (sym (here r a))
-          (subst (λ y. Differ state y) (sym (there q b)) (new_old state (state_at h q) marked (sound.marks q)))
-      differ r q apart (inr a) (inl b) = subst (λ x. Differ x (get_or (slice_set h.states s state) q Fresh)) (sym (there r a))
-          (subst (λ y. Differ (state_at h r) y) (sym (here q b)) (old_new (state_at h r) state (sound.marks r) marked))
-      differ r q apart (inr a) (inr b) = subst (λ x. Differ x (get_or (slice_set h.states s state) q Fresh)) (sym (there r a))
-          (subst (λ y. Differ (state_at h r) y) (sym (there q b)) (sound.marks_differ r q apart))
+      differ r q apart (inl a) (inr b) = now_differ r q state (state_at h q) (here r a) (there q b)
+          (IfDead-both state (state_at h q) IsNew IsOld ◌≢◌ (λ mark other new old is. omega (arith, new.0)) marked (sound.marks q))
+      differ r q apart (inr a) (inl b) = now_differ r q (state_at h r) state (there r a) (here q b)
+          (IfDead-both (state_at h r) state IsOld IsNew ◌≢◌ (λ mark other old new is. omega (arith, new.0)) (sound.marks r) marked)
+      differ r q apart (inr a) (inr b) =
+          now_differ r q (state_at h r) (state_at h q) (there r a) (there q b) (sound.marks_differ r q apart)
 
 -- the tag of a live slot is one that it may take
 IsTagOf-live : (h : Heap) (s n t : ℕ) → IsSoundHeap h → s < slot_count h.layout → state_at h s ≡ Live n t →

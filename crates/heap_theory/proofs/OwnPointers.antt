@@ -21,7 +21,7 @@ use Rattle.heap_theory.specs.SoundRun.{IsAddressOf, IsSoundRun, ForGeneration}
 use Rattle.heap_theory.specs.State.{State, Heap, slot_in, state_at, last_tag, chunk_granules, payload_place, pointer_to}
 use Rattle.heap_theory.specs.State.State.{Fresh, Live, Dead}
 use Rattle.heap_theory.proofs.CallsKept.{KeepsGiven, KeepsGiven-refl, KeepsGiven-with_payload, KeepsGiven-resized, KeepsGiven-moved, HeapChange, IsKept-malloc, IsKept-calloc, IsKept-free, IsKept-realloc, IsKept-store, state_at-with_payload, state_at-given_out, state_at-given_out_other, live_moved, layout-given_out, not_reusable}
-use Rattle.heap_theory.proofs.Choices.{slot_for_request-is, chunk_at-is}
+use Rattle.heap_theory.proofs.Choices.{slot_for_request-cases, chunk_at-is}
 use Rattle.heap_theory.proofs.HeapKept.{in_states}
 use Rattle.heap_theory.proofs.Pointers.{chunk_at-pointer_to}
 
@@ -209,23 +209,19 @@ state_at-resized_other h s n r another = get_or-set_other h.states s r (Live n (
 
 -- so each call but its own leaves its state as it is
 module _ (h : Heap) (s p : ℕ) (sound : IsSoundHeap h) (own : IsOwnPointer h s p) where
+  spared : (n r : ℕ) → IsGiven h n r → state_at (given_out h r n) s ≡ state_at h s
+  spared n r given = state_at-given_out_other h r n s (not_given h s p n r own given)
+
   state_after_malloc : (n : ℕ) → state_at (malloc_step h n).heap s ≡ state_at h s
   unfolding malloc_step
-  state_after_malloc n = by_slot (slot_for_request h n) refl
-    where
-      by_slot : (r : Result ℕ NullCause) → slot_for_request h n ≡ r → state_at (malloc_with h n r).heap s ≡ state_at h s
-      by_slot (Err cause) was = refl
-      by_slot (Ok r) was = state_at-given_out_other h r n s (not_given h s p n r own (slot_for_request-is h n r sound was))
+  state_after_malloc n =
+      slot_for_request-cases h n sound (λ r. state_at (malloc_with h n r).heap s ≡ state_at h s) (λ cause. refl) (spared n)
 
   state_after_calloc : (n : ℕ) → state_at (calloc_step h n).heap s ≡ state_at h s
   unfolding calloc_step
-  state_after_calloc n = by_slot (slot_for_request h n) refl
-    where
-      by_slot : (r : Result ℕ NullCause) → slot_for_request h n ≡ r → state_at (calloc_with h n r).heap s ≡ state_at h s
-      by_slot (Err cause) was = refl
-      by_slot (Ok r) was =
-          state_at-with_payload (given_out h r n) r s (replicate (16 * chunk_granules n) 0)
-          ∙ state_at-given_out_other h r n s (not_given h s p n r own (slot_for_request-is h n r sound was))
+  state_after_calloc n =
+      slot_for_request-cases h n sound (λ r. state_at (calloc_with h n r).heap s ≡ state_at h s) (λ cause. refl)
+      (λ r given. state_at-with_payload (given_out h r n) r s (replicate (16 * chunk_granules n) 0) ∙ spared n r given)
 
   state_after_free : (q : ℕ) → q ≢ p → state_at (free_step h q).heap s ≡ state_at h s
   unfolding free_step
@@ -244,19 +240,14 @@ module _ (h : Heap) (s p : ℕ) (sound : IsSoundHeap h) (own : IsOwnPointer h s 
       Keeps : Step (Result ℕ ReallocError) → Type 0
       Keeps step = state_at step.heap s ≡ state_at h s
 
-      by_slot : (chunk : Chunk) → s ≢ chunk.slot → (r : Result ℕ NullCause) → slot_for_request h n ≡ r → Keeps (move_with h chunk n r)
-      by_slot chunk other (Err cause) was = refl
-      by_slot chunk other (Ok r) was =
-          state_at-freed_other _ chunk.slot chunk.size s other
-          ∙ state_at-with_payload (given_out h r n) r s (payload_bytes h chunk.slot (min chunk.size n))
-          ∙ state_at-given_out_other h r n s (not_given h s p n r own (slot_for_request-is h n r sound was))
-
       by_chunk : (r : Result Chunk FreeError) → chunk_at h q ≡ r → Keeps (realloc_with h q n r)
       by_chunk (Err error) was = refl
       by_chunk (Ok chunk) was =
           let other = not_named h s p q chunk own another was in
           cond_both (stays_in_class h chunk n) _ _ Keeps (λ _. state_at-resized_other h chunk.slot n s other)
-          (λ _. by_slot chunk other (slot_for_request h n) refl)
+          (λ _. slot_for_request-cases h n sound (λ r. Keeps (move_with h chunk n r)) (λ cause. refl)
+          (λ r given. state_at-freed_other _ chunk.slot chunk.size s other
+          ∙ state_at-with_payload (given_out h r n) r s (payload_bytes h chunk.slot (min chunk.size n)) ∙ spared n r given))
 
   state_after_store : (address : ℕ) (bytes : List ℕ) → state_at (store_step h address bytes) s ≡ state_at h s
   unfolding store_step
@@ -281,52 +272,46 @@ stays_own h s p sound own = record {
     live : {x : State} → x ≡ state_at h s → IsLive x
     live same = subst IsLive (sym same) own.live
 
-own_given : (h : Heap) (n s : ℕ) → IsSoundHeap h → IsGiven h n s → IsOwnPointer (given_out h s n) s (pointer_to (given_out h s n) s)
-own_given h n s sound given =
-    own_new h (given_out h s n) s n given (KeepsGiven-refl (given_out h s n))
-    (subst IsLive (sym (state_at-given_out h s n (in_states h s sound given.reusable.in_range))) tt)
+-- a step whose answer is this pointer leaves a heap in which it is an own one
+abbrev GivesOwn : {E : Type 0} → Step (Result ℕ E) → ℕ → Type 0
+GivesOwn step p = step.answer ≡ Ok p → (s : ℕ) × IsOwnPointer step.heap s p
 
-malloc_gives : (h : Heap) (n p : ℕ) → IsSoundHeap h → (r : Result ℕ NullCause) → slot_for_request h n ≡ r →
-    (malloc_with h n r).answer ≡ Ok p → (s : ℕ) × IsOwnPointer (malloc_with h n r).heap s p
-malloc_gives h n p sound (Err cause) was is = absurd cc
-malloc_gives h n p sound (Ok s) was is =
+-- a slot is given out, and keeps its pointer
+slot_gives : {E : Type 0} (h new : Heap) (n s p : ℕ) → IsGiven h n s → KeepsGiven (given_out h s n) new → IsLive (state_at new s) →
+    ◌≡◌ {A = Result ℕ E} (Ok (pointer_to (given_out h s n) s)) (Ok p) → (r : ℕ) × IsOwnPointer new r p
+slot_gives {E} h new n s p given kept live is =
     let same : pointer_to (given_out h s n) s ≡ p = cc in
-    (s, subst (IsOwnPointer (given_out h s n) s) same (own_given h n s sound (slot_for_request-is h n s sound was)))
+    (s, subst (IsOwnPointer new s) same (own_new h new s n given kept live))
 
-calloc_gives : (h : Heap) (n p : ℕ) → IsSoundHeap h → (r : Result ℕ NullCause) → slot_for_request h n ≡ r →
-    (calloc_with h n r).answer ≡ Ok p → (s : ℕ) × IsOwnPointer (calloc_with h n r).heap s p
-calloc_gives h n p sound (Err cause) was is = absurd cc
-calloc_gives h n p sound (Ok s) was is =
-    let same : pointer_to (given_out h s n) s ≡ p = cc in
-    let zeroes = replicate (16 * chunk_granules n) 0 in
-    let before = own_given h n s sound (slot_for_request-is h n s sound was) in
-    let live = subst IsLive (sym (state_at-with_payload (given_out h s n) s s zeroes)) before.live in
-    let kept = KeepsGiven-with_payload (given_out h s n) s zeroes in
-    let own = own_kept (given_out h s n) (with_payload (given_out h s n) s zeroes) s _ kept before live in
-    (s, subst (IsOwnPointer (with_payload (given_out h s n) s zeroes) s) same own)
+live_given : (h : Heap) (n s : ℕ) → IsSoundHeap h → IsGiven h n s → IsLive (state_at (given_out h s n) s)
+live_given h n s sound given = subst IsLive (sym (state_at-given_out h s n (in_states h s sound given.reusable.in_range))) tt
+
+malloc_own : (h : Heap) (n p : ℕ) → IsSoundHeap h → GivesOwn (malloc_step h n) p
+unfolding malloc_step
+malloc_own h n p sound = slot_for_request-cases h n sound (λ r. GivesOwn (malloc_with h n r) p) (λ cause is. absurd cc)
+    (λ s given. slot_gives h (given_out h s n) n s p given (KeepsGiven-refl (given_out h s n)) (live_given h n s sound given))
+
+calloc_own : (h : Heap) (n p : ℕ) → IsSoundHeap h → GivesOwn (calloc_step h n) p
+unfolding calloc_step
+calloc_own h n p sound = slot_for_request-cases h n sound (λ r. GivesOwn (calloc_with h n r) p) (λ cause is. absurd cc)
+    (λ s given. let zeroes = replicate (16 * chunk_granules n) 0 in
+    slot_gives h (with_payload (given_out h s n) s zeroes) n s p given (KeepsGiven-with_payload (given_out h s n) s zeroes)
+    (subst IsLive (sym (state_at-with_payload (given_out h s n) s s zeroes)) (live_given h n s sound given)))
 
 move_gives : (h : Heap) (q n p : ℕ) (chunk : Chunk) → IsSoundHeap h → IsLiveChunk h q chunk →
-    (r : Result ℕ NullCause) → slot_for_request h n ≡ r →
-    (move_with h chunk n r).answer ≡ Ok p → (s : ℕ) × IsOwnPointer (move_with h chunk n r).heap s p
-move_gives h q n p chunk sound c (Err cause) was is = absurd cc
-move_gives h q n p chunk sound c (Ok s) was is =
-    let same : pointer_to (given_out h s n) s ≡ p = cc in
-    let given = slot_for_request-is h n s sound was in
-    let live = subst IsLive (sym (live_moved h q chunk s n sound c given)) tt in
-    let own = own_new h (moved h chunk s n) s n given (KeepsGiven-moved h q chunk s n sound c given) live in
-    (s, subst (IsOwnPointer (moved h chunk s n) s) same own)
+    GivesOwn (move_with h chunk n (slot_for_request h n)) p
+move_gives h q n p chunk sound c =
+    slot_for_request-cases h n sound (λ r. GivesOwn (move_with h chunk n r) p) (λ cause is. absurd cc)
+    (λ s given. slot_gives h (moved h chunk s n) n s p given (KeepsGiven-moved h q chunk s n sound c given)
+    (subst IsLive (sym (live_moved h q chunk s n sound c given)) tt))
 
 state_at-resized : (h : Heap) (s n : ℕ) → IsSoundHeap h → s < slot_count h.layout →
     state_at (resized h s n) s ≡ Live n (last_tag (state_at h s))
 unfolding resized
 state_at-resized h s n sound within = get_or-set_same h.states s (Live n (last_tag (state_at h s))) Fresh (in_states h s sound within)
 
--- a step whose answer is this pointer leaves a heap in which it is an own one
-abbrev GivesOwn : Step (Result ℕ ReallocError) → ℕ → Type 0
-GivesOwn step p = step.answer ≡ Ok p → (s : ℕ) × IsOwnPointer step.heap s p
-
 resize_gives : (h : Heap) (q n p : ℕ) (chunk : Chunk) → IsSoundHeap h → chunk_at h q ≡ Ok chunk →
-    GivesOwn (record { heap = resized h chunk.slot n; answer = Ok q }) p
+    GivesOwn {E = ReallocError} (record { heap = resized h chunk.slot n; answer = Ok q }) p
 resize_gives h q n p chunk sound named is =
     let same : q ≡ p = cc in
     let c = chunk_at-is h q chunk named in
@@ -341,15 +326,7 @@ chunk_gives h q n p sound (Err error) was is = absurd cc
 chunk_gives h q n p sound (Ok chunk) was is =
     cond_both (stays_in_class h chunk n) _ _ (λ (step : Step (Result ℕ ReallocError)). GivesOwn step p)
     (λ _. resize_gives h q n p chunk sound was)
-    (λ _. move_gives h q n p chunk sound (chunk_at-is h q chunk was) (slot_for_request h n) refl) is
-
-malloc_own : (h : Heap) (n p : ℕ) → IsSoundHeap h → (malloc_step h n).answer ≡ Ok p → (s : ℕ) × IsOwnPointer (malloc_step h n).heap s p
-unfolding malloc_step
-malloc_own h n p sound = malloc_gives h n p sound (slot_for_request h n) refl
-
-calloc_own : (h : Heap) (n p : ℕ) → IsSoundHeap h → (calloc_step h n).answer ≡ Ok p → (s : ℕ) × IsOwnPointer (calloc_step h n).heap s p
-unfolding calloc_step
-calloc_own h n p sound = calloc_gives h n p sound (slot_for_request h n) refl
+    (λ _. move_gives h q n p chunk sound (chunk_at-is h q chunk was)) is
 
 null_gives : (h : Heap) (n p : ℕ) → IsSoundHeap h → GivesOwn (as_realloc (malloc_step h n)) p
 null_gives h n p sound is = malloc_own h n p sound (by (malloc_step h n).answer is)

@@ -8,10 +8,9 @@ use Rattle.machine_theory.specs.Address.{logical_tag, with_tag}
 use Rattle.class_table.specs.Layout.{Partition, slot_count, slot_of}
 use Rattle.heap_theory.proofs.TheoryLemmas as laws
 use Rattle.heap_theory.specs.declared.fault.FreeError.{FreeError}
-use Rattle.heap_theory.specs.declared.fault.NullCause.{NullCause}
 use Rattle.heap_theory.specs.declared.fault.ReallocError.{ReallocError}
 use Rattle.heap_theory.specs.Calls.{Step, next_tag, given_out, resized, with_payload, moved, malloc_with, malloc_step, calloc_with, calloc_step, stays_in_class, move_with, as_realloc, realloc_with, realloc_step}
-use Rattle.heap_theory.specs.Choice.{Chunk, IsReusable, IsGiven, IsLiveChunk, slot_for_request, chunk_at}
+use Rattle.heap_theory.specs.Choice.{Chunk, IsReusable, IsGiven, slot_for_request, chunk_at}
 use Rattle.heap_theory.specs.Generations.{Run, Generation, times_of, generation_of, slot_if_moved, times_with, begun_or}
 use Rattle.heap_theory.specs.Run.{variable}
 use Rattle.heap_theory.specs.Sound.{IsTagOf}
@@ -19,7 +18,7 @@ use Rattle.heap_theory.specs.SoundRun.{IsAddressOf, IsSoundVariable, IsSoundRun}
 use Rattle.heap_theory.specs.State.{Heap, slot_in, state_at, last_tag, is_fresh, chunk_granules, payload_place, pointer_to}
 use Rattle.heap_theory.specs.State.State.{Live}
 use Rattle.heap_theory.proofs.CallsKept.{KeepsGiven, KeepsGiven-refl, KeepsGiven-with_payload, KeepsGiven-resized, KeepsGiven-moved, HeapChange, state_at-given_out, state_at-given_out_other, layout-given_out}
-use Rattle.heap_theory.proofs.Choices.{slot_for_request-is, chunk_at-is}
+use Rattle.heap_theory.proofs.Choices.{slot_for_request-cases, chunk_at-is}
 use Rattle.heap_theory.proofs.HeapKept.{in_states}
 use Rattle.heap_theory.proofs.Tags.{IsTagOf-next_tag, next_tag-differs}
 
@@ -108,6 +107,11 @@ IsSoundVariable-kept h new times a None kept i = record { null_or_tagged = i.nul
 IsSoundVariable-kept h new times a (Some g) kept i =
     record { null_or_tagged = i.null_or_tagged; follows = IsAddressOf-kept h new times a g.slot g.time kept i.follows }
 
+-- the variable of a request is right after its call: it has the answer, or where there is none this address
+abbrev pub IsRight : {E : Type 0} → Run → ℕ → Option Generation → Step (Result ℕ E) → Option ℕ → Type 0
+IsRight w address generation step given =
+    IsSoundVariable step.heap (times_with w given) (result_unwrap_or step.answer address) (begun_or w generation given)
+
 module _ (w : Run) (sound : IsSoundRun w) where
   in_states_of : (s : ℕ) → IsReusable w.replay.heap s → s < length w.replay.heap.states
   in_states_of s reusable = in_states w.replay.heap s sound.heap reusable.in_range
@@ -145,44 +149,37 @@ module _ (w : Run) (sound : IsSoundRun w) where
 
   -- ---- what a call gives
 
+  none_given : {new : Heap} → IsSoundVariable new w.times 0 None
+  none_given = record { null_or_tagged = inl refl; follows = tt }
+
   pub IsSoundVariable-malloc : (n : ℕ) →
-      IsSoundVariable (malloc_step w.replay.heap n).heap (times_with w (result_ok (slot_for_request w.replay.heap n)))
-      (result_unwrap_or (malloc_step w.replay.heap n).answer 0) (begun_or w None (result_ok (slot_for_request w.replay.heap n)))
+      IsRight w 0 None (malloc_step w.replay.heap n) (result_ok (slot_for_request w.replay.heap n))
   unfolding malloc_step
-  IsSoundVariable-malloc n = by_slot (slot_for_request w.replay.heap n) refl
-    where
-      by_slot : (r : Result ℕ NullCause) → slot_for_request w.replay.heap n ≡ r →
-          IsSoundVariable (malloc_with w.replay.heap n r).heap (times_with w (result_ok r))
-          (result_unwrap_or (malloc_with w.replay.heap n r).answer 0) (begun_or w None (result_ok r))
-      by_slot (Err cause) was = record { null_or_tagged = inl refl; follows = tt }
-      by_slot (Ok s) was =
-          IsSoundVariable-new (given_out w.replay.heap s n) s n (slot_for_request-is w.replay.heap n s sound.heap was)
-          (KeepsGiven-refl (given_out w.replay.heap s n))
+  IsSoundVariable-malloc n =
+      slot_for_request-cases w.replay.heap n sound.heap (λ r. IsRight w 0 None (malloc_with w.replay.heap n r) (result_ok r))
+      (λ cause. none_given)
+      (λ s given. IsSoundVariable-new (given_out w.replay.heap s n) s n given (KeepsGiven-refl (given_out w.replay.heap s n)))
 
   pub IsSoundVariable-calloc : (n : ℕ) →
-      IsSoundVariable (calloc_step w.replay.heap n).heap (times_with w (result_ok (slot_for_request w.replay.heap n)))
-      (result_unwrap_or (calloc_step w.replay.heap n).answer 0) (begun_or w None (result_ok (slot_for_request w.replay.heap n)))
+      IsRight w 0 None (calloc_step w.replay.heap n) (result_ok (slot_for_request w.replay.heap n))
   unfolding calloc_step
-  IsSoundVariable-calloc n = by_slot (slot_for_request w.replay.heap n) refl
-    where
-      by_slot : (r : Result ℕ NullCause) → slot_for_request w.replay.heap n ≡ r →
-          IsSoundVariable (calloc_with w.replay.heap n r).heap (times_with w (result_ok r))
-          (result_unwrap_or (calloc_with w.replay.heap n r).answer 0) (begun_or w None (result_ok r))
-      by_slot (Err cause) was = record { null_or_tagged = inl refl; follows = tt }
-      by_slot (Ok s) was =
-          IsSoundVariable-new (with_payload (given_out w.replay.heap s n) s (replicate (16 * chunk_granules n) 0)) s n
-          (slot_for_request-is w.replay.heap n s sound.heap was)
-          (KeepsGiven-with_payload (given_out w.replay.heap s n) s (replicate (16 * chunk_granules n) 0))
+  IsSoundVariable-calloc n =
+      let zeroes = replicate (16 * chunk_granules n) 0 in
+      slot_for_request-cases w.replay.heap n sound.heap (λ r. IsRight w 0 None (calloc_with w.replay.heap n r) (result_ok r))
+      (λ cause. none_given)
+      (λ s given. IsSoundVariable-new (with_payload (given_out w.replay.heap s n) s zeroes) s n given
+      (KeepsGiven-with_payload (given_out w.replay.heap s n) s zeroes))
 
-  pub IsSoundVariable-realloc : (v n : ℕ) → IsSoundVariable (realloc_step w.replay.heap (variable w.replay v) n).heap
-      (times_with w (cond (variable w.replay v == 0) (result_ok (slot_for_request w.replay.heap n))
-      (slot_if_moved w.replay.heap n (chunk_at w.replay.heap (variable w.replay v)))))
-      (result_unwrap_or (realloc_step w.replay.heap (variable w.replay v) n).answer (variable w.replay v))
-      (begun_or w (generation_of w v)
+  pub IsSoundVariable-realloc : (v n : ℕ) →
+      IsRight w (variable w.replay v) (generation_of w v) (realloc_step w.replay.heap (variable w.replay v) n)
       (cond (variable w.replay v == 0) (result_ok (slot_for_request w.replay.heap n))
-      (slot_if_moved w.replay.heap n (chunk_at w.replay.heap (variable w.replay v)))))
+      (slot_if_moved w.replay.heap n (chunk_at w.replay.heap (variable w.replay v))))
   unfolding realloc_step malloc_step
-  IsSoundVariable-realloc v n = either (p == 0) _ _ _ _ (λ _. by_malloc (slot_for_request h n) refl) (λ _. by_chunk (chunk_at h p) refl)
+  IsSoundVariable-realloc v n =
+      either (p == 0) _ _ _ _
+      (λ _. slot_for_request-cases h n sound.heap (λ r. After (as_realloc (malloc_with h n r)) (result_ok r)) (λ cause. sound.variables v)
+      (λ s given. IsSoundVariable-new (given_out h s n) s n given (KeepsGiven-refl (given_out h s n))))
+      (λ _. by_chunk (chunk_at h p) refl)
     where
       h : Heap
       h = w.replay.heap
@@ -190,38 +187,20 @@ module _ (w : Run) (sound : IsSoundRun w) where
       p : ℕ
       p = variable w.replay v
 
-      IsRight : Step (Result ℕ ReallocError) → Option ℕ → Type 0
-      IsRight step o =
-          IsSoundVariable step.heap (times_with w o) (result_unwrap_or step.answer (variable w.replay v)) (begun_or w (generation_of w v) o)
+      After : Step (Result ℕ ReallocError) → Option ℕ → Type 0
+      After = IsRight w (variable w.replay v) (generation_of w v)
 
-      either : (b : Bool) (x y : Step (Result ℕ ReallocError)) (o q : Option ℕ) → (b ≡ true → IsRight x o) → (b ≡ false → IsRight y q) →
-          IsRight (cond b x y) (cond b o q)
+      either : (b : Bool) (x y : Step (Result ℕ ReallocError)) (o q : Option ℕ) → (b ≡ true → After x o) → (b ≡ false → After y q) →
+          After (cond b x y) (cond b o q)
       either true x y o q so not_so = so refl
       either false x y o q so not_so = not_so refl
 
-      by_malloc : (r : Result ℕ NullCause) → slot_for_request w.replay.heap n ≡ r →
-          IsRight (as_realloc (malloc_with w.replay.heap n r)) (result_ok r)
-      by_malloc (Err cause) was = sound.variables v
-      by_malloc (Ok s) was =
-          IsSoundVariable-new (given_out w.replay.heap s n) s n (slot_for_request-is w.replay.heap n s sound.heap was)
-          (KeepsGiven-refl (given_out w.replay.heap s n))
-
-      by_move : (chunk : Chunk) → IsLiveChunk w.replay.heap (variable w.replay v) chunk → (r : Result ℕ NullCause) →
-          slot_for_request w.replay.heap n ≡ r →
-          IsRight (move_with w.replay.heap chunk n r) (result_ok r)
-      by_move chunk c (Err cause) was = sound.variables v
-      by_move chunk c (Ok s) was =
-          let given : IsGiven w.replay.heap n s = slot_for_request-is w.replay.heap n s sound.heap was in
-          IsSoundVariable-new (moved w.replay.heap chunk s n) s n given
-          (KeepsGiven-moved w.replay.heap (variable w.replay v) chunk s n sound.heap c given)
-
-      by_chunk : (r : Result Chunk FreeError) → chunk_at w.replay.heap (variable w.replay v) ≡ r →
-          IsRight (realloc_with w.replay.heap (variable w.replay v) n r) (slot_if_moved w.replay.heap n r)
+      by_chunk : (r : Result Chunk FreeError) → chunk_at h p ≡ r → After (realloc_with h p n r) (slot_if_moved h n r)
       by_chunk (Err error) was = sound.variables v
       by_chunk (Ok chunk) was =
-          let c = chunk_at-is w.replay.heap (variable w.replay v) chunk was in
-          either (stays_in_class w.replay.heap chunk n) _ _ None _
-          (λ _. IsSoundVariable-kept w.replay.heap (resized w.replay.heap chunk.slot n) w.times (variable w.replay v) (generation_of w v)
-          (KeepsGiven-resized w.replay.heap chunk.slot n chunk.size _ (in_states w.replay.heap chunk.slot sound.heap c.in_range) c.live)
-          (sound.variables v))
-          (λ _. by_move chunk c (slot_for_request w.replay.heap n) refl)
+          let c = chunk_at-is h p chunk was in
+          either (stays_in_class h chunk n) _ _ None _
+          (λ _. IsSoundVariable-kept h (resized h chunk.slot n) w.times p (generation_of w v)
+          (KeepsGiven-resized h chunk.slot n chunk.size _ (in_states h chunk.slot sound.heap c.in_range) c.live) (sound.variables v))
+          (λ _. slot_for_request-cases h n sound.heap (λ r. After (move_with h chunk n r) (result_ok r)) (λ cause. sound.variables v)
+          (λ s given. IsSoundVariable-new (moved h chunk s n) s n given (KeepsGiven-moved h p chunk s n sound.heap c given)))

@@ -5,7 +5,8 @@ pub enum Event {
     Malloc { v: u16, n: u32 },
     /// As `Malloc`, and sets the bytes of the chunk's granules to 0.
     Calloc { v: u16, n: u32 },
-    /// Resizes the chunk at `v` to `n` bytes (0 to 2,147,483,647), and sets `v` to its address. If the heap refuses, `v` keeps its value.
+    /// Resizes the chunk at `v` to `n` bytes (0 to 2,147,483,647), and sets `v` to its address. At null it is `Malloc`. If the heap
+    /// refuses, `v` keeps its value.
     Realloc { v: u16, n: u32 },
     /// Frees the chunk at `v`. `v` keeps its value.
     Free { v: u16 },
@@ -13,9 +14,9 @@ pub enum Event {
     Load { v: u16, off: i32, len: u8 },
     /// Stores `len` bytes of the value `byte` there.
     Store { v: u16, off: i32, len: u8, byte: u8 },
-    /// Sets `v` to the ADDG of `w`, by `u6` granules (0 to 63) and `u4` tags (0 to 15).
+    /// Sets `v` to the ADDG of `w`: moved up by `u6` granules (0 to 63), and its tag by `u4` tags (0 to 15).
     Addg { v: u16, w: u16, u6: u8, u4: u8 },
-    /// Sets `v` to the SUBG of `w`, in the same ranges.
+    /// Sets `v` to the SUBG of `w`: moved down by `u6` granules, and its tag by `u4` tags as ADDG moves it. The ranges are the same.
     Subg { v: u16, w: u16, u6: u8, u4: u8 },
 }
 

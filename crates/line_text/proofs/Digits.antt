@@ -1,5 +1,5 @@
 -- Reading a number digit by digit, and the laws of its spelling.
-use Rattle.std.proofs.Common.{rules, ◌≡◌, ℕ, zero, suc, ◌+◌, ◌*◌, ◌-◌, ◌^◌, ◌<◌, ◌≤◌, true, false, not, eqb, ◌&&◌, ◌||◌, List, [], ◌∷◌, length, get_or, take, refl, sym, ap, ◌∙◌, arith, Option, Some, inl, inr, ne_eqb}
+use Rattle.std.proofs.Common.{rules, ◌≡◌, ℕ, zero, suc, ◌+◌, ◌*◌, ◌-◌, ◌^◌, ◌<◌, ◌≤◌, true, false, not, eqb, ◌&&◌, ◌||◌, List, [], ◌∷◌, All, length, get_or, take, refl, sym, ap, ◌∙◌, arith, Option, Some, inl, inr, ne_eqb}
 use Rattle.std.specs.Fmt.{decimal}
 use Rattle.std.specs.Char.{is_ascii_digit, digit_value}
 use Rattle.std.specs.List.{list_all}
@@ -10,9 +10,9 @@ use Rattle.std.proofs.lemmas.List.Elements.{All-from_get_or}
 use Rattle.std.proofs.lemmas.Bool.Decides.{nat_tests}
 use Rattle.std.proofs.lemmas.List.{length-take-le}
 use Rattle.std.proofs.lemmas.List.Folds.{list_all_more}
-use Rattle.std.proofs.lemmas.Str.Parse.{IsNumeralModel, numerals_by_value, digits_value_short}
+use Rattle.std.proofs.lemmas.Str.Parse.{IsNumeralModel, numerals_by_value, digits_value_short, digits_value-take-le}
 use Rattle.std.proofs.lemmas.Fmt.{decimal-digits_value, digits_decimal, digits_value-decimal, decimal_nonempty, first_decimal, decimal_digit}
-use Rattle.line_text.specs.Lines.{IsLine, IsWord, is_newline, is_space}
+use Rattle.line_text.specs.Lines.{IsLine, IsWord}
 use Rattle.line_text.specs.Numbers.{number_of, is_numeral}
 
 -- ---- reading
@@ -38,6 +38,12 @@ digits_more digits i lt digit so_far = list_all_more is_ascii_digit digits i 0 l
 -- what std's lemmas want to know of our numerals
 pub own : IsNumeralModel (λ ds. list_all is_ascii_digit ds ≡ true) (digits_value 10)
 own = numerals_by_value _ (search rules)
+
+-- and that is no more than the number of all the digits
+pub number_so_far : (digits : List ℕ) (i : ℕ) → list_all is_ascii_digit digits ≡ true → i < length digits
+    → digits_value 10 (take i digits) * 10 + (get_or digits i 0 - 48) ≤ digits_value 10 digits
+number_so_far digits i all lt =
+    omega (arith, one_more digits i lt (digit_at digits i all lt), digits_value-take-le 10 digits (i + 1) (omega arith))
 
 -- it stays in 64 bits up to 19 digits
 pub room_for_one : (word : List ℕ) (i : ℕ) → i < length word → i < 19 → is_ascii_digit (get_or word i 0) ≡ true
@@ -105,16 +111,11 @@ number_of-decimal n small =
 pub other_byte : (c d : ℕ) → is_ascii_digit c ≡ true → d < 48 → eqb c d ≡ false
 other_byte c d e lt = let h = digit_is c e in ne_eqb c d (omega (arith, h))
 
-pub IsLine-decimal : (n : ℕ) → n < 2 ^ 64 → IsLine (decimal n)
-IsLine-decimal n small = each (decimal n) (digits_decimal own n small)
-  where
-    each : (ds : List ℕ) → list_all is_ascii_digit ds ≡ true → IsLine ds
-    each ds all =
-        All-from_get_or (λ b. is_newline b ≡ false) ds 0 (λ i lt. other_byte (get_or ds i 0) 10 (digit_at ds i all lt) (omega arith))
+-- no digit is a byte below `0`
+pub none_equal : (d : ℕ) → d < 48 → (ds : List ℕ) → list_all is_ascii_digit ds ≡ true → All (λ b. eqb b d ≡ false) ds
+none_equal d low ds all = All-from_get_or (λ b. eqb b d ≡ false) ds 0 (λ i lt. other_byte (get_or ds i 0) d (digit_at ds i all lt) low)
 
-pub IsWord-decimal : (n : ℕ) → n < 2 ^ 64 → IsWord (decimal n)
-IsWord-decimal n small = each (decimal n) (digits_decimal own n small)
-  where
-    each : (ds : List ℕ) → list_all is_ascii_digit ds ≡ true → IsWord ds
-    each ds all =
-        All-from_get_or (λ b. is_space b ≡ false) ds 0 (λ i lt. other_byte (get_or ds i 0) 32 (digit_at ds i all lt) (omega arith))
+pub decimal_is_a_word : (n : ℕ) → n < 2 ^ 64 → IsLine (decimal n) × IsWord (decimal n)
+decimal_is_a_word n small =
+    let all = digits_decimal own n small in
+    (none_equal 10 (omega arith) (decimal n) all, none_equal 32 (omega arith) (decimal n) all)

@@ -6,13 +6,12 @@ use Rattle.std.proofs.Math.Seq.{take-append_seam}
 use Rattle.std.proofs.lemmas.Bool.{cases_Bool}
 use Rattle.std.proofs.lemmas.Bool.Decides.{nat_tests}
 use Rattle.std.proofs.lemmas.List.{append_cancel_left}
-use Rattle.std.proofs.lemmas.List.Elements.{All-from_get_or}
 use Rattle.std.proofs.lemmas.List.Folds.{prefix_len-append}
 use Rattle.std.proofs.lemmas.List.Splits.{slice_split_none, slice_split_at}
 use Rattle.line_text.specs.Lines.{words, line_of, is_space, IsWord}
 use Rattle.line_text.specs.Numbers.{number_of, short_number_of, leading_digits, leading_number_of}
 use Rattle.line_text.proofs.Cuts.{line_of-words}
-use Rattle.line_text.proofs.Digits.{digit_at, other_byte}
+use Rattle.line_text.proofs.Digits.{none_equal}
 use Rattle.line_text.proofs.LeadingDigits.{are_digits, all_digits_lead}
 
 pub not_digits : (word : List ℕ) → list_all is_ascii_digit word ≡ false → short_number_of word ≡ None
@@ -88,8 +87,7 @@ no_word_end line after cut some other = go (words line) refl
 
 -- else its digits are the first word.
 are_a_word : (line : List ℕ) → IsWord (leading_digits line)
-are_a_word line = All-from_get_or (λ b. is_space b ≡ false) (leading_digits line) 0
-    (λ i lt. other_byte (get_or (leading_digits line) i 0) 32 (digit_at (leading_digits line) i (are_digits line) lt) (omega arith))
+are_a_word line = none_equal 32 (omega arith) (leading_digits line) (are_digits line)
 
 pub only_word : (line after : List ℕ) → line ≡ leading_digits line ++ after → length after ≡ 0 → words line ≡ leading_digits line ∷ []
 unfolding words

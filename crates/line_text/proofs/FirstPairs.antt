@@ -4,13 +4,13 @@ use Rattle.std.specs.Char.{is_ascii_digit}
 use Rattle.std.specs.List.{onto_first}
 use Rattle.std.specs.Option.{option_map}
 use Rattle.std.proofs.lemmas.Bool.{cases_Bool}
-use Rattle.std.proofs.lemmas.List.Elements.{All-head, All-tail, All-from_get_or}
+use Rattle.std.proofs.lemmas.List.Elements.{All-head, All-tail}
 use Rattle.std.proofs.lemmas.List.Sums.{take_while-cons}
 use Rattle.line_text.specs.Lines.{lines, words, line_of, is_newline, is_space, IsLine}
 use Rattle.line_text.specs.Numbers.{short_number_of, leading_digits, leading_number_of}
 use Rattle.line_text.specs.Pairs.{short_pair_of}
 use Rattle.line_text.proofs.Cuts.{line_of-words}
-use Rattle.line_text.proofs.Digits.{digit_at, other_byte}
+use Rattle.line_text.proofs.Digits.{none_equal}
 use Rattle.line_text.proofs.FirstNumbers.{no_first_number, no_word_end, only_word, word_before, first_number_of}
 use Rattle.line_text.proofs.LeadingDigits.{are_digits}
 
@@ -65,8 +65,7 @@ after-append (b ∷ part) text all =
     rw (All-head (λ x. is_newline x ≡ false) b part all) (after-append part text (All-tail (λ x. is_newline x ≡ false) b part all))
 
 are_in_line : (text : List ℕ) → IsLine (leading_digits text)
-are_in_line text = All-from_get_or (λ b. is_newline b ≡ false) (leading_digits text) 0
-    (λ i lt. other_byte (get_or (leading_digits text) i 0) 10 (digit_at (leading_digits text) i (are_digits text) lt) (omega arith))
+are_in_line text = none_equal 10 (omega arith) (leading_digits text) (are_digits text)
 
 -- the digits in front of a text are those in front of its first line
 leading_digits-front : (text : List ℕ) → leading_digits (front text) ≡ leading_digits text

@@ -2,10 +2,10 @@
 use Rattle.std.proofs.Common.{rules}
 use Rattle.line_text.specs.Laws.{TextLaws, CutLinesAreRead, FullLinesAreRead, HexIsAByte, HexIsSpelled, LineInFrontIsRead, LineIsItsWords, LinesAreLines, NumberIsSpelled, SignedIsSpelled, SpelledHexIsAWord, SpelledHexIsRead, SpelledNumberIsAWord, SpelledNumberIsRead, SpelledSignedIsAWord, SpelledSignedIsRead, TextIsItsLines, WordsAreWords, WordsMakeALine, WrittenLinesAreRead, WrittenWordsAreRead}
 use Rattle.line_text.proofs.Cuts.{All-lines, All-words, IsLine-line_of, IsTextOf-lines, line_of-words, lines-ended, words-line_of}
-use Rattle.line_text.proofs.Digits.{IsLine-decimal, IsWord-decimal, decimal-number_of, number_of-decimal}
+use Rattle.line_text.proofs.Digits.{decimal-number_of, decimal_is_a_word, number_of-decimal}
 use Rattle.line_text.proofs.FullLines.{full_lines-read, lines-cut, lines-written}
 use Rattle.line_text.proofs.HexDigits.{hex-hex_of, hex_of-hex}
-use Rattle.line_text.proofs.Signs.{IsLine-signed_decimal, IsWord-signed_decimal, signed_decimal-signed_of, signed_of-signed_decimal}
+use Rattle.line_text.proofs.Signs.{signed_decimal-signed_of, signed_decimal_is_a_word, signed_of-signed_decimal}
 
 pub text_is_its_lines : TextIsItsLines
 text_is_its_lines = IsTextOf-lines
@@ -44,7 +44,7 @@ pub spelled_number_is_read : SpelledNumberIsRead
 spelled_number_is_read = number_of-decimal
 
 pub spelled_number_is_a_word : SpelledNumberIsAWord
-spelled_number_is_a_word = λ n small. (IsLine-decimal n small, IsWord-decimal n small)
+spelled_number_is_a_word = decimal_is_a_word
 
 pub signed_is_spelled : SignedIsSpelled
 signed_is_spelled = signed_decimal-signed_of
@@ -53,7 +53,7 @@ pub spelled_signed_is_read : SpelledSignedIsRead
 spelled_signed_is_read = signed_of-signed_decimal
 
 pub spelled_signed_is_a_word : SpelledSignedIsAWord
-spelled_signed_is_a_word = λ z fits. (IsLine-signed_decimal z fits, IsWord-signed_decimal z fits)
+spelled_signed_is_a_word = signed_decimal_is_a_word
 
 pub hex_is_a_byte : HexIsAByte
 hex_is_a_byte = λ word n read. (hex-hex_of word n read).0

@@ -33,18 +33,27 @@ near_prefix line size near =
 near_digits_are : (line : List ℕ) (size : ℕ) → IsNear line size → leading_digits line ≡ take size line
 near_digits_are line size near = ap (λ n. take n line) (near_prefix line size near)
 
+-- after them the line goes on with the byte that ends them
+record GoesOn (line : List ℕ) (size : ℕ) : Type 0 where
+  pub cut : line ≡ leading_digits line ++ drop size line
+  pub some : 0 < length (drop size line)
+  pub byte : get_or (drop size line) 0 0 ≡ get_or (take 19 line) size 0
+
+goes_on : (line : List ℕ) (size : ℕ) → IsNear line size → GoesOn line size
+goes_on line size near =
+    let here : size + 0 ≡ size = omega arith in record {
+      cut = sym (take-append-drop size line) ∙ ap (λ ds. ds ++ drop size line) (sym (near_digits_are line size near));
+      some = omega (arith, near.long, near.ended, length-drop size line);
+      byte = get_or-drop size line 0 0 ∙ ap (λ n. get_or line n 0) here ∙ sym (get_or-take 19 line size 0 near.ended);
+    }
+
 -- where a space ends them, they are the first word,
 pub near_word : (line : List ℕ) (size : ℕ) → IsNear line size → get_or (take 19 line) size 0 ≡ 32 →
     words line ≡ take size line ∷ words (drop (size + 1) line)
 near_word line size near space =
+    let on = goes_on line size near in
     let digits = near_digits_are line size near in
-    let cut : line ≡ leading_digits line ++ drop size line =
-    sym (take-append-drop size line) ∙ ap (λ ds. ds ++ drop size line) (sym digits) in
-    let some : 0 < length (drop size line) = omega (arith, near.long, near.ended, length-drop size line) in
-    let here : size + 0 ≡ size = omega arith in
-    let byte : get_or (drop size line) 0 0 ≡ 32 =
-    get_or-drop size line 0 0 ∙ ap (λ n. get_or line n 0) here ∙ sym (get_or-take 19 line size 0 near.ended) ∙ space in
-    word_before line (drop size line) cut some byte ∙ ap (λ ds. ds ∷ words (drop 1 (drop size line))) digits
+    word_before line (drop size line) on.cut on.some (on.byte ∙ space) ∙ ap (λ ds. ds ∷ words (drop 1 (drop size line))) digits
     ∙ ap (λ rest. take size line ∷ words rest) (drop-drop 1 size line)
 
 -- and unless a needless 0 is in front, it spells their value.
@@ -60,11 +69,8 @@ near_number line size near some first =
 
 -- ---- the word that is read, or left
 
-few_digits : (word : List ℕ) (n : ℕ) → length word ≤ 18 → short_number_of word ≡ Some n → number_of word ≡ Some n
-few_digits word n few e = let short : leb (length word) 19 ≡ true = le-leb (length word) 19 (omega arith) in rw short at e
-
-few_none : (word : List ℕ) → length word ≤ 18 → short_number_of word ≡ None → number_of word ≡ None
-few_none word few e = let short : leb (length word) 19 ≡ true = le-leb (length word) 19 (omega arith) in rw short at e
+few_digits : (word : List ℕ) (found : Option ℕ) → length word ≤ 18 → short_number_of word ≡ found → number_of word ≡ found
+few_digits word found few e = let short : leb (length word) 19 ≡ true = le-leb (length word) 19 (omega arith) in rw short at e
 
 pub near_some : (line : List ℕ) (size : ℕ) → IsNear line size → get_or (take 19 line) size 0 ≡ 32 → 0 < size
     → (size ≡ 1) ⊎ (eqb (get_or (take 19 line) 0 0) 48 ≡ false) → near_number_of (words line) ≡ Some (digits_value 10 (take size line))
@@ -102,7 +108,7 @@ near_none line none = go (words line) refl
   where
     go : (ws : List (List ℕ)) → words line ≡ ws → near_number_of ws ≡ None
     go [] parts = refl
-    go (word ∷ ws) parts = left_word word ws (λ few. few_none word few (rw parts at none))
+    go (word ∷ ws) parts = left_word word ws (λ few. few_digits word None few (rw parts at none))
 
 pub near_many : (line : List ℕ) → 19 ≤ length line → list_all is_ascii_digit (take 19 line) ≡ true → near_number_of (words line) ≡ None
 near_many line long all = go (words line) refl
@@ -119,20 +125,14 @@ near_many line long all = go (words line) refl
     go [] parts = refl
     go (word ∷ ws) parts = left_word word ws (λ few. elim (cases_Bool (list_all is_ascii_digit word)) [
       | inl digit ↦ absurd (omega (arith, ap length (first_digits line word ws parts digit), digits))
-      | inr other ↦ few_none word few (not_digits word other)
+      | inr other ↦ few_digits word None few (not_digits word other)
     ])
 
 -- where another byte than a space ends the digits, or they are no number
 pub near_other : (line : List ℕ) (size : ℕ) → IsNear line size → get_or (take 19 line) size 0 ≢ 32 → near_number_of (words line) ≡ None
 near_other line size near other =
-    let digits = near_digits_are line size near in
-    let cut : line ≡ leading_digits line ++ drop size line =
-    sym (take-append-drop size line) ∙ ap (λ ds. ds ++ drop size line) (sym digits) in
-    let some : 0 < length (drop size line) = omega (arith, near.long, near.ended, length-drop size line) in
-    let here : size + 0 ≡ size = omega arith in
-    let byte : get_or (drop size line) 0 0 ≡ get_or (take 19 line) size 0 =
-    get_or-drop size line 0 0 ∙ ap (λ n. get_or line n 0) here ∙ sym (get_or-take 19 line size 0 near.ended) in
-    near_none line (no_word_end line (drop size line) cut some (λ space. other (sym byte ∙ space)))
+    let on = goes_on line size near in
+    near_none line (no_word_end line (drop size line) on.cut on.some (λ space. other (sym on.byte ∙ space)))
 
 pub near_no_number : (line : List ℕ) (size : ℕ) → IsNear line size → (size ≡ 0) ⊎ ((get_or (take 19 line) 0 0 ≡ 48) × (1 < size))
     → near_number_of (words line) ≡ None

@@ -13,7 +13,7 @@ use Rattle.std.proofs.lemmas.List.Elements.{All-cons}
 use Rattle.line_text.specs.Lines.{IsLine, IsWord, is_newline, is_space}
 use Rattle.line_text.specs.Numbers.{number_of}
 use Rattle.line_text.specs.Signed.{signed_of, negated}
-use Rattle.line_text.proofs.Digits.{own, digit_at, other_byte, decimal-number_of, number_of-decimal, IsLine-decimal, IsWord-decimal}
+use Rattle.line_text.proofs.Digits.{own, digit_at, other_byte, decimal-number_of, number_of-decimal, decimal_is_a_word}
 use lib.Pointwise.{pointwise}
 
 -- ---- reading
@@ -76,12 +76,10 @@ signed_of-signed_decimal (pos n) fits =
     signed_of-other (decimal n) (no_minus (decimal n) (digits_decimal own n small)) ∙ rw (number_of-decimal n small) refl
 signed_of-signed_decimal (negsuc n) fits = rw (number_of-decimal (suc n) (omega (arith, fits.sfits))) refl
 
-pub IsLine-signed_decimal : (z : ℤ) → FitsSigned w64 z → IsLine (signed_decimal z)
-IsLine-signed_decimal (pos n) fits = IsLine-decimal n (omega (arith, fits.sfits))
-IsLine-signed_decimal (negsuc n) fits =
-    All-cons (λ b. is_newline b ≡ false) 45 (decimal (suc n)) refl (IsLine-decimal (suc n) (omega (arith, fits.sfits)))
-
-pub IsWord-signed_decimal : (z : ℤ) → FitsSigned w64 z → IsWord (signed_decimal z)
-IsWord-signed_decimal (pos n) fits = IsWord-decimal n (omega (arith, fits.sfits))
-IsWord-signed_decimal (negsuc n) fits =
-    All-cons (λ b. is_space b ≡ false) 45 (decimal (suc n)) refl (IsWord-decimal (suc n) (omega (arith, fits.sfits)))
+pub signed_decimal_is_a_word : (z : ℤ) → FitsSigned w64 z → IsLine (signed_decimal z) × IsWord (signed_decimal z)
+signed_decimal_is_a_word (pos n) fits = decimal_is_a_word n (omega (arith, fits.sfits))
+signed_decimal_is_a_word (negsuc n) fits =
+    let digits = decimal_is_a_word (suc n) (omega (arith, fits.sfits)) in (
+      All-cons (λ b. is_newline b ≡ false) 45 (decimal (suc n)) refl digits.0,
+      All-cons (λ b. is_space b ≡ false) 45 (decimal (suc n)) refl digits.1,
+    )

@@ -33,6 +33,7 @@ fn digits_in_front(text: &[u8]) -> Option<(u64, usize)>
 }
 
 #[inline(always)]
+#[tactic(auto, using(crate::proofs::Digits::room_for_one))]
 fn count_digits(text: &[u8]) -> Option<(u64, usize)>
     ensures { AreLeading result text.now }
 {

@@ -1,4 +1,4 @@
-//! The digits at the start of a fixed number of bytes.
+//! The digits at the start of a fixed number of bytes. A number is **near** if it ends within these bytes.
 ghost use Rattle.std.specs.Prelude.{◌≡◌, ◌<◌, Bool, IfNone, IfSome, take};
 ghost use Rattle.std.specs.Char.{is_ascii_digit};
 ghost use Rattle.std.specs.List.{list_all, prefix_len};

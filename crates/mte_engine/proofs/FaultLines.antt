@@ -4,7 +4,7 @@ use Rattle.std.proofs.Common.{Option, Some, None, Result, Ok, Err, refl, sym, ap
 use Rattle.std.specs.Prelude.{All, length}
 use Rattle.std.specs.Fmt.{decimal}
 use Rattle.std.proofs.lemmas.Fmt.{decimal_digit}
-use Rattle.std.proofs.lemmas.List.{drop-take, length-drop}
+use Rattle.std.proofs.lemmas.List.{drop-take, length-drop, take-take}
 use Rattle.std.proofs.lemmas.List.Elements.{All-take, All-drop, All-from_recursion, All-head, All-tail}
 use Rattle.line_text.specs.FirstFault.{◌>>=◌, IsFirstFault}
 use Rattle.line_text.specs.Lines.{lines, text_of, words, is_newline, IsLine}
@@ -43,7 +43,7 @@ use Rattle.mte_engine.specs.declared.fault.InputFault.TheVariants.{TooLong, Tabl
 use Rattle.class_table.specs.FaultText.{shown_table_error}
 use Rattle.profile_count.specs.FaultText.{shown_profile_fault}
 use Rattle.trace_reader.specs.FaultText.{shown_trace_fault}
-use Rattle.mte_engine.proofs.LeadingSettled.{after_alike, leading_lines-cut, leading_lines-lines, leading_lines-settled, take_twice}
+use Rattle.mte_engine.proofs.LeadingSettled.{after_alike, leading_lines-cut, leading_lines-lines, leading_lines-settled}
 
 -- ---- how a fault is shown
 
@@ -230,7 +230,7 @@ after_sheet text sheet m read refused =
         other,
         (sheet, before.0),
         record { sheet = rw (kept_lines, same_front) is_sheet; profile = rw (kept_lines, same_front, same_rest) is_profile },
-        rw (number, kept_lines) (take_twice (k + (m - 1)) ls),
+        rw (number, kept_lines) (take-take (k + (m - 1)) (k + (m - 1)) ls (omega arith)),
       );
       none = λ next spelled spells alike.
           let others = lines next in

@@ -13,18 +13,6 @@ use Rattle.potential_check.specs.SheetText.{is_named}
 
 -- ---- lists that begin alike
 
-cons_head : {A : Type 0} (x y : A) (xs ys : List A) → x ∷ xs ≡ y ∷ ys → x ≡ y
-cons_head x y xs ys e = cc
-
-cons_tail : {A : Type 0} (x y : A) (xs ys : List A) → x ∷ xs ≡ y ∷ ys → xs ≡ ys
-cons_tail x y xs ys e = cc
-
-take_fewer : {A : Type 0} (m n : ℕ) (xs ys : List A) → m ≤ n → take n xs ≡ take n ys → take m xs ≡ take m ys
-take_fewer m n xs ys few e = sym (take-take m n xs few) ∙ ap (take m) e ∙ take-take m n ys few
-
-pub take_twice : {A : Type 0} (n : ℕ) (xs : List A) → take n (take n xs) ≡ take n xs
-take_twice n xs = take-take n n xs (omega arith)
-
 -- what is alike after lines that are alike
 pub after_alike : {A : Type 0} (n m : ℕ) (xs ys : List A) → take (n + m) xs ≡ take (n + m) ys → take m (drop n xs) ≡ take m (drop n ys)
 after_alike n m xs ys e = sym (drop-take n m xs) ∙ ap (drop n) e ∙ drop-take n m ys
@@ -38,14 +26,14 @@ passing_settled p zero xs ys few there e = absurd (omega (arith, few))
 passing_settled p (suc n) [] ys few there e = absurd (omega (arith, there))
 passing_settled p (suc n) (x ∷ xs) [] few there e = absurd cc
 passing_settled p (suc n) (x ∷ xs) (y ∷ ys) few there e =
-    let first = cons_head x y (take n xs) (take n ys) e in
+    let first : x ≡ y = cc in
     rw (← first) (go (passing_settled p n xs ys) (p x) refl)
   where
     go : (length (take_while p xs) < n → n ≤ length xs → take n xs ≡ take n ys → take_while p ys ≡ take_while p xs)
         → (passes : Bool) → p x ≡ passes → take_while p (x ∷ ys) ≡ take_while p (x ∷ xs)
     go others true is =
         let fewer = rw (take_while-cons p x xs, is) at few in
-        let same = others (omega (arith, fewer)) (omega (arith, there)) (cons_tail x y (take n xs) (take n ys) e) in
+        let same = others (omega (arith, fewer)) (omega (arith, there)) cc in
         rw (take_while-cons p x ys, take_while-cons p x xs, is, same) refl
     go others false is = rw (take_while-cons p x ys, take_while-cons p x xs, is) refl
 
@@ -85,7 +73,8 @@ leading-settled : {A : Type 0} (p : A → Bool) (h n : ℕ) (xs ys : List A) →
 leading-settled p h n xs ys few there e =
     let size = leading-size p h xs (omega (arith, few, there)) in
     let parts : n ≡ h + (n - h) = omega (arith, few, size.0) in
-    let head = take_fewer h n xs ys (omega (arith, few, size.0)) e in
+    let within : h ≤ n = omega (arith, few, size.0) in
+    let head : take h xs ≡ take h ys = sym (take-take h n xs within) ∙ ap (take h) e ∙ take-take h n ys within in
     let after = after_alike h (n - h) xs ys (rw parts at e) in
     let fewer : length (take_while p (drop h xs)) < n - h = omega (arith, few, size.0) in
     let there_after : n - h ≤ length (drop h xs) = omega (arith, there, length-drop h xs) in
@@ -96,7 +85,7 @@ leading-cut : {A : Type 0} (p : A → Bool) (h n : ℕ) (xs : List A) → length
 leading-cut p h n xs few short =
     let size = leading-size p h xs short in
     let parts : n ≡ h + (n - h) = omega (arith, few, size.0) in
-    let head : take h (take n xs) ≡ take h xs = take_fewer h n (take n xs) xs (omega (arith, few, size.0)) (take_twice n xs) in
+    let head : take h (take n xs) ≡ take h xs = take-take h n xs (omega (arith, few, size.0)) in
     let after : drop h (take n xs) ≡ take (n - h) (drop h xs) = ap (λ (n : ℕ). drop h (take n xs)) parts ∙ drop-take h (n - h) xs in
     let rows = passing_cut p (n - h) (drop h xs) (omega (arith, few, size.0)) in
     rw (head, after, rows) refl
@@ -134,7 +123,7 @@ pub leading_lines-cut : (n : ℕ) (ls : List (List ℕ)) → length (leading_lin
 unfolding leading_lines
 leading_lines-cut n ls few short =
     let size = leading-size is_row_line (head_size ls) ls short in
-    let same = sym (take_twice n ls) in
+    let same = sym (take-take n n ls (omega arith)) in
     let head = head_size-alike n ls (take n ls) (omega (arith, head_size-few ls, few, size.0)) same in
     ap (λ (h : ℕ). leading is_row_line h (take n ls)) head ∙ leading-cut is_row_line (head_size ls) n ls few short
 

@@ -6,11 +6,12 @@ pub mod Outcome
 pub mod Parts
 pub mod Profile
 pub mod Replay
-pub mod Report
-pub mod ReportText
+pub mod ReportLeft
+pub mod ReportBuffer
 pub mod Run
 pub mod Score
 pub mod FaultText
 pub mod Streams
 pub mod Traces
+pub mod TextLeft
 pub mod Tune

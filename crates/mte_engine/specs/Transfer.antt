@@ -13,7 +13,7 @@ most_input = MOST_INPUT
 
 -- A bound on how often a source is read. Each read but the last takes at least one byte.
 abbrev pub most_reads : ℕ
-most_reads = 67108866
+most_reads = MOST_INPUT + 1
 
 -- The source was read at most so often.
 abbrev pub IsReadFewTimes : SourceState → SourceState → Type 0

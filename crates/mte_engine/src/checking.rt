@@ -2,12 +2,13 @@
 ghost use Rattle.std.specs.Prelude.{◌≡◌, Err, IfOk};
 ghost use Rattle.mte_engine.specs.Check.{CheckAnswers, verdict_text};
 ghost use Rattle.mte_engine.specs.Outcome.{GivesAnswer, IsReady, Runs};
+ghost use Rattle.mte_engine.specs.TextLeft.{bytes_left};
 
 use crate::engine::{Engine, Status, run_engine};
 use crate::fault::{AnswerError, ToolFault};
 use crate::input::WholeText;
+use crate::input_parts::{read_leading, read_profile};
 use crate::output::Text;
-use crate::parts::{read_leading, read_profile};
 use crate::streams::{ByteSink, ByteSource};
 use potential_check::{Verdict, check as verdict_on};
 use std::alloc::{AllocError, Global};
@@ -44,14 +45,13 @@ impl Engine for CheckEngine {
     }
 
     fn answer(&self, alloc: Global, input: WholeText) -> Result<(Text, Status), AnswerError> {
-        let (text, status) = check_text(alloc, &input.text)?;
-        Ok((Text::new(text), status))
+        check_text(alloc, &input.text)
     }
 }
 
 // the answer to a text
-fn check_text(alloc: Global, text: &[u8]) -> Result<(Vec<u8>, Status), AnswerError>
-    ensures { GivesAnswer (λ written. written.items) (CheckAnswers text.now) result }
+fn check_text(alloc: Global, text: &[u8]) -> Result<(Text, Status), AnswerError>
+    ensures { GivesAnswer bytes_left (CheckAnswers text.now) result }
 {
     let leading = read_leading(alloc, text)?;
     let profile = read_profile(alloc, leading.rest, leading.lines)?;
@@ -60,14 +60,17 @@ fn check_text(alloc: Global, text: &[u8]) -> Result<(Vec<u8>, Status), AnswerErr
 }
 
 // the text and the status of a verdict
-fn answer_for(alloc: Global, verdict: Verdict) -> Result<(Vec<u8>, Status), AllocError>
-    ensures { IfOk result (λ answered. record { text = answered.0.items; status = answered.1 } ≡ verdict_text verdict) }
+fn answer_for(alloc: Global, verdict: Verdict) -> Result<(Text, Status), AllocError>
+    ensures { IfOk result (λ answered. record { text = bytes_left answered.0; status = answered.1 } ≡ verdict_text verdict) }
 {
     match verdict {
-        Verdict::Optimal => Ok((Vec::from_slice(alloc, b"optimal\n")?, Status::Done)),
-        Verdict::Refused(refusal) => Ok((
-            format!(in alloc; "refused {refusal}\n")?.into_bytes(),
-            Status::No,
-        )),
+        Verdict::Optimal => {
+            let text = Vec::from_slice(alloc, b"optimal\n")?;
+            Ok((Text::new(text), Status::Done))
+        }
+        Verdict::Refused(refusal) => {
+            let text = format!(in alloc; "refused {refusal}\n")?.into_bytes();
+            Ok((Text::new(text), Status::No))
+        }
     }
 }

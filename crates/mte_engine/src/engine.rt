@@ -1,6 +1,6 @@
 //! An engine reads a whole input, works out its answer, and then writes the answer.
 ghost use Rattle.std.specs.Prelude.{[], IfOk, List, ℕ, Result};
-ghost use Rattle.mte_engine.specs.declared.fault.InputFault.{InputFault as Refusal};
+ghost use Rattle.mte_engine.specs.declared.fault.InputFault.{InputFault};
 ghost use Rattle.mte_engine.specs.Outcome.{Answer, GivesAnswer, IsReady, Runs};
 
 use crate::fault::{AnswerError, ToolFault};
@@ -26,7 +26,7 @@ pub trait Engine {
     type Output: Output;
 
     // What may be written for an input, with its status, or reported as its first fault.
-    ghost answers: { Self → List ℕ → Result Answer Refusal → Type 0 };
+    ghost answers: { Self → List ℕ → Result Answer InputFault → Type 0 };
 
     /// An input that has taken no bytes.
     fn input(&self, alloc: Global) -> Result<Self::Input, AllocError>

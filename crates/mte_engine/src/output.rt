@@ -39,9 +39,11 @@ impl Text {
 }
 
 impl Output for Text {
-    ghost rest = { λ output. drop output.written output.text.items };
+    ghost use Rattle.mte_engine.specs.TextLeft.{bytes_left};
 
-    ghost ready = { λ output. drop output.written output.text.items };
+    ghost rest = { bytes_left };
+
+    ghost ready = { bytes_left };
 
     fn piece(&self) -> &[u8] {
         &self.text[self.written..]

@@ -1,6 +1,7 @@
 //! `profile`: how often each size is requested in a trace.
 ghost use Rattle.mte_engine.specs.Outcome.{GivesAnswer, IsReady, Runs};
 ghost use Rattle.mte_engine.specs.Profile.{ProfileAnswers};
+ghost use Rattle.mte_engine.specs.TextLeft.{bytes_left};
 ghost use Rattle.mte_engine.specs.Traces.{KeepsCounts};
 ghost use Rattle.std.specs.Prelude.{◌≡◌, List, ℕ, false};
 ghost use Rattle.trace_reader.specs.Reading.{is_finished};
@@ -10,7 +11,7 @@ use crate::fault::{AnswerError, ToolFault};
 use crate::input::Input;
 use crate::output::Text;
 use crate::streams::{ByteSink, ByteSource};
-use crate::traces::{count_out, end, feed};
+use crate::trace_input::{count_out, end, feed};
 use profile_count::Profile;
 use std::alloc::{AllocError, Global};
 use trace_reader::TraceReader;
@@ -49,8 +50,7 @@ impl Engine for ProfileEngine {
     }
 
     fn answer(&self, alloc: Global, input: CountedTrace) -> Result<(Text, Status), AnswerError> {
-        let (text, status) = profile_of_trace(alloc, input)?;
-        Ok((Text::new(text), status))
+        profile_of_trace(alloc, input)
     }
 }
 
@@ -73,9 +73,9 @@ impl Input for CountedTrace {
 }
 
 // the answer to a trace
-fn profile_of_trace(alloc: Global, input: CountedTrace) -> Result<(Vec<u8>, Status), AnswerError>
+fn profile_of_trace(alloc: Global, input: CountedTrace) -> Result<(Text, Status), AnswerError>
     ensures { (bytes : List ℕ) → KeepsCounts input.reader input.profile bytes →
-        GivesAnswer (λ written. written.items) (ProfileAnswers bytes) result }
+        GivesAnswer bytes_left (ProfileAnswers bytes) result }
 {
     let CountedTrace {
         mut reader,
@@ -85,5 +85,5 @@ fn profile_of_trace(alloc: Global, input: CountedTrace) -> Result<(Vec<u8>, Stat
     count_out(&mut reader, &mut profile);
     let mut text = Vec::new(alloc);
     profile.write(&mut text)?;
-    Ok((text, Status::Done))
+    Ok((Text::new(text), Status::Done))
 }

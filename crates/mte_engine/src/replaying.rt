@@ -2,7 +2,7 @@
 ghost use Rattle.mte_engine.specs.Outcome.{GivesAnswer, IsReady, Runs};
 ghost use Rattle.mte_engine.specs.Replay.{ReplayAnswers};
 ghost use Rattle.tagged_heap.specs.Config.{IsConfig};
-ghost use Rattle.mte_engine.specs.ReportText.{text_left};
+ghost use Rattle.mte_engine.specs.ReportBuffer.{text_left};
 ghost use Rattle.mte_engine.specs.Traces.{IsLineAndTrace, KeepsLineAndEvents};
 ghost use Rattle.std.specs.Prelude.{◌≡◌, List, ℕ, false};
 ghost use Rattle.trace_reader.specs.Reading.{is_finished};
@@ -10,10 +10,10 @@ ghost use Rattle.trace_reader.specs.Reading.{is_finished};
 use crate::engine::{Engine, Status, run_engine};
 use crate::fault::{AnswerError, InputFault, ToolFault};
 use crate::input::Input;
-use crate::parts::read_table;
+use crate::input_parts::read_table;
 use crate::report::Report;
 use crate::streams::{ByteSink, ByteSource};
-use crate::traces::{end, feed};
+use crate::trace_input::{end, feed};
 use class_table::TableError;
 use line_text::first_line;
 use replay_core::Config;
@@ -58,7 +58,7 @@ impl Engine for ReplayEngine {
     fn input(&self, alloc: Global) -> Result<LineAndTrace, AllocError> {
         Ok(LineAndTrace {
             line: Vec::new(alloc),
-            has_ended: false,
+            line_has_ended: false,
             reader: TraceReader::new(alloc),
         })
     }
@@ -68,27 +68,28 @@ impl Engine for ReplayEngine {
     }
 }
 
-// The first line of an input, and the events of the lines after it. A class line has no longest length, so its bytes are kept until its end.
+// The first line of an input, and the events of the lines after it. A class line may have any length, so its bytes are kept until its
+// end.
 #[derive(Drop)]
 struct LineAndTrace {
     line: Vec<u8>,
-    has_ended: bool,
+    line_has_ended: bool,
     reader: TraceReader,
     ghost open: { is_finished reader ≡ false },
 }
 
 impl Input for LineAndTrace {
-    ghost has_taken = { λ input bytes. KeepsLineAndEvents input.has_ended input.line.items input.reader bytes };
+    ghost has_taken = { λ input bytes. KeepsLineAndEvents input.line_has_ended input.line.items input.reader bytes };
 
     fn take(&mut self, piece: &[u8]) -> Result<(), AllocError> {
-        if self.has_ended {
+        if self.line_has_ended {
             return feed(&mut self.reader, piece);
         }
         let Some((end, trace)) = first_line(piece) else {
             return self.line.extend_from_slice(piece);
         };
         self.line.extend_from_slice(end)?;
-        self.has_ended = true;
+        self.line_has_ended = true;
         feed(&mut self.reader, trace)
     }
 }
@@ -100,15 +101,15 @@ fn answer_to(
     input: LineAndTrace,
 ) -> Result<(Report, Status), AnswerError>
     requires { IsConfig config }
-    ensures { (bytes : List ℕ) → KeepsLineAndEvents input.has_ended input.line.items input.reader bytes →
+    ensures { (bytes : List ℕ) → KeepsLineAndEvents input.line_has_ended input.line.items input.reader bytes →
         GivesAnswer text_left (ReplayAnswers config bytes) result }
 {
     let LineAndTrace {
         line,
-        has_ended,
+        line_has_ended,
         reader,
     } = input;
-    if !has_ended && line.is_empty() {
+    if !line_has_ended && line.is_empty() {
         return Err(AnswerError::Input(InputFault::Table(TableError::BadLine)));
     }
     answer_to_parts(alloc, config, &line, reader)

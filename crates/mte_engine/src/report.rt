@@ -3,14 +3,14 @@ ghost use Rattle.heap_theory.specs.Report.{totals_text};
 ghost use Rattle.mte_engine.specs.Replay.{report_on};
 ghost use Rattle.mte_engine.specs.declared.report.TheConstants.{BUFFER};
 ghost use Rattle.tagged_heap.specs.Config.{IsConfig};
-ghost use Rattle.mte_engine.specs.Report.{report_from, report_unless};
+ghost use Rattle.mte_engine.specs.ReportLeft.{report_from, report_unless};
 ghost use Rattle.trace_reader.specs.TraceLine.{most_events};
 ghost use Rattle.std.specs.Prelude.{◌≡◌, ◌+◌, ◌^◌, ◌≤◌, ◌++◌, drop, length, vec_capacity, vec_len, true, IfOk};
 
 use crate::output::Output;
 use arrayvec::ArrayVec;
 use class_table::ClassTable;
-use replay_core::{Config, LINE_BYTES, Replay, TOTALS_BYTES};
+use replay_core::{Config, LINE_ROOM, Replay, TOTALS_ROOM};
 use std::alloc::{AllocError, Global};
 use trace_reader::TraceReader;
 
@@ -33,7 +33,7 @@ pub struct Report {
 }
 
 impl Report {
-    ghost use Rattle.mte_engine.specs.ReportText.{text_left};
+    ghost use Rattle.mte_engine.specs.ReportBuffer.{text_left};
 
     /// This text, and then the report on the events in the reader, on a new heap over the table. The call takes all memory that the report
     /// will need; the only error is that the allocator refuses it.
@@ -63,7 +63,7 @@ impl Report {
 }
 
 impl Output for Report {
-    ghost use Rattle.mte_engine.specs.ReportText.{text_left};
+    ghost use Rattle.mte_engine.specs.ReportBuffer.{text_left};
 
     ghost rest = { text_left };
 
@@ -94,7 +94,7 @@ fn fill(replay: &mut Replay, reader: &mut TraceReader, buffer: &mut Vec<u8>) -> 
     ensures few { replay.new.totals.events + length reader.new.events ≤ 2 ^ 40 }
     ensures capacity { vec_capacity buffer.old ≤ vec_capacity buffer.new }
 {
-    let full = buffer.len() + BUFFER - LINE_BYTES - TOTALS_BYTES;
+    let full = buffer.len() + BUFFER - LINE_ROOM - TOTALS_ROOM;
     let mut line = ArrayVec::new();
     // the label names the loop's invariant in proofs/
     'lines: while buffer.len() < full {
@@ -110,7 +110,7 @@ fn fill(replay: &mut Replay, reader: &mut TraceReader, buffer: &mut Vec<u8>) -> 
 
 // appends the totals, for which there must be room
 fn append_totals(replay: &Replay, buffer: &mut Vec<u8>)
-    requires { vec_len buffer.old + TOTALS_BYTES ≤ vec_capacity buffer.old }
+    requires { vec_len buffer.old + TOTALS_ROOM ≤ vec_capacity buffer.old }
     ensures items { buffer.new.items ≡ buffer.old.items ++ totals_text replay.now.totals }
     ensures capacity { vec_capacity buffer.old ≤ vec_capacity buffer.new }
 {

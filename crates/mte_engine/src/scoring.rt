@@ -3,12 +3,13 @@ ghost use Rattle.std.specs.Prelude.{◌≡◌, ◌++◌, ◌∷◌, [], Err, IfO
 ghost use Rattle.std.specs.Fmt.{decimal};
 ghost use Rattle.mte_engine.specs.Outcome.{GivesAnswer, IsReady, Runs};
 ghost use Rattle.mte_engine.specs.Score.{ScoreAnswers, scored};
+ghost use Rattle.mte_engine.specs.TextLeft.{bytes_left};
 
 use crate::engine::{Engine, Status, run_engine};
 use crate::fault::{AnswerError, InputFault, ToolFault};
 use crate::input::WholeText;
+use crate::input_parts::{read_profile, read_table};
 use crate::output::Text;
-use crate::parts::{read_profile, read_table};
 use crate::streams::{ByteSink, ByteSource};
 use class_table::{ClassTable, TableError};
 use itoa::Buffer;
@@ -46,14 +47,13 @@ impl Engine for ScoreEngine {
     }
 
     fn answer(&self, alloc: Global, input: WholeText) -> Result<(Text, Status), AnswerError> {
-        let (text, status) = score_of_text(alloc, &input.text)?;
-        Ok((Text::new(text), status))
+        score_of_text(alloc, &input.text)
     }
 }
 
 // the answer to a text
-fn score_of_text(alloc: Global, text: &[u8]) -> Result<(Vec<u8>, Status), AnswerError>
-    ensures { GivesAnswer (λ written. written.items) (ScoreAnswers text.now) result }
+fn score_of_text(alloc: Global, text: &[u8]) -> Result<(Text, Status), AnswerError>
+    ensures { GivesAnswer bytes_left (ScoreAnswers text.now) result }
 {
     let mut lines = lines_in(text);
     let Some(line) = lines.next() else {
@@ -69,9 +69,9 @@ fn score_of_profile(
     alloc: Global,
     table: &ClassTable,
     profile: &Profile,
-) -> Result<(Vec<u8>, Status), AllocError>
+) -> Result<(Text, Status), AllocError>
     ensures { IfOk result
-        (λ answered. record { text = answered.0.items; status = answered.1 } ≡ scored table.now profile.now) }
+        (λ answered. record { text = bytes_left answered.0; status = answered.1 } ≡ scored table.now profile.now) }
 {
     match profile.unserved(table) {
         Some(size) => Ok((
@@ -86,12 +86,12 @@ fn score_of_profile(
 }
 
 // the line of these words and a number, with its newline
-fn numbered_line(alloc: Global, words: &[u8], number: u64) -> Result<Vec<u8>, AllocError>
-    ensures { IfOk result (λ text. text.items ≡ words.now ++ decimal number ++ 10 ∷ []) }
+fn numbered_line(alloc: Global, words: &[u8], number: u64) -> Result<Text, AllocError>
+    ensures { IfOk result (λ text. bytes_left text ≡ words.now ++ decimal number ++ 10 ∷ []) }
 {
     let mut buffer = Buffer::new();
     let mut text = Vec::from_slice(alloc, words)?;
     text.extend_from_slice(buffer.format(number).as_bytes())?;
     text.push(b'\n')?;
-    Ok(text)
+    Ok(Text::new(text))
 }

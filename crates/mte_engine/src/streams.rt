@@ -7,9 +7,9 @@ ghost use Rattle.mte_engine.specs.Streams.{SinkState, SourceState, failed_reads,
 #[derive(Debug, Clone, Copy, PartialEq, Eq)]
 pub struct Failure;
 
-/// A source of bytes, which counts its calls.
+/// A source of bytes, which counts its failed calls.
 pub trait ByteSource {
-    // The bytes that are still to come, where the source knows them, how often it was read, and how many reads failed.
+    // The state: the bytes that are still to come, if the source knows them; the number of reads; and the number of failed reads.
     ghost state: { Self → SourceState };
 
     /// How many reads have failed.
@@ -27,7 +27,7 @@ pub trait ByteSource {
 
 /// A sink of bytes, which counts its failed calls.
 pub trait ByteSink {
-    // The bytes taken so far, where the sink knows them, and how many writes failed.
+    // The state: the bytes that were taken, if the sink knows them; and the number of failed writes.
     ghost state: { Self → SinkState };
 
     /// How many writes have failed.

@@ -3,13 +3,14 @@ ghost use Rattle.class_table.specs.declared.table.TheConstants.{MOST_CLASSES};
 ghost use Rattle.std.specs.Prelude.{◌≡◌, ◌≤◌, Err, IfOk};
 ghost use Rattle.class_table.specs.Steps.{IsStep};
 ghost use Rattle.mte_engine.specs.Outcome.{GivesAnswer, IsReady, Runs};
+ghost use Rattle.mte_engine.specs.TextLeft.{bytes_left};
 ghost use Rattle.mte_engine.specs.Tune.{TuneAnswers};
 
 use crate::engine::{Engine, Status, run_engine};
 use crate::fault::{AnswerError, ToolFault};
 use crate::input::WholeText;
+use crate::input_parts::read_profile;
 use crate::output::Text;
-use crate::parts::read_profile;
 use crate::streams::{ByteSink, ByteSource};
 use potential_check::write_sheet;
 use std::alloc::{AllocError, Global};
@@ -59,26 +60,20 @@ impl Engine for TuneEngine {
     }
 
     fn answer(&self, alloc: Global, input: WholeText) -> Result<(Text, Status), AnswerError> {
-        let (text, status) = tune_text(alloc, self.limit, self.step, &input.text)?;
-        Ok((Text::new(text), status))
+        tune_text(alloc, self.limit, self.step, &input.text)
     }
 }
 
 // the answer to a text
-fn tune_text(
-    alloc: Global,
-    limit: u8,
-    step: u8,
-    text: &[u8],
-) -> Result<(Vec<u8>, Status), AnswerError>
+fn tune_text(alloc: Global, limit: u8, step: u8, text: &[u8]) -> Result<(Text, Status), AnswerError>
     requires some { 1 ≤ limit }
     requires few { limit ≤ MOST_CLASSES }
     requires step { IsStep step }
-    ensures { GivesAnswer (λ written. written.items) (TuneAnswers limit step text.now) result }
+    ensures { GivesAnswer bytes_left (TuneAnswers limit step text.now) result }
 {
     let profile = read_profile(alloc, text, 0)?;
     let tuned = class_tuner::tune(alloc, &profile, limit, step)?;
     let mut written = Vec::new(alloc);
     write_sheet(tuned.sheet(), &mut written)?;
-    Ok((written, Status::Done))
+    Ok((Text::new(written), Status::Done))
 }

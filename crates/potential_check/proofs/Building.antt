@@ -187,6 +187,20 @@ module _ (counts : List ℕ) (step : ℕ) (is_step : IsStep step) where
   }
 
   module _ (n total total_bytes : ℕ) (needs counted bytes : List ℕ) where
+    -- needs that cover size n too are those of the sizes up to it
+    needs-kept : (all next : List ℕ) → all ≡ next → (0 < slice_index counts n → rounded_need step n ≤ last_need needs)
+        → AreNeeds counts step n all needs → AreNeeds counts step (suc n) next needs
+    needs-kept all next same here are = record {
+      needs_are = are.needs_are ∙ same;
+      ascending = are.ascending;
+      reached = λ m le. are.reached m (omega arith);
+      covered = λ k lt some. elim (cases_lt k n) [
+        | inl before ↦ are.covered k before some
+        | inr not ↦ (let at : k ≡ n = omega arith in
+            omega (arith, ap (rounded_need step) at, here (omega (arith, ap (slice_index counts) at))))
+      ];
+    }
+
     -- a size that was not counted
     pub built-skip : slice_index counts n ≤ 0 → IsBuilt counts step n needs counted bytes total total_bytes
         → IsBuilt counts step (suc n) needs counted bytes total total_bytes
@@ -194,15 +208,8 @@ module _ (counts : List ℕ) (step : ℕ) (is_step : IsStep step) where
         let no_count : slice_index counts n ≡ 0 = omega arith in
         let no_bytes : slice_index counts n * n ≡ 0 = rw no_count (omega arith) in
         record {
-          needs_are = record {
-            needs_are = b.needs_are.needs_are ∙ sym (cond-false _ _ _ (le-ltb 0 (slice_index counts n) none));
-            ascending = b.needs_are.ascending;
-            reached = λ m le. b.needs_are.reached m (omega arith);
-            covered = λ k lt some. elim (cases_lt k n) [
-              | inl before ↦ b.needs_are.covered k before some
-              | inr not ↦ absurd (let same : k ≡ n = omega arith in omega (arith, ap (slice_index counts) same))
-            ];
-          };
+          needs_are =
+              needs-kept _ _ (sym (cond-false _ _ _ (le-ltb 0 (slice_index counts n) none))) (λ some. absurd (omega arith)) b.needs_are;
           counted_are = sums-skip (slice_index counts) step n total needs counted no_count b.counted_are;
           bytes_are = sums-skip (λ k. slice_index counts k * k) step n total_bytes needs bytes no_bytes b.bytes_are;
         }
@@ -265,15 +272,8 @@ module _ (counts : List ℕ) (step : ℕ) (is_step : IsStep step) where
         let below : (i : ℕ) → i < length needs → need_in needs i < rounded_need step n =
         (λ i lt. omega (arith, b.needs_are.ascending i lt, b.last_is)) in
         record {
-          needs_are = record {
-            needs_are = b.needs_are.needs_are ∙ sym (cond-true _ _ _ (lt-ltb 0 (slice_index counts n) some));
-            ascending = b.needs_are.ascending;
-            reached = λ m le. b.needs_are.reached m (omega arith);
-            covered = λ k lt counted. elim (cases_lt k n) [
-              | inl before ↦ b.needs_are.covered k before counted
-              | inr not ↦ (let same : k ≡ n = omega arith in omega (arith, ap (rounded_need step) same, b.last_is))
-            ];
-          };
+          needs_are =
+              needs-kept _ _ (sym (cond-true _ _ _ (lt-ltb 0 (slice_index counts n) some))) (λ _. omega (arith, b.last_is)) b.needs_are;
           counted_are = sums-add (slice_index counts) step n total needs counted below b.counted_are;
           bytes_are = sums-add (λ k. slice_index counts k * k) step n total_bytes needs bytes below b.bytes_are;
         }

@@ -56,6 +56,16 @@ no_first l ls e = absurd cc
 
 -- ---- a first line, in all that reads lines so
 
+-- lines without a fault, with one before them that is read
+abbrev sound_after : {A : Type 0} (whole rest : Lines → Result A ℕ) (line : List ℕ) (s : Sound rest) → IsLine line
+    → whole (line ∷ s.other) ≡ rest s.other → Sound whole
+sound_after whole rest line s is_line same = record {
+  other = line ∷ s.other;
+  value = s.value;
+  all = All-cons IsLine line s.other is_line s.all;
+  read = same ∙ s.read;
+}
+
 module _ {C : Type 0} (number at : ℕ) (whole : Lines → Result C ℕ) (l : List ℕ) (ls : Lines) where
   -- The first line is faulty, whatever follows it.
   stops_here : Sound whole → number ≡ at → ((os : Lines) → whole (l ∷ os) ≡ Err at) → Reported number whole (l ∷ ls) at
@@ -73,12 +83,7 @@ module _ {C : Type 0} (number at : ℕ) (whole : Lines → Result C ℕ) (l : Li
     (let is = later.1 in omega arith),
     record {
       within = omega (arith, later.2.within);
-      sound = record {
-        other = l ∷ later.2.sound.other;
-        value = later.2.sound.value;
-        all = All-cons IsLine l later.2.sound.other is_line later.2.sound.all;
-        read = same later.2.sound.other ∙ later.2.sound.read;
-      };
+      sound = sound_after whole rest l later.2.sound is_line (same later.2.sound.other);
       before = ap (λ (ls : Lines). l ∷ ls) later.2.before;
       same = next later.0 later.2.same;
     },
@@ -101,12 +106,7 @@ module _ {A B C : Type 0} (number : ℕ) (reading : List ℕ → Option A) (more
   reports-line line x is_line read after = record { some = default; fault = fault }
     where
       default : Sound line_then
-      default = record {
-        other = line ∷ (after x).some.other;
-        value = (after x).some.value;
-        all = All-cons IsLine line (after x).some.other is_line (after x).some.all;
-        read = rw read (after x).some.read;
-      }
+      default = sound_after line_then (λ ls. more (x, ls) >>= last) line (after x).some is_line (rw read refl)
 
       fault : (ls : Lines) (fault : ℕ) → All IsLine ls → line_then ls ≡ Err fault → Reported number line_then ls fault
       fault [] at all e = (
@@ -217,12 +217,7 @@ module _ {B C : Type 0} (more : ℕ × Lines → Result B ℕ) (last : B → Res
   reports-step line step is_line named read after = record { some = default; fault = fault }
     where
       default : Sound step_then
-      default = record {
-        other = line ∷ (after step).some.other;
-        value = (after step).some.value;
-        all = All-cons IsLine line (after step).some.other is_line (after step).some.all;
-        read = rw (named, read) (after step).some.read;
-      }
+      default = sound_after step_then (λ ls. more (step, ls) >>= last) line (after step).some is_line (rw (named, read) refl)
 
       fault : (ls : Lines) (at : ℕ) → All IsLine ls → step_then ls ≡ Err at → Reported 3 step_then ls at
       fault [] at all e =
@@ -274,36 +269,9 @@ module _ {B C : Type 0} (more : ℕ × Lines → Result B ℕ) (last : B → Res
             where
               line_read : ((ok_or (option_map (λ (s : ℕ). (s, ls)) (step_in l)) 3 >>= more) >>= last) ≡ Err at
                   → (o : Option ℕ) → step_in l ≡ o → Reported 3 step_then (l ∷ ls) at
-              line_read fault None g = (
-                0,
-                (let same : 3 ≡ at = (let is = rw g at fault in cc) in omega arith),
-                record { within = omega arith; sound = default; before = refl; same = let is = rw g at fault in none is },
-              )
-                where
-                  none : err {A = C} 3 ≡ Err at → FaultOfAll step_then (l ∷ ls) 1 at
-                  none is [] t = no_first l [] t
-                  none is (o ∷ os) t = rw ((same_first l o [] [] t).0, f, g) is
+              line_read fault None g =
+                  stops_here 3 at step_then l ls default (let is = rw g at fault in cc) (λ os. rw (f, g) (rw g at fault))
               line_read fault (Some s) g =
-                  let is = (after s).fault ls at (All-tail IsLine l ls all) (rw g at fault) in
-                  let four = written_not_one (option_and_then only_one (numbers_in (codes "step") l)) s g in (
-                    suc is.0,
-                    (let same = is.1 in omega (arith, four)),
-                    record {
-                      within = omega (arith, is.2.within);
-                      sound = record {
-                        other = l ∷ is.2.sound.other;
-                        value = is.2.sound.value;
-                        all = All-cons IsLine l is.2.sound.other (All-head IsLine l ls all) is.2.sound.all;
-                        read = rw (f, g) is.2.sound.read;
-                      };
-                      before = ap (λ (ls : Lines). l ∷ ls) is.2.before;
-                      same = next is.0 is.2.same;
-                    },
-                  )
-                where
-                  next : (ahead : ℕ) → FaultOfAll (λ ls. more (s, ls) >>= last) ls (suc ahead) at
-                      → FaultOfAll step_then (l ∷ ls) (suc (suc ahead)) at
-                  next ahead later [] t = no_first l (take (suc ahead) ls) t
-                  next ahead later (o ∷ os) t =
-                      let first = same_first l o (take (suc ahead) ls) (take (suc ahead) os) t in
-                      rw (first.0, f, g) (later os first.1)
+                  let four = written_not_one (option_and_then only_one (numbers_in (codes "step") l)) s g in
+                  reads_on 3 at step_then l ls (λ ls. more (s, ls) >>= last) (All-head IsLine l ls all) (λ os. rw (f, g) refl)
+                  (rw four at (after s).fault ls at (All-tail IsLine l ls all) (rw g at fault))

@@ -1,13 +1,13 @@
 pub mod Appended
 pub mod Building
-pub mod Certified
-pub mod Crossing
+pub mod EdgeHalves
 pub mod FirstFaults
 pub mod HeadLines
 pub mod LawLemmas
 pub mod LeadingLines
 pub mod NamedLines
 pub mod ReadIsSpelled
+pub mod RowConditions
 pub mod RowLines
 pub mod RowNumbers
 pub mod SheetFaults

@@ -14,7 +14,7 @@ use Rattle.potential_check.specs.declared.reading.Head.{Head}
 use Rattle.potential_check.proofs.FirstFaults.{Lines, Reports, rows-report, reports-as, reports-line, reports-step}
 use Rattle.potential_check.proofs.NamedLines.{IsName, named_line-is_line, words-named_line}
 use Rattle.potential_check.proofs.ReadIsSpelled.{spelled-sheet_in}
-use Rattle.potential_check.proofs.SheetLines.{class_line-is_line, limit_in-line, limit_is_name, one_small, step_in-line, step_is_name, table_in-line, waste_in-line, waste_is_name}
+use Rattle.potential_check.proofs.SheetLines.{class_line-is_line, limit_in-line, names, one_small, step_in-line, table_in-line, waste_in-line}
 use Rattle.potential_check.proofs.SpelledIsRead.{sheet_in-spelled}
 use Rattle.tuner_theory.specs.Sheets.{Sheet}
 
@@ -52,7 +52,7 @@ line_of_one : (name : List ℕ) (n : ℕ) → IsName name → n < 2 ^ 64 → IsL
 line_of_one name n is_name small = named_line-is_line name (n ∷ []) is_name (one_small n small)
 
 is_step_line : is_named (codes "step") (named_line (codes "step") (2 ∷ [])) ≡ true
-is_step_line = rw (words-named_line (codes "step") (2 ∷ []) step_is_name (one_small 2 (omega arith))) refl
+is_step_line = rw (words-named_line (codes "step") (2 ∷ []) names.step (one_small 2 (omega arith))) refl
 
 sheet-reports : Reports 1 sheet_by_lines
 sheet-reports =
@@ -60,14 +60,14 @@ sheet-reports =
     (class_line-is_line [] no_classes) (table_in-line [] no_classes)
     (λ table.
     reports-line 2 limit_in (step_after table) rows_after (named_line (codes "limit") (1 ∷ [])) 1
-    (line_of_one (codes "limit") 1 limit_is_name (omega arith)) (limit_in-line 1 (omega arith, omega arith))
+    (line_of_one (codes "limit") 1 names.limit (omega arith)) (limit_in-line 1 (omega arith, omega arith))
     (λ limit.
     reports-step (waste_after table limit) rows_after (named_line (codes "step") (2 ∷ [])) 2
-    (line_of_one (codes "step") 2 step_is_name (omega arith)) (is_step_line)
+    (line_of_one (codes "step") 2 names.step (omega arith)) (is_step_line)
     (step_in-line 2 refl (λ one. omega arith))
     (λ step.
     reports-line (waste_number step) waste_in (head_with table limit step) rows_after (named_line (codes "waste") (0 ∷ [])) 0
-    (line_of_one (codes "waste") 0 waste_is_name (omega arith)) (waste_in-line 0 (omega arith))
+    (line_of_one (codes "waste") 0 names.waste (omega arith)) (waste_in-line 0 (omega arith))
     (λ waste.
     reports-as (suc (waste_number step)) (rows_from (suc (waste_number step)) 32)
     (with_rows (record { table = table; limit = limit; step = step; waste = waste })) (rows-report 32 (suc (waste_number step)))))))

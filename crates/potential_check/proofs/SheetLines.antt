@@ -31,21 +31,23 @@ plain_name name plain some =
       some = some;
     }
 
-pub limit_is_name : IsName (codes "limit")
-unfolding is_plain
-limit_is_name = plain_name (codes "limit") refl (omega arith)
+-- the names of a sheet's lines
+pub record AreNames : Type 0 where
+  pub classes : IsName (codes "classes")
+  pub limit : IsName (codes "limit")
+  pub step : IsName (codes "step")
+  pub waste : IsName (codes "waste")
+  pub row : IsName (codes "row")
 
-pub step_is_name : IsName (codes "step")
+pub names : AreNames
 unfolding is_plain
-step_is_name = plain_name (codes "step") refl (omega arith)
-
-pub waste_is_name : IsName (codes "waste")
-unfolding is_plain
-waste_is_name = plain_name (codes "waste") refl (omega arith)
-
-pub row_is_name : IsName (codes "row")
-unfolding is_plain
-row_is_name = plain_name (codes "row") refl (omega arith)
+names = record {
+  classes = plain_name (codes "classes") refl (omega arith);
+  limit = plain_name (codes "limit") refl (omega arith);
+  step = plain_name (codes "step") refl (omega arith);
+  waste = plain_name (codes "waste") refl (omega arith);
+  row = plain_name (codes "row") refl (omega arith);
+}
 
 -- ---- the tests
 
@@ -85,29 +87,25 @@ pub one_small : (n : ℕ) → n < 2 ^ 64 → AreSmall (n ∷ [])
 one_small n small = All-cons (λ n. n < 2 ^ 64) n [] small (All-nil (λ n. n < 2 ^ 64))
 
 pub limit_in-line : (k : ℕ) → (1 ≤ k) × (k ≤ 32) → limit_in (named_line (codes "limit") (k ∷ [])) ≡ Some k
-limit_in-line k within = number_in-named_line (codes "limit") is_limit k limit_is_name (omega (arith, within.1)) (limit_passes k within)
+limit_in-line k within = number_in-named_line (codes "limit") is_limit k names.limit (omega (arith, within.1)) (limit_passes k within)
 
 pub step_in-line : (s : ℕ) → IsStep s → s ≢ 1 → step_in (named_line (codes "step") (s ∷ [])) ≡ Some s
 step_in-line s is_step other =
     let passes = step_passes s is_step other in
-    number_in-named_line (codes "step") is_written_step s step_is_name (omega (arith, (passed_step s passes).2)) passes
+    number_in-named_line (codes "step") is_written_step s names.step (omega (arith, (passed_step s passes).2)) passes
 
 pub waste_in-line : (w : ℕ) → w < 2 ^ 64 → waste_in (named_line (codes "waste") (w ∷ [])) ≡ Some w
-waste_in-line w small = number_in-named_line (codes "waste") fits w waste_is_name small (lt-ltb w (2 ^ 64) small)
+waste_in-line w small = number_in-named_line (codes "waste") fits w names.waste small (lt-ltb w (2 ^ 64) small)
 
 pub row_in-line : (ns : List ℕ) → IsRow ns → row_in (named_line (codes "row") ns) ≡ Some ns
-row_in-line ns is = rw (numbers_in-named_line (codes "row") ns row_is_name is.1, row_passes ns is) refl
+row_in-line ns is = rw (numbers_in-named_line (codes "row") ns names.row is.1, row_passes ns is) refl
 
 pub legal_small : (table : List ℕ) → IsLegalTable 1 table → AreSmall table
 legal_small table legal =
     All-weaker (λ class. (2 ≤ class) × (class ≤ 1024)) (λ n. n < 2 ^ 64) (λ class within. omega (arith, within.1)) table legal.in_range
 
-pub classes_is_name : IsName (codes "classes")
-unfolding is_plain
-classes_is_name = plain_name (codes "classes") refl (omega arith)
-
 pub class_line-is_line : (table : List ℕ) → IsLegalTable 1 table → IsLine (class_line table)
-class_line-is_line table legal = named_line-is_line (codes "classes") table classes_is_name (legal_small table legal)
+class_line-is_line table legal = named_line-is_line (codes "classes") table names.classes (legal_small table legal)
 
 pub table_in-line : (table : List ℕ) → IsLegalTable 1 table → table_in (class_line table) ≡ Some table
 table_in-line table legal =

@@ -11,7 +11,7 @@ use Rattle.potential_check.specs.SheetText.{IsRow, IsWithinLimits, SpellsSheet, 
 use Rattle.potential_check.specs.declared.reading.Head.{Head}
 use Rattle.potential_check.proofs.HeadLines.{all_read}
 use Rattle.potential_check.proofs.NamedLines.{AreSmall, IsName, named_line-is_line, named_line-some, words-named_line}
-use Rattle.potential_check.proofs.SheetLines.{classes_is_name, legal_small, limit_is_name, limit_in-line, one_small, row_is_name, row_in-line, step_is_name, step_in-line, step_small, table_in-line, waste_is_name, waste_in-line}
+use Rattle.potential_check.proofs.SheetLines.{legal_small, limit_in-line, names, one_small, row_in-line, step_in-line, step_small, table_in-line, waste_in-line}
 use Rattle.tuner_theory.specs.Sheets.{Sheet}
 
 -- ---- a sheet's lines are lines, and not empty
@@ -23,7 +23,7 @@ rows-full : (rows : List (List ℕ)) → All IsRow rows → All IsFullLine (map 
 rows-full [] all = All-nil IsFullLine
 rows-full (row ∷ rows) all =
     All-cons IsFullLine (named_line (codes "row") row) (map (named_line (codes "row")) rows)
-    (full_line (codes "row") row row_is_name (All-head IsRow row rows all).1)
+    (full_line (codes "row") row names.row (All-head IsRow row rows all).1)
     (rows-full rows (All-tail IsRow row rows all))
 
 step_lines-full : (step : ℕ) → IsStep step → All IsFullLine (step_lines step)
@@ -32,14 +32,14 @@ step_lines-full step is_step = elim (cases_eq step 1) [
   | inr other ↦
       rw (ne_eqb step 1 other)
       (All-cons IsFullLine (named_line (codes "step") (step ∷ [])) []
-      (full_line (codes "step") (step ∷ []) step_is_name (one_small step (step_small step is_step))) (All-nil IsFullLine))
+      (full_line (codes "step") (step ∷ []) names.step (one_small step (step_small step is_step))) (All-nil IsFullLine))
 ]
 
 sheet_lines-full : (s : Sheet) → IsWithinLimits s → All IsFullLine (sheet_lines s)
 sheet_lines-full s within =
-    let table = full_line (codes "classes") s.table classes_is_name (legal_small s.table within.table) in
-    let limit = full_line (codes "limit") (s.limit ∷ []) limit_is_name (one_small s.limit (omega (arith, within.limit.1))) in
-    let waste = full_line (codes "waste") (s.waste ∷ []) waste_is_name (one_small s.waste within.waste) in
+    let table = full_line (codes "classes") s.table names.classes (legal_small s.table within.table) in
+    let limit = full_line (codes "limit") (s.limit ∷ []) names.limit (one_small s.limit (omega (arith, within.limit.1))) in
+    let waste = full_line (codes "waste") (s.waste ∷ []) names.waste (one_small s.waste within.waste) in
     let rows = map (named_line (codes "row")) s.rows in
     let after = named_line (codes "waste") (s.waste ∷ []) ∷ rows in
     let from_waste = All-cons IsFullLine (named_line (codes "waste") (s.waste ∷ [])) rows waste (rows-full s.rows within.rows) in
@@ -57,12 +57,12 @@ read_at number reading line ls x e = rw e refl
 step_at-lines : (step waste : ℕ) (ls : List (List ℕ)) → IsStep step → waste < 2 ^ 64
     → step_at (step_lines step ++ named_line (codes "waste") (waste ∷ []) ∷ ls) ≡ Some (step, named_line (codes "waste") (waste ∷ []) ∷ ls)
 step_at-lines step waste ls is_step small = elim (cases_eq step 1) [
-  | inl one ↦ rw (one, words-named_line (codes "waste") (waste ∷ []) waste_is_name (one_small waste small)) refl
+  | inl one ↦ rw (one, words-named_line (codes "waste") (waste ∷ []) names.waste (one_small waste small)) refl
   | inr other ↦
       rw (
         ne_eqb step 1 other,
         step_in-line step is_step other,
-        words-named_line (codes "step") (step ∷ []) step_is_name (one_small step (step_small step is_step)),
+        words-named_line (codes "step") (step ∷ []) names.step (one_small step (step_small step is_step)),
       ) refl
 ]
 

@@ -1,8 +1,8 @@
 pub mod Bounds
-pub mod Certified
 pub mod Laws
 pub mod Leading
 pub mod Lists
+pub mod SheetOnCounts
 pub mod SheetText
 pub mod Sheets
 pub mod Spaced

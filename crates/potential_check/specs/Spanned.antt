@@ -9,7 +9,7 @@ pub record Spanned : Type 0 where
   pub counts : List ℕ
   pub step : ℕ
 
--- The counts are those of a profile, and the step is one.
+-- The counts are those of a profile. The step is 1, 2, 4 or 8.
 pub record IsSpanned (s : Spanned) : Type 0 where
   pub is_step : IsStep s.step
   pub are_counts : AreCounts s.counts

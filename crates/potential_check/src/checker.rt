@@ -1,17 +1,18 @@
 //! The checker. It trusts nobody, so it tests everything that a sheet says.
-ghost use Rattle.std.specs.Prelude.{◌≡◌, ◌↔◌, ◌≤◌, ◌<◌, ℕ, length, IfNone, IfOk, IfSome, IsTrue};
+ghost use Rattle.std.specs.Prelude.{◌≡◌, ◌↔◌, IfNone, IfOk, IfSome, IsTrue};
 ghost use Rattle.class_table.specs.Steps.{IsStep};
 ghost use Rattle.class_table.specs.Tables.{FitsStep, IsLegalTable};
-ghost use Rattle.potential_check.specs.Certified.{MeetsBefore};
+ghost use Rattle.potential_check.specs.SheetOnCounts.{MeetsBefore};
 ghost use Rattle.potential_check.specs.Sheets.{sheet_of};
 ghost use Rattle.tuner_theory.specs.Best.{IsBest};
 ghost use Rattle.tuner_theory.specs.Sheets.{IsVerdict};
 ghost use Rattle.tuner_theory.specs.declared.verdict.Refusal.TheVariants.{Shape};
 ghost use Rattle.tuner_theory.specs.declared.verdict.Verdict.TheVariants.{Optimal, Refused};
 
-use crate::certificate::Certificate;
 use crate::sheet::Sheet;
+use crate::sheet_on_spans::SheetOnSpans;
 use crate::spans::Spans;
+use class_table::is_step;
 use profile_count::Profile;
 use std::alloc::{AllocError, Global};
 use tuner_theory::{Refusal, Verdict};
@@ -28,7 +29,7 @@ pub fn check(alloc: Global, profile: &Profile, sheet: &Sheet) -> Result<Verdict,
         return Ok(Verdict::Refused(refusal));
     }
     let spans = Spans::new(alloc, profile, sheet.step)?;
-    match Certificate::new(&spans, sheet).refusal() {
+    match SheetOnSpans::new(&spans, sheet).refusal() {
         Some(refusal) => Ok(Verdict::Refused(refusal)),
         None => Ok(Verdict::Optimal),
     }
@@ -59,5 +60,5 @@ fn table_refusal(profile: &Profile, sheet: &Sheet) -> Option<Refusal>
 fn fits_step(sheet: &Sheet) -> bool
     ensures { IsTrue result ↔ (IsStep sheet.now.step × FitsStep sheet.now.step sheet.now.table) }
 {
-    matches!(sheet.step, 1 | 2 | 4 | 8) && sheet.table.fits(sheet.step)
+    is_step(sheet.step) && sheet.table.fits(sheet.step)
 }

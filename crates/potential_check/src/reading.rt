@@ -32,13 +32,14 @@ pub fn read_sheet(alloc: Global, text: &[u8]) -> Result<Sheet, SheetError>
     }
 }
 
-/// The sheet in front of a text, and the text after it. Its lines are the first three, or four where the third begins with `step`, and all
-/// directly after them whose first word is `row`. Errors are those of `read_sheet` over these lines.
+/// The sheet at the start of a text, and the text after it. Its lines are the first three, or four where the third begins with `step`, and
+/// all lines directly after them whose first word is `row`. Errors are those of `read_sheet` over these lines.
 pub fn read_leading_sheet(alloc: Global, text: &[u8]) -> Result<LeadingSheet<'_>, SheetError>
     ensures { GivesLeading (lines text.now) result }
 {
     let mut lines = lines_in(text);
     let head = head_in(&mut lines)?;
+    // the waste's line is the last of the head
     let size = waste_number(head.step);
     let rows = rows_in(alloc, &mut lines, size + 1)?;
     Ok(LeadingSheet {
@@ -54,7 +55,7 @@ pub fn read_leading_sheet(alloc: Global, text: &[u8]) -> Result<LeadingSheet<'_>
     })
 }
 
-// what stands in front of a sheet's rows
+// what stands before a sheet's rows
 #[derive(Drop)]
 struct Head {
     table: ClassTable,

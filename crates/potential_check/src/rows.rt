@@ -1,4 +1,4 @@
-ghost use Rattle.std.specs.Prelude.{◌≡◌, ◌↔◌, ℕ, ◌<◌, ◌≤◌, List, [], length, slice_get, Some, IsTrue};
+ghost use Rattle.std.specs.Prelude.{◌≡◌, ◌↔◌, ℕ, ◌<◌, ◌≤◌, List, [], length, slice_get, slice_index, Some, IsTrue};
 ghost use Rattle.potential_check.specs.Lists.{lists_of};
 ghost use Rattle.tuner_theory.specs.Rows.{number_at};
 
@@ -38,7 +38,7 @@ impl Rows {
         self.rows.is_empty()
     }
 
-    /// The numbers of the row of this index, counted from 0.
+    /// The numbers of the row with this index. Indices begin with 0; `number` counts the rows from 1.
     pub fn row(&self, index: usize) -> &[u64]
         requires { index < length self.now }
         ensures { slice_get self.now index ≡ Some result.now }
@@ -52,8 +52,15 @@ impl Rows {
         ensures { result ≡ number_at self.now k place }
     {
         match self.rows.get(k - 1) {
-            Some(row) => row.get(place).copied().unwrap_or(0),
+            Some(row) => number_in_row(row, place),
             None => 0,
         }
     }
+}
+
+/// The number of a row at a place; 0 if the row has no number there.
+pub fn number_in_row(row: &[u64], place: usize) -> u64
+    ensures { result ≡ slice_index row.now place }
+{
+    row.get(place).copied().unwrap_or(0)
 }

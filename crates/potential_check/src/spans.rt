@@ -18,6 +18,7 @@ pub struct Spans<'a> {
     profile: &'a Profile,
     step: u8,
     needs: Vec<u16>,
+    // at each place from 0 on: how many requests need at most the need there, and how many bytes they asked for
     counted: Vec<u64>,
     bytes: Vec<u64>,
 }
@@ -48,6 +49,7 @@ impl<'a> Spans<'a> {
             let count = u64::from(profile.count(n));
             if count > 0 {
                 let need = rounded_need(n, step);
+                // a new need: the sums up to the place before it are complete
                 if !is_last(&needs, need) {
                     needs.push(need)?;
                     counted.push(total)?;

@@ -6,7 +6,7 @@ ghost use Rattle.class_table.specs.Steps.{IsStep};
 ghost use Rattle.potential_check.specs.Bounds.{AreTight, EdgesHold, HasTightEnd, IsTightEnd, edge_bound};
 ghost use Rattle.tuner_theory.specs.Spans.{places};
 
-use crate::bounds::edge_order;
+use crate::row_conditions::edge_order;
 use crate::spans::Spans;
 use std::cmp::Ordering;
 

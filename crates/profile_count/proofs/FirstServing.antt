@@ -5,7 +5,7 @@ use Rattle.std.specs.List.{position_or_len}
 use Rattle.std.proofs.lemmas.Bool.{cases_Bool, cases_lt, not_from_true, leb-false, le-leb, lt-leb, both_ways}
 use Rattle.std.proofs.lemmas.List.Sums.{prefix_len-le-length, prefix_len_passes}
 use Rattle.std.proofs.lemmas.List.Folds.{find_at}
-use Rattle.std.proofs.lemmas.Option.{slice_get_past, slice_get-get_or}
+use Rattle.std.proofs.lemmas.Option.{get_or_from_slice_get, slice_get_past, slice_get_within, slice_get-get_or}
 use Rattle.class_table.specs.Sizes.{serves}
 use Rattle.class_table.specs.Tables.{class_for}
 
@@ -87,25 +87,40 @@ below_end n class most before = le-leb n (16 * class - 16) (omega arith)
 pub from_end : (n class : ℕ) → 2 ≤ class → 16 * class - 15 ≤ n → serves n class ≡ false
 from_end n class most after = lt-leb n (16 * class - 16) (omega arith)
 
--- the next class is the first that can serve what this one does not
-pub next_ready : (from number class : ℕ) (classes : List ℕ) → 2 ≤ class → number < length classes → get_or classes number 0 ≡ class
-    → number ≤ position_or_len (serves from) classes → 16 * class - 15 ≤ from → number + 1 ≤ position_or_len (serves from) classes
-next_ready from number class classes most within is ready past =
-    passed from number classes ready within (ap (serves from) is ∙ from_end from class most past)
+-- the class of this number, to which a walk over the classes has come
+pub record IsClassAt (classes : List ℕ) (number class : ℕ) : Type 0 where
+  pub within : number < length classes
+  pub is : get_or classes number 0 ≡ class
+  pub wide : 2 ≤ class
+
+pub class_at : (classes : List ℕ) (number class : ℕ) → slice_get classes number ≡ Some class → 2 ≤ class → IsClassAt classes number class
+class_at classes number class is wide = record {
+  within = slice_get_within classes number class is;
+  is = get_or_from_slice_get classes number class 0 is;
+  wide = wide;
+}
+
+-- the next class is the first that can serve what neither this one nor one before it serves
+pub next_ready : (from next number class : ℕ) (classes : List ℕ) → IsClassAt classes number class
+    → number ≤ position_or_len (serves from) classes → from ≤ next → 16 * class - 15 ≤ next
+    → number + 1 ≤ position_or_len (serves next) classes
+next_ready from next number class classes at ready later past =
+    passed next number classes (omega (arith, ready, position-mono from next classes later)) at.within
+    (ap (serves next) at.is ∙ from_end next class at.wide past)
 
 -- it serves all sizes before its end,
-pub next_served : (n number class : ℕ) (classes : List ℕ) → 2 ≤ class → number < length classes → get_or classes number 0 ≡ class
-    → n < 16 * class - 15 → IsSome (class_for classes n)
-next_served n number class classes most within is before =
-    some_class n number classes within (ap (serves n) is ∙ below_end n class most before)
+pub next_served : (n number class : ℕ) (classes : List ℕ) → IsClassAt classes number class → n < 16 * class - 15
+    → IsSome (class_for classes n)
+next_served n number class classes at before =
+    some_class n number classes at.within (ap (serves n) at.is ∙ below_end n class at.wide before)
 
 -- and is the class of those that no earlier one serves
-pub next_class : (from n number class : ℕ) (classes : List ℕ) → 2 ≤ class → number < length classes → get_or classes number 0 ≡ class
+pub next_class : (from n number class : ℕ) (classes : List ℕ) → IsClassAt classes number class
     → number ≤ position_or_len (serves from) classes → from ≤ n → n < 16 * class - 15 → class_for classes n ≡ Some class
-next_class from n number class classes most within is ready le before =
-    let serving : serves n (get_or classes number 0) ≡ true = ap (serves n) is ∙ below_end n class most before in
-    let first = reached n number classes (omega (arith, ready, position-mono from n classes le)) within serving in
-    class_there n number classes (sym first) ∙ slice_get-get_or classes number 0 within ∙ ap Some is
+next_class from n number class classes at ready le before =
+    let serving : serves n (get_or classes number 0) ≡ true = ap (serves n) at.is ∙ below_end n class at.wide before in
+    let first = reached n number classes (omega (arith, ready, position-mono from n classes le)) at.within serving in
+    class_there n number classes (sym first) ∙ slice_get-get_or classes number 0 at.within ∙ ap Some at.is
 
 -- after all classes none is left for any size from here on
 pub none_left : (from n number : ℕ) (classes : List ℕ) → number ≤ position_or_len (serves from) classes → length classes ≤ number →

@@ -33,7 +33,7 @@ pub(crate) fn next_entry(
     ensures taken { lines.new ≡ drop 1 lines.old }
     ensures next { IfSome result (λ read. IfOk read (λ entry. IsNext next large entry)) }
 {
-    // This reads a line of two numbers in one pass, and `size_entry` tests it. `entry_in` reads every other line.
+    // `next_numbers` reads most lines in one pass. `entry_in` reads a line that it does not take.
     if large == 0
         && let Some((size, count)) = lines.next_numbers()
     {

@@ -56,8 +56,8 @@ impl Profile {
         self.large
     }
 
-    /// Counts one more request of `n` bytes, any number; above 16,368 it is a large request.
-    /// The error is that its count is 1,000,000,000 already; the profile is then unchanged.
+    /// Counts one more request of `n` bytes. Any `n` is allowed. Above 16,368 the request counts as large.
+    /// The error is that its count is 1,000,000,000 already. The profile is then unchanged.
     pub fn add(&mut self, n: u32) -> Result<(), CountFull>
         ensures added { OnOk result (self.new ≡ with_one_more self.old n) }
         ensures full { IsErr result ↔ (count_for self.old n ≡ MOST_COUNTED) }

@@ -12,7 +12,7 @@ pub(crate) fn first_unserved(counts: &[u32], table: &ClassTable) -> Option<u16>
     requires { length counts.now ≤ 65536 }
     ensures { result ≡ unserved_of counts.now table.now }
 {
-    for n in served_below(table) as usize..counts.len() {
+    for n in table_end(table) as usize..counts.len() {
         if counts[n] > 0 {
             return Some(n as u16);
         }
@@ -29,9 +29,9 @@ pub(crate) fn table_losses(counts: &[u32], table: &ClassTable) -> u64
     let mut total = 0;
     let mut from = 0;
     for number in 0..table.len() {
-        let end = served_end(table.class(number));
+        let end = class_end(table.class(number));
         if from < end {
-            total += losses_below(end, from, counts);
+            total += losses_between(from, end, counts);
             from = end;
         }
     }
@@ -39,7 +39,7 @@ pub(crate) fn table_losses(counts: &[u32], table: &ClassTable) -> u64
 }
 
 // what the counted requests of the sizes from `from` on lose in the class whose first size that it does not serve is `end`
-fn losses_below(end: u32, from: u32, counts: &[u32]) -> u64
+fn losses_between(from: u32, end: u32, counts: &[u32]) -> u64
     requires counts { AreCounts counts.now }
     requires some { from < end }
     requires end { end ≤ LARGEST_COUNTED + 1 }
@@ -56,22 +56,22 @@ fn losses_below(end: u32, from: u32, counts: &[u32]) -> u64
 }
 
 // the first size that no class of the table serves
-fn served_below(table: &ClassTable) -> u32
+fn table_end(table: &ClassTable) -> u32
     ensures served { (n : ℕ) → n < result → IsSome (class_for table.now n) }
     ensures others { (n : ℕ) → result ≤ n → class_for table.now n ≡ None }
 {
     let mut from = 0;
     for number in 0..table.len() {
-        let end_of_class = served_end(table.class(number));
-        if from < end_of_class {
-            from = end_of_class;
+        let end = class_end(table.class(number));
+        if from < end {
+            from = end;
         }
     }
     from
 }
 
 // the first size that a class does not serve
-fn served_end(class: u16) -> u32
+fn class_end(class: u16) -> u32
     requires { (SMALLEST_CLASS ≤ class) × (class ≤ LARGEST_CLASS) }
     ensures { result ≡ GRANULE_BYTES * class - (GRANULE_BYTES - 1) }
 {

@@ -1,5 +1,4 @@
 //! What holds for the quarantine's queue. Each law is the contract of a function that does nothing.
-//! A program may call a law, which costs nothing.
 ghost use Rattle.quarantine_core.specs.QueueLaws.{NothingIsQueued, OneQueueIsShown, QueueIsShort, QueueStays};
 
 /// The links show one queue, and it ends. It stays the same under each change that keeps the links of its slots.

@@ -37,7 +37,7 @@ impl Model for Quarantine {
 }
 
 impl Quarantine {
-    /// An empty quarantine. It releases nothing until its blocks exceed `limit` bytes.
+    /// An empty quarantine. It releases nothing until its blocks exceed `limit` bytes. The contract alone needs the layout.
     pub fn new(_layout: &Layout, limit: u32) -> Quarantine
         ensures value { result ≡ record { front = 0; back = 0; held = 0; limit = limit } }
         ensures queued { (region : Region) → AreQueued result _layout.now region [] }

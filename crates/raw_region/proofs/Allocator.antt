@@ -5,6 +5,7 @@ use base.Share
 use base.Logic.{ex, ex_i, guard, via}
 use contract.BorrowLft.{⊑_static}
 use contract.Monad.{Fun}
+use denote.Bor.{Bor}
 use denote.Memory.{part_of}
 use denote.Struct.Laws as LL
 use denote.Triple.Statement.{Contract}
@@ -69,20 +70,16 @@ module _ {M : Type 1} {𝓤 : Ura M} (𝓛 : Logic 𝓤) (at_mem : Memory → SP
   abbrev Handle : Fml
   Handle = hidden_shr the_row κ a hb ho
 
+  -- what a call is given, by the other arguments and their machine values
+  abbrev by_handle : {X W : Type 0} → X → W →
+      ((Lft × Unit {0}) × (Share × Unit {0}) × Unit {0} × (Bor Global × X) × (List Val × W)) × Ty
+  by_handle args words = (((κ, tt), (q, tt), tt, (record { ref_ptr = (hb, ho); now = a }, args), (vptr hb ho ∷ [], words)), τ)
+
   abbrev pub Allocates : Contract 𝓤
   Allocates = triple_of 𝓛 AL.signature (AL.spec 𝓛 at_mem run)
 
   abbrev pub allocates : Allocates.Ghost
-  allocates = (
-    (
-      (κ, tt),
-      (q, tt),
-      tt,
-      (record { ref_ptr = (hb, ho); now = a }, (s, (al, tt))),
-      (vptr hb ho ∷ [], (vint w64 s ∷ [], (vint w64 al ∷ [], tt))),
-    ),
-    τ,
-  )
+  allocates = by_handle (s, (al, tt)) (vint w64 s ∷ [], (vint w64 al ∷ [], tt))
 
   pub allocate_goes : IsFor → s < 2 ^ 64 → al < 2 ^ 64 → ent 𝓤 (sep 𝓤 (sem 𝓛 Handle) (A.lft κ q)) (Allocates.pre allocates)
   allocate_goes is fs fa =
@@ -124,16 +121,7 @@ module _ {M : Type 1} {𝓤 : Ura M} (𝓛 : Logic 𝓤) (at_mem : Memory → SP
     Deallocates = triple_of 𝓛 DE.signature (DE.spec 𝓛 at_mem run)
 
     abbrev pub deallocates : Deallocates.Ghost
-    deallocates = (
-      (
-        (κ, tt),
-        (q, tt),
-        tt,
-        (record { ref_ptr = (hb, ho); now = a }, (block_ptr b o, (s, (al, tt)))),
-        (vptr hb ho ∷ [], (vptr b o ∷ [], (vint w64 s ∷ [], (vint w64 al ∷ [], tt)))),
-      ),
-      τ,
-    )
+    deallocates = by_handle (block_ptr b o, (s, (al, tt))) (vptr b o ∷ [], (vint w64 s ∷ [], (vint w64 al ∷ [], tt)))
 
     abbrev Deed : Fml
     Deed = ghosts.dealloc_token a τ (block_ptr b o)

@@ -8,7 +8,7 @@ use Rattle.heap_theory.specs.Totals.{Totals}
 use Rattle.replay_core.specs.declared.answer.Answer.{Answer as TheAnswer}
 use Rattle.replay_core.specs.declared.answer.Answer.TheVariants.{Silent as ItIsSilent, Loaded as ItLoaded, NotMapped as ItIsNotMapped, TagFault as ItIsATagFault, NoPointer as ItHasNoPointer, NotFreed as ItIsNotFreed}
 use Rattle.replay_core.specs.declared.totals.Totals.{Totals as TheTotals}
-use Rattle.replay_core.specs.declared.access.TheConstants.{MOST_BYTES}
+use Rattle.replay_core.specs.declared.access.TheConstants.{LONGEST_ACCESS}
 use Rattle.replay_core.specs.declared.replay.TheConstants.{VARIABLES}
 
 -- A result, with the buffer that holds the bytes of a load.
@@ -49,7 +49,7 @@ pub record AreVariables (variables : List ℕ) : Type 0 where
 -- The buffer, of 64 bytes, has as many as were loaded.
 abbrev pub FitsBuffer : TheAnswer → Type 0
 FitsBuffer ItIsSilent = ⊤
-FitsBuffer (ItLoaded len) = len ≤ MOST_BYTES
+FitsBuffer (ItLoaded len) = len ≤ LONGEST_ACCESS
 FitsBuffer ItIsNotMapped = ⊤
 FitsBuffer (ItIsATagFault granule memory_tag pointer_tag kind) = ⊤
 FitsBuffer (ItHasNoPointer cause) = ⊤

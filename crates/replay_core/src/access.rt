@@ -12,7 +12,7 @@ use tag_machine::Fault;
 use tagged_heap::Heap;
 
 /// The most bytes of an access.
-pub(crate) const MOST_BYTES: usize = Event::LONGEST_ACCESS as usize;
+pub(crate) const LONGEST_ACCESS: usize = Event::LONGEST_ACCESS as usize;
 
 // The address `off` bytes after another one, modulo 2^64.
 pub(crate) fn moved_by(address: u64, off: i32) -> u64
@@ -21,9 +21,9 @@ pub(crate) fn moved_by(address: u64, off: i32) -> u64
     address.wrapping_add_signed(i64::from(off))
 }
 
-// Loads `len` bytes into the first bytes of `bytes`. The address must have a tag, or the access must not be mapped.
-pub(crate) fn load(heap: &Heap, address: u64, len: u8, bytes: &mut [u8; MOST_BYTES]) -> Answer
-    requires len { (1 ≤ len) × (len ≤ MOST_BYTES) }
+// Loads `len` bytes into the first bytes of `bytes`. The address must have a tag other than 0, or the access must not be mapped.
+pub(crate) fn load(heap: &Heap, address: u64, len: u8, bytes: &mut [u8; LONGEST_ACCESS]) -> Answer
+    requires len { (1 ≤ len) × (len ≤ LONGEST_ACCESS) }
     requires tagged { (logical_tag address ≢ 0) ⊎ IsFalse (is_mapped (length heap.now.state.memory) address len) }
     ensures answer { shown bytes.new result
         ≡ access_answer heap.now.state (Loaded (loaded heap.now.state.memory address len))
@@ -36,10 +36,10 @@ pub(crate) fn load(heap: &Heap, address: u64, len: u8, bytes: &mut [u8; MOST_BYT
     }
 }
 
-// Stores `len` bytes of this value. The address must have a tag, or the access must not be mapped.
+// Stores `len` bytes of this value. The address must have a tag other than 0, or the access must not be mapped.
 #[tactic(auto, unfolding(heap_theory::specs::Run::store_step))]
 pub(crate) fn store(heap: &mut Heap, address: u64, len: u8, byte: u8) -> Answer
-    requires len { (1 ≤ len) × (len ≤ MOST_BYTES) }
+    requires len { (1 ≤ len) × (len ≤ LONGEST_ACCESS) }
     requires tagged { (logical_tag address ≢ 0) ⊎ IsFalse (is_mapped (length heap.old.state.memory) address len) }
     ensures answer { (bytes : List ℕ)
         → shown bytes result ≡ access_answer heap.old.state Silent (access_fault heap.old.state.memory address len) }
@@ -47,7 +47,7 @@ pub(crate) fn store(heap: &mut Heap, address: u64, len: u8, byte: u8) -> Answer
     ensures state { heap.new.state ≡ store_step heap.old.state address (replicate len byte) }
     ensures frees { heap.new.frees ≡ heap.old.frees }
 {
-    let bytes = [byte; MOST_BYTES];
+    let bytes = [byte; LONGEST_ACCESS];
     match heap.store(address, &bytes[..usize::from(len)]) {
         Ok(()) => Answer::Silent,
         Err(fault) => fault_answer(heap, fault),

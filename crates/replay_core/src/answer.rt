@@ -18,7 +18,7 @@ pub(crate) enum Answer {
         pointer_tag: u8,
         kind: PlaceKind,
     },
-    /// A request got null.
+    /// A request was refused: it is too large, or no slot serves it.
     NoPointer(NullCause),
     /// A free or a realloc was refused: its pointer names no live chunk.
     NotFreed(FreeError),

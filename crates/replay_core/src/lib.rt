@@ -6,16 +6,16 @@
 
 mod access;
 mod answer;
+mod append;
 pub mod laws;
-mod line;
 mod perform;
 mod ranges;
 mod replay;
-mod text;
+mod report_line;
 mod totals;
 
 pub use heap_theory::Event;
 pub use ranges::is_in_range;
-pub use replay::{LINE_BYTES, Replay};
+pub use replay::{LINE_ROOM, Replay};
 pub use tagged_heap::Config;
-pub use totals::{TOTALS_BYTES, Totals, request_size};
+pub use totals::{TOTALS_ROOM, Totals, request_size};

@@ -7,7 +7,7 @@ ghost use Rattle.replay_core.specs.TheoryValues.{AreVariables, FitsBuffer, over,
 ghost use Rattle.std.specs.Prelude.{◌≡◌, ◌+◌, ◌^◌, ◌<◌, ◌≤◌, List, length, slice_index, slice_set, ℕ};
 ghost use Rattle.std.specs.Result.{result_unwrap_or};
 
-use crate::access::{MOST_BYTES, load, moved_by, store};
+use crate::access::{LONGEST_ACCESS, load, moved_by, store};
 use crate::answer::Answer;
 use heap_theory::{Event, NullCause, ReallocError};
 use tagged_heap::Heap;
@@ -18,7 +18,7 @@ pub(crate) fn perform(
     heap: &mut Heap,
     variables: &mut [u64],
     event: &Event,
-    bytes: &mut [u8; MOST_BYTES],
+    bytes: &mut [u8; LONGEST_ACCESS],
 ) -> Answer
     requires in_range { IsInRange event.now }
     requires sound { IsSoundHeap heap.old.state }

@@ -6,9 +6,9 @@ ghost use Rattle.replay_core.specs.ReplayState.{first_stored, stored_after};
 ghost use Rattle.tagged_heap.specs.Config.{IsConfig};
 ghost use Rattle.std.specs.Prelude.{◌≡◌, ◌+◌, ◌^◌, ◌<◌, ◌≤◌, IfOk};
 
-use crate::access::MOST_BYTES;
-use crate::line::write_line;
+use crate::access::LONGEST_ACCESS;
 use crate::perform::perform;
+use crate::report_line::write_line;
 use crate::totals::Totals;
 use arrayvec::ArrayVec;
 use class_table::{ClassTable, MOST_CLASSES};
@@ -17,8 +17,8 @@ use std::alloc::{AllocError, Global};
 use std::marker::Model;
 use tagged_heap::{Config, Heap};
 
-/// The most bytes of a report line with its newline.
-pub const LINE_BYTES: usize = 160;
+/// Room for any report line with its newline, in bytes.
+pub const LINE_ROOM: usize = 160;
 
 // How many variables a trace has.
 pub(crate) const VARIABLES: usize = Event::LAST_VARIABLE as usize + 1;
@@ -68,14 +68,14 @@ impl Replay {
     /// Performs the event and counts it in the totals. Replaces what `line` holds by the event's report line with its newline, or by nothing
     /// if it has none. Afterwards the replay is what is stored of the run with this event added. The event's numbers must be in their ranges
     /// (`Event`), and there must have been fewer than 2^40 steps (`steps`).
-    pub fn step(&mut self, event: &Event, line: &mut ArrayVec<u8, LINE_BYTES>)
+    pub fn step(&mut self, event: &Event, line: &mut ArrayVec<u8, LINE_ROOM>)
         requires few { self.old.totals.events < 2 ^ 40 }
         requires in_range { IsInRange event.now }
         ensures line { line.new.items ≡ report_line (self.old.totals.events + 1) (answer_of self.old.replay event.now) }
         ensures stored { self.new ≡ stored_after self.old event.now }
         ensures run { (run : Run) → run.replay ≡ self.old.replay → (run_after run event.now).replay ≡ self.new.replay }
     {
-        let mut bytes = [0; MOST_BYTES];
+        let mut bytes = [0; LONGEST_ACCESS];
         let answer = perform(&mut self.heap, &mut self.variables, event, &mut bytes);
         self.totals.count(&self.heap, event, &answer);
         write_line(line, self.totals.events, &answer, &bytes);

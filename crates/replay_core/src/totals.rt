@@ -9,14 +9,14 @@ ghost use Rattle.replay_core.specs.TheoryValues.{shown, totals_in};
 ghost use Rattle.std.specs.Prelude.{◌≡◌, ◌++◌, ◌+◌, ◌*◌, ◌^◌, ◌<◌, ◌≤◌, List, length, ℕ};
 
 use crate::answer::Answer;
+use crate::append::{append, append_number};
 use crate::replay::Replay;
-use crate::text::{append, append_number};
 use arrayvec::ArrayVec;
 use heap_theory::{Event, NullCause};
 use tagged_heap::Heap;
 
-/// The most bytes of the lines of totals.
-pub const TOTALS_BYTES: usize = 512;
+/// Room for the lines of totals, in bytes.
+pub const TOTALS_ROOM: usize = 512;
 
 /// What is counted over the events of a trace. A request is a malloc, a calloc or a realloc.
 #[derive(Clone, Copy, Debug, PartialEq, Eq)]
@@ -25,11 +25,11 @@ pub struct Totals {
     pub events: u64,
     /// The requests, whatever their results.
     pub requests: u64,
-    /// The requests that got null since they are of more than 16,368 bytes.
+    /// The requests that were refused because they ask for more than 16,368 bytes.
     pub null_large: u64,
-    /// The requests that got null since no class serves them.
+    /// The requests that were refused because no class serves them.
     pub null_no_class: u64,
-    /// The requests that got null since their class had no slot left.
+    /// The requests that were refused because their class had no slot left.
     pub null_exhausted: u64,
     /// The mapped accesses that touched a granule whose tag differs from their pointer's.
     pub faults_tag: u64,
@@ -37,7 +37,7 @@ pub struct Totals {
     pub faults_unmapped: u64,
     /// The frees and reallocs of a pointer that is not null and names no live chunk.
     pub refused_frees: u64,
-    /// The bytes that requests left unused in blocks of their classes, over all requests that got or kept a chunk.
+    /// The bytes that requests left unused in blocks of their classes, over all requests that were not refused.
     pub loss: u64,
 }
 
@@ -55,7 +55,7 @@ impl Totals {
     };
 
     /// Replaces what `text` holds by the nine lines of totals: each the name of a field, in words, and its number.
-    pub fn write(&self, text: &mut ArrayVec<u8, TOTALS_BYTES>)
+    pub fn write(&self, text: &mut ArrayVec<u8, TOTALS_ROOM>)
         ensures { text.new.items ≡ totals_text (totals_in self.now) }
     {
         text.clear();
@@ -129,8 +129,8 @@ impl Replay {
 }
 
 // appends a line of totals
-fn append_total(text: &mut ArrayVec<u8, TOTALS_BYTES>, name: &[u8], total: u64)
-    requires { length text.old.items + length name.now + 22 ≤ TOTALS_BYTES }
+fn append_total(text: &mut ArrayVec<u8, TOTALS_ROOM>, name: &[u8], total: u64)
+    requires { length text.old.items + length name.now + 22 ≤ TOTALS_ROOM }
     ensures items { text.new.items ≡ text.old.items ++ ended (total_line name.now total) }
     ensures len { length text.new.items ≤ length text.old.items + length name.now + 22 }
 {

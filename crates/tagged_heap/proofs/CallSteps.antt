@@ -1,9 +1,7 @@
 -- What a call makes of a heap, by what is chosen for it.
-use Rattle.std.proofs.Common.{◌≡◌, ℕ, ◌<◌, ◌≤◌, List, ltb, refl, ap, ◌∙◌, inl, inr, Ok, Err, ◌≢◌, ◌+◌, ◌⊎◌, true, false, sym, subst, arith, Result}
-use Rattle.std.proofs.lemmas.Bool.{cases_lt, cond-true, lt-ltb}
-use Rattle.heap_theory.specs.declared.fault.NullCause.TheVariants.{Large}
+use Rattle.std.proofs.Common.{◌≡◌, ℕ, ◌<◌, List, refl, ap, ◌∙◌, inl, inr, Ok, Err, ◌≢◌, ◌+◌, ◌⊎◌, true, false, sym, subst, arith, Result}
 use Rattle.heap_theory.specs.Calls.{given_out, with_payload, move_with, moved, payload_bytes, next_tag, free_step, realloc_step}
-use Rattle.heap_theory.specs.Choice.{slot_for_request, slot_in_class, class_for_request, Chunk, IsReusable, is_released}
+use Rattle.heap_theory.specs.Choice.{slot_for_request, Chunk, IsReusable, is_released}
 use Rattle.heap_theory.specs.State.{Heap, slot_in, state_at, chunk_granules, is_fresh, pointer_to}
 use Rattle.std.specs.Prelude.{MatchResult, IfOk, IfErr, OnErr, IsTrue, ◌↔◌}
 use Rattle.std.specs.Result.{result_map_both, IsErrAnd}
@@ -23,16 +21,6 @@ use Rattle.heap_theory.specs.OwnPointers.{IsNotRefused, IsNullOrOwn}
 use Rattle.heap_theory.specs.Sound.{IsSoundHeap}
 
 -- ---- what a slot that is given out leaves
-
-pub size_of_given : (h : Heap) (n s : ℕ) → Ok s ≡ slot_for_request h n → n ≤ 16368
-unfolding slot_for_request
-size_of_given h n s is = elim (cases_lt 16368 n) [
-  | inl more ↦
-      let none : class_for_request h n ≡ Err Large = cond-true (ltb 16368 n) _ _ (lt-ltb 16368 n more) in
-      let refused = is ∙ ap (slot_in_class h) none in
-      cc
-  | inr few ↦ few
-]
 
 pub room_given : (h : Heap) (n s r : ℕ) → chunk_granules n < (slot_in h r).class → chunk_granules n < (slot_in (given_out h s n) r).class
 unfolding given_out
@@ -69,13 +57,17 @@ IsMoved old chunk n new p =
     (new ≡ record { state = moved old.state chunk s n; frees = old.frees + 1 })
 
 -- and what the call answers and leaves then, or where it has none
+pub record IsMove (old new : HeapAndFrees) (chunk : Chunk) (n : ℕ) (r : Result ℕ NullCause) : Type 0 where
+  pub answer : result_map_both (λ p. p) Null r ≡ (move_with old.state chunk n (slot_for_request old.state n)).answer
+  pub state : new.state ≡ (move_with old.state chunk n (slot_for_request old.state n)).heap
+  pub counted : new.frees ≡ old.frees + frees_for_slot (slot_for_request old.state n)
+
 pub moves : (old new : HeapAndFrees) (chunk : Chunk) (n : ℕ) (r : Result ℕ NullCause) → IfOk r (IsMoved old chunk n new) →
-    IfErr r (λ cause. slot_for_request old.state n ≡ Err cause) → OnErr r (new ≡ old) → let step =
-    move_with old.state chunk n (slot_for_request old.state n) in
-    (result_map_both (λ p. p) Null r ≡ step.answer) × (new.state ≡ step.heap) ×
-    (new.frees ≡ old.frees + frees_for_slot (slot_for_request old.state n))
-moves old new chunk n (Ok p) ok err same = rw (ok.1, ok.2, ok.3) (refl, refl, refl)
-moves old new chunk n (Err cause) ok err same = rw (err, same) (refl, refl, omega arith)
+    IfErr r (λ cause. slot_for_request old.state n ≡ Err cause) → OnErr r (new ≡ old) → IsMove old new chunk n r
+moves old new chunk n (Ok p) ok err same =
+    record { answer = rw (ok.1, ok.2) refl; state = rw (ok.1, ok.3) refl; counted = rw (ok.1, ok.3) refl }
+moves old new chunk n (Err cause) ok err same =
+    record { answer = rw err refl; state = rw (err, same) refl; counted = rw (err, same) (omega arith) }
 
 -- ---- the parts of a move
 

@@ -98,9 +98,9 @@ module _ (h : Heap) (s : ℕ) (state : State) (memory : List Granule) (total see
   }
 
   -- no slot becomes fresh, or stops to be
-  pub firsts_changed : {firsts : List ℕ} → is_fresh state ≡ is_fresh (state_at h s) → AreFirstFresh h firsts →
-      AreFirstFresh (changed h s state memory total seed tag) firsts
-  firsts_changed same f = record {
+  pub counters_changed : {counters : List ℕ} → is_fresh state ≡ is_fresh (state_at h s) → AreFirstFresh h counters →
+      AreFirstFresh (changed h s state memory total seed tag) counters
+  counters_changed same f = record {
     long = f.long;
     from = f.from;
     to = f.to;

@@ -16,7 +16,7 @@ use Rattle.heap_theory.specs.Choice.{class_for_request}
 use Rattle.heap_theory.specs.State.{Heap, chunk_granules}
 use Rattle.heap_theory.proofs.Marks.{one_number}
 use Rattle.tagged_heap.proofs.TheoryLemmas as laws
-use Rattle.tagged_heap.specs.Chunks.{IsCauseFor}
+use Rattle.tagged_heap.specs.ClassSlots.{IsCauseFor}
 
 module _ (h : Heap) (n : ℕ) where
   pub class_for_is : (r : Result ℕ NullCause) → IfOk r (λ k. (n ≤ 16368) × (class_number_for h.layout.classes n ≡ Some k)) →

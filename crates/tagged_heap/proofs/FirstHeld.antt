@@ -32,31 +32,31 @@ class_is_number layout s number legal within listed =
 -- ---- the first heap
 
 module _ (layout : Partition) (seed quarantine : ℕ) (is : IsPartition layout) where
-  abbrev pub firsts : List ℕ
-  firsts = map (first_slot layout) (range_with_len 0 (length layout.classes))
+  abbrev pub counters : List ℕ
+  counters = map (first_slot layout) (range_with_len 0 (length layout.classes))
 
-  firsts_long : length firsts ≡ length layout.classes
-  firsts_long = length-map-range_with_len (first_slot layout) 0 (length layout.classes)
+  counters_long : length counters ≡ length layout.classes
+  counters_long = length-map-range_with_len (first_slot layout) 0 (length layout.classes)
 
-  first_at : (number : ℕ) → number < length firsts → slice_index firsts number ≡ first_slot layout number
+  first_at : (number : ℕ) → number < length counters → slice_index counters number ≡ first_slot layout number
   first_at number within =
-      get_or-map-range_with_len (first_slot layout) 0 (length layout.classes) number number 0 (subst (λ n. number < n) firsts_long within)
+      get_or-map-range_with_len (first_slot layout) 0 (length layout.classes) number number 0 (subst (λ n. number < n) counters_long within)
       (omega arith)
 
   state_fresh : (s : ℕ) → state_at (first_heap layout seed quarantine) s ≡ Fresh
   unfolding first_heap
   state_fresh s = get_or-replicate_any (slot_count layout) s Fresh
 
-  first_fresh : AreFirstFresh (first_heap layout seed quarantine) firsts
+  first_fresh : AreFirstFresh (first_heap layout seed quarantine) counters
   unfolding first_heap
   first_fresh = record {
-    long = firsts_long;
+    long = counters_long;
     from = λ number within. omega (arith, first_at number within);
     to = λ number within.
-        let number' : number < length layout.classes = subst (λ n. number < n) firsts_long within in
+        let number' : number < length layout.classes = subst (λ n. number < n) counters_long within in
         omega (arith, first_at number within, first_slot-le layout number (number + 1) (omega arith) (omega arith));
     given = λ number s within in_range class below.
-        let share = share_of_slot layout number s is.table (subst (λ n. number < n) firsts_long within) in_range class in
+        let share = share_of_slot layout number s is.table (subst (λ n. number < n) counters_long within) in_range class in
         absurd (omega (arith, first_at number within, share.from));
     fresh = λ number s within in_range class above. ap is_fresh (state_fresh s);
   }
@@ -77,7 +77,7 @@ module _ (layout : Partition) (seed quarantine : ℕ) (is : IsPartition layout) 
               (length layout.classes) 0;
         }
 
-    pub held_first : IsHeldIn (first_heap layout seed quarantine) 0 first_parts firsts
+    pub held_first : IsHeldIn (first_heap layout seed quarantine) 0 first_parts counters
     unfolding first_heap
     held_first =
         let booked = laws.first_booked layout seed quarantine in

@@ -26,11 +26,12 @@ use Rattle.heap_theory.proofs.Found.{Contains-head}
 use Rattle.heap_theory.proofs.SeenMemory.{length-without_headers}
 use Rattle.chunk_header.specs.Links.{SetsLink}
 use Rattle.tagged_heap.proofs.TheoryLemmas as laws
-use Rattle.tagged_heap.specs.Chunks.{given_header, tag_for, IsCauseFor, HasRoom, HasClass, Takes}
+use Rattle.tagged_heap.specs.Chunks.{given_header, tag_for, HasRoom}
+use Rattle.tagged_heap.specs.ClassSlots.{IsCauseFor, HasClass, Takes}
 use Rattle.tagged_heap.specs.Representation.{header_from, IsRewritten, AreListed, AreFirstFresh, Parts, IsKept}
 use Rattle.tagged_heap.specs.HeapView.{shown_heap, IsHeldIn}
-use Rattle.tagged_heap.proofs.Changed.{with_link, other_list, state_here, firsts_changed, kept_alive, alive_memory}
-use Rattle.tagged_heap.proofs.Firsts.{firsts_step, counted, lowest_counted, lowest_none}
+use Rattle.tagged_heap.proofs.Changed.{with_link, other_list, state_here, counters_changed, kept_alive, alive_memory}
+use Rattle.tagged_heap.proofs.Counters.{counters_step, counted, lowest_counted, lowest_none}
 use Rattle.tagged_heap.proofs.HeaderPlaces.{link_set}
 use Rattle.tagged_heap.proofs.Shares.{share_of_slot}
 use Rattle.tagged_heap.proofs.Kept.{class_few, within_states, within_lists, region_is, front_few, list_slot, booked_at_rest, shown_is}
@@ -81,7 +82,7 @@ fresh_not_dead (Live n t) fresh = refl
 fresh_not_dead (Dead n t m) fresh = cc
 
 -- A slot that was taken for a request of n bytes, and is to be given out.
-pub record IsTaken (h : Heap) (p : Parts) (k : IsKept h p) (m1 : List Granule) (fronts firsts : List ℕ) (s n : ℕ) : Type 0 where
+pub record IsTaken (h : Heap) (p : Parts) (k : IsKept h p) (m1 : List Granule) (fronts counters : List ℕ) (s n : ℕ) : Type 0 where
   pub request : slot_for_request h n ≡ Ok s
   pub given : IsGiven h n s
   pub before : IsRewritten h.layout p.memory m1 s (header_from h.layout k.from s (state_at h s) 0) h.memory
@@ -89,9 +90,9 @@ pub record IsTaken (h : Heap) (p : Parts) (k : IsKept h p) (m1 : List Granule) (
   pub lists : List (List ℕ)
   pub listed : AreListed (next_in (region_of h.layout p.memory)) fronts lists
   pub booked : IsBooked (given_out h s n) k.queue lists
-  pub fresh : AreFirstFresh (given_out h s n) firsts
+  pub fresh : AreFirstFresh (given_out h s n) counters
 
-module _ {h : Heap} {frees : ℕ} {p : Parts} {firsts : List ℕ} (held : IsHeldIn h frees p firsts) (n number : ℕ) (few : n ≤ 16368)
+module _ {h : Heap} {frees : ℕ} {p : Parts} {counters : List ℕ} (held : IsHeldIn h frees p counters) (n number : ℕ) (few : n ≤ 16368)
     (numbered : class_number_for h.layout.classes n ≡ Some number) (within : number < length h.layout.classes) where
   listed : slice_get h.layout.classes number ≡ Some (slice_index h.layout.classes number)
   listed = slice_get-get_or h.layout.classes number 0 within
@@ -114,9 +115,9 @@ module _ {h : Heap} {frees : ℕ} {p : Parts} {firsts : List ℕ} (held : IsHeld
       }
 
   -- the front of the class's list is taken, or where the list is empty the lowest fresh slot
-  pub taken : {m1 : List Granule} {fronts' firsts' : List ℕ} (s : ℕ) →
-      Takes h.layout p.memory m1 p.fronts fronts' firsts firsts' number (Some s) → IsMemory m1 →
-      IsTaken h p held.kept m1 fronts' firsts' s n
+  pub taken : {m1 : List Granule} {fronts' counters' : List ℕ} (s : ℕ) →
+      Takes h.layout p.memory m1 p.fronts fronts' counters counters' number (Some s) → IsMemory m1 →
+      IsTaken h p held.kept m1 fronts' counters' s n
   unfolding given_out
   taken s (inl t) is =
       let k = held.kept in
@@ -137,20 +138,20 @@ module _ {h : Heap} {frees : ℕ} {p : Parts} {firsts : List ℕ} (held : IsHeld
         listed = subst (λ x. AreListed (next_in (region_of h.layout p.memory)) x (slice_set k.lists number first.0)) (sym t.fronts_are)
             (other_list k.listed number (next_in (region_of h.layout p.memory) s) first.0 (within_lists k number within) first.2);
         booked = laws.front_taken h k.queue k.lists number _ s n first.0 k.sound booked listed first.1;
-        fresh = subst (AreFirstFresh (given_out h s n)) (sym t.firsts_are)
-            (firsts_changed h s (Live n (next_tag h s)) _ _ _ _ (within_states k s freed.in_range)
+        fresh = subst (AreFirstFresh (given_out h s n)) (sym t.counters_are)
+            (counters_changed h s (Live n (next_tag h s)) _ _ _ _ (within_states k s freed.in_range)
             (freed_not_fresh (state_at h s) freed.mark freed.marked) held.fresh);
       }
   taken s (inr t) is =
       let k = held.kept in
-      let below : slice_index firsts number < first_slot h.layout (number + 1) = omega (arith, t.counter, t.below) in
+      let below : slice_index counters number < first_slot h.layout (number + 1) = omega (arith, t.counter, t.below) in
       let own =
       subst (λ x. IsSlot h x × ((slot_in h x).class ≡ slice_index h.layout.classes number) × (is_fresh (state_at h x) ≡ true))
       (sym t.counter)
-      (counted h k.sound firsts held.fresh number within below) in
+      (counted h k.sound counters held.fresh number within below) in
       let none = none_of (next_in (region_of h.layout p.memory)) (slice_index p.fronts number) (list_of k.lists number) linked t.empty in
       let lowest : lowest_fresh h (slice_index h.layout.classes number) ≡ Some s =
-      lowest_counted h k.sound firsts held.fresh number within below ∙ ap Some (sym t.counter) in
+      lowest_counted h k.sound counters held.fresh number within below ∙ ap Some (sym t.counter) in
       let request : slot_for_request h n ≡ Ok s =
       request_served h n number _ (Some s) few numbered listed
       (laws.fresh_given h k.queue k.lists number _ k.sound booked listed none ∙ lowest) in
@@ -170,13 +171,13 @@ module _ {h : Heap} {frees : ℕ} {p : Parts} {firsts : List ℕ} (held : IsHeld
         lists = k.lists;
         listed = subst (λ x. AreListed (next_in (region_of h.layout p.memory)) x k.lists) (sym t.fronts_are) k.listed;
         booked = laws.fresh_taken h k.queue k.lists s n k.sound booked own.0 own.2;
-        fresh = subst (AreFirstFresh (given_out h s n)) (sym t.firsts_are)
-            (firsts_step h k.sound firsts held.fresh number within s (Live n (next_tag h s)) _ _ _ _ (within_states k s own.0) t.counter
+        fresh = subst (AreFirstFresh (given_out h s n)) (sym t.counters_are)
+            (counters_step h k.sound counters held.fresh number within s (Live n (next_tag h s)) _ _ _ _ (within_states k s own.0) t.counter
             t.below refl);
       }
 
   -- it is one of the class's slots
-  pub taken_class : {m1 : List Granule} {fronts' firsts' : List ℕ} (s : ℕ) → IsTaken h p held.kept m1 fronts' firsts' s n →
+  pub taken_class : {m1 : List Granule} {fronts' counters' : List ℕ} (s : ℕ) → IsTaken h p held.kept m1 fronts' counters' s n →
       IsClassOf h.layout s number
   taken_class s t =
       let found = sym t.given.class ∙ laws.class_by_number n h.layout.classes
@@ -185,35 +186,36 @@ module _ {h : Heap} {frees : ℕ} {p : Parts} {firsts : List ℕ} (held : IsHeld
       share_of_slot h.layout number s held.kept.sound.region.table within t.given.reusable.in_range class
 
   -- neither is there
-  pub exhausted : {m1 : List Granule} {fronts' firsts' : List ℕ} → Takes h.layout p.memory m1 p.fronts fronts' firsts firsts' number None →
+  pub exhausted : {m1 : List Granule} {fronts' counters' : List ℕ} →
+      Takes h.layout p.memory m1 p.fronts fronts' counters counters' number None →
       slot_for_request h n ≡ Err Exhausted
   exhausted t =
       let k = held.kept in
       let none = none_of (next_in (region_of h.layout p.memory)) (slice_index p.fronts number) (list_of k.lists number) linked t.empty in
       request_served h n number _ None few numbered listed
       (laws.fresh_given h k.queue k.lists number _ k.sound booked listed none
-      ∙ lowest_none h k.sound firsts held.fresh number within (omega (arith, t.counter)))
+      ∙ lowest_none h k.sound counters held.fresh number within (omega (arith, t.counter)))
 
-pub has_class : {h : Heap} {frees : ℕ} {p : Parts} {firsts : List ℕ} → IsHeldIn h frees p firsts → (number : ℕ) →
-    number < length h.layout.classes → HasClass h.layout p.memory p.fronts firsts number
-has_class {h} {frees} {p} {firsts} held number within =
+pub has_class : {h : Heap} {frees : ℕ} {p : Parts} {counters : List ℕ} → IsHeldIn h frees p counters → (number : ℕ) →
+    number < length h.layout.classes → HasClass h.layout p.memory p.fronts counters number
+has_class {h} {frees} {p} {counters} held number within =
     let k = held.kept in
-    let in_firsts : number < length firsts = subst (λ k. number < k) (sym held.fresh.long) within in
+    let in_counters : number < length counters = subst (λ k. number < k) (sym held.fresh.long) within in
     record {
       class = within;
       in_fronts = subst (λ n. number < n) (sym k.listed.long) (within_lists k number within);
       front = front_few k number (within_lists k number within);
-      in_firsts = in_firsts;
-      counter = held.fresh.to number in_firsts;
+      in_counters = in_counters;
+      counter = held.fresh.to number in_counters;
       region = region_is k;
       memory_is = k.memory_is;
     }
 
 -- ---- and is given out
 
-module _ {h : Heap} {frees : ℕ} {p : Parts} {firsts : List ℕ} (held : IsHeldIn h frees p firsts) {m1 : List Granule}
-    {fronts firsts' : List ℕ} {s n : ℕ}
-    (t : IsTaken h p held.kept m1 fronts firsts' s n) where
+module _ {h : Heap} {frees : ℕ} {p : Parts} {counters : List ℕ} (held : IsHeldIn h frees p counters) {m1 : List Granule}
+    {fronts counters' : List ℕ} {s n : ℕ}
+    (t : IsTaken h p held.kept m1 fronts counters' s n) where
   pub taken_room : n ≤ 16368 → HasRoom h.layout m1 s n
   taken_room few = record {
     slot = t.given.reusable.in_range;
@@ -240,7 +242,7 @@ module _ {h : Heap} {frees : ℕ} {p : Parts} {firsts : List ℕ} (held : IsHeld
       }
 
   module _ (machine : Machine) (given : IsGivenBy machine) (memory : IsMemory machine.memory) where
-    pub given_held : IsHeldIn (given_out h s n) frees (record p { memory = machine.memory; fronts = fronts }) firsts'
+    pub given_held : IsHeldIn (given_out h s n) frees (record p { memory = machine.memory; fronts = fronts }) counters'
     unfolding given_out
     given_held =
         let k = held.kept in

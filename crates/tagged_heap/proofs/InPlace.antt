@@ -11,11 +11,11 @@ use Rattle.tagged_heap.proofs.TheoryLemmas as laws
 use Rattle.tagged_heap.specs.Representation.{header_from, Parts}
 use Rattle.heap_theory.specs.Region.{region_of, header_in}
 use Rattle.tagged_heap.specs.HeapView.{shown_heap, IsHeldIn}
-use Rattle.tagged_heap.proofs.Changed.{firsts_changed, kept_alive, alive_memory}
+use Rattle.tagged_heap.proofs.Changed.{counters_changed, kept_alive, alive_memory}
 use Rattle.tagged_heap.proofs.Kept.{within_states, booked_at_rest, shown_is}
 
-module _ {h : Heap} {frees : ℕ} {p : Parts} {firsts : List ℕ} (held : IsHeldIn h frees p firsts) (s size tag n : ℕ) (in_range : IsSlot h s)
-    (live : state_at h s ≡ Live size tag)
+module _ {h : Heap} {frees : ℕ} {p : Parts} {counters : List ℕ} (held : IsHeldIn h frees p counters) (s size tag n : ℕ)
+    (in_range : IsSlot h s) (live : state_at h s ≡ Live size tag)
     (room : chunk_granules n < (slot_in h s).class) where
   header_is : record (header_in (region_of h.layout p.memory) s) { size = n }
       ≡ header_from h.layout held.kept.from s (Live n (last_tag (state_at h s))) 0
@@ -37,7 +37,7 @@ module _ {h : Heap} {frees : ℕ} {p : Parts} {firsts : List ℕ} (held : IsHeld
       }
 
   module _ (machine : Machine) (is : IsResizedBy machine) (memory : IsMemory machine.memory) where
-    pub resized_held : IsHeldIn (resized h s n) frees (record p { memory = machine.memory }) firsts
+    pub resized_held : IsHeldIn (resized h s n) frees (record p { memory = machine.memory }) counters
     unfolding resized
     resized_held =
         let k = held.kept in
@@ -51,7 +51,7 @@ module _ {h : Heap} {frees : ℕ} {p : Parts} {firsts : List ℕ} (held : IsHeld
               (record { own = refl; others = λ r inside other. refl; seen_is = k.seen }) k.memory_is header_is
               (ap (λ (x : Header). x.tag) (k.headers.headers s in_range)) (ap (λ (x : Machine). x.memory) is)) memory;
           rests = held.rests;
-          fresh = firsts_changed h s (Live n last) _ _ _ _ (within_states k s in_range) (sym (ap is_fresh live)) held.fresh;
+          fresh = counters_changed h s (Live n last) _ _ _ _ (within_states k s in_range) (sym (ap is_fresh live)) held.fresh;
           total = held.total;
           fits = held.fits;
         }

@@ -7,13 +7,13 @@ pub mod CallSteps
 pub mod ClassSteps
 pub mod Kept
 pub mod Changed
-pub mod Firsts
+pub mod Counters
 pub mod Giving
 pub mod InPlace
 pub mod ReleasingOldest
 pub mod TakingBack
 pub mod FirstHeld
 pub mod PayloadWritten
-pub mod AccessSteps
+pub mod GranuleKinds
 pub mod NamedChunks
 pub mod TagsOfChunks

@@ -15,7 +15,7 @@ use Rattle.machine_theory.specs.Memory.{Granule, IsGranule, IsMemory, no_granule
 use Rattle.class_table.specs.Layout.{Partition, Slot, AreInOrder, end_of, no_slot, slots_of, slot_count, slot_of}
 use Rattle.heap_theory.specs.Calls.{with_payload}
 use Rattle.heap_theory.specs.Region.{Region, region_of, header_in, headers_of, next_in}
-use Rattle.heap_theory.specs.State.{Heap, slot_in, state_at, payload_start, is_header, without_headers, IsSlot}
+use Rattle.heap_theory.specs.State.{Heap, state_at, payload_start, is_header, without_headers}
 use Rattle.heap_theory.proofs.Regions.{region_of-written, start_is_header}
 use Rattle.heap_theory.proofs.SeenMemory.{length-without_headers}
 use Rattle.tagged_heap.proofs.TheoryLemmas as laws
@@ -32,7 +32,7 @@ AreOutsideHeaders layout i bytes =
 
 -- ---- a heap stays kept
 
-module _ {h : Heap} {frees : ℕ} {p : Parts} {firsts : List ℕ} (held : IsHeldIn h frees p firsts) {new : List Granule} (i : ℕ)
+module _ {h : Heap} {frees : ℕ} {p : Parts} {counters : List ℕ} (held : IsHeldIn h frees p counters) {new : List Granule} (i : ℕ)
     (bytes : List ℕ) (is : new ≡ written i bytes p.memory)
     (outside : AreOutsideHeaders h.layout i bytes) (fit : All (λ b. b < 256) bytes) where
   same : region_of h.layout (written i bytes p.memory)
@@ -70,7 +70,7 @@ module _ {h : Heap} {frees : ℕ} {p : Parts} {firsts : List ℕ} (held : IsHeld
         limit = k.limit;
       }
 
-  pub written_held : IsHeldIn (record h { memory = written i bytes h.memory }) frees (record p { memory = new }) firsts
+  pub written_held : IsHeldIn (record h { memory = written i bytes h.memory }) frees (record p { memory = new }) counters
   written_held = record {
     kept = subst (λ memory. IsKept (record h { memory = written i bytes h.memory }) (record p { memory = memory })) (sym is) kept_written;
     rests = held.rests;
@@ -101,17 +101,26 @@ payload_outside layout s bytes order in_s room r in_r =
       | inr (inr more) ↦ inl (omega (arith, order.apart s r more in_r))
     ]
 
-module _ {h : Heap} {frees : ℕ} {p : Parts} {firsts : List ℕ} (held : IsHeldIn h frees p firsts) {new : List Granule} (s : ℕ)
-    (bytes : List ℕ)
-    (in_range : IsSlot h s) (room : length bytes + 16 ≤ 16 * (slot_in h s).class) (fit : All (λ b. b < 256) bytes)
-    (is : new ≡ written (16 * payload_start (slot_in h s)) bytes p.memory) where
-  pub payload_held : IsHeldIn (with_payload h s bytes) frees (record p { memory = new }) firsts
+-- A memory in which the payload of a slot begins with these bytes, and which is else as another: they fit in.
+pub record HasPayload (layout : Partition) (memory new : List Granule) (s : ℕ) (bytes : List ℕ) : Type 0 where
+  pub in_range : s < slot_count layout
+  pub room : length bytes + 16 ≤ 16 * (slot_of layout s).class
+  pub fit : All (λ b. b < 256) bytes
+  pub written_is : new ≡ written (16 * payload_start (slot_of layout s)) bytes memory
+
+module _ {h : Heap} {frees : ℕ} {p : Parts} {counters : List ℕ} (held : IsHeldIn h frees p counters) {new : List Granule} {s : ℕ}
+    {bytes : List ℕ} (has : HasPayload h.layout p.memory new s bytes) where
+  payload_held : IsHeldIn (with_payload h s bytes) frees (record p { memory = new }) counters
   unfolding with_payload
-  payload_held = written_held held _ bytes is (payload_outside h.layout s bytes held.kept.sound.slots in_range room) fit
+  payload_held =
+      written_held held _ bytes has.written_is (payload_outside h.layout s bytes held.kept.sound.slots has.in_range has.room) has.fit
 
   pub payload_shown : shown_heap h.layout p.quarantine.limit new h.total h.seed h.tag ≡ with_payload h s bytes
   unfolding with_payload
   payload_shown = shown_is payload_held.kept h.total h.seed h.tag refl refl refl
+
+  pub payload_kept : IsHeldIn (shown_heap h.layout p.quarantine.limit new h.total h.seed h.tag) frees (record p { memory = new }) counters
+  payload_kept = subst (λ x. IsHeldIn x frees (record p { memory = new }) counters) (sym payload_shown) payload_held
 
 header_starts : (layout : Partition) (g : ℕ) → is_header layout g ≡ true →
     (r : ℕ) × (r < slot_count layout) × ((slot_of layout r).start ≡ g)

@@ -16,7 +16,7 @@ use Rattle.heap_theory.proofs.Found.{Contains-cases}
 use Rattle.heap_theory.proofs.Marks.{one_mark, not_marked, chain_dead, chain_mark}
 use Rattle.quarantine_core.specs.Queue.{Queue, AreQueued, TakesOldest}
 use Rattle.tagged_heap.proofs.TheoryLemmas as laws
-use Rattle.tagged_heap.specs.Chunks.{HasFront}
+use Rattle.tagged_heap.specs.ClassSlots.{HasFront}
 use Rattle.tagged_heap.specs.Representation.{standing_from, header_from, IsRewritten, AreListed, Parts, IsKept}
 use Rattle.tagged_heap.proofs.Changed.{with_link, with_standing, listed_same, other_list}
 use Rattle.tagged_heap.proofs.HeaderPlaces.{link_set}

@@ -24,11 +24,11 @@ use Rattle.tagged_heap.proofs.TheoryLemmas as laws
 use Rattle.tagged_heap.specs.Chunks.{HasRoom, retired_header, tag_for}
 use Rattle.tagged_heap.specs.Representation.{standing_from, header_from, IsRewritten, Parts, IsKept}
 use Rattle.tagged_heap.specs.HeapView.{shown_heap, IsHeldIn}
-use Rattle.tagged_heap.proofs.Changed.{with_link, listed_same, state_here, headers_changed, firsts_changed}
+use Rattle.tagged_heap.proofs.Changed.{with_link, listed_same, state_here, headers_changed, counters_changed}
 use Rattle.tagged_heap.proofs.HeaderPlaces.{link_set, then_tagged, written_header}
 use Rattle.tagged_heap.proofs.Kept.{class_most, size_most, header_fits, region_is, within_states, bytes_from, queue_slot, list_slot, has_room, booked_at_rest, shown_is}
 
-module _ {h : Heap} {frees : ℕ} {p : Parts} {firsts : List ℕ} (held : IsHeldIn h frees p firsts) (s n tag : ℕ) (in_range : IsSlot h s)
+module _ {h : Heap} {frees : ℕ} {p : Parts} {counters : List ℕ} (held : IsHeldIn h frees p counters) (s n tag : ℕ) (in_range : IsSlot h s)
     (live : state_at h s ≡ Live n tag) where
   -- ---- the slot
 
@@ -210,12 +210,12 @@ module _ {h : Heap} {frees : ℕ} {p : Parts} {firsts : List ℕ} (held : IsHeld
     -- ---- the quarantine has let go what it had too much
 
     pub freed_held : {after : Parts} → IsKept (freed h s n) after → after.quarantine.held ≤ after.quarantine.limit →
-        IsHeldIn (freed h s n) (frees + 1) after firsts
+        IsHeldIn (freed h s n) (frees + 1) after counters
     unfolding freed
     freed_held kept rests = record {
       kept = kept;
       rests = rests;
-      fresh = firsts_changed h s dead _ _ _ _ (within_states held.kept s in_range) (sym (ap is_fresh live)) held.fresh;
+      fresh = counters_changed h s dead _ _ _ _ (within_states held.kept s in_range) (sym (ap is_fresh live)) held.fresh;
       total = omega (arith, held.total, class_most h s held.kept.sound in_range);
       fits = total_after;
     }

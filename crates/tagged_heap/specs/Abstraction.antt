@@ -15,4 +15,4 @@ abbrev pub parts_of : Inside → Parts
 parts_of heap = record { memory = heap.machine.memory; quarantine = heap.quarantine; fronts = heap.lists }
 
 abbrev pub IsHeld : Inside → Type 0
-IsHeld heap = IsHeldIn (state_of heap) heap.frees (parts_of heap) heap.firsts.items
+IsHeld heap = IsHeldIn (state_of heap) heap.frees (parts_of heap) heap.counters.items

@@ -29,9 +29,9 @@ shown_heap layout quarantine memory total seed tag = record {
 
 -- What the parts of a heap keep: its state is in them, the quarantine holds no more than its limit, the counters show the
 -- fresh slots, and each free added a block to the total.
-pub record IsHeldIn (heap : Heap) (frees : ℕ) (parts : Parts) (firsts : List ℕ) : Type 0 where
+pub record IsHeldIn (heap : Heap) (frees : ℕ) (parts : Parts) (counters : List ℕ) : Type 0 where
   pub kept : IsKept heap parts
   pub rests : parts.quarantine.held ≤ parts.quarantine.limit
-  pub fresh : AreFirstFresh heap firsts
+  pub fresh : AreFirstFresh heap counters
   pub total : heap.total ≤ 16384 * frees
   pub fits : heap.total < 2 ^ 64

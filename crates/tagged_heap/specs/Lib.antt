@@ -1,5 +1,6 @@
 pub mod Config
 pub mod Chunks
+pub mod ClassSlots
 pub mod Representation
 pub mod HeapView
 pub mod Abstraction

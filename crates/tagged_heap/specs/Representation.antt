@@ -80,11 +80,13 @@ abbrev pub SomeIsKept : Partition → Parts → Type 0
 SomeIsKept layout parts = (heap : Heap) × IsKept (record heap { layout = layout }) parts
 
 -- For each class a number of a slot: those slots of the class that are below it were given out, and the others never.
-pub record AreFirstFresh (heap : Heap) (firsts : List ℕ) : Type 0 where
-  pub long : length firsts ≡ length heap.layout.classes
-  pub from : (number : ℕ) → number < length firsts → first_slot heap.layout number ≤ slice_index firsts number
-  pub to : (number : ℕ) → number < length firsts → slice_index firsts number ≤ first_slot heap.layout (number + 1)
-  pub given : (number s : ℕ) → number < length firsts → IsSlot heap s →
-      (slot_in heap s).class ≡ slice_index heap.layout.classes number → s < slice_index firsts number → IsFalse (is_fresh (state_at heap s))
-  pub fresh : (number s : ℕ) → number < length firsts → IsSlot heap s →
-      (slot_in heap s).class ≡ slice_index heap.layout.classes number → slice_index firsts number ≤ s → IsTrue (is_fresh (state_at heap s))
+pub record AreFirstFresh (heap : Heap) (counters : List ℕ) : Type 0 where
+  pub long : length counters ≡ length heap.layout.classes
+  pub from : (number : ℕ) → number < length counters → first_slot heap.layout number ≤ slice_index counters number
+  pub to : (number : ℕ) → number < length counters → slice_index counters number ≤ first_slot heap.layout (number + 1)
+  pub given : (number s : ℕ) → number < length counters → IsSlot heap s →
+      (slot_in heap s).class ≡ slice_index heap.layout.classes number → s < slice_index counters number →
+      IsFalse (is_fresh (state_at heap s))
+  pub fresh : (number s : ℕ) → number < length counters → IsSlot heap s →
+      (slot_in heap s).class ≡ slice_index heap.layout.classes number → slice_index counters number ≤ s →
+      IsTrue (is_fresh (state_at heap s))

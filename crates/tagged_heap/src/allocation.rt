@@ -5,20 +5,20 @@ ghost use Rattle.class_table.specs.Tables.{class_number_for};
 ghost use Rattle.heap_theory.specs.Choice.{slot_for_request};
 ghost use Rattle.heap_theory.specs.Sound.{IsSoundHeap};
 ghost use Rattle.heap_theory.specs.State.{chunk_granules, pointer_to, slot_in, IsSlot};
-ghost use Rattle.tagged_heap.specs.Chunks.{IsCauseFor};
+ghost use Rattle.tagged_heap.specs.ClassSlots.{IsCauseFor};
 ghost use Rattle.std.specs.Result.{result_map_both};
 ghost use Rattle.std.specs.Prelude.{◌≡◌, ◌↔◌, ◌*◌, ◌<◌, ◌≤◌, length, replicate, IfErr, IfOk, OnErr};
 
 use crate::bytes::zero;
-use crate::chunks::give_out;
 use crate::heap::Heap;
 use crate::next_slot::take_slot;
+use crate::slot_changes::give_out;
 use crate::tags::chunk_granules;
 use class_table::{GRANULE_BYTES, LARGEST_COUNTED, Layout};
 use heap_theory::NullCause;
 
 /// The number of the class that serves a request of `n` bytes, or why none does.
-pub(crate) fn class_for(layout: &Layout, n: u32) -> Result<usize, NullCause>
+pub(crate) fn class_number_for(layout: &Layout, n: u32) -> Result<usize, NullCause>
     ensures ok { IfOk result
         (λ number. (n ≤ largest_counted) × (class_number_for layout.now.classes n ≡ Some number)) }
     ensures within { IfOk result (λ number. number < length layout.now.classes) }
@@ -80,17 +80,17 @@ impl Heap {
         ensures in_range { IfOk result (λ given. IsSlot self.old.state given.slot) }
         ensures sound { IsSoundHeap self.old.state }
     {
-        let class = class_for(&self.layout, n)?;
+        let number = class_number_for(&self.layout, n)?;
         let memory = self.machine.memory_mut();
         let slot = take_slot(
             memory,
             &self.layout,
             &mut self.lists,
-            &mut self.firsts,
-            class,
+            &mut self.counters,
+            number,
         )
         .ok_or(NullCause::Exhausted)?;
-        let place = self.layout.slot_of_class(class, slot);
+        let place = self.layout.slot_of_class(number, slot);
         let address = give_out(&mut self.machine, &self.layout, slot, place, n);
         Ok(Given {
             slot,

@@ -8,14 +8,15 @@ ghost use Rattle.heap_theory.specs.Sound.{IsSoundHeap};
 ghost use Rattle.heap_theory.specs.State.{without_headers, Heap as TheHeap};
 ghost use Rattle.machine_theory.specs.Memory.{IsMemory};
 ghost use Rattle.std.specs.Prelude.{◌≡◌, ◌≢◌, ◌↔◌, ◌+◌, ◌^◌, ◌<◌, ◌≤◌, length, slice_index, slice_set, IfErr, IfOk, Ok, OnErr, OnOk, ℕ};
-ghost use Rattle.tagged_heap.specs.Chunks.{IsChunk, HasFront};
+ghost use Rattle.tagged_heap.specs.Chunks.{IsChunk};
+ghost use Rattle.tagged_heap.specs.ClassSlots.{HasFront};
 ghost use Rattle.tagged_heap.specs.Representation.{IsKept, IsRewritten, SomeIsKept};
 ghost use Rattle.heap_theory.specs.Region.{region_of, header_in};
 
-use crate::chunks::retire;
 use crate::headers::header;
 use crate::heap::Heap;
 use crate::pointers::slot_of_pointer;
+use crate::slot_changes::retire;
 use chunk_header::{Header, State, write};
 use class_lists::ClassLists;
 use class_table::{GRANULE_BYTES, Layout, Slot};

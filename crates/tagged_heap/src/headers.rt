@@ -6,10 +6,10 @@ ghost use Rattle.heap_theory.specs.Header.{FitsWords};
 ghost use Rattle.std.specs.Prelude.{◌≡◌, ◌<◌, length};
 
 use chunk_header::{Header, read};
-use class_table::{Layout, MOST_CLASSES};
+use class_table::{FEWEST_GRANULES, Layout, MOST_CLASSES};
 use granule_memory::Memory;
 
-/// The header of a slot, which begins at this granule.
+/// The header of a slot, which begins at this granule. The contract alone needs the slot's number.
 pub(crate) fn header(memory: &Memory, layout: &Layout, _slot: u32, start: u32) -> Header
     requires slot { _slot < slot_count layout.now }
     requires start { start ≡ (slot_of layout.now _slot).start }
@@ -18,7 +18,7 @@ pub(crate) fn header(memory: &Memory, layout: &Layout, _slot: u32, start: u32) -
     ensures header { seen result ≡ header_in (region_of layout.now memory.now) _slot }
     ensures fits { FitsWords (seen result) }
 {
-    // called for its contract: the proof needs `IsPartition` of the layout
-    layout.granules();
+    // the contract of `granules` gives the proof that the layout is a partition
+    prove!(layout.granules() >= FEWEST_GRANULES);
     read(memory, start)
 }

@@ -5,7 +5,7 @@ ghost use Rattle.machine_theory.specs.Instructions.{addg, subg};
 ghost use Rattle.tagged_heap.specs.Config.{IsConfig};
 ghost use Rattle.std.specs.Prelude.{◌≡◌, ◌≤◌, IfOk};
 
-use crate::fresh::{first_slots, write_fresh_headers};
+use crate::new_heap::{first_slots, write_fresh_headers};
 use arrayvec::ArrayVec;
 use class_lists::ClassLists;
 use class_table::{ClassTable, Layout, MOST_CLASSES};
@@ -47,7 +47,7 @@ pub struct Heap {
     // the released slots of each class
     pub(crate) lists: ClassLists,
     // for each class the first of its slots that was never given out
-    pub(crate) firsts: ArrayVec<u32, MOST_CLASSES>,
+    pub(crate) counters: ArrayVec<u32, MOST_CLASSES>,
     // the bytes of all blocks that were freed
     pub(crate) total: u64,
     // how many chunks were freed
@@ -81,13 +81,13 @@ impl Heap {
         write_fresh_headers(&mut memory, &layout);
         let lists = ClassLists::new(&layout);
         let quarantine = Quarantine::new(&layout, config.quarantine);
-        let firsts = first_slots(&layout);
+        let counters = first_slots(&layout);
         Ok(Heap {
             machine: Machine::new(memory, config.seed),
             layout,
             quarantine,
             lists,
-            firsts,
+            counters,
             total: 0,
             frees: 0,
         })

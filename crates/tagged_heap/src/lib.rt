@@ -7,15 +7,15 @@
 mod access;
 mod allocation;
 mod bytes;
-mod chunks;
 mod freeing;
-mod fresh;
 mod headers;
 mod heap;
 pub mod laws;
+mod new_heap;
 mod next_slot;
 mod pointers;
 mod resizing;
+mod slot_changes;
 mod tags;
 
 pub use heap::{Config, Heap};

@@ -8,11 +8,11 @@ ghost use Rattle.std.specs.Prelude.{◌≡◌, ◌↔◌, ◌+◌, ◌*◌, ◌^
 ghost use Rattle.tagged_heap.specs.Chunks.{IsChunk};
 ghost use Rattle.tagged_heap.specs.Frees.{frees_of_realloc};
 
-use crate::allocation::{Given, class_for};
+use crate::allocation::{Given, class_number_for};
 use crate::bytes::copy;
-use crate::chunks::resize;
 use crate::freeing::Chunk;
 use crate::heap::Heap;
+use crate::slot_changes::resize;
 use class_table::GRANULE_BYTES;
 use heap_theory::{NullCause, ReallocError};
 
@@ -72,7 +72,7 @@ impl Heap {
         ensures size { IsTrue result → n ≤ largest_counted }
         ensures room { IsTrue result → chunk_granules n < (slot_in self.now.state chunk.slot).class }
     {
-        class_for(&self.layout, n) == Ok(chunk.number)
+        class_number_for(&self.layout, n) == Ok(chunk.number)
     }
 
     // Gives a live chunk n bytes, for which its slot has room.

@@ -1,10 +1,10 @@
 -- From an event to its line: the event is read from it.
-use Rattle.std.proofs.Common.{◌≡◌, ℕ, suc, ◌+◌, ◌<◌, ◌≤◌, ◌^◌, true, false, leb, eqb, List, [], ◌∷◌, length, Ok, refl, ap, ◌∙◌, arith, ℤ, pos, negsuc, nat_abs, ne_eqb, length-append}
+use Rattle.std.proofs.Common.{◌≡◌, ℕ, suc, ◌+◌, ◌<◌, ◌≤◌, ◌^◌, true, false, leb, List, [], ◌∷◌, length, Ok, refl, ap, ◌∙◌, arith, ℤ, pos, negsuc, nat_abs, ne_eqb, length-append}
 use Rattle.std.specs.Fmt.{decimal, signed_decimal}
 use Rattle.std.specs.Prelude.{codes, All}
 use Rattle.std.specs.List.{list_all}
 use Rattle.std.proofs.lemmas.Bool.{le-leb, le-ltb, leb-true}
-use Rattle.std.proofs.lemmas.Fmt.{decimal_nonempty, length-decimal-le}
+use Rattle.std.proofs.lemmas.Fmt.{length-decimal-le}
 use Rattle.std.proofs.lemmas.List.Elements.{All-nil, All-cons}
 use Rattle.line_text.proofs.LawLemmas.{spelled_hex_is_a_word, spelled_hex_is_read, spelled_number_is_a_word, spelled_number_is_read, spelled_signed_is_a_word, spelled_signed_is_read, words_make_a_line, written_words_are_read}
 use Rattle.line_text.specs.Hexadecimal.{hex}
@@ -12,9 +12,11 @@ use Rattle.line_text.specs.Lines.{words, line_of, is_newline, is_space, IsLine, 
 use Rattle.heap_theory.specs.declared.event.Event.{Event}
 use Rattle.heap_theory.specs.declared.event.Event.TheVariants.{Malloc, Calloc, Realloc, Free, Load, Store, Addg, Subg}
 use Rattle.heap_theory.specs.Ranges.{IsInRange}
-use Rattle.trace_reader.specs.TraceLine.{number_from, offset_of, byte_of, event_line, event_of_words, event_of_line, event_words, move_words, request_words}
+use Rattle.trace_reader.specs.Spelled.{AreRead, IsRead}
+use Rattle.trace_reader.specs.TraceLine.{number_from, offset_of, byte_of, event_line, event_of_words, event_of_line, event_words, move_of, move_words, request_of, request_words}
 use Rattle.trace_reader.proofs.LineRanges.{both_pass}
 use Rattle.trace_reader.proofs.Offsets.{fits_signed}
+use Rattle.trace_reader.proofs.SpelledWords.{named_words, request_read, free_read, load_read, store_read, move_read, malloc, calloc, realloc, free, load, store, addg, subg}
 
 -- ---- words
 
@@ -75,83 +77,52 @@ event_texts (Subg v w u6 u4) is = move_texts (codes "subg") v w u6 u4 (letters (
 
 -- ---- what the words say
 
-full_number : (n : ℕ) → n < 2 ^ 64 → eqb (length (decimal n)) 0 ≡ false
-full_number n small = ne_eqb (length (decimal n)) 0 (λ none. omega (arith, decimal_nonempty n small, none))
+a_number : {others : List (List ℕ)} (low high n : ℕ) → low ≤ n → n ≤ high → high < 2 ^ 64
+    → IsRead (number_from low high) (decimal n ∷ others) others n
+a_number {others} low high n above below small = record {
+  word = decimal n;
+  words = refl;
+  is = rw (spelled_number_is_read n (omega (arith, below, small)), le-leb low n above, le-leb n high below) refl;
+}
 
-full_offset : (z : ℤ) → nat_abs z ≤ 1048576 → eqb (length (signed_decimal z)) 0 ≡ false
-full_offset (pos n) near = full_number n (omega (arith, near))
-full_offset (negsuc n) near = ne_eqb (length (signed_decimal (negsuc n))) 0 (λ none. omega (arith, none))
+a_variable : {others : List (List ℕ)} (v : ℕ) → v ≤ 1023 → IsRead (number_from 0 1023) (decimal v ∷ others) others v
+a_variable {others} v v_in = a_number 0 1023 v (omega arith) v_in (omega arith)
 
-number_read : (low high n : ℕ) → low ≤ n → n ≤ high → high < 2 ^ 64 → number_from low high (decimal n) ≡ Ok n
-number_read low high n above below small =
-    rw (spelled_number_is_read n (omega (arith, below, small)), le-leb low n above, le-leb n high below) refl
+an_offset : {others : List (List ℕ)} (z : ℤ) → nat_abs z ≤ 1048576 → IsRead offset_of (signed_decimal z ∷ others) others z
+an_offset {others} z near = record {
+  word = signed_decimal z;
+  words = refl;
+  is = rw (spelled_signed_is_read z (fits_signed z near), le-leb (nat_abs z) 1048576 near) refl;
+}
 
-variable_read : (v : ℕ) → v ≤ 1023 → number_from 0 1023 (decimal v) ≡ Ok v
-variable_read v v_in = number_read 0 1023 v (omega arith) (omega (arith, v_in)) (omega arith)
+a_byte : {others : List (List ℕ)} (n : ℕ) → n < 2 ^ 8 → IsRead byte_of (hex n ∷ others) others n
+a_byte {others} n small = record { word = hex n; words = refl; is = rw (spelled_hex_is_read n small) refl }
 
-size_read : (n : ℕ) → n ≤ 2147483647 → number_from 0 2147483647 (decimal n) ≡ Ok n
-size_read n n_in = number_read 0 2147483647 n (omega arith) (omega (arith, n_in)) (omega arith)
+requested : (v n : ℕ) (event : ℕ → ℕ → Event) → v ≤ 1023 → n ≤ 2147483647
+    → AreRead (request_of event) (decimal v ∷ decimal n ∷ []) (event v n)
+requested v n event v_in n_in =
+    request_read _ _ [] v n event (a_variable v v_in) (a_number 0 2147483647 n (omega arith) n_in (omega arith)) refl
 
-offset_read : (z : ℤ) → nat_abs z ≤ 1048576 → offset_of (signed_decimal z) ≡ Ok z
-offset_read z near = rw (spelled_signed_is_read z (fits_signed z near), le-leb (nat_abs z) 1048576 near) refl
-
-byte_read : (n : ℕ) → n < 2 ^ 8 → byte_of (hex n) ≡ Ok n
-byte_read n small = rw (spelled_hex_is_read n small) refl
+moved : (v w u6 u4 : ℕ) (event : ℕ → ℕ → ℕ → ℕ → Event) → v ≤ 1023 → w ≤ 1023 → u6 ≤ 63 → u4 ≤ 15
+    → AreRead (move_of event) (decimal v ∷ decimal w ∷ decimal u6 ∷ decimal u4 ∷ []) (event v w u6 u4)
+moved v w u6 u4 event v_in w_in u6_in u4_in =
+    move_read _ _ _ _ [] v w u6 u4 event (a_variable v v_in) (a_variable w w_in) (a_number 0 63 u6 (omega arith) u6_in (omega arith))
+    (a_number 0 15 u4 (omega arith) u4_in (omega arith)) refl
 
 event_read : (event : Event) → IsInRange event → event_of_words (event_words event) ≡ Ok event
-unfolding event_of_words
-event_read (Malloc v n) is =
-    rw (full_number v (omega (arith, is.0)), full_number n (omega (arith, is.1)), variable_read v is.0, size_read n is.1) refl
-event_read (Calloc v n) is =
-    rw (full_number v (omega (arith, is.0)), full_number n (omega (arith, is.1)), variable_read v is.0, size_read n is.1) refl
-event_read (Realloc v n) is =
-    rw (full_number v (omega (arith, is.0)), full_number n (omega (arith, is.1)), variable_read v is.0, size_read n is.1) refl
-event_read (Free v) is = rw (full_number v (omega (arith, is)), variable_read v is) refl
+event_read (Malloc v n) is = named_words malloc (requested v n Malloc is.0 is.1)
+event_read (Calloc v n) is = named_words calloc (requested v n Calloc is.0 is.1)
+event_read (Realloc v n) is = named_words realloc (requested v n Realloc is.0 is.1)
+event_read (Free v) is = named_words free (free_read _ [] v (a_variable v is) refl)
 event_read (Load v off len) is =
-    rw (
-      full_number v (omega (arith, is.0)),
-      full_offset off is.1,
-      full_number len (omega (arith, is.3)),
-      variable_read v is.0,
-      offset_read off is.1,
-      number_read 1 64 len is.2 is.3 (omega arith),
-    )
-    refl
+    named_words load
+    (load_read _ _ _ [] v len off (a_variable v is.0) (an_offset off is.1) (a_number 1 64 len is.2 is.3 (omega arith)) refl)
 event_read (Store v off len byte) is =
-    rw (
-      full_number v (omega (arith, is.0.0)),
-      full_offset off is.0.1,
-      full_number len (omega (arith, is.0.3)),
-      variable_read v is.0.0,
-      offset_read off is.0.1,
-      number_read 1 64 len is.0.2 is.0.3 (omega arith),
-      byte_read byte is.1,
-    )
-    refl
-event_read (Addg v w u6 u4) is =
-    rw (
-      full_number v (omega (arith, is.0)),
-      full_number w (omega (arith, is.1)),
-      full_number u6 (omega (arith, is.2)),
-      full_number u4 (omega (arith, is.3)),
-      variable_read v is.0,
-      variable_read w is.1,
-      number_read 0 63 u6 (omega arith) is.2 (omega arith),
-      number_read 0 15 u4 (omega arith) is.3 (omega arith),
-    )
-    refl
-event_read (Subg v w u6 u4) is =
-    rw (
-      full_number v (omega (arith, is.0)),
-      full_number w (omega (arith, is.1)),
-      full_number u6 (omega (arith, is.2)),
-      full_number u4 (omega (arith, is.3)),
-      variable_read v is.0,
-      variable_read w is.1,
-      number_read 0 63 u6 (omega arith) is.2 (omega arith),
-      number_read 0 15 u4 (omega arith) is.3 (omega arith),
-    )
-    refl
+    named_words store
+    (store_read _ _ _ _ [] v len byte off (a_variable v is.0.0) (an_offset off is.0.1) (a_number 1 64 len is.0.2 is.0.3 (omega arith))
+    (a_byte byte is.1) refl)
+event_read (Addg v w u6 u4) is = named_words addg (moved v w u6 u4 Addg is.0 is.1 is.2 is.3)
+event_read (Subg v w u6 u4) is = named_words subg (moved v w u6 u4 Subg is.0 is.1 is.2 is.3)
 
 -- ---- the line
 

@@ -52,7 +52,9 @@ both lines c d piece is t None faultless = go (ltb 80 (length c.unfinished)) ref
     go true long = ap (added t.events) (sym (too_long lines c d (ltb-true 80 (length c.unfinished) long)))
     go false short =
         let count : suc lines + length c.whole ≡ suc (lines + length c.whole) = omega arith in
-        let all : lines + length (c.whole ++ (going_on c.unfinished d).whole) ≡ (lines + length c.whole) + length (going_on c.unfinished d).whole = omega (arith, length-append c.whole (going_on c.unfinished d).whole) in
+        let all : lines + length (c.whole ++ (going_on c.unfinished d).whole)
+        ≡ (lines + length c.whole) + length (going_on c.unfinished d).whole
+        = omega (arith, length-append c.whole (going_on c.unfinished d).whole) in
         rw (is, count, all) refl
 
 pub fed_in-append : (state : State) (a b : List ℕ) → added (fed_in state a).events (fed_in (fed_in state a).state b) ≡ fed_in state (a ++ b)

@@ -1,5 +1,5 @@
 -- What the words of an event spell, read one after the other.
-use Rattle.std.proofs.Common.{◌≡◌, ℕ, ℤ, List, [], ◌∷◌, refl, false, Ok, arith, length, ne_eqb, codes, nat_abs, ◌≤◌, Some, pos, sym, drop, slice_get, option_and_then, eqb, eqb-true, inl, inr, leb, to_z}
+use Rattle.std.proofs.Common.{◌≡◌, ℕ, ℤ, List, [], ◌∷◌, ◌++◌, append_assoc, refl, ap, ◌∙◌, false, Result, Ok, arith, length, ne_eqb, codes, nat_abs, ◌≤◌, Some, pos, sym, drop, slice_get, option_and_then, eqb, eqb-true, inl, inr, leb, to_z}
 use Rattle.line_text.specs.Lines.{words}
 use Rattle.line_text.specs.Numbers.{number_of, short_number_of}
 use Rattle.std.proofs.lemmas.Bool.{cases_Bool}
@@ -14,7 +14,8 @@ use Rattle.std.specs.Prelude.{FitsSigned, IfOk}
 use Rattle.trace_reader.proofs.LineRanges.{IfOk-offset_of}
 use Rattle.trace_reader.proofs.Offsets.{fits_narrow}
 use Rattle.trace_reader.specs.Spelled.{AreAfter, AreRead, IsRead}
-use Rattle.trace_reader.specs.TraceLine.{byte_of, event_of_words, free_of, is_empty_word, load_of, move_of, number_from, offset_of, request_of, store_of}
+use Rattle.trace_reader.specs.declared.fault.TraceFault.{TraceFault}
+use Rattle.trace_reader.specs.TraceLine.{byte_of, event_named, event_of_words, free_of, is_empty_word, load_of, move_of, number_from, offset_of, request_of, store_of}
 
 -- ---- a word that spells something is not empty
 
@@ -116,47 +117,52 @@ move_read ws more third last_one left v w u6 u4 event a b c d none = record {
 
 -- ---- the name in front of them
 
-pub malloc_line : (line : List ℕ) (left : List (List ℕ)) (event : Event) → AreAfter (codes "malloc ") line left →
-    AreRead (request_of Malloc) left event
-    → event_of_words (words line) ≡ Ok event
-unfolding words event_of_words
-malloc_line line left event after read = rw after.line_is (rw (sym after.are, read.full) read.is)
+-- an event of this name is read so, from its words and from its line
+pub record IsNamed (name : List ℕ) (reading : List (List ℕ) → Result Event TraceFault) : Type 0 where
+  pub full : is_empty_word name ≡ false
+  pub named : (ws : List (List ℕ)) → event_named name ws ≡ reading ws
+  pub first : (rest : List ℕ) → words (name ++ 32 ∷ rest) ≡ name ∷ words rest
 
-pub calloc_line : (line : List ℕ) (left : List (List ℕ)) (event : Event) → AreAfter (codes "calloc ") line left →
-    AreRead (request_of Calloc) left event
-    → event_of_words (words line) ≡ Ok event
-unfolding words event_of_words
-calloc_line line left event after read = rw after.line_is (rw (sym after.are, read.full) read.is)
+pub named_words : {name : List ℕ} {reading : List (List ℕ) → Result Event TraceFault} {ws : List (List ℕ)} {event : Event}
+    → IsNamed name reading → AreRead reading ws event → event_of_words (name ∷ ws) ≡ Ok event
+unfolding event_of_words
+named_words {name} {reading} {ws} {event} is read = rw (is.full, read.full) (is.named ws ∙ read.is)
 
-pub realloc_line : (line : List ℕ) (left : List (List ℕ)) (event : Event) → AreAfter (codes "realloc ") line left →
-    AreRead (request_of Realloc) left event
-    → event_of_words (words line) ≡ Ok event
-unfolding words event_of_words
-realloc_line line left event after read = rw after.line_is (rw (sym after.are, read.full) read.is)
+pub named_line : {name line : List ℕ} {reading : List (List ℕ) → Result Event TraceFault} {left : List (List ℕ)} {event : Event}
+    → IsNamed name reading → AreAfter (name ++ 32 ∷ []) line left → AreRead reading left event → event_of_words (words line) ≡ Ok event
+named_line {name} {line} {reading} {left} {event} is after read =
+    let whole : line ≡ name ++ 32 ∷ after.rest = after.line_is ∙ append_assoc name (32 ∷ []) after.rest in
+    let read_rest : AreRead reading (words after.rest) event = rw after.are at read in
+    ap event_of_words (ap words whole ∙ is.first after.rest) ∙ named_words is read_rest
 
-pub free_line : (line : List ℕ) (left : List (List ℕ)) (event : Event) → AreAfter (codes "free ") line left → AreRead free_of left event
-    → event_of_words (words line) ≡ Ok event
-unfolding words event_of_words
-free_line line left event after read = rw after.line_is (rw (sym after.are, read.full) read.is)
+pub malloc : IsNamed (codes "malloc") (request_of Malloc)
+unfolding words
+malloc = record { full = refl; named = λ ws. refl; first = λ rest. refl }
 
-pub load_line : (line : List ℕ) (left : List (List ℕ)) (event : Event) → AreAfter (codes "load ") line left → AreRead load_of left event
-    → event_of_words (words line) ≡ Ok event
-unfolding words event_of_words
-load_line line left event after read = rw after.line_is (rw (sym after.are, read.full) read.is)
+pub calloc : IsNamed (codes "calloc") (request_of Calloc)
+unfolding words
+calloc = record { full = refl; named = λ ws. refl; first = λ rest. refl }
 
-pub store_line : (line : List ℕ) (left : List (List ℕ)) (event : Event) → AreAfter (codes "store ") line left → AreRead store_of left event
-    → event_of_words (words line) ≡ Ok event
-unfolding words event_of_words
-store_line line left event after read = rw after.line_is (rw (sym after.are, read.full) read.is)
+pub realloc : IsNamed (codes "realloc") (request_of Realloc)
+unfolding words
+realloc = record { full = refl; named = λ ws. refl; first = λ rest. refl }
 
-pub addg_line : (line : List ℕ) (left : List (List ℕ)) (event : Event) → AreAfter (codes "addg ") line left →
-    AreRead (move_of Addg) left event
-    → event_of_words (words line) ≡ Ok event
-unfolding words event_of_words
-addg_line line left event after read = rw after.line_is (rw (sym after.are, read.full) read.is)
+pub free : IsNamed (codes "free") free_of
+unfolding words
+free = record { full = refl; named = λ ws. refl; first = λ rest. refl }
 
-pub subg_line : (line : List ℕ) (left : List (List ℕ)) (event : Event) → AreAfter (codes "subg ") line left →
-    AreRead (move_of Subg) left event
-    → event_of_words (words line) ≡ Ok event
-unfolding words event_of_words
-subg_line line left event after read = rw after.line_is (rw (sym after.are, read.full) read.is)
+pub load : IsNamed (codes "load") load_of
+unfolding words
+load = record { full = refl; named = λ ws. refl; first = λ rest. refl }
+
+pub store : IsNamed (codes "store") store_of
+unfolding words
+store = record { full = refl; named = λ ws. refl; first = λ rest. refl }
+
+pub addg : IsNamed (codes "addg") (move_of Addg)
+unfolding words
+addg = record { full = refl; named = λ ws. refl; first = λ rest. refl }
+
+pub subg : IsNamed (codes "subg") (move_of Subg)
+unfolding words
+subg = record { full = refl; named = λ ws. refl; first = λ rest. refl }

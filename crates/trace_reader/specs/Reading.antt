@@ -49,9 +49,8 @@ abbrev pub nothing_read : Reading
 nothing_read = record { events = []; state = Open 0 [] }
 
 abbrev pub is_finished_state : State → Bool
-is_finished_state (Open lines rest) = false
-is_finished_state (Failed error) = false
 is_finished_state Finished = true
+is_finished_state other = false
 
 abbrev pub is_finished : Reading → Bool
 is_finished reading = is_finished_state reading.state
@@ -75,11 +74,14 @@ reading_of_cut lines c =
     let trace = trace_from (suc lines) c.whole in
     record { events = trace.events; state = state_after (lines + length c.whole) c.unfinished trace.fault }
 
--- The piece goes on with the unfinished line. After an error it is not looked at.
+-- What is read after an error or the end: nothing more.
+abbrev pub no_more : State → Reading
+no_more state = record { events = []; state = state }
+
+-- The piece goes on with the unfinished line.
 abbrev pub fed_in : State → List ℕ → Reading
 fed_in (Open lines rest) piece = reading_of_cut lines (going_on rest (cut piece))
-fed_in (Failed error) piece = record { events = []; state = Failed error }
-fed_in Finished piece = record { events = []; state = Finished }
+fed_in other piece = no_more other
 
 unfoldable pub fed : Reading → List ℕ → Reading
 fed reading piece = added reading.events (fed_in reading.state piece)
@@ -93,8 +95,7 @@ fed_all reading (piece ∷ pieces) = fed_all (fed reading piece) pieces
 
 abbrev pub is_open_state : State → Bool
 is_open_state (Open lines rest) = true
-is_open_state (Failed error) = false
-is_open_state Finished = false
+is_open_state other = false
 
 abbrev pub is_open : Reading → Bool
 is_open reading = is_open_state reading.state
@@ -103,8 +104,7 @@ is_open reading = is_open_state reading.state
 abbrev pub judged_in : State → Result Event TraceFault → Reading
 judged_in (Open lines rest) (Ok event) = record { events = event ∷ []; state = Open (suc lines) [] }
 judged_in (Open lines rest) (Err fault) = record { events = []; state = Failed (Line (suc lines) fault) }
-judged_in (Failed error) judged = record { events = []; state = Failed error }
-judged_in Finished judged = record { events = []; state = Finished }
+judged_in other judged = no_more other
 
 unfoldable pub with_judged : Reading → Result Event TraceFault → Reading
 with_judged reading judged = added reading.events (judged_in reading.state judged)
@@ -112,8 +112,7 @@ with_judged reading judged = added reading.events (judged_in reading.state judge
 -- What the unfinished line is judged to be where it goes on by these bytes and then ends; some fault where no more is read.
 abbrev pub judgement_in : State → List ℕ → Result Event TraceFault
 judgement_in (Open lines rest) end = event_of_line (suc lines) (rest ++ end)
-judgement_in (Failed error) end = Err LineTooLong
-judgement_in Finished end = Err LineTooLong
+judgement_in other end = Err LineTooLong
 
 abbrev pub line_ended : Reading → List ℕ → Reading
 line_ended reading end = with_judged reading (judgement_in reading.state end)
@@ -121,8 +120,7 @@ line_ended reading end = with_judged reading (judgement_in reading.state end)
 -- If the next line was judged to be an event, its numbers are in their ranges, and the trace has room for it.
 abbrev pub IsJudgementIn : State → Result Event TraceFault → Type 0
 IsJudgementIn (Open lines rest) judged = IfOk judged (λ event. IsInRange event × (lines < most_events))
-IsJudgementIn (Failed error) judged = ⊤
-IsJudgementIn Finished judged = ⊤
+IsJudgementIn other judged = ⊤
 
 -- ---- the end of the text
 
@@ -141,8 +139,7 @@ last_line lines (b ∷ rest) = with_line (suc lines) (event_of_line (suc lines) 
 
 abbrev pub finished_in : State → Reading
 finished_in (Open lines rest) = whole_reading (last_line lines rest)
-finished_in (Failed error) = record { events = []; state = Failed error }
-finished_in Finished = record { events = []; state = Finished }
+finished_in other = no_more other
 
 unfoldable pub finished : Reading → Reading
 finished reading = added reading.events (finished_in reading.state)

@@ -39,14 +39,8 @@ pub(crate) fn number_from(low: u32, high: u32, word: &[u8]) -> Result<u32, Trace
 {
     match number_in(word) {
         Number::NoNumber => Err(TraceFault::BadNumber),
-        Number::TooLarge => Err(TraceFault::OutOfRange),
-        Number::Value(n) => {
-            if u64::from(low) <= n && n <= u64::from(high) {
-                Ok(n as u32)
-            } else {
-                Err(TraceFault::OutOfRange)
-            }
-        }
+        Number::Value(n) if u64::from(low) <= n && n <= u64::from(high) => Ok(n as u32),
+        Number::TooLarge | Number::Value(_) => Err(TraceFault::OutOfRange),
     }
 }
 
@@ -56,14 +50,8 @@ pub(crate) fn offset_in(word: &[u8]) -> Result<i32, TraceFault>
 {
     match signed_in(word) {
         SignedNumber::NoNumber => Err(TraceFault::BadNumber),
-        SignedNumber::TooLarge => Err(TraceFault::OutOfRange),
-        SignedNumber::Value(z) => {
-            if z.unsigned_abs() <= FARTHEST {
-                Ok(z as i32)
-            } else {
-                Err(TraceFault::OutOfRange)
-            }
-        }
+        SignedNumber::Value(z) if z.unsigned_abs() <= FARTHEST => Ok(z as i32),
+        SignedNumber::TooLarge | SignedNumber::Value(_) => Err(TraceFault::OutOfRange),
     }
 }
 

@@ -19,7 +19,7 @@ use Rattle.tuner_theory.proofs.LeastRows.{rows-valid}
 use Rattle.tuner_theory.proofs.Rounding.{step-positive}
 
 -- past the rows' ends
-rows-end : (rows : List (List ℕ)) (limit d : ℕ) → HasShape rows limit d → (k : ℕ) → number_at rows k d ≡ 0
+pub rows-end : (rows : List (List ℕ)) (limit d : ℕ) → HasShape rows limit d → (k : ℕ) → number_at rows k d ≡ 0
 rows-end rows limit d shape k =
     elim (cases_lt (k - 1) (length rows)) [
       | inl inside ↦ get_or_past (get_or rows (k - 1) []) d 0 (omega (arith, shape.row_lengths (k - 1) [] inside))

@@ -1,5 +1,5 @@
 //! What holds for every profile, table and certificate. Each law is the contract of a function that does nothing.
-//! The proofs of a crate above cite the lemmas that the laws follow from; a program may call a law, which costs nothing.
+//! The proofs of a crate above cite the lemmas that the laws follow from.
 ghost use Rattle.std.specs.Prelude.{ℕ, ◌^◌, ◌<◌, List};
 ghost use Rattle.class_table.specs.Tables.{IsLegalTable};
 ghost use Rattle.tuner_theory.specs.Laws.{

@@ -1,10 +1,8 @@
 //! `check`.
-ghost use Rattle.mte_engine.specs.Check.{CheckAnswers};
-ghost use Rattle.mte_engine.specs.Outcome.{IsReady, Runs};
 ghost use Rattle.command_line.specs.Program.{HasWords, check_words};
 
+use crate::commands::help::{described, profile_help};
 use clap::Command;
-use mte_engine::{ByteSink, ByteSource, Status, ToolFault};
 use std::alloc::Global;
 
 /// The command's name.
@@ -15,7 +13,8 @@ const ABOUT: &str = "Check whether a sheet proves that its class table wastes le
 const LONG: &str =
     "Check whether a sheet proves that its class table wastes least on a profile, whoever wrote it.";
 
-const AFTER: &str = "\
+const AFTER: &str = profile_help!(
+    "\
 Standard input is a sheet, and then a profile:
 
   classes C1 C2 ..   the table: up to 32 block sizes in granules of 16 bytes, from 2 to 1024,
@@ -55,32 +54,12 @@ writes `optimal`: a sheet of `tune` proves that its table wastes least. docs/CER
 repository shows how to write a sheet by hand.
 
 Refused input, exit status 2:
-  48 BadSheet          a line of the sheet has none of the forms above, or is missing
-  30 BadLine           a line of the profile is none of its two forms, or its size is above 16368
-  31 NotAscending      a size is not above the one before it
-  32 CountOutOfRange   a count is not from 1 to 1000000000
-  80 InputTooLong      there are more than 67108864 bytes
-Failures, exit status 3:
-  1 OutOfMemory, 81 ReadFault, 82 WriteFault";
+  48 BadSheet          a line of the sheet has none of the forms above, or is missing"
+);
 
 /// The command's words.
 pub fn words<'a>(alloc: Global) -> Command<'a>
     ensures { HasWords result check_words }
 {
-    Command::new(alloc, NAME)
-        .about(ABOUT)
-        .long_about(LONG)
-        .after_help(AFTER)
-}
-
-/// Runs the command.
-pub fn run<R: ByteSource, W: ByteSink>(
-    alloc: Global,
-    source: &mut R,
-    sink: &mut W,
-) -> Result<Status, ToolFault>
-    requires { IsReady (R.state source.old) (W.state sink.old) }
-    ensures { Runs CheckAnswers (R.state source.old) (R.state source.new) W.state sink.old sink.new result }
-{
-    mte_engine::check(alloc, source, sink)
+    described(alloc, NAME, ABOUT, LONG, AFTER)
 }

@@ -1,4 +1,26 @@
-//! The text that the help of the commands on a trace shares.
+//! What the words of the commands share: their texts' place in clap, and the parts of the help that several of them have.
+ghost use Rattle.clap.specs.Words.{new_app};
+ghost use Rattle.command_line.specs.Program.{HasWords};
+
+use clap::Command;
+use std::alloc::Global;
+
+/// The words of a command that has no options yet: its name, and its help. `about` is the line in the list of commands, `long` and `after`
+/// stand before and after the options in the command's own help.
+pub fn described<'a>(
+    alloc: Global,
+    name: &'a str,
+    about: &'a str,
+    long: &'a str,
+    after: &'a str,
+) -> Command<'a>
+    ensures { HasWords result (new_app name.now) }
+{
+    Command::new(alloc, name)
+        .about(about)
+        .long_about(long)
+        .after_help(after)
+}
 
 // The help of a command on a trace. `input` says what the input is, `output` what the output is, with an example, and `refused` heads the
 // refusals, with those that come before the trace's.
@@ -38,4 +60,22 @@ Failures, exit status 3:
     };
 }
 
+// The help of a command on a profile. `input` says what the input and the output are, with an example, and ends with the refusals that
+// come before the profile's.
+macro_rules! profile_help {
+    ($input:literal) => {
+        concat!(
+            $input,
+            "
+  30 BadLine           a line of the profile is none of its two forms, or its size is above 16368
+  31 NotAscending      a size is not above the one before it
+  32 CountOutOfRange   a count is not from 1 to 1000000000
+  80 InputTooLong      there are more than 67108864 bytes
+Failures, exit status 3:
+  1 OutOfMemory, 81 ReadFault, 82 WriteFault"
+        )
+    };
+}
+
+pub(crate) use profile_help;
 pub(crate) use trace_help;

@@ -1,11 +1,8 @@
 //! `profile`.
-ghost use Rattle.mte_engine.specs.Outcome.{IsReady, Runs};
-ghost use Rattle.mte_engine.specs.Profile.{ProfileAnswers};
 ghost use Rattle.command_line.specs.Program.{HasWords, profile_words};
 
-use crate::commands::help::trace_help;
+use crate::commands::help::{described, trace_help};
 use clap::Command;
-use mte_engine::{ByteSink, ByteSource, Status, ToolFault};
 use std::alloc::Global;
 
 /// The command's name.
@@ -33,20 +30,5 @@ writes the lines `16 2` and `40 1`.",
 pub fn words<'a>(alloc: Global) -> Command<'a>
     ensures { HasWords result profile_words }
 {
-    Command::new(alloc, NAME)
-        .about(ABOUT)
-        .long_about(LONG)
-        .after_help(AFTER)
-}
-
-/// Runs the command.
-pub fn run<R: ByteSource, W: ByteSink>(
-    alloc: Global,
-    source: &mut R,
-    sink: &mut W,
-) -> Result<Status, ToolFault>
-    requires { IsReady (R.state source.old) (W.state sink.old) }
-    ensures { Runs ProfileAnswers (R.state source.old) (R.state source.new) W.state sink.old sink.new result }
-{
-    mte_engine::profile(alloc, source, sink)
+    described(alloc, NAME, ABOUT, LONG, AFTER)
 }

@@ -1,17 +1,14 @@
 //! `replay`.
 ghost use Rattle.std.specs.Prelude.{IfOk, MatchResult, codes};
 ghost use Rattle.clap.specs.Words.{found_of, rows_of};
-ghost use Rattle.mte_engine.specs.Outcome.{IsReady, Runs};
-ghost use Rattle.mte_engine.specs.Replay.{ReplayAnswers};
-ghost use Rattle.command_line.specs.Calls.{IsValid, Names};
+ghost use Rattle.command_line.specs.Calls.{Names};
 ghost use Rattle.command_line.specs.Program.{HasWords, replay_words};
 ghost use Rattle.command_line.specs.declared.call.Call.TheVariants.{Replay as ReplayCall};
 
-use crate::commands::help::trace_help;
+use crate::commands::help::{described, trace_help};
 use crate::options::{config_of, granules, quarantine, seed};
 use crate::refusal::OptionFault;
 use clap::{ArgMatches, Command};
-use mte_engine::{ByteSink, ByteSource, Status, ToolFault};
 use std::alloc::{AllocError, Global};
 use tagged_heap::Config;
 
@@ -60,11 +57,7 @@ then the totals.",
 pub fn words<'a>(alloc: Global) -> Result<Command<'a>, AllocError>
     ensures { IfOk result (λ command. HasWords command replay_words) }
 {
-    let command = Command::new(alloc, NAME)
-        .about(ABOUT)
-        .long_about(LONG)
-        .after_help(AFTER);
-    command
+    described(alloc, NAME, ABOUT, LONG, AFTER)
         .arg(granules(alloc))?
         .arg(seed(alloc))?
         .arg(quarantine(alloc))
@@ -87,20 +80,5 @@ impl Replay {
         Ok(Replay {
             config: config_of(options)?,
         })
-    }
-
-    /// Runs the command.
-    pub fn run<R: ByteSource, W: ByteSink>(
-        self,
-        alloc: Global,
-        source: &mut R,
-        sink: &mut W,
-    ) -> Result<Status, ToolFault>
-        requires valid { IsValid (ReplayCall self) }
-        requires ready { IsReady (R.state source.old) (W.state sink.old) }
-        ensures { Runs (ReplayAnswers self.config) (R.state source.old) (R.state source.new)
-            W.state sink.old sink.new result }
-    {
-        mte_engine::replay(alloc, self.config, source, sink)
     }
 }

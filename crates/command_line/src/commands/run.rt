@@ -1,17 +1,14 @@
 //! `run`.
 ghost use Rattle.std.specs.Prelude.{IfOk, MatchResult, codes};
 ghost use Rattle.clap.specs.Words.{found_of, rows_of};
-ghost use Rattle.mte_engine.specs.Outcome.{IsReady, Runs};
-ghost use Rattle.mte_engine.specs.Run.{RunAnswers};
-ghost use Rattle.command_line.specs.Calls.{IsValid, Names};
+ghost use Rattle.command_line.specs.Calls.{Names};
 ghost use Rattle.command_line.specs.Program.{HasWords, run_words};
 ghost use Rattle.command_line.specs.declared.call.Call.TheVariants.{Run as RunCall};
 
-use crate::commands::help::trace_help;
+use crate::commands::help::{described, trace_help};
 use crate::options::{config_of, granules, limit, limit_of, quarantine, seed, step, step_of};
 use crate::refusal::OptionFault;
 use clap::{ArgMatches, Command};
-use mte_engine::{ByteSink, ByteSource, Status, ToolFault};
 use std::alloc::{AllocError, Global};
 use tagged_heap::Config;
 
@@ -59,11 +56,7 @@ writes the lines `classes 2`, `limit 1`, `waste 0` and `row 0`, then
 pub fn words<'a>(alloc: Global) -> Result<Command<'a>, AllocError>
     ensures { IfOk result (λ command. HasWords command run_words) }
 {
-    let command = Command::new(alloc, NAME)
-        .about(ABOUT)
-        .long_about(LONG)
-        .after_help(AFTER);
-    command
+    described(alloc, NAME, ABOUT, LONG, AFTER)
         .arg(limit(alloc))?
         .arg(step(alloc))?
         .arg(granules(alloc))?
@@ -94,20 +87,5 @@ impl Run {
             step: step_of(options)?,
             config: config_of(options)?,
         })
-    }
-
-    /// Runs the command.
-    pub fn run<R: ByteSource, W: ByteSink>(
-        self,
-        alloc: Global,
-        source: &mut R,
-        sink: &mut W,
-    ) -> Result<Status, ToolFault>
-        requires valid { IsValid (RunCall self) }
-        requires ready { IsReady (R.state source.old) (W.state sink.old) }
-        ensures { Runs (RunAnswers self.limit self.step self.config) (R.state source.old) (R.state source.new)
-            W.state sink.old sink.new result }
-    {
-        mte_engine::run(alloc, self.limit, self.step, self.config, source, sink)
     }
 }

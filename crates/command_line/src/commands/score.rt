@@ -1,10 +1,8 @@
 //! `score`.
-ghost use Rattle.mte_engine.specs.Outcome.{IsReady, Runs};
-ghost use Rattle.mte_engine.specs.Score.{ScoreAnswers};
 ghost use Rattle.command_line.specs.Program.{HasWords, score_words};
 
+use crate::commands::help::{described, profile_help};
 use clap::Command;
-use mte_engine::{ByteSink, ByteSource, Status, ToolFault};
 use std::alloc::Global;
 
 /// The command's name.
@@ -14,7 +12,8 @@ const ABOUT: &str = "Report how many bytes a class table wastes on a profile";
 
 const LONG: &str = "Report how many bytes a class table wastes on a profile.";
 
-const AFTER: &str = "\
+const AFTER: &str = profile_help!(
+    "\
 Standard input is a class line, and then a profile:
 
   classes C1 C2 ..   up to 32 block sizes in granules of 16 bytes, from 2 to 1024, ascending
@@ -38,32 +37,12 @@ Refused input, exit status 2:
   20 TooMany           line 1 has more than 32 classes
   21 OutOfRange        a class of line 1 is not from 2 to 1024
   22 NotAscending      a class of line 1 is not above the one before it
-  23 BadLine           line 1 is no class line
-  30 BadLine           a line of the profile is none of its two forms, or its size is above 16368
-  31 NotAscending      a size is not above the one before it
-  32 CountOutOfRange   a count is not from 1 to 1000000000
-  80 InputTooLong      there are more than 67108864 bytes
-Failures, exit status 3:
-  1 OutOfMemory, 81 ReadFault, 82 WriteFault";
+  23 BadLine           line 1 is no class line"
+);
 
 /// The command's words.
 pub fn words<'a>(alloc: Global) -> Command<'a>
     ensures { HasWords result score_words }
 {
-    Command::new(alloc, NAME)
-        .about(ABOUT)
-        .long_about(LONG)
-        .after_help(AFTER)
-}
-
-/// Runs the command.
-pub fn run<R: ByteSource, W: ByteSink>(
-    alloc: Global,
-    source: &mut R,
-    sink: &mut W,
-) -> Result<Status, ToolFault>
-    requires { IsReady (R.state source.old) (W.state sink.old) }
-    ensures { Runs ScoreAnswers (R.state source.old) (R.state source.new) W.state sink.old sink.new result }
-{
-    mte_engine::score(alloc, source, sink)
+    described(alloc, NAME, ABOUT, LONG, AFTER)
 }

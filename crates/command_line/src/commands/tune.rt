@@ -2,16 +2,14 @@
 ghost use Rattle.std.specs.Prelude.{◌≡◌, ◌≤◌, IfOk, MatchResult, codes};
 ghost use Rattle.clap.specs.Words.{found_of, rows_of};
 ghost use Rattle.class_table.specs.Steps.{IsStep};
-ghost use Rattle.mte_engine.specs.Outcome.{IsReady, Runs};
-ghost use Rattle.mte_engine.specs.Tune.{TuneAnswers};
-ghost use Rattle.command_line.specs.Calls.{IsValid, Names};
+ghost use Rattle.command_line.specs.Calls.{Names};
 ghost use Rattle.command_line.specs.Program.{HasWords, tune_words};
 ghost use Rattle.command_line.specs.declared.call.Call.TheVariants.{Tune as TuneCall};
 
+use crate::commands::help::{described, profile_help};
 use crate::options::{limit, limit_of, step, step_of};
 use crate::refusal::OptionFault;
 use clap::{ArgMatches, Command};
-use mte_engine::{ByteSink, ByteSource, Status, ToolFault};
 use std::alloc::{AllocError, Global};
 
 /// The command's name.
@@ -21,7 +19,8 @@ const ABOUT: &str = "Find the class table that wastes least on a profile, with a
 
 const LONG: &str = "Find the class table that wastes least on a profile, with a certificate.";
 
-const AFTER: &str = "\
+const AFTER: &str = profile_help!(
+    "\
 Standard input is a profile:
 
   SIZE COUNT         a size in bytes, 0 to 16368, and how often it was requested, 1 to 1000000000;
@@ -50,23 +49,16 @@ writes the lines `classes 2 4`, `limit 2`, `waste 8`, `row 104 8` and `row 8 8`:
 waste 104 bytes, two waste 8.
 
 Refused, exit status 2:
-  83 BadOption         the step is 3, 5, 6 or 7; nothing is read then
-  30 BadLine           a line of the profile is none of its two forms, or its size is above 16368
-  31 NotAscending      a size is not above the one before it
-  32 CountOutOfRange   a count is not from 1 to 1000000000
-  80 InputTooLong      there are more than 67108864 bytes
-Failures, exit status 3:
-  1 OutOfMemory, 81 ReadFault, 82 WriteFault";
+  83 BadOption         the step is 3, 5, 6 or 7; nothing is read then"
+);
 
 /// The command's words.
 pub fn words<'a>(alloc: Global) -> Result<Command<'a>, AllocError>
     ensures { IfOk result (λ command. HasWords command tune_words) }
 {
-    let command = Command::new(alloc, NAME)
-        .about(ABOUT)
-        .long_about(LONG)
-        .after_help(AFTER);
-    command.arg(limit(alloc))?.arg(step(alloc))
+    described(alloc, NAME, ABOUT, LONG, AFTER)
+        .arg(limit(alloc))?
+        .arg(step(alloc))
 }
 
 /// The command's options.
@@ -89,20 +81,5 @@ impl Tune {
             limit: limit_of(options)?,
             step: step_of(options)?,
         })
-    }
-
-    /// Runs the command.
-    pub fn run<R: ByteSource, W: ByteSink>(
-        self,
-        alloc: Global,
-        source: &mut R,
-        sink: &mut W,
-    ) -> Result<Status, ToolFault>
-        requires valid { IsValid (TuneCall self) }
-        requires ready { IsReady (R.state source.old) (W.state sink.old) }
-        ensures { Runs (TuneAnswers self.limit self.step) (R.state source.old) (R.state source.new)
-            W.state sink.old sink.new result }
-    {
-        mte_engine::tune(alloc, self.limit, self.step, source, sink)
     }
 }

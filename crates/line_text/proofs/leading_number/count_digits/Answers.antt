@@ -1,5 +1,5 @@
 use Rattle.std.proofs.Common.{◌+◌, sym, ◌∙◌, arith}
-use Rattle.line_text.proofs.Digits.{one_more, digits_more, room_for_one}
+use Rattle.line_text.proofs.Digits.{one_more, digits_more}
 use Rattle.line_text.proofs.LeadingDigits.{leading_up_to, reaches}
 use Rattle.line_text.proofs.leading_number.count_digits.Goals as goal
 
@@ -13,25 +13,6 @@ returns-then-end-eq-SHORT_DIGITS c =
       reaches text (i + 1) (omega arith) (digits_more text i (omega arith) digit c.loop-byte.invariant.digits),
       c.if-end-eq-SHORT_DIGITS.true,
       c.loop-byte.invariant.end,
-    )
-
-pub overflow_mul-value : goal.overflow_mul-value
-overflow_mul-value c =
-    let digit = sym c.is_ascii_digit.ensures.value ∙ c.if-not-is_ascii_digit.false in
-    omega (
-      arith,
-      room_for_one c.args.text.now c.loop-byte.byte-index (omega arith)
-          (omega (arith, c.if-end-eq-SHORT_DIGITS.false, c.loop-byte.invariant.end, c.loop-byte.invariant.few)) digit
-          c.loop-byte.invariant.digits,
-    )
-
-pub overflow_add-value : goal.overflow_add-value
-overflow_add-value c =
-    let digit = sym c.is_ascii_digit.ensures.value ∙ c.if-not-is_ascii_digit.false in
-    omega (
-      arith,
-      room_for_one c.args.text.now c.loop-byte.byte-index (omega arith) (omega arith) digit c.loop-byte.invariant.digits,
-      c.from.ensures,
     )
 
 pub loop-byte-preserved : goal.loop-byte-preserved

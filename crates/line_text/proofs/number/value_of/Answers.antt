@@ -1,24 +1,17 @@
-use Rattle.std.proofs.Common.{◌≡◌, ◌+◌, arith, take, take_all}
-use Rattle.std.proofs.lemmas.Str.Parse.{digits_value-take-le}
-use Rattle.line_text.proofs.Digits.{one_more, digit_at}
+use Rattle.std.proofs.Common.{◌≡◌, arith, take, take_all}
+use Rattle.line_text.proofs.Digits.{one_more, number_so_far, digit_at}
 use Rattle.line_text.proofs.number.value_of.Goals as goal
 
 pub returns-in_err-checked_mul : goal.returns-in_err-checked_mul
 returns-in_err-checked_mul c =
-    let digits = c.args.digits.now in
-    let i = c.loop-digit.digit-index in
-    let more = one_more digits i (omega arith) (digit_at digits i c.requires (omega arith)) in
-    let least = digits_value-take-le 10 digits (i + 1) (omega arith) in
-    rw c.from_residual.ensures (λ fits. c.in_err-checked_mul.ensures (omega (arith, more, least, fits)))
+    let so_far = number_so_far c.args.digits.now c.loop-digit.digit-index c.requires (omega arith) in
+    rw c.from_residual.ensures (λ fits. c.in_err-checked_mul.ensures (omega (arith, so_far, fits)))
 
 pub returns-in_err-value : goal.returns-in_err-value
 returns-in_err-value c =
-    let digits = c.args.digits.now in
-    let i = c.loop-digit.digit-index in
-    let more = one_more digits i (omega arith) (digit_at digits i c.requires (omega arith)) in
-    let least = digits_value-take-le 10 digits (i + 1) (omega arith) in
+    let so_far = number_so_far c.args.digits.now c.loop-digit.digit-index c.requires (omega arith) in
     rw c.from_residual-in_err-value.ensures
-    (λ fits. c.in_err-value.ensures (omega (arith, more, least, fits, c.in_ok-checked_mul.ensures, c.from.ensures)))
+    (λ fits. c.in_err-value.ensures (omega (arith, so_far, fits, c.in_ok-checked_mul.ensures, c.from.ensures)))
 
 pub loop-digit-preserved : goal.loop-digit-preserved
 loop-digit-preserved c =

@@ -1,4 +1,5 @@
-use Rattle.std.proofs.Common.{ap, ◌∙◌, List, ℕ, ◌++◌}
+use Rattle.mte_engine.specs.TextLeft.{bytes_left}
+use Rattle.std.proofs.Common.{◌≡◌, ap, ◌∙◌, List, ℕ, ◌++◌}
 use Rattle.profile_count.specs.ProfileText.{profile_text}
 use Rattle.std.proofs.lemmas.Result.{err_from_is_err_and}
 use Rattle.mte_engine.proofs.TracePieces.{profile_refused, profile_written}
@@ -13,6 +14,8 @@ returns-in_err-end c = λ bytes keeps.
 pub returns : goal.returns
 returns c = λ bytes keeps.
     let counted = rw c.in_ok-end.ensures.events at c.count_out.ensures.counted in
+    let left : bytes_left c.new.result ≡ c.write.new.text.items = rw c.new.ensures.whole c.new.ensures.text in
     profile_written bytes c.args.input.reader c.args.input.profile c.count_out.new.profile
-    c.write.new.text.items keeps c.in_ok-end.ensures.ended counted
-    (c.in_ok-write.ensures.written ∙ ap (λ (before : List ℕ). before ++ profile_text c.count_out.new.profile) c.new-text.ensures.items)
+    (bytes_left c.new.result) keeps c.in_ok-end.ensures.ended counted
+    (left ∙ c.in_ok-write.ensures.written
+    ∙ ap (λ (before : List ℕ). before ++ profile_text c.count_out.new.profile) c.new-text.ensures.items)

@@ -1,7 +1,7 @@
 use Rattle.std.proofs.lemmas.Result.{err_from_is_err_and}
 use Rattle.std.proofs.Common.{ap, ◌∙◌, List, ℕ, ◌++◌}
 use Rattle.mte_engine.specs.Replay.{report_on}
-use Rattle.mte_engine.specs.ReportText.{text_left}
+use Rattle.mte_engine.specs.ReportBuffer.{text_left}
 use Rattle.mte_engine.proofs.LineAndTrace.{replay_refused, replay_written, table_refused}
 use Rattle.mte_engine.proofs.replaying.answer_to_parts.Goals as goal
 

@@ -4,7 +4,7 @@ use Rattle.potential_check.specs.Sheets.{sheet_of}
 use Rattle.potential_check.specs.SheetText.{sheet_text}
 use Rattle.potential_check.specs.declared.sheet.Sheet.{Sheet}
 use Rattle.mte_engine.specs.Replay.{report_on}
-use Rattle.mte_engine.specs.ReportText.{text_left}
+use Rattle.mte_engine.specs.ReportBuffer.{text_left}
 use Rattle.mte_engine.specs.Traces.{profile_of_events}
 use Rattle.mte_engine.proofs.TracedRun.{run_refused, run_written}
 use Rattle.mte_engine.proofs.running.answer_to.Goals as goal

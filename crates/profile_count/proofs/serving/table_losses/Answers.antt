@@ -1,9 +1,6 @@
-use Rattle.std.proofs.Common.{◌<◌, ◌≤◌, length, sym, ◌∙◌, arith}
-use Rattle.std.specs.List.{position_or_len}
-use Rattle.std.proofs.lemmas.Option.{get_or_from_slice_get}
-use Rattle.class_table.specs.Sizes.{serves}
+use Rattle.std.proofs.Common.{◌≤◌, length, sym, ◌∙◌, arith}
 use Rattle.tuner_theory.specs.Waste.{waste_at}
-use Rattle.profile_count.proofs.FirstServing.{next_ready, next_class, none_left, position-mono}
+use Rattle.profile_count.proofs.FirstServing.{class_at, next_class, next_ready, none_left}
 use Rattle.profile_count.proofs.Waste.{sum_below-none, sum_below-rest, waste_in_class, waste_in_none}
 use Rattle.profile_count.proofs.serving.table_losses.Goals as goal
 use Rattle.profile_count.proofs.serving.table_losses.Goals.{then-from-end, else-from-end}
@@ -23,36 +20,26 @@ loop-number-preserved c =
     let table = c.args.table.now in
     let number = c.loop-number.number in
     let i = c.loop-number.invariant in
-    let within : number < length table = omega (arith, c.len-number-end.ensures.len) in
-    let class = get_or_from_slice_get table number c.class.result 0 c.class.ensures.class in
-    let most : 2 ≤ c.class.result = c.class.ensures.in_range.0 in
+    let at = class_at table number c.class.result c.class.ensures.class c.class.ensures.in_range.0 in
+    let ready = next_ready c.loop-number.from c.if-from-end.from number c.class.result table at i.ready in
     elim c.if-from-end.branch [
       | then-from-end w ↦
-          let ready : number ≤ position_or_len (serves c.if-from-end.from) table =
-          omega (arith, i.ready, position-mono c.loop-number.from c.if-from-end.from table (omega arith)) in
-          let sum = w.losses_below-total.ensures.sum (waste_at counts table) (λ n le lt.
-          waste_in_class counts table n c.class.result c.served_end-end.result
-          (next_class c.loop-number.from n number c.class.result table most within class i.ready le
-          (omega (arith, lt, c.served_end-end.ensures))) c.served_end-end.ensures most) in
+          let sum = w.losses_between-total.ensures.sum (waste_at counts table) (λ n le lt.
+          waste_in_class counts table n c.class.result c.class_end-end.result
+          (next_class c.loop-number.from n number c.class.result table at i.ready le (omega (arith, lt, c.class_end-end.ensures)))
+          c.class_end-end.ensures at.wide) in
           record {
             summed = rw w.from-is (omega (arith, w.total-is, i.summed, sum));
-            small = omega (arith, w.total-is, w.from-is, w.if-from-end.true, w.losses_below-total.ensures.small, i.small);
-            inside = omega (arith, w.from-is, c.served_end-end.ensures, c.class.ensures.in_range.1);
-            ready =
-                next_ready c.if-from-end.from number c.class.result table most within class ready
-                (omega (arith, w.from-is, c.served_end-end.ensures));
+            small = omega (arith, w.total-is, w.from-is, w.if-from-end.true, w.losses_between-total.ensures.small, i.small);
+            inside = omega (arith, w.from-is, c.class_end-end.ensures, c.class.ensures.in_range.1);
+            ready = ready (omega arith) (omega (arith, w.from-is, c.class_end-end.ensures));
           }
-      | else-from-end w ↦
-          let ready : number ≤ position_or_len (serves c.if-from-end.from) table =
-          omega (arith, i.ready, position-mono c.loop-number.from c.if-from-end.from table (omega arith)) in
-          record {
-            summed = rw w.from-is (omega (arith, w.total-is, i.summed));
-            small = omega (arith, w.total-is, w.from-is, i.small);
-            inside = omega (arith, w.from-is, i.inside);
-            ready =
-                next_ready c.if-from-end.from number c.class.result table most within class ready
-                (omega (arith, w.from-is, c.served_end-end.ensures));
-          }
+      | else-from-end w ↦ record {
+        summed = rw w.from-is (omega (arith, w.total-is, i.summed));
+        small = omega (arith, w.total-is, w.from-is, i.small);
+        inside = omega (arith, w.from-is, i.inside);
+        ready = ready (omega arith) (omega (arith, w.from-is, c.class_end-end.ensures));
+      }
     ]
 
 pub returns-clause-waste : goal.returns-clause-waste

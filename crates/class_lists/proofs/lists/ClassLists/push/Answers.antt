@@ -11,7 +11,7 @@ returns-clause-others c = λ front list shown apart. shown_beside _ c.args.slot 
 pub returns-clause-pushed : goal.returns-clause-pushed
 returns-clause-pushed c = λ list shown apart.
     let old = region_of c.args.layout.now c.args.memory.now in
-    let front = slice_index c.args.self.now c.args.class in
+    let front = slice_index c.args.self.now c.args.number in
     let set = c.set_link.ensures.region in
     let within = subst (λ n. c.args.slot < n) (sym (length-headers_of c.args.layout.now c.args.memory.now)) c.requires.slot in
     shown_pushed (region_of c.args.layout.now c.set_link.new.memory) front c.args.slot list

@@ -20,5 +20,5 @@ keeps_piece true line old new piece bytes ended is (trace, parts, is_line, keeps
 pub returns-then-self : goal.returns-then-self
 returns-then-self c =
     IfOk-weaker c.feed.result _ _
-    (λ _ is bytes. keeps_piece c.args.self.now.has_ended c.args.self.now.line.items c.args.self.now.reader c.feed.new.reader
+    (λ _ is bytes. keeps_piece c.args.self.now.line_has_ended c.args.self.now.line.items c.args.self.now.reader c.feed.new.reader
     c.args.piece.now bytes c.if-self.true is) c.feed.ensures.fed

@@ -10,22 +10,22 @@ use Rattle.tagged_heap.proofs.Giving.{IsTaken, request_refused, has_class, taken
 use Rattle.tagged_heap.proofs.heap.Heap.allocate.Goals as goal
 use Rattle.tagged_heap.proofs.heap.Heap.allocate.Goals.{In_ok-slot, After-give_out-address}
 
-pub returns-in_err-class-clause-slot : goal.returns-in_err-class-clause-slot
-returns-in_err-class-clause-slot c =
+pub returns-in_err-number-clause-slot : goal.returns-in_err-number-clause-slot
+returns-in_err-number-clause-slot c =
     let p = err_from_is_err_and c.from_residual.result c.from_residual.ensures.1 in
     rw (p.1, p.2, ← c.self.view_is)
-    (sym (request_refused (state_of c.self.inside) c.args.n c.in_err-class.field-0.0 c.in_err-class.ensures.err))
+    (sym (request_refused (state_of c.self.inside) c.args.n c.in_err-number.field-0.0 c.in_err-number.ensures.err))
 
 pub take_slot-requires : goal.take_slot-requires
-take_slot-requires c = rw c.memory_mut-memory.ensures.value (has_class c.self.invariant c.in_ok-class.class c.in_ok-class.ensures.within)
+take_slot-requires c = rw c.memory_mut-memory.ensures.value (has_class c.self.invariant c.in_ok-number.number c.in_ok-number.ensures.within)
 
 pub returns-in_err-slot-clause-slot : goal.returns-in_err-slot-clause-slot
 returns-in_err-slot-clause-slot c =
     let none : c.take_slot.result ≡ None = c.in_err-slot.ensures.ok_part in
     let takes = rw (c.memory_mut-memory.ensures.value, none) at c.take_slot.ensures.takes in
     let full =
-    exhausted c.self.invariant c.args.n c.in_ok-class.class c.in_ok-class.ensures.ok.0 c.in_ok-class.ensures.ok.1
-    c.in_ok-class.ensures.within takes in
+    exhausted c.self.invariant c.args.n c.in_ok-number.number c.in_ok-number.ensures.ok.0 c.in_ok-number.ensures.ok.1
+    c.in_ok-number.ensures.within takes in
     let p = err_from_is_err_and c.from_residual-in_err-slot.result c.from_residual-in_err-slot.ensures.1 in
     let value : ◌≡◌ {A = Result ℕ NullCause} (Err c.in_err-slot.field-0.0) (Err Exhausted) =
     c.in_err-slot.ensures.value ∙ ap (λ o. ok_or o Exhausted) none in
@@ -34,20 +34,20 @@ returns-in_err-slot-clause-slot c =
 -- the slot that was taken
 took : (c : In_ok-slot) →
     IsTaken (state_of c.self.inside) (parts_of c.self.inside) c.self.invariant.kept c.take_slot.new.memory c.take_slot.new.lists
-    c.take_slot.new.firsts.items c.in_ok-slot.slot c.args.n
+    c.take_slot.new.counters.items c.in_ok-slot.slot c.args.n
 took c =
-    taken c.self.invariant c.args.n c.in_ok-class.class c.in_ok-class.ensures.ok.0 c.in_ok-class.ensures.ok.1 c.in_ok-class.ensures.within
-    c.in_ok-slot.slot
+    taken c.self.invariant c.args.n c.in_ok-number.number c.in_ok-number.ensures.ok.0 c.in_ok-number.ensures.ok.1
+    c.in_ok-number.ensures.within c.in_ok-slot.slot
     (rw (c.memory_mut-memory.ensures.value, c.in_ok-slot.ensures.ok_part) at c.take_slot.ensures.takes) c.take_slot.ensures.memory
 
 pub slot_of_class-place-requires : goal.slot_of_class-place-requires
 slot_of_class-place-requires c =
-    taken_class c.self.invariant c.args.n c.in_ok-class.class c.in_ok-class.ensures.ok.0 c.in_ok-class.ensures.ok.1
-    c.in_ok-class.ensures.within c.in_ok-slot.slot (took (goal.at.slot_of_class-place-requires c).In_ok-slot)
+    taken_class c.self.invariant c.args.n c.in_ok-number.number c.in_ok-number.ensures.ok.0 c.in_ok-number.ensures.ok.1
+    c.in_ok-number.ensures.within c.in_ok-slot.slot (took (goal.at.slot_of_class-place-requires c).In_ok-slot)
 
 pub give_out-address-requires-clause-room : goal.give_out-address-requires-clause-room
 give_out-address-requires-clause-room c =
-    taken_room c.self.invariant (took (goal.at.give_out-address-requires-clause-room c).In_ok-slot) c.in_ok-class.ensures.ok.0
+    taken_room c.self.invariant (took (goal.at.give_out-address-requires-clause-room c).In_ok-slot) c.in_ok-number.ensures.ok.0
 
 shown : (c : After-give_out-address) →
     shown_heap c.self.inside.layout c.self.inside.quarantine.limit c.give_out-address.new.machine.memory c.self.inside.total

@@ -1,11 +1,14 @@
 -- The slot that is given has room for its chunk, as in every heap, and decides the answer and the new state.
 use Rattle.std.proofs.Common.{sym}
 use Rattle.tagged_heap.proofs.TheoryLemmas as laws
-use Rattle.tagged_heap.proofs.CallSteps.{size_of_given, room_given}
+use Rattle.tagged_heap.proofs.CallSteps.{room_given}
+use Rattle.tagged_heap.proofs.Kept.{class_most, size_most}
 use Rattle.tagged_heap.proofs.heap.Heap.calloc.Goals as goal
 
 pub zero_chunk-requires-clause-size : goal.zero_chunk-requires-clause-size
-zero_chunk-requires-clause-size c = size_of_given _ _ _ c.in_ok-given.ensures.slot
+zero_chunk-requires-clause-size c =
+    let given = laws.request _ _ _ c.allocate.ensures.sound (sym c.in_ok-given.ensures.slot) in
+    size_most _ _ given.room (class_most _ _ c.allocate.ensures.sound given.reusable.in_range)
 
 pub zero_chunk-requires-clause-room : goal.zero_chunk-requires-clause-room
 zero_chunk-requires-clause-room c =

@@ -1,13 +1,12 @@
-use Rattle.std.proofs.Common.{◌≡◌, ◌+◌, ◌*◌, ◌<◌, ◌≤◌, List, ℕ, length, sym, ap, ◌∙◌, inl, inr, arith}
-use Rattle.std.specs.Prelude.{All}
+use Rattle.std.proofs.Common.{◌*◌, List, ℕ, length, sym, ap, ◌∙◌, inl, inr, arith}
 use Rattle.std.proofs.lemmas.Bool.{cases_order}
-use Rattle.machine_theory.specs.Memory.{bytes_at, written}
+use Rattle.machine_theory.specs.Memory.{bytes_at}
 use Rattle.class_table.specs.Layout.{slot_of}
 use Rattle.heap_theory.specs.Calls.{with_payload}
 use Rattle.heap_theory.specs.State.{payload_start}
 use Rattle.tagged_heap.specs.Abstraction.{state_of}
 use Rattle.tagged_heap.proofs.BytesInParts.{length-bytes_at}
-use Rattle.tagged_heap.proofs.PayloadWritten.{payload_within, payload_seen, bytes_fit, payload_held, payload_shown}
+use Rattle.tagged_heap.proofs.PayloadWritten.{HasPayload, payload_within, payload_seen, bytes_fit, payload_kept, payload_shown}
 use Rattle.tagged_heap.proofs.heap.Heap.copy_payload.Goals as goal
 use Rattle.tagged_heap.proofs.heap.Heap.copy_payload.Goals.{After-self-1}
 
@@ -61,36 +60,26 @@ copy-requires-clause-apart c =
 abbrev bytes : After-self-1 → List ℕ
 bytes c = bytes_at c.self.inside.machine.memory (16 * payload_start (slot_of c.self.inside.layout c.args.from.slot)) c.args.count
 
-room : (c : After-self-1) → length (bytes c) + 16 ≤ 16 * (slot_of c.self.inside.layout c.args.to.slot).class
-room c =
-    let room = rw (← c.self.view_is) at c.requires.target in
-    omega (
-      arith,
-      length-bytes_at c.self.inside.machine.memory (16 * payload_start (slot_of c.self.inside.layout c.args.from.slot)) c.args.count,
-      room,
-    )
-
-fit : (c : After-self-1) → All (λ b. b < 256) (bytes c)
-fit c = bytes_fit c.self.inside.machine.memory c.self.invariant.kept.memory_is _ c.args.count
-
-memory_is : (c : After-self-1) →
-    c.copy.new.memory ≡ written (16 * payload_start (slot_of c.self.inside.layout c.args.to.slot)) (bytes c) c.self.inside.machine.memory
-memory_is c =
+payload : (c : After-self-1) → HasPayload c.self.inside.layout c.self.inside.machine.memory c.copy.new.memory c.args.to.slot (bytes c)
+payload c =
     let from = (rw (← c.self.view_is) at c.requires.from).start in
     let to = rw (← c.self.view_is) at c.requires.start in
-    rw (← c.memory_mut-memory.ensures.value, ← to, ← from) c.copy.ensures
+    let room = rw (← c.self.view_is) at c.requires.target in
+    let source = 16 * payload_start (slot_of c.self.inside.layout c.args.from.slot) in
+    record {
+      in_range = rw (← c.self.view_is) at c.requires.to;
+      room = omega (arith, length-bytes_at c.self.inside.machine.memory source c.args.count, room);
+      fit = bytes_fit c.self.inside.machine.memory c.self.invariant.kept.memory_is _ c.args.count;
+      written_is = rw (← c.memory_mut-memory.ensures.value, ← to, ← from) c.copy.ensures;
+    }
 
 pub invariant_of-self : goal.invariant_of-self
-invariant_of-self c =
-    let in_range = rw (← c.self.view_is) at c.requires.to in
-    rw (payload_shown c.self.invariant c.args.to.slot (bytes c) in_range (room c) (fit c) (memory_is c))
-    (payload_held c.self.invariant c.args.to.slot (bytes c) in_range (room c) (fit c) (memory_is c))
+invariant_of-self c = payload_kept c.self.invariant (payload c)
 
 -- the bytes that are copied are those that are seen
 pub returns : goal.returns
 returns c =
-    let shown =
-    payload_shown c.self.invariant c.args.to.slot (bytes c) (rw (← c.self.view_is) at c.requires.to) (room c) (fit c) (memory_is c) in
+    let shown = payload_shown c.self.invariant (payload c) in
     let read = payload_seen c.self.inside.layout c.self.inside.machine.memory c.args.from.slot c.args.count
     c.self.invariant.kept.sound.slots (rw (← c.self.view_is) at c.requires.from).slot (rw (← c.self.view_is) at c.requires.source) in
     rw (← c.self.view_is) (λ k. record

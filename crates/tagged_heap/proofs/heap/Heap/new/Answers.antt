@@ -24,7 +24,7 @@ shown c =
 
 pub invariant_of-result : goal.invariant_of-result
 invariant_of-result c =
-    rw (c.new-2.ensures, c.new-quarantine.ensures.value, c.new-lists.ensures.fronts, c.first_slots-firsts.ensures, shown c)
+    rw (c.new-2.ensures, c.new-quarantine.ensures.value, c.new-lists.ensures.fronts, c.first_slots-counters.ensures, shown c)
     (held_first c.new-layout.result c.args.config.seed c.args.config.quarantine c.write_fresh_headers.ensures.partition
     c.write_fresh_headers.new.memory c.write_fresh_headers.ensures.headers (memory_seen c)
     c.write_fresh_headers.ensures.memory)

@@ -6,7 +6,7 @@ use Rattle.heap_theory.specs.Places.{place_kind}
 use Rattle.heap_theory.specs.State.{chunk_granules, IsSlot}
 use Rattle.tagged_heap.specs.Abstraction.{state_of}
 use Rattle.heap_theory.specs.Region.{region_of, header_in}
-use Rattle.tagged_heap.proofs.AccessSteps.{kind_outside, in_range, start_kind, size_few, tail_kind, chunk_granule_kind, kind_by}
+use Rattle.tagged_heap.proofs.GranuleKinds.{kind_outside, in_range, start_kind, size_few, tail_kind, chunk_granule_kind, kind_by}
 use Rattle.tagged_heap.proofs.Kept.{region_is, class_few}
 use Rattle.tagged_heap.proofs.heap.Heap.place_kind.Goals as goal
 use Rattle.tagged_heap.proofs.heap.Heap.place_kind.Goals.{In-Some, After-header-header, After-chunk_granules}

@@ -9,9 +9,9 @@ use Rattle.heap_theory.specs.Choice.{chunk_at}
 use Rattle.tagged_heap.specs.declared.freeing.Chunk.{Chunk as Found}
 use Rattle.tagged_heap.specs.Chunks.{IsChunk}
 use Rattle.tagged_heap.specs.Frees.{frees_of_realloc}
-use Rattle.tagged_heap.proofs.CallSteps.{realloc_accepted, err_named, ok_named, all_named, moves}
+use Rattle.tagged_heap.proofs.CallSteps.{realloc_accepted, err_named, ok_named, all_named, IsMove, moves}
 use Rattle.tagged_heap.proofs.heap.Heap.realloc.Goals as goal
-use Rattle.tagged_heap.proofs.heap.Heap.realloc.Goals.{In_ok-chunk, In_err-chunk}
+use Rattle.tagged_heap.proofs.heap.Heap.realloc.Goals.{In_ok-chunk, In_err-chunk, After-move_chunk}
 
 -- the chunk that the pointer names
 found : (c : In_ok-chunk) →
@@ -84,27 +84,29 @@ returns-then-stays_in_class-clause-counted c =
 pub move_chunk-requires-clause-live : goal.move_chunk-requires-clause-live
 move_chunk-requires-clause-live c = is_chunk (goal.at.move_chunk-requires-clause-live c).In_ok-chunk
 
+-- what the move answers and leaves
+move_is : (c : After-move_chunk) → IsMove c.args.self.now c.move_chunk.new.self
+    (record { slot = c.in_ok-chunk.chunk.slot; size = c.in_ok-chunk.chunk.size }) c.args.n c.move_chunk.result
+move_is c = let m = c.move_chunk in moves _ _ _ _ _ m.ensures.ok m.ensures.err m.ensures.refused
+
 pub returns-clause-answer : goal.returns-clause-answer
 unfolding realloc_step
 returns-clause-answer c =
-    let m = c.move_chunk in
-    rw (ne_eqb c.args.p 0 c.if-p-eq0.false, found (goal.at.returns-clause-answer c).In_ok-chunk, ← c.if-stays_in_class.ensures.test)
-    (all_named Null _ _ c.map_err-3.ensures.cases
-    ∙ (moves c.args.self.now m.new.self _ c.args.n m.result m.ensures.ok m.ensures.err m.ensures.refused).0)
+    let at = goal.at.returns-clause-answer c in
+    rw (ne_eqb c.args.p 0 c.if-p-eq0.false, found at.In_ok-chunk, ← c.if-stays_in_class.ensures.test)
+    (all_named Null _ _ c.map_err-3.ensures.cases ∙ (move_is at.After-move_chunk).answer)
 
 pub returns-clause-state : goal.returns-clause-state
 unfolding realloc_step
 returns-clause-state c =
-    let m = c.move_chunk in
-    rw (ne_eqb c.args.p 0 c.if-p-eq0.false, found (goal.at.returns-clause-state c).In_ok-chunk, ← c.if-stays_in_class.ensures.test)
-    (moves c.args.self.now m.new.self _ c.args.n m.result m.ensures.ok m.ensures.err m.ensures.refused).1
+    let at = goal.at.returns-clause-state c in
+    rw (ne_eqb c.args.p 0 c.if-p-eq0.false, found at.In_ok-chunk, ← c.if-stays_in_class.ensures.test) (move_is at.After-move_chunk).state
 
 pub returns-clause-counted : goal.returns-clause-counted
 unfolding frees_of_realloc
 returns-clause-counted c =
-    let m = c.move_chunk in
-    rw (ne_eqb c.args.p 0 c.if-p-eq0.false, found (goal.at.returns-clause-counted c).In_ok-chunk, ← c.if-stays_in_class.ensures.test)
-    (moves c.args.self.now m.new.self _ c.args.n m.result m.ensures.ok m.ensures.err m.ensures.refused).2
+    let at = goal.at.returns-clause-counted c in
+    rw (ne_eqb c.args.p 0 c.if-p-eq0.false, found at.In_ok-chunk, ← c.if-stays_in_class.ensures.test) (move_is at.After-move_chunk).counted
 
 -- what is answered is the definition's answer, of which the law speaks
 pub returns-in_err-chunk-clause-accepted : goal.returns-in_err-chunk-clause-accepted

@@ -10,12 +10,13 @@ returns-clause-test c =
     let chunk = rw (← c.self.view_is) at c.requires in
     rw (← c.self.view_is)
     (c.eq.ensures ∙ stays_is (state_of c.self.inside) c.args.n (slot_of c.self.inside.layout c.args.chunk.slot) c.args.chunk.number _
-    c.class_for.result c.self.invariant.kept.sound.region.table chunk.number c.class_for.ensures.ok c.class_for.ensures.err)
+    c.class_number_for.result c.self.invariant.kept.sound.region.table chunk.number
+    c.class_number_for.ensures.ok c.class_number_for.ensures.err)
 
 pub returns-clause-room : goal.returns-clause-room
 returns-clause-room c = λ same.
     let chunk = rw (← c.self.view_is) at c.requires in
     rw (← c.self.view_is)
     (room_in_class (state_of c.self.inside) c.args.n (slot_of c.self.inside.layout c.args.chunk.slot) c.args.chunk.number _
-    c.class_for.result (c.self.invariant.kept.sound.slots.wide c.args.chunk.slot chunk.slot) chunk.number c.class_for.ensures.ok
-    (sym c.eq.ensures ∙ same))
+    c.class_number_for.result (c.self.invariant.kept.sound.slots.wide c.args.chunk.slot chunk.slot) chunk.number
+    c.class_number_for.ensures.ok (sym c.eq.ensures ∙ same))

@@ -28,7 +28,7 @@ with_stored c v = record v { state = record v.state { memory = stored v.state.me
 record IsStored (c : After-store) : Type 0 where
   pub none : access_fault c.self.inside.machine.memory c.args.address (length c.args.bytes.now) ≡ None
   pub held : IsHeldIn (around c c.store.new.self).state c.self.inside.frees
-      (record (parts_of c.self.inside) { memory = c.store.new.self.memory }) c.self.inside.firsts.items
+      (record (parts_of c.self.inside) { memory = c.store.new.self.memory }) c.self.inside.counters.items
   pub shown : around c c.store.new.self ≡ with_stored c (seen c.self.inside)
 
 is_stored : (c : After-store) → access_fault c.self.inside.machine.memory c.args.address (length c.args.bytes.now) ≡ None → IsStored c
@@ -48,8 +48,8 @@ is_stored c none =
       none = none;
       held =
           subst (λ (machine : Machine). IsHeldIn (around c machine).state c.self.inside.frees
-          (record (parts_of c.self.inside) { memory = machine.memory }) c.self.inside.firsts.items) (sym machine)
-          (subst (λ h. IsHeldIn h c.self.inside.frees (record (parts_of c.self.inside) { memory = new }) c.self.inside.firsts.items)
+          (record (parts_of c.self.inside) { memory = machine.memory }) c.self.inside.counters.items) (sym machine)
+          (subst (λ h. IsHeldIn h c.self.inside.frees (record (parts_of c.self.inside) { memory = new }) c.self.inside.counters.items)
           (sym shown)
           (written_held c.self.invariant (byte_of (place_of c.args.address)) c.args.bytes.now refl spared fit));
       shown = ap (around c) machine ∙ (λ k. record { state = shown k; frees = c.self.inside.frees });

@@ -1,7 +1,7 @@
-use Rattle.std.proofs.Common.{◌≡◌, ◌∙◌, sym, ap, Err, rules, true}
+use Rattle.std.proofs.Common.{◌∙◌, sym, ap, Err, rules}
 use Rattle.std.proofs.lemmas.Result.{err_from_is_err_and}
 use Rattle.trace_reader.specs.Reached.{answer_of}
-use Rattle.trace_reader.specs.Reading.{Reading, fed, is_open, line_ended}
+use Rattle.trace_reader.specs.Reading.{Reading, fed, line_ended}
 use Rattle.trace_reader.proofs.Ending.{failed_on_the_way, fed-after, fed-failed, is_open-ended, reached_ok, state_failed, unchanged_if_failed, unfinished_after}
 use Rattle.trace_reader.proofs.Reaching.{IsFrontOf-fed, IsFrontOf-trans, came}
 use Rattle.trace_reader.proofs.reader.TraceReader.feed.Goals as goal
@@ -26,15 +26,9 @@ returns-in_err-end_line c =
     let r =
     failed_on_the_way old mid c.end_line.new.self c.in_err-end_line.field-0.0 c.args.piece.now line after
     c.loop-line.invariant.still_open c.in-Some.ensures.line rest c.loop-line.invariant.kept c.in_err-end_line.ensures in
-    let open_now : is_open old ≡ true = search rules in
-    rw (p.1, p.2) (record {
-      answer = r.answer;
-      failed = unchanged_if_failed old c.end_line.new.self open_now;
-      reading = r.reading;
-      kept = r.kept;
-      front = r.front;
-      unfinished = unfinished_after old c.end_line.new.self c.args.piece.now (Err c.in_err-end_line.field-0.0) c.requires r;
-    })
+    let failed = unchanged_if_failed old c.end_line.new.self (search rules) in
+    let unfinished = unfinished_after old c.end_line.new.self c.args.piece.now (Err c.in_err-end_line.field-0.0) c.requires r in
+    rw (p.1, p.2) (search (r, failed, unfinished))
 
 pub loop-line-preserved : goal.loop-line-preserved
 loop-line-preserved c =
@@ -61,12 +55,6 @@ returns c =
     let r =
     came old (fed old c.args.piece.now) c.keep.new.self c.keep.result now
     (c.keep.ensures.answer ∙ ap (λ (r : Reading). answer_of r.state) now) (IsFrontOf-fed old c.args.piece.now) in
-    let open_now : is_open old ≡ true = search rules in
-    record {
-      answer = r.answer;
-      failed = unchanged_if_failed old c.keep.new.self open_now;
-      reading = r.reading;
-      kept = r.kept;
-      front = r.front;
-      unfinished = unfinished_after old c.keep.new.self c.args.piece.now c.keep.result c.requires r;
-    }
+    let failed = unchanged_if_failed old c.keep.new.self (search rules) in
+    let unfinished = unfinished_after old c.keep.new.self c.args.piece.now c.keep.result c.requires r in
+    search (r, failed, unfinished)

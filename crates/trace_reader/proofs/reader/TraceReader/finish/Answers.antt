@@ -1,8 +1,9 @@
-use Rattle.std.proofs.Common.{◌≡◌, ◌∙◌, Ok, sym, ap, true, eqb-true, length, rules, refl, arith}
+use Rattle.std.proofs.Common.{◌≡◌, ◌≤◌, ◌∙◌, Ok, sym, ap, true, eqb-true, length, rules, arith}
 use Rattle.std.proofs.lemmas.Result.{err_from_is_err_and}
 use Rattle.trace_reader.specs.Reached.{HasReached}
 use Rattle.trace_reader.specs.Reading.{Reading, finished, is_open}
 use Rattle.trace_reader.specs.Reading.State.{Finished}
+use Rattle.trace_reader.specs.TraceLine.{most_events}
 use Rattle.trace_reader.proofs.Ending.{finish_empty, finish_failed, finish_line, finished-failed, finished_after, not_empty, state_failed, unchanged_if_failed}
 use Rattle.trace_reader.proofs.Reaching.{IsFrontOf-finished}
 use Rattle.trace_reader.proofs.reader.TraceReader.finish.Goals as goal
@@ -27,22 +28,17 @@ returns-in_err-judge_rest c =
     let r =
     finish_failed old c.judge_rest.new.self i.events.items i.lines i.rest.items i.status c.in_err-judge_rest.field-0.0 c.self.view_is
     open_now some c.in_err-judge_rest.ensures in
-    rw (p.1, p.2) (record {
-      answer = r.answer;
-      failed = unchanged_if_failed old c.judge_rest.new.self open_now;
-      reading = r.reading;
-      kept = r.kept;
-      front = r.front;
-      finished = finished_after old c.judge_rest.new.self c.in_err-judge_rest.field-0.0 r;
-      few = tt;
-    })
+    let failed = unchanged_if_failed old c.judge_rest.new.self open_now in
+    let finished_now = finished_after old c.judge_rest.new.self c.in_err-judge_rest.field-0.0 r in
+    rw (p.1, p.2) (search (r, failed, finished_now))
 
 pub returns : goal.returns
 returns c =
     let old = c.args.self.now in
     let i = c.self.inside in
     let open_now : is_open old ≡ true = search rules in
-    let r : HasReached old (finished old) (record { events = c.self-2.inside.events.items; state = Finished }) (Ok tt) =
+    let new : Reading = record { events = c.self-2.inside.events.items; state = Finished } in
+    let r : HasReached old (finished old) new (Ok tt) =
     elim c.if-not-is_empty.branch [
       | then-not-is_empty+in_ok-judge_rest w ↦ finish_line old w.judge_rest.new.self i.events.items i.lines i.rest.items i.status
           c.self-2.inside.events.items c.self.view_is open_now (not_empty i.rest.items c.is_empty.result c.is_empty.ensures (search rules))
@@ -51,12 +47,6 @@ returns c =
           open_now (eqb-true (length i.rest.items) 0 (sym c.is_empty.ensures ∙ search rules))
           (ap (λ (r : Reading). r.events) (c.self-2.view_is ∙ w.self-is))
     ] in
-    record {
-      answer = r.answer;
-      failed = unchanged_if_failed old _ open_now;
-      reading = r.reading;
-      kept = r.kept;
-      front = r.front;
-      finished = refl;
-      few = omega arith;
-    }
+    let failed = unchanged_if_failed old new open_now in
+    let few : length new.events ≤ most_events = omega arith in
+    search (r, failed, few)

@@ -1,0 +1,85 @@
+-- What is looked at row by row is what a sheet has to meet, and what it meets is the verdict.
+use Rattle.std.proofs.Common.{◌≡◌, ℕ, suc, ◌+◌, ◌-◌, ◌<◌, List, [], length, slice_index, arith, ap, rules, ◌∙◌}
+use Rattle.std.specs.Prelude.{◌↔◌, slice_index_or}
+use Rattle.std.specs.List.{AllAdjacentBelow}
+use Rattle.std.proofs.lemmas.List.{get_or_default}
+use Rattle.potential_check.specs.Bounds.{EdgesHold, StageDropHolds}
+use Rattle.potential_check.specs.Spanned.{Spanned}
+use Rattle.tuner_theory.specs.Rows.{number_at}
+use Rattle.potential_check.specs.SheetOnCounts.{MeetsBefore}
+use Rattle.tuner_theory.specs.Sheets.{IsVerdict, Meets, Sheet}
+use Rattle.tuner_theory.specs.Spans.{places, span_waste}
+use Rattle.tuner_theory.specs.declared.verdict.Refusal.TheVariants.{Shape, LastClass, StageDrop, Edge, NotTight}
+use Rattle.tuner_theory.specs.declared.verdict.Verdict.TheVariants.{Optimal, Refused}
+
+-- row k, counted from 1, is the one at m, counted from 0
+number-is : (rows : List (List ℕ)) (k m i : ℕ) (d : List ℕ) → k ≡ m + 1 → m < length rows →
+    number_at rows k i ≡ slice_index (slice_index_or rows m d) i
+number-is rows k m i d e lt =
+    let front : k - 1 ≡ m = omega arith in
+    ap (λ m. slice_index (slice_index_or rows m []) i) front ∙ ap (λ (row : List ℕ). slice_index row i) (get_or_default rows m [] d lt)
+
+module _ (s : Sheet) (spans : Spanned) (same : spans.step ≡ s.step) (shape : Meets spans.counts s Shape) where
+  drops-meet : AllAdjacentBelow StageDropHolds s.rows (length s.rows) → Meets spans.counts s StageDrop
+  drops-meet all k i one few lt =
+      let next : k - 1 + 1 < length s.rows = omega (arith, shape.row_count) in
+      omega (
+        arith,
+        (all (k - 1) [] next).each i (omega (arith, shape.row_lengths (k - 1 + 1) [] next)),
+        number-is s.rows k (k - 1) i [] (omega arith) (omega arith),
+        number-is s.rows (suc k) (k - 1 + 1) i [] (omega arith) next,
+      )
+
+  meet-drops : Meets spans.counts s StageDrop → AllAdjacentBelow StageDropHolds s.rows (length s.rows)
+  meet-drops meets m d next = record {
+    each = λ i lt. omega (
+      arith,
+      meets (m + 1) i (omega arith) (omega (arith, shape.row_count)) (omega (arith, shape.row_lengths (m + 1) d next)),
+      number-is s.rows (m + 1) m i d (omega arith) (omega arith),
+      number-is s.rows (suc (m + 1)) (m + 1) i d (omega arith) next,
+    );
+  }
+
+  pub drops-met : AllAdjacentBelow StageDropHolds s.rows (length s.rows) ↔ Meets spans.counts s StageDrop
+  drops-met = (drops-meet, meet-drops)
+
+  waste-is : (i j : ℕ) → span_waste spans.counts spans.step i j ≡ span_waste spans.counts s.step i j
+  waste-is i j = ap (λ step. span_waste spans.counts step i j) same
+
+  places-are : places spans.counts spans.step ≡ places spans.counts s.step
+  places-are = ap (places spans.counts) same
+
+  edges-meet : AllAdjacentBelow (EdgesHold spans) s.rows (length s.rows) → Meets spans.counts s Edge
+  edges-meet all k i j one few lt le =
+      let next : k - 1 + 1 < length s.rows = omega (arith, shape.row_count) in
+      omega (
+        arith,
+        (all (k - 1) [] next).each i j (omega (arith, shape.row_lengths (k - 1 + 1) [] next)) lt (omega (arith, places-are)),
+        waste-is i j,
+        number-is s.rows k (k - 1) j [] (omega arith) (omega arith),
+        number-is s.rows (suc k) (k - 1 + 1) i [] (omega arith) next,
+      )
+
+  meet-edges : Meets spans.counts s Edge → AllAdjacentBelow (EdgesHold spans) s.rows (length s.rows)
+  meet-edges meets m d next = record {
+    each = λ i j lt later le. omega (
+      arith,
+      meets (m + 1) i j (omega arith) (omega (arith, shape.row_count)) later (omega (arith, places-are)),
+      waste-is i j,
+      number-is s.rows (m + 1) m j d (omega arith) (omega arith),
+      number-is s.rows (suc (m + 1)) (m + 1) i d (omega arith) next,
+    );
+  }
+
+  pub edges-met : AllAdjacentBelow (EdgesHold spans) s.rows (length s.rows) ↔ Meets spans.counts s Edge
+  edges-met = (edges-meet, meet-edges)
+
+-- ---- the last test
+
+module _ (counts : List ℕ) (s : Sheet) (table : MeetsBefore counts s Shape) (shape : Meets counts s Shape) (last : Meets counts s LastClass)
+    (drop : Meets counts s StageDrop) (edge : Meets counts s Edge) where
+  pub refused-last : (Meets counts s NotTight → ⊥) → IsVerdict counts s (Refused NotTight)
+  refused-last = search rules
+
+  pub optimal : Meets counts s NotTight → IsVerdict counts s Optimal
+  optimal = search rules

@@ -1,6 +1,0 @@
-use Rattle.std.proofs.Common.{◌≡◌, ℕ, ◌<◌, List, length}
-use Rattle.std.specs.Prelude.{slice_index_or}
-use Rattle.potential_check.proofs.certificate.have_length.Given as goal
-
-abbrev pub invariant-loop-index : goal.invariant-loop-index
-invariant-loop-index l = (k : ℕ) (d : List ℕ) → k < l.index → length (slice_index_or l.rows k d) ≡ l.len

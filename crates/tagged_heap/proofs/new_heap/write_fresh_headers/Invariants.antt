@@ -1,0 +1,15 @@
+use Rattle.std.proofs.Common.{◌≡◌, ℕ, ◌<◌, length}
+use Rattle.machine_theory.specs.Memory.{IsMemory}
+use Rattle.heap_theory.specs.State.{without_headers}
+use Rattle.heap_theory.specs.State.State.{Fresh}
+use Rattle.tagged_heap.specs.Representation.{header_from}
+use Rattle.heap_theory.specs.Region.{region_of, header_in}
+use Rattle.tagged_heap.proofs.new_heap.write_fresh_headers.Given as goal
+
+abbrev pub invariant-loop-slot : goal.invariant-loop-slot
+invariant-loop-slot l = record {
+  headers : (s : ℕ) → s < l.slot → header_in (region_of l.layout l.memory) s ≡ header_from l.layout 0 s Fresh 0;
+  seen : without_headers l.layout l.memory ≡ without_headers l.layout l.initial.memory;
+  memory : IsMemory l.memory;
+  long : length l.memory ≡ length l.initial.memory;
+}

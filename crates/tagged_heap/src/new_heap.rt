@@ -1,0 +1,52 @@
+//! A new heap's headers and counters.
+ghost use Rattle.class_table.specs.Layout.{IsPartition, first_slot, slot_count};
+ghost use Rattle.heap_theory.specs.State.{without_headers};
+ghost use Rattle.heap_theory.specs.State.State.{Fresh};
+ghost use Rattle.machine_theory.specs.Memory.{IsMemory};
+ghost use Rattle.std.specs.List.{range_with_len};
+ghost use Rattle.std.specs.Prelude.{◌≡◌, ◌+◌, ◌<◌, ◌≤◌, ℕ, length, map, slice_index, slice_set, IfNone, IfSome};
+ghost use Rattle.tagged_heap.specs.Representation.{header_from};
+ghost use Rattle.heap_theory.specs.Region.{region_of, header_in};
+
+use arrayvec::ArrayVec;
+use chunk_header::{Header, State, write};
+use class_table::{FEWEST_GRANULES, Layout, MOST_CLASSES};
+use granule_memory::Memory;
+
+/// Writes into each slot the header of a slot that was never given out.
+pub(crate) fn write_fresh_headers(memory: &mut Memory, layout: &Layout)
+    requires region { length memory.old ≡ layout.now.granules }
+    requires memory { IsMemory memory.old }
+    ensures headers { (s : ℕ) → s < slot_count layout.now →
+        header_in (region_of layout.now memory.new) s ≡ header_from layout.now 0 s Fresh 0 }
+    ensures seen { without_headers layout.now memory.new ≡ without_headers layout.now memory.old }
+    ensures memory { IsMemory memory.new }
+    // What any layout is known to be.
+    ensures partition { IsPartition layout.now }
+{
+    // the contract of `granules` gives the proof that the layout is a partition
+    prove!(layout.granules() >= FEWEST_GRANULES);
+    for slot in 0..layout.slots() {
+        let number = layout.class_of(slot);
+        let header = Header {
+            state: State::Fresh,
+            size: 0,
+            tag: 0,
+            class: number as u8,
+            next: 0,
+            mark: 0,
+        };
+        write(memory, layout.slot_of_class(number, slot).start, &header);
+    }
+}
+
+/// The first slot of each class: the counters of a heap in which all slots are fresh.
+pub(crate) fn first_slots(layout: &Layout) -> ArrayVec<u32, MOST_CLASSES>
+    ensures { result.items ≡ map (first_slot layout.now) (range_with_len 0 (length layout.now.classes)) }
+{
+    let mut counters = ArrayVec::new();
+    for number in 0..layout.classes() {
+        counters.push(layout.first_slot(number));
+    }
+    counters
+}

@@ -1,0 +1,111 @@
+//! The changes of one slot's chunk: it is given out, resized and taken back, with its header and its tags.
+ghost use Rattle.class_table.specs.Layout.{end_of, slot_count, slot_of};
+ghost use Rattle.heap_theory.specs.Calls.{chunk_tagged, parity_exclude};
+ghost use Rattle.heap_theory.specs.Header.{header_at, with_header};
+ghost use Rattle.heap_theory.specs.Header.Standing.{Live, Quarantined};
+ghost use Rattle.heap_theory.specs.State.{chunk_granules, payload_place, payload_start};
+ghost use Rattle.machine_theory.specs.Address.{with_tag};
+ghost use Rattle.machine_theory.specs.Instructions.{drawn_tag};
+ghost use Rattle.machine_theory.specs.Memory.{tagged, IsMemory};
+ghost use Rattle.machine_theory.specs.Seed.{next_seed};
+ghost use Rattle.std.specs.Prelude.{◌≡◌, ◌+◌, ◌^◌, ◌<◌, ◌≤◌, bit_or, length};
+ghost use Rattle.tagged_heap.specs.Chunks.{HasRoom, given_header, retired_header, tag_for};
+ghost use Rattle.heap_theory.specs.Region.{region_of, header_in};
+
+use crate::headers::header;
+use crate::pointers::payload_address;
+use crate::tags::{chunk_granules, draw, exclude, tag_chunk};
+use chunk_header::{Header, State, write};
+use class_table::{Layout, Slot};
+use tag_machine::Machine;
+
+/// Gives a slot, which lies at `place`, out for `n` bytes, at most 16,368, which it must have room for: draws a tag, writes the header and
+/// tags the chunk. Returns the address of its payload under that tag.
+pub(crate) fn give_out(
+    machine: &mut Machine,
+    layout: &Layout,
+    slot: u32,
+    place: Slot,
+    n: u32,
+) -> u64
+    requires room { HasRoom layout.now machine.old.memory slot n }
+    requires start { place.start ≡ (slot_of layout.now slot).start }
+    requires class { place.class ≡ (slot_of layout.now slot).class }
+    ensures address { result
+        ≡ with_tag (payload_place (slot_of layout.now slot)) (tag_for layout.now machine.old slot) }
+    ensures machine { let tag = tag_for layout.now machine.old slot in
+        let header = given_header (header_in (region_of layout.now machine.old.memory) slot) n tag in
+        let place = slot_of layout.now slot in
+        machine.new ≡ record {
+          memory = chunk_tagged place n tag (with_header machine.old.memory place.start header);
+          seed = next_seed machine.old.seed;
+          tag = tag;
+        } }
+    ensures memory { IsMemory machine.new.memory }
+{
+    let before = header(machine.memory(), layout, slot, place.start);
+    let tag = draw(machine, exclude(slot, before.tag));
+    let after = Header {
+        state: State::Live,
+        size: n as u16,
+        tag,
+        class: before.class,
+        next: 0,
+        mark: 0,
+    };
+    write(machine.memory_mut(), place.start, &after);
+    tag_chunk(machine, place, n, tag);
+    payload_address(place.start, tag)
+}
+
+/// Gives the chunk of a live slot, which lies at `place`, `n` bytes under the tag that it has. The slot must have room for them.
+pub(crate) fn resize(machine: &mut Machine, layout: &Layout, slot: u32, place: Slot, n: u32)
+    requires room { HasRoom layout.now machine.old.memory slot n }
+    requires start { place.start ≡ (slot_of layout.now slot).start }
+    requires class { place.class ≡ (slot_of layout.now slot).class }
+    ensures machine { let before = header_in (region_of layout.now machine.old.memory) slot in
+        let place = slot_of layout.now slot in
+        machine.new ≡ record machine.old {
+          memory = chunk_tagged place n before.tag
+              (with_header machine.old.memory place.start (record before { size = n }));
+        } }
+    ensures memory { IsMemory machine.new.memory }
+{
+    let before = header(machine.memory(), layout, slot, place.start);
+    let after = Header {
+        size: n as u16,
+        ..before
+    };
+    write(machine.memory_mut(), place.start, &after);
+    tag_chunk(machine, place, n, before.tag);
+}
+
+/// Takes back the chunk of a live slot, which begins at granule `start`, with this mark: draws a tag, writes the header and tags the
+/// chunk.
+pub(crate) fn retire(machine: &mut Machine, layout: &Layout, slot: u32, start: u32, mark: u64)
+    requires room { let before = header_in (region_of layout.now machine.old.memory) slot in
+        HasRoom layout.now machine.old.memory slot before.size }
+    requires start { start ≡ (slot_of layout.now slot).start }
+    ensures machine { let before = header_in (region_of layout.now machine.old.memory) slot in
+        let tag = tag_for layout.now machine.old slot in
+        let place = slot_of layout.now slot in
+        machine.new ≡ record {
+          memory = tagged (payload_start place) (chunk_granules before.size) tag
+              (with_header machine.old.memory place.start (retired_header before mark));
+          seed = next_seed machine.old.seed;
+          tag = tag;
+        } }
+    ensures memory { IsMemory machine.new.memory }
+{
+    let before = header(machine.memory(), layout, slot, start);
+    let other = draw(machine, exclude(slot, before.tag));
+    let after = Header {
+        state: State::Quarantined,
+        next: 0,
+        mark,
+        ..before
+    };
+    let memory = machine.memory_mut();
+    write(memory, start, &after);
+    memory.set_tags(start + 1, chunk_granules(u32::from(before.size)), other);
+}
