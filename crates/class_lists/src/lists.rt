@@ -10,8 +10,8 @@ use class_table::{Layout, MOST_CLASSES};
 use granule_memory::Memory;
 use std::marker::Model;
 
-/// A list of released slots for each class of a layout. Contracts see it as the fronts of the lists, by the classes' numbers: a front is the
-/// number of the list's first slot plus one, or 0 if the list is empty. Each slot's header has the link to the next slot. So the lists
+/// A list of released slots for each class of a layout. Contracts see it as the fronts of the lists, by the classes' numbers: a front is
+/// the number of the list's first slot plus one, or 0 if the list is empty. Each slot's header has the link to the next slot. So the lists
 /// take no memory of their own, and each call needs the memory and the layout that they belong to.
 #[derive(Debug, Drop)]
 pub struct ClassLists {

@@ -1,15 +1,13 @@
 -- The class of a slot, by the first slots of all classes.
-use Rattle.std.proofs.Common.{◌≡◌, ℕ, ◌+◌, ◌-◌, ◌*◌, ◌/◌, ◌<◌, ◌≤◌, List, length, map, take, get_or, sym, ◌∙◌, ap, subst, arith, zero-add, inl, inr}
-use Rattle.std.specs.Prelude.{slice_get, Some, sum_by}
+use Rattle.std.proofs.Common.{◌≡◌, ℕ, ◌+◌, ◌-◌, ◌*◌, ◌<◌, ◌≤◌, List, length, map, get_or, sym, ◌∙◌, ap, subst, arith, zero-add, inl, inr}
+use Rattle.std.specs.Prelude.{slice_get, Some}
 use Rattle.std.specs.List.{range_with_len}
 use Rattle.std.specs.List.Sorted.{IsNonDecreasingBy}
 use Rattle.std.proofs.lemmas.Bool.{cases_lt}
-use Rattle.std.proofs.lemmas.List.{take-take}
 use Rattle.std.proofs.lemmas.List.FromFn.{length-map-range_with_len, get_or-map-range_with_len}
-use Rattle.std.proofs.lemmas.List.Sums.{sum_by-take-le}
 use Rattle.std.proofs.lemmas.Option.{slice_get-get_or}
 use Rattle.class_table.specs.Layout.{Partition, Slot, IsClassOf, share_of, slot_count, slot_of, first_slot}
-use Rattle.class_table.proofs.Firsts.{first_slot-suc}
+use Rattle.class_table.proofs.FirstSlots.{first_slot-suc, first_slot-le}
 use Rattle.class_table.proofs.Slots.{slot_of-class, slot_count-classes}
 
 -- the first slots of all classes, and the number of slots after them
@@ -23,11 +21,6 @@ pub get_or-firsts_of : (region : Partition) (number d : ℕ) → number ≤ leng
     get_or (firsts_of region) number d ≡ first_slot region number
 get_or-firsts_of region number d within =
     get_or-map-range_with_len (first_slot region) 0 (length region.classes + 1) number number d (omega arith) (zero-add number)
-
-first_slot-le : (region : Partition) (a b : ℕ) → a ≤ b → first_slot region a ≤ first_slot region b
-first_slot-le region a b le =
-    subst (λ classes. sum_by (λ class. share_of region / class) classes ≤ first_slot region b) (take-take a b region.classes le)
-    (sum_by-take-le (λ class. share_of region / class) (take b region.classes) a)
 
 pub firsts_of-ascending : (region : Partition) → IsNonDecreasingBy (λ first. first) (firsts_of region)
 firsts_of-ascending region a b d le within =

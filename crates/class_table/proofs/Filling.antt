@@ -4,7 +4,7 @@ use Rattle.std.specs.List.{range_with_len}
 use Rattle.std.proofs.lemmas.List.{take_more}
 use Rattle.std.proofs.lemmas.List.FromFn.{length-map-range_with_len, map-range_with_len_more}
 use Rattle.class_table.specs.Layout.{Partition, share_of, first_slot}
-use Rattle.class_table.proofs.Firsts.{first_slot-suc}
+use Rattle.class_table.proofs.FirstSlots.{first_slot-suc}
 
 pub record IsFilled (region : Partition) (filled numbers : List ℕ) (count number : ℕ) : Type 0 where
   pub classes : filled ≡ take number region.classes

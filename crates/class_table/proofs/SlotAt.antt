@@ -3,7 +3,7 @@ use Rattle.std.proofs.Common.{◌≡◌, ℕ, ◌+◌, ◌-◌, ◌*◌, ◌/◌
 use Rattle.std.proofs.lemmas.Nat.{mul-le, div-add-mod', div-mul-add, mod-mul-add, mod_below}
 use Rattle.class_table.specs.Layout.{Partition, IsPartition, Slot, end_of, share_of, slot_count, slot_of, first_slot, Covers, slot_over}
 use Rattle.class_table.proofs.Covering.{slot_over-covers}
-use Rattle.class_table.proofs.Firsts.{first_slot-suc, first_slot-most}
+use Rattle.class_table.proofs.FirstSlots.{first_slot-suc, first_slot-most}
 use Rattle.class_table.proofs.Slots.{Place, place_of, slot_of-class}
 
 record IsAt (share granule number class k : ℕ) : Type 0 where

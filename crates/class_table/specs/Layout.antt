@@ -1,4 +1,4 @@
--- How a region is divided into slots (this project's own): each class has an equal share of its granules.
+-- How a region is divided into slots: each class has an equal share of its granules. The rule is this project's own, not Scudo's.
 use Rattle.std.specs.Prelude.{ℕ, ◌+◌, ◌*◌, ◌/◌, ◌<◌, ◌≤◌, Bool, ◌&&◌, nat_le, nat_lt, List, [], ◌∷◌, ◌++◌, length, map, position, take, sum_by, slice_index_or, Option}
 use Rattle.std.specs.List.{range_with_len}
 use Rattle.class_table.specs.Sizes.{granule_bytes}
@@ -84,7 +84,7 @@ slot_over region granule = position (λ slot. covers slot granule) (slots_of reg
 
 -- ---- what is true of every layout
 
--- The slots are in address order, apart from one another and inside the region. Each has a payload, and a class of the table.
+-- The slots are in address order, apart from one another and inside the region. Each has a payload.
 pub record AreInOrder (region : Partition) : Type 0 where
   pub inside : (s : ℕ) → s < slot_count region → end_of (slot_of region s) ≤ region.granules
   pub wide : (s : ℕ) → s < slot_count region → 2 ≤ (slot_of region s).class

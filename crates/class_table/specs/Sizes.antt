@@ -1,6 +1,6 @@
 -- Requests and classes. A request is a number of bytes; a class is a block size in granules of 16 bytes, one of them for the block's
 -- header.
-use Rattle.std.specs.Prelude.{ℕ, ◌+◌, ◌-◌, ◌*◌, ◌/◌, Bool, nat_le, max}
+use Rattle.std.specs.Prelude.{ℕ, ◌+◌, ◌-◌, ◌*◌, ◌/◌, Bool, nat_le, max, List, filter}
 use Rattle.class_table.specs.declared.sizes.TheConstants.{GRANULE_BYTES, LARGEST_COUNTED}
 
 -- the bytes of a granule
@@ -10,6 +10,10 @@ granule_bytes = GRANULE_BYTES
 -- the largest request that is counted, in bytes: what the largest class serves
 abbrev pub largest_counted : ℕ
 largest_counted = LARGEST_COUNTED
+
+-- Those of these sizes that are counted.
+abbrev pub counted_of : List ℕ → List ℕ
+counted_of sizes = filter (λ n. nat_le n largest_counted) sizes
 
 -- The granules that a request of n bytes needs: one for the header, and at least one for the bytes.
 abbrev pub need_of : ℕ → ℕ

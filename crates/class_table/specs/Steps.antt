@@ -1,4 +1,4 @@
--- Steps: some regions give out blocks only in multiples of a number of granules.
+-- Steps: some allocators give out blocks only in multiples of a number of granules.
 use Rattle.std.specs.Prelude.{◌≡◌, ℕ, ◌+◌, ◌-◌, ◌*◌, ◌/◌, ◌%◌, ◌≤◌, ◌||◌, ◌==◌, IsTrue}
 
 -- The steps that there are, in granules.

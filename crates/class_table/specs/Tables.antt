@@ -1,7 +1,8 @@
 -- Class tables, and the class of a size.
 use Rattle.std.specs.Prelude.{◌≡◌, ℕ, ◌%◌, ◌≤◌, List, length, find, position, Option, IsTrue, All, Contains}
+use Rattle.std.specs.Option.{option_map_or}
 use Rattle.std.specs.List.Sorted.{IsStrictlyIncreasing}
-use Rattle.class_table.specs.Sizes.{serves}
+use Rattle.class_table.specs.Sizes.{loss_of, serves}
 use Rattle.class_table.specs.declared.sizes.TheConstants.{SMALLEST_CLASS, LARGEST_CLASS}
 use Rattle.class_table.specs.declared.table.TheConstants.{MOST_CLASSES}
 
@@ -23,6 +24,10 @@ class_for classes n = find (serves n) classes
 -- The same class by its number, counted from 0.
 abbrev pub class_number_for : List ℕ → ℕ → Option ℕ
 class_number_for classes n = position (serves n) classes
+
+-- The bytes that a request of n bytes loses in its class; none where it has no class.
+abbrev pub loss_of_size : List ℕ → ℕ → ℕ
+loss_of_size classes n = option_map_or (loss_of n) (class_for classes n) 0
 
 -- The least of the classes that serve n.
 pub record IsLeastServing (classes : List ℕ) (n class : ℕ) : Type 0 where

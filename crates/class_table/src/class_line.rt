@@ -95,23 +95,23 @@ fn table_of_words(words: Words<'_>) -> Result<ClassTable, TableError>
         let Some(number) = capped_number_in(word, NO_CLASS) else {
             return Err(TableError::BadLine);
         };
-        too_many = is_left_out(&mut numbers, number as u16);
+        too_many = !append_if_room(&mut numbers, number as u16);
     }
     if too_many {
         return Err(TableError::TooMany);
     }
-    ClassTable::from_classes(&numbers)
+    ClassTable::from_few(numbers)
 }
 
-// appends the number, or reports that there is no room for it
-fn is_left_out(numbers: &mut ArrayVec<u16, MOST_CLASSES>, number: u16) -> bool
+// Appends the number and returns `true`. `false`, with nothing appended, if there is no room for it.
+fn append_if_room(numbers: &mut ArrayVec<u16, MOST_CLASSES>, number: u16) -> bool
     ensures room { length numbers.old.items < MOST_CLASSES
-        → (result ≡ false) × (numbers.new.items ≡ numbers.old.items ++ number ∷ []) }
-    ensures full { MOST_CLASSES ≤ length numbers.old.items → (result ≡ true) × (numbers.new.items ≡ numbers.old.items) }
+        → (result ≡ true) × (numbers.new.items ≡ numbers.old.items ++ number ∷ []) }
+    ensures full { MOST_CLASSES ≤ length numbers.old.items → (result ≡ false) × (numbers.new.items ≡ numbers.old.items) }
 {
     if numbers.is_full() {
-        return true;
+        return false;
     }
     numbers.push(number);
-    false
+    true
 }

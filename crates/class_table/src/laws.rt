@@ -1,5 +1,5 @@
-//! What holds for every size, table and class line. Each law is the contract of a function that does nothing.
-//! The proofs of a crate above cite the lemmas that the laws follow from.
+//! What holds for every size, table and class line. Each law is the contract of a function that does nothing. The proofs of the crates
+//! above cite the lemmas in `proofs/LawLemmas.antt`.
 ghost use Rattle.class_table.specs.Laws.{
   FaultlessIsLegal,
   FaultyTextIsRefused,

@@ -1,11 +1,9 @@
 ghost use Rattle.std.specs.Prelude.{◌≡◌, ◌+◌, ◌/◌, ◌<◌, ◌≤◌, length, slice_get, slice_index, slice_index_or, ℕ, IfNone, IfSome, None, Some};
 ghost use Rattle.class_table.specs.Layout.{IsClassOf, IsPartition, block_bytes, first_slot, share_of, slot_count, slot_of, slot_over};
-ghost use Rattle.class_table.specs.Sizes.{loss_of};
-ghost use Rattle.class_table.specs.Tables.{class_for, class_number_for};
+ghost use Rattle.class_table.specs.Tables.{class_number_for, loss_of_size};
 ghost use Rattle.std.specs.List.Sorted.{IsNonDecreasingBy};
-ghost use Rattle.std.specs.Option.{option_map_or};
 
-use crate::sizes::{GRANULE_BYTES, LARGEST_CLASS, LARGEST_COUNTED, SMALLEST_CLASS};
+use crate::sizes::{GRANULE_BYTES, LARGEST_CLASS, LARGEST_COUNTED, SMALLEST_CLASS, payload_bytes};
 use crate::table::{ClassTable, MOST_CLASSES};
 use arrayvec::ArrayVec;
 use std::marker::Model;
@@ -224,11 +222,11 @@ impl Layout {
 
     /// The bytes that a request of `n` bytes leaves unused in a block of its class; 0 if no class serves it.
     pub fn loss(&self, n: u32) -> u32
-        ensures loss { result ≡ option_map_or (loss_of n) (class_for self.now.classes n) 0 }
+        ensures loss { result ≡ loss_of_size self.now.classes n }
         ensures small { result ≤ LARGEST_COUNTED }
     {
         match self.find(n) {
-            Some(number) => GRANULE_BYTES * self.classes[number] - GRANULE_BYTES - n,
+            Some(number) => payload_bytes(self.classes[number]) - n,
             None => 0,
         }
     }

@@ -1,4 +1,4 @@
-ghost use Rattle.std.specs.Prelude.{◌≡◌, ◌↔◌, ◌≤◌, IsTrue};
+ghost use Rattle.std.specs.Prelude.{◌≡◌, ◌↔◌, ◌-◌, ◌*◌, ◌^◌, ◌<◌, ◌≤◌, IsTrue};
 ghost use Rattle.class_table.specs.Steps.{IsStep, round_up};
 ghost use Rattle.class_table.specs.Sizes.{need_of, loss_of, serves};
 
@@ -30,7 +30,7 @@ pub fn need(n: u32) -> u32
 pub fn serves(n: u32, class: u16) -> bool
     ensures { result ≡ serves n class }
 {
-    n <= (GRANULE_BYTES * u32::from(class)).saturating_sub(GRANULE_BYTES)
+    n <= payload_bytes(u32::from(class))
 }
 
 /// The bytes that a request of `n` bytes leaves unused in a block of a class (in granules). The class must serve it (`serves`).
@@ -38,7 +38,15 @@ pub fn loss(n: u32, class: u16) -> u32
     requires { IsTrue (serves n class) }
     ensures { result ≡ loss_of n class }
 {
-    (GRANULE_BYTES * u32::from(class)).saturating_sub(GRANULE_BYTES) - n
+    payload_bytes(u32::from(class)) - n
+}
+
+// the bytes of a block of a class (in granules) after its header
+pub(crate) fn payload_bytes(class: u32) -> u32
+    requires { class < 2 ^ 16 }
+    ensures { result ≡ GRANULE_BYTES * class - GRANULE_BYTES }
+{
+    (GRANULE_BYTES * class).saturating_sub(GRANULE_BYTES)
 }
 
 /// Whether this is a step: 1, 2, 4 or 8 granules.

@@ -34,17 +34,22 @@ impl ClassTable {
         ensures exact { Gives result (table_of_classes classes.now) }
         ensures legal { IfOk result (λ table. IsLegalTable 1 table) }
     {
-        if classes.len() > MOST_CLASSES {
+        let mut few = ArrayVec::new();
+        if few.try_extend_from_slice(classes).is_err() {
             return Err(TableError::TooMany);
         }
-        if let Some(fault) = first_fault(classes) {
-            return Err(fault);
+        ClassTable::from_few(few)
+    }
+
+    // The table of these classes. Errors are those of `from_classes`, but never `TooMany`.
+    pub(crate) fn from_few(classes: ArrayVec<u16, MOST_CLASSES>) -> Result<ClassTable, TableError>
+        ensures exact { Gives result (table_of_classes classes.items) }
+        ensures legal { IfOk result (λ table. IsLegalTable 1 table) }
+    {
+        match first_fault(&classes) {
+            Some(fault) => Err(fault),
+            None => Ok(ClassTable { classes }),
         }
-        let mut table = ArrayVec::new();
-        for class in classes {
-            table.push(*class);
-        }
-        Ok(ClassTable { classes: table })
     }
 
     /// How many classes the table has, 0 to 32.

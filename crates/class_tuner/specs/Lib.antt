@@ -1,3 +1,4 @@
+pub mod CallCounts
 pub mod Filling
 pub mod Laws
 pub mod Sources

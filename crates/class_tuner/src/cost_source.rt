@@ -20,11 +20,11 @@ pub trait CostSource {
     /// The same source with another count of calls.
     ghost with_calls: { Self → ℕ → Self };
 
-    /// How many places there are.
+    /// Computes `place_count`.
     fn places(&self) -> usize
         ensures { result ≡ place_count self.now };
 
-    /// How many costs were asked for: one by each call of `at`, one for each end by a call of `least_end`.
+    /// Computes `call_count`.
     fn calls(&self) -> u64
         ensures { result ≡ call_count self.now };
 

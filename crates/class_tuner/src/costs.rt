@@ -26,8 +26,8 @@ struct LawfulSpans<'a> {
 }
 
 impl<'a> Costs<'a> {
-    /// The costs of a profile for blocks in multiples of a step (1, 2, 4 or 8 granules), with no call counted: a source for `fill_rows`. The
-    /// only error is that the allocator refuses memory.
+    /// The costs of a profile for blocks in multiples of a step (1, 2, 4 or 8 granules), with no call counted: a source for `fill_rows`.
+    /// The only error is that the allocator refuses memory.
     pub fn new(alloc: Global, profile: &'a Profile, step: u8) -> Result<Costs<'a>, AllocError>
         requires { IsStep step }
         ensures cost { IfOk result

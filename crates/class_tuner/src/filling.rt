@@ -1,12 +1,13 @@
 ghost use Rattle.std.specs.Prelude.{◌≡◌, ◌+◌, ◌-◌, ◌*◌, ◌^◌, ◌<◌, ◌≤◌, [], ◌∷◌, ◌++◌, slice_index, IfOk, OnOk};
-ghost use Rattle.class_tuner.specs.Filling.{IsFirstRow, IsNextRow, IsSmallRow, bits, calls_of, most_calls, tried_in_row};
+ghost use Rattle.class_tuner.specs.CallCounts.{bits, calls_of, most_calls, tried_in_row};
+ghost use Rattle.class_tuner.specs.Filling.{IsFirstRow, IsNextRow, IsSmallRow};
 ghost use Rattle.class_tuner.specs.Sources.{OnlyCounts};
 ghost use Rattle.potential_check.specs.Lists.{lists_of};
 ghost use Rattle.tuner_theory.specs.Rows.{IsFilled, number_at};
 
 use crate::cost_source::CostSource;
 use crate::halving::{Window, fill_part};
-use class_table::{LARGEST_CLASS, MOST_CLASSES, MOST_NEEDS};
+use class_table::{MOST_CLASSES, MOST_NEEDS};
 use std::alloc::{AllocError, Global};
 
 /// Rows of least costs, with their ends. Row k, counted from 1, has at each place the least cost of serving all places above it with at
@@ -107,7 +108,7 @@ fn ask<C: CostSource>(costs: &mut C, i: usize, j: usize) -> u64
 // the row after another one
 fn next_row<C: CostSource>(alloc: Global, costs: &mut C, before: &[u64]) -> Result<Row, AllocError>
     requires before { IsSmallRow (C.place_count costs.old) before.now }
-    requires room { C.call_count costs.old + LARGEST_CLASS * C.place_count costs.old ≤ 2 ^ 63 }
+    requires room { C.call_count costs.old + MOST_NEEDS * C.place_count costs.old ≤ 2 ^ 63 }
     ensures next { IfOk result (IsNextRow (C.cost costs.old) (C.place_count costs.old) before.now) }
     ensures counted { let d = C.place_count costs.old in
         C.call_count costs.new ≤ C.call_count costs.old + ((d - 1) * bits d + d) }

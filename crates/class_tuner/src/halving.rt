@@ -1,13 +1,14 @@
 //! One row by halving. The middle place comes first. By the law on spans that cross, a later place has no earlier least end. So the places
 //! before the middle need only the ends up to its least end, and the places after it only the ends from there on.
 ghost use Rattle.std.specs.Prelude.{◌≡◌, ℕ, ◌+◌, ◌-◌, ◌*◌, ◌^◌, ◌≤◌};
-ghost use Rattle.class_tuner.specs.Filling.{AreCallsForPart, AreEndsBetween, IsFilledWithin, IsLeastAt, IsPart, IsSmallRow, KeepsOutside, end_cost};
+ghost use Rattle.class_tuner.specs.CallCounts.{AreCallsForPart};
+ghost use Rattle.class_tuner.specs.Filling.{AreEndsBetween, IsFilledWithin, IsLeastAt, IsPart, IsSmallRow, KeepsOutside, end_cost};
 ghost use Rattle.class_tuner.specs.Sources.{OnlyCounts};
 ghost use Rattle.class_tuner.specs.Windows.{IsWindowAfter};
 ghost use Rattle.tuner_theory.specs.Rows.{IsLeastEnd};
 
 use crate::cost_source::CostSource;
-use class_table::LARGEST_CLASS;
+use class_table::MOST_NEEDS;
 use std::ops::Range;
 
 /// The window of ends from `low` to `high`, both included.
@@ -31,7 +32,7 @@ pub(crate) fn fill_part<C: CostSource>(
     requires part { IsPart (C.place_count costs.old) row.old ends.old part window }
     requires between { AreEndsBetween (C.cost costs.old) (C.place_count costs.old) before.now part.start part.end
         window.low window.high }
-    requires room { C.call_count costs.old + LARGEST_CLASS * (part.end - part.start) ≤ 2 ^ 63 }
+    requires room { C.call_count costs.old + MOST_NEEDS * (part.end - part.start) ≤ 2 ^ 63 }
     ensures filled { IsFilledWithin (C.cost costs.old) (C.place_count costs.old) before.now row.new ends.new
         part.start part.end }
     ensures kept { KeepsOutside row.old row.new ends.old ends.new part }

@@ -1,5 +1,5 @@
 ghost use Rattle.std.specs.Prelude.{◌≡◌, ◌<◌, ◌≤◌, IfOk};
-ghost use Rattle.class_tuner.specs.Filling.{most_calls};
+ghost use Rattle.class_tuner.specs.CallCounts.{most_calls};
 ghost use Rattle.class_tuner.specs.Tuned.{AreEvaluations, IsTuned};
 ghost use Rattle.potential_check.specs.Lists.{lists_of};
 ghost use Rattle.potential_check.specs.Sheets.{sheet_of};

@@ -19,11 +19,12 @@ valid_config options config has = record {
 pub call_is_valid : (command : Option (Text × List Row)) (call : Call) → IsCall command call → IsValid call
 call_is_valid None call is = absurd is
 call_is_valid (Some command) Score is = tt
-call_is_valid (Some command) (Tune o) is = (is.1.1, is.1.2, is.2.1)
+call_is_valid (Some command) (Tune o) is = record { some = is.1.1; few = is.1.2; is_step = is.2.1 }
 call_is_valid (Some command) Check is = tt
 call_is_valid (Some command) Profile is = tt
 call_is_valid (Some command) (Replay o) is = valid_config command.1 o.config is.1
-call_is_valid (Some command) (Run o) is = (is.1.1, is.1.2, is.2.1, valid_config command.1 o.config is.3)
+call_is_valid (Some command) (Run o) is =
+    (record { some = is.1.1; few = is.1.2; is_step = is.2.1 }, valid_config command.1 o.config is.3)
 
 -- `replay` is no call where its options are none
 pub no_replay : (options : List Row) → ((o : ReplayOptions) → Names (codes "replay") options (Replay o) → ⊥) → (call : Call) →

@@ -9,15 +9,13 @@ use Rattle.mte_engine.specs.Score.{ScoreAnswers}
 use Rattle.mte_engine.specs.Profile.{ProfileAnswers}
 use Rattle.mte_engine.specs.Replay.{ReplayAnswers}
 use Rattle.mte_engine.specs.Run.{RunAnswers}
-use Rattle.mte_engine.specs.Tune.{TuneAnswers}
+use Rattle.mte_engine.specs.Tune.{AreTuneOptions, TuneAnswers}
 use Rattle.mte_engine.specs.declared.fault.InputFault.{InputFault}
+use Rattle.command_line.specs.Bounds.{granules_bounds, limit_bounds, quarantine_bounds, seed_bounds, step_bounds}
 use Rattle.command_line.specs.declared.call.Call.{Call}
 use Rattle.command_line.specs.declared.call.Call.TheVariants.{Score, Tune, Check, Profile, Replay, Run}
-use Rattle.class_table.specs.declared.layout.TheConstants.{FEWEST_GRANULES, MOST_GRANULES}
 use Rattle.tagged_heap.specs.Config.{IsConfig}
 use Rattle.tagged_heap.specs.declared.heap.Config.{Config}
-use Rattle.tagged_heap.specs.declared.heap.TheConstants.Config.{MOST_QUARANTINE}
-use Rattle.class_table.specs.declared.table.TheConstants.{MOST_CLASSES}
 
 -- The option of this name has a value that spells the number: decimal digits, with or without a `+` before them.
 abbrev pub HasNumber : List Row → Text → ℕ → Type 0
@@ -25,8 +23,8 @@ HasNumber options name n = (text : Text) × (one_of name options ≡ Some text)
     × IsNumeral 10 (without_leading_plus text) × (digits_value 10 (without_leading_plus text) ≡ n)
 
 -- The number is within these bounds.
-abbrev pub HasNumberIn : List Row → Text → ℕ → ℕ → ℕ → Type 0
-HasNumberIn options name least most n = HasNumber options name n × (least ≤ n) × (n ≤ most)
+abbrev pub HasNumberIn : List Row → Text → ℕ × ℕ → ℕ → Type 0
+HasNumberIn options name bounds n = HasNumber options name n × (bounds.0 ≤ n) × (n ≤ bounds.1)
 
 -- What was read of an option is such a number, or there is none.
 abbrev pub IsRead : {E : Type 0} → (ℕ → Type 0) → Result ℕ E → Type 0
@@ -35,20 +33,20 @@ IsRead P (Err fault) = (n : ℕ) → P n → ⊥
 
 -- `--limit` and `--step`.
 abbrev pub HasLimit : List Row → ℕ → Type 0
-HasLimit options n = HasNumberIn options (codes "limit") 1 MOST_CLASSES n
+HasLimit options n = HasNumberIn options (codes "limit") limit_bounds n
 
 abbrev pub HasStep : List Row → ℕ → Type 0
-HasStep options n = HasNumberIn options (codes "step") 1 8 n × IsStep n
+HasStep options n = HasNumberIn options (codes "step") step_bounds n × IsStep n
 
 -- `--granules`, `--seed` and `--quarantine`.
 abbrev pub HasGranules : List Row → ℕ → Type 0
-HasGranules options n = HasNumberIn options (codes "granules") FEWEST_GRANULES MOST_GRANULES n
+HasGranules options n = HasNumberIn options (codes "granules") granules_bounds n
 
 abbrev pub HasSeed : List Row → ℕ → Type 0
-HasSeed options n = HasNumberIn options (codes "seed") 1 65535 n
+HasSeed options n = HasNumberIn options (codes "seed") seed_bounds n
 
 abbrev pub HasQuarantine : List Row → ℕ → Type 0
-HasQuarantine options n = HasNumberIn options (codes "quarantine") 0 MOST_QUARANTINE n
+HasQuarantine options n = HasNumberIn options (codes "quarantine") quarantine_bounds n
 
 abbrev pub HasConfig : List Row → Config → Type 0
 HasConfig options config =
@@ -74,11 +72,11 @@ IsNoCall command = (call : Call) → IsCall command call → ⊥
 -- What each command's engine wants of its options.
 abbrev pub IsValid : Call → Type 0
 IsValid Score = ⊤
-IsValid (Tune o) = (1 ≤ o.limit) × (o.limit ≤ MOST_CLASSES) × IsStep o.step
+IsValid (Tune o) = AreTuneOptions o.limit o.step
 IsValid Check = ⊤
 IsValid Profile = ⊤
 IsValid (Replay o) = IsConfig o.config
-IsValid (Run o) = (1 ≤ o.limit) × (o.limit ≤ MOST_CLASSES) × IsStep o.step × IsConfig o.config
+IsValid (Run o) = AreTuneOptions o.limit o.step × IsConfig o.config
 
 -- The answers of a call's engine.
 abbrev pub answers_of : Call → List ℕ → Result Answer InputFault → Type 0

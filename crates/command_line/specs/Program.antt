@@ -6,33 +6,31 @@ use Rattle.clap.specs.declared.builder.arg.Arg.{Arg}
 use Rattle.clap.specs.declared.builder.command.Command.{Command}
 use Rattle.clap.specs.declared.builder.command.Command.TheViews.{out-Command as fields_of}
 use Rattle.clap.specs.declared.builder.value_parser.ValueParser.TheVariants.{Signed}
-use Rattle.class_table.specs.declared.layout.TheConstants.{FEWEST_GRANULES, MOST_GRANULES}
-use Rattle.class_table.specs.declared.table.TheConstants.{MOST_CLASSES}
-use Rattle.tagged_heap.specs.declared.heap.TheConstants.Config.{MOST_QUARANTINE}
+use Rattle.command_line.specs.Bounds.{granules_bounds, limit_bounds, quarantine_bounds, seed_bounds, step_bounds}
 
--- An option of this name whose value is a number from `least` to `most`.
-abbrev pub number_rule : List ℕ → ℕ → ℕ → Rule
-number_rule name least most = record (new_rule name) {
+-- An option of this name whose value is a number within these bounds.
+abbrev pub number_rule : List ℕ → ℕ × ℕ → Rule
+number_rule name bounds = record (new_rule name) {
   long = Some name;
   value_names = 1;
-  parser = Some (Signed (pos least) (pos most));
+  parser = Some (Signed (pos bounds.0) (pos bounds.1));
 }
 
 -- `--limit`, which may not be left out.
 abbrev pub limit_rule : Rule
-limit_rule = record (number_rule (codes "limit") 1 MOST_CLASSES) { required = true }
+limit_rule = record (number_rule (codes "limit") limit_bounds) { required = true }
 
 abbrev pub step_rule : Rule
-step_rule = record (number_rule (codes "step") 1 8) { defaults = codes "1" ∷ [] }
+step_rule = record (number_rule (codes "step") step_bounds) { defaults = codes "1" ∷ [] }
 
 abbrev pub granules_rule : Rule
-granules_rule = record (number_rule (codes "granules") FEWEST_GRANULES MOST_GRANULES) { defaults = codes "65536" ∷ [] }
+granules_rule = record (number_rule (codes "granules") granules_bounds) { defaults = codes "65536" ∷ [] }
 
 abbrev pub seed_rule : Rule
-seed_rule = record (number_rule (codes "seed") 1 65535) { defaults = codes "1" ∷ [] }
+seed_rule = record (number_rule (codes "seed") seed_bounds) { defaults = codes "1" ∷ [] }
 
 abbrev pub quarantine_rule : Rule
-quarantine_rule = record (number_rule (codes "quarantine") 0 MOST_QUARANTINE) { defaults = codes "65536" ∷ [] }
+quarantine_rule = record (number_rule (codes "quarantine") quarantine_bounds) { defaults = codes "65536" ∷ [] }
 
 -- The commands.
 abbrev pub score_words : App

@@ -1,5 +1,5 @@
-//! The command line of `mte_tool`: its words and what they mean, the standard streams, and how a run ends. It hands each command on to
-//! its engine in `mte_engine`, and is a library so that any runtime can run it.
+//! The command line of `mte_tool`: its words and what they mean, the standard streams, and how a run ends. It hands each command on to its
+//! engine in `mte_engine`, and is a library, so that its proofs cost less than those of a program.
 #![tactic(auto)]
 
 mod call;

@@ -10,7 +10,7 @@ use class_table::{FEWEST_GRANULES, MOST_CLASSES, MOST_GRANULES, is_step};
 use std::alloc::Global;
 use tagged_heap::Config;
 
-// An option whose value is a number within bounds. Its name, its bounds and its help stand here alone.
+// An option whose value is a number within bounds. In the code, its name, its bounds and its help stand here alone.
 #[derive(Clone, Copy)]
 struct NumberOption {
     name: &'static str,
@@ -63,7 +63,7 @@ const QUARANTINE: NumberOption = NumberOption {
 impl NumberOption {
     // the option for clap, which refuses numbers outside the bounds
     fn arg<'a>(self, alloc: Global) -> Arg<'a>
-        ensures { IsOption result (number_rule self.name.now self.least self.most) }
+        ensures { IsOption result (number_rule self.name.now (self.least, self.most)) }
     {
         Arg::new(alloc, self.name)
             .long(self.name)
@@ -75,7 +75,7 @@ impl NumberOption {
     // The number of the option, which must be within its bounds. clap has refused any other number before; its contract doesn't say so, so
     // the function tests again.
     fn number_in(self, options: &ArgMatches<'_>) -> Result<u32, OptionFault>
-        ensures { IsRead (HasNumberIn (rows_of (found_of options.now)) self.name.now self.least self.most) result }
+        ensures { IsRead (HasNumberIn (rows_of (found_of options.now)) self.name.now (self.least, self.most)) result }
     {
         let Some(n) = number(options, self.name) else {
             return Err(OptionFault::BadOption);

@@ -10,8 +10,8 @@ use std::fmt;
 /// What is wrong with an option. It is shown as its code and name.
 #[derive(Debug, Clone, Copy, PartialEq, Eq)]
 pub enum OptionFault {
-    /// The step is 3, 5, 6 or 7. Functions also return it for a number out of its range and for an unknown command. clap refuses these first,
-    /// but its contract doesn't say so.
+    /// The step is 3, 5, 6 or 7. Functions also return it for a number out of its range and for an unknown command. clap refuses these
+    /// first, but its contract doesn't say so.
     BadOption,
 }
 

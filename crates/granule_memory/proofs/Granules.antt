@@ -1,16 +1,15 @@
 -- What the granules that lie in a list of bytes are.
 use Rattle.std.specs.Prelude.{slice_range, slice_index, slice_index_or}
-use Rattle.std.specs.Int.{w64, from_le_bytes, to_le_bytes}
+use Rattle.std.specs.Int.{w64, from_le_bytes}
 use Rattle.std.specs.List.{range_with_len}
-use Rattle.std.proofs.Common.{◌≡◌, ℕ, ◌+◌, ◌-◌, ◌*◌, ◌/◌, ◌%◌, ◌^◌, ◌<◌, ◌≤◌, List, [], ◌∷◌, map, length, take, drop, get_or, refl, sym, ap, subst, ◌∙◌, arith}
+use Rattle.std.proofs.Common.{◌≡◌, ℕ, ◌+◌, ◌-◌, ◌*◌, ◌/◌, ◌%◌, ◌<◌, ◌≤◌, List, [], ◌∷◌, map, length, take, drop, get_or, refl, sym, ap, subst, ◌∙◌, arith}
 use Rattle.std.proofs.lemmas.Grind.{same_number_lists}
 use Rattle.std.proofs.lemmas.List.{length-take-le, length-drop, get_or-take, get_or-drop, get_or_past}
 use Rattle.std.proofs.lemmas.List.Elements.{All-take, All-drop}
-use Rattle.std.proofs.lemmas.Nat.{from_le_bytes-to_le_bytes_8}
 use Rattle.std.proofs.lemmas.List.FromFn.{get_or-map-range_with_len, length-map-range_with_len}
 use Rattle.machine_theory.specs.Memory.{Granule, IsGranule, IsMemory, no_granule, granule_at, tag_at, byte_at, bytes_at, word_at}
 use Rattle.raw_region.specs.Bytes as raw
-use Rattle.granule_memory.specs.Layout.{granule_in, granules_of, IsLaidOut}
+use Rattle.granule_memory.specs.BytesOfGranules.{granule_in, granules_of, IsLaidOut}
 
 pub granules_counted : (bytes : List ℕ) (count : ℕ) → length (granules_of bytes count) ≡ count
 unfolding granules_of
@@ -59,14 +58,10 @@ pub word_is : (bytes : List ℕ) (count i : ℕ) → length bytes ≡ 17 * count
 unfolding word_at raw.word_at
 word_is bytes count i long fits = ap (from_le_bytes w64) (bytes_are bytes count i 8 long fits)
 
--- what is read where a run of one byte, or of a word's eight, is known
+-- what is read where a run of one byte is known
 pub byte_read : (memory : List Granule) (i byte : ℕ) → bytes_at memory i 1 ≡ byte ∷ [] → byte_at memory i ≡ byte
 unfolding bytes_at
 byte_read memory i byte run = ap (λ (bytes : List ℕ). slice_index bytes 0) run
-
-pub word_read : (memory : List Granule) (i word : ℕ) → word < 2 ^ 64 → bytes_at memory i 8 ≡ to_le_bytes w64 word → word_at memory i ≡ word
-unfolding word_at
-word_read memory i word fits run = ap (from_le_bytes w64) run ∙ from_le_bytes-to_le_bytes_8 word fits
 
 pub granules_fit : (bytes : List ℕ) (count : ℕ) → IsLaidOut bytes count → IsMemory (granules_of bytes count)
 granules_fit bytes count laid =

@@ -7,7 +7,7 @@ use Rattle.std.proofs.lemmas.Bool.{cases_lt}
 use Rattle.std.proofs.lemmas.Grind.{same_number_lists}
 use Rattle.std.proofs.lemmas.List.FromFn.{get_or-map-range_with_len, length-map-range_with_len}
 use Rattle.machine_theory.specs.Memory.{Granule, no_granule, granule_at, tag_at, byte_at, bytes_at, word_at}
-use Rattle.granule_memory.specs.Layout.{granules_of}
+use Rattle.granule_memory.specs.BytesOfGranules.{granules_of}
 use Rattle.granule_memory.specs.Changes.{ChangesOnlyBytes, ChangesOnlyTags}
 use Rattle.granule_memory.proofs.Granules.{granules_counted, granule_is, granule_past, tag_is, byte_is, slice_range_byte, slice_range_long}
 

@@ -21,7 +21,7 @@ pub struct Memory {
 }
 
 impl Model for Memory {
-    ghost use Rattle.granule_memory.specs.Layout.{granules_of, IsLaidOut};
+    ghost use Rattle.granule_memory.specs.BytesOfGranules.{granules_of, IsLaidOut};
     ghost use Rattle.machine_theory.specs.Memory.{Granule};
     ghost use Rattle.std.specs.Prelude.{List};
 
@@ -129,7 +129,7 @@ impl Memory {
 
     /// Writes `w` to word `i`, 0 or 1, of granule `g`, which must be below `granules()`: its bytes 8 i to 8 i + 7, the lowest first.
     /// No tag changes.
-    #[tactic(auto, using(crate::proofs::Granules::word_read))]
+    #[tactic(auto, using(crate::proofs::Granules::granules_counted, crate::proofs::Writes::written_is))]
     pub fn set_word(&mut self, g: u32, i: usize, w: u64)
         requires granule { g < length self.old }
         requires place { i < 2 }
@@ -139,7 +139,7 @@ impl Memory {
             (GRANULE_BYTES * g + 8 * i) (GRANULE_BYTES * g + 8 * i + 8) }
         ensures memory { IsMemory self.new }
     {
-        self.write_bytes(place_of(g) + 8 * i, &w.to_le_bytes());
+        self.region.set_word(place_of(g) + 8 * i, w);
     }
 
     /// Sets the sixteen bytes of granule `g`, which must be below `granules()`, to 0. No tag changes.

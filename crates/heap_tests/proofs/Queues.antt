@@ -4,7 +4,7 @@ use Rattle.std.specs.Prelude.{Contains, IfNone, IfSome}
 use Rattle.machine_theory.specs.Memory.{Granule}
 use Rattle.class_table.specs.Layout.{Partition}
 use Rattle.heap_theory.specs.Region.{region_of}
-use Rattle.heap_theory.proofs.Found.{Contains-tail}
+use Rattle.heap_theory.proofs.ListSearch.{Contains-tail}
 use Rattle.quarantine_core.specs.Queue.{Queue, AreQueued, TakesOldest}
 use Rattle.quarantine_core.proofs.LawLemmas.{one_queue_is_shown}
 

@@ -6,7 +6,7 @@ use Rattle.std.proofs.lemmas.List.{get_or-set_same, get_or-set_other, length-set
 use Rattle.std.proofs.lemmas.List.Elements.{Contains-append_left, Contains-push}
 use Rattle.machine_theory.specs.Memory.{Granule}
 use Rattle.class_table.specs.Layout.{Partition, slot_count, block_bytes}
-use Rattle.heap_theory.specs.Booked.{HasMark, IsChain, IsFreedList, IsBookedFrom, IsBooked, bytes_in}
+use Rattle.heap_theory.specs.Booked.{HasMark, IsChain, IsFreedList, IsBookedFrom, IsBooked, bytes_of}
 use Rattle.heap_theory.specs.Calls.{next_tag, given_out, freed, resized}
 use Rattle.heap_theory.specs.Choice.{is_dead}
 use Rattle.heap_theory.specs.Links.{list_of}
@@ -14,7 +14,7 @@ use Rattle.heap_theory.specs.Sound.{IsSoundHeap}
 use Rattle.heap_theory.specs.State.{State, Heap, slot_in, state_at, last_tag, is_fresh, first_heap}
 use Rattle.heap_theory.specs.State.State.{Fresh, Live, Dead}
 use Rattle.heap_theory.proofs.FirstHeap.{get_or-replicate_any}
-use Rattle.heap_theory.proofs.Found.{Contains-head, Contains-tail, Contains-cases}
+use Rattle.heap_theory.proofs.ListSearch.{Contains-head, Contains-tail, Contains-cases}
 use Rattle.heap_theory.proofs.HeapKept.{in_states}
 use Rattle.heap_theory.proofs.Marks.{one_mark, not_marked, chain_bytes, chain_mark, chain_dead, list_mark, list_dead, list_weaker, one_number, IsNumberOf, number_is}
 use Rattle.heap_theory.proofs.Releasing.{list_of-here, list_of-there}
@@ -91,7 +91,7 @@ module _ (h : Heap) (s : ℕ) (state : State) (memory : List Granule) (total see
     chain_stays (from + block_bytes (slot_in h r)) rest same (λ there. out (Contains-tail r rest s there)) c.2,
   )
 
-  bytes_same : (queue : List ℕ) → bytes_in changed queue ≡ bytes_in h queue
+  bytes_same : (queue : List ℕ) → bytes_of changed.layout queue ≡ bytes_of h.layout queue
   unfolding changed
   bytes_same queue = refl
 

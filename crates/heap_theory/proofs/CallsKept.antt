@@ -9,7 +9,7 @@ use Rattle.machine_theory.specs.Access.{access_fault}
 use Rattle.machine_theory.specs.Address.{logical_tag}
 use Rattle.machine_theory.specs.Memory.{written}
 use Rattle.class_table.specs.Layout.{Partition, slot_count}
-use Rattle.heap_theory.specs.declared.fault.FreeError.{FreeError}
+use Rattle.heap_theory.specs.declared.refusal.FreeError.{FreeError}
 use Rattle.heap_theory.specs.Calls.{Step, next_tag, given_out, freed, resized, with_payload, payload_bytes, moved, malloc_with, malloc_step, calloc_with, calloc_step, free_with, free_step, stays_in_class, move_with, realloc_with, realloc_step}
 use Rattle.heap_theory.specs.Choice.{Chunk, IsReusable, IsGiven, IsLiveChunk, is_released, slot_for_request, chunk_at}
 use Rattle.heap_theory.specs.Generations.{slot_if_moved}

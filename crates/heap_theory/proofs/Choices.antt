@@ -10,16 +10,16 @@ use Rattle.machine_theory.specs.Address.{logical_tag, place_of}
 use Rattle.class_table.specs.Layout.{no_slot, slots_of, slot_count}
 use Rattle.class_table.specs.Sizes.{largest_counted, serves}
 use Rattle.class_table.specs.Tables.{class_for}
-use Rattle.heap_theory.specs.declared.fault.FreeError.{FreeError}
-use Rattle.heap_theory.specs.declared.fault.FreeError.TheVariants.{WrongTag}
-use Rattle.heap_theory.specs.declared.fault.NullCause.{NullCause}
-use Rattle.heap_theory.specs.declared.fault.NullCause.TheVariants.{Large, NoClass, Exhausted}
+use Rattle.heap_theory.specs.declared.refusal.FreeError.{FreeError}
+use Rattle.heap_theory.specs.declared.refusal.FreeError.TheVariants.{WrongTag}
+use Rattle.heap_theory.specs.declared.refusal.NullCause.{NullCause}
+use Rattle.heap_theory.specs.declared.refusal.NullCause.TheVariants.{Large, NoClass, Exhausted}
 use Rattle.heap_theory.specs.Calls.{is_class_of, stays_in_class}
 use Rattle.heap_theory.specs.Choice.{Chunk, IsReusable, IsGiven, IsLiveChunk, is_released, mark_of, slots_with, freed_last, lowest_fresh, slot_for, class_for_request, slot_in_class, slot_for_request, slot_of_pointer, chunk_in, chunk_in_slot, chunk_at}
 use Rattle.heap_theory.specs.Sound.{IsSoundHeap}
 use Rattle.heap_theory.specs.State.{State, Heap, slot_in, state_at, is_fresh, chunk_granules, payload_place}
 use Rattle.heap_theory.specs.State.State.{Fresh, Live, Dead}
-use Rattle.heap_theory.proofs.Found.{All-find, find_passes, first_in_filter, All-range}
+use Rattle.heap_theory.proofs.ListSearch.{All-find, find_passes, first_in_filter, All-range}
 
 -- ---- slots of a class
 

@@ -11,7 +11,7 @@ use Rattle.heap_theory.specs.Links.{list_of}
 use Rattle.heap_theory.specs.Sound.{IsSoundHeap}
 use Rattle.heap_theory.specs.State.{Heap, slot_in, state_at}
 use Rattle.heap_theory.proofs.Choices.{IsCandidate, All-slots_with, is_latest, freed_last-is}
-use Rattle.heap_theory.proofs.Found.{find_only, in_filter, list_all-from, from-list_all, Contains-range, Contains-cases, Contains-none}
+use Rattle.heap_theory.proofs.ListSearch.{find_only, in_filter, list_all-from, from-list_all, Contains-range, Contains-cases, Contains-none}
 use Rattle.heap_theory.proofs.Marks.{HasMark-own, mark_of-is, same_mark, released_from_mark, chain_bytes, list_mark, IsNumberOf, number_is}
 
 module _ (h : Heap) (queue : List ℕ) (lists : List (List ℕ)) (number class : ℕ) (sound : IsSoundHeap h) (b : IsBooked h queue lists)

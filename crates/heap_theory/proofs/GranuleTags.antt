@@ -6,7 +6,7 @@ use Rattle.machine_theory.specs.Memory.{tag_at, is_among}
 use Rattle.class_table.specs.Layout.{Slot, Covers, slot_over}
 use Rattle.class_table.specs.LayoutLaws.{OneSlotCovers}
 use Rattle.heap_theory.specs.declared.place.PlaceKind.TheVariants.{Header, Tail}
-use Rattle.heap_theory.specs.Hardening.{IsBookkeeping, IsChunkGranule, IsPayloadGranule, HaveOtherParity}
+use Rattle.heap_theory.specs.Hardening.{IsBookkeeping, IsChunkGranule, IsPayloadGranule, ChunksAreTagged, ParitiesDiffer}
 use Rattle.heap_theory.specs.Places.{kind_of_chunk, kind_in_slot, kind_at, place_kind}
 use Rattle.heap_theory.specs.Sound.{IsTagOf, IsChunkTag, IsTaggedSlot, IsSoundHeap}
 use Rattle.heap_theory.specs.State.{State, Heap, slot_in, state_at, chunk_of, payload_start}
@@ -117,12 +117,11 @@ chunk_has_tag h s g sound c = subst (IsTagOf s) (sym (t.chunk g c.from c.to)) (b
         subst (IsTagOf s) (sym both.1) both.0
     by_state (Dead n u m) was = (subst (λ x. IsChunkTag s x t.chunk_tag) was t.is_chunk_tag).1
 
-pub chunk_tag_some : (h : Heap) (s g : ℕ) → IsSoundHeap h → IsChunkGranule h s g → tag_at h.memory g ≢ 0
-chunk_tag_some h s g sound c none = let some : 0 < tag_at h.memory g = (chunk_has_tag h s g sound c).not_zero in omega arith
+pub chunks_tagged : (h : Heap) → IsSoundHeap h → ChunksAreTagged h
+chunks_tagged h sound s g c none = let some : 0 < tag_at h.memory g = (chunk_has_tag h s g sound c).not_zero in omega arith
 
-pub chunk_tags_differ : (h : Heap) (s r g k : ℕ) → IsSoundHeap h → HaveOtherParity s r → IsChunkGranule h s g → IsChunkGranule h r k →
-    tag_at h.memory g ≢ tag_at h.memory k
-chunk_tags_differ h s r g k sound parity c d same =
+pub parities_differ : (h : Heap) → IsSoundHeap h → ParitiesDiffer h
+parities_differ h sound s r g k parity c d same =
     let here : (s + tag_at h.memory g) % 2 ≡ 1 = (chunk_has_tag h s g sound c).other_parity in
     let there : (r + tag_at h.memory k) % 2 ≡ 1 = (chunk_has_tag h r k sound d).other_parity in
     omega arith

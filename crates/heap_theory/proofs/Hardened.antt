@@ -12,7 +12,7 @@ use Rattle.heap_theory.specs.Sound.{IsTagOf, IsChunkTag, IsTaggedSlot}
 use Rattle.heap_theory.specs.SoundRun.{IsAddressOf, IsSoundRun, ForGeneration}
 use Rattle.heap_theory.specs.State.{State, slot_in, state_at, last_tag, chunk_of, payload_place}
 use Rattle.heap_theory.specs.State.State.{Fresh, Live, Dead}
-use Rattle.heap_theory.proofs.GranuleTags.{bookkeeping_tag, payload_tag, covered_tag, chunk_tag_some, chunk_tags_differ}
+use Rattle.heap_theory.proofs.GranuleTags.{bookkeeping_tag, payload_tag, covered_tag, chunks_tagged, parities_differ}
 use Rattle.heap_theory.proofs.HeapKept.{in_region}
 
 -- an address below 2 ^ 60
@@ -23,10 +23,10 @@ pub null_or_tagged : (w : Run) → IsSoundRun w → NullOrTagged w
 null_or_tagged w sound v = (sound.variables v).null_or_tagged
 
 pub chunk_tags_not_zero : (w : Run) → IsSoundRun w → ChunkTagsNotZero w
-chunk_tags_not_zero w sound s g c = chunk_tag_some w.replay.heap s g sound.heap c
+chunk_tags_not_zero w sound = chunks_tagged w.replay.heap sound.heap
 
 pub chunk_tags_of_two : (w : Run) → IsSoundRun w → ChunkTagsDiffer w
-chunk_tags_of_two w sound s r g k parity c d = chunk_tags_differ w.replay.heap s r g k sound.heap parity c d
+chunk_tags_of_two w sound = parities_differ w.replay.heap sound.heap
 
 module _ (w : Run) (sound : IsSoundRun w) where
   small : length w.replay.heap.memory ≤ 262144

@@ -10,12 +10,12 @@ use Rattle.machine_theory.specs.Memory.{Granule, IsMemory, word_at, tag_at, tagg
 use Rattle.class_table.specs.Layout.{Partition, slot_count, slot_of}
 use Rattle.heap_theory.proofs.TheoryLemmas as laws
 use Rattle.heap_theory.specs.Choice.{is_released, mark_of}
-use Rattle.heap_theory.specs.Header.{Standing, Header, FitsWords, code_of, standing_of, first_word, second_word, header_of, header_at, with_header, shown_state, size_of, standing_in, class_number, header_for}
+use Rattle.heap_theory.specs.Header.{Standing, Header, FitsWords, code_of, standing_of, first_word, second_word, header_of, header_at, with_header, shown_state, size_of, standing_in, class_number, header_with, header_for}
 use Rattle.heap_theory.specs.Header.Standing.{Fresh, Live, Quarantined, Freed}
 use Rattle.heap_theory.specs.Sound.{IfDead, IsChunkTag, IsSoundHeap}
 use Rattle.heap_theory.specs.State.{State, Heap, slot_in, state_at, last_tag, chunk_of}
 use Rattle.heap_theory.specs.State.State.{Fresh as NeverGiven, Live as Given, Dead}
-use Rattle.heap_theory.proofs.Found.{position-None}
+use Rattle.heap_theory.proofs.ListSearch.{position-None}
 
 -- ---- words
 
@@ -142,15 +142,7 @@ pub shown_state-header_for : (h : Heap) (s next : ℕ) → shown_state (header_f
 unfolding header_for
 shown_state-header_for h s next = by (state_at h s)
   where
-    by : (x : State) → shown_state
-        (record {
-          standing = standing_in h x;
-          size = size_of x;
-          tag = last_tag x;
-          class = class_number h.layout s;
-          next = next;
-          mark = mark_of x;
-        }) ≡ x
+    by : (x : State) → shown_state (header_with h.layout s (standing_in h x) x next) ≡ x
     by NeverGiven = refl
     by (Given n t) = refl
     by (Dead n t m) = elim (cases_Bool (is_released h (Dead n t m))) [

@@ -12,7 +12,7 @@ use Rattle.heap_theory.specs.HeapInMemory.{IsKeptIn, HaveSameSlots, HeaderWordsS
 use Rattle.heap_theory.specs.Links.{IsLinked, list_of}
 use Rattle.heap_theory.specs.Region.{Region, header_in, next_in, region_of}
 use Rattle.heap_theory.specs.State.{Heap, state_at}
-use Rattle.heap_theory.proofs.Found.{Contains-head, Contains-tail, Contains-cases, Contains-none}
+use Rattle.heap_theory.proofs.ListSearch.{Contains-head, Contains-tail, Contains-cases, Contains-none}
 use Rattle.heap_theory.proofs.HeaderWords.{words-header_of}
 use Rattle.heap_theory.proofs.Regions.{header_in-region_of}
 

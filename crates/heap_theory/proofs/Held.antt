@@ -8,7 +8,7 @@ use Rattle.heap_theory.specs.Choice.{is_dead, is_released, is_quarantined, mark_
 use Rattle.heap_theory.specs.Links.{list_of}
 use Rattle.heap_theory.specs.Sound.{IsSoundHeap}
 use Rattle.heap_theory.specs.State.{Heap, slot_in, state_at}
-use Rattle.heap_theory.proofs.Found.{AllPairs-cons, AllPairs-nil}
+use Rattle.heap_theory.proofs.ListSearch.{AllPairs-cons, AllPairs-nil}
 use Rattle.heap_theory.proofs.Front.{freed_list, listed}
 use Rattle.heap_theory.proofs.Marks.{HasMark-own, mark_of-is, dead_with_mark, released_from_mark, chain_bytes, chain_dead, list_dead, one_number}
 

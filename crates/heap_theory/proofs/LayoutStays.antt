@@ -7,8 +7,8 @@ use Rattle.machine_theory.specs.Address.{moved_by}
 use Rattle.class_table.specs.Layout.{Partition}
 use Rattle.heap_theory.specs.declared.event.Event.{Event}
 use Rattle.heap_theory.specs.declared.event.Event.TheVariants.{Malloc, Calloc, Realloc, Free, Load, Store, Addg, Subg}
-use Rattle.heap_theory.specs.declared.fault.FreeError.{FreeError}
-use Rattle.heap_theory.specs.declared.fault.NullCause.{NullCause}
+use Rattle.heap_theory.specs.declared.refusal.FreeError.{FreeError}
+use Rattle.heap_theory.specs.declared.refusal.NullCause.{NullCause}
 use Rattle.heap_theory.specs.Calls.{Step, given_out, freed, resized, with_payload, moved, malloc_with, malloc_step, calloc_with, calloc_step, free_with, free_step, stays_in_class, move_with, realloc_with, realloc_step}
 use Rattle.heap_theory.specs.Choice.{Chunk, slot_for_request, chunk_at}
 use Rattle.heap_theory.specs.Run.{Replay, variable, store_with, store_step, heap_after, replay_after, first_replay, replay_of}

@@ -6,7 +6,7 @@ pub mod CallsKept
 pub mod Choices
 pub mod FirstHeap
 pub mod Front
-pub mod Found
+pub mod ListSearch
 pub mod GranuleKinds
 pub mod GranuleTags
 pub mod Hardened

@@ -11,20 +11,20 @@ use Rattle.machine_theory.specs.declared.fault.Fault.TheVariants.{Unmapped, Alig
 use Rattle.machine_theory.specs.Access.{access_fault}
 use Rattle.machine_theory.specs.Address.{moved_by}
 use Rattle.class_table.specs.Sizes.{largest_counted}
-use Rattle.class_table.specs.Tables.{class_for}
+use Rattle.class_table.specs.Tables.{class_for, loss_of_size}
 use Rattle.heap_theory.specs.declared.event.Event.{Event}
 use Rattle.heap_theory.specs.declared.event.Event.TheVariants.{Malloc, Calloc, Realloc, Free, Load, Store, Addg, Subg}
-use Rattle.heap_theory.specs.declared.fault.FreeError.{FreeError}
-use Rattle.heap_theory.specs.declared.fault.NullCause.{NullCause}
-use Rattle.heap_theory.specs.declared.fault.NullCause.TheVariants.{Large, NoClass, Exhausted}
-use Rattle.heap_theory.specs.declared.fault.ReallocError.{ReallocError}
+use Rattle.heap_theory.specs.declared.refusal.FreeError.{FreeError}
+use Rattle.heap_theory.specs.declared.refusal.NullCause.{NullCause}
+use Rattle.heap_theory.specs.declared.refusal.NullCause.TheVariants.{Large, NoClass, Exhausted}
+use Rattle.heap_theory.specs.declared.refusal.ReallocError.{ReallocError}
 use Rattle.heap_theory.specs.Calls.{Step, malloc_with, malloc_step, calloc_with, calloc_step, as_realloc, free_with, free_step, is_class_of, resized, move_with, realloc_with, realloc_step}
 use Rattle.heap_theory.specs.Choice.{Chunk, class_for_request, slot_for_request, slot_in_class, slot_for, chunk_at}
 use Rattle.heap_theory.specs.Losses.{requested_sizes, counted_sizes, rounding_loss, LosesAtMostItsWaste, ServedRunLosesItsWaste}
 use Rattle.heap_theory.specs.Run.{Replay, Answer, variable, answer_of, answers, replay_after, first_replay, malloc_answer, free_answer, realloc_answer, access_answer}
 use Rattle.heap_theory.specs.Run.Answer.{Silent, NoPointer, NotFreed}
 use Rattle.heap_theory.specs.State.{Heap, slot_in, first_heap}
-use Rattle.heap_theory.specs.Totals.{one_if, request_size, is_request, is_no_class, is_exhausted, is_refused, is_silent, loss_of_size, loss_of_request, loss_of_event, totals_of}
+use Rattle.heap_theory.specs.Totals.{one_if, request_size, is_request, is_no_class, is_exhausted, is_refused, is_silent, loss_of_request, loss_of_event, totals_of}
 use Rattle.heap_theory.proofs.LayoutStays.{layout_after}
 
 -- ---- one event

@@ -5,14 +5,14 @@ use Rattle.std.proofs.lemmas.Bool.{cases_order, lt-ltb}
 use Rattle.std.proofs.lemmas.List.Kept.{AllPairs-from_increasing}
 use Rattle.std.proofs.lemmas.List.Sums.{sum_by-cons}
 use Rattle.std.proofs.lemmas.Option.{get_or_from_slice_get, slice_get_within}
-use Rattle.class_table.specs.Layout.{slot_count, block_bytes}
+use Rattle.class_table.specs.Layout.{Partition, slot_count, slot_of, block_bytes}
 use Rattle.class_table.specs.Tables.{IsLegalTable}
-use Rattle.heap_theory.specs.Booked.{HasMark, IsChain, IsFreedList, bytes_in}
+use Rattle.heap_theory.specs.Booked.{HasMark, IsChain, IsFreedList, bytes_of}
 use Rattle.heap_theory.specs.Choice.{mark_of, is_dead, is_released}
 use Rattle.heap_theory.specs.Sound.{IfDead}
 use Rattle.heap_theory.specs.State.{State, Heap, slot_in, state_at}
 use Rattle.heap_theory.specs.State.State.{Fresh, Live, Dead}
-use Rattle.heap_theory.proofs.Found.{Contains-cases, Contains-none}
+use Rattle.heap_theory.proofs.ListSearch.{Contains-cases, Contains-none}
 
 -- ---- one mark
 
@@ -53,12 +53,13 @@ released_from_mark h (Dead n t m) mark d over = lt-ltb _ _ (subst (λ k. h.quara
 
 -- ---- the queue
 
-pub bytes_in-cons : (h : Heap) (s : ℕ) (queue : List ℕ) → bytes_in h (s ∷ queue) ≡ block_bytes (slot_in h s) + bytes_in h queue
-bytes_in-cons h s queue = sum_by-cons (λ s. block_bytes (slot_in h s)) s queue
+pub bytes_of-cons : (layout : Partition) (s : ℕ) (slots : List ℕ) →
+    bytes_of layout (s ∷ slots) ≡ block_bytes (slot_of layout s) + bytes_of layout slots
+bytes_of-cons layout s slots = sum_by-cons (λ s. block_bytes (slot_of layout s)) s slots
 
-pub chain_bytes : (h : Heap) (from : ℕ) (queue : List ℕ) → IsChain h from queue → from + bytes_in h queue ≡ h.total
+pub chain_bytes : (h : Heap) (from : ℕ) (queue : List ℕ) → IsChain h from queue → from + bytes_of h.layout queue ≡ h.total
 chain_bytes h from [] c = omega (arith, c)
-chain_bytes h from (s ∷ rest) c = omega (arith, bytes_in-cons h s rest, chain_bytes h (from + block_bytes (slot_in h s)) rest c.2)
+chain_bytes h from (s ∷ rest) c = omega (arith, bytes_of-cons h.layout s rest, chain_bytes h (from + block_bytes (slot_in h s)) rest c.2)
 
 pub chain_mark : (h : Heap) (from : ℕ) (queue : List ℕ) (s mark : ℕ) → IsChain h from queue → Contains queue s →
     HasMark (state_at h s) mark → from ≤ mark

@@ -15,7 +15,7 @@ use Rattle.heap_theory.specs.Sound.{IsChunkTag, IsSoundHeap}
 use Rattle.heap_theory.specs.State.{Heap, slot_in, state_at, is_fresh, last_tag, payload_place, pointer_to}
 use Rattle.heap_theory.specs.State.State.{Live}
 use Rattle.heap_theory.proofs.Choices.{slot_of_pointer-is, lowest_fresh-is}
-use Rattle.heap_theory.proofs.Found.{first_in_filter}
+use Rattle.heap_theory.proofs.ListSearch.{first_in_filter}
 
 -- ---- the slot of a pointer
 

@@ -3,8 +3,8 @@ use Rattle.std.proofs.Common.{◌≡◌, List, [], ◌∷◌, ◌++◌, refl}
 use Rattle.std.specs.Prelude.{pos, replicate}
 use Rattle.heap_theory.specs.declared.event.Event.{Event}
 use Rattle.heap_theory.specs.declared.event.Event.TheVariants.{Malloc, Realloc, Free, Load, Store, Addg}
-use Rattle.heap_theory.specs.declared.fault.FreeError.TheVariants.{NotLive}
-use Rattle.heap_theory.specs.declared.fault.NullCause.TheVariants.{NoClass, Exhausted}
+use Rattle.heap_theory.specs.declared.refusal.FreeError.TheVariants.{NotLive}
+use Rattle.heap_theory.specs.declared.refusal.NullCause.TheVariants.{NoClass, Exhausted}
 use Rattle.heap_theory.specs.declared.place.PlaceKind.TheVariants.{Tail, Dead as DeadChunk}
 use Rattle.heap_theory.specs.Header.{first_word, header_for}
 use Rattle.heap_theory.specs.Header.Standing.{Quarantined, Freed}

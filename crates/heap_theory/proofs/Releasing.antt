@@ -4,12 +4,12 @@ use Rattle.std.specs.Prelude.{Contains, slice_get, slice_set, Some}
 use Rattle.std.proofs.lemmas.Bool.{cases_eq, cases_lt}
 use Rattle.std.proofs.lemmas.List.{get_or-set_same, get_or-set_other, length-set}
 use Rattle.class_table.specs.Layout.{block_bytes}
-use Rattle.heap_theory.specs.Booked.{HasMark, IsFreedList, IsBookedFrom, bytes_in}
+use Rattle.heap_theory.specs.Booked.{HasMark, IsFreedList, IsBookedFrom, bytes_of}
 use Rattle.heap_theory.specs.Links.{list_of}
 use Rattle.heap_theory.specs.Sound.{IsSoundHeap}
 use Rattle.heap_theory.specs.State.{Heap, slot_in, state_at}
-use Rattle.heap_theory.proofs.Found.{Contains-head, Contains-tail, Contains-cases}
-use Rattle.heap_theory.proofs.Marks.{one_mark, bytes_in-cons, chain_bytes, chain_mark, list_weaker, one_number, IsNumberOf, number_is}
+use Rattle.heap_theory.proofs.ListSearch.{Contains-head, Contains-tail, Contains-cases}
+use Rattle.heap_theory.proofs.Marks.{one_mark, bytes_of-cons, chain_bytes, chain_mark, list_weaker, one_number, IsNumberOf, number_is}
 
 -- a list for one class is another one
 pub list_of-here : (lists : List (List ℕ)) (number : ℕ) (list : List ℕ) → number < length lists →
@@ -90,12 +90,12 @@ module _ (h : Heap) (from s number : ℕ) (queue : List ℕ) (lists : List (List
             (b.freed other in_lists))
       ]
 
-  pub release : h.quarantine < bytes_in h (s ∷ queue) →
+  pub release : h.quarantine < bytes_of h.layout (s ∷ queue) →
       IsBookedFrom h (from + block_bytes (slot_in h s)) queue (slice_set lists number (s ∷ list_of lists number))
   release over =
       let some = wide in
-      let bytes : bytes_in h (s ∷ queue) ≡ block_bytes (slot_in h s) + bytes_in h queue = bytes_in-cons h s queue in
-      let sum : from + block_bytes (slot_in h s) + bytes_in h queue ≡ h.total =
+      let bytes : bytes_of h.layout (s ∷ queue) ≡ block_bytes (slot_in h s) + bytes_of h.layout queue = bytes_of-cons h.layout s queue in
+      let sum : from + block_bytes (slot_in h s) + bytes_of h.layout queue ≡ h.total =
       chain_bytes h (from + block_bytes (slot_in h s)) queue b.chain.2 in
       record {
         chain = b.chain.2;

@@ -7,8 +7,8 @@ use Rattle.std.proofs.lemmas.List.{get_or-set_same, get_or-set_other}
 use Rattle.machine_theory.specs.Address.{logical_tag, with_tag}
 use Rattle.class_table.specs.Layout.{Partition, slot_count, slot_of}
 use Rattle.heap_theory.proofs.TheoryLemmas as laws
-use Rattle.heap_theory.specs.declared.fault.FreeError.{FreeError}
-use Rattle.heap_theory.specs.declared.fault.ReallocError.{ReallocError}
+use Rattle.heap_theory.specs.declared.refusal.FreeError.{FreeError}
+use Rattle.heap_theory.specs.declared.refusal.ReallocError.{ReallocError}
 use Rattle.heap_theory.specs.Calls.{Step, next_tag, given_out, resized, with_payload, moved, malloc_with, malloc_step, calloc_with, calloc_step, stays_in_class, move_with, as_realloc, realloc_with, realloc_step}
 use Rattle.heap_theory.specs.Choice.{Chunk, IsReusable, IsGiven, slot_for_request, chunk_at}
 use Rattle.heap_theory.specs.Generations.{Run, Generation, times_of, generation_of, slot_if_moved, times_with, begun_or}

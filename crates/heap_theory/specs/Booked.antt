@@ -1,6 +1,6 @@
 -- The bookkeeping of freed slots: a queue for the quarantine and a list for each class, and how they say the same as the marks.
 use Rattle.std.specs.Prelude.{◌≡◌, ◌↔◌, ℕ, ◌+◌, ◌-◌, ◌<◌, ◌≤◌, List, [], ◌∷◌, length, slice_get, slice_index, sum_by, Some, IsTrue, AllPairs, Contains, ⊤}
-use Rattle.class_table.specs.Layout.{block_bytes}
+use Rattle.class_table.specs.Layout.{Partition, block_bytes, slot_of}
 use Rattle.heap_theory.specs.Choice.{is_released, is_quarantined, mark_of}
 use Rattle.heap_theory.specs.Links.{list_of}
 use Rattle.heap_theory.specs.State.{State, Heap, slot_in, state_at, IsSlot}
@@ -39,8 +39,8 @@ IsFreedList heap class bound (s ∷ rest) =
     × IsFreedList heap class mark rest
 
 -- the bytes of the blocks of some slots
-abbrev pub bytes_in : Heap → List ℕ → ℕ
-bytes_in heap slots = sum_by (λ s. block_bytes (slot_in heap s)) slots
+abbrev pub bytes_of : Partition → List ℕ → ℕ
+bytes_of layout slots = sum_by (λ s. block_bytes (slot_of layout s)) slots
 
 -- The queue has the dead slots from a mark on, and the lists have those before it, which are all released.
 pub record IsBookedFrom (heap : Heap) (from : ℕ) (queue : List ℕ) (lists : List (List ℕ)) : Type 0 where
@@ -56,4 +56,4 @@ pub record IsBookedFrom (heap : Heap) (from : ℕ) (queue : List ℕ) (lists : L
 pub record IsBooked (heap : Heap) (queue : List ℕ) (lists : List (List ℕ)) : Type 0 where
   pub from : ℕ
   pub booked : IsBookedFrom heap from queue lists
-  pub held : bytes_in heap queue ≤ heap.quarantine
+  pub held : bytes_of heap.layout queue ≤ heap.quarantine

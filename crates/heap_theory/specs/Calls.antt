@@ -5,10 +5,10 @@ use Rattle.machine_theory.specs.Instructions.{drawn_tag}
 use Rattle.machine_theory.specs.Memory.{Granule, tagged, written, bytes_at}
 use Rattle.machine_theory.specs.Seed.{next_seed}
 use Rattle.class_table.specs.Layout.{Slot, block_bytes}
-use Rattle.heap_theory.specs.declared.fault.FreeError.{FreeError}
-use Rattle.heap_theory.specs.declared.fault.NullCause.{NullCause}
-use Rattle.heap_theory.specs.declared.fault.ReallocError.{ReallocError}
-use Rattle.heap_theory.specs.declared.fault.ReallocError.TheVariants.{Null, Refused}
+use Rattle.heap_theory.specs.declared.refusal.FreeError.{FreeError}
+use Rattle.heap_theory.specs.declared.refusal.NullCause.{NullCause}
+use Rattle.heap_theory.specs.declared.refusal.ReallocError.{ReallocError}
+use Rattle.heap_theory.specs.declared.refusal.ReallocError.TheVariants.{Null, Refused}
 use Rattle.heap_theory.specs.Choice.{Chunk, class_for_request, slot_for_request, chunk_at}
 use Rattle.heap_theory.specs.State.{Heap, slot_in, state_at, last_tag, chunk_granules, payload_start, pointer_to}
 use Rattle.heap_theory.specs.State.State.{Live, Dead}

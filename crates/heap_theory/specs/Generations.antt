@@ -1,11 +1,11 @@
--- The run with what nothing stores: how often each slot was given out, and of which giving-out each variable has its address.
--- No answer depends on these, since the stored part is followed by itself.
+-- The run with what nothing stores: how often each slot was given out, and of which giving-out each variable has its address. No answer
+-- depends on these: what is stored determines each answer, and what is stored after it.
 use Rattle.std.specs.Prelude.{ℕ, ◌+◌, suc, ◌==◌, if◌then◌else◌, List, replicate, fold, slice_set, slice_index, slice_index_or, Option, Some, None, Result, Ok, Err}
 use Rattle.std.specs.Result.{result_ok}
 use Rattle.class_table.specs.Layout.{Partition, slot_count}
 use Rattle.heap_theory.specs.declared.event.Event.{Event}
 use Rattle.heap_theory.specs.declared.event.Event.TheVariants.{Malloc, Calloc, Realloc, Free, Load, Store, Addg, Subg}
-use Rattle.heap_theory.specs.declared.fault.FreeError.{FreeError}
+use Rattle.heap_theory.specs.declared.refusal.FreeError.{FreeError}
 use Rattle.heap_theory.specs.Calls.{stays_in_class}
 use Rattle.heap_theory.specs.Choice.{Chunk, slot_for_request, chunk_at}
 use Rattle.heap_theory.specs.Run.{Replay, variable, replay_after, first_replay}

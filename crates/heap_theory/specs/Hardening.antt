@@ -1,5 +1,6 @@
--- What hardens the heap, said of a run. An access touches each granule that holds one of its bytes, mapped as a whole or not.
-use Rattle.std.specs.Prelude.{◌≡◌, ◌≢◌, ◌⊎◌, ℕ, suc, ◌+◌, ◌-◌, ◌%◌, ◌<◌, ◌≤◌, ℤ, nat_abs, length, Some, None, IsSome, ⊤}
+-- What hardens the heap, said of a run. An access touches each granule that holds one of its bytes, whether the whole access is mapped or
+-- not.
+use Rattle.std.specs.Prelude.{◌≡◌, ◌≢◌, ◌⊎◌, ℕ, suc, ◌+◌, ◌-◌, ◌%◌, ◌<◌, ◌≤◌, ℤ, nat_abs, List, length, slice_index, Some, None, IsSome, ⊤}
 use Rattle.machine_theory.specs.Access.{access_fault}
 use Rattle.machine_theory.specs.Address.{logical_tag, place_of, moved_by, Holds, Touches}
 use Rattle.machine_theory.specs.Memory.{tag_at}
@@ -90,19 +91,31 @@ WasFreed run s time =
 
 -- ---- tags
 
-abbrev pub ChunkTagsNotZero : Run → Type 0
-ChunkTagsNotZero run = (s g : ℕ) → IsChunkGranule run.replay.heap s g → tag_at run.replay.heap.memory g ≢ 0
+-- No granule of a chunk has tag 0.
+abbrev pub ChunksAreTagged : Heap → Type 0
+ChunksAreTagged heap = (s g : ℕ) → IsChunkGranule heap s g → tag_at heap.memory g ≢ 0
 
 -- Chunk granules of an even slot and of an odd one never have the same tag.
+abbrev pub ParitiesDiffer : Heap → Type 0
+ParitiesDiffer heap =
+    (s r g k : ℕ) → HaveOtherParity s r → IsChunkGranule heap s g → IsChunkGranule heap r k →
+    tag_at heap.memory g ≢ tag_at heap.memory k
+
+-- both, said of the heap of a run
+abbrev pub ChunkTagsNotZero : Run → Type 0
+ChunkTagsNotZero run = ChunksAreTagged run.replay.heap
+
 abbrev pub ChunkTagsDiffer : Run → Type 0
-ChunkTagsDiffer run =
-    (s r g k : ℕ) → HaveOtherParity s r → IsChunkGranule run.replay.heap s g → IsChunkGranule run.replay.heap r k →
-    tag_at run.replay.heap.memory g ≢ tag_at run.replay.heap.memory k
+ChunkTagsDiffer run = ParitiesDiffer run.replay.heap
 
 -- ---- bookkeeping out of reach
 
+-- Each variable is null or tagged.
+abbrev pub AreNullOrTagged : List ℕ → Type 0
+AreNullOrTagged variables = (v : ℕ) → (slice_index variables v ≡ 0) ⊎ (logical_tag (slice_index variables v) ≢ 0)
+
 abbrev pub NullOrTagged : Run → Type 0
-NullOrTagged run = (v : ℕ) → (variable run.replay v ≡ 0) ⊎ (logical_tag (variable run.replay v) ≢ 0)
+NullOrTagged run = AreNullOrTagged run.replay.variables
 
 -- An access through any variable that touches slack, a header or a tail is a fault.
 abbrev pub BookkeepingOutOfReach : Run → Type 0

@@ -1,5 +1,5 @@
--- The header of a slot: two words of 64 bits in its first granule, the lowest byte first (this project's own).
-use Rattle.std.specs.Prelude.{ℕ, zero, suc, ◌+◌, ◌*◌, ◌/◌, ◌%◌, ◌^◌, ◌<◌, ◌==◌, if◌then◌else◌, List, ◌++◌, position, unwrap_or}
+-- The header of a slot: two words of 64 bits in its first granule, the lowest byte first. The fields are this project's own, not Scudo's.
+use Rattle.std.specs.Prelude.{ℕ, zero, suc, ◌+◌, ◌*◌, ◌/◌, ◌%◌, ◌^◌, ◌<◌, ◌==◌, if◌then◌else◌, Bool, List, ◌++◌, position, unwrap_or}
 use Rattle.std.specs.Int.{w64, to_le_bytes}
 use Rattle.machine_theory.specs.Memory.{Granule, word_at, written}
 use Rattle.class_table.specs.Layout.{Partition, slot_of}
@@ -94,22 +94,30 @@ size_of NeverGiven = 0
 size_of (Given size tag) = size
 size_of (Dead size tag mark) = size
 
+-- how a slot stands in a state, where this says whether a dead slot is in its class's list
+abbrev pub standing_where : Bool → State → Standing
+standing_where freed NeverGiven = Fresh
+standing_where freed (Given size tag) = Live
+standing_where freed (Dead size tag mark) = if freed then Freed else Quarantined
+
 abbrev pub standing_in : Heap → State → Standing
-standing_in heap NeverGiven = Fresh
-standing_in heap (Given size tag) = Live
-standing_in heap (Dead size tag mark) = if is_released heap (Dead size tag mark) then Freed else Quarantined
+standing_in heap state = standing_where (is_released heap state) state
 
 -- the number of a slot's class, from 0
 abbrev pub class_number : Partition → ℕ → ℕ
 class_number layout s = unwrap_or (position (λ class. class == (slot_of layout s).class) layout.classes) 0
 
+-- the header of slot s of a layout, in this standing and state and with this link
+abbrev pub header_with : Partition → ℕ → Standing → State → ℕ → Header
+header_with layout s standing state next = record {
+  standing = standing;
+  size = size_of state;
+  tag = last_tag state;
+  class = class_number layout s;
+  next = next;
+  mark = mark_of state;
+}
+
 -- The header that a slot of the heap has, where its link is this one.
 unfoldable pub header_for : Heap → ℕ → ℕ → Header
-header_for heap s next = record {
-  standing = standing_in heap (state_at heap s);
-  size = size_of (state_at heap s);
-  tag = last_tag (state_at heap s);
-  class = class_number heap.layout s;
-  next = next;
-  mark = mark_of (state_at heap s);
-}
+header_for heap s next = header_with heap.layout s (standing_in heap (state_at heap s)) (state_at heap s) next

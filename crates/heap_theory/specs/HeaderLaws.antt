@@ -167,7 +167,7 @@ BytesAreSeen =
     (layout : Partition) (i : ℕ) (new : List ℕ) (memory : List Granule) →
     without_headers layout (written i new memory) ≡ written i new (without_headers layout memory)
 
--- accesses see no bytes at all,
+-- whether an access is a fault depends on no byte,
 abbrev pub AccessesAreSeen : Type 0
 AccessesAreSeen =
     (layout : Partition) (memory : List Granule) (address len : ℕ) →

@@ -1,4 +1,4 @@
--- How the headers and links of a region show the slots of a heap.
+-- How the headers and links of a region show the slots of a heap at rest: `IsKeptIn`, what callers know of the memory that a heap lends.
 use Rattle.std.specs.Prelude.{◌≡◌, ◌≢◌, ℕ, ◌+◌, ◌*◌, ◌<◌, List, length, slice_get, slice_index, Some, AllPairs, Contains, IsFalse}
 use Rattle.machine_theory.specs.Memory.{Granule, word_at}
 use Rattle.class_table.specs.Layout.{Partition, slot_count, slot_of}
@@ -10,9 +10,10 @@ use Rattle.heap_theory.specs.Region.{Region, header_in, next_in, region_of}
 use Rattle.heap_theory.specs.State.{Heap, state_at, IsSlot}
 use Rattle.machine_theory.specs.declared.sizes.TheConstants.{GRANULE_BYTES}
 
--- The region of a heap: its headers, and the queue and lists that are linked through them.
+-- The region of a heap at rest, over the heap and its memory alone: its headers, and the queue and lists that are linked through them.
+-- It follows from `IsKept` in tagged_heap, which is over the parts of the heap's type, where the quarantine holds no more than its limit.
 pub record IsKeptIn (heap : Heap) (region : Region) : Type 0 where
-  -- each header shows its slot's state
+  -- the granules without header bytes are the heap's memory, and each header shows its slot's state
   pub seen : region.granules ≡ heap.memory
   pub headers : (s : ℕ) → IsSlot heap s → header_in region s ≡ header_for heap s (next_in region s)
   pub unlinked : (s : ℕ) → IsSlot heap s → IsFalse (is_dead (state_at heap s)) → next_in region s ≡ 0
@@ -42,8 +43,8 @@ pub record HaveSameHeaderWords (layout : Partition) (memory other : List Granule
   pub second : (s : ℕ) → s < slot_count layout →
       word_at other (GRANULE_BYTES * (slot_of layout s).start + 8) ≡ word_at memory (GRANULE_BYTES * (slot_of layout s).start + 8)
 
--- Header words stay from one heap to another: whatever memory keeps the first and whatever memory keeps the second, the words of each
--- slot's header are the same in both. So they are in the regions that `Heap::memory` lends before and after.
+-- Header words stay from one heap to another: if one memory keeps the first heap and another memory keeps the second, both memories have
+-- the same words in each slot's header. So this holds for the memories that `Heap::memory` lends before and after.
 abbrev pub HeaderWordsStay : Heap → Heap → Type 0
 HeaderWordsStay before after =
     (memory new : List Granule) → IsKeptIn before (region_of before.layout memory) → IsKeptIn after (region_of after.layout new) →

@@ -6,7 +6,7 @@ use Rattle.machine_theory.specs.Memory.{Granule, written}
 use Rattle.class_table.specs.Layout.{Partition, IsPartition, block_bytes}
 use Rattle.heap_theory.specs.declared.event.Event.{Event}
 use Rattle.heap_theory.specs.declared.event.Event.TheVariants.{Load, Store}
-use Rattle.heap_theory.specs.Booked.{IsBooked, IsBookedFrom, HoldsQuarantined, HoldsReleased, bytes_in}
+use Rattle.heap_theory.specs.Booked.{IsBooked, IsBookedFrom, HoldsQuarantined, HoldsReleased, bytes_of}
 use Rattle.heap_theory.specs.Calls.{given_out, freed, resized, moved, malloc_step, calloc_step, free_step, realloc_step}
 use Rattle.heap_theory.specs.Choice.{Chunk, IsGiven, IsLiveChunk, slot_for, lowest_fresh, slot_for_request, slot_of_pointer, chunk_at}
 use Rattle.heap_theory.specs.Generations.{Run, run_after, run}
@@ -148,13 +148,13 @@ abbrev pub FrontIsReleased : Type 0
 FrontIsReleased =
     (heap : Heap) (from s number : ℕ) (queue : List ℕ) (lists : List (List ℕ)) → IsSoundHeap heap →
     IsBookedFrom heap from (s ∷ queue) lists →
-    slice_get heap.layout.classes number ≡ Some (slot_in heap s).class → heap.quarantine < bytes_in heap (s ∷ queue) →
+    slice_get heap.layout.classes number ≡ Some (slot_in heap s).class → heap.quarantine < bytes_of heap.layout (s ∷ queue) →
     IsBookedFrom heap (from + block_bytes (slot_in heap s)) queue (slice_set lists number (s ∷ list_of lists number))
 
 abbrev pub RestIsHeld : Type 0
 RestIsHeld =
     (heap : Heap) (from : ℕ) (queue : List ℕ) (lists : List (List ℕ)) → IsBookedFrom heap from queue lists →
-    bytes_in heap queue ≤ heap.quarantine → IsBooked heap queue lists
+    bytes_of heap.layout queue ≤ heap.quarantine → IsBooked heap queue lists
 
 -- ---- what they hold
 
@@ -188,7 +188,7 @@ FaultsAreAnswered =
     IsFaultAnswer (answer_of replay (Load v off len)) × IsFaultAnswer (answer_of replay (Store v off len byte))
     × (heap_after replay (Store v off len byte) ≡ replay.heap)
 
--- The stored part of a run is followed by itself.
+-- The stored part of a run is the replay of its events.
 abbrev pub StoredPartIsAReplay : Type 0
 StoredPartIsAReplay =
     (layout : Partition) (seed quarantine : ℕ) (events : List Event) →

@@ -1,11 +1,11 @@
 -- What a run loses by rounding requests up to their classes, against what its trace requests.
-use Rattle.std.specs.Prelude.{◌≡◌, ℕ, ◌≤◌, ◌&&◌, nat_le, List, count_by, sum_by, filter, filter_map, zip, All, IsSome}
+use Rattle.std.specs.Prelude.{◌≡◌, ℕ, ◌≤◌, ◌&&◌, List, count_by, sum_by, filter_map, zip, All, IsSome}
 use Rattle.class_table.specs.Layout.{Partition}
-use Rattle.class_table.specs.Sizes.{largest_counted}
-use Rattle.class_table.specs.Tables.{class_for}
+use Rattle.class_table.specs.Sizes.{counted_of}
+use Rattle.class_table.specs.Tables.{class_for, loss_of_size}
 use Rattle.heap_theory.specs.declared.event.Event.{Event}
 use Rattle.heap_theory.specs.Run.{Answer, answers, first_replay}
-use Rattle.heap_theory.specs.Totals.{request_size, is_request, is_refused, loss_of_size, totals_of}
+use Rattle.heap_theory.specs.Totals.{request_size, is_request, is_refused, totals_of}
 
 -- ---- what a trace requests
 
@@ -15,7 +15,7 @@ requested_sizes events = filter_map request_size events
 
 -- Those of the requested sizes that a class may serve.
 abbrev pub counted_sizes : List Event → List ℕ
-counted_sizes events = filter (λ n. nat_le n largest_counted) (requested_sizes events)
+counted_sizes events = counted_of (requested_sizes events)
 
 -- The bytes lost by rounding requests of these sizes up to their classes.
 abbrev pub rounding_loss : List ℕ → List ℕ → ℕ

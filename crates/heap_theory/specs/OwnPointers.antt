@@ -1,7 +1,7 @@
 -- The pointer that was given out for a live chunk, and which pointers `free` and `realloc` accept.
 use Rattle.std.specs.Prelude.{◌≡◌, ◌≢◌, ◌↔◌, ◌⊎◌, ℕ, List, Result, Ok, Err, ⊤}
-use Rattle.heap_theory.specs.declared.fault.ReallocError.{ReallocError}
-use Rattle.heap_theory.specs.declared.fault.ReallocError.TheVariants.{Null, Refused}
+use Rattle.heap_theory.specs.declared.refusal.ReallocError.{ReallocError}
+use Rattle.heap_theory.specs.declared.refusal.ReallocError.TheVariants.{Null, Refused}
 use Rattle.heap_theory.specs.Calls.{freed, malloc_step, calloc_step, free_step, realloc_step}
 use Rattle.heap_theory.specs.Generations.{Run}
 use Rattle.heap_theory.specs.Hardening.{IsLive, HasGeneration, IsLiveGeneration}

@@ -9,10 +9,10 @@ use Rattle.machine_theory.specs.Instructions.{addg, subg}
 use Rattle.class_table.specs.Layout.{Partition}
 use Rattle.heap_theory.specs.declared.event.Event.{Event}
 use Rattle.heap_theory.specs.declared.event.Event.TheVariants.{Malloc, Calloc, Realloc, Free, Load, Store, Addg, Subg}
-use Rattle.heap_theory.specs.declared.fault.FreeError.{FreeError}
-use Rattle.heap_theory.specs.declared.fault.NullCause.{NullCause}
-use Rattle.heap_theory.specs.declared.fault.ReallocError.{ReallocError}
-use Rattle.heap_theory.specs.declared.fault.ReallocError.TheVariants.{Null, Refused}
+use Rattle.heap_theory.specs.declared.refusal.FreeError.{FreeError}
+use Rattle.heap_theory.specs.declared.refusal.NullCause.{NullCause}
+use Rattle.heap_theory.specs.declared.refusal.ReallocError.{ReallocError}
+use Rattle.heap_theory.specs.declared.refusal.ReallocError.TheVariants.{Null, Refused}
 use Rattle.heap_theory.specs.declared.place.PlaceKind.{PlaceKind}
 use Rattle.heap_theory.specs.Calls.{malloc_step, calloc_step, free_step, realloc_step}
 use Rattle.heap_theory.specs.Places.{place_kind}

@@ -7,8 +7,8 @@ use Rattle.heap_theory.specs.Run.{variable}
 use Rattle.heap_theory.specs.Sound.{IsTagOf, IsSoundHeap}
 use Rattle.heap_theory.specs.State.{Heap, slot_in, state_at, last_tag, is_fresh, payload_place, IsSlot}
 
--- The address is that of the slot's payload, under the tag with which the slot was given out the time-th time: the slot's own where that
--- was the last time, and another than the slot's where it was the time before.
+-- The address is that of the slot's payload, under the tag with which the slot was given out the time-th time. This is the slot's own tag
+-- if that was the last time, and another tag if it was the last time but one.
 pub record IsAddressOf (heap : Heap) (times : List ℕ) (address s time : ℕ) : Type 0 where
   pub in_range : IsSlot heap s
   pub address_is : address ≡ with_tag (payload_place (slot_in heap s)) (logical_tag address)

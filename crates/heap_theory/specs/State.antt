@@ -1,4 +1,4 @@
--- What a heap holds (this project's own).
+-- What a heap holds.
 use Rattle.std.specs.Prelude.{ℕ, ◌+◌, ◌-◌, ◌*◌, ◌/◌, ◌<◌, Bool, true, false, ◌==◌, if◌then◌else◌, List, [], map, max, replicate, slice_index_or}
 use Rattle.std.specs.List.{range_with_len, list_any}
 use Rattle.machine_theory.specs.Address.{region_start, with_tag}

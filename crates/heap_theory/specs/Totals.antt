@@ -1,11 +1,9 @@
 -- What is counted over a trace.
 use Rattle.std.specs.Prelude.{ℕ, ◌+◌, Bool, true, false, if◌then◌else◌, List, length, count_by, sum_by, Option, Some, None, is_some}
-use Rattle.std.specs.Option.{option_map_or}
-use Rattle.class_table.specs.Sizes.{loss_of}
-use Rattle.class_table.specs.Tables.{class_for}
+use Rattle.class_table.specs.Tables.{loss_of_size}
 use Rattle.heap_theory.specs.declared.event.Event.{Event}
 use Rattle.heap_theory.specs.declared.event.Event.TheVariants.{Malloc, Calloc, Realloc, Free, Load, Store, Addg, Subg}
-use Rattle.heap_theory.specs.declared.fault.NullCause.TheVariants.{Large, NoClass, Exhausted}
+use Rattle.heap_theory.specs.declared.refusal.NullCause.TheVariants.{Large, NoClass, Exhausted}
 use Rattle.heap_theory.specs.Run.{Answer}
 use Rattle.heap_theory.specs.Run.Answer.{Silent, NotMapped, TagFault, NoPointer, NotFreed}
 
@@ -76,10 +74,7 @@ abbrev pub is_silent : Answer → Bool
 is_silent Silent = true
 is_silent other = false
 
--- the bytes lost by rounding a request up to its class
-abbrev pub loss_of_size : List ℕ → ℕ → ℕ
-loss_of_size classes n = option_map_or (loss_of n) (class_for classes n) 0
-
+-- the bytes lost by rounding a request of this size, if there is one, up to its class
 abbrev pub loss_of_request : List ℕ → Option ℕ → ℕ
 loss_of_request classes None = 0
 loss_of_request classes (Some n) = loss_of_size classes n
@@ -107,16 +102,26 @@ totals_of classes happened = record {
 abbrev pub one_if : Bool → ℕ
 one_if b = if b then 1 else 0
 
--- Once one more event has happened.
-unfoldable pub totals_after : List ℕ → Totals → Event × Answer → Totals
-totals_after classes t p = record {
-  events = t.events + 1;
-  requests = t.requests + one_if (is_request p.0);
-  null_large = t.null_large + one_if (is_large p.1);
-  null_no_class = t.null_no_class + one_if (is_no_class p.1);
-  null_exhausted = t.null_exhausted + one_if (is_exhausted p.1);
-  faults_tag = t.faults_tag + one_if (is_tag_fault p.1);
-  faults_unmapped = t.faults_unmapped + one_if (is_unmapped p.1);
-  refused_frees = t.refused_frees + one_if (is_refused p.1);
-  loss = t.loss + loss_of_event classes p;
+-- The result of one more event is counted,
+abbrev pub with_answer : Totals → Answer → Totals
+with_answer t answer = record t {
+  null_large = t.null_large + one_if (is_large answer);
+  null_no_class = t.null_no_class + one_if (is_no_class answer);
+  null_exhausted = t.null_exhausted + one_if (is_exhausted answer);
+  faults_tag = t.faults_tag + one_if (is_tag_fault answer);
+  faults_unmapped = t.faults_unmapped + one_if (is_unmapped answer);
+  refused_frees = t.refused_frees + one_if (is_refused answer);
 }
+
+-- its request of this size, if it is one, and what is lost on it,
+abbrev pub with_request : List ℕ → Totals → Option ℕ → Answer → Totals
+with_request classes t size answer = record t {
+  requests = t.requests + one_if (is_some size);
+  loss = t.loss + (if is_silent answer then loss_of_request classes size else 0);
+}
+
+-- and the event itself.
+unfoldable pub totals_after : List ℕ → Totals → Event × Answer → Totals
+totals_after classes t p =
+    let counted = with_request classes (with_answer t p.1) (request_size p.0) p.1 in
+    record counted { events = counted.events + 1 }

@@ -3,10 +3,10 @@
 #![tactic(auto)]
 
 mod event;
-mod fault;
 pub mod laws;
 mod place;
+mod refusal;
 
 pub use event::Event;
-pub use fault::{FreeError, NullCause, ReallocError};
 pub use place::PlaceKind;
+pub use refusal::{FreeError, NullCause, ReallocError};

@@ -10,8 +10,7 @@ is_space b = b == 32
 
 -- ---- reading
 
--- The lines of a text: a newline ends each, and may be missing at the last. Any other byte is the first one of the
--- first line of what follows it.
+-- The lines of a text: a newline ends each, and may be missing at the last. Any other byte stands in front of the first line of the rest.
 unfoldable pub lines : List ℕ → List (List ℕ)
 lines [] = []
 lines (b ∷ text) = if is_newline b then [] ∷ lines text else onto_first b (lines text)

@@ -1,7 +1,6 @@
 //! Lines of a text, words of a line, and the numbers that words spell: what all text formats of the tool share.
 #![tactic(auto)]
 
-mod cutting;
 mod hexadecimal;
 pub mod laws;
 mod leading_number;
@@ -13,9 +12,8 @@ mod search;
 mod signed;
 mod words;
 
-pub use cutting::first_line;
 pub use hexadecimal::{hex_byte_in, hex_digits};
-pub use lines::{Lines, lines_in};
+pub use lines::{Lines, first_line, lines_in};
 pub use number::{Number, capped_number_in, number_in};
 pub use signed::{SignedNumber, signed_in};
 pub use words::{Words, words_in};

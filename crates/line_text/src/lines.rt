@@ -1,11 +1,12 @@
 //! Lines of a text.
-ghost use Rattle.std.specs.Prelude.{◌≡◌, List, ℕ, IfSome, IfNone, drop, option_and_then, slice_get};
+ghost use Rattle.std.specs.Prelude.{◌≡◌, ◌++◌, ◌∷◌, List, ℕ, IfSome, IfNone, drop, option_and_then, slice_get};
 ghost use Rattle.std.specs.Iterator.{YieldsFirstBy, item_count};
-ghost use Rattle.line_text.specs.Lines.{lines, words};
+ghost use Rattle.line_text.specs.Lines.{IsLine, lines, words};
 ghost use Rattle.line_text.specs.Pairs.{short_pair_of};
 
 use crate::pair::leading_pair;
 use crate::search::first_place;
+use memchr::memchr;
 use std::marker::Model;
 
 /// The unread lines of a text, in order and without their newlines.
@@ -70,4 +71,14 @@ impl<'a> Iterator for Lines<'a> {
         self.rest = &text[end + 1..];
         Some(&text[..end])
     }
+}
+
+/// The bytes before the first newline of a text and those after it. `None` if it has no newline.
+pub fn first_line(text: &[u8]) -> Option<(&[u8], &[u8])>
+    ensures cut { IfSome result (λ pair. text.now ≡ pair.0.now ++ 10 ∷ pair.1.now) }
+    ensures line { IfSome result (λ pair. IsLine pair.0.now) }
+    ensures unfinished { IfNone result (IsLine text.now) }
+{
+    let end = memchr(b'\n', text)?;
+    Some((&text[..end], &text[end + 1..]))
 }

@@ -67,7 +67,8 @@ impl<'a> Words<'a> {
         }
     }
 
-    // Takes the next word as a number if it has at most 18 digits and the line at least 19 bytes. Otherwise it takes no word.
+    // Takes the next word as a number if it has at most 18 digits and the unread part of the line at least 19 bytes. Otherwise it takes no
+    // word.
     #[inline(always)]
     fn next_near_number(&mut self) -> Option<u64>
         ensures number { result ≡ near_number_of self.old }

@@ -1,4 +1,4 @@
--- The sheet in front of a text is settled by its lines and the one after them.
+-- Which lines of a text are its sheet depends only on these lines and the one after them.
 use Rattle.std.proofs.Common.{◌≡◌, ℕ, zero, suc, ◌+◌, ◌-◌, ◌<◌, ◌≤◌, Bool, true, false}
 use Rattle.std.proofs.Common.{List, [], ◌∷◌, ◌++◌, length, take, drop, get_or, codes}
 use Rattle.std.proofs.Common.{refl, sym, ap, ◌∙◌, arith, length-append}
@@ -19,7 +19,7 @@ after_alike n m xs ys e = sym (drop-take n m xs) ∙ ap (drop n) e ∙ drop-take
 
 -- ---- elements that pass a test
 
--- are settled by the one after them,
+-- the first elements that pass depend only on themselves and the one after them,
 passing_settled : {A : Type 0} (p : A → Bool) (n : ℕ) (xs ys : List A) → length (take_while p xs) < n → n ≤ length xs
     → take n xs ≡ take n ys → take_while p ys ≡ take_while p xs
 passing_settled p zero xs ys few there e = absurd (omega (arith, few))
@@ -100,7 +100,7 @@ head_size-few ls = go (is_named (codes "step") (get_or ls 2 [])) refl
     go true is = rw is (omega arith)
     go false is = rw is (omega arith)
 
--- and the first three settle it
+-- and it depends only on the first three lines
 head_size-alike : (n : ℕ) (ls other : List (List ℕ)) → 3 ≤ n → take n ls ≡ take n other → head_size other ≡ head_size ls
 head_size-alike n ls other few e =
     let of_other = get_or-take n other 2 [] (omega (arith, few)) in

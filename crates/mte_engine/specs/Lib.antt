@@ -6,8 +6,8 @@ pub mod Outcome
 pub mod Parts
 pub mod Profile
 pub mod Replay
+pub mod RestOfReport
 pub mod ReportLeft
-pub mod ReportBuffer
 pub mod Run
 pub mod Score
 pub mod FaultText

@@ -1,4 +1,4 @@
--- The parts of an input, each fault with its line in the input, which are counted from 1.
+-- The parts of an input but a trace, which Traces.antt has. A fault has the number of its line in the whole input, counted from 1.
 use Rattle.std.specs.Prelude.{◌≡◌, ℕ, ◌+◌, List, Result, Ok, Err, ⊤}
 use Rattle.class_table.specs.declared.fault.TableError.{TableError}
 use Rattle.profile_count.specs.declared.fault.ProfileFault.{ProfileFault}

@@ -2,7 +2,7 @@
 ghost use Rattle.std.specs.Prelude.{◌≡◌, Err, IfOk};
 ghost use Rattle.mte_engine.specs.Check.{CheckAnswers, verdict_text};
 ghost use Rattle.mte_engine.specs.Outcome.{GivesAnswer, IsReady, Runs};
-ghost use Rattle.mte_engine.specs.TextLeft.{bytes_left};
+ghost use Rattle.mte_engine.specs.TextLeft.{text_left};
 
 use crate::engine::{Engine, Status, run_engine};
 use crate::fault::{AnswerError, ToolFault};
@@ -13,13 +13,13 @@ use crate::streams::{ByteSink, ByteSource};
 use potential_check::{Verdict, check as verdict_on};
 use std::alloc::{AllocError, Global};
 
-/// Reads a sheet and then a profile. It writes `optimal`, or `refused CODE NAME` with the status of a no: the first refusal (39 to 47) of the
-/// sheet for the profile. `optimal` means that no table wastes less, of all tables that have at most the sheet's limit of classes, all of
-/// them multiples of its step, and that serve each counted size.
-/// The sheet is the first three lines, or four if the third begins with `step`, and all lines directly after them whose first word is `row`.
+/// Reads a sheet and then a profile. It writes `optimal`, or `refused CODE NAME` with the status of a no: the first refusal (39 to 47) of
+/// the sheet for the profile. `optimal` means that no table wastes less, of all tables that have at most the sheet's limit of classes, all
+/// of them multiples of its step, and that serve each counted size. The sheet is the first three lines, or four if the third begins with
+/// `step`, and all lines directly after them whose first word is `row`.
 ///
-/// Faults: an input that is too long, then the sheet's, then the profile's (`Input`); a failed read (`ReadFault`); out of memory
-/// (`OutOfMemory`): the sink took nothing then. A failed write (`WriteFault`): then the sink took a prefix of the text.
+/// Faults of the input (`Input`), in this order: that it is too long; the fault of the sheet; that of the profile. `ToolFault` has the
+/// other faults, and what the sink took when one comes.
 pub fn check<R: ByteSource, W: ByteSink>(
     alloc: Global,
     source: &mut R,
@@ -51,7 +51,7 @@ impl Engine for CheckEngine {
 
 // the answer to a text
 fn check_text(alloc: Global, text: &[u8]) -> Result<(Text, Status), AnswerError>
-    ensures { GivesAnswer bytes_left (CheckAnswers text.now) result }
+    ensures { GivesAnswer text_left (CheckAnswers text.now) result }
 {
     let leading = read_leading(alloc, text)?;
     let profile = read_profile(alloc, leading.rest, leading.lines)?;
@@ -61,7 +61,7 @@ fn check_text(alloc: Global, text: &[u8]) -> Result<(Text, Status), AnswerError>
 
 // the text and the status of a verdict
 fn answer_for(alloc: Global, verdict: Verdict) -> Result<(Text, Status), AllocError>
-    ensures { IfOk result (λ answered. record { text = bytes_left answered.0; status = answered.1 } ≡ verdict_text verdict) }
+    ensures { IfOk result (λ answered. record { text = text_left answered.0; status = answered.1 } ≡ verdict_text verdict) }
 {
     match verdict {
         Verdict::Optimal => {

@@ -46,6 +46,9 @@ impl fmt::Display for InputFault {
 impl std::error::Error for InputFault {}
 
 /// Why an engine did not finish. Each is shown as its code, its name and, if it has one, its line.
+///
+/// After `WriteFault` the sink has a prefix of the text, and after the others nothing of it. A failed read, and an input that is too long,
+/// are reported before any fault of the text.
 #[derive(Debug, Clone, Copy, PartialEq, Eq)]
 pub enum ToolFault {
     /// The allocator refused memory.

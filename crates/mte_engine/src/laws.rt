@@ -16,7 +16,7 @@ pub fn law_one_answer()
 {}
 
 /// A fault in a class line or in a profile is shown with the line of the input's first fault. The profile is the whole input, or follows a
-/// class line or a sheet. Some input of that kind begins with the lines before that line, and none with the lines up to it.
+/// class line or a sheet. Some input without a fault begins with the lines before that line. None begins with these lines and that line.
 pub fn law_fault_lines()
     ensures shown { FaultIsShownWithItsLine }
     ensures score { ScoreRefusesAtTheFirstFault }

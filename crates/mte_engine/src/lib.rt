@@ -1,7 +1,7 @@
 //! The engines of the tool, each from a source of bytes to a sink of bytes: `score`, `tune` and `check` over profiles, `profile`, `replay`
-//! and `run` over traces. A program gives an engine any `ByteSource` and `ByteSink`; this crate has a pair over memory and one over
-//! the readers and writers of std. Where source and sink know their bytes, the contracts say what an engine writes, also before a failed
-//! write. In every case they say which fault comes, and that the sink is unchanged unless a write failed.
+//! and `run` over traces. A program gives an engine any `ByteSource` and `ByteSink`; this crate has a pair over memory and one over the
+//! readers and writers of std. Where source and sink know their bytes, the contracts say what an engine writes, and what it has written
+//! when a write fails. In every case they say which fault comes, and that the sink is unchanged unless a write failed.
 #![tactic(auto)]
 
 mod checking;
@@ -19,6 +19,7 @@ mod running;
 mod scoring;
 mod std_streams;
 mod streams;
+mod trace_counting;
 mod trace_input;
 mod transfer;
 mod tuning;

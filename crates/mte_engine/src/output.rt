@@ -39,11 +39,11 @@ impl Text {
 }
 
 impl Output for Text {
-    ghost use Rattle.mte_engine.specs.TextLeft.{bytes_left};
+    ghost use Rattle.mte_engine.specs.TextLeft.{text_left};
 
-    ghost rest = { bytes_left };
+    ghost rest = { text_left };
 
-    ghost ready = { bytes_left };
+    ghost ready = { text_left };
 
     fn piece(&self) -> &[u8] {
         &self.text[self.written..]

@@ -1,7 +1,7 @@
 //! `profile`: how often each size is requested in a trace.
 ghost use Rattle.mte_engine.specs.Outcome.{GivesAnswer, IsReady, Runs};
 ghost use Rattle.mte_engine.specs.Profile.{ProfileAnswers};
-ghost use Rattle.mte_engine.specs.TextLeft.{bytes_left};
+ghost use Rattle.mte_engine.specs.TextLeft.{text_left};
 ghost use Rattle.mte_engine.specs.Traces.{KeepsCounts};
 ghost use Rattle.std.specs.Prelude.{◌≡◌, List, ℕ, false};
 ghost use Rattle.trace_reader.specs.Reading.{is_finished};
@@ -11,7 +11,8 @@ use crate::fault::{AnswerError, ToolFault};
 use crate::input::Input;
 use crate::output::Text;
 use crate::streams::{ByteSink, ByteSource};
-use crate::trace_input::{count_out, end, feed};
+use crate::trace_counting::count_out;
+use crate::trace_input::{end, feed};
 use profile_count::Profile;
 use std::alloc::{AllocError, Global};
 use trace_reader::TraceReader;
@@ -19,8 +20,8 @@ use trace_reader::TraceReader;
 /// Reads a trace, and writes the profile of its requests: how often each size was requested by a malloc, a calloc or a realloc, also where
 /// a replay would refuse it. Of the trace it keeps no more than the events of one piece and the unfinished line.
 ///
-/// Faults: an input that is too long, then the first faulty line of the trace (`Input`); a failed read (`ReadFault`); out of memory
-/// (`OutOfMemory`): the sink took nothing then. A failed write (`WriteFault`): then the sink took a prefix of the text.
+/// Faults of the input (`Input`), in this order: that it is too long; the first faulty line of the trace. `ToolFault` has the other faults,
+/// and what the sink took when one comes.
 pub fn profile<R: ByteSource, W: ByteSink>(
     alloc: Global,
     source: &mut R,
@@ -75,7 +76,7 @@ impl Input for CountedTrace {
 // the answer to a trace
 fn profile_of_trace(alloc: Global, input: CountedTrace) -> Result<(Text, Status), AnswerError>
     ensures { (bytes : List ℕ) → KeepsCounts input.reader input.profile bytes →
-        GivesAnswer bytes_left (ProfileAnswers bytes) result }
+        GivesAnswer text_left (ProfileAnswers bytes) result }
 {
     let CountedTrace {
         mut reader,

@@ -2,7 +2,7 @@
 ghost use Rattle.mte_engine.specs.Outcome.{GivesAnswer, IsReady, Runs};
 ghost use Rattle.mte_engine.specs.Replay.{ReplayAnswers};
 ghost use Rattle.tagged_heap.specs.Config.{IsConfig};
-ghost use Rattle.mte_engine.specs.ReportBuffer.{text_left};
+ghost use Rattle.mte_engine.specs.ReportLeft.{report_left};
 ghost use Rattle.mte_engine.specs.Traces.{IsLineAndTrace, KeepsLineAndEvents};
 ghost use Rattle.std.specs.Prelude.{◌≡◌, List, ℕ, false};
 ghost use Rattle.trace_reader.specs.Reading.{is_finished};
@@ -25,9 +25,8 @@ use trace_reader::TraceReader;
 ///
 /// `config` sets up the heap: 64 to 262,144 granules, a seed other than 0, a quarantine of 0 to 4,194,304 bytes.
 ///
-/// Faults: an input that is too long, then the class line's, then the first faulty line of the trace, whose lines count from 2 (`Input`); a
-/// failed read (`ReadFault`); out of memory (`OutOfMemory`): the sink took nothing then. A failed write (`WriteFault`): then the sink took
-/// a prefix of the text.
+/// Faults of the input (`Input`), in this order: that it is too long; the fault of the class line; the first faulty line of the trace,
+/// whose lines count from 2. `ToolFault` has the other faults, and what the sink took when one comes.
 pub fn replay<R: ByteSource, W: ByteSink>(
     alloc: Global,
     config: Config,
@@ -102,7 +101,7 @@ fn answer_to(
 ) -> Result<(Report, Status), AnswerError>
     requires { IsConfig config }
     ensures { (bytes : List ℕ) → KeepsLineAndEvents input.line_has_ended input.line.items input.reader bytes →
-        GivesAnswer text_left (ReplayAnswers config bytes) result }
+        GivesAnswer report_left (ReplayAnswers config bytes) result }
 {
     let LineAndTrace {
         line,
@@ -125,7 +124,7 @@ fn answer_to_parts(
     requires config { IsConfig config }
     requires open { is_finished reader ≡ false }
     ensures { (bytes trace : List ℕ) → IsLineAndTrace bytes line.now trace reader
-        → GivesAnswer text_left (ReplayAnswers config bytes) result }
+        → GivesAnswer report_left (ReplayAnswers config bytes) result }
 {
     let table = read_table(line)?;
     end(&mut reader, 1)?;

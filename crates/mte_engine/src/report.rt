@@ -3,7 +3,7 @@ ghost use Rattle.heap_theory.specs.Report.{totals_text};
 ghost use Rattle.mte_engine.specs.Replay.{report_on};
 ghost use Rattle.mte_engine.specs.declared.report.TheConstants.{BUFFER};
 ghost use Rattle.tagged_heap.specs.Config.{IsConfig};
-ghost use Rattle.mte_engine.specs.ReportLeft.{report_from, report_unless};
+ghost use Rattle.mte_engine.specs.RestOfReport.{report_from, report_unless};
 ghost use Rattle.trace_reader.specs.TraceLine.{most_events};
 ghost use Rattle.std.specs.Prelude.{◌≡◌, ◌+◌, ◌^◌, ◌≤◌, ◌++◌, drop, length, vec_capacity, vec_len, true, IfOk};
 
@@ -33,7 +33,7 @@ pub struct Report {
 }
 
 impl Report {
-    ghost use Rattle.mte_engine.specs.ReportBuffer.{text_left};
+    ghost use Rattle.mte_engine.specs.ReportLeft.{report_left};
 
     /// This text, and then the report on the events in the reader, on a new heap over the table. The call takes all memory that the report
     /// will need; the only error is that the allocator refuses it.
@@ -46,7 +46,7 @@ impl Report {
     ) -> Result<Report, AllocError>
         requires config { IsConfig config }
         requires few { length reader.events ≤ most_events }
-        ensures { IfOk result (λ report. text_left report ≡ text.items ++ report_on config table.now reader.events) }
+        ensures { IfOk result (λ report. report_left report ≡ text.items ++ report_on config table.now reader.events) }
     {
         let mut buffer = text;
         buffer.reserve(BUFFER)?;
@@ -63,9 +63,9 @@ impl Report {
 }
 
 impl Output for Report {
-    ghost use Rattle.mte_engine.specs.ReportBuffer.{text_left};
+    ghost use Rattle.mte_engine.specs.ReportLeft.{report_left};
 
-    ghost rest = { text_left };
+    ghost rest = { report_left };
 
     ghost ready = { λ r. drop r.written r.buffer.items };
 
@@ -84,7 +84,8 @@ impl Output for Report {
 }
 
 // Replays events and appends their lines to the buffer, until the buffer is full or all events are replayed. After the last event it
-// appends the totals. Returns whether it has appended the totals. The buffer has room for all of this, so the call takes no memory.
+// appends the totals. Returns whether it has appended the totals. A step writes its line into a buffer of its own, from which it is
+// appended. There is room for all of this, so the call takes no memory.
 fn fill(replay: &mut Replay, reader: &mut TraceReader, buffer: &mut Vec<u8>) -> bool
     requires few { replay.old.totals.events + length reader.old.events ≤ 2 ^ 40 }
     requires room { vec_len buffer.old + BUFFER ≤ vec_capacity buffer.old }

@@ -1,12 +1,11 @@
 //! `run`: the class table of least waste for a trace, and the replay of the trace on the tagged heap over that table.
-ghost use Rattle.class_table.specs.declared.table.TheConstants.{MOST_CLASSES};
-ghost use Rattle.class_table.specs.Steps.{IsStep};
 ghost use Rattle.mte_engine.specs.Outcome.{GivesAnswer, IsReady, Runs};
 ghost use Rattle.tagged_heap.specs.Config.{IsConfig};
-ghost use Rattle.mte_engine.specs.ReportBuffer.{text_left};
+ghost use Rattle.mte_engine.specs.ReportLeft.{report_left};
 ghost use Rattle.mte_engine.specs.Run.{RunAnswers};
+ghost use Rattle.mte_engine.specs.Tune.{AreTuneOptions};
 ghost use Rattle.mte_engine.specs.Traces.{KeepsEvents};
-ghost use Rattle.std.specs.Prelude.{◌≡◌, ◌≤◌, List, ℕ, false};
+ghost use Rattle.std.specs.Prelude.{◌≡◌, List, ℕ, false};
 ghost use Rattle.trace_reader.specs.Reading.{is_finished};
 
 use crate::engine::{Engine, Status, run_engine};
@@ -14,7 +13,8 @@ use crate::fault::{AnswerError, ToolFault};
 use crate::input::Input;
 use crate::report::Report;
 use crate::streams::{ByteSink, ByteSource};
-use crate::trace_input::{count_all, end, feed};
+use crate::trace_counting::count_all;
+use crate::trace_input::{end, feed};
 use class_tuner::tune;
 use potential_check::write_sheet;
 use replay_core::Config;
@@ -28,8 +28,8 @@ use trace_reader::TraceReader;
 /// `limit` is 1 to 32 classes, `step` is 1, 2, 4 or 8 granules. `config` sets up the heap: 64 to 262,144 granules, a seed other than 0, a
 /// quarantine of 0 to 4,194,304 bytes.
 ///
-/// Faults: an input that is too long, then the first faulty line of the trace (`Input`); a failed read (`ReadFault`); out of memory
-/// (`OutOfMemory`): the sink took nothing then. A failed write (`WriteFault`): then the sink took a prefix of the text.
+/// Faults of the input (`Input`), in this order: that it is too long; the first faulty line of the trace. `ToolFault` has the other faults,
+/// and what the sink took when one comes.
 pub fn run<R: ByteSource, W: ByteSink>(
     alloc: Global,
     limit: u8,
@@ -38,9 +38,7 @@ pub fn run<R: ByteSource, W: ByteSink>(
     source: &mut R,
     sink: &mut W,
 ) -> Result<Status, ToolFault>
-    requires some { 1 ≤ limit }
-    requires few { limit ≤ MOST_CLASSES }
-    requires step { IsStep step }
+    requires options { AreTuneOptions limit step }
     requires config { IsConfig config }
     requires ready { IsReady (R.state source.old) (W.state sink.old) }
     ensures { Runs (RunAnswers limit step config) (R.state source.old) (R.state source.new)
@@ -60,9 +58,7 @@ struct RunEngine {
     limit: u8,
     step: u8,
     config: Config,
-    ghost some: { 1 ≤ limit },
-    ghost few: { limit ≤ MOST_CLASSES },
-    ghost is_step: { IsStep step },
+    ghost options: { AreTuneOptions limit step },
     ghost is_config: { IsConfig config },
 }
 
@@ -108,13 +104,11 @@ fn answer_to(
     config: Config,
     mut reader: TraceReader,
 ) -> Result<(Report, Status), AnswerError>
-    requires some { 1 ≤ limit }
-    requires few { limit ≤ MOST_CLASSES }
-    requires step { IsStep step }
+    requires options { AreTuneOptions limit step }
     requires config { IsConfig config }
     requires open { is_finished reader ≡ false }
     ensures { (bytes : List ℕ) → KeepsEvents reader bytes
-        → GivesAnswer text_left (RunAnswers limit step config bytes) result }
+        → GivesAnswer report_left (RunAnswers limit step config bytes) result }
 {
     end(&mut reader, 0)?;
     let profile = count_all(alloc, reader.events())?;

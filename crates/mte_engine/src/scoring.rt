@@ -3,7 +3,7 @@ ghost use Rattle.std.specs.Prelude.{◌≡◌, ◌++◌, ◌∷◌, [], Err, IfO
 ghost use Rattle.std.specs.Fmt.{decimal};
 ghost use Rattle.mte_engine.specs.Outcome.{GivesAnswer, IsReady, Runs};
 ghost use Rattle.mte_engine.specs.Score.{ScoreAnswers, scored};
-ghost use Rattle.mte_engine.specs.TextLeft.{bytes_left};
+ghost use Rattle.mte_engine.specs.TextLeft.{text_left};
 
 use crate::engine::{Engine, Status, run_engine};
 use crate::fault::{AnswerError, InputFault, ToolFault};
@@ -20,8 +20,8 @@ use std::alloc::{AllocError, Global};
 /// Reads a class line and then a profile, and writes `waste W`, the bytes that the table loses by rounding the requests up,
 /// or `not serving N` with the status of a no, where N is the least counted size that has no class.
 ///
-/// Faults: an input that is too long, then the class line's, then the profile's (`Input`); a failed read (`ReadFault`); out of memory
-/// (`OutOfMemory`): the sink took nothing then. A failed write (`WriteFault`): then the sink took a prefix of the text.
+/// Faults of the input (`Input`), in this order: that it is too long; the fault of the class line; that of the profile. `ToolFault` has the
+/// other faults, and what the sink took when one comes.
 pub fn score<R: ByteSource, W: ByteSink>(
     alloc: Global,
     source: &mut R,
@@ -53,7 +53,7 @@ impl Engine for ScoreEngine {
 
 // the answer to a text
 fn score_of_text(alloc: Global, text: &[u8]) -> Result<(Text, Status), AnswerError>
-    ensures { GivesAnswer bytes_left (ScoreAnswers text.now) result }
+    ensures { GivesAnswer text_left (ScoreAnswers text.now) result }
 {
     let mut lines = lines_in(text);
     let Some(line) = lines.next() else {
@@ -71,7 +71,7 @@ fn score_of_profile(
     profile: &Profile,
 ) -> Result<(Text, Status), AllocError>
     ensures { IfOk result
-        (λ answered. record { text = bytes_left answered.0; status = answered.1 } ≡ scored table.now profile.now) }
+        (λ answered. record { text = text_left answered.0; status = answered.1 } ≡ scored table.now profile.now) }
 {
     match profile.unserved(table) {
         Some(size) => Ok((
@@ -87,7 +87,7 @@ fn score_of_profile(
 
 // the line of these words and a number, with its newline
 fn numbered_line(alloc: Global, words: &[u8], number: u64) -> Result<Text, AllocError>
-    ensures { IfOk result (λ text. bytes_left text ≡ words.now ++ decimal number ++ 10 ∷ []) }
+    ensures { IfOk result (λ text. text_left text ≡ words.now ++ decimal number ++ 10 ∷ []) }
 {
     let mut buffer = Buffer::new();
     let mut text = Vec::from_slice(alloc, words)?;

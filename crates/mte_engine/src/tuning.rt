@@ -1,10 +1,8 @@
 //! `tune`: the class table of least waste for a profile, with its certificate.
-ghost use Rattle.class_table.specs.declared.table.TheConstants.{MOST_CLASSES};
-ghost use Rattle.std.specs.Prelude.{◌≡◌, ◌≤◌, Err, IfOk};
-ghost use Rattle.class_table.specs.Steps.{IsStep};
+ghost use Rattle.std.specs.Prelude.{◌≡◌, Err, IfOk};
 ghost use Rattle.mte_engine.specs.Outcome.{GivesAnswer, IsReady, Runs};
-ghost use Rattle.mte_engine.specs.TextLeft.{bytes_left};
-ghost use Rattle.mte_engine.specs.Tune.{TuneAnswers};
+ghost use Rattle.mte_engine.specs.TextLeft.{text_left};
+ghost use Rattle.mte_engine.specs.Tune.{AreTuneOptions, TuneAnswers};
 
 use crate::engine::{Engine, Status, run_engine};
 use crate::fault::{AnswerError, ToolFault};
@@ -15,13 +13,13 @@ use crate::streams::{ByteSink, ByteSource};
 use potential_check::write_sheet;
 use std::alloc::{AllocError, Global};
 
-/// Reads a profile, and writes the sheet of its table of least waste. Of all tables that have at most `limit` (1 to 32) classes, all of them
-/// multiples of `step` (1, 2, 4 or 8 granules), and that serve each counted size, it is the canonical best one. The sheet's certificate is
-/// rows of least wastes: number i of row k, both counted from 1, is the least that at most k classes waste on the requests whose need is
-/// none of the i - 1 smallest.
+/// Reads a profile, and writes the sheet of its table of least waste. Of all tables that have at most `limit` (1 to 32) classes, all of
+/// them multiples of `step` (1, 2, 4 or 8 granules), and that serve each counted size, it is the canonical best one. The sheet's
+/// certificate is rows of least wastes: number i of row k, both counted from 1, is the least that at most k classes waste on the requests
+/// whose need is above the i - 1 smallest distinct needs.
 ///
-/// Faults: an input that is too long, then the profile's (`Input`); a failed read (`ReadFault`); out of memory (`OutOfMemory`): the sink took
-/// nothing then. A failed write (`WriteFault`): then the sink took a prefix of the text.
+/// Faults of the input (`Input`), in this order: that it is too long; the fault of the profile. `ToolFault` has the other faults, and what
+/// the sink took when one comes.
 pub fn tune<R: ByteSource, W: ByteSink>(
     alloc: Global,
     limit: u8,
@@ -29,9 +27,7 @@ pub fn tune<R: ByteSource, W: ByteSink>(
     source: &mut R,
     sink: &mut W,
 ) -> Result<Status, ToolFault>
-    requires some { 1 ≤ limit }
-    requires few { limit ≤ MOST_CLASSES }
-    requires step { IsStep step }
+    requires options { AreTuneOptions limit step }
     requires ready { IsReady (R.state source.old) (W.state sink.old) }
     ensures { Runs (TuneAnswers limit step) (R.state source.old) (R.state source.new) W.state sink.old sink.new result }
 {
@@ -43,9 +39,7 @@ pub fn tune<R: ByteSource, W: ByteSink>(
 struct TuneEngine {
     limit: u8,
     step: u8,
-    ghost some: { 1 ≤ limit },
-    ghost few: { limit ≤ MOST_CLASSES },
-    ghost is_step: { IsStep step },
+    ghost options: { AreTuneOptions limit step },
 }
 
 impl Engine for TuneEngine {
@@ -66,10 +60,8 @@ impl Engine for TuneEngine {
 
 // the answer to a text
 fn tune_text(alloc: Global, limit: u8, step: u8, text: &[u8]) -> Result<(Text, Status), AnswerError>
-    requires some { 1 ≤ limit }
-    requires few { limit ≤ MOST_CLASSES }
-    requires step { IsStep step }
-    ensures { GivesAnswer bytes_left (TuneAnswers limit step text.now) result }
+    requires options { AreTuneOptions limit step }
+    ensures { GivesAnswer text_left (TuneAnswers limit step text.now) result }
 {
     let profile = read_profile(alloc, text, 0)?;
     let tuned = class_tuner::tune(alloc, &profile, limit, step)?;

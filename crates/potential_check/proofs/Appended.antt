@@ -1,5 +1,5 @@
 -- Appending to a text.
-use Rattle.std.proofs.Common.{◌≡◌, ℕ, ◌+◌, List, [], ◌∷◌, ◌++◌, length, map, take, get_or, Some, refl, sym, ap, ◌∙◌, append_assoc, append-nil}
+use Rattle.std.proofs.Common.{◌≡◌, ℕ, ◌+◌, List, [], ◌∷◌, ◌++◌, length, map, take, get_or, Some, refl, sym, ap, ◌∙◌, append-nil}
 use Rattle.std.specs.Fmt.{decimal}
 use Rattle.std.specs.Prelude.{slice_get}
 use Rattle.std.proofs.lemmas.List.{map-append, take_at, take_more}
@@ -14,13 +14,6 @@ use Rattle.potential_check.specs.Spaced.{spaced}
 
 pub goes_on-same : (old new : List ℕ) → new ≡ old → GoesOn old new
 goes_on-same old new same = record { after = []; is = same ∙ sym (append-nil old) }
-
-pub goes_on-more : (old mid new more : List ℕ) → GoesOn old mid → new ≡ mid ++ more → GoesOn old new
-goes_on-more old mid new more goes_on is =
-    record { after = goes_on.after ++ more; is = is ∙ rw goes_on.is (append_assoc old goes_on.after more) }
-
-pub goes_on-through : (old mid new : List ℕ) → GoesOn old mid → GoesOn mid new → GoesOn old new
-goes_on-through old mid new first second = goes_on-more old mid new second.after first second.is
 
 -- what was there before is its front
 pub take-goes_on : (old new : List ℕ) → GoesOn old new → take (length old) new ≡ old

@@ -8,28 +8,11 @@ use Rattle.class_table.specs.Sizes.{need_of}
 use Rattle.potential_check.specs.Spanned.{AreSumsUpTo, HoldsSums, last_need}
 use Rattle.tuner_theory.specs.Spans.{needs_below, rounded_need, with_need}
 use Rattle.tuner_theory.proofs.LawLemmas.{rounding_is_least}
+use Rattle.tuner_theory.proofs.Sums.{sum_below-more, sum_below-none, sum_bounded, sum_same}
 use Rattle.class_table.specs.Steps.{IsStep}
 use Rattle.tuner_theory.specs.Waste.{AreCounts, sum_below}
 
 -- ---- sums
-
-sum_below-more : (f : ℕ → ℕ) (m : ℕ) → sum_below f (suc m) ≡ sum_below f m + f m
-unfolding sum_below
-sum_below-more f m = refl
-
-sum_below-none : (f : ℕ → ℕ) → sum_below f 0 ≡ 0
-unfolding sum_below
-sum_below-none f = refl
-
-sum_below-same : (f g : ℕ → ℕ) (m : ℕ) → ((k : ℕ) → k < m → f k ≡ g k) → sum_below f m ≡ sum_below g m
-sum_below-same f g zero each = sum_below-none f ∙ sym (sum_below-none g)
-sum_below-same f g (suc m) each =
-    omega (arith, sum_below-more f m, sum_below-more g m, sum_below-same f g m (λ k lt. each k (omega arith)), each m (omega arith))
-
-sum_below-bounded : (f : ℕ → ℕ) (m bound : ℕ) → ((k : ℕ) → k < m → f k ≤ bound) → sum_below f m ≤ m * bound
-sum_below-bounded f zero bound each = omega (arith, sum_below-none f)
-sum_below-bounded f (suc m) bound each =
-    omega (arith, sum_below-more f m, sum_below-bounded f m bound (λ k lt. each k (omega arith)), each m (omega arith))
 
 -- the sum of f over the sizes below n whose rounded need is at most high
 abbrev pub sum_up_to : (ℕ → ℕ) → ℕ → ℕ → ℕ → ℕ
@@ -109,7 +92,7 @@ sum_up_to-skips f step n high none =
 -- a sum up to a need that covers all
 sum_up_to-all : (f : ℕ → ℕ) (step n high : ℕ) → ((k : ℕ) → k < n → 0 < f k → rounded_need step k ≤ high) →
     sum_up_to f step n high ≡ sum_below f n
-sum_up_to-all f step n high covers = sum_below-same _ f n (λ k lt. whole k lt (cases_lt 0 (f k)))
+sum_up_to-all f step n high covers = sum_same _ f n (λ k lt. whole k lt (cases_lt 0 (f k)))
   where
     whole : (k : ℕ) → k < n → (0 < f k) ⊎ (f k ≤ 0) → cond (leb (rounded_need step k) high) (f k) 0 ≡ f k
     whole k lt (inl some) = cond-true _ _ _ (le-leb (rounded_need step k) high (covers k lt some))
@@ -313,12 +296,12 @@ built-small counts step n total total_bytes needs counted bytes are le b = (
   omega (
     arith,
     b.counted_are.total_is,
-    sum_below-bounded (slice_index counts) n 1000000000 (λ k lt. are.in_range k 0 (omega (arith, are.sizes))),
+    sum_bounded (slice_index counts) n 1000000000 (λ k lt. are.in_range k 0 (omega (arith, are.sizes))),
   ),
   omega (
     arith,
     b.bytes_are.total_is,
-    sum_below-bounded (λ k. slice_index counts k * k) n 16368000000000 (λ k lt.
+    sum_bounded (λ k. slice_index counts k * k) n 16368000000000 (λ k lt.
         let small : slice_index counts k ≤ 1000000000 = are.in_range k 0 (omega (arith, are.sizes)) in
         let within : k ≤ 16368 = omega arith in
         mul-le-mul small within),

@@ -1,11 +1,11 @@
 -- What reads lines one after another and reports the number of the first faulty one.
 use Rattle.std.proofs.Common.{◌≡◌, ℕ, zero, suc, ◌+◌, ◌≤◌, Bool, true, false, List, [], ◌∷◌, length, take, Option, Some, None, Result, Ok, Err, refl, sym, ap, ◌∙◌, arith, codes}
 use Rattle.std.specs.Option.{ok_or, option_map}
-use Rattle.std.specs.Prelude.{All, option_and_then}
+use Rattle.std.specs.Prelude.{All}
 use Rattle.std.proofs.lemmas.List.Elements.{All-nil, All-cons, All-head, All-tail}
 use Rattle.line_text.specs.FirstFault.{◌>>=◌}
 use Rattle.line_text.specs.Lines.{IsLine}
-use Rattle.potential_check.specs.SheetText.{is_named, line_at, numbers_in, only_one, row_in, rows_from, step_at, step_in, waste_number}
+use Rattle.potential_check.specs.SheetText.{is_named, line_at, row_in, rows_from, step_at, step_in, waste_number}
 use Rattle.potential_check.proofs.LeadingLines.{written_not_one}
 
 abbrev pub Lines : Type 0
@@ -272,6 +272,6 @@ module _ {B C : Type 0} (more : ℕ × Lines → Result B ℕ) (last : B → Res
               line_read fault None g =
                   stops_here 3 at step_then l ls default (let is = rw g at fault in cc) (λ os. rw (f, g) (rw g at fault))
               line_read fault (Some s) g =
-                  let four = written_not_one (option_and_then only_one (numbers_in (codes "step") l)) s g in
+                  let four = written_not_one l s g in
                   reads_on 3 at step_then l ls (λ ls. more (s, ls) >>= last) (All-head IsLine l ls all) (λ os. rw (f, g) refl)
                   (rw four at (after s).fault ls at (All-tail IsLine l ls all) (rw g at fault))

@@ -1,13 +1,13 @@
 -- Lines that are read as a sheet in front of others, and what is read where there are no others.
-use Rattle.std.proofs.Common.{◌≡◌, ℕ, zero, suc, ◌+◌, ◌≤◌, add-one, add-zero, Bool, true, false, List, [], ◌∷◌, length, drop, Option, Some, None, option_and_then, Result, Ok, Err, inl, inr, ne_eqb, refl, sym, ap, ◌∙◌, arith, codes}
+use Rattle.std.proofs.Common.{◌≡◌, ℕ, zero, suc, ◌+◌, ◌≤◌, add-one, add-zero, Bool, true, false, List, [], ◌∷◌, length, drop, Option, Some, None, Result, Ok, Err, inl, inr, ne_eqb, refl, sym, ap, ◌∙◌, arith, codes}
 use Rattle.std.specs.List.{take_while}
 use Rattle.std.proofs.lemmas.Bool.{cases_eq}
 use Rattle.std.proofs.lemmas.List.Sums.{take_while-cons}
 use Rattle.line_text.specs.FirstFault.{◌>>=◌}
 use Rattle.line_text.specs.Lines.{lines, words}
 use Rattle.potential_check.specs.Leading.{GivesLeading, IsLeading, is_row_line, leading_lines, lines_after}
-use Rattle.potential_check.specs.SheetText.{Gives, head_of_lines, is_named, is_written_step, limit_in, numbers_in, only_one, passing, row_in, rows_from, sheet_of_lines, step_in, table_in, waste_in, waste_number, with_rows, words_after}
-use Rattle.potential_check.proofs.RowNumbers.{passing-some}
+use Rattle.potential_check.specs.SheetText.{Gives, head_of_lines, is_named, limit_in, row_in, rows_from, sheet_of_lines, step_in, table_in, waste_in, waste_number, with_rows, words_after}
+use Rattle.potential_check.proofs.SheetLines.{line-step_in}
 use Rattle.potential_check.specs.declared.fault.SheetError.{SheetError}
 use Rattle.potential_check.specs.declared.fault.SheetError.TheVariants.{OutOfMemory, Line}
 use Rattle.potential_check.specs.declared.leading_sheet.LeadingSheet.{LeadingSheet}
@@ -122,9 +122,9 @@ data Heading (ls : List (List ℕ)) : Type 0 where
   Found : (head : Head) (after : List (List ℕ)) → head_of_lines ls ≡ Ok (head, after) → HeadIsFound ls head after → Heading ls
 
 -- a step that is written is not 1
-pub written_not_one : (o : Option ℕ) (step : ℕ) → passing is_written_step o ≡ Some step → waste_number step ≡ 4
-written_not_one o step e = elim (cases_eq step 1) [
-  | inl one ↦ let passed = (passing-some is_written_step o step e).1 in let no = rw one at passed in absurd cc
+pub written_not_one : (line : List ℕ) (step : ℕ) → step_in line ≡ Some step → waste_number step ≡ 4
+written_not_one line step e = elim (cases_eq step 1) [
+  | inl one ↦ absurd ((line-step_in line step e).2 one)
   | inr other ↦ rw (ne_eqb step 1 other) refl
 ]
 
@@ -166,7 +166,7 @@ module _ (a b c d : List ℕ) (xs : List (List ℕ)) where
           (rw (is_table, is_limit, e, is_step, is_waste) refl)
           (record {
             leading = rw (e, is_table, is_limit, e, is_step, is_waste) refl;
-            size = rw (e, written_not_one (option_and_then only_one (numbers_in (codes "step") c)) step is_step) (omega arith);
+            size = rw (e, written_not_one c step is_step) (omega arith);
             rest = rw e refl;
           })
 

@@ -9,11 +9,15 @@ use Rattle.class_table.specs.ClassLine.{numbers_of}
 use Rattle.line_text.specs.Lines.{words, line_of, IsLine, IsWord}
 use Rattle.line_text.specs.Numbers.{number_of}
 use Rattle.line_text.proofs.LawLemmas.{text_laws as laws}
-use Rattle.potential_check.specs.SheetText.{named_line, number_in, numbers_in, only_one, words_after}
+use Rattle.potential_check.specs.SheetText.{named_line, number_in, number_of_words, only_one, passing, words_after}
 use Rattle.potential_check.proofs.RowNumbers.{passing-some}
 
 abbrev pub AreSmall : List ℕ → Type 0
 AreSmall ns = All (λ n. n < 2 ^ 64) ns
+
+-- The numbers of a line of this name and numbers.
+abbrev pub numbers_in : List ℕ → List ℕ → Option (List ℕ)
+numbers_in name line = option_and_then numbers_of (words_after name (words line))
 
 -- What can be a line's name.
 pub record IsName (name : List ℕ) : Type 0 where
@@ -62,10 +66,21 @@ numbers_in-named_line name ns is_name small =
     let same : bytes_eq name name ≡ true = (bytes_eq-Decides name name).1 refl in
     rw (words-named_line name ns is_name small, same) (numbers_of-decimals ns small)
 
+-- The number of a line, by the line's numbers
+pub number_in-numbers : (name : List ℕ) (test : ℕ → Bool) (line : List ℕ) →
+    number_in name test line ≡ passing test (option_and_then only_one (numbers_in name line))
+number_in-numbers name test line = go (words_after name (words line))
+  where
+    go : (after : Option (List (List ℕ))) →
+        option_and_then (number_of_words test) after ≡ passing test (option_and_then only_one (option_and_then numbers_of after))
+    go None = refl
+    go (Some ws) = refl
+
 pub number_in-named_line : (name : List ℕ) (test : ℕ → Bool) (n : ℕ) → IsName name → n < 2 ^ 64 → test n ≡ true →
     number_in name test (named_line name (n ∷ [])) ≡ Some n
 number_in-named_line name test n is_name small passes =
-    rw (numbers_in-named_line name (n ∷ []) is_name (All-cons (λ n. n < 2 ^ 64) n [] small (All-nil (λ n. n < 2 ^ 64))), passes) refl
+    number_in-numbers name test (named_line name (n ∷ []))
+    ∙ rw (numbers_in-named_line name (n ∷ []) is_name (All-cons (λ n. n < 2 ^ 64) n [] small (All-nil (λ n. n < 2 ^ 64))), passes) refl
 
 -- ---- from a line to its numbers
 
@@ -127,6 +142,6 @@ pub line-number_in : (name : List ℕ) (test : ℕ → Bool) (line : List ℕ) (
     ((m : ℕ) → test m ≡ true → m < 2 ^ 64)
     → (line ≡ named_line name (n ∷ [])) × (test n ≡ true)
 line-number_in name test line n e small =
-    let passed = passing-some test (option_and_then only_one (numbers_in name line)) n e in
+    let passed = passing-some test (option_and_then only_one (numbers_in name line)) n (sym (number_in-numbers name test line) ∙ e) in
     let one = one_number (numbers_in name line) n passed.0 in
     (line-numbers_in name line (n ∷ []) one (All-cons (λ n. n < 2 ^ 64) n [] (small n passed.1) (All-nil (λ n. n < 2 ^ 64))), passed.1)

@@ -1,19 +1,20 @@
 -- Each line of a sheet: it is read as what it spells, and no other line is.
-use Rattle.std.proofs.Common.{◌≡◌, ◌≢◌, ℕ, ◌<◌, ◌≤◌, ◌^◌, Bool, true, false, not, ◌&&◌, List, [], ◌∷◌, length, Some, Result, Ok, Err, refl, ap, ◌∙◌, arith, codes, leb, length-append, inl, inr}
+use Rattle.std.proofs.Common.{◌≡◌, ◌≢◌, ℕ, ◌<◌, ◌≤◌, ◌^◌, Bool, true, false, not, ◌&&◌, List, [], ◌∷◌, length, Option, Some, None, Result, Ok, Err, refl, ap, sym, ◌∙◌, arith, codes, leb, length-append, inl, inr}
 use Rattle.std.specs.List.{list_all}
+use Rattle.std.specs.Prelude.{option_and_then}
 use Rattle.std.proofs.lemmas.Bool.{and_from, and_parts, leb-true, le-leb, lt-ltb, ltb-true, not-true}
 use Rattle.std.proofs.lemmas.Bool.Decides.{nat_tests}
 use Rattle.std.proofs.lemmas.List.{get_or_at}
 use Rattle.std.proofs.lemmas.List.Elements.{All-nil, All-cons, All-head, All-tail, All-weaker}
 use Rattle.std.proofs.lemmas.List.Sums.{AllPass-from_list_all}
-use Rattle.class_table.specs.ClassLine.{class_line, table_of_line}
+use Rattle.class_table.specs.ClassLine.{class_line, numbers_of, table_of_line}
 use Rattle.class_table.specs.Steps.{IsStep}
 use Rattle.class_table.specs.Tables.{IsLegalTable}
 use Rattle.class_table.specs.declared.fault.TableError.{TableError}
-use Rattle.line_text.specs.Lines.{IsLine, ended, is_newline, is_space}
+use Rattle.line_text.specs.Lines.{IsLine, ended, is_newline, is_space, words}
 use Rattle.class_table.proofs.LawLemmas.{line_alone_is_read, spelled_table_is_read, table_is_spelled}
-use Rattle.potential_check.specs.SheetText.{IsRow, fits, is_limit, is_row, is_written_step, limit_in, named_line, numbers_in, row_in, step_in, table_in, waste_in}
-use Rattle.potential_check.proofs.NamedLines.{AreSmall, IsName, named_line-is_line, line-number_in, line-numbers_in, number_in-named_line, numbers_in-named_line}
+use Rattle.potential_check.specs.SheetText.{IsRow, fits, is_limit, is_row, is_written_step, limit_in, named_line, passing, row_in, row_of_words, step_in, table_in, waste_in, words_after}
+use Rattle.potential_check.proofs.NamedLines.{AreSmall, IsName, named_line-is_line, line-number_in, line-numbers_in, number_in-named_line, numbers_in, numbers_in-named_line}
 use Rattle.potential_check.proofs.RowNumbers.{passing-some}
 
 -- ---- the names
@@ -97,8 +98,17 @@ step_in-line s is_step other =
 pub waste_in-line : (w : ℕ) → w < 2 ^ 64 → waste_in (named_line (codes "waste") (w ∷ [])) ≡ Some w
 waste_in-line w small = number_in-named_line (codes "waste") fits w names.waste small (lt-ltb w (2 ^ 64) small)
 
+-- a row, by the line's numbers
+row_in-numbers : (line : List ℕ) → row_in line ≡ passing is_row (numbers_in (codes "row") line)
+row_in-numbers line = go (words_after (codes "row") (words line))
+  where
+    go : (after : Option (List (List ℕ))) → option_and_then row_of_words after ≡ passing is_row (option_and_then numbers_of after)
+    go None = refl
+    go (Some ws) = refl
+
 pub row_in-line : (ns : List ℕ) → IsRow ns → row_in (named_line (codes "row") ns) ≡ Some ns
-row_in-line ns is = rw (numbers_in-named_line (codes "row") ns names.row is.1, row_passes ns is) refl
+row_in-line ns is =
+    row_in-numbers (named_line (codes "row") ns) ∙ rw (numbers_in-named_line (codes "row") ns names.row is.1, row_passes ns is) refl
 
 pub legal_small : (table : List ℕ) → IsLegalTable 1 table → AreSmall table
 legal_small table legal =
@@ -134,7 +144,7 @@ line-waste_in line w e =
 
 pub line-row_in : (line ns : List ℕ) → row_in line ≡ Some ns → (line ≡ named_line (codes "row") ns) × IsRow ns
 line-row_in line ns e =
-    let passed = passing-some is_row (numbers_in (codes "row") line) ns e in
+    let passed = passing-some is_row (numbers_in (codes "row") line) ns (sym (row_in-numbers line) ∙ e) in
     let is = passed_row ns passed.1 in
     (line-numbers_in (codes "row") line ns passed.0 is.1, is)
 

@@ -33,9 +33,8 @@ HasTightEnd s before row i last = (j : ℕ) × (i < j) × (j ≤ last) × (slice
 pub record AreTight (s : Spanned) (before row : List ℕ) : Type 0 where
   pub each : (i : ℕ) → i < length row → HasTightEnd s before row i (places s.counts s.step)
 
--- An end for place i, up to `last`: the number there is just what its edge to this end allows. It is within its edges to the ends from this
--- one
--- up to `last`, and the number at the next place is so too, except for `last` itself.
+-- An end for place i, up to `last`. The number at place i is just what its edge to this end allows, and is within its edges to the ends
+-- from this one up to `last`. The number at place i + 1 is within its edges to the ends from this one to below `last`.
 pub record IsTightEnd (s : Spanned) (before row : List ℕ) (i last end : ℕ) : Type 0 where
   pub after : i < end
   pub within : end ≤ last

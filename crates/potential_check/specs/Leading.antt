@@ -1,12 +1,13 @@
 -- A sheet before other lines, as the checker's input has it before the profile.
-use Rattle.std.specs.Prelude.{◌≡◌, ◌≤◌, ℕ, Bool, List, [], ◌++◌, length, take, drop, codes, slice_index_or, Result, Ok, Err, if◌then◌else◌}
+use Rattle.std.specs.Prelude.{◌≡◌, ◌≤◌, ℕ, ◌+◌, Bool, true, List, [], ◌++◌, length, take, drop, codes, slice_index_or, Result, Ok, Err}
 use Rattle.std.specs.List.{take_while}
 use Rattle.line_text.specs.Lines.{lines}
 use Rattle.potential_check.specs.Sheets.{sheet_of}
-use Rattle.potential_check.specs.SheetText.{is_named, sheet_of_lines}
+use Rattle.potential_check.specs.SheetText.{head_lines, is_named, sheet_of_lines}
 use Rattle.potential_check.specs.declared.fault.SheetError.{SheetError}
 use Rattle.potential_check.specs.declared.fault.SheetError.TheVariants.{OutOfMemory, Line}
 use Rattle.potential_check.specs.declared.leading_sheet.LeadingSheet.{LeadingSheet}
+use Rattle.class_table.specs.declared.table.TheConstants.{MOST_CLASSES}
 
 -- Whether a line's first word is `row`.
 abbrev pub is_row_line : List ℕ → Bool
@@ -14,7 +15,7 @@ is_row_line line = is_named (codes "row") line
 
 -- How many lines come before a sheet's rows: four if the third line's first word is `step`, otherwise three.
 abbrev pub head_size : List (List ℕ) → ℕ
-head_size ls = if is_named (codes "step") (slice_index_or ls 2 []) then 4 else 3
+head_size ls = head_lines (is_named (codes "step") (slice_index_or ls 2 []))
 
 -- The lines of the sheet: those before its rows, and all lines directly after them whose first word is `row`.
 unfoldable pub leading_lines : List (List ℕ) → List (List ℕ)
@@ -28,7 +29,7 @@ lines_after ls = drop (length (leading_lines ls)) ls
 pub record IsLeading (ls : List (List ℕ)) (leading : LeadingSheet) : Type 0 where
   pub sheet : sheet_of_lines (leading_lines ls) ≡ Ok (sheet_of leading.sheet)
   pub size : leading.lines ≡ length (leading_lines ls)
-  pub few : leading.lines ≤ 36
+  pub few : leading.lines ≤ head_lines true + MOST_CLASSES
   pub after : lines leading.rest.now ≡ lines_after ls
 
 -- What was read of these lines, unless memory ran out.

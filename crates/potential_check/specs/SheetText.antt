@@ -1,5 +1,5 @@
 -- A sheet's text: a class line, `limit K`, `step S` where the step is not 1, `waste W`, and a line `row ..` for each row.
-use Rattle.std.specs.Prelude.{◌≡◌, ℕ, zero, suc, ◌<◌, ◌≤◌, ◌^◌, Bool, ◌⊎◌, ◌||◌, ◌&&◌, List, [], ◌∷◌, ◌++◌, length, map, All, codes, Option, Some, None, is_some, option_and_then, Result, Ok, Err, nat_lt, nat_le, ◌==◌, if◌then◌else◌}
+use Rattle.std.specs.Prelude.{◌≡◌, ℕ, zero, suc, ◌<◌, ◌≤◌, ◌^◌, Bool, ◌⊎◌, ◌||◌, ◌&&◌, not, List, [], ◌∷◌, ◌++◌, length, map, All, codes, Option, Some, None, is_some, option_and_then, Result, Ok, Err, nat_lt, nat_le, ◌==◌, if◌then◌else◌}
 use Rattle.std.specs.Fmt.{decimal}
 use Rattle.std.specs.List.{list_all}
 use Rattle.std.specs.Option.{ok_or, option_map}
@@ -72,10 +72,6 @@ pub record IsNextNamed (name : List ℕ) (before after : List (List ℕ)) (rest 
   pub first : before ≡ line ∷ after
   pub named : words_after name (words line) ≡ Some rest
 
--- The numbers of a line of this name and numbers.
-abbrev pub numbers_in : List ℕ → List ℕ → Option (List ℕ)
-numbers_in name line = option_and_then numbers_of (words_after name (words line))
-
 abbrev pub only_one : List ℕ → Option ℕ
 only_one (n ∷ []) = Some n
 only_one numbers = None
@@ -86,7 +82,7 @@ number_of_words test ws = passing test (option_and_then only_one (numbers_of ws)
 
 -- The number of a line of this name and just one number, where it passes the test.
 abbrev pub number_in : List ℕ → (ℕ → Bool) → List ℕ → Option ℕ
-number_in name test line = passing test (option_and_then only_one (numbers_in name line))
+number_in name test line = option_and_then (number_of_words test) (words_after name (words line))
 
 -- What 64 bits hold.
 abbrev pub fits : ℕ → Bool
@@ -108,21 +104,22 @@ table_in line = result_ok (table_of_line line)
 abbrev pub limit_in : List ℕ → Option ℕ
 limit_in line = number_in (codes "limit") is_limit line
 
+-- The step that the words after a line's name spell.
+abbrev pub step_of_words : List (List ℕ) → Option ℕ
+step_of_words ws = number_of_words is_written_step ws
+
 abbrev pub step_in : List ℕ → Option ℕ
-step_in line = number_in (codes "step") is_written_step line
+step_in line = option_and_then step_of_words (words_after (codes "step") (words line))
 
 abbrev pub waste_in : List ℕ → Option ℕ
 waste_in line = number_in (codes "waste") fits line
 
-abbrev pub row_in : List ℕ → Option (List ℕ)
-row_in line = passing is_row (numbers_in (codes "row") line)
-
--- The same of a step and a row, from the words after the line's name.
-abbrev pub step_of_words : List (List ℕ) → Option ℕ
-step_of_words ws = number_of_words is_written_step ws
-
+-- The row that the words after a line's name spell.
 abbrev pub row_of_words : List (List ℕ) → Option (List ℕ)
 row_of_words ws = passing is_row (numbers_of ws)
+
+abbrev pub row_in : List ℕ → Option (List ℕ)
+row_in line = option_and_then row_of_words (words_after (codes "row") (words line))
 
 -- Whether a line's first word is this name.
 abbrev pub is_named : List ℕ → List ℕ → Bool
@@ -140,9 +137,13 @@ abbrev pub step_at : List (List ℕ) → Option (ℕ × List (List ℕ))
 step_at [] = Some (1, [])
 step_at (line ∷ ls) = if is_named (codes "step") line then option_map (λ step. (step, ls)) (step_in line) else Some (1, line ∷ ls)
 
--- The number of the waste's line: one more where there is a step line, which never says 1.
+-- How many lines come before the rows, the last of which is the waste's: one more where there is a step line.
+abbrev pub head_lines : Bool → ℕ
+head_lines has_step = if has_step then 4 else 3
+
+-- The number of the waste's line. A step line never says 1.
 abbrev pub waste_number : ℕ → ℕ
-waste_number step = if step == 1 then 3 else 4
+waste_number step = head_lines (not (step == 1))
 
 -- The rows of the lines, the first of which has this number. A line after the last one allowed is faulty, whatever it says.
 unfoldable pub rows_from : ℕ → ℕ → List (List ℕ) → Result (List (List ℕ)) ℕ

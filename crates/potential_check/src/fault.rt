@@ -4,7 +4,7 @@ ghost use Rattle.potential_check.specs.declared.fault.SheetError.TheVariants.{Ou
 use std::alloc::AllocError;
 use thiserror::Error;
 
-/// Why no sheet was read. Each is shown as its code and name.
+/// Why no sheet was read. Each is shown as its code, its name and, if it has one, its line.
 #[derive(Debug, Clone, Copy, PartialEq, Eq, Error)]
 pub enum SheetError {
     /// The allocator refused memory.

@@ -18,9 +18,9 @@ use std::alloc::Global;
 // a sheet has a row for each number of classes up to its limit
 const MOST_ROWS: usize = MOST_CLASSES;
 
-/// The sheet that a text spells: a class line, `limit K` (1 to 32), perhaps `step S` (2, 4 or 8; else the step is 1), `waste W`, and at most
-/// 32 lines `row ..` of at most 1,023 numbers; each number is below 2^64. The last line may lack its newline.
-/// Errors: the number of the first line that is faulty or missing, or `OutOfMemory`.
+/// The sheet that a text spells: a class line, `limit K` (1 to 32), perhaps `step S` (2, 4 or 8; else the step is 1), `waste W`, and at
+/// most 32 lines `row ..` of at most 1,023 numbers; each number is below 2^64. The last line may lack its newline. Errors: the number of
+/// the first line that is faulty or missing, or `OutOfMemory`.
 pub fn read_sheet(alloc: Global, text: &[u8]) -> Result<Sheet, SheetError>
     ensures exact { Gives sheet_of result (sheet_in text.now) }
     ensures within { IfOk result (λ sheet. IsWithinLimits (sheet_of sheet)) }
@@ -94,7 +94,7 @@ fn step_at(lines: &mut Lines<'_>) -> Option<u8>
     }
 }
 
-// the number of the waste's line, which follows the step's
+// the number of the waste's line: 3, or 4 after a line of the step
 fn waste_number(step: u8) -> u64
     ensures number { result ≡ waste_number step }
     ensures small { result ≤ 4 }

@@ -1,4 +1,5 @@
-//! The conditions on the numbers of a sheet's rows. A number may have any 64 bits, so a sum with a number has 128, or the code avoids it.
+//! The conditions on the numbers of a sheet's rows. A number may have any 64 bits. So a sum with a number has 128 bits, or the code avoids
+//! the sum.
 ghost use Rattle.std.specs.Prelude.{◌≡◌, ◌↔◌, ℕ, ◌+◌, ◌<◌, ◌≤◌, length, IsTrue};
 ghost use Rattle.std.specs.Ordering.{MatchOrdering};
 ghost use Rattle.class_table.specs.Steps.{IsStep};
@@ -68,22 +69,23 @@ fn edges_hold_within(
         return true;
     }
     let middle = part.start + (part.end - part.start) / 2;
-    let end = tightest_end(spans, before, middle, ends.start.max(middle + 1)..ends.end);
-    if u128::from(row[middle]) > edge_bound(spans, before, middle, end) {
+    let (bound, end) = tightest_end(spans, before, middle, ends.start.max(middle + 1)..ends.end);
+    if u128::from(row[middle]) > bound {
         return false;
     }
     edges_hold_within(spans, before, row, part.start..middle, ends.start..end + 1)
         && edges_hold_within(spans, before, row, middle + 1..part.end, end..ends.end)
 }
 
-// the tightest of these ends for place `i`: its edge allows the least number there
-fn tightest_end(spans: &Spans, before: &[u64], i: usize, ends: Range<usize>) -> usize
+// The least of the bounds on a number at place `i` by its edges to these ends, with an end whose edge has it: the tightest end.
+fn tightest_end(spans: &Spans, before: &[u64], i: usize, ends: Range<usize>) -> (u128, usize)
     requires after { i < ends.start }
     requires some { ends.start < ends.end }
     requires within { ends.end ≤ places spans.now.counts spans.now.step + 1 }
-    ensures listed { (ends.start ≤ result) × (result < ends.end) }
+    ensures listed { (ends.start ≤ result.1) × (result.1 < ends.end) }
+    ensures bound { result.0 ≡ edge_bound spans.now before.now i result.1 }
     ensures least { (j : ℕ) → ends.start ≤ j → j < ends.end
-        → edge_bound spans.now before.now i result ≤ edge_bound spans.now before.now i j }
+        → edge_bound spans.now before.now i result.1 ≤ edge_bound spans.now before.now i j }
 {
     let mut end = ends.start;
     let mut least = edge_bound(spans, before, i, end);
@@ -94,7 +96,7 @@ fn tightest_end(spans: &Spans, before: &[u64], i: usize, ends: Range<usize>) -> 
             least = bound;
         }
     }
-    end
+    (least, end)
 }
 
 // the most that a number at place `i` may be by its edge to place `j`

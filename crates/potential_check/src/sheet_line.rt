@@ -4,7 +4,7 @@ ghost use Rattle.std.specs.Option.{option_map};
 ghost use Rattle.line_text.specs.Lines.{words};
 ghost use Rattle.potential_check.specs.SheetText.{fits, limit_in, number_of_words, row_of_words, step_of_words, table_in, waste_in, words_after};
 
-use class_table::{ClassTable, MOST_CLASSES, MOST_NEEDS};
+use class_table::{ClassTable, MOST_CLASSES, MOST_NEEDS, is_step};
 use line_text::{Number, Words, number_in, words_in};
 use std::alloc::{AllocError, Global};
 
@@ -39,10 +39,8 @@ pub(crate) fn limit_in(line: &[u8]) -> Option<u8>
 pub(crate) fn step_in(words: Words<'_>) -> Option<u8>
     ensures { result ≡ step_of_words words.entry }
 {
-    match only_number(words)? {
-        2 => Some(2),
-        4 => Some(4),
-        8 => Some(8),
+    match u8::try_from(only_number(words)?) {
+        Ok(step) if step != 1 && is_step(step) => Some(step),
         _ => None,
     }
 }

@@ -34,7 +34,8 @@ impl<'a> Model for Spans<'a> {
 }
 
 impl<'a> Spans<'a> {
-    /// The spans of a profile, for blocks in multiples of a step (1, 2, 4 or 8 granules). The only error is that the allocator refuses memory.
+    /// The spans of a profile, for blocks in multiples of a step (1, 2, 4 or 8 granules). The only error is that the allocator refuses
+    /// memory.
     pub fn new(alloc: Global, profile: &'a Profile, step: u8) -> Result<Spans<'a>, AllocError>
         requires { IsStep step }
         ensures spans { IfOk result (λ spans. spans ≡ record { counts = profile.now.counts; step = step }) }

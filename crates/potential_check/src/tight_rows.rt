@@ -29,7 +29,8 @@ pub(crate) fn is_tight_row(spans: &Spans, before: &[u64], row: &[u64]) -> bool
 }
 
 // The end for this place whose edge allows exactly the number here, searched from the end of the next place downwards. On the way the
-// search tests the edges of both places to the ends in between. `None` if a number is more than such an edge allows, or there is no such end.
+// search tests the edges of both places to the ends in between. `None` if a number is more than such an edge allows, or there is no such
+// end.
 #[inline(always)]
 fn tight_end(spans: &Spans, before: &[u64], row: &[u64], place: usize, last: usize) -> Option<usize>
     requires row { length row.now ≡ places spans.now.counts spans.now.step }

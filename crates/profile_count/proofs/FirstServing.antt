@@ -3,11 +3,12 @@ use Rattle.std.proofs.Common.{◌≡◌, ℕ, zero, suc, ◌+◌, ◌-◌, ◌*�
 use Rattle.std.specs.Prelude.{IsSome, slice_get}
 use Rattle.std.specs.List.{position_or_len}
 use Rattle.std.proofs.lemmas.Bool.{cases_Bool, cases_lt, not_from_true, leb-false, le-leb, lt-leb, both_ways}
-use Rattle.std.proofs.lemmas.List.Sums.{prefix_len-le-length, prefix_len_passes}
+use Rattle.std.proofs.lemmas.List.Kept.{AllPairs-from_increasing}
+use Rattle.std.proofs.lemmas.List.Sums.{position_or_len_is, prefix_len-le-length, prefix_len_passes}
 use Rattle.std.proofs.lemmas.List.Folds.{find_at}
 use Rattle.std.proofs.lemmas.Option.{get_or_from_slice_get, slice_get_past, slice_get_within, slice_get-get_or}
 use Rattle.class_table.specs.Sizes.{serves}
-use Rattle.class_table.specs.Tables.{class_for}
+use Rattle.class_table.specs.Tables.{IsLegalTable, class_for}
 
 pub position-le-length : (n : ℕ) (classes : List ℕ) → position_or_len (serves n) classes ≤ length classes
 position-le-length n classes = prefix_len-le-length (λ class. not (serves n class)) classes
@@ -127,3 +128,30 @@ pub none_left : (from n number : ℕ) (classes : List ℕ) → number ≤ positi
     from ≤ n → class_for classes n ≡ None
 none_left from n number classes ready all le =
     no_class n (position_or_len (serves n) classes) classes refl (omega (arith, ready, position-mono from n classes le))
+
+-- ---- the ends of a legal table's classes
+
+pub some_end : (step number : ℕ) (classes : List ℕ) → IsLegalTable step classes → number < length classes
+    → 0 < 16 * get_or classes number 0 - 15
+some_end step number classes legal within = omega (arith, (legal.in_range number 0 within).0)
+
+-- classes ascend, and so do their ends;
+pub ends_ascend : (step number : ℕ) (classes : List ℕ) → IsLegalTable step classes → number + 1 < length classes
+    → 16 * get_or classes number 0 - 15 < 16 * get_or classes (number + 1) 0 - 15
+ends_ascend step number classes legal within =
+    omega (arith, legal.ascending number within, (legal.in_range number 0 (omega arith)).0)
+
+-- so no class serves a size from the end of the last one on
+pub past_last : (step n last class : ℕ) (classes : List ℕ) → IsLegalTable step classes → length classes ≡ last + 1
+    → IsClassAt classes last class → 16 * class - 15 ≤ n → class_for classes n ≡ None
+past_last step n last class classes legal all at past =
+    let none = position_or_len_is (serves n) classes (length classes) 0 (omega arith)
+    (λ k lt. from_end n (get_or classes k 0) (legal.in_range k 0 lt).0 (omega (arith, up_to k lt)))
+    (λ lt. absurd (omega arith)) in
+    no_class n (position_or_len (serves n) classes) classes refl (omega (arith, none))
+  where
+    up_to : (k : ℕ) → k < length classes → get_or classes k 0 ≤ class
+    up_to k lt = elim (cases_lt k last) [
+      | inl earlier ↦ omega (arith, AllPairs-from_increasing classes legal.ascending k last 0 earlier at.within, at.is)
+      | inr not ↦ (let same : k ≡ last = omega arith in omega (arith, ap (λ m. get_or classes m 0) same, at.is))
+    ]

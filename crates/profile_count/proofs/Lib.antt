@@ -1,5 +1,4 @@
 pub mod LawLemmas
-pub mod Appended
 pub mod CountedRequests
 pub mod EntryLines
 pub mod FirstFaults

@@ -6,12 +6,11 @@ use Rattle.std.proofs.lemmas.Bool.{cases_eq, cases_lt, eq-eqb, leb-true, le-leb,
 use Rattle.std.proofs.lemmas.List.Elements.{All-from_get_or, All-head, All-tail, filter_agree, filter_passes}
 use Rattle.std.proofs.lemmas.List.Filters.{sum_by-filter_both}
 use Rattle.std.proofs.lemmas.List.Sums.{count_by-le-length, get_or-le-sum_by, sum_by-cons}
-use Rattle.class_table.specs.Sizes.{largest_counted, loss_of}
-use Rattle.class_table.specs.Tables.{class_for}
+use Rattle.class_table.specs.Sizes.{counted_of, largest_counted, loss_of}
+use Rattle.class_table.specs.Tables.{class_for, loss_of_size}
 use Rattle.tuner_theory.specs.Waste.{IsProfile, Serves, most_counted, sum_below, waste_at, waste_of}
 use Rattle.tuner_theory.proofs.Sums.{sum_none, sum_same, sum_split}
 use Rattle.profile_count.specs.Requests.{profile_of_sizes, requests_below, requests_of}
-use Rattle.profile_count.specs.RequestLosses.{counted_requests, lost_on}
 use Rattle.profile_count.proofs.CountedRequests.{get_or-requests_below, length-requests_below}
 
 -- ---- a sum over sizes as a sum over requests
@@ -71,18 +70,18 @@ ltb-suc n k = elim (cases_lt n (k + 1)) [
 ]
 
 waste_of-requests_below : (top : ℕ) (sizes classes : List ℕ)
-    → waste_of (requests_below (top + 1) sizes) classes ≡ sum_by (lost_on classes) (filter (λ n. leb n top) sizes)
+    → waste_of (requests_below (top + 1) sizes) classes ≡ sum_by (loss_of_size classes) (filter (λ n. leb n top) sizes)
 waste_of-requests_below top sizes classes =
     let counts = requests_below (top + 1) sizes in
     ap (sum_below (waste_at counts classes)) (length-requests_below (top + 1) sizes)
-    ∙ sum_same (waste_at counts classes) (λ n. requests_of sizes n * lost_on classes n) (top + 1)
+    ∙ sum_same (waste_at counts classes) (λ n. requests_of sizes n * loss_of_size classes n) (top + 1)
     (λ n below. rw (get_or-requests_below (top + 1) sizes n below, loss_in n (class_for classes n)) refl)
-    ∙ sum-requests_of (lost_on classes) (top + 1) sizes
-    ∙ ap (sum_by (lost_on classes)) (filter_agree (λ n. ltb n (top + 1)) (λ n. leb n top) (λ n. ltb-suc n top) sizes)
+    ∙ sum-requests_of (loss_of_size classes) (top + 1) sizes
+    ∙ ap (sum_by (loss_of_size classes)) (filter_agree (λ n. ltb n (top + 1)) (λ n. leb n top) (λ n. ltb-suc n top) sizes)
 
 -- The waste is the sum of what the counted requests lose.
 pub waste_of-profile_of_sizes : (sizes classes : List ℕ)
-    → waste_of (profile_of_sizes sizes).counts classes ≡ sum_by (lost_on classes) (counted_requests sizes)
+    → waste_of (profile_of_sizes sizes).counts classes ≡ sum_by (loss_of_size classes) (counted_of sizes)
 waste_of-profile_of_sizes = waste_of-requests_below largest_counted
 
 -- ---- serving
@@ -134,7 +133,7 @@ serves-requests_below top sizes classes = (each, served)
 
 -- A table serves the profile where each counted request has a class.
 pub serves-profile_of_sizes : (sizes classes : List ℕ)
-    → Serves (profile_of_sizes sizes).counts classes ↔ All (λ n. IsSome (class_for classes n)) (counted_requests sizes)
+    → Serves (profile_of_sizes sizes).counts classes ↔ All (λ n. IsSome (class_for classes n)) (counted_of sizes)
 serves-profile_of_sizes = serves-requests_below largest_counted
 
 -- ---- a profile

@@ -5,14 +5,7 @@ use Rattle.std.proofs.lemmas.Bool.{cases_lt}
 use Rattle.class_table.specs.Sizes.{loss_of}
 use Rattle.class_table.specs.Tables.{class_for}
 use Rattle.tuner_theory.specs.Waste.{sum_below, waste_at}
-
-pub sum_below-none : (f : ℕ → ℕ) → sum_below f 0 ≡ 0
-unfolding sum_below
-sum_below-none f = refl
-
-pub sum_below-more : (f : ℕ → ℕ) (n : ℕ) → sum_below f (n + 1) ≡ sum_below f n + f n
-unfolding sum_below
-sum_below-more f n = let next : n + 1 ≡ suc n = omega arith in rw next refl
+use Rattle.tuner_theory.proofs.Sums.{sum_below-more}
 
 -- the losses of one size are small
 pub small_term : (count loss : ℕ) → count ≤ 1000000000 → loss ≤ 16368 → count * loss ≤ 16368000000000
@@ -26,8 +19,7 @@ sum_below-rest f from (suc end) le none =
       | inl there ↦ ap (sum_below f) (omega arith)
       | inr later ↦
           let rest = sum_below-rest f from end later none in
-          let next : suc end ≡ end + 1 = omega arith in
-          rw next (omega (arith, sum_below-more f end, none end later, rest))
+          omega (arith, sum_below-more f end, none end later, rest)
     ]
 
 -- what is lost in a class on the sizes that it is the class of

@@ -2,7 +2,7 @@
 use Rattle.std.specs.Prelude.{◌≡◌, ◌↔◌, ◌≤◌, ◌-◌, List, [], ◌∷◌, ◌++◌, length, take, ℕ, Ok, Err}
 use Rattle.line_text.specs.FirstFault.{IsFirstFault}
 use Rattle.line_text.specs.Lines.{lines, text_of}
-use Rattle.tuner_theory.specs.Waste.{Profile}
+use Rattle.tuner_theory.specs.Waste.{IsProfile, Profile, most_counted}
 use Rattle.profile_count.specs.Counts.{count_for, nothing_counted, with_one_more}
 use Rattle.profile_count.specs.ProfileText.{SpellsProfile, profile_of}
 use Rattle.profile_count.specs.Requests.{CountsRequests, profile_of_sizes, with_more}
@@ -41,6 +41,10 @@ LinesBeforeItSpell =
 -- The profile of requests has for each size the number of its requests, and the number of large ones.
 abbrev pub ProfileCountsRequests : Type 0
 ProfileCountsRequests = (sizes : List ℕ) → CountsRequests (profile_of_sizes sizes) sizes
+
+-- The profile of at most 1,000,000,000 requests is one that a `Profile` may hold.
+abbrev pub ProfileOfSizesIsOne : Type 0
+ProfileOfSizesIsOne = (sizes : List ℕ) → length sizes ≤ most_counted → IsProfile (profile_of_sizes sizes)
 
 -- Requests that are added one by one to the empty profile give their profile.
 abbrev pub AddedRequestsAreCounted : Type 0

@@ -1,7 +1,7 @@
 //! What holds for every profile's text and for every list of requests. Each law is the contract of a function that does nothing.
-ghost use Rattle.profile_count.specs.Laws.{AddedRequestsAreCounted, CountsAreFew, OneMoreIsCounted, ProfileCountsRequests, ProfileIsSpelled, SpelledProfileIsRead};
+ghost use Rattle.profile_count.specs.Laws.{AddedRequestsAreCounted, CountsAreFew, OneMoreIsCounted, ProfileCountsRequests, ProfileIsSpelled, ProfileOfSizesIsOne, SpelledProfileIsRead};
 ghost use Rattle.profile_count.specs.Laws.{FirstFaultIsRefused, LinesBeforeItSpell, RefusedLineIsThere};
-ghost use Rattle.profile_count.specs.RequestLosses.{ProfileOfSizesIsOne, ServesEachRequest, WasteIsTheSumOfLosses};
+ghost use Rattle.profile_count.specs.RequestLosses.{ServesEachRequest, WasteIsTheSumOfLosses};
 
 /// A text that is read as a profile is that profile's text, and the text is read as the profile.
 pub fn law_profile_text()
@@ -27,7 +27,7 @@ pub fn law_profile_of_sizes()
 {}
 
 /// The waste of a table on the profile of requests is the sum, over all counted requests, of the bytes that each loses in its class. The
-/// table serves that profile exactly if each of them has a class. A `Profile` can hold the profile of at most 1,000,000,000 requests.
+/// table serves that profile exactly if each of them has a class. A `Profile` can hold the profile of any 1,000,000,000 requests or fewer.
 pub fn law_waste_of_sizes()
     ensures waste { WasteIsTheSumOfLosses }
     ensures serves { ServesEachRequest }

@@ -7,7 +7,7 @@ mod fault;
 pub mod laws;
 mod profile;
 mod reading;
-mod serving;
+mod table_walk;
 mod writing;
 
 pub use fault::{CountFull, ProfileError, ProfileFault};

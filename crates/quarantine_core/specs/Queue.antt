@@ -1,8 +1,9 @@
 -- The quarantine: a queue of slots that is linked through their headers, and the bytes of their blocks.
-use Rattle.std.specs.Prelude.{◌≡◌, ℕ, suc, ◌+◌, ◌-◌, ◌<◌, ◌==◌, if◌then◌else◌, List, ◌∷◌, drop, length, sum_by, Contains}
+use Rattle.std.specs.Prelude.{◌≡◌, ℕ, suc, ◌+◌, ◌-◌, ◌<◌, ◌==◌, if◌then◌else◌, List, ◌∷◌, drop, length, Contains}
 use Rattle.machine_theory.specs.Memory.{Granule}
 use Rattle.chunk_header.specs.Links.{SetsLink}
 use Rattle.class_table.specs.Layout.{Partition, block_bytes, slot_count, slot_of}
+use Rattle.heap_theory.specs.Booked.{bytes_of}
 use Rattle.heap_theory.specs.Links.{IsLinked, last_link}
 use Rattle.heap_theory.specs.Region.{Region, next_in, region_of}
 
@@ -13,10 +14,6 @@ pub record Queue : Type 0 where
   pub back : ℕ
   pub held : ℕ
   pub limit : ℕ
-
--- the bytes of the blocks of some slots
-abbrev pub bytes_of : Partition → List ℕ → ℕ
-bytes_of layout slots = sum_by (λ s. block_bytes (slot_of layout s)) slots
 
 -- From the front the links of a region show these slots of the layout, the one put in first at the front, and then end; the back is the
 -- link to the last of them, and what is held are the bytes of their blocks.

@@ -57,8 +57,8 @@ impl Quarantine {
         self.held
     }
 
-    /// Puts a slot of the layout in, after all others. Its block has `bytes` bytes. The slot must not be in the quarantine, and its link must
-    /// be 0. Of the memory only the link of the slot that was put in before it changes.
+    /// Puts a slot of the layout in, after all others. Its block has `bytes` bytes. The slot must not be in the quarantine, and its link
+    /// must be 0. Of the memory only the link of the slot that was put in before it changes.
     #[tactic(auto, using(crate::proofs::TheoryLemmas::each_once, crate::proofs::Blocks::few_bytes))]
     pub fn put(&mut self, memory: &mut Memory, layout: &Layout, slot: u32, bytes: u32)
         requires { CanBePut self.old layout.now memory.old slot bytes }

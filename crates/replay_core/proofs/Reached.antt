@@ -1,14 +1,14 @@
 -- What is stored of some run, and of one event more.
-use Rattle.std.proofs.Common.{◌≡◌, ◌≢◌, ◌⊎◌, ℕ, List, [], ◌∷◌, ◌++◌, sym, ap, ◌∙◌, subst}
-use Rattle.machine_theory.specs.Address.{logical_tag}
+use Rattle.std.proofs.Common.{◌≡◌, ℕ, List, [], ◌∷◌, ◌++◌, sym, ap, ◌∙◌, subst}
 use Rattle.heap_theory.specs.declared.event.Event.{Event}
 use Rattle.heap_theory.specs.Generations.{Run, run_after}
-use Rattle.heap_theory.specs.Run.{Replay, Answer, variable, heap_after, variables_after, replay_after, answer_of, replay_of, first_replay}
+use Rattle.heap_theory.specs.Hardening.{AreNullOrTagged}
+use Rattle.heap_theory.specs.Run.{Replay, Answer, heap_after, variables_after, replay_after, answer_of, replay_of, first_replay}
 use Rattle.heap_theory.specs.Sound.{IsSoundHeap}
 use Rattle.heap_theory.specs.State.{Heap}
 use Rattle.heap_theory.specs.Totals.{Totals, totals_after}
 use Rattle.replay_core.proofs.TheoryLemmas as laws
-use Rattle.replay_core.specs.TheoryValues.{AreNullOrTagged, over}
+use Rattle.replay_core.specs.TheoryValues.{over}
 use Rattle.replay_core.specs.ReplayState.{Stored, IsStored, stored_after, stored_of}
 use Rattle.replay_core.proofs.StoredMore.{stored_of-push}
 
@@ -22,10 +22,10 @@ sound_heap stored i =
     (laws.run_is_sound i.layout i.seed i.quarantine i.events i.region).sound.heap
 
 pub null_or_tagged : (stored : Stored) → IsStored stored → AreNullOrTagged stored.replay.variables
-null_or_tagged stored i v =
-    subst (λ (r : Replay). (variable r v ≡ 0) ⊎ (logical_tag (variable r v) ≢ 0))
+null_or_tagged stored i =
+    subst (λ (r : Replay). AreNullOrTagged r.variables)
     (laws.stored_part i.layout i.seed i.quarantine i.events ∙ sym (replay_is stored i))
-    (laws.variables i.layout i.seed i.quarantine i.events i.region v)
+    (laws.variables i.layout i.seed i.quarantine i.events i.region)
 
 pub IsStored-after : (stored : Stored) (e : Event) → IsStored stored → IsStored (stored_after stored e)
 IsStored-after stored e i = record {

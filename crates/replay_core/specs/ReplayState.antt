@@ -47,7 +47,7 @@ pub record IsStored (stored : Stored) : Type 0 where
 abbrev pub StoredOfNone : Type 0
 StoredOfNone = (layout : Partition) (seed quarantine : ℕ) → stored_of layout seed quarantine [] ≡ first_stored layout seed quarantine
 
--- What is stored is followed by itself, event by event.
+-- What is stored after one more event follows from the event and from what was stored before it.
 abbrev pub StoredOfOneMore : Type 0
 StoredOfOneMore =
     (layout : Partition) (seed quarantine : ℕ) (events : List Event) (event : Event) →

@@ -1,6 +1,6 @@
 -- The types of the code, as the definitions see them.
-use Rattle.std.specs.Prelude.{◌≡◌, ◌≢◌, ◌⊎◌, ℕ, ◌≤◌, List, length, slice_index, take, ⊤}
-use Rattle.machine_theory.specs.Address.{logical_tag}
+use Rattle.std.specs.Prelude.{◌≡◌, ℕ, ◌≤◌, List, length, take, ⊤}
+use Rattle.heap_theory.specs.Hardening.{AreNullOrTagged}
 use Rattle.heap_theory.specs.Run.{Replay, Answer}
 use Rattle.heap_theory.specs.Run.Answer.{Silent, Loaded, NotMapped, TagFault, NoPointer, NotFreed}
 use Rattle.heap_theory.specs.State.{Heap}
@@ -37,16 +37,12 @@ totals_in t = record {
 abbrev pub over : Heap → List ℕ → Replay
 over heap variables = record { heap = heap; variables = variables }
 
--- Each variable is null or tagged.
-abbrev pub AreNullOrTagged : List ℕ → Type 0
-AreNullOrTagged variables = (v : ℕ) → (slice_index variables v ≡ 0) ⊎ (logical_tag (slice_index variables v) ≢ 0)
-
 -- The 1,024 variables of a trace.
 pub record AreVariables (variables : List ℕ) : Type 0 where
   pub long : length variables ≡ VARIABLES
   pub tagged : AreNullOrTagged variables
 
--- The buffer, of 64 bytes, has as many as were loaded.
+-- The bytes that were loaded fit the buffer of 64 bytes.
 abbrev pub FitsBuffer : TheAnswer → Type 0
 FitsBuffer ItIsSilent = ⊤
 FitsBuffer (ItLoaded len) = len ≤ LONGEST_ACCESS

@@ -30,6 +30,7 @@ impl Replay {
     pub fn law_reached(&self)
         ensures { IsStored self.now }
     {
+        // the use of a field gives the proof the invariant of the type
         let _ = &self.heap;
     }
 }

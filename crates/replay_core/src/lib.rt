@@ -7,15 +7,15 @@
 mod access;
 mod answer;
 mod append;
+mod events;
 pub mod laws;
 mod perform;
-mod ranges;
 mod replay;
 mod report_line;
 mod totals;
 
+pub use events::{is_in_range, request_size};
 pub use heap_theory::Event;
-pub use ranges::is_in_range;
 pub use replay::{LINE_ROOM, Replay};
 pub use tagged_heap::Config;
-pub use totals::{TOTALS_ROOM, Totals, request_size};
+pub use totals::{TOTALS_ROOM, Totals};

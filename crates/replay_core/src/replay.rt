@@ -65,9 +65,9 @@ impl Replay {
         })
     }
 
-    /// Performs the event and counts it in the totals. Replaces what `line` holds by the event's report line with its newline, or by nothing
-    /// if it has none. Afterwards the replay is what is stored of the run with this event added. The event's numbers must be in their ranges
-    /// (`Event`), and there must have been fewer than 2^40 steps (`steps`).
+    /// Performs the event and counts it in the totals. Replaces what `line` holds by the event's report line with its newline, or by
+    /// nothing if it has none. Afterwards the replay is what is stored of the run with this event added. The event's numbers must be in
+    /// their ranges (`Event`), and there must have been fewer than 2^40 steps (`steps`).
     pub fn step(&mut self, event: &Event, line: &mut ArrayVec<u8, LINE_ROOM>)
         requires few { self.old.totals.events < 2 ^ 40 }
         requires in_range { IsInRange event.now }

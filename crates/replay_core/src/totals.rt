@@ -1,15 +1,15 @@
 ghost use Rattle.class_table.specs.Sizes.{largest_counted};
 ghost use Rattle.class_table.specs.Tables.{IsLegalTable};
 ghost use Rattle.heap_theory.specs.Report.{total_line, totals_text};
-ghost use Rattle.heap_theory.specs.Totals.{request_size, totals_after};
+ghost use Rattle.heap_theory.specs.Totals.{totals_after, with_answer, with_request};
 ghost use Rattle.line_text.specs.Lines.{ended};
 ghost use Rattle.replay_core.specs.Bounds.{AreBounded};
-ghost use Rattle.replay_core.specs.TotalsSteps.{with_answer, with_request};
 ghost use Rattle.replay_core.specs.TheoryValues.{shown, totals_in};
 ghost use Rattle.std.specs.Prelude.{◌≡◌, ◌++◌, ◌+◌, ◌*◌, ◌^◌, ◌<◌, ◌≤◌, List, length, ℕ};
 
 use crate::answer::Answer;
 use crate::append::{append, append_number};
+use crate::events::request_size;
 use crate::replay::Replay;
 use arrayvec::ArrayVec;
 use heap_theory::{Event, NullCause};
@@ -138,18 +138,4 @@ fn append_total(text: &mut ArrayVec<u8, TOTALS_ROOM>, name: &[u8], total: u64)
     text.push(b' ');
     append_number(text, total);
     text.push(b'\n');
-}
-
-/// The bytes that an event requests, if it is a request: a malloc, a calloc or a realloc.
-pub fn request_size(event: &Event) -> Option<u32>
-    ensures { result ≡ request_size event.now }
-{
-    match *event {
-        Event::Malloc { n, .. } | Event::Calloc { n, .. } | Event::Realloc { n, .. } => Some(n),
-        Event::Free { .. }
-        | Event::Load { .. }
-        | Event::Store { .. }
-        | Event::Addg { .. }
-        | Event::Subg { .. } => None,
-    }
 }

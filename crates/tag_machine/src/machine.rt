@@ -125,10 +125,7 @@ impl Machine {
         ensures err { OnErr result (self.new ≡ self.old) }
     {
         check_tag_store(&self.memory, 2, xn)?;
-        let granule = granule_of(xn);
-        let tag = logical_tag(xt);
-        self.memory.set_tag(granule, tag);
-        self.memory.set_tag(granule + 1, tag);
+        self.memory.set_tags(granule_of(xn), 2, logical_tag(xt));
         Ok(())
     }
 

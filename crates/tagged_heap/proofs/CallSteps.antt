@@ -6,16 +6,16 @@ use Rattle.heap_theory.specs.State.{Heap, slot_in, state_at, chunk_granules, is_
 use Rattle.std.specs.Prelude.{MatchResult, IfOk, IfErr, OnErr, IsTrue, ◌↔◌}
 use Rattle.std.specs.Result.{result_map_both, IsErrAnd}
 use Rattle.std.proofs.lemmas.List.{get_or-set_other}
-use Rattle.heap_theory.specs.declared.fault.NullCause.{NullCause}
-use Rattle.heap_theory.specs.declared.fault.ReallocError.TheVariants.{Null}
+use Rattle.heap_theory.specs.declared.refusal.NullCause.{NullCause}
+use Rattle.heap_theory.specs.declared.refusal.ReallocError.TheVariants.{Null}
 use Rattle.heap_theory.specs.State.State.{Fresh, Live}
 use Rattle.machine_theory.specs.Memory.{Granule, bytes_at, tagged}
 use Rattle.tagged_heap.specs.HeapView.{HeapAndFrees}
 use Rattle.tagged_heap.specs.Chunks.{IsChunk}
 use Rattle.tagged_heap.specs.declared.freeing.Chunk.{Chunk as Found}
 use Rattle.tagged_heap.specs.Frees.{frees_for_slot}
-use Rattle.heap_theory.specs.declared.fault.FreeError.{FreeError}
-use Rattle.heap_theory.specs.declared.fault.ReallocError.{ReallocError}
+use Rattle.heap_theory.specs.declared.refusal.FreeError.{FreeError}
+use Rattle.heap_theory.specs.declared.refusal.ReallocError.{ReallocError}
 use Rattle.heap_theory.proofs.OwnPointers.{free_accepts, realloc_accepts}
 use Rattle.heap_theory.specs.OwnPointers.{IsNotRefused, IsNullOrOwn}
 use Rattle.heap_theory.specs.Sound.{IsSoundHeap}

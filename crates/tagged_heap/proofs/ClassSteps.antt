@@ -9,8 +9,8 @@ use Rattle.std.proofs.lemmas.Option.{slice_get-get_or, slice_get_within, get_or_
 use Rattle.class_table.specs.Layout.{Slot}
 use Rattle.class_table.specs.Sizes.{serves}
 use Rattle.class_table.specs.Tables.{IsLegalTable, class_number_for}
-use Rattle.heap_theory.specs.declared.fault.NullCause.{NullCause}
-use Rattle.heap_theory.specs.declared.fault.NullCause.TheVariants.{Large, NoClass, Exhausted}
+use Rattle.heap_theory.specs.declared.refusal.NullCause.{NullCause}
+use Rattle.heap_theory.specs.declared.refusal.NullCause.TheVariants.{Large, NoClass, Exhausted}
 use Rattle.heap_theory.specs.Calls.{is_class_of}
 use Rattle.heap_theory.specs.Choice.{class_for_request}
 use Rattle.heap_theory.specs.State.{Heap, chunk_granules}

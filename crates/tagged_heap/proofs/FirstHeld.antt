@@ -7,19 +7,20 @@ use Rattle.std.proofs.lemmas.List.FromFn.{length-map-range_with_len, get_or-map-
 use Rattle.machine_theory.specs.Memory.{Granule, IsMemory, new_granule}
 use Rattle.class_table.specs.Layout.{Partition, IsPartition, slot_of, slot_count, first_slot}
 use Rattle.class_table.specs.Tables.{IsLegalTable}
+use Rattle.class_table.proofs.LawLemmas.{first_slots_ascend}
 use Rattle.heap_theory.specs.Header.{Header, class_number}
 use Rattle.heap_theory.specs.Links.{IsLinked, list_of}
 use Rattle.heap_theory.specs.Region.{region_of, header_in, next_in}
 use Rattle.heap_theory.specs.State.{State, state_at, is_fresh, first_heap, without_headers}
 use Rattle.heap_theory.specs.State.State.{Fresh}
-use Rattle.heap_theory.proofs.Found.{Contains-none}
+use Rattle.heap_theory.proofs.ListSearch.{Contains-none}
 use Rattle.heap_theory.proofs.FirstHeap.{get_or-replicate_any}
 use Rattle.heap_theory.proofs.Marks.{one_number, number_is}
 use Rattle.tagged_heap.proofs.TheoryLemmas as laws
 use Rattle.tagged_heap.specs.Representation.{header_from, AreFirstFresh, Parts}
 use Rattle.tagged_heap.specs.HeapView.{shown_heap, IsHeldIn}
 use Rattle.tagged_heap.proofs.Kept.{shown_is}
-use Rattle.tagged_heap.proofs.Shares.{first_slot-le, share_of_slot}
+use Rattle.tagged_heap.proofs.Shares.{share_of_slot}
 
 -- the number of a slot's class is one
 pub class_is_number : (layout : Partition) (s number : ℕ) → IsLegalTable 1 layout.classes → s < slot_count layout →
@@ -52,9 +53,7 @@ module _ (layout : Partition) (seed quarantine : ℕ) (is : IsPartition layout) 
   first_fresh = record {
     long = counters_long;
     from = λ number within. omega (arith, first_at number within);
-    to = λ number within.
-        let number' : number < length layout.classes = subst (λ n. number < n) counters_long within in
-        omega (arith, first_at number within, first_slot-le layout number (number + 1) (omega arith) (omega arith));
+    to = λ number within. omega (arith, first_at number within, first_slots_ascend layout number (number + 1) (omega arith));
     given = λ number s within in_range class below.
         let share = share_of_slot layout number s is.table (subst (λ n. number < n) counters_long within) in_range class in
         absurd (omega (arith, first_at number within, share.from));

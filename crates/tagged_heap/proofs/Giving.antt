@@ -12,8 +12,8 @@ use Rattle.machine_theory.specs.Seed.{next_seed}
 use Rattle.class_table.specs.Layout.{IsClassOf, first_slot}
 use Rattle.class_table.specs.Sizes.{largest_counted}
 use Rattle.class_table.specs.Tables.{class_for, class_number_for}
-use Rattle.heap_theory.specs.declared.fault.NullCause.{NullCause}
-use Rattle.heap_theory.specs.declared.fault.NullCause.TheVariants.{Large, NoClass, Exhausted}
+use Rattle.heap_theory.specs.declared.refusal.NullCause.{NullCause}
+use Rattle.heap_theory.specs.declared.refusal.NullCause.TheVariants.{Large, NoClass, Exhausted}
 use Rattle.heap_theory.specs.Booked.{HasMark, IsBooked}
 use Rattle.heap_theory.specs.Calls.{given_out, next_tag, parity_exclude, chunk_tagged}
 use Rattle.heap_theory.specs.Choice.{IsGiven, slot_for, slot_for_request, slot_in_class, lowest_fresh, is_dead}
@@ -22,7 +22,7 @@ use Rattle.heap_theory.specs.Links.{IsLinked, list_of}
 use Rattle.heap_theory.specs.Region.{region_of, header_in, next_in}
 use Rattle.heap_theory.specs.State.{State, Heap, slot_in, state_at, last_tag, is_fresh, payload_place, pointer_to, IsSlot}
 use Rattle.heap_theory.specs.State.State.{Fresh, Live, Dead}
-use Rattle.heap_theory.proofs.Found.{Contains-head}
+use Rattle.heap_theory.proofs.ListSearch.{Contains-head}
 use Rattle.heap_theory.proofs.SeenMemory.{length-without_headers}
 use Rattle.chunk_header.specs.Links.{SetsLink}
 use Rattle.tagged_heap.proofs.TheoryLemmas as laws

@@ -5,7 +5,7 @@ use Rattle.std.proofs.lemmas.Bool.{cases_lt, lt-ltb, le-ltb, cond-true, cond-fal
 use Rattle.std.proofs.lemmas.List.{ext_get_or, get_or-map, length-map}
 use Rattle.std.proofs.lemmas.Option.{slice_get_within, get_or_from_slice_get}
 use Rattle.class_table.specs.Layout.{slot_count}
-use Rattle.heap_theory.specs.Booked.{HasMark, IsBooked, IsBookedFrom, bytes_in}
+use Rattle.heap_theory.specs.Booked.{HasMark, IsBooked, IsBookedFrom, bytes_of}
 use Rattle.heap_theory.specs.Header.{Header, FitsWords, header_for, shown_state, standing_in, state_by, class_number}
 use Rattle.heap_theory.specs.Header.Standing.{Freed, Quarantined}
 use Rattle.heap_theory.specs.HeapInMemory.{IsKeptIn}
@@ -14,7 +14,7 @@ use Rattle.heap_theory.specs.Region.{region_of, headers_of, next_in, no_header}
 use Rattle.heap_theory.specs.Sound.{IsSoundHeap}
 use Rattle.heap_theory.specs.State.{State, Heap, slot_in, state_at, chunk_granules, IsSlot}
 use Rattle.heap_theory.specs.State.State.{Fresh, Live, Dead}
-use Rattle.heap_theory.proofs.Found.{Contains-head}
+use Rattle.heap_theory.proofs.ListSearch.{Contains-head}
 use Rattle.heap_theory.proofs.Regions.{length-headers_of}
 use Rattle.heap_theory.proofs.Marks.{IsQueued, IsListed, chain_bytes, chain_dead, list_dead}
 use Rattle.heap_theory.proofs.SeenMemory.{length-without_headers}
@@ -71,11 +71,11 @@ module _ {h : Heap} {p : Parts} (k : IsKept h p) where
   pub within_lists : (number : ℕ) → number < length h.layout.classes → number < length k.lists
   within_lists number within = subst (λ n. number < n) (sym k.booked.long) within
 
-  pub bytes_from : k.from + bytes_in h k.queue ≡ h.total
+  pub bytes_from : k.from + bytes_of h.layout k.queue ≡ h.total
   bytes_from = chain_bytes h k.from k.queue k.booked.chain
 
   -- what is booked with the same queue and total has the same mark
-  pub booked_same : {h' : Heap} {lists : List (List ℕ)} → bytes_in h' k.queue ≡ bytes_in h k.queue → h'.total ≡ h.total →
+  pub booked_same : {h' : Heap} {lists : List (List ℕ)} → bytes_of h'.layout k.queue ≡ bytes_of h.layout k.queue → h'.total ≡ h.total →
       IsBooked h' k.queue lists → IsBookedFrom h' k.from k.queue lists
   booked_same {h'} {lists} bytes total b =
       let from : b.from ≡ k.from = omega (arith, bytes, total, bytes_from, chain_bytes h' b.from k.queue b.booked.chain) in
@@ -140,7 +140,7 @@ module _ {h : Heap} {p : Parts} (k : IsKept h p) where
   -- ---- at rest
 
   module _ (rests : p.quarantine.held ≤ p.quarantine.limit) where
-    pub queue_few : bytes_in h k.queue ≤ h.quarantine
+    pub queue_few : bytes_of h.layout k.queue ≤ h.quarantine
     queue_few = omega (arith, rests, k.queued.held, k.limit)
 
     abbrev pub booked_at_rest : IsBooked h k.queue k.lists

@@ -16,4 +16,3 @@ pub mod FirstHeld
 pub mod PayloadWritten
 pub mod GranuleKinds
 pub mod NamedChunks
-pub mod TagsOfChunks

@@ -5,14 +5,14 @@ use Rattle.std.proofs.lemmas.Bool.{cases_eq, cases_lt, lt-ltb, le-ltb, cond-true
 use Rattle.std.proofs.lemmas.Option.{slice_get_within}
 use Rattle.machine_theory.specs.Memory.{Granule, IsMemory}
 use Rattle.class_table.specs.Layout.{block_bytes}
-use Rattle.heap_theory.specs.Booked.{HasMark, IsChain, IsBookedFrom, bytes_in}
+use Rattle.heap_theory.specs.Booked.{HasMark, IsChain, IsBookedFrom, bytes_of}
 use Rattle.heap_theory.specs.Header.{Header, class_number}
 use Rattle.heap_theory.specs.Header.Standing.{Freed, Quarantined}
 use Rattle.heap_theory.specs.Links.{IsLinked, list_of}
 use Rattle.heap_theory.specs.Region.{region_of, header_in, next_in}
 use Rattle.heap_theory.specs.State.{State, Heap, slot_in, state_at, without_headers, IsSlot}
 use Rattle.heap_theory.specs.State.State.{Fresh, Live, Dead}
-use Rattle.heap_theory.proofs.Found.{Contains-cases}
+use Rattle.heap_theory.proofs.ListSearch.{Contains-cases}
 use Rattle.heap_theory.proofs.Marks.{one_mark, not_marked, chain_dead, chain_mark}
 use Rattle.quarantine_core.specs.Queue.{Queue, AreQueued, TakesOldest}
 use Rattle.tagged_heap.proofs.TheoryLemmas as laws
@@ -112,7 +112,7 @@ module _ {h : Heap} {p : Parts} (k : IsKept h p) {q1 : Queue} {m1 : List Granule
     booked =
         laws.releases h k.from s number rest k.lists k.sound (subst (λ queue. IsBookedFrom h k.from queue k.lists) oldest k.booked)
         class_found
-        (subst (λ queue. h.quarantine < bytes_in h queue) oldest (omega (arith, over, k.queued.held, k.limit)));
+        (subst (λ queue. h.quarantine < bytes_of h.layout queue) oldest (omega (arith, over, k.queued.held, k.limit)));
     limit = ap (λ (x : Queue). x.limit) out.value ∙ k.limit;
   }
     where

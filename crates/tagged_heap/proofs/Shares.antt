@@ -1,42 +1,20 @@
 -- Which slots a class has.
-use Rattle.std.proofs.Common.{◌≡◌, ℕ, zero, suc, ◌+◌, ◌-◌, ◌/◌, ◌<◌, ◌≤◌, length, sym, ap, ◌∙◌, subst, inl, inr, arith}
+use Rattle.std.proofs.Common.{◌≡◌, ℕ, zero, suc, ◌+◌, ◌-◌, ◌<◌, ◌≤◌, length, sym, ap, ◌∙◌, subst, inl, inr, arith}
 use Rattle.std.specs.Prelude.{slice_index}
 use Rattle.std.proofs.lemmas.Bool.{cases_lt}
-use Rattle.std.proofs.lemmas.List.Sums.{sum_by_more}
-use Rattle.class_table.specs.Layout.{Partition, Slot, IsClassOf, share_of, slot_of, slot_count, first_slot}
+use Rattle.class_table.specs.Layout.{Partition, Slot, IsClassOf, slot_of, slot_count, first_slot}
 use Rattle.class_table.specs.Tables.{IsLegalTable}
+use Rattle.class_table.proofs.LawLemmas.{first_slot_of_next_class, first_slots_ascend}
 use Rattle.heap_theory.proofs.Marks.{one_number}
 use Rattle.tagged_heap.proofs.TheoryLemmas as laws
-
-pub first_slot-suc : (region : Partition) (number : ℕ) → number < length region.classes →
-    first_slot region (number + 1) ≡ first_slot region number + share_of region / slice_index region.classes number
-first_slot-suc region number within = sum_by_more (λ class. share_of region / class) region.classes number 0 within
-
-first_slot-more : (region : Partition) (number more : ℕ) → number + more ≤ length region.classes →
-    first_slot region number ≤ first_slot region (number + more)
-first_slot-more region number zero within =
-    let same : number ≡ number + 0 = omega arith in
-    subst (λ n. first_slot region number ≤ first_slot region n) same (omega arith)
-first_slot-more region number (suc more) within =
-    let before = first_slot-more region number more (omega arith) in
-    let step : first_slot region (number + more + 1) ≡ first_slot region (number + more) + share_of region / slice_index region.classes
-    (number + more) = first_slot-suc region (number + more) (omega arith) in
-    let same : number + more + 1 ≡ number + suc more = omega arith in
-    subst (λ n. first_slot region number ≤ first_slot region n) same (omega (arith, before, step))
-
-pub first_slot-le : (region : Partition) (number other : ℕ) → number ≤ other → other ≤ length region.classes →
-    first_slot region number ≤ first_slot region other
-first_slot-le region number other le within =
-    let is : number + (other - number) ≡ other = omega arith in
-    subst (λ n. first_slot region number ≤ first_slot region n) is (first_slot-more region number (other - number) (omega arith))
 
 -- the slots from a class's first one on are the class's
 pub in_share : (region : Partition) (number s : ℕ) → number < length region.classes → first_slot region number ≤ s →
     s < first_slot region (number + 1) → (s < slot_count region) × ((slot_of region s).class ≡ slice_index region.classes number)
 in_share region number s within from to =
-    let step = first_slot-suc region number within in
+    let step = first_slot_of_next_class region number within in
     let all : first_slot region (number + 1) ≤ first_slot region (length region.classes) =
-    first_slot-le region (number + 1) (length region.classes) (omega arith) (omega arith) in
+    first_slots_ascend region (number + 1) (length region.classes) (omega arith) in
     let is : first_slot region number + (s - first_slot region number) ≡ s = omega arith in
     let slot = laws.slots_of_class region number (s - first_slot region number) within (omega arith) in
     (omega (arith, all, laws.all_slots region), sym (ap (λ n. (slot_of region n).class) is) ∙ ap (λ (x : Slot). x.class) slot)

@@ -5,8 +5,8 @@ use Rattle.class_table.specs.Sizes.{largest_counted}
 use Rattle.class_table.specs.Layout.{Partition, slot_count, first_slot}
 use Rattle.class_table.specs.Tables.{class_number_for}
 use Rattle.class_table.specs.declared.table.TheConstants.{MOST_CLASSES}
-use Rattle.heap_theory.specs.declared.fault.NullCause.{NullCause}
-use Rattle.heap_theory.specs.declared.fault.NullCause.TheVariants.{Large, NoClass, Exhausted}
+use Rattle.heap_theory.specs.declared.refusal.NullCause.{NullCause}
+use Rattle.heap_theory.specs.declared.refusal.NullCause.TheVariants.{Large, NoClass, Exhausted}
 use Rattle.heap_theory.specs.Region.{region_of, next_in}
 use Rattle.chunk_header.specs.Links.{SetsLink}
 

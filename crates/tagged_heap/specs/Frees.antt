@@ -1,7 +1,7 @@
 -- How many chunks a call frees.
 use Rattle.std.specs.Prelude.{ℕ, ◌==◌, if◌then◌else◌, Result, Ok, Err}
-use Rattle.heap_theory.specs.declared.fault.FreeError.{FreeError}
-use Rattle.heap_theory.specs.declared.fault.NullCause.{NullCause}
+use Rattle.heap_theory.specs.declared.refusal.FreeError.{FreeError}
+use Rattle.heap_theory.specs.declared.refusal.NullCause.{NullCause}
 use Rattle.heap_theory.specs.Calls.{stays_in_class}
 use Rattle.heap_theory.specs.Choice.{Chunk, chunk_at, slot_for_request}
 use Rattle.heap_theory.specs.State.{Heap}

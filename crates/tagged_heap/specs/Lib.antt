@@ -5,4 +5,3 @@ pub mod Representation
 pub mod HeapView
 pub mod Abstraction
 pub mod Frees
-pub mod ChunkTags

@@ -1,16 +1,15 @@
--- How a heap is kept: in headers, in lists that are linked through them, and in a counter for each class.
-use Rattle.std.specs.Prelude.{◌≡◌, ◌≢◌, ℕ, ◌+◌, ◌<◌, ◌≤◌, nat_lt, if◌then◌else◌, List, length, slice_index, IsFalse, IsTrue}
+-- How a heap is kept: in headers, in lists that are linked through them, and in a counter for each class. `IsKept` says it of the parts
+-- that change while slots are released, and `IsKeptIn` (heap_theory) follows from it for a heap at rest.
+use Rattle.std.specs.Prelude.{◌≡◌, ◌≢◌, ℕ, ◌+◌, ◌<◌, ◌≤◌, nat_lt, List, length, slice_index, IsFalse, IsTrue}
 use Rattle.machine_theory.specs.Memory.{Granule, IsMemory}
 use Rattle.class_table.specs.Layout.{Partition, slot_count, first_slot}
 use Rattle.heap_theory.specs.Booked.{IsBookedFrom}
 use Rattle.heap_theory.specs.Choice.{is_dead, mark_of}
-use Rattle.heap_theory.specs.Header.{Standing, Header, size_of, class_number}
-use Rattle.heap_theory.specs.Header.Standing.{Fresh, Live, Quarantined, Freed}
+use Rattle.heap_theory.specs.Header.{Standing, Header, standing_where, header_with}
 use Rattle.heap_theory.specs.Links.{IsLinked, list_of}
 use Rattle.heap_theory.specs.Region.{Region, region_of, header_in, next_in}
 use Rattle.heap_theory.specs.Sound.{IsSoundHeap}
-use Rattle.heap_theory.specs.State.{State, Heap, slot_in, state_at, is_fresh, last_tag, without_headers, IsSlot}
-use Rattle.heap_theory.specs.State.State.{Fresh as NeverGiven, Live as Given, Dead}
+use Rattle.heap_theory.specs.State.{State, Heap, slot_in, state_at, is_fresh, without_headers, IsSlot}
 use Rattle.quarantine_core.specs.Queue.{Queue, AreQueued}
 
 -- A memory in which the header of one slot is another, and which is seen as this one.
@@ -22,22 +21,13 @@ pub record IsRewritten (layout : Partition) (old new : List Granule) (s : ℕ) (
 
 -- ---- headers
 
--- how a slot stands in a state, where of the freed slots those with a mark of `from` or more are in the quarantine
+-- how a slot stands in a state: a dead slot is in the quarantine if its mark is at least `from`
 abbrev pub standing_from : ℕ → State → Standing
-standing_from from NeverGiven = Fresh
-standing_from from (Given size tag) = Live
-standing_from from (Dead size tag mark) = if nat_lt mark from then Freed else Quarantined
+standing_from from state = standing_where (nat_lt (mark_of state) from) state
 
 -- the header of slot s in that state
 abbrev pub header_from : Partition → ℕ → ℕ → State → ℕ → Header
-header_from layout from s state next = record {
-  standing = standing_from from state;
-  size = size_of state;
-  tag = last_tag state;
-  class = class_number layout s;
-  next = next;
-  mark = mark_of state;
-}
+header_from layout from s state next = header_with layout s (standing_from from state) state next
 
 -- Each header shows its slot's state, and the links of slots that are not dead are 0.
 pub record HasHeaders (heap : Heap) (region : Region) (from : ℕ) : Type 0 where
@@ -60,8 +50,9 @@ pub record Parts : Type 0 where
   pub quarantine : Queue
   pub fronts : List ℕ
 
--- A heap's state in headers, links and fronts. The queue has the dead slots from a mark on, and the lists have the others.
--- This holds at rest, and while slots are released, when the queue may have more bytes than the limit.
+-- A heap's state in headers, links and fronts, over the parts, at rest and while slots are released. The queue has the dead slots from a
+-- mark on, and the lists have the others. While slots are released the queue may have more bytes than the limit. Where it has no more,
+-- `IsKeptIn` (heap_theory) follows, which is over the heap and its memory alone.
 pub record IsKept (heap : Heap) (parts : Parts) : Type 0 where
   pub from : ℕ
   pub queue : List ℕ

@@ -16,8 +16,8 @@ use machine_theory::LONGEST_ACCESS;
 use tag_machine::Fault;
 
 impl Heap {
-    /// Reads `buf.len()` bytes, 1 to 64, from `address` on. Headers have tag 0, so the address must have another tag, or the access must not
-    /// be mapped. So no load reads a header. The header words of all slots stay the same.
+    /// Reads `buf.len()` bytes, 1 to 64, from `address` on. Headers have tag 0, so the address must have another tag, or the access must
+    /// not be mapped. So no load reads a header. The header words of all slots stay the same.
     ///
     /// Errors, after which `buf` is unchanged: `Unmapped` if a byte lies outside the region or bits 63 to 60 of the address are not 0;
     /// otherwise `TagCheck` with the lowest granule that the access touches and whose tag differs from the address's.

@@ -39,7 +39,8 @@ pub(crate) struct Given {
 }
 
 impl Heap {
-    /// Gives out a chunk of `n` bytes. Returns the address of its first byte, with the chunk's tag. The bytes of the chunk keep their values.
+    /// Gives out a chunk of `n` bytes. Returns the address of its first byte, with the chunk's tag. The bytes of the chunk keep their
+    /// values.
     ///
     /// Errors, after which nothing has changed: `Large` if `n` is above 16,368; otherwise `NoClass` if no class serves it; otherwise
     /// `Exhausted` if its class has no slot left.

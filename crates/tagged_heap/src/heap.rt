@@ -1,6 +1,6 @@
 ghost use Rattle.class_table.specs.Sizes.{largest_counted};
 ghost use Rattle.heap_theory.specs.State.{first_heap};
-ghost use Rattle.heap_theory.specs.Totals.{loss_of_size};
+ghost use Rattle.class_table.specs.Tables.{loss_of_size};
 ghost use Rattle.machine_theory.specs.Instructions.{addg, subg};
 ghost use Rattle.tagged_heap.specs.Config.{IsConfig};
 ghost use Rattle.std.specs.Prelude.{◌≡◌, ◌≤◌, IfOk};

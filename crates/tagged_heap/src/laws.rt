@@ -1,7 +1,7 @@
 //! What holds for every heap. Each law is the contract of a call that does nothing. The laws of whole runs come from `heap_theory`.
+ghost use Rattle.heap_theory.specs.Hardening.{ChunksAreTagged, ParitiesDiffer};
 ghost use Rattle.heap_theory.specs.HeaderLaws.{HeadersAreSpared};
 ghost use Rattle.heap_theory.specs.Sound.{IsSoundHeap};
-ghost use Rattle.tagged_heap.specs.ChunkTags.{ChunksAreTagged, ParitiesDiffer};
 
 use crate::heap::Heap;
 pub use heap_theory::laws::hardening::{
@@ -22,15 +22,17 @@ impl Heap {
     pub fn law_sound(&self)
         ensures { IsSoundHeap self.now.state }
     {
+        // the use of a field gives the proof the invariant of the type
         let _ = &self.layout;
     }
 
     /// No granule of a chunk has tag 0. A chunk of a slot with an even number and one of a slot with an odd number never have the same tag.
-    #[tactic(auto, using(crate::proofs::TagsOfChunks::chunks_tagged, crate::proofs::TagsOfChunks::parities_differ))]
+    #[tactic(auto, using(heap_theory::proofs::GranuleTags::chunks_tagged, heap_theory::proofs::GranuleTags::parities_differ))]
     pub fn law_tags(&self)
         ensures tagged { ChunksAreTagged self.now.state }
         ensures differ { ParitiesDiffer self.now.state }
     {
+        // the use of a field gives the proof the invariant of the type
         let _ = &self.layout;
     }
 }

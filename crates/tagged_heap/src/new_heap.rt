@@ -26,8 +26,7 @@ pub(crate) fn write_fresh_headers(memory: &mut Memory, layout: &Layout)
 {
     // the contract of `granules` gives the proof that the layout is a partition
     prove!(layout.granules() >= FEWEST_GRANULES);
-    for slot in 0..layout.slots() {
-        let number = layout.class_of(slot);
+    for number in 0..layout.classes() {
         let header = Header {
             state: State::Fresh,
             size: 0,
@@ -36,7 +35,9 @@ pub(crate) fn write_fresh_headers(memory: &mut Memory, layout: &Layout)
             next: 0,
             mark: 0,
         };
-        write(memory, layout.slot_of_class(number, slot).start, &header);
+        for slot in layout.first_slot(number)..layout.first_slot(number + 1) {
+            write(memory, layout.slot_of_class(number, slot).start, &header);
+        }
     }
 }
 

@@ -18,8 +18,8 @@ use heap_theory::{NullCause, ReallocError};
 
 impl Heap {
     /// Changes the size of the chunk at `p` to `n` bytes, and returns the chunk's address. The chunk stays in place, under its tag, if `n`
-    /// is of its class. Otherwise it moves: `realloc` copies as many bytes as both sizes have to a new slot, and frees the old one. At null,
-    /// 0, it is `malloc`. Fewer than 2^48 chunks must have been freed before (`frees`).
+    /// is of its class. Otherwise it moves: `realloc` copies as many bytes as both sizes have to a new slot, and frees the old one. At
+    /// null, 0, it is `malloc`. Fewer than 2^48 chunks must have been freed before (`frees`).
     ///
     /// Errors, after which nothing has changed: `Refused` if `free` would refuse `p`; otherwise `Null` with `Large` or `NoClass` if `n` has
     /// no class; otherwise `Null` with `Exhausted` if the chunk has to move and the other class has no slot left. So `realloc` accepts
@@ -45,7 +45,8 @@ impl Heap {
         self.move_chunk(chunk, n).map_err(ReallocError::Null)
     }
 
-    // Moves the chunk of a live slot to the slot for a request of n bytes, or says why there is none; the answer is its address then.
+    // Moves the chunk of a live slot to the slot for a request of n bytes, and returns its new address. The error says why there is no such
+    // slot.
     #[tactic(auto, unfolding(heap_theory::specs::Calls::given_out, heap_theory::specs::Calls::with_payload))]
     fn move_chunk(&mut self, chunk: Chunk, n: u32) -> Result<u64, NullCause>
         requires live { IsChunk self.old.state chunk }

@@ -19,8 +19,8 @@ use chunk_header::{Header, State, write};
 use class_table::{Layout, Slot};
 use tag_machine::Machine;
 
-/// Gives a slot, which lies at `place`, out for `n` bytes, at most 16,368, which it must have room for: draws a tag, writes the header and
-/// tags the chunk. Returns the address of its payload under that tag.
+/// Gives out the slot that lies at `place` for `n` bytes, at most 16,368, for which it must have room. Draws a tag, writes the header and
+/// tags the chunk. Returns the address of the payload under that tag.
 pub(crate) fn give_out(
     machine: &mut Machine,
     layout: &Layout,
@@ -58,7 +58,7 @@ pub(crate) fn give_out(
     payload_address(place.start, tag)
 }
 
-/// Gives the chunk of a live slot, which lies at `place`, `n` bytes under the tag that it has. The slot must have room for them.
+/// Resizes the chunk of the live slot that lies at `place` to `n` bytes, under the tag that it has. The slot must have room for them.
 pub(crate) fn resize(machine: &mut Machine, layout: &Layout, slot: u32, place: Slot, n: u32)
     requires room { HasRoom layout.now machine.old.memory slot n }
     requires start { place.start ≡ (slot_of layout.now slot).start }

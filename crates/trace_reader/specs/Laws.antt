@@ -15,11 +15,11 @@ IsWholeTrace events trace = trace ≡ record { events = events; fault = None }
 
 -- ---- one text, one trace
 
--- What is read as a trace without a fault is spelled so,
+-- A text that is read as a trace without a fault spells the trace's events,
 abbrev pub TraceIsSpelled : Type 0
 TraceIsSpelled = (text : List ℕ) (events : List Event) → IsWholeTrace events (trace_of text) → SpellsTrace text events
 
--- and what is spelled is read.
+-- and a text that spells events is read as their trace.
 abbrev pub SpelledTraceIsRead : Type 0
 SpelledTraceIsRead = (text : List ℕ) (events : List Event) → SpellsTrace text events → IsWholeTrace events (trace_of text)
 
@@ -27,7 +27,7 @@ SpelledTraceIsRead = (text : List ℕ) (events : List Event) → SpellsTrace tex
 abbrev pub TextSpellsOneTrace : Type 0
 TextSpellsOneTrace = (text : List ℕ) (a b : List Event) → SpellsTrace text a → SpellsTrace text b → a ≡ b
 
--- The events before a fault are those of the lines before it; they are not too many, and are in their ranges, there too.
+-- A fault is in the line after those of the events.
 abbrev pub FaultIsAfterItsEvents : Type 0
 FaultIsAfterItsEvents =
     (text : List ℕ) (number : ℕ) (fault : TraceFault) → (trace_of text).fault ≡ Some (number, fault) →
@@ -45,7 +45,7 @@ EventsAreInRange = (text : List ℕ) → All IsInRange (trace_of text).events
 abbrev pub TextIsItsCut : Type 0
 TextIsItsCut = (text : List ℕ) → text_of (cut text).whole ++ (cut text).unfinished ≡ text
 
--- A text that is fed in two pieces is fed.
+-- To feed two pieces one after the other is to feed them as one.
 abbrev pub PiecesAreJoined : Type 0
 PiecesAreJoined = (reading : Reading) (a b : List ℕ) → fed (fed reading a) b ≡ fed reading (a ++ b)
 

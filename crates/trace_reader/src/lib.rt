@@ -4,8 +4,8 @@
 mod fault;
 pub mod laws;
 mod line;
+mod one_pass;
 mod reader;
-mod spelled;
 mod status;
 mod words;
 

@@ -6,7 +6,7 @@ ghost use Rattle.line_text.specs.Lines.{words};
 ghost use Rattle.trace_reader.specs.TraceLine.{made, event_named, event_of_line, event_of_words, free_of, load_of, move_of, request_of, store_of, variable_of, len_of};
 
 use crate::fault::TraceFault;
-use crate::spelled::spelled_event;
+use crate::one_pass::spelled_event;
 use crate::words::{are_full_words, byte_in, number_from, offset_in};
 use arrayvec::ArrayVec;
 use heap_theory::Event;
@@ -43,6 +43,8 @@ pub(crate) fn event_in(number: u32, line: &[u8]) -> Result<Event, TraceFault>
     judged_line(number, line)
 }
 
+// The whole of `event_in`, but only with the clause that determines the result. The other two clauses of `event_in` follow from this one,
+// whichever return it was. In one function they would have to be proved at each return.
 #[tactic(auto, unfolding(crate::specs::TraceLine::event_of_line))]
 fn judged_line(number: u32, line: &[u8]) -> Result<Event, TraceFault>
     ensures { result ≡ event_of_line number line.now }
@@ -118,7 +120,7 @@ fn variable_in(word: &[u8]) -> Result<u16, TraceFault>
     Ok(number_from(0, Event::LAST_VARIABLE, word)? as u16)
 }
 
-// the event of a line `free`, from the words after the first; so below
+// the event of a line `free`, from the words after the first; the functions below read these words of their lines too
 fn free_in(words: &[&[u8]]) -> Result<Event, TraceFault>
     ensures { result ≡ free_of (map (λ w. w.now) words.now) }
 {

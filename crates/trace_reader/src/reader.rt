@@ -24,7 +24,7 @@ use std::marker::Model;
 pub struct TraceReader {
     // the events that were not yet taken out
     events: VecDeque<Event>,
-    // the whole lines that were read
+    // how many whole lines were read
     lines: u32,
     // what was read of the unfinished line
     rest: ArrayVec<u8, LONGEST_LINE>,

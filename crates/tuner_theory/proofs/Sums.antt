@@ -2,6 +2,14 @@
 use Rattle.std.proofs.Common.{◌≡◌, ℕ, zero, suc, ◌+◌, ◌*◌, ◌<◌, ◌≤◌, arith, refl}
 use Rattle.tuner_theory.specs.Waste.{sum_below}
 
+pub sum_below-none : (f : ℕ → ℕ) → sum_below f 0 ≡ 0
+unfolding sum_below
+sum_below-none f = refl
+
+pub sum_below-more : (f : ℕ → ℕ) (m : ℕ) → sum_below f (suc m) ≡ sum_below f m + f m
+unfolding sum_below
+sum_below-more f m = refl
+
 pub sum_split : (f g h : ℕ → ℕ) (m : ℕ) → ((n : ℕ) → n < m → f n ≡ g n + h n) → sum_below f m ≡ sum_below g m + sum_below h m
 unfolding sum_below
 sum_split f g h zero each = omega arith

@@ -49,7 +49,7 @@ PlaceIsClass =
     (counts : List ℕ) (step i : ℕ) → IsStep step → AreCounts counts → 0 < i → i ≤ places counts step
     → (SMALLEST_CLASS ≤ need_at counts step i) × (need_at counts step i ≤ LARGEST_CLASS) × (need_at counts step i % step ≡ 0)
 
--- There are fewer places than classes.
+-- There are at most as many places as classes.
 abbrev pub FewPlaces : Type 0
 FewPlaces = (counts : List ℕ) (step : ℕ) → IsStep step → AreCounts counts → places counts step ≤ MOST_NEEDS
 

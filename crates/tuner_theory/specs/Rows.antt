@@ -17,8 +17,8 @@ pub record IsLeastEnd (cost : ℕ → ℕ) (i d j : ℕ) : Type 0 where
   pub least : (m : ℕ) → i < m → m ≤ d → cost j ≤ cost m
   pub first : (m : ℕ) → i < m → m < j → cost j < cost m
 
--- Rows of least costs with their least ends, over d places, where `cost i j` is what one class for the places above i up to j costs:
--- row 1 has one class up to the last place, a later row the best first class and the row before it from there on.
+-- Rows of least costs with their least ends, over d places, where `cost i j` is what one class for the places above i up to j costs: row 1
+-- has one class up to the last place. A later row has the best first class, and after the end of that class the row before.
 pub record AreLeastRows (cost : ℕ → ℕ → ℕ) (d limit : ℕ) (rows ends : ℕ → ℕ → ℕ) : Type 0 where
   pub at_end : (k : ℕ) → rows k d ≡ 0
   pub first_row : (i : ℕ) → 1 ≤ limit → i < d → (rows 1 i ≡ cost i d) × (ends 1 i ≡ d)
@@ -32,8 +32,8 @@ pub record IsFilled (cost : ℕ → ℕ → ℕ) (d limit : ℕ) (rows ends : Li
   pub ends_shape : HasShape ends limit d
   pub least : AreLeastRows cost d limit (number_at rows) (number_at ends)
 
--- The table that the ends give for the places above i, from row k on. The need at the end of i is a class. Go on from that end in the row
--- before, until the last place is an end.
+-- The table that the ends give for the places above i, beginning with row k. The need at the end that row k has at place i is a class. The
+-- table goes on from that end in row k - 1, until an end is the last place.
 abbrev pub table_of_ends : (ℕ → ℕ) → (ℕ → ℕ → ℕ) → ℕ → ℕ → ℕ → List ℕ
 table_of_ends need ends d zero i = []
 table_of_ends need ends d (suc k) i = if nat_lt i d then need (ends (suc k) i) ∷ table_of_ends need ends d k (ends (suc k) i) else []

@@ -18,7 +18,7 @@ pub enum Refusal {
     Shape,
     /// A number of row 1 is more than the cost of one class for all places above.
     LastClass,
-    /// A number is more than the one above it in the row before.
+    /// A number is more than the number at its place in the row before.
     StageDrop,
     /// A number is more than the cost of a class up to a later place plus the number of the row before at that place.
     Edge,

@@ -1,19 +1,19 @@
 //! `check`.
 ghost use Rattle.command_line.specs.Program.{HasWords, check_words};
 
-use crate::commands::help::{described, profile_help};
+use crate::commands::help::{About, about, described, help_text};
 use clap::Command;
 use std::alloc::Global;
 
 /// The command's name.
 pub const NAME: &str = "check";
 
-const ABOUT: &str = "Check whether a sheet proves that its class table wastes least on a profile";
+const ABOUT: About = about!(
+    "Check whether a sheet proves that its class table wastes least on a profile",
+    ", whoever wrote it."
+);
 
-const LONG: &str =
-    "Check whether a sheet proves that its class table wastes least on a profile, whoever wrote it.";
-
-const AFTER: &str = profile_help!(
+const AFTER: &str = help_text!(
     "\
 Standard input is a sheet, and then a profile:
 
@@ -54,12 +54,13 @@ writes `optimal`: a sheet of `tune` proves that its table wastes least. docs/CER
 repository shows how to write a sheet by hand.
 
 Refused input, exit status 2:
-  48 BadSheet          a line of the sheet has none of the forms above, or is missing"
+  48 BadSheet          a line of the sheet has none of the forms above, or is missing",
+    profile_refusals
 );
 
 /// The command's words.
 pub fn words<'a>(alloc: Global) -> Command<'a>
     ensures { HasWords result check_words }
 {
-    described(alloc, NAME, ABOUT, LONG, AFTER)
+    described(alloc, NAME, ABOUT, AFTER)
 }

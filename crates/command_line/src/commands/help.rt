@@ -5,30 +5,64 @@ ghost use Rattle.command_line.specs.Program.{HasWords};
 use clap::Command;
 use std::alloc::Global;
 
-/// The words of a command that has no options yet: its name, and its help. `about` is the line in the list of commands, `long` and `after`
-/// stand before and after the options in the command's own help.
-pub fn described<'a>(
-    alloc: Global,
-    name: &'a str,
-    about: &'a str,
-    long: &'a str,
-    after: &'a str,
-) -> Command<'a>
+/// What a command does.
+#[derive(Clone, Copy)]
+pub struct About {
+    /// The line in the list of commands, without a full stop.
+    pub line: &'static str,
+    /// The sentence that the command's own help begins with.
+    pub sentence: &'static str,
+}
+
+/// The words of a command that has no options yet: its name, and its help. `after` stands after the options in the command's own help.
+pub fn described<'a>(alloc: Global, name: &'a str, about: About, after: &'a str) -> Command<'a>
     ensures { HasWords result (new_app name.now) }
 {
     Command::new(alloc, name)
-        .about(about)
-        .long_about(long)
+        .about(about.line)
+        .long_about(about.sentence)
         .after_help(after)
 }
 
-// The help of a command on a trace. `input` says what the input is, `output` what the output is, with an example, and `refused` heads the
-// refusals, with those that come before the trace's.
-macro_rules! trace_help {
-    ($input:literal, $output:literal, $refused:literal) => {
-        concat!(
-            $input,
-            "
+// What a command does, whose sentence is its line with an end. The end is a full stop, or what `end` says.
+macro_rules! about {
+    ($line:literal) => {
+        about!($line, ".")
+    };
+    ($line:literal, $end:literal) => {
+        About {
+            line: $line,
+            sentence: concat!($line, $end),
+        }
+    };
+}
+
+// A command's text after its options. A part of it is a literal, or a word for what several commands say:
+// - `class_line` and `profile_lines`: the forms of these lines (`check` says them in words of its own)
+// - `trace_lines`: the forms of a trace's lines
+// - `step_refusals`: the refusals of an option `--step`, with their head
+// - `class_line_refusals`: those of a class line
+// - `profile_refusals` and `trace_refusals`: those of a profile and of a trace, and the failures, which end the text
+macro_rules! help_text {
+    (@[$($done:tt)*]) => {
+        concat!($($done),*)
+    };
+    (@[$($done:tt)*], $($rest:tt)*) => {
+        help_text!(@[$($done)*] $($rest)*)
+    };
+    (@[$($done:tt)*] class_line $($rest:tt)*) => {
+        help_text!(@[$($done)*
+            "  classes C1 C2 ..   up to 32 block sizes in granules of 16 bytes, from 2 to 1024, ascending"] $($rest)*)
+    };
+    (@[$($done:tt)*] profile_lines $($rest:tt)*) => {
+        help_text!(@[$($done)*
+            "  SIZE COUNT         a size in bytes, 0 to 16368, and how often it was requested, 1 to 1000000000;
+                     sizes ascend
+  large COUNT        how often more than 16368 bytes were requested, if they were; it is the last
+                     line, and is not in the waste"] $($rest)*)
+    };
+    (@[$($done:tt)*] trace_lines $($rest:tt)*) => {
+        help_text!(@[$($done)* "
 
   malloc V N            calloc V N            realloc V N           free V
   load V OFF LEN        store V OFF LEN HH    addg V W U6 U4        subg V W U6 U4
@@ -41,41 +75,47 @@ macro_rules! trace_help {
   U6, U4  granules, 0 to 63, and tags, 0 to 15, by which a pointer is moved
 
 A line has at most 80 bytes, and there are at most 1000000 events. docs/HEAP.md in the repository
-has the meaning of each event. ",
-            $output,
-            "
-
-",
-            $refused,
-            "
+has the meaning of each event. "] $($rest)*)
+    };
+    (@[$($done:tt)*] step_refusals $($rest:tt)*) => {
+        help_text!(@[$($done)*
+            "Refused, exit status 2:
+  83 BadOption         the step is 3, 5, 6 or 7; nothing is read then"] $($rest)*)
+    };
+    (@[$($done:tt)*] class_line_refusals $($rest:tt)*) => {
+        help_text!(@[$($done)* "
+  20 TooMany           line 1 has more than 32 classes
+  21 OutOfRange        a class of line 1 is not from 2 to 1024
+  22 NotAscending      a class of line 1 is not above the one before it
+  23 BadLine           line 1 is no class line"] $($rest)*)
+    };
+    (@[$($done:tt)*] profile_refusals $($rest:tt)*) => {
+        help_text!(@[$($done)* "
+  30 BadLine           a line of the profile is none of its two forms, or its size is above 16368
+  31 NotAscending      a size is not above the one before it
+  32 CountOutOfRange   a count is not from 1 to 1000000000"] failures $($rest)*)
+    };
+    (@[$($done:tt)*] trace_refusals $($rest:tt)*) => {
+        help_text!(@[$($done)* "
   70 BadWord           a line is no event, or has a word too many or too few
   71 BadNumber         a word is no number of its kind, or not in its one spelling
   72 OutOfRange        a number is not in its range
   73 LineTooLong       a line has more than 80 bytes
-  74 TooManyEvents     there is a line after 1000000 events
+  74 TooManyEvents     there is a line after 1000000 events"] failures $($rest)*)
+    };
+    (@[$($done:tt)*] failures $($rest:tt)*) => {
+        help_text!(@[$($done)* "
   80 InputTooLong      there are more than 67108864 bytes
 Failures, exit status 3:
-  1 OutOfMemory, 81 ReadFault, 82 WriteFault"
-        )
+  1 OutOfMemory, 81 ReadFault, 82 WriteFault"] $($rest)*)
+    };
+    (@[$($done:tt)*] $part:tt $($rest:tt)*) => {
+        help_text!(@[$($done)* $part] $($rest)*)
+    };
+    ($($part:tt)+) => {
+        help_text!(@[] $($part)+)
     };
 }
 
-// The help of a command on a profile. `input` says what the input and the output are, with an example, and ends with the refusals that
-// come before the profile's.
-macro_rules! profile_help {
-    ($input:literal) => {
-        concat!(
-            $input,
-            "
-  30 BadLine           a line of the profile is none of its two forms, or its size is above 16368
-  31 NotAscending      a size is not above the one before it
-  32 CountOutOfRange   a count is not from 1 to 1000000000
-  80 InputTooLong      there are more than 67108864 bytes
-Failures, exit status 3:
-  1 OutOfMemory, 81 ReadFault, 82 WriteFault"
-        )
-    };
-}
-
-pub(crate) use profile_help;
-pub(crate) use trace_help;
+pub(crate) use about;
+pub(crate) use help_text;

@@ -1,19 +1,18 @@
 //! `profile`.
 ghost use Rattle.command_line.specs.Program.{HasWords, profile_words};
 
-use crate::commands::help::{described, trace_help};
+use crate::commands::help::{About, about, described, help_text};
 use clap::Command;
 use std::alloc::Global;
 
 /// The command's name.
 pub const NAME: &str = "profile";
 
-const ABOUT: &str = "Count how often a trace requests each size";
+const ABOUT: About = about!("Count how often a trace requests each size");
 
-const LONG: &str = "Count how often a trace requests each size.";
-
-const AFTER: &str = trace_help!(
+const AFTER: &str = help_text!(
     "Standard input is a trace, a line for each event:",
+    trace_lines,
     "The output is a profile, the input of `tune`:
 
   SIZE COUNT         a size of malloc, calloc and realloc, 0 to 16368, and how often it was
@@ -22,13 +21,15 @@ const AFTER: &str = trace_help!(
 
 Example:
   printf 'malloc 1 16\\nmalloc 2 40\\nfree 1\\ncalloc 1 16\\n' | mte_tool profile
-writes the lines `16 2` and `40 1`.",
-    "Refused input, exit status 2:"
+writes the lines `16 2` and `40 1`.
+
+Refused input, exit status 2:",
+    trace_refusals
 );
 
 /// The command's words.
 pub fn words<'a>(alloc: Global) -> Command<'a>
     ensures { HasWords result profile_words }
 {
-    described(alloc, NAME, ABOUT, LONG, AFTER)
+    described(alloc, NAME, ABOUT, AFTER)
 }

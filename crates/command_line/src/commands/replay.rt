@@ -5,7 +5,7 @@ ghost use Rattle.command_line.specs.Calls.{Names};
 ghost use Rattle.command_line.specs.Program.{HasWords, replay_words};
 ghost use Rattle.command_line.specs.declared.call.Call.TheVariants.{Replay as ReplayCall};
 
-use crate::commands::help::{described, trace_help};
+use crate::commands::help::{About, about, described, help_text};
 use crate::options::{config_of, granules, quarantine, seed};
 use crate::refusal::OptionFault;
 use clap::{ArgMatches, Command};
@@ -15,14 +15,14 @@ use tagged_heap::Config;
 /// The command's name.
 pub const NAME: &str = "replay";
 
-const ABOUT: &str = "Run a trace on the heap with memory tags, with a given class table";
+const ABOUT: About = about!("Run a trace on the heap with memory tags, with a given class table");
 
-const LONG: &str = "Run a trace on the heap with memory tags, with a given class table.";
-
-const AFTER: &str = trace_help!(
+const AFTER: &str = help_text!(
     "Standard input is a class line, and then a trace, a line for each event:
 
-  classes C1 C2 ..   up to 32 block sizes in granules of 16 bytes, from 2 to 1024, ascending",
+",
+    class_line,
+    trace_lines,
     "The output has a line for each event E, counted from 1, that
 loaded, faulted or was refused:
 
@@ -45,19 +45,18 @@ payloads beyond what they asked for.
 Example:
   printf 'classes 2\\nmalloc 1 5\\nfree 1\\nload 1 0 1\\n' | mte_tool replay --granules 64
 writes a line `3 fault tag granule 1 memory M pointer P in dead`, since the chunk was freed, and
-then the totals.",
-    "Refused input, exit status 2; line 1 is the class line, the trace begins in line 2:
-  20 TooMany           line 1 has more than 32 classes
-  21 OutOfRange        a class of line 1 is not from 2 to 1024
-  22 NotAscending      a class of line 1 is not above the one before it
-  23 BadLine           line 1 is no class line"
+then the totals.
+
+Refused input, exit status 2; line 1 is the class line, the trace begins in line 2:",
+    class_line_refusals,
+    trace_refusals
 );
 
 /// The command's words.
 pub fn words<'a>(alloc: Global) -> Result<Command<'a>, AllocError>
     ensures { IfOk result (λ command. HasWords command replay_words) }
 {
-    described(alloc, NAME, ABOUT, LONG, AFTER)
+    described(alloc, NAME, ABOUT, AFTER)
         .arg(granules(alloc))?
         .arg(seed(alloc))?
         .arg(quarantine(alloc))
@@ -71,7 +70,7 @@ pub struct Replay {
 }
 
 impl Replay {
-    /// The options that clap found.
+    /// The options that clap found. `BadOption` if a number is outside its range, but clap refuses it before.
     pub fn of_options(options: &ArgMatches<'_>) -> Result<Replay, OptionFault>
         ensures { MatchResult result
             (λ o. Names (codes "replay") (rows_of (found_of options.now)) (ReplayCall o))

@@ -5,7 +5,7 @@ ghost use Rattle.command_line.specs.Calls.{Names};
 ghost use Rattle.command_line.specs.Program.{HasWords, run_words};
 ghost use Rattle.command_line.specs.declared.call.Call.TheVariants.{Run as RunCall};
 
-use crate::commands::help::{described, trace_help};
+use crate::commands::help::{About, described, help_text};
 use crate::options::{config_of, granules, limit, limit_of, quarantine, seed, step, step_of};
 use crate::refusal::OptionFault;
 use clap::{ArgMatches, Command};
@@ -15,14 +15,16 @@ use tagged_heap::Config;
 /// The command's name.
 pub const NAME: &str = "run";
 
-const ABOUT: &str = "Find the best class table for a trace, and run the trace with it";
-
-const LONG: &str = "\
+const ABOUT: About = About {
+    line: "Find the best class table for a trace, and run the trace with it",
+    sentence: "\
 Find the class table that wastes least on the sizes that a trace requests, and run the trace on the
-heap with memory tags, with that table.";
+heap with memory tags, with that table.",
+};
 
-const AFTER: &str = trace_help!(
+const AFTER: &str = help_text!(
     "Standard input is a trace, a line for each event:",
+    trace_lines,
     "The output is the sheet that `tune` writes for the trace's profile:
 
   classes C1 C2 ..   the table
@@ -47,16 +49,18 @@ and nine totals, `events` to `loss`. `mte_tool replay --help` explains these lin
 Example:
   printf 'malloc 1 16\\nfree 1\\nload 1 0 1\\n' | mte_tool run --limit 1 --granules 64
 writes the lines `classes 2`, `limit 1`, `waste 0` and `row 0`, then
-`3 fault tag granule 1 memory 3 pointer 1 in dead`, since the chunk was freed, and the totals.",
-    "Refused, exit status 2:
-  83 BadOption         the step is 3, 5, 6 or 7; nothing is read then"
+`3 fault tag granule 1 memory 3 pointer 1 in dead`, since the chunk was freed, and the totals.
+
+",
+    step_refusals,
+    trace_refusals
 );
 
 /// The command's words.
 pub fn words<'a>(alloc: Global) -> Result<Command<'a>, AllocError>
     ensures { IfOk result (λ command. HasWords command run_words) }
 {
-    described(alloc, NAME, ABOUT, LONG, AFTER)
+    described(alloc, NAME, ABOUT, AFTER)
         .arg(limit(alloc))?
         .arg(step(alloc))?
         .arg(granules(alloc))?
@@ -76,7 +80,8 @@ pub struct Run {
 }
 
 impl Run {
-    /// The options that clap found. `BadOption` if the step is not 1, 2, 4 or 8, or another number is outside its range.
+    /// The options that clap found. `BadOption` if the step is not 1, 2, 4 or 8. A number outside its range is `BadOption` too, but clap
+    /// refuses it before.
     pub fn of_options(options: &ArgMatches<'_>) -> Result<Run, OptionFault>
         ensures { MatchResult result
             (λ o. Names (codes "run") (rows_of (found_of options.now)) (RunCall o))

@@ -1,12 +1,11 @@
 //! `tune`.
-ghost use Rattle.std.specs.Prelude.{◌≡◌, ◌≤◌, IfOk, MatchResult, codes};
+ghost use Rattle.std.specs.Prelude.{IfOk, MatchResult, codes};
 ghost use Rattle.clap.specs.Words.{found_of, rows_of};
-ghost use Rattle.class_table.specs.Steps.{IsStep};
 ghost use Rattle.command_line.specs.Calls.{Names};
 ghost use Rattle.command_line.specs.Program.{HasWords, tune_words};
 ghost use Rattle.command_line.specs.declared.call.Call.TheVariants.{Tune as TuneCall};
 
-use crate::commands::help::{described, profile_help};
+use crate::commands::help::{About, about, described, help_text};
 use crate::options::{limit, limit_of, step, step_of};
 use crate::refusal::OptionFault;
 use clap::{ArgMatches, Command};
@@ -15,18 +14,17 @@ use std::alloc::{AllocError, Global};
 /// The command's name.
 pub const NAME: &str = "tune";
 
-const ABOUT: &str = "Find the class table that wastes least on a profile, with a certificate";
+const ABOUT: About = about!(
+    "Find the class table that wastes least on a profile, with a certificate"
+);
 
-const LONG: &str = "Find the class table that wastes least on a profile, with a certificate.";
-
-const AFTER: &str = profile_help!(
+const AFTER: &str = help_text!(
     "\
 Standard input is a profile:
 
-  SIZE COUNT         a size in bytes, 0 to 16368, and how often it was requested, 1 to 1000000000;
-                     sizes ascend
-  large COUNT        how often more than 16368 bytes were requested, if they were; it is the last
-                     line, and is not in the waste
+",
+    profile_lines,
+    "
 
 The output is a sheet:
 
@@ -48,15 +46,16 @@ Example:
 writes the lines `classes 2 4`, `limit 2`, `waste 8`, `row 104 8` and `row 8 8`: one class would
 waste 104 bytes, two waste 8.
 
-Refused, exit status 2:
-  83 BadOption         the step is 3, 5, 6 or 7; nothing is read then"
+",
+    step_refusals,
+    profile_refusals
 );
 
 /// The command's words.
 pub fn words<'a>(alloc: Global) -> Result<Command<'a>, AllocError>
     ensures { IfOk result (λ command. HasWords command tune_words) }
 {
-    described(alloc, NAME, ABOUT, LONG, AFTER)
+    described(alloc, NAME, ABOUT, AFTER)
         .arg(limit(alloc))?
         .arg(step(alloc))
 }
@@ -71,7 +70,8 @@ pub struct Tune {
 }
 
 impl Tune {
-    /// The options that clap found. `BadOption` if the step is not 1, 2, 4 or 8, or another number is outside its range.
+    /// The options that clap found. `BadOption` if the step is not 1, 2, 4 or 8. A number outside its range is `BadOption` too, but clap
+    /// refuses it before.
     pub fn of_options(options: &ArgMatches<'_>) -> Result<Tune, OptionFault>
         ensures { MatchResult result
             (λ o. Names (codes "tune") (rows_of (found_of options.now)) (TuneCall o))

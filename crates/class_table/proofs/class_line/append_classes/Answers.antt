@@ -1,6 +1,6 @@
 use Rattle.std.proofs.Common.{◌≡◌, [], ◌∷◌, ◌++◌, length, get_or, sym, ap, ◌∙◌, arith, append_assoc, length-append}
 use Rattle.std.specs.Fmt.{decimal}
-use Rattle.class_table.proofs.Written.{class_line-more, short}
+use Rattle.class_table.proofs.WrittenLines.{class_line-more, short}
 use Rattle.class_table.proofs.class_line.append_classes.Goals as goal
 
 pub loop-class-preserved : goal.loop-class-preserved

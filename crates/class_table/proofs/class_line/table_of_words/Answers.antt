@@ -14,10 +14,10 @@ loop-word-preserved c =
     let clipped = number.2 in
     elim (cases_lt (length c.loop-word.numbers.items) 32) [
       | inl fits ↦
-          let kept = c.is_left_out-too_many.ensures.room fits in
+          let kept = c.append_if_room-too_many.ensures.room fits in
           rw (kept.0, kept.1, clipped) (room _ _ _ _ _ _ number.0 c.loop-word.invariant c.in-Some.ensures.steps number.1 fits)
       | inr full ↦
-          let kept = c.is_left_out-too_many.ensures.full full in
+          let kept = c.append_if_room-too_many.ensures.full full in
           rw (kept.0, kept.1) (no_room _ _ _ _ _ _ number.0 c.loop-word.invariant c.in-Some.ensures.steps number.1 full)
     ]
 
@@ -27,5 +27,4 @@ returns-then-too_many-clause-exact c = too_many_read _ _ _ c.in-None.ensures.ste
 pub returns-clause-exact : goal.returns-clause-exact
 returns-clause-exact c =
     let read = few_read _ _ _ c.in-None.ensures.steps.0 (rw c.if-too_many.false at c.loop-word.invariant) in
-    let numbers = rw c.deref.ensures.0 at c.from_classes.ensures.exact in
-    subst (Gives c.from_classes.result) (sym read) numbers
+    subst (Gives c.from_few.result) (sym read) c.from_few.ensures.exact

@@ -1,7 +1,7 @@
 use Rattle.std.proofs.Common.{◌≡◌, [], drop, refl, sym, ◌∙◌}
 use Rattle.std.proofs.lemmas.List.{drop_all}
 use Rattle.class_table.specs.Faults.{fault_from}
-use Rattle.class_table.proofs.Walk.{out_of_range_at, not_ascending_at, no_fault_at}
+use Rattle.class_table.proofs.FaultWalk.{out_of_range_at, not_ascending_at, no_fault_at}
 use Rattle.class_table.proofs.table.first_fault.Goals as goal
 
 pub returns-then-is_out_of_range : goal.returns-then-is_out_of_range

@@ -1,6 +1,7 @@
 use Rattle.std.proofs.Common.{rules, ◌≡◌, ℕ, zero, suc, ◌+◌, ◌-◌, ◌*◌, ◌^◌, ◌/◌, ◌<◌, ◌≤◌, slice_index, slice_set, add-one, arith, refl, sym, ◌∙◌, inl, inr}
 use Rattle.std.proofs.lemmas.List.{get_or-set_same}
-use Rattle.class_tuner.specs.Filling.{AreEndsBetween, tried_within}
+use Rattle.class_tuner.specs.CallCounts.{tried_within}
+use Rattle.class_tuner.specs.Filling.{AreEndsBetween}
 use Rattle.class_tuner.proofs.Halves.{between-left, between-right, count-halves, half-digits}
 use Rattle.class_tuner.proofs.Tried.{tried-none, tried-part}
 use Rattle.class_tuner.proofs.halving.+fill_part.Goals as goal

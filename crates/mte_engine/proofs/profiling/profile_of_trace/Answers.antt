@@ -1,4 +1,4 @@
-use Rattle.mte_engine.specs.TextLeft.{bytes_left}
+use Rattle.mte_engine.specs.TextLeft.{text_left}
 use Rattle.std.proofs.Common.{◌≡◌, ap, ◌∙◌, List, ℕ, ◌++◌}
 use Rattle.profile_count.specs.ProfileText.{profile_text}
 use Rattle.std.proofs.lemmas.Result.{err_from_is_err_and}
@@ -14,8 +14,8 @@ returns-in_err-end c = λ bytes keeps.
 pub returns : goal.returns
 returns c = λ bytes keeps.
     let counted = rw c.in_ok-end.ensures.events at c.count_out.ensures.counted in
-    let left : bytes_left c.new.result ≡ c.write.new.text.items = rw c.new.ensures.whole c.new.ensures.text in
+    let left : text_left c.new.result ≡ c.write.new.text.items = rw c.new.ensures.whole c.new.ensures.text in
     profile_written bytes c.args.input.reader c.args.input.profile c.count_out.new.profile
-    (bytes_left c.new.result) keeps c.in_ok-end.ensures.ended counted
+    (text_left c.new.result) keeps c.in_ok-end.ensures.ended counted
     (left ∙ c.in_ok-write.ensures.written
     ∙ ap (λ (before : List ℕ). before ++ profile_text c.count_out.new.profile) c.new-text.ensures.items)

@@ -1,7 +1,7 @@
 use Rattle.std.proofs.lemmas.Result.{err_from_is_err_and}
 use Rattle.std.proofs.Common.{ap, ◌∙◌, List, ℕ, ◌++◌}
 use Rattle.mte_engine.specs.Replay.{report_on}
-use Rattle.mte_engine.specs.ReportBuffer.{text_left}
+use Rattle.mte_engine.specs.ReportLeft.{report_left}
 use Rattle.mte_engine.proofs.LineAndTrace.{replay_refused, replay_written, table_refused}
 use Rattle.mte_engine.proofs.replaying.answer_to_parts.Goals as goal
 
@@ -21,6 +21,6 @@ returns-in_err-end c = λ bytes trace is.
 pub returns : goal.returns
 returns c = λ bytes trace is.
     replay_written c.args.config bytes c.args.line.now trace c.args.reader is c.in_ok-table.table c.in_ok-table.ensures
-    c.end.new.reader (text_left c.in_ok-report.report) c.in_ok-end.ensures.ended c.in_ok-end.ensures.events
+    c.end.new.reader (report_left c.in_ok-report.report) c.in_ok-end.ensures.ended c.in_ok-end.ensures.events
     (c.in_ok-report.ensures ∙ ap (λ (t : List ℕ). t ++ report_on c.args.config c.in_ok-table.table c.end.new.reader.events)
     c.new.ensures.items)

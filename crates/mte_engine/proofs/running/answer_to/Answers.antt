@@ -4,7 +4,7 @@ use Rattle.potential_check.specs.Sheets.{sheet_of}
 use Rattle.potential_check.specs.SheetText.{sheet_text}
 use Rattle.potential_check.specs.declared.sheet.Sheet.{Sheet}
 use Rattle.mte_engine.specs.Replay.{report_on}
-use Rattle.mte_engine.specs.ReportBuffer.{text_left}
+use Rattle.mte_engine.specs.ReportLeft.{report_left}
 use Rattle.mte_engine.specs.Traces.{profile_of_events}
 use Rattle.mte_engine.proofs.TracedRun.{run_refused, run_written}
 use Rattle.mte_engine.proofs.running.answer_to.Goals as goal
@@ -28,5 +28,5 @@ returns c = λ bytes keeps.
     ∙ ap (λ (t : List ℕ). t ++ report_on c.args.config c.sheet-sheet.result.now.table events) text
     ∙ ap (λ (s : Sheet). sheet_text (sheet_of sheet) ++ report_on c.args.config s.table events) c.sheet-sheet.ensures in
     run_written c.args.limit c.args.step c.args.config c.args.reader bytes keeps c.end.new.reader profile
-    (sheet_of sheet) (text_left c.in_ok-report.report) c.in_ok-end.ensures.ended c.in_ok-end.ensures.events is_profile
+    (sheet_of sheet) (report_left c.in_ok-report.report) c.in_ok-end.ensures.ended c.in_ok-end.ensures.events is_profile
     c.in_ok-tuned.ensures.tuned report

@@ -3,7 +3,8 @@ use Rattle.std.proofs.lemmas.Grind.{common_steps}
 use Rattle.std.proofs.lemmas.List.{take-append-drop}
 use Rattle.std.proofs.lemmas.List.Concat.{flat_map-append}
 use Rattle.potential_check.specs.Spaced.{spaced}
-use Rattle.potential_check.proofs.Appended.{goes_on-through, named_line-spaced}
+use Rattle.profile_count.proofs.LawLemmas.{goes_on-through}
+use Rattle.potential_check.proofs.Appended.{named_line-spaced}
 use Rattle.potential_check.proofs.writing.append_line.Goals as goal
 
 spaced-parts : (next later : List ℕ) → spaced (next ++ later) ≡ spaced next ++ spaced later

@@ -1,5 +1,5 @@
 use Rattle.profile_count.specs.Appended.{GoesOn}
-use Rattle.potential_check.proofs.Appended.{goes_on-through}
+use Rattle.profile_count.proofs.LawLemmas.{goes_on-through}
 use Rattle.potential_check.proofs.writing.append_sheet.Goals as goal
 use Rattle.potential_check.proofs.writing.append_sheet.Goals.{then-sheet-ne1+in_ok-append_line-2, else-sheet-ne1}
 

@@ -2,7 +2,7 @@ use Rattle.std.proofs.Common.{◌≡◌, ◌+◌, ◌<◌, ◌≤◌, ◌++◌, 
 use Rattle.std.specs.Fmt.{decimal}
 use Rattle.line_text.specs.Lines.{ended}
 use Rattle.profile_count.specs.ProfileText.{size_line}
-use Rattle.profile_count.proofs.Appended.{goes_on-through}
+use Rattle.profile_count.proofs.LawLemmas.{goes_on-through}
 use Rattle.profile_count.proofs.SizeLines.{text_from, text_from-counted, text_from-end, text_from-zero}
 use Rattle.profile_count.proofs.writing.append_sizes.Goals as goal
 use Rattle.profile_count.proofs.writing.append_sizes.Goals.{then-count-gt0+in_ok-append_line, else-count-gt0}

@@ -2,7 +2,7 @@ use Rattle.std.proofs.Common.{◌≡◌, ap, ◌∙◌, length}
 use Rattle.std.specs.List.{position_or_len}
 use Rattle.class_table.specs.Layout.{Partition}
 use Rattle.class_table.specs.Sizes.{serves}
-use Rattle.class_table.proofs.Least.{ascending_classes, counted_place, number_counted, none_counted}
+use Rattle.class_table.proofs.LeastClass.{ascending_classes, counted_place, number_counted, none_counted}
 use Rattle.class_table.proofs.layout.Layout.find.Goals as goal
 use Rattle.class_table.proofs.layout.Layout.find.Goals.{After-len}
 

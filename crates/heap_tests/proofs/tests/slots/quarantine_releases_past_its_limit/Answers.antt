@@ -1,6 +1,6 @@
 use Rattle.std.proofs.Common.{◌≡◌, [], ◌∷◌, ◌++◌, subst, ⊎_elim, arith, rules}
 use Rattle.std.specs.Prelude.{Contains}
-use Rattle.heap_theory.proofs.Found.{Contains-cases, Contains-last_cases}
+use Rattle.heap_theory.proofs.ListSearch.{Contains-cases, Contains-last_cases}
 use Rattle.quarantine_core.proofs.LawLemmas.{one_queue_is_shown}
 use Rattle.heap_tests.proofs.Queues.{was_in}
 use Rattle.heap_tests.proofs.tests.slots.quarantine_releases_past_its_limit.Goals as goal

@@ -1,8 +1,8 @@
 use Rattle.std.proofs.Common.{◌≡◌, ℕ, sym, ap, ◌∙◌, Err, None, Result}
 use Rattle.std.proofs.lemmas.Result.{err_from_is_err_and}
 use Rattle.std.specs.Option.{ok_or}
-use Rattle.heap_theory.specs.declared.fault.NullCause.{NullCause}
-use Rattle.heap_theory.specs.declared.fault.NullCause.TheVariants.{Exhausted}
+use Rattle.heap_theory.specs.declared.refusal.NullCause.{NullCause}
+use Rattle.heap_theory.specs.declared.refusal.NullCause.TheVariants.{Exhausted}
 use Rattle.heap_theory.specs.Calls.{given_out}
 use Rattle.tagged_heap.specs.Abstraction.{state_of, parts_of}
 use Rattle.tagged_heap.specs.HeapView.{shown_heap}

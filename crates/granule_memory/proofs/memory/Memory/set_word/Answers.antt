@@ -1,0 +1,29 @@
+use Rattle.std.proofs.Common.{◌+◌, ◌*◌, ◌≤◌, ◌∙◌, ap, arith, length}
+use Rattle.std.specs.Int.{w64, to_le_bytes}
+use Rattle.granule_memory.proofs.Granules.{granules_counted, granules_fit, word_is}
+use Rattle.granule_memory.proofs.Writes.{bytes_below, written_fits, written_keeps}
+use Rattle.granule_memory.proofs.memory.Memory.set_word.Goals as goal
+use Rattle.granule_memory.proofs.memory.Memory.set_word.Goals.{After-set_word}
+
+-- the word lies in the memory
+inside : (c : After-set_word) → c.place_of.result + 8 * c.args.i + 8 ≤ 16 * length c.args.self.now
+inside c = omega (arith, c.place_of.ensures, c.requires.granule, c.requires.place)
+
+pub invariant_of-self : goal.invariant_of-self
+invariant_of-self c =
+    written_fits _ _ _ c.args.self.now c.self.invariant c.self.view_is (c.place_of.result + 8 * c.args.i) (to_le_bytes w64 c.args.w)
+    c.set_word.ensures.bytes (inside c) (bytes_below 0 8 c.args.w)
+
+pub returns-clause-word : goal.returns-clause-word
+returns-clause-word c =
+    let counted = granules_counted c.self.inside.region c.self.inside.granules in
+    rw (← c.place_of.ensures) (word_is c.set_word.new.self c.self.inside.granules (c.place_of.result + 8 * c.args.i)
+    (invariant_of-self c).long (omega (arith, inside c, counted, ap length c.self.view_is)) ∙ c.set_word.ensures.word)
+
+pub returns-clause-others : goal.returns-clause-others
+returns-clause-others c =
+    rw (← c.place_of.ensures) (written_keeps _ _ _ c.args.self.now c.self.invariant c.self.view_is
+    (c.place_of.result + 8 * c.args.i) (to_le_bytes w64 c.args.w) c.set_word.ensures.bytes (inside c))
+
+pub returns-clause-memory : goal.returns-clause-memory
+returns-clause-memory c = granules_fit _ _ (invariant_of-self c)

@@ -1,8 +1,0 @@
--- What is still to be written of a report: its buffer, and then what was not replayed yet.
-use Rattle.std.specs.Prelude.{ℕ, List, ◌++◌, drop}
-use Rattle.mte_engine.specs.ReportLeft.{report_unless}
-use Rattle.mte_engine.specs.declared.report.Report.{Report}
-
--- the bytes that are ready in the buffer, and what was not replayed yet
-abbrev pub text_left : Report → List ℕ
-text_left r = drop r.written r.buffer.items ++ report_unless r.is_whole r.replay r.reader.events
