@@ -15,9 +15,13 @@ largest_counted = LARGEST_COUNTED
 abbrev pub counted_of : List ℕ → List ℕ
 counted_of sizes = filter (λ n. nat_le n largest_counted) sizes
 
--- The granules that a request of n bytes needs: one for the header, and at least one for the bytes.
+-- The granules that a request of n bytes has as its chunk: at least one.
+abbrev pub chunk_granules : ℕ → ℕ
+chunk_granules n = max 1 ((n + (granule_bytes - 1)) / granule_bytes)
+
+-- The granules that it needs: one for the header, and its chunk.
 abbrev pub need_of : ℕ → ℕ
-need_of n = 1 + max 1 ((n + (granule_bytes - 1)) / granule_bytes)
+need_of n = 1 + chunk_granules n
 
 -- Whether a block of a class holds n bytes beside its header.
 abbrev pub serves : ℕ → ℕ → Bool

@@ -15,7 +15,8 @@ use Rattle.heap_theory.specs.Choice.{Chunk, IsReusable, IsGiven, IsLiveChunk, is
 use Rattle.heap_theory.specs.Generations.{slot_if_moved}
 use Rattle.heap_theory.specs.Run.{store_with, store_step}
 use Rattle.heap_theory.specs.Sound.{IsSoundHeap}
-use Rattle.heap_theory.specs.State.{State, Heap, state_at, last_tag, is_fresh, chunk_granules}
+use Rattle.class_table.specs.Sizes.{chunk_granules}
+use Rattle.heap_theory.specs.State.{State, Heap, state_at, last_tag, is_fresh}
 use Rattle.heap_theory.specs.State.State.{Fresh, Live, Dead}
 use Rattle.heap_theory.proofs.Choices.{slot_for_request-cases, chunk_at-is, room_in_place}
 use Rattle.heap_theory.proofs.HeapKept.{in_states, IsSoundHeap-given_out, IsSoundHeap-resized, IsSoundHeap-freed, IsSoundHeap-written, IsSoundHeap-with_payload}

@@ -8,7 +8,7 @@ use Rattle.std.proofs.lemmas.List.Elements.{All-filter, filter_passes}
 use Rattle.std.proofs.lemmas.List.Quantifiers.{position-Some}
 use Rattle.machine_theory.specs.Address.{logical_tag, place_of}
 use Rattle.class_table.specs.Layout.{no_slot, slots_of, slot_count}
-use Rattle.class_table.specs.Sizes.{largest_counted, serves}
+use Rattle.class_table.specs.Sizes.{largest_counted, serves, chunk_granules}
 use Rattle.class_table.specs.Tables.{class_for}
 use Rattle.heap_theory.specs.declared.refusal.FreeError.{FreeError}
 use Rattle.heap_theory.specs.declared.refusal.FreeError.TheVariants.{WrongTag}
@@ -17,7 +17,7 @@ use Rattle.heap_theory.specs.declared.refusal.NullCause.TheVariants.{Large, NoCl
 use Rattle.heap_theory.specs.Calls.{is_class_of, stays_in_class}
 use Rattle.heap_theory.specs.Choice.{Chunk, IsReusable, IsGiven, IsLiveChunk, is_released, mark_of, slots_with, freed_last, lowest_fresh, slot_for, class_for_request, slot_in_class, slot_for_request, slot_of_pointer, chunk_in, chunk_in_slot, chunk_at}
 use Rattle.heap_theory.specs.Sound.{IsSoundHeap}
-use Rattle.heap_theory.specs.State.{State, Heap, slot_in, state_at, is_fresh, chunk_granules, payload_place}
+use Rattle.heap_theory.specs.State.{State, Heap, slot_in, state_at, is_fresh, payload_place}
 use Rattle.heap_theory.specs.State.State.{Fresh, Live, Dead}
 use Rattle.heap_theory.proofs.ListSearch.{All-find, find_passes, first_in_filter, All-range}
 

@@ -9,7 +9,8 @@ use Rattle.class_table.specs.Layout.{Slot, end_of, slot_count, Covers, block_byt
 use Rattle.heap_theory.proofs.TheoryLemmas as laws
 use Rattle.heap_theory.specs.Calls.{next_tag, chunk_tagged, given_out, freed, resized, with_payload}
 use Rattle.heap_theory.specs.Sound.{IsTagOf, IsChunkTag, IsTaggedSlot, IfDead, IsSoundHeap}
-use Rattle.heap_theory.specs.State.{State, Heap, slot_in, state_at, last_tag, chunk_granules, chunk_of, payload_start}
+use Rattle.class_table.specs.Sizes.{chunk_granules}
+use Rattle.heap_theory.specs.State.{State, Heap, slot_in, state_at, last_tag, chunk_of, payload_start}
 use Rattle.heap_theory.specs.State.State.{Fresh, Live, Dead}
 use Rattle.heap_theory.proofs.Tags.{IsTagOf-next_tag, next_tag-differs}
 

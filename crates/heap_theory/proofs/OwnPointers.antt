@@ -18,7 +18,8 @@ use Rattle.heap_theory.specs.OwnPointers.{IsOwnPointer, IsNullOrOwn, FreeAccepts
 use Rattle.heap_theory.specs.Run.{variable, store_with, store_step}
 use Rattle.heap_theory.specs.Sound.{IsSoundHeap}
 use Rattle.heap_theory.specs.SoundRun.{IsAddressOf, IsSoundRun, ForGeneration}
-use Rattle.heap_theory.specs.State.{State, Heap, slot_in, state_at, last_tag, chunk_granules, payload_place, pointer_to}
+use Rattle.class_table.specs.Sizes.{chunk_granules}
+use Rattle.heap_theory.specs.State.{State, Heap, slot_in, state_at, last_tag, payload_place, pointer_to}
 use Rattle.heap_theory.specs.State.State.{Fresh, Live, Dead}
 use Rattle.heap_theory.proofs.CallsKept.{KeepsGiven, KeepsGiven-refl, KeepsGiven-with_payload, KeepsGiven-resized, KeepsGiven-moved, HeapChange, IsKept-malloc, IsKept-calloc, IsKept-free, IsKept-realloc, IsKept-store, state_at-with_payload, state_at-given_out, state_at-given_out_other, live_moved, layout-given_out, not_reusable}
 use Rattle.heap_theory.proofs.Choices.{slot_for_request-cases, chunk_at-is}

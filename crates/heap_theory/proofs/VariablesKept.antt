@@ -15,7 +15,8 @@ use Rattle.heap_theory.specs.Generations.{Run, Generation, times_of, generation_
 use Rattle.heap_theory.specs.Run.{variable}
 use Rattle.heap_theory.specs.Sound.{IsTagOf}
 use Rattle.heap_theory.specs.SoundRun.{IsAddressOf, IsSoundVariable, IsSoundRun}
-use Rattle.heap_theory.specs.State.{Heap, slot_in, state_at, last_tag, is_fresh, chunk_granules, payload_place, pointer_to}
+use Rattle.class_table.specs.Sizes.{chunk_granules}
+use Rattle.heap_theory.specs.State.{Heap, slot_in, state_at, last_tag, is_fresh, payload_place, pointer_to}
 use Rattle.heap_theory.specs.State.State.{Live}
 use Rattle.heap_theory.proofs.CallsKept.{KeepsGiven, KeepsGiven-refl, KeepsGiven-with_payload, KeepsGiven-resized, KeepsGiven-moved, HeapChange, state_at-given_out, state_at-given_out_other, layout-given_out}
 use Rattle.heap_theory.proofs.Choices.{slot_for_request-cases, chunk_at-is}

@@ -3,14 +3,14 @@ use Rattle.std.specs.Prelude.{◌≡◌, ◌⊎◌, ℕ, ◌-◌, ◌^◌, ◌<�
 use Rattle.std.specs.Option.{ok_or, option_or}
 use Rattle.std.specs.List.{range_with_len, list_all}
 use Rattle.machine_theory.specs.Address.{logical_tag, place_of}
-use Rattle.class_table.specs.Sizes.{largest_counted}
+use Rattle.class_table.specs.Sizes.{largest_counted, chunk_granules}
 use Rattle.class_table.specs.Layout.{slots_of, slot_count}
 use Rattle.class_table.specs.Tables.{class_for}
 use Rattle.heap_theory.specs.declared.refusal.FreeError.{FreeError}
 use Rattle.heap_theory.specs.declared.refusal.FreeError.TheVariants.{Misplaced, NotLive, WrongTag}
 use Rattle.heap_theory.specs.declared.refusal.NullCause.{NullCause}
 use Rattle.heap_theory.specs.declared.refusal.NullCause.TheVariants.{Large, NoClass, Exhausted}
-use Rattle.heap_theory.specs.State.{State, Heap, slot_in, state_at, is_fresh, chunk_granules, payload_place, IsSlot}
+use Rattle.heap_theory.specs.State.{State, Heap, slot_in, state_at, is_fresh, payload_place, IsSlot}
 use Rattle.heap_theory.specs.State.State.{Fresh, Live, Dead}
 
 -- ---- the quarantine

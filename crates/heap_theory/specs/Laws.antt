@@ -15,7 +15,8 @@ use Rattle.heap_theory.specs.Links.{list_of}
 use Rattle.heap_theory.specs.Report.{report_line, report_lines}
 use Rattle.heap_theory.specs.Run.{Replay, Answer, variable, store_step, heap_after, replay_after, answer_of, first_replay, answers, replay_of}
 use Rattle.heap_theory.specs.Sound.{IsSoundHeap}
-use Rattle.heap_theory.specs.State.{Heap, slot_in, state_at, is_fresh, chunk_granules, payload_place, pointer_to, first_heap, IsSlot}
+use Rattle.class_table.specs.Sizes.{chunk_granules}
+use Rattle.heap_theory.specs.State.{Heap, slot_in, state_at, is_fresh, payload_place, pointer_to, first_heap, IsSlot}
 use Rattle.heap_theory.specs.State.State.{Live}
 use Rattle.heap_theory.specs.Totals.{no_totals, totals_of, totals_after}
 

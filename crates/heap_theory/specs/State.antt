@@ -1,8 +1,9 @@
 -- What a heap holds.
-use Rattle.std.specs.Prelude.{ℕ, ◌+◌, ◌-◌, ◌*◌, ◌/◌, ◌<◌, Bool, true, false, ◌==◌, if◌then◌else◌, List, [], map, max, replicate, slice_index_or}
+use Rattle.std.specs.Prelude.{ℕ, ◌+◌, ◌*◌, ◌<◌, Bool, true, false, ◌==◌, if◌then◌else◌, List, [], map, replicate, slice_index_or}
 use Rattle.std.specs.List.{range_with_len, list_any}
 use Rattle.machine_theory.specs.Address.{region_start, with_tag}
 use Rattle.machine_theory.specs.Memory.{Granule, no_granule, new_granule, each_granule}
+use Rattle.class_table.specs.Sizes.{chunk_granules}
 use Rattle.class_table.specs.Layout.{Partition, Slot, slots_of, slot_count, slot_of}
 use Rattle.machine_theory.specs.declared.sizes.TheConstants.{GRANULE_BYTES}
 
@@ -46,11 +47,7 @@ last_tag (Dead size tag mark) = tag
 
 -- ---- chunks
 
--- the granules that a request of n bytes has as its chunk: the first ones of a payload
-abbrev pub chunk_granules : ℕ → ℕ
-chunk_granules n = max 1 ((n + (GRANULE_BYTES - 1)) / GRANULE_BYTES)
-
--- how many granules of the slot's payload are its chunk
+-- how many granules of the slot's payload are its chunk: the first ones
 abbrev pub chunk_of : State → ℕ
 chunk_of Fresh = 0
 chunk_of (Live size tag) = chunk_granules size

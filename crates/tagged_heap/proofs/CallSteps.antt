@@ -2,7 +2,8 @@
 use Rattle.std.proofs.Common.{◌≡◌, ℕ, ◌<◌, List, refl, ap, ◌∙◌, inl, inr, Ok, Err, ◌≢◌, ◌+◌, ◌⊎◌, true, false, sym, subst, arith, Result}
 use Rattle.heap_theory.specs.Calls.{given_out, with_payload, move_with, moved, payload_bytes, next_tag, free_step, realloc_step}
 use Rattle.heap_theory.specs.Choice.{slot_for_request, Chunk, IsReusable, is_released}
-use Rattle.heap_theory.specs.State.{Heap, slot_in, state_at, chunk_granules, is_fresh, pointer_to}
+use Rattle.class_table.specs.Sizes.{chunk_granules}
+use Rattle.heap_theory.specs.State.{Heap, slot_in, state_at, is_fresh, pointer_to}
 use Rattle.std.specs.Prelude.{MatchResult, IfOk, IfErr, OnErr, IsTrue, ◌↔◌}
 use Rattle.std.specs.Result.{result_map_both, IsErrAnd}
 use Rattle.std.proofs.lemmas.List.{get_or-set_other}

@@ -11,7 +11,8 @@ use Rattle.heap_theory.specs.Header.{Standing, Header, FitsWords, with_header}
 use Rattle.heap_theory.specs.Links.{IsLinked, list_of}
 use Rattle.heap_theory.specs.Region.{Region, region_of, header_in, next_in}
 use Rattle.heap_theory.specs.Sound.{IsSoundHeap}
-use Rattle.heap_theory.specs.State.{State, Heap, slot_in, state_at, is_fresh, chunk_granules, payload_start, without_headers, IsSlot}
+use Rattle.class_table.specs.Sizes.{chunk_granules}
+use Rattle.heap_theory.specs.State.{State, Heap, slot_in, state_at, is_fresh, payload_start, without_headers, IsSlot}
 use Rattle.heap_theory.specs.State.State.{Fresh, Live}
 use Rattle.heap_theory.proofs.Marks.{chain_dead, list_dead, not_marked}
 use Rattle.heap_theory.proofs.Releasing.{list_of-here, list_of-there}

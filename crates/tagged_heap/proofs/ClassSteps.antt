@@ -7,13 +7,13 @@ use Rattle.std.proofs.lemmas.Bool.{cases_eq, cond-true, cond-false, eq-eqb, eqb-
 use Rattle.std.proofs.lemmas.List.Quantifiers.{position-Some}
 use Rattle.std.proofs.lemmas.Option.{slice_get-get_or, slice_get_within, get_or_from_slice_get}
 use Rattle.class_table.specs.Layout.{Slot}
-use Rattle.class_table.specs.Sizes.{serves}
+use Rattle.class_table.specs.Sizes.{serves, chunk_granules}
 use Rattle.class_table.specs.Tables.{IsLegalTable, class_number_for}
 use Rattle.heap_theory.specs.declared.refusal.NullCause.{NullCause}
 use Rattle.heap_theory.specs.declared.refusal.NullCause.TheVariants.{Large, NoClass, Exhausted}
 use Rattle.heap_theory.specs.Calls.{is_class_of}
 use Rattle.heap_theory.specs.Choice.{class_for_request}
-use Rattle.heap_theory.specs.State.{Heap, chunk_granules}
+use Rattle.heap_theory.specs.State.{Heap}
 use Rattle.heap_theory.proofs.Marks.{one_number}
 use Rattle.tagged_heap.proofs.TheoryLemmas as laws
 use Rattle.tagged_heap.specs.ClassSlots.{IsCauseFor}

@@ -9,7 +9,8 @@ use Rattle.heap_theory.specs.declared.place.PlaceKind.TheVariants.{Slack, Header
 use Rattle.heap_theory.specs.Header.{Header as TheHeader, Standing, size_of}
 use Rattle.heap_theory.specs.Header.Standing.{Fresh as IsFresh, Live as IsLive, Quarantined as IsQuarantined, Freed as IsFreed}
 use Rattle.heap_theory.specs.Places.{place_kind, kind_at, kind_of_chunk}
-use Rattle.heap_theory.specs.State.{State, Heap, slot_in, state_at, chunk_granules, chunk_of, payload_start, IsSlot}
+use Rattle.class_table.specs.Sizes.{chunk_granules}
+use Rattle.heap_theory.specs.State.{State, Heap, slot_in, state_at, chunk_of, payload_start, IsSlot}
 use Rattle.heap_theory.specs.State.State.{Fresh, Live, Dead}
 use Rattle.tagged_heap.specs.Representation.{standing_from, Parts, IsKept}
 use Rattle.heap_theory.specs.Region.{region_of, header_in}

@@ -12,7 +12,8 @@ use Rattle.heap_theory.specs.HeapInMemory.{IsKeptIn}
 use Rattle.heap_theory.specs.Links.{IsLinked, list_of}
 use Rattle.heap_theory.specs.Region.{region_of, headers_of, next_in, no_header}
 use Rattle.heap_theory.specs.Sound.{IsSoundHeap}
-use Rattle.heap_theory.specs.State.{State, Heap, slot_in, state_at, chunk_granules, IsSlot}
+use Rattle.class_table.specs.Sizes.{chunk_granules}
+use Rattle.heap_theory.specs.State.{State, Heap, slot_in, state_at, IsSlot}
 use Rattle.heap_theory.specs.State.State.{Fresh, Live, Dead}
 use Rattle.heap_theory.proofs.ListSearch.{Contains-head}
 use Rattle.heap_theory.proofs.Regions.{length-headers_of}

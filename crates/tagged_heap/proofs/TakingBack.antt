@@ -14,7 +14,8 @@ use Rattle.heap_theory.specs.Header.{Header, FitsWords, with_header, size_of}
 use Rattle.heap_theory.specs.Header.Standing.{Quarantined, Freed}
 use Rattle.heap_theory.specs.Region.{region_of, header_in, next_in}
 use Rattle.heap_theory.specs.Sound.{IsSoundHeap}
-use Rattle.heap_theory.specs.State.{State, Heap, slot_in, state_at, is_fresh, last_tag, chunk_granules, chunk_of, payload_start, without_headers, IsSlot}
+use Rattle.class_table.specs.Sizes.{chunk_granules}
+use Rattle.heap_theory.specs.State.{State, Heap, slot_in, state_at, is_fresh, last_tag, chunk_of, payload_start, without_headers, IsSlot}
 use Rattle.heap_theory.specs.State.State.{Live, Dead}
 use Rattle.heap_theory.proofs.Marks.{not_marked}
 use Rattle.heap_theory.proofs.SeenMemory.{length-without_headers}

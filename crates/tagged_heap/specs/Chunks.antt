@@ -3,12 +3,12 @@ use Rattle.std.specs.Prelude.{◌≡◌, ℕ, ◌^◌, ◌<◌, ◌≤◌, bit_o
 use Rattle.machine_theory.specs.Instructions.{drawn_tag}
 use Rattle.machine_theory.specs.Machine.{Machine}
 use Rattle.machine_theory.specs.Memory.{Granule, IsMemory}
-use Rattle.class_table.specs.Sizes.{largest_counted}
+use Rattle.class_table.specs.Sizes.{largest_counted, chunk_granules}
 use Rattle.class_table.specs.Layout.{Partition, slot_count, slot_of, end_of}
 use Rattle.heap_theory.specs.Calls.{parity_exclude}
 use Rattle.heap_theory.specs.Header.{Header}
 use Rattle.heap_theory.specs.Region.{region_of, header_in}
-use Rattle.heap_theory.specs.State.{Heap, slot_in, state_at, chunk_granules, IsSlot}
+use Rattle.heap_theory.specs.State.{Heap, slot_in, state_at, IsSlot}
 use Rattle.heap_theory.specs.State.State.{Live as Given}
 use Rattle.heap_theory.specs.Header.Standing.{Live, Quarantined}
 use Rattle.tagged_heap.specs.declared.freeing.Chunk.{Chunk}

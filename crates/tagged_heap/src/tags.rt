@@ -1,13 +1,12 @@
 //! The tags of chunks: how one is drawn, and the granules that get it.
-ghost use Rattle.class_table.specs.Sizes.{largest_counted};
+ghost use Rattle.class_table.specs.Sizes.{largest_counted, chunk_granules};
 ghost use Rattle.heap_theory.specs.Calls.{chunk_tagged, parity_exclude};
-ghost use Rattle.heap_theory.specs.State.{chunk_granules};
 ghost use Rattle.machine_theory.specs.Instructions.{drawn_tag};
 ghost use Rattle.machine_theory.specs.Memory.{tagged, IsMemory};
 ghost use Rattle.machine_theory.specs.Seed.{next_seed};
 ghost use Rattle.std.specs.Prelude.{◌≡◌, ◌+◌, ◌^◌, ◌<◌, ◌≤◌, bit_or, length};
 
-use class_table::{GRANULE_BYTES, LARGEST_CLASS, Slot};
+use class_table::{LARGEST_CLASS, Slot, need};
 use tag_machine::Machine;
 
 /// The granules of the chunk for a request of `n` bytes, at most 16,368.
@@ -17,7 +16,7 @@ pub(crate) fn chunk_granules(n: u32) -> u32
     ensures some { 1 ≤ result }
     ensures most { result < LARGEST_CLASS }
 {
-    if n == 0 { 1 } else { n.div_ceil(GRANULE_BYTES) }
+    need(n) - 1
 }
 
 /// The tags that a slot of this number may not take, where `last` is its present or last tag: those of the other parity, and `last`.
