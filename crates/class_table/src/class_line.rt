@@ -107,7 +107,8 @@ fn table_of_words(words: Words<'_>) -> Result<ClassTable, TableError>
 fn append_if_room(numbers: &mut ArrayVec<u16, MOST_CLASSES>, number: u16) -> bool
     ensures room { length numbers.old.items < MOST_CLASSES
         → (result ≡ true) × (numbers.new.items ≡ numbers.old.items ++ number ∷ []) }
-    ensures full { MOST_CLASSES ≤ length numbers.old.items → (result ≡ false) × (numbers.new.items ≡ numbers.old.items) }
+    ensures full { MOST_CLASSES ≤ length numbers.old.items
+        → (result ≡ false) × (numbers.new.items ≡ numbers.old.items) }
 {
     if numbers.is_full() {
         return false;

@@ -61,7 +61,8 @@ fn check_text(alloc: Global, text: &[u8]) -> Result<(Text, Status), AnswerError>
 
 // the text and the status of a verdict
 fn answer_for(alloc: Global, verdict: Verdict) -> Result<(Text, Status), AllocError>
-    ensures { IfOk result (λ answered. record { text = text_left answered.0; status = answered.1 } ≡ verdict_text verdict) }
+    ensures { IfOk result (λ answered.
+        record { text = text_left answered.0; status = answered.1 } ≡ verdict_text verdict) }
 {
     match verdict {
         Verdict::Optimal => {
