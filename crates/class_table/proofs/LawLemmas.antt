@@ -1,4 +1,4 @@
--- The laws as lemmas, for the proofs of the crates above.
+-- The laws as lemmas, for the proofs of the crates above, and what they need of the first slots of classes.
 use Rattle.class_table.specs.Laws.{FaultlessIsLegal, FaultyTextIsRefused, FirstFaultIsRefused, FirstIsLeast, LegalIsFaultless, LineAloneIsRead, MissingLineIsFirstFault, NoClassServes, NumberGivesClass, ReadLineIsSpelled, RefusedTextHasFirstFault, ServingIsNeed, SpelledTableIsRead, TableIsSpelled}
 use Rattle.class_table.proofs.FirstFaults.{first_fault-missing, first_fault-refused, first_fault-refused_text, refused-first_fault, refused_text-first_fault}
 use Rattle.class_table.proofs.LeastClass.{class_at_number, least_class, none_serving, serving-need}

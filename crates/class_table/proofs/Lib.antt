@@ -1,6 +1,6 @@
 pub mod ClassOf
 pub mod Covering
-pub mod Filling
+pub mod LayoutSoFar
 pub mod FirstFaults
 pub mod FirstSlots
 pub mod LayoutExamples

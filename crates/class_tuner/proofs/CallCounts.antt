@@ -1,19 +1,40 @@
--- A source that is asked again and again.
-use Rattle.std.proofs.Common.{◌≡◌, ℕ, ap, sym, ◌∙◌}
-use Rattle.class_tuner.specs.Sources.{OnlyCounts}
-use Rattle.class_tuner.specs.declared.cost_source.CostSource.{Ghosts}
+-- Binary digits, and the count of calls row by row.
+use Rattle.std.proofs.Common.{◌≡◌, ℕ, zero, suc, ◌+◌, ◌-◌, ◌*◌, ◌/◌, ◌^◌, ◌<◌, ◌≤◌, arith, ap, subst, inl, inr}
+use Rattle.std.proofs.lemmas.Bool.{cases_lt}
+use Rattle.std.proofs.lemmas.Int.Digits.{length-digits_of-le, length-digits_of_step}
+use Rattle.std.proofs.Math.Nat.{mul-le-mul_left, mul-le-mul_right}
+use Rattle.class_tuner.specs.CallCounts.{bits, most_calls}
 
-module _ {S : Type 0} (source : Ghosts S) where
-  -- a count that was set is the source's own
-  pub kept-at : (s new : S) (n : ℕ) → source.call_count (source.with_calls s n) ≡ n → new ≡ source.with_calls s n
-      → new ≡ source.with_calls s (source.call_count new)
-  kept-at s new n sets e = let count : source.call_count new ≡ n = ap source.call_count e ∙ sets in e ∙ ap (source.with_calls s) (sym count)
+doubled : (n b c : ℕ) → n / 2 < 2 ^ b → c ≡ suc b → n < 2 ^ c
+doubled n b c lt e = let power : 2 ^ c ≡ 2 ^ suc b = ap (λ k. 2 ^ k) e in omega arith
 
-  -- two runs of calls change only the count, since each does
-  pub OnlyCounts-more : ((s : S) (m n : ℕ) → source.with_calls (source.with_calls s m) n ≡ source.with_calls s n) → (old mid new : S)
-      → OnlyCounts source old mid → OnlyCounts source mid new → OnlyCounts source old new
-  OnlyCounts-more keeps_last old mid new before now = record {
-    kept = now.kept ∙ (ap (λ s. source.with_calls s (source.call_count new)) before.kept ∙ keeps_last old _ _);
-    same_cost = now.same_cost ∙ before.same_cost;
-    same_places = now.same_places ∙ before.same_places;
-  }
+below-up_to : (m n : ℕ) → n ≤ m → n < 2 ^ bits n
+below-up_to zero n le = let none : 0 ≡ n = omega arith in subst (λ (k : ℕ). k < 2 ^ bits k) none (omega arith)
+below-up_to (suc m) n le =
+    elim (cases_lt 0 n) [
+      | inl some ↦ doubled n (bits (n / 2)) (bits n) (below-up_to m (n / 2) (omega arith))
+          (omega (arith, length-digits_of_step 2 n (omega arith) some))
+      | inr none ↦ below-up_to m n (omega arith)
+    ]
+
+-- a number is below the power of two of its binary digits
+pub below-bits : (n : ℕ) → n < 2 ^ bits n
+below-bits n = below-up_to n n (omega arith)
+
+-- one row more takes at most w calls more
+stage-count : (start calls more k limit w : ℕ) → calls ≤ start + k * w → more ≤ calls + w → k < limit → more ≤ start + limit * w
+stage-count start calls more k limit w before now lt =
+    omega (arith, before, now, mul-le-mul_right w (let next : k + 1 ≤ limit = omega arith in next))
+
+pub calls-more : (start calls more k limit d : ℕ) → calls ≤ start + most_calls k d → more ≤ calls + ((d - 1) * bits d + d) → k < limit
+    → more ≤ start + most_calls limit d
+calls-more start calls more k limit d before now lt = stage-count start calls more k limit ((d - 1) * bits d + d) before now lt
+
+-- the rows before leave room for the calls of one more
+pub room-left : (start calls k d : ℕ) → start < 2 ^ 62 → k ≤ 32 → d ≤ 1023 → calls ≤ start + most_calls k d → calls + 1023 * d ≤ 2 ^ 63
+room-left start calls k d small few le counted =
+    let digits : bits d ≤ 10 = length-digits_of-le 2 10 d (omega arith) (omega arith) in
+    let product : (d - 1) * bits d ≤ (d - 1) * 10 = mul-le-mul_left (d - 1) digits in
+    let row : (d - 1) * bits d + d ≤ 11253 = omega arith in
+    let rows : k * ((d - 1) * bits d + d) ≤ 32 * ((d - 1) * bits d + d) = mul-le-mul_right ((d - 1) * bits d + d) few in
+    omega arith

@@ -1,6 +1,6 @@
 pub mod LawLemmas
+pub mod Sources
 pub mod CallCounts
-pub mod Digits
 pub mod Halves
 pub mod LeastEnds
 pub mod OneCount

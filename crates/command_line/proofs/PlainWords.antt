@@ -6,7 +6,7 @@ use Rattle.clap.proofs.OnLiterals.{clap_on_literals}
 use Rattle.clap.specs.Kinds.{HasKind, IsAmong}
 use Rattle.clap.specs.Words.{kind_of}
 use Rattle.clap.specs.declared.error.Error.{Error}
-use Rattle.command_line.specs.Program.{program}
+use Rattle.command_line.specs.AcceptedWords.{program}
 use Rattle.command_line.specs.Words.{AreRefused, IsFromClap}
 use Rattle.command_line.specs.declared.refusal.Refusal.{Refusal}
 use Rattle.command_line.specs.declared.refusal.Refusal.TheVariants.{OutOfMemory, Words, Options}

@@ -1,5 +1,5 @@
 pub mod Bounds
 pub mod Calls
 pub mod Exit
-pub mod Program
+pub mod AcceptedWords
 pub mod Words

@@ -5,7 +5,7 @@ use Rattle.clap.specs.Words.{Text, kind_of, fault_of, subcommand_of}
 use Rattle.clap.specs.declared.error.Error.{Error}
 use Rattle.clap.specs.declared.error.kind.ErrorKind.TheVariants as kind
 use Rattle.command_line.specs.Calls.{IsCall, IsNoCall}
-use Rattle.command_line.specs.Program.{program}
+use Rattle.command_line.specs.AcceptedWords.{program}
 use Rattle.command_line.specs.declared.call.Call.{Call}
 use Rattle.command_line.specs.declared.refusal.OptionFault.{OptionFault}
 use Rattle.command_line.specs.declared.refusal.OptionFault.TheVariants.{BadOption}

@@ -2,7 +2,7 @@
 ghost use Rattle.std.specs.Prelude.{ℕ, ◌<◌, ◌^◌, MatchOption, MatchResult};
 ghost use Rattle.clap.specs.Words.{found_of, rows_of};
 ghost use Rattle.command_line.specs.Calls.{HasConfig, HasLimit, HasNumber, HasNumberIn, HasSeed, HasStep, IsRead};
-ghost use Rattle.command_line.specs.Program.{IsOption, granules_rule, limit_rule, number_rule, quarantine_rule, seed_rule, step_rule};
+ghost use Rattle.command_line.specs.AcceptedWords.{IsOption, granules_rule, limit_rule, number_rule, quarantine_rule, seed_rule, step_rule};
 
 use crate::refusal::OptionFault;
 use clap::{Arg, ArgMatches, value_parser};

@@ -3,7 +3,7 @@ ghost use Rattle.std.specs.Prelude.{◌≡◌, IfOk, IfErr, MatchResult, map, st
 ghost use Rattle.clap.specs.Words.{app_of};
 ghost use Rattle.mte_engine.specs.Outcome.{IsReady, Runs};
 ghost use Rattle.command_line.specs.Calls.{answers_of};
-ghost use Rattle.command_line.specs.Program.{program, top, with_table_commands, with_trace_commands};
+ghost use Rattle.command_line.specs.AcceptedWords.{program, top, with_table_commands, with_trace_commands};
 ghost use Rattle.command_line.specs.Words.{AreRefused, Mean};
 
 use crate::call::{Call, call_of};

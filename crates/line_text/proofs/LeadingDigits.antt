@@ -7,8 +7,7 @@ use Rattle.std.proofs.lemmas.Bool.{cases_Bool, cases_lt, both_ways}
 use Rattle.std.proofs.lemmas.Bool.Decides.{nat_tests}
 use Rattle.std.proofs.lemmas.List.{get_or-take, length-take-le, take-take}
 use Rattle.std.proofs.lemmas.List.Sums.{prefix_len_is, prefix_len_stops, prefix_len-le-length, take_while-cons}
-use Rattle.line_text.specs.Numbers.{number_of, short_number_of, leading_digits, leading_number_of}
-use Rattle.line_text.specs.Pairs.{AreLeading}
+use Rattle.line_text.specs.Numbers.{AreLeading, number_of, short_number_of, leading_digits, leading_number_of}
 use Rattle.line_text.proofs.Digits.{digit_at}
 
 -- a digit before the end of digits

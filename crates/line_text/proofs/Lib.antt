@@ -6,6 +6,6 @@ pub mod FirstPairs
 pub mod FullLines
 pub mod HexDigits
 pub mod LeadingDigits
-pub mod NearDigits
+pub mod DigitDistance
 pub mod NearNumbers
 pub mod Signs

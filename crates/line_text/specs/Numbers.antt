@@ -1,7 +1,7 @@
 -- How a number is spelled, and how a word is read as one.
-use Rattle.std.specs.Prelude.{ℕ, ◌^◌, Bool, ◌&&◌, ◌||◌, not, List, [], ◌∷◌, length, slice_index, Option, Some, None, ◌==◌, nat_lt, nat_le, if◌then◌else◌}
+use Rattle.std.specs.Prelude.{◌≡◌, ◌<◌, ◌≤◌, ℕ, ◌^◌, Bool, ◌&&◌, ◌||◌, not, List, [], ◌∷◌, length, slice_index, Option, Some, None, ◌==◌, nat_lt, nat_le, if◌then◌else◌}
 use Rattle.std.specs.Char.{is_ascii_digit}
-use Rattle.std.specs.List.{list_all, take_while}
+use Rattle.std.specs.List.{list_all, prefix_len, take_while}
 use Rattle.std.specs.Str.Parse.{digits_value}
 use Rattle.line_text.specs.Lines.{line_of}
 use Rattle.line_text.specs.declared.number.Number.{Number}
@@ -36,3 +36,9 @@ leading_number_of text = short_number_of (leading_digits text)
 abbrev pub near_number_of : List (List ℕ) → Option ℕ
 near_number_of [] = None
 near_number_of (word ∷ ws) = if nat_le 19 (length (line_of (word ∷ ws))) && nat_le (length word) 18 then number_of word else None
+
+-- The value and the number of the digits at the start of a text; `None` exactly if they are more than 19.
+abbrev pub AreLeading : Option (ℕ × ℕ) → List ℕ → Type 0
+AreLeading None text = 19 < prefix_len is_ascii_digit text
+AreLeading (Some found) text =
+    (found.0 ≡ digits_value 10 (leading_digits text)) × (found.1 ≡ prefix_len is_ascii_digit text) × (found.1 ≤ 19)

@@ -1,8 +1,7 @@
 //! The number at the start of a text, in one pass over its digits.
 ghost use Rattle.std.specs.Prelude.{◌≡◌, ◌++◌, IfSome};
 ghost use Rattle.std.specs.Option.{option_map};
-ghost use Rattle.line_text.specs.Numbers.{leading_digits, leading_number_of};
-ghost use Rattle.line_text.specs.Pairs.{AreLeading};
+ghost use Rattle.line_text.specs.Numbers.{AreLeading, leading_digits, leading_number_of};
 
 use crate::number::SHORT_DIGITS;
 

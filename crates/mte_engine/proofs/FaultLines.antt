@@ -43,7 +43,7 @@ use Rattle.mte_engine.specs.declared.fault.InputFault.TheVariants.{TooLong, Tabl
 use Rattle.class_table.specs.FaultText.{shown_table_error}
 use Rattle.profile_count.specs.FaultText.{shown_profile_fault}
 use Rattle.trace_reader.specs.FaultText.{shown_trace_fault}
-use Rattle.mte_engine.proofs.LeadingSettled.{after_alike, leading_lines-cut, leading_lines-lines, leading_lines-settled}
+use Rattle.mte_engine.proofs.SheetLinesSettled.{after_alike, leading_lines-cut, leading_lines-lines, leading_lines-settled}
 
 -- ---- how a fault is shown
 

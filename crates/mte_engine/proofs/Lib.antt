@@ -1,12 +1,12 @@
-pub mod Answering
+pub mod Outcomes
 pub mod Counting
 pub mod FaultLines
 pub mod Headline
-pub mod LeadingSettled
+pub mod SheetLinesSettled
 pub mod LineAndTrace
 pub mod Transfers
 pub mod Reporting
 pub mod SheetAndProfile
 pub mod TableAndProfile
 pub mod TracePieces
-pub mod TracedRun
+pub mod TraceAlone

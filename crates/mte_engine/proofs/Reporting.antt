@@ -9,7 +9,7 @@ use Rattle.heap_theory.specs.declared.event.Event.{Event}
 use Rattle.replay_core.specs.ReplayState.{Stored, first_stored, lines_of, stored_after, stored_of}
 use Rattle.replay_core.proofs.LawLemmas.{lines_of_none, lines_of_one_more, report_is_lines_and_totals, stored_of_none, stored_of_one_more}
 use Rattle.class_table.specs.Layout.{Partition}
-use Rattle.mte_engine.specs.RestOfReport.{report_from}
+use Rattle.mte_engine.specs.ReportFrom.{report_from}
 
 -- one event was replayed, and its line appended
 pub reported_more : (before after line : List ℕ) (stored stored' : Stored) (events events' : List Event) (event : Event) →

@@ -6,7 +6,7 @@ pub mod Outcome
 pub mod Parts
 pub mod Profile
 pub mod Replay
-pub mod RestOfReport
+pub mod ReportFrom
 pub mod ReportLeft
 pub mod Run
 pub mod Score

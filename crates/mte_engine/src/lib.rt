@@ -20,7 +20,7 @@ mod scoring;
 mod std_streams;
 mod streams;
 mod trace_counting;
-mod trace_input;
+mod trace_feeding;
 mod transfer;
 mod tuning;
 

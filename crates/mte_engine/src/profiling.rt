@@ -12,7 +12,7 @@ use crate::input::Input;
 use crate::output::Text;
 use crate::streams::{ByteSink, ByteSource};
 use crate::trace_counting::count_out;
-use crate::trace_input::{end, feed};
+use crate::trace_feeding::{end, feed};
 use profile_count::Profile;
 use std::alloc::{AllocError, Global};
 use trace_reader::TraceReader;

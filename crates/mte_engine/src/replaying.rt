@@ -13,7 +13,7 @@ use crate::input::Input;
 use crate::input_parts::read_table;
 use crate::report::Report;
 use crate::streams::{ByteSink, ByteSource};
-use crate::trace_input::{end, feed};
+use crate::trace_feeding::{end, feed};
 use class_table::TableError;
 use line_text::first_line;
 use replay_core::Config;

@@ -3,7 +3,7 @@ ghost use Rattle.heap_theory.specs.Report.{totals_text};
 ghost use Rattle.mte_engine.specs.Replay.{report_on};
 ghost use Rattle.mte_engine.specs.declared.report.TheConstants.{BUFFER};
 ghost use Rattle.tagged_heap.specs.Config.{IsConfig};
-ghost use Rattle.mte_engine.specs.RestOfReport.{report_from, report_unless};
+ghost use Rattle.mte_engine.specs.ReportFrom.{report_from, report_unless};
 ghost use Rattle.trace_reader.specs.TraceLine.{most_events};
 ghost use Rattle.std.specs.Prelude.{◌≡◌, ◌+◌, ◌^◌, ◌≤◌, ◌++◌, drop, length, vec_capacity, vec_len, true, IfOk};
 

@@ -14,7 +14,7 @@ use crate::input::Input;
 use crate::report::Report;
 use crate::streams::{ByteSink, ByteSource};
 use crate::trace_counting::count_all;
-use crate::trace_input::{end, feed};
+use crate::trace_feeding::{end, feed};
 use class_tuner::tune;
 use potential_check::write_sheet;
 use replay_core::Config;

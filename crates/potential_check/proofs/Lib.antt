@@ -1,7 +1,7 @@
 pub mod Appended
-pub mod Building
+pub mod SpansBuilt
 pub mod EdgeHalves
-pub mod FirstFaults
+pub mod FaultyReadings
 pub mod HeadLines
 pub mod LawLemmas
 pub mod LeadingLines

@@ -3,7 +3,7 @@ use Rattle.std.proofs.Common.{◌≡◌, ℕ, suc, ◌+◌, ◌-◌, ◌<◌, Li
 use Rattle.std.specs.Prelude.{◌↔◌, slice_index_or}
 use Rattle.std.specs.List.{AllAdjacentBelow}
 use Rattle.std.proofs.lemmas.List.{get_or_default}
-use Rattle.potential_check.specs.Bounds.{EdgesHold, StageDropHolds}
+use Rattle.potential_check.specs.RowConditions.{EdgesHold, StageDropHolds}
 use Rattle.potential_check.specs.Spanned.{Spanned}
 use Rattle.tuner_theory.specs.Rows.{number_at}
 use Rattle.potential_check.specs.SheetOnCounts.{MeetsBefore}

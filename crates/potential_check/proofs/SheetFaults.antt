@@ -11,7 +11,7 @@ use Rattle.line_text.proofs.LawLemmas.{text_laws as laws}
 use Rattle.potential_check.specs.Laws.{FaultIsFirst, FirstFaultIsReported}
 use Rattle.potential_check.specs.SheetText.{SpellsSheet, head_of_lines, is_named, line_at, limit_in, named_line, rows_from, sheet_in, sheet_of_lines, step_at, table_in, waste_in, waste_number, with_rows}
 use Rattle.potential_check.specs.declared.reading.Head.{Head}
-use Rattle.potential_check.proofs.FirstFaults.{Lines, Reports, rows-report, reports-as, reports-line, reports-step}
+use Rattle.potential_check.proofs.FaultyReadings.{Lines, Reports, rows-report, reports-as, reports-line, reports-step}
 use Rattle.potential_check.proofs.NamedLines.{IsName, named_line-is_line, words-named_line}
 use Rattle.potential_check.proofs.ReadIsSpelled.{spelled-sheet_in}
 use Rattle.potential_check.proofs.SheetLines.{class_line-is_line, limit_in-line, names, one_small, step_in-line, table_in-line, waste_in-line}

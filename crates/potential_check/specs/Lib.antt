@@ -1,4 +1,4 @@
-pub mod Bounds
+pub mod RowConditions
 pub mod Laws
 pub mod Leading
 pub mod Lists

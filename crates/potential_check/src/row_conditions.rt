@@ -3,7 +3,7 @@
 ghost use Rattle.std.specs.Prelude.{◌≡◌, ◌↔◌, ℕ, ◌+◌, ◌<◌, ◌≤◌, length, IsTrue};
 ghost use Rattle.std.specs.Ordering.{MatchOrdering};
 ghost use Rattle.class_table.specs.Steps.{IsStep};
-ghost use Rattle.potential_check.specs.Bounds.{EdgesHold, EdgesHoldWithin, LastClassHolds, StageDropHolds, edge_bound};
+ghost use Rattle.potential_check.specs.RowConditions.{EdgesHold, EdgesHoldWithin, LastClassHolds, StageDropHolds, edge_bound};
 ghost use Rattle.tuner_theory.specs.Spans.{places};
 
 use crate::rows::number_in_row;

@@ -1,7 +1,7 @@
 //! A sheet with the spans of its profile, and the order in which its rows are tested.
 ghost use Rattle.std.specs.Prelude.{◌≡◌, ◌↔◌, All, length, IfNone, IfSome, IsTrue};
 ghost use Rattle.std.specs.List.{AllAdjacentBelow};
-ghost use Rattle.potential_check.specs.Bounds.{EdgesHold, StageDropHolds};
+ghost use Rattle.potential_check.specs.RowConditions.{EdgesHold, StageDropHolds};
 ghost use Rattle.potential_check.specs.SheetOnCounts.{MeetsBefore};
 ghost use Rattle.potential_check.specs.Sheets.{sheet_of};
 ghost use Rattle.tuner_theory.specs.Sheets.{IsVerdict, Meets};

@@ -3,7 +3,7 @@
 //! for each place.
 ghost use Rattle.std.specs.Prelude.{◌≡◌, ◌↔◌, ℕ, ◌<◌, ◌≤◌, length, slice_index, IfNone, IfSome, IsTrue};
 ghost use Rattle.class_table.specs.Steps.{IsStep};
-ghost use Rattle.potential_check.specs.Bounds.{AreTight, EdgesHold, HasTightEnd, IsTightEnd, edge_bound};
+ghost use Rattle.potential_check.specs.RowConditions.{AreTight, EdgesHold, HasTightEnd, IsTightEnd, edge_bound};
 ghost use Rattle.tuner_theory.specs.Spans.{places};
 
 use crate::row_conditions::edge_order;

@@ -13,7 +13,7 @@ use Rattle.profile_count.specs.ProfileText.{Reading, SpellsProfile, entry_of, wi
 use Rattle.profile_count.specs.declared.entry.Entry.{Entry}
 use Rattle.profile_count.specs.declared.fault.ProfileFault.{ProfileFault}
 use Rattle.profile_count.proofs.LineByLine.{line_read, line_faulty, no_line}
-use Rattle.profile_count.proofs.OpenReading.{nothing_read}
+use Rattle.profile_count.proofs.BeforeLarge.{nothing_read}
 use Rattle.profile_count.proofs.ReadIsSpelled.{spelled-profile_of}
 use Rattle.profile_count.proofs.SpelledIsRead.{profile_of-spelled}
 

@@ -5,7 +5,7 @@ pub mod FirstFaults
 pub mod FirstServing
 pub mod LineByLine
 pub mod NextEntry
-pub mod OpenReading
+pub mod BeforeLarge
 pub mod ReadIsSpelled
 pub mod RequestLosses
 pub mod SizeLines

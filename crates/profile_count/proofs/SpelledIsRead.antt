@@ -14,7 +14,7 @@ use Rattle.profile_count.specs.declared.entry.Entry.{Entry}
 use Rattle.profile_count.specs.declared.entry.Entry.TheVariants.{Size, Large}
 use Rattle.profile_count.proofs.EntryLines.{entry_line, entry_line-is_line, entry_line-some, entry_of-line}
 use Rattle.profile_count.proofs.LineByLine.{line_read, no_line}
-use Rattle.profile_count.proofs.OpenReading.{IsOpen, nothing_read, is_open-nothing_read, other_count, is_open-size_read}
+use Rattle.profile_count.proofs.BeforeLarge.{IsOpen, nothing_read, is_open-nothing_read, other_count, is_open-size_read}
 
 -- ---- lists that agree below a place
 

@@ -7,7 +7,7 @@ mod fault;
 pub mod laws;
 mod profile;
 mod reading;
-mod table_walk;
+mod table_losses;
 mod writing;
 
 pub use fault::{CountFull, ProfileError, ProfileFault};

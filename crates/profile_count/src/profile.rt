@@ -4,7 +4,7 @@ ghost use Rattle.tuner_theory.specs.Waste.{IsCounted, IsProfile, Serves, waste_o
 ghost use Rattle.profile_count.specs.Counts.{count_for, nothing_counted, unserved_of, with_count, with_large, with_one_more, zeros};
 
 use crate::fault::CountFull;
-use crate::table_walk::{first_unserved, table_losses};
+use crate::table_losses::{first_unserved, table_losses};
 use class_table::{ClassTable, LARGEST_COUNTED};
 use std::alloc::{AllocError, Global};
 use std::marker::Model;

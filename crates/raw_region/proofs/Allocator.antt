@@ -1,5 +1,5 @@
 -- The two calls of the heap, `allocate` and `deallocate`, by a handle that lies in a local. Assumes `Logic`.
-use Rattle.raw_region.proofs.Steps.{◌≡◌, ℕ, ◌<◌, ◌^◌, List, [], ◌∷◌, refl, ap, w64, Fml, Ura, full_share, id⊢, ent, sep, emp, Logic, sem, SProp, Lft, Share, ftrue, fsep, fat, froom, flft, Val, vint, vptr, vunit, fact, fact_i, Goal, Soaks, Item, Seq, Step, step, ‵, raw, ◌⊛◌, some, later, ◌$◌, ◌∵◌, !, qed, done, move, keep, drop, use0, use1, use2, split, join, fjoin, fpick, fsplit, fpack, feq_i, feq_l, pick, await, rewrite, hidden_shr, part_at, cell_at, peeks, owned, nothing, only, shows, Is, unit, usize, uint_Makes, block_ptr, triple_of, Ty}
+use Rattle.raw_region.proofs.Names.{◌≡◌, ℕ, ◌<◌, ◌^◌, List, [], ◌∷◌, refl, ap, w64, Fml, Ura, full_share, id⊢, ent, sep, emp, Logic, sem, SProp, Lft, Share, ftrue, fsep, fat, froom, flft, Val, vint, vptr, vunit, fact, fact_i, Goal, Soaks, Item, Seq, Step, step, ‵, raw, ◌⊛◌, some, later, ◌$◌, ◌∵◌, !, qed, done, move, keep, drop, use0, use1, use2, split, join, fjoin, fpick, fsplit, fpack, feq_i, feq_l, pick, await, rewrite, hidden_shr, part_at, cell_at, peeks, owned, nothing, only, shows, Is, unit, usize, uint_Makes, block_ptr, triple_of, Ty}
 use base.Fml.{flent, Incl-refl}
 use base.Share
 use base.Logic.{ex, ex_i, guard, via}

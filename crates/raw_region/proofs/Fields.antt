@@ -1,6 +1,6 @@
 -- A region is its fields, its bytes and the right to free their block: seen after a `&`, opened after a `&mut`, and taken apart. Assumes
 -- `Logic`.
-use Rattle.raw_region.proofs.Steps.{raw, fact, heard, ftrue, usize, ◌<◌, ◌^◌, w64, vint, vptr, vunit, emp, nothing, fpack, length, row, full_share, peeks, shows, lies_at, Fml, fsep, fjoin, ◌∙◌, sym, ap, subst, Val, Step, step, feq_i, part_at, ◌≡◌, ℕ, ◌+◌, List, [], ◌∷◌, refl, Ura, id⊢, Lft, fhide, Logic, sem, sep, Goal, Item, Seq, ‵, ◌$◌, ◌∵◌, !, qed, done, move, drop, use1, fsplit, fpick, rewrite, Array, u8, elements_shared, hidden_shr, unhide, hide, RattleType, Ptr, RawPtr, block_ptr, in_a_block, ent, never}
+use Rattle.raw_region.proofs.Names.{raw, fact, heard, ftrue, usize, ◌<◌, ◌^◌, w64, vint, vptr, vunit, emp, nothing, fpack, length, row, full_share, peeks, shows, lies_at, Fml, fsep, fjoin, ◌∙◌, sym, ap, subst, Val, Step, step, feq_i, part_at, ◌≡◌, ℕ, ◌+◌, List, [], ◌∷◌, refl, Ura, id⊢, Lft, fhide, Logic, sem, sep, Goal, Item, Seq, ‵, ◌$◌, ◌∵◌, !, qed, done, move, drop, use1, fsplit, fpick, rewrite, Array, u8, elements_shared, hidden_shr, unhide, hide, RattleType, Ptr, RawPtr, block_ptr, in_a_block, ent, never}
 use base.Fml.{feq}
 use denote.Opens.{shr_dup}
 use denote.Plain.{uint_row_laws}

@@ -1,4 +1,4 @@
-pub mod Steps
+pub mod Names
 pub mod Fields
 pub mod Allocator
 pub mod Written

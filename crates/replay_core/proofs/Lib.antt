@@ -1,7 +1,7 @@
 pub mod LawLemmas
 pub mod TheoryLemmas
 pub mod Accesses
-pub mod Losses
+pub mod CountedTotals
 pub mod Reached
 pub mod StoredMore
 pub mod Written

@@ -1,4 +1,4 @@
--- What is stored of some run, and of one event more.
+-- A replay that is what is stored of some run is so again after one more event.
 use Rattle.std.proofs.Common.{◌≡◌, ℕ, List, [], ◌∷◌, ◌++◌, sym, ap, ◌∙◌, subst}
 use Rattle.heap_theory.specs.declared.event.Event.{Event}
 use Rattle.heap_theory.specs.Generations.{Run, run_after}

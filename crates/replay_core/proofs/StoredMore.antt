@@ -1,4 +1,4 @@
--- What is stored of a run, of one event more.
+-- What is stored of the run with one more event follows from the event and from what was stored before it.
 use Rattle.std.proofs.Common.{◌≡◌, ℕ, ◌+◌, List, [], ◌∷◌, ◌++◌, length, refl, sym, ap, ◌∙◌, arith}
 use Rattle.std.specs.Prelude.{zip}
 use Rattle.class_table.specs.Layout.{Partition}

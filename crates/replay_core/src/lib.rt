@@ -7,14 +7,14 @@
 mod access;
 mod answer;
 mod append;
-mod events;
+mod event_fields;
 pub mod laws;
 mod perform;
 mod replay;
 mod report_line;
 mod totals;
 
-pub use events::{is_in_range, request_size};
+pub use event_fields::{is_in_range, request_size};
 pub use heap_theory::Event;
 pub use replay::{LINE_ROOM, Replay};
 pub use tagged_heap::Config;

@@ -38,7 +38,7 @@ impl Model for Replay {
 
     ghost Value = { Stored };
 
-    ghost use Rattle.replay_core.specs.Abstraction.{stored, IsKept};
+    ghost use Rattle.replay_core.specs.ReplayFields.{stored, IsKept};
 
     ghost view = { stored };
 

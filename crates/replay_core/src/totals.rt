@@ -9,7 +9,7 @@ ghost use Rattle.std.specs.Prelude.{◌≡◌, ◌++◌, ◌+◌, ◌*◌, ◌^�
 
 use crate::answer::Answer;
 use crate::append::{append, append_number};
-use crate::events::request_size;
+use crate::event_fields::request_size;
 use crate::replay::Replay;
 use arrayvec::ArrayVec;
 use heap_theory::{Event, NullCause};

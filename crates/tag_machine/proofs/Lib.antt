@@ -1,3 +1,3 @@
-pub mod SetBitsLaws
-pub mod DrawLaws
-pub mod ChoiceLaws
+pub mod SetBits
+pub mod DrawnTags
+pub mod Choice

@@ -7,7 +7,7 @@ ghost use Rattle.tag_machine.specs.SetBits.{set_bits};
 use crate::set_bits::nth_set_bit;
 
 /// The random tag that a draw takes from the seed: four new bits, the first one lowest.
-#[tactic(auto, using(crate::proofs::DrawLaws::new_bits))]
+#[tactic(auto, using(crate::proofs::DrawnTags::new_bits))]
 pub(crate) fn next_offset(seed: u16) -> u8
     ensures offset { result ≡ next_offset seed }
     ensures below { result < 16 }

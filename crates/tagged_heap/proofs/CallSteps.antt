@@ -11,7 +11,7 @@ use Rattle.heap_theory.specs.declared.refusal.NullCause.{NullCause}
 use Rattle.heap_theory.specs.declared.refusal.ReallocError.TheVariants.{Null}
 use Rattle.heap_theory.specs.State.State.{Fresh, Live}
 use Rattle.machine_theory.specs.Memory.{Granule, bytes_at, tagged}
-use Rattle.tagged_heap.specs.HeapView.{HeapAndFrees}
+use Rattle.tagged_heap.specs.HeldHeap.{HeapAndFrees}
 use Rattle.tagged_heap.specs.Chunks.{IsChunk}
 use Rattle.tagged_heap.specs.declared.freeing.Chunk.{Chunk as Found}
 use Rattle.tagged_heap.specs.Frees.{frees_for_slot}

@@ -19,7 +19,7 @@ use Rattle.heap_theory.proofs.Releasing.{list_of-here, list_of-there}
 use Rattle.heap_theory.proofs.SeenMemory.{length-without_headers}
 use Rattle.tagged_heap.proofs.TheoryLemmas as laws
 use Rattle.tagged_heap.specs.Representation.{header_from, IsRewritten, HasHeaders, AreListed, AreFirstFresh, Parts, IsKept}
-use Rattle.tagged_heap.proofs.HeaderPlaces.{then_tagged, then_written, written_header}
+use Rattle.tagged_heap.proofs.RewrittenHeaders.{then_tagged, then_written, written_header}
 use Rattle.tagged_heap.proofs.Kept.{header_fits, within_states, booked_same}
 
 -- ---- lists

@@ -29,10 +29,10 @@ use Rattle.tagged_heap.proofs.TheoryLemmas as laws
 use Rattle.tagged_heap.specs.Chunks.{given_header, tag_for, HasRoom}
 use Rattle.tagged_heap.specs.ClassSlots.{IsCauseFor, HasClass, Takes}
 use Rattle.tagged_heap.specs.Representation.{header_from, IsRewritten, AreListed, AreFirstFresh, Parts, IsKept}
-use Rattle.tagged_heap.specs.HeapView.{shown_heap, IsHeldIn}
+use Rattle.tagged_heap.specs.HeldHeap.{shown_heap, IsHeldIn}
 use Rattle.tagged_heap.proofs.Changed.{with_link, other_list, state_here, counters_changed, kept_alive, alive_memory}
 use Rattle.tagged_heap.proofs.Counters.{counters_step, counted, lowest_counted, lowest_none}
-use Rattle.tagged_heap.proofs.HeaderPlaces.{link_set}
+use Rattle.tagged_heap.proofs.RewrittenHeaders.{link_set}
 use Rattle.tagged_heap.proofs.Shares.{share_of_slot}
 use Rattle.tagged_heap.proofs.Kept.{class_few, within_states, within_lists, region_is, front_few, list_slot, booked_at_rest, shown_is}
 

@@ -11,7 +11,7 @@ use Rattle.heap_theory.specs.State.State.{Live}
 use Rattle.tagged_heap.proofs.TheoryLemmas as laws
 use Rattle.tagged_heap.specs.Representation.{header_from, Parts}
 use Rattle.heap_theory.specs.Region.{region_of, header_in}
-use Rattle.tagged_heap.specs.HeapView.{shown_heap, IsHeldIn}
+use Rattle.tagged_heap.specs.HeldHeap.{shown_heap, IsHeldIn}
 use Rattle.tagged_heap.proofs.Changed.{counters_changed, kept_alive, alive_memory}
 use Rattle.tagged_heap.proofs.Kept.{within_states, booked_at_rest, shown_is}
 

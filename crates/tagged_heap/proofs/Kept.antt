@@ -22,7 +22,7 @@ use Rattle.heap_theory.proofs.SeenMemory.{length-without_headers}
 use Rattle.tagged_heap.proofs.TheoryLemmas as laws
 use Rattle.tagged_heap.specs.Chunks.{HasRoom}
 use Rattle.tagged_heap.specs.Representation.{standing_from, header_from, Parts, IsKept}
-use Rattle.tagged_heap.specs.HeapView.{shown_heap, shown_states}
+use Rattle.tagged_heap.specs.HeldHeap.{shown_heap, shown_states}
 
 -- ---- sizes
 

@@ -1,10 +1,10 @@
 pub mod TheoryLemmas
 pub mod BytesInParts
-pub mod HeaderPlaces
+pub mod RewrittenHeaders
 pub mod Shares
 pub mod PointerSlots
 pub mod CallSteps
-pub mod ClassSteps
+pub mod RequestClasses
 pub mod Kept
 pub mod Changed
 pub mod Counters
@@ -12,7 +12,7 @@ pub mod Giving
 pub mod InPlace
 pub mod ReleasingOldest
 pub mod TakingBack
-pub mod FirstHeld
+pub mod NewHeap
 pub mod PayloadWritten
 pub mod GranuleKinds
 pub mod NamedChunks

@@ -20,7 +20,7 @@ use Rattle.heap_theory.proofs.Regions.{region_of-written, start_is_header}
 use Rattle.heap_theory.proofs.SeenMemory.{length-without_headers}
 use Rattle.tagged_heap.proofs.TheoryLemmas as laws
 use Rattle.tagged_heap.specs.Representation.{header_from, Parts, IsKept}
-use Rattle.tagged_heap.specs.HeapView.{shown_heap, IsHeldIn}
+use Rattle.tagged_heap.specs.HeldHeap.{shown_heap, IsHeldIn}
 use Rattle.tagged_heap.proofs.BytesInParts.{map_same}
 use Rattle.tagged_heap.proofs.Changed.{listed_same}
 use Rattle.tagged_heap.proofs.Kept.{booked_same, booked_at_rest, region_is, shown_is}

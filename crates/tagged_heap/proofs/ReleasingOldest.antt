@@ -19,7 +19,7 @@ use Rattle.tagged_heap.proofs.TheoryLemmas as laws
 use Rattle.tagged_heap.specs.ClassSlots.{HasFront}
 use Rattle.tagged_heap.specs.Representation.{standing_from, header_from, IsRewritten, AreListed, Parts, IsKept}
 use Rattle.tagged_heap.proofs.Changed.{with_link, with_standing, listed_same, other_list}
-use Rattle.tagged_heap.proofs.HeaderPlaces.{link_set}
+use Rattle.tagged_heap.proofs.RewrittenHeaders.{link_set}
 use Rattle.tagged_heap.proofs.Kept.{class_few, list_slot}
 
 -- ---- how slots stand

@@ -24,9 +24,9 @@ use Rattle.quarantine_core.specs.Queue.{Queue, AreQueued, CanBePut, with_newest}
 use Rattle.tagged_heap.proofs.TheoryLemmas as laws
 use Rattle.tagged_heap.specs.Chunks.{HasRoom, retired_header, tag_for}
 use Rattle.tagged_heap.specs.Representation.{standing_from, header_from, IsRewritten, Parts, IsKept}
-use Rattle.tagged_heap.specs.HeapView.{shown_heap, IsHeldIn}
+use Rattle.tagged_heap.specs.HeldHeap.{shown_heap, IsHeldIn}
 use Rattle.tagged_heap.proofs.Changed.{with_link, listed_same, state_here, headers_changed, counters_changed}
-use Rattle.tagged_heap.proofs.HeaderPlaces.{link_set, then_tagged, written_header}
+use Rattle.tagged_heap.proofs.RewrittenHeaders.{link_set, then_tagged, written_header}
 use Rattle.tagged_heap.proofs.Kept.{class_most, size_most, header_fits, region_is, within_states, bytes_from, queue_slot, list_slot, has_room, booked_at_rest, shown_is}
 
 module _ {h : Heap} {frees : ℕ} {p : Parts} {counters : List ℕ} (held : IsHeldIn h frees p counters) (s n tag : ℕ) (in_range : IsSlot h s)

@@ -2,6 +2,6 @@ pub mod Config
 pub mod Chunks
 pub mod ClassSlots
 pub mod Representation
-pub mod HeapView
-pub mod Abstraction
+pub mod HeldHeap
+pub mod HeapFields
 pub mod Frees

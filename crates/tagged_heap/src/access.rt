@@ -6,8 +6,8 @@ ghost use Rattle.machine_theory.specs.Access.{IsMapped, access_fault, is_mapped,
 ghost use Rattle.machine_theory.specs.Address.{logical_tag};
 ghost use Rattle.std.specs.Prelude.{◌≡◌, ◌≢◌, ◌↔◌, ◌⊎◌, ◌≤◌, IsFalse, IsTrue, OnErr, OnOk, length};
 
-use crate::headers::header;
 use crate::heap::Heap;
+use crate::read_header::header;
 use crate::tags::chunk_granules;
 use chunk_header::State;
 use granule_memory::Memory;

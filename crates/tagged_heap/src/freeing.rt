@@ -13,9 +13,9 @@ ghost use Rattle.tagged_heap.specs.ClassSlots.{HasFront};
 ghost use Rattle.tagged_heap.specs.Representation.{IsKept, IsRewritten, SomeIsKept};
 ghost use Rattle.heap_theory.specs.Region.{region_of, header_in};
 
-use crate::headers::header;
 use crate::heap::Heap;
 use crate::pointers::slot_of_pointer;
+use crate::read_header::header;
 use crate::slot_changes::retire;
 use chunk_header::{Header, State, write};
 use class_lists::ClassLists;

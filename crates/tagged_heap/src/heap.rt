@@ -55,11 +55,11 @@ pub struct Heap {
 }
 
 impl Model for Heap {
-    ghost use Rattle.tagged_heap.specs.HeapView.{HeapAndFrees};
+    ghost use Rattle.tagged_heap.specs.HeldHeap.{HeapAndFrees};
 
     ghost Value = { HeapAndFrees };
 
-    ghost use Rattle.tagged_heap.specs.Abstraction.{seen, IsHeld};
+    ghost use Rattle.tagged_heap.specs.HeapFields.{seen, IsHeld};
 
     ghost view = { seen };
 

@@ -13,8 +13,8 @@ ghost use Rattle.std.specs.Prelude.{◌≡◌, ◌+◌, ◌^◌, ◌<◌, ◌≤
 ghost use Rattle.tagged_heap.specs.Chunks.{HasRoom, given_header, retired_header, tag_for};
 ghost use Rattle.heap_theory.specs.Region.{region_of, header_in};
 
-use crate::headers::header;
 use crate::pointers::payload_address;
+use crate::read_header::header;
 use crate::tags::{chunk_granules, draw, exclude, tag_chunk};
 use chunk_header::{Header, State, write};
 use class_table::{Layout, Slot};

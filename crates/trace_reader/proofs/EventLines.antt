@@ -12,7 +12,7 @@ use Rattle.line_text.specs.Lines.{words, line_of, is_newline, is_space, IsLine, 
 use Rattle.heap_theory.specs.declared.event.Event.{Event}
 use Rattle.heap_theory.specs.declared.event.Event.TheVariants.{Malloc, Calloc, Realloc, Free, Load, Store, Addg, Subg}
 use Rattle.heap_theory.specs.Ranges.{IsInRange}
-use Rattle.trace_reader.specs.Spelled.{AreRead, IsRead}
+use Rattle.trace_reader.specs.OnePass.{AreRead, IsRead}
 use Rattle.trace_reader.specs.TraceLine.{number_from, offset_of, byte_of, event_line, event_of_words, event_of_line, event_words, move_of, move_words, request_of, request_words}
 use Rattle.trace_reader.proofs.LineRanges.{both_pass}
 use Rattle.trace_reader.proofs.Offsets.{fits_signed}

@@ -13,7 +13,7 @@ use Rattle.std.specs.Int.{w32}
 use Rattle.std.specs.Prelude.{FitsSigned, IfOk}
 use Rattle.trace_reader.proofs.LineRanges.{IfOk-offset_of}
 use Rattle.trace_reader.proofs.Offsets.{fits_narrow}
-use Rattle.trace_reader.specs.Spelled.{AreAfter, AreRead, IsRead}
+use Rattle.trace_reader.specs.OnePass.{AreAfter, AreRead, IsRead}
 use Rattle.trace_reader.specs.declared.fault.TraceFault.{TraceFault}
 use Rattle.trace_reader.specs.TraceLine.{byte_of, event_named, event_of_words, free_of, is_empty_word, load_of, move_of, number_from, offset_of, request_of, store_of}
 

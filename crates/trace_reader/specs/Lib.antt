@@ -2,7 +2,7 @@ pub mod Laws
 pub mod Reached
 pub mod Reading
 pub mod FaultText
-pub mod Spelled
+pub mod OnePass
 pub mod Status
 pub mod TraceLine
 pub mod TraceText

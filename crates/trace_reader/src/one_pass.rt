@@ -3,7 +3,7 @@
 ghost use Rattle.std.specs.Prelude.{◌≡◌, ◌≤◌, [], ℕ, IfSome, Ok};
 ghost use Rattle.heap_theory.specs.declared.event.Event.{Event as EventView};
 ghost use Rattle.line_text.specs.Lines.{words};
-ghost use Rattle.trace_reader.specs.Spelled.{AreAfter, AreRead, IsRead};
+ghost use Rattle.trace_reader.specs.OnePass.{AreAfter, AreRead, IsRead};
 ghost use Rattle.trace_reader.specs.TraceLine.{byte_of, event_of_words, free_of, load_of, move_of, number_from, offset_of, request_of, store_of};
 
 use crate::words::{FARTHEST, byte_in, offset_in};

@@ -1,7 +1,7 @@
 //! `check`.
-ghost use Rattle.command_line.specs.Program.{HasWords, check_words};
+ghost use Rattle.command_line.specs.AcceptedWords.{HasWords, check_words};
 
-use crate::commands::help::{About, about, described, help_text};
+use crate::commands::shared_help::{About, about, described, help_text};
 use clap::Command;
 use std::alloc::Global;
 

@@ -1,7 +1,7 @@
 //! `profile`.
-ghost use Rattle.command_line.specs.Program.{HasWords, profile_words};
+ghost use Rattle.command_line.specs.AcceptedWords.{HasWords, profile_words};
 
-use crate::commands::help::{About, about, described, help_text};
+use crate::commands::shared_help::{About, about, described, help_text};
 use clap::Command;
 use std::alloc::Global;
 

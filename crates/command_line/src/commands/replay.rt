@@ -2,10 +2,10 @@
 ghost use Rattle.std.specs.Prelude.{IfOk, MatchResult, codes};
 ghost use Rattle.clap.specs.Words.{found_of, rows_of};
 ghost use Rattle.command_line.specs.Calls.{Names};
-ghost use Rattle.command_line.specs.Program.{HasWords, replay_words};
+ghost use Rattle.command_line.specs.AcceptedWords.{HasWords, replay_words};
 ghost use Rattle.command_line.specs.declared.call.Call.TheVariants.{Replay as ReplayCall};
 
-use crate::commands::help::{About, about, described, help_text};
+use crate::commands::shared_help::{About, about, described, help_text};
 use crate::options::{config_of, granules, quarantine, seed};
 use crate::refusal::OptionFault;
 use clap::{ArgMatches, Command};

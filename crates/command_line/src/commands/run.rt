@@ -2,10 +2,10 @@
 ghost use Rattle.std.specs.Prelude.{IfOk, MatchResult, codes};
 ghost use Rattle.clap.specs.Words.{found_of, rows_of};
 ghost use Rattle.command_line.specs.Calls.{Names};
-ghost use Rattle.command_line.specs.Program.{HasWords, run_words};
+ghost use Rattle.command_line.specs.AcceptedWords.{HasWords, run_words};
 ghost use Rattle.command_line.specs.declared.call.Call.TheVariants.{Run as RunCall};
 
-use crate::commands::help::{About, described, help_text};
+use crate::commands::shared_help::{About, described, help_text};
 use crate::options::{config_of, granules, limit, limit_of, quarantine, seed, step, step_of};
 use crate::refusal::OptionFault;
 use clap::{ArgMatches, Command};

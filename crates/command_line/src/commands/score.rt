@@ -1,7 +1,7 @@
 //! `score`.
-ghost use Rattle.command_line.specs.Program.{HasWords, score_words};
+ghost use Rattle.command_line.specs.AcceptedWords.{HasWords, score_words};
 
-use crate::commands::help::{About, about, described, help_text};
+use crate::commands::shared_help::{About, about, described, help_text};
 use clap::Command;
 use std::alloc::Global;
 

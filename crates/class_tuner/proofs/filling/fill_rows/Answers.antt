@@ -2,8 +2,8 @@ use Rattle.std.proofs.Common.{[], ◌≡◌, ℕ, ◌+◌, ◌-◌, ◌^◌, add
 use Rattle.class_tuner.specs.Filling.{IsFilledWithin}
 use Rattle.potential_check.specs.Lists.{lists_of}
 use Rattle.tuner_theory.specs.Rows.{IsFilled, number_at}
-use Rattle.class_tuner.proofs.CallCounts.{OnlyCounts-more}
-use Rattle.class_tuner.proofs.Digits.{calls-more, room-left}
+use Rattle.class_tuner.proofs.Sources.{OnlyCounts-more}
+use Rattle.class_tuner.proofs.CallCounts.{calls-more, room-left}
 use Rattle.class_tuner.proofs.Rows.{filled-first, filled-pushed, filled-small, row-read}
 use Rattle.class_tuner.proofs.Tried.{calls-first, calls-pushed}
 use Rattle.class_tuner.proofs.filling.fill_rows.Goals as goal

@@ -1,7 +1,7 @@
 use Rattle.std.proofs.Common.{slice_index, arith}
 use Rattle.std.proofs.lemmas.List.{with_items_is}
 use Rattle.class_tuner.specs.CallCounts.{bits}
-use Rattle.class_tuner.proofs.Digits.{below-bits}
+use Rattle.class_tuner.proofs.CallCounts.{below-bits}
 use Rattle.class_tuner.proofs.Tried.{tried-none}
 use Rattle.class_tuner.proofs.filling.next_row.Goals as goal
 use Rattle.class_tuner.proofs.filling.next_row.Goals.{then-places-gt0, else-places-gt0}

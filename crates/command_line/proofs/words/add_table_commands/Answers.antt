@@ -1,7 +1,7 @@
 use Rattle.std.proofs.Common.{◌∙◌, ap, ap₂}
 use Rattle.std.proofs.lemmas.Result.{IfOk-weaker}
 use Rattle.clap.specs.Words.{app_of}
-use Rattle.command_line.specs.Program.{with_command}
+use Rattle.command_line.specs.AcceptedWords.{with_command}
 use Rattle.command_line.proofs.words.add_table_commands.Goals as goal
 
 pub returns : goal.returns

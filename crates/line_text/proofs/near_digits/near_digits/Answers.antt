@@ -2,7 +2,7 @@ use Rattle.std.proofs.Common.{◌≡◌, ℕ, ◌-◌, ◌∙◌, get_or, take_a
 use Rattle.std.specs.Char.{is_ascii_digit}
 use Rattle.line_text.proofs.Digits.{one_more, digits_more, room_for_one}
 use Rattle.line_text.proofs.LeadingDigits.{ends_at}
-use Rattle.line_text.proofs.NearDigits.{distance, near_digit, far_digit}
+use Rattle.line_text.proofs.DigitDistance.{distance, near_digit, far_digit}
 use Rattle.line_text.proofs.near_digits.near_digits.Goals as goal
 
 pub returns-then-digit-gt9-clause-size : goal.returns-then-digit-gt9-clause-size

@@ -1,6 +1,6 @@
 use Rattle.std.proofs.Common.{rules}
 use Rattle.std.proofs.lemmas.Result.{err_from_is_err_and}
-use Rattle.mte_engine.proofs.Answering.{write_failed}
+use Rattle.mte_engine.proofs.Outcomes.{write_failed}
 use Rattle.mte_engine.proofs.engine.run_engine.Goals as goal
 
 pub returns-in_err-write_all : goal.returns-in_err-write_all

@@ -1,6 +1,6 @@
 use Rattle.std.proofs.Common.{◌≡◌, ◌+◌, ◌^◌, ◌≤◌, ◌++◌, length, vec_len}
 use Rattle.std.specs.Prelude.{vec_capacity}
-use Rattle.mte_engine.specs.RestOfReport.{report_from}
+use Rattle.mte_engine.specs.ReportFrom.{report_from}
 use Rattle.mte_engine.proofs.report.fill.Given as goal
 
 abbrev pub invariant-lines : goal.invariant-lines

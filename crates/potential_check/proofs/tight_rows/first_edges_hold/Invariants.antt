@@ -1,5 +1,5 @@
 use Rattle.std.proofs.Common.{ℕ, ◌<◌, ◌≤◌, slice_index}
-use Rattle.potential_check.specs.Bounds.{edge_bound}
+use Rattle.potential_check.specs.RowConditions.{edge_bound}
 use Rattle.potential_check.proofs.tight_rows.first_edges_hold.Given as goal
 
 abbrev pub invariant-loop-j : goal.invariant-loop-j

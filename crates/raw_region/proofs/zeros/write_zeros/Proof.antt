@@ -1,5 +1,5 @@
 -- `write_zeros` writes the bytes from the first on. The rest is room.
-use Rattle.raw_region.proofs.Steps.{◌≡◌, ℕ, ◌+◌, ◌-◌, ◌<◌, ◌≤◌, ◌++◌, List, [], ◌∷◌, length, replicate, zero, suc, refl, sym, ap, ◌∙◌, ◌^◌, lit<, arith, w8, w64, ty_int, ty_array, proved, full_share, id⊢, ent, sep, sem, Logic, Ura, SProp, fat, froom, Val, vint, vptr, vunit, tables, Item, ‵, raw, ◌⊛◌, prop, at_ret, ◌$◌, ◌∵◌, !, qed, by, done, move, keep, drop, use1, use2, split, join, fjoin, feq_i, rewrite, regoal, suffices, group, enter, of_opd, lit, unit_lit, bin, init, stop, first, blocks, branches, skips, assigns_last, exec, returns, alloc_all, pass_all, free_all, look_at, get, through, sets, sets_last, env, Array, u8, usize, yes, uint_vals, uint_Tells, uint_in, row, part_at, Ptr, RawPtr, block_ptr, lies_at, in_a_block, plain, nothing, on_entry, Stays, walk_of, stay_dropped, Goes-dropped, ends_at, after}
+use Rattle.raw_region.proofs.Names.{◌≡◌, ℕ, ◌+◌, ◌-◌, ◌<◌, ◌≤◌, ◌++◌, List, [], ◌∷◌, length, replicate, zero, suc, refl, sym, ap, ◌∙◌, ◌^◌, lit<, arith, w8, w64, ty_int, ty_array, proved, full_share, id⊢, ent, sep, sem, Logic, Ura, SProp, fat, froom, Val, vint, vptr, vunit, tables, Item, ‵, raw, ◌⊛◌, prop, at_ret, ◌$◌, ◌∵◌, !, qed, by, done, move, keep, drop, use1, use2, split, join, fjoin, feq_i, rewrite, regoal, suffices, group, enter, of_opd, lit, unit_lit, bin, init, stop, first, blocks, branches, skips, assigns_last, exec, returns, alloc_all, pass_all, free_all, look_at, get, through, sets, sets_last, env, Array, u8, usize, yes, uint_vals, uint_Tells, uint_in, row, part_at, Ptr, RawPtr, block_ptr, lies_at, in_a_block, plain, nothing, on_entry, Stays, walk_of, stay_dropped, Goes-dropped, ends_at, after}
 use mathlib.Core.WellFounded.InvImage
 use native.Mathlib.Nat.{add_comm, add-zero}
 use lib.Dec.{ltb→lt, nltb→le}

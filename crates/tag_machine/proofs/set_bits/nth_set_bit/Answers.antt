@@ -3,7 +3,7 @@ use Rattle.std.proofs.lemmas.List.{get_or-drop, drop-drop}
 use Rattle.std.proofs.lemmas.Nat.Bits.{bit_at-trailing_zeros}
 use Rattle.std.specs.Int.{w16}
 use Rattle.tag_machine.specs.SetBits.{set_bits}
-use Rattle.tag_machine.proofs.SetBitsLaws.{set_bits_some, set_bits_cleared, first_set_bit}
+use Rattle.tag_machine.proofs.SetBits.{set_bits_some, set_bits_cleared, first_set_bit}
 use Rattle.tag_machine.proofs.set_bits.nth_set_bit.Goals as goal
 
 -- as long as set bits are left, the number is not 0

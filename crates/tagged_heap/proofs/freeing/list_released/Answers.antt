@@ -2,7 +2,7 @@ use Rattle.std.proofs.Common.{ap, ◌∙◌}
 use Rattle.std.specs.Prelude.{slice_index}
 use Rattle.heap_theory.specs.Header.{Header}
 use Rattle.heap_theory.specs.Header.Standing.{Freed}
-use Rattle.tagged_heap.proofs.HeaderPlaces.{header_written, link_set}
+use Rattle.tagged_heap.proofs.RewrittenHeaders.{header_written, link_set}
 use Rattle.tagged_heap.proofs.freeing.list_released.Goals as goal
 
 -- the header is written as that of a freed slot, and then its link is set

@@ -7,8 +7,8 @@ use Rattle.heap_theory.specs.Header.Standing.{Fresh as NeverGiven}
 use Rattle.heap_theory.specs.State.State.{Fresh}
 use Rattle.tagged_heap.specs.Representation.{header_from}
 use Rattle.heap_theory.specs.Region.{region_of, header_in}
-use Rattle.tagged_heap.proofs.FirstHeld.{class_is_number}
-use Rattle.tagged_heap.proofs.HeaderPlaces.{header_written}
+use Rattle.tagged_heap.proofs.NewHeap.{class_is_number}
+use Rattle.tagged_heap.proofs.RewrittenHeaders.{header_written}
 use Rattle.tagged_heap.proofs.Shares.{in_share}
 use Rattle.tagged_heap.proofs.TheoryLemmas as laws
 use Rattle.tagged_heap.proofs.new_heap.write_fresh_headers.Goals as goal

@@ -2,7 +2,7 @@ use Rattle.std.proofs.Common.{◌≡◌, ◌+◌, ◌/◌, length, map, get_or, 
 use Rattle.std.specs.List.{range_with_len}
 use Rattle.std.proofs.lemmas.Option.{get_or_from_slice_get}
 use Rattle.class_table.specs.Layout.{IsPartition, first_slot}
-use Rattle.class_table.proofs.Filling.{IsFilled-more, firsts_more, length-numbers}
+use Rattle.class_table.proofs.LayoutSoFar.{IsFilled-more, firsts_more, length-numbers}
 use Rattle.class_table.proofs.FirstSlots.{first_slot-few}
 use Rattle.class_table.proofs.layout.Layout.new.Goals as goal
 

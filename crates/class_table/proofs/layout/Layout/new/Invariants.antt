@@ -1,4 +1,4 @@
-use Rattle.class_table.proofs.Filling.{IsFilled}
+use Rattle.class_table.proofs.LayoutSoFar.{IsFilled}
 use Rattle.class_table.proofs.layout.Layout.new.Given as goal
 
 abbrev pub invariant-loop-number : goal.invariant-loop-number

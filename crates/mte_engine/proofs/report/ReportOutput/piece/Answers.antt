@@ -1,5 +1,5 @@
 use Rattle.std.proofs.Common.{refl}
-use Rattle.mte_engine.specs.RestOfReport.{report_unless}
+use Rattle.mte_engine.specs.ReportFrom.{report_unless}
 use Rattle.mte_engine.proofs.report.ReportOutput.piece.Goals as goal
 
 pub returns-clause-first : goal.returns-clause-first

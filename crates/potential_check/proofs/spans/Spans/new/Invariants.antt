@@ -1,5 +1,5 @@
 use Rattle.std.proofs.Common.{◌<◌}
-use Rattle.potential_check.proofs.Building.{IsBuilt}
+use Rattle.potential_check.proofs.SpansBuilt.{IsBuilt}
 use Rattle.potential_check.proofs.spans.Spans.new.Given as goal
 use Rattle.tuner_theory.specs.Waste.{AreCounts}
 

@@ -1,5 +1,5 @@
 -- `as_mut_slice` lends the bytes, and the region follows them.
-use Rattle.raw_region.proofs.Steps.{◌≡◌, ℕ, ◌*◌, ◌<◌, ◌^◌, ◌∙◌, List, [], ◌∷◌, length, refl, sym, ap, arith, named, proved, full_share, Ura, Logic, sem, ent, sep, emp, ftrue, fsep, GName, Fml, flft, Val, fact, fact_i, tables, ‵, raw, ◌⊛◌, some, later, at_ret, ◌$◌, ◌∵◌, !, qed, by, done, move, keep, drop, use0, use1, split, split3, join, await, pick, rewrite, fsplit, fsplit3, fjoin, fpack, group, enter, of_opd, load, stop, fld, no_more, and_then, first, blocks, exec, returns, alloc_all, pass_all, free_all, look_at, get, through, sets, sets_last, env, agg, whole, sub, look_in, block_ptr, u8, Array, no, mut_vals, mut_Tells, owns, types_at, plain, nothing, cell_at, row, mem, leaves, Stays, walk_of, stay_dropped, opens}
+use Rattle.raw_region.proofs.Names.{◌≡◌, ℕ, ◌*◌, ◌<◌, ◌^◌, ◌∙◌, List, [], ◌∷◌, length, refl, sym, ap, arith, named, proved, full_share, Ura, Logic, sem, ent, sep, emp, ftrue, fsep, GName, Fml, flft, Val, fact, fact_i, tables, ‵, raw, ◌⊛◌, some, later, at_ret, ◌$◌, ◌∵◌, !, qed, by, done, move, keep, drop, use0, use1, split, split3, join, await, pick, rewrite, fsplit, fsplit3, fjoin, fpack, group, enter, of_opd, load, stop, fld, no_more, and_then, first, blocks, exec, returns, alloc_all, pass_all, free_all, look_at, get, through, sets, sets_last, env, agg, whole, sub, look_in, block_ptr, u8, Array, no, mut_vals, mut_Tells, owns, types_at, plain, nothing, cell_at, row, mem, leaves, Stays, walk_of, stay_dropped, opens}
 use base.Logic.{id⊢}
 use denote.Follow.{follows}
 use denote.FollowSlice.{Elements, lends_Elements}

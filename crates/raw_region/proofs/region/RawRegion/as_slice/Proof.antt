@@ -1,5 +1,5 @@
 -- `as_slice` reads the pointer and the length, and hands on the `&` to the bytes.
-use Rattle.raw_region.proofs.Steps.{◌≡◌, ℕ, ◌+◌, ◌*◌, ◌^◌, ◌<◌, ◌≤◌, ◌∙◌, List, [], ◌∷◌, length, refl, ap, arith, named, proved, emp, ftrue, flft, Val, fact, fact_i, tables, ‵, raw, ◌⊛◌, given, learn, at_ret, ◌$◌, ◌∵◌, !, qed, by, move, keep, use0, use1, split, join, fsplit, fjoin, drop, feq_i, flt_i, enter, of_opd, load, look, stop, fld, no_more, and_then, first, blocks, exec, returns, alloc_all, pass_all, free_all, look_at, get, through, sets, sets_last, env, agg, RefOf, yes, shr_vals, shr_Tells, owns, types_at, plain, nothing, leaves, Stays, walk_of, stay_dropped, Goes-dropped, u8, w8}
+use Rattle.raw_region.proofs.Names.{◌≡◌, ℕ, ◌+◌, ◌*◌, ◌^◌, ◌<◌, ◌≤◌, ◌∙◌, List, [], ◌∷◌, length, refl, ap, arith, named, proved, emp, ftrue, flft, Val, fact, fact_i, tables, ‵, raw, ◌⊛◌, given, learn, at_ret, ◌$◌, ◌∵◌, !, qed, by, move, keep, use0, use1, split, join, fsplit, fjoin, drop, feq_i, flt_i, enter, of_opd, load, look, stop, fld, no_more, and_then, first, blocks, exec, returns, alloc_all, pass_all, free_all, look_at, get, through, sets, sets_last, env, agg, RefOf, yes, shr_vals, shr_Tells, owns, types_at, plain, nothing, leaves, Stays, walk_of, stay_dropped, Goes-dropped, u8, w8}
 use borrow.Rule.ByKnown.{shr_slice_Learns}
 use denote.Known.{uint_known}
 use denote.RawPtr.{block_of, count_of}

@@ -1,5 +1,5 @@
 -- `drop` takes the region apart and gives the bytes back as room.
-use Rattle.raw_region.proofs.Steps.{◌≡◌, ℕ, ◌<◌, ◌^◌, ◌++◌, List, [], ◌∷◌, length, refl, sym, ap, subst, ◌∙◌, lit<, arith, w8, ty_int, ty_array, proved_at, full_share, ftrue, froom, flft, Val, vunit, tables, ‵, raw, ◌⊛◌, given, later, prop, at_ret, ◌$◌, ◌∵◌, !, qed, done, move, keep, use1, split, join, fsplit, feq_i, learn, await, rewrite, regoal, suffices, group, enter, of_opd, lit, unit_lit, addr, stop, fld, no_more, and_then, first, blocks, exec, returns, alloc_all, pass_all, free_all, look_at, get, get_in, sets, lands_last, env, whole, sub, owns, types_at, plain, yes, Ptr, calls_at_last, alive, framed, nothing, Stays, walk_of, stay_dropped, Goes-dropped, ends_at, ◌*◌}
+use Rattle.raw_region.proofs.Names.{◌≡◌, ℕ, ◌<◌, ◌^◌, ◌++◌, List, [], ◌∷◌, length, refl, sym, ap, subst, ◌∙◌, lit<, arith, w8, ty_int, ty_array, proved_at, full_share, ftrue, froom, flft, Val, vunit, tables, ‵, raw, ◌⊛◌, given, later, prop, at_ret, ◌$◌, ◌∵◌, !, qed, done, move, keep, use1, split, join, fsplit, feq_i, learn, await, rewrite, regoal, suffices, group, enter, of_opd, lit, unit_lit, addr, stop, fld, no_more, and_then, first, blocks, exec, returns, alloc_all, pass_all, free_all, look_at, get, get_in, sets, lands_last, env, whole, sub, owns, types_at, plain, yes, Ptr, calls_at_last, alive, framed, nothing, Stays, walk_of, stay_dropped, Goes-dropped, ends_at, ◌*◌}
 use lib.Dec.{T}
 use mir.Syntax.{ty_unit}
 use mir.Val.{has_ty, WT}

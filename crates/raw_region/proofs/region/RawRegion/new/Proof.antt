@@ -1,5 +1,5 @@
 -- `new` asks the heap for the block, writes zeros into it, and makes the region of it.
-use Rattle.raw_region.proofs.Steps.{owned, uint_Makes, Is, fsep, ◌≡◌, ◌∙◌, ap, subst, lasts, ℕ, ◌<◌, ◌≤◌, ◌^◌, ◌*◌, List, [], ◌∷◌, length, replicate, refl, sym, lit<, arith, w64, proved, full_share, id⊢, emp, ftrue, flft, SProp, Val, vint, vptr, fact, fact_i, tables, ‵, raw, ◌⊛◌, some, later, at_ret, ◌$◌, ◌∵◌, !, qed, by, move, drop, use0, use1, use2, split, join, fsplit, fjoin, feq_i, feq_l, pick, await, enter, of_opd, lit, addr, stop, fld, no_more, and_then, first, blocks, exec, returns, alloc_all, pass_all, free_all, look_at, get, get_in, sets, sets_last, lands_as, lands_last, env, whole, agg, owns, types_at, plain, yes, block_ptr, lies_at, calls_at, calls_at_last, alive, framed, nothing, only, heard, triple_of, Array, row, u8, unit, usize, uint_vals, uint_Tells, Stays, walk_of, stay_dropped, Goes-dropped, leaves, after}
+use Rattle.raw_region.proofs.Names.{owned, uint_Makes, Is, fsep, ◌≡◌, ◌∙◌, ap, subst, lasts, ℕ, ◌<◌, ◌≤◌, ◌^◌, ◌*◌, List, [], ◌∷◌, length, replicate, refl, sym, lit<, arith, w64, proved, full_share, id⊢, emp, ftrue, flft, SProp, Val, vint, vptr, fact, fact_i, tables, ‵, raw, ◌⊛◌, some, later, at_ret, ◌$◌, ◌∵◌, !, qed, by, move, drop, use0, use1, use2, split, join, fsplit, fjoin, feq_i, feq_l, pick, await, enter, of_opd, lit, addr, stop, fld, no_more, and_then, first, blocks, exec, returns, alloc_all, pass_all, free_all, look_at, get, get_in, sets, sets_last, lands_as, lands_last, env, whole, agg, owns, types_at, plain, yes, block_ptr, lies_at, calls_at, calls_at_last, alive, framed, nothing, only, heard, triple_of, Array, row, u8, unit, usize, uint_vals, uint_Tells, Stays, walk_of, stay_dropped, Goes-dropped, leaves, after}
 use base.Fml.{feq}
 use denote.RawPtr.{room_for}
 use denote.RawPtr.Bytes.{bytes_apart}

@@ -8,7 +8,7 @@ use Rattle.heap_theory.specs.declared.event.Event.{Event}
 use Rattle.heap_theory.specs.Run.{Replay, heap_after, replay_after, variables_after, answer_of}
 use Rattle.heap_theory.specs.Totals.{Totals, totals_after}
 use Rattle.heap_theory.specs.State.{Heap}
-use Rattle.replay_core.specs.Abstraction.{stored}
+use Rattle.replay_core.specs.ReplayFields.{stored}
 use Rattle.replay_core.specs.TheoryValues.{AreVariables, over, shown, totals_in}
 use Rattle.replay_core.specs.ReplayState.{Stored, IsStored, stored_after}
 use Rattle.heap_theory.proofs.LayoutStays.{layout_after}

@@ -4,8 +4,8 @@ use Rattle.std.specs.Option.{ok_or}
 use Rattle.heap_theory.specs.declared.refusal.NullCause.{NullCause}
 use Rattle.heap_theory.specs.declared.refusal.NullCause.TheVariants.{Exhausted}
 use Rattle.heap_theory.specs.Calls.{given_out}
-use Rattle.tagged_heap.specs.Abstraction.{state_of, parts_of}
-use Rattle.tagged_heap.specs.HeapView.{shown_heap}
+use Rattle.tagged_heap.specs.HeapFields.{state_of, parts_of}
+use Rattle.tagged_heap.specs.HeldHeap.{shown_heap}
 use Rattle.tagged_heap.proofs.Giving.{IsTaken, request_refused, has_class, taken, taken_class, exhausted, taken_room, given_held, given_shown, given_address}
 use Rattle.tagged_heap.proofs.heap.Heap.allocate.Goals as goal
 use Rattle.tagged_heap.proofs.heap.Heap.allocate.Goals.{In_ok-slot, After-give_out-address}

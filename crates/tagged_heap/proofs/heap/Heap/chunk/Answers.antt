@@ -7,7 +7,7 @@ use Rattle.heap_theory.specs.Header.{Header, Standing, class_number}
 use Rattle.heap_theory.specs.Header.Standing.{Fresh as IsFresh, Live as IsLive, Quarantined as IsQuarantined, Freed as IsFreed}
 use Rattle.heap_theory.specs.Region.{region_of, header_in, next_in}
 use Rattle.heap_theory.specs.State.{state_at}
-use Rattle.tagged_heap.specs.Abstraction.{state_of}
+use Rattle.tagged_heap.specs.HeapFields.{state_of}
 use Rattle.tagged_heap.specs.Representation.{header_from}
 use Rattle.tagged_heap.proofs.TheoryLemmas as laws
 use Rattle.tagged_heap.proofs.Kept.{region_is, class_few}

@@ -4,7 +4,7 @@ use Rattle.std.specs.Prelude.{OnOk}
 use Rattle.machine_theory.specs.Access.{access_fault, ok_unless, loaded}
 use Rattle.heap_theory.proofs.HeaderWords.{class_number-is}
 use Rattle.heap_theory.proofs.HeadersAgree.{header_words_stay}
-use Rattle.tagged_heap.specs.Abstraction.{state_of}
+use Rattle.tagged_heap.specs.HeapFields.{state_of}
 use Rattle.tagged_heap.proofs.PayloadWritten.{tagged_access, load_seen, fault_cases}
 use Rattle.tagged_heap.proofs.heap.Heap.load.Goals as goal
 

@@ -5,7 +5,7 @@ use Rattle.heap_theory.specs.Header.{Header}
 use Rattle.heap_theory.specs.Places.{place_kind}
 use Rattle.class_table.specs.Sizes.{chunk_granules}
 use Rattle.heap_theory.specs.State.{IsSlot}
-use Rattle.tagged_heap.specs.Abstraction.{state_of}
+use Rattle.tagged_heap.specs.HeapFields.{state_of}
 use Rattle.heap_theory.specs.Region.{region_of, header_in}
 use Rattle.tagged_heap.proofs.GranuleKinds.{kind_outside, in_range, start_kind, size_few, tail_kind, chunk_granule_kind, kind_by}
 use Rattle.tagged_heap.proofs.Kept.{region_is, class_few}

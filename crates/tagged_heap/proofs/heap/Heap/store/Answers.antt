@@ -8,8 +8,8 @@ use Rattle.machine_theory.specs.Machine.{Machine}
 use Rattle.heap_theory.specs.HeapInMemory.{HaveSameSlots}
 use Rattle.heap_theory.proofs.HeaderWords.{class_number-is}
 use Rattle.heap_theory.proofs.HeadersAgree.{header_words_stay}
-use Rattle.tagged_heap.specs.Abstraction.{state_of, seen, parts_of}
-use Rattle.tagged_heap.specs.HeapView.{HeapAndFrees, shown_heap, IsHeldIn}
+use Rattle.tagged_heap.specs.HeapFields.{state_of, seen, parts_of}
+use Rattle.tagged_heap.specs.HeldHeap.{HeapAndFrees, shown_heap, IsHeldIn}
 use Rattle.tagged_heap.proofs.PayloadWritten.{access_outside, tagged_access, fault_cases, written_held, written_shown}
 use Rattle.tagged_heap.proofs.heap.Heap.store.Goals as goal
 use Rattle.tagged_heap.proofs.heap.Heap.store.Goals.{After-store}

@@ -1,6 +1,6 @@
 use Rattle.std.proofs.Common.{◌≡◌, ℕ, ◌+◌, ◌-◌, ◌*◌, ◌<◌, ◌≤◌, slice_index}
 use Rattle.tuner_theory.specs.Waste.{sum_below}
-use Rattle.profile_count.proofs.table_walk.losses_between.Given as goal
+use Rattle.profile_count.proofs.table_losses.losses_between.Given as goal
 
 abbrev pub invariant-loop-n : goal.invariant-loop-n
 invariant-loop-n l = record {

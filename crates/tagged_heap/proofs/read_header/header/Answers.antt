@@ -1,7 +1,7 @@
 use Rattle.std.proofs.Common.{sym, ◌∙◌, arith}
 use Rattle.heap_theory.proofs.Regions.{header_in-region_of}
 use Rattle.tagged_heap.proofs.TheoryLemmas as laws
-use Rattle.tagged_heap.proofs.headers.header.Goals as goal
+use Rattle.tagged_heap.proofs.read_header.header.Goals as goal
 
 pub read-requires-clause-granule : goal.read-requires-clause-granule
 read-requires-clause-granule c =

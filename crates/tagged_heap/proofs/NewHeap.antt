@@ -18,7 +18,7 @@ use Rattle.heap_theory.proofs.FirstHeap.{get_or-replicate_any}
 use Rattle.heap_theory.proofs.Marks.{one_number, number_is}
 use Rattle.tagged_heap.proofs.TheoryLemmas as laws
 use Rattle.tagged_heap.specs.Representation.{header_from, AreFirstFresh, Parts}
-use Rattle.tagged_heap.specs.HeapView.{shown_heap, IsHeldIn}
+use Rattle.tagged_heap.specs.HeldHeap.{shown_heap, IsHeldIn}
 use Rattle.tagged_heap.proofs.Kept.{shown_is}
 use Rattle.tagged_heap.proofs.Shares.{share_of_slot}
 

@@ -12,8 +12,8 @@ use Rattle.std.proofs.lemmas.Nat.{mod_below, zero_from_ones}
 use Rattle.std.proofs.lemmas.Nat.Bits.{bit_at_or, bit_at_not, bit_at-zero, bit_at-lt, bit_at_above, bit_at_cat_low, bit_at_cat_high}
 use Rattle.machine_theory.specs.Tags.{is_excluded, allowed_after, choose_tag}
 use Rattle.tag_machine.specs.SetBits.{set_bits}
-use Rattle.tag_machine.proofs.SetBitsLaws.{filter_places, set_bits-places, length-set_bits}
-use Rattle.tag_machine.proofs.DrawLaws.{bit_at_shr}
+use Rattle.tag_machine.proofs.SetBits.{filter_places, set_bits-places, length-set_bits}
+use Rattle.tag_machine.proofs.DrawnTags.{bit_at_shr}
 
 -- a number of sixteen bits that is shifted to the left: no bit below s, and then its own
 bit_at_shl : (n s j : ℕ) → j < 16 → bit_at ((n * 2 ^ s) % 2 ^ 16) j ≡ bit_at (n * 2 ^ s + 0) j

@@ -2,7 +2,7 @@ use Rattle.std.proofs.Common.{◌≡◌, ◌-◌, ◌*◌, ◌<◌, ◌≤◌, l
 use Rattle.std.specs.List.{position_or_len}
 use Rattle.class_table.specs.Sizes.{serves}
 use Rattle.tuner_theory.specs.Waste.{sum_below, waste_at}
-use Rattle.profile_count.proofs.table_walk.table_losses.Given as goal
+use Rattle.profile_count.proofs.table_losses.table_losses.Given as goal
 
 abbrev pub invariant-loop-number : goal.invariant-loop-number
 invariant-loop-number l = record {

@@ -1,7 +1,7 @@
 use Rattle.std.proofs.Common.{◌≡◌, ◌-◌, ◌*◌, ◌<◌, ◌≤◌, length, slice_index, sym, ap, ◌∙◌, arith, add-one}
 use Rattle.tuner_theory.proofs.Sums.{sum_below-more}
 use Rattle.profile_count.proofs.Waste.{small_term}
-use Rattle.profile_count.proofs.table_walk.losses_between.Goals as goal
+use Rattle.profile_count.proofs.table_losses.losses_between.Goals as goal
 
 pub loop-n-preserved : goal.loop-n-preserved
 loop-n-preserved c =

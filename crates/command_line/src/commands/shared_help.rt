@@ -1,6 +1,6 @@
 //! What the words of the commands share: their texts' place in clap, and the parts of the help that several of them have.
 ghost use Rattle.clap.specs.Words.{new_app};
-ghost use Rattle.command_line.specs.Program.{HasWords};
+ghost use Rattle.command_line.specs.AcceptedWords.{HasWords};
 
 use clap::Command;
 use std::alloc::Global;
