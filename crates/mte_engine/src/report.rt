@@ -46,7 +46,8 @@ impl Report {
     ) -> Result<Report, AllocError>
         requires config { IsConfig config }
         requires few { length reader.events ≤ most_events }
-        ensures { IfOk result (λ report. report_left report ≡ text.items ++ report_on config table.now reader.events) }
+        ensures { IfOk result (λ report.
+            report_left report ≡ text.items ++ report_on config table.now reader.events) }
     {
         let mut buffer = text;
         buffer.reserve(BUFFER)?;

@@ -18,8 +18,8 @@ use heap_theory::{NullCause, ReallocError};
 
 impl Heap {
     /// Changes the size of the chunk at `p` to `n` bytes, and returns the chunk's address. The chunk stays in place, under its tag, if `n`
-    /// is of its class. Otherwise it moves: `realloc` copies as many bytes as both sizes have to a new slot, and frees the old one. At
-    /// null, 0, it is `malloc`. Fewer than 2^48 chunks must have been freed before (`frees`).
+    /// is of its class. Otherwise it moves to a new slot: `realloc` copies its bytes up to the smaller of the two sizes, and frees the old
+    /// chunk. If `p` is null (0), `realloc` does what `malloc` does. Fewer than 2^48 chunks must have been freed before (`frees`).
     ///
     /// Errors, after which nothing has changed: `Refused` if `free` would refuse `p`; otherwise `Null` with `Large` or `NoClass` if `n` has
     /// no class; otherwise `Null` with `Exhausted` if the chunk has to move and the other class has no slot left. So `realloc` accepts
