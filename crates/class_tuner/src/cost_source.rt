@@ -11,20 +11,20 @@ pub trait CostSource {
     /// What the span from one place to another costs.
     ghost cost: { Self → ℕ → ℕ → ℕ };
 
-    /// How many places there are.
+    /// What `places` returns.
     ghost place_count: { Self → ℕ };
 
-    /// How many costs were asked for: one by each call of `at`, one for each end by a call of `least_end`.
+    /// What `calls` returns.
     ghost call_count: { Self → ℕ };
 
     /// The same source with another count of calls.
     ghost with_calls: { Self → ℕ → Self };
 
-    /// Computes `place_count`.
+    /// How many places there are.
     fn places(&self) -> usize
         ensures { result ≡ place_count self.now };
 
-    /// Computes `call_count`.
+    /// How many costs were asked for: one by each call of `at`, one for each end by a call of `least_end`.
     fn calls(&self) -> u64
         ensures { result ≡ call_count self.now };
 

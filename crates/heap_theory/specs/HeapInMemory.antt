@@ -11,7 +11,6 @@ use Rattle.heap_theory.specs.State.{Heap, state_at, IsSlot}
 use Rattle.machine_theory.specs.declared.sizes.TheConstants.{GRANULE_BYTES}
 
 -- The region of a heap at rest, over the heap and its memory alone: its headers, and the queue and lists that are linked through them.
--- It follows from `IsKept` in tagged_heap, which is over the parts of the heap's type, where the quarantine holds no more than its limit.
 pub record IsKeptIn (heap : Heap) (region : Region) : Type 0 where
   -- the granules without header bytes are the heap's memory, and each header shows its slot's state
   pub seen : region.granules ≡ heap.memory
