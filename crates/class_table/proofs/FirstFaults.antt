@@ -18,7 +18,7 @@ read_or_refused (Err fault) table refused e = absurd cc
 -- ---- texts that spell a table, and texts that begin with one
 
 no_classes : IsLegalTable 1 []
-no_classes = legal-from_classes [] (omega arith) tt
+no_classes = legal-from_classes 1 1 [] (omega arith) (omega arith) tt
 
 -- the line of a table alone spells it
 spells-class_line : (table : List ℕ) → IsLegalTable 1 table → SpellsTable (class_line table) table

@@ -4,6 +4,7 @@ use Rattle.class_table.proofs.FirstFaults.{first_fault-missing, first_fault-refu
 use Rattle.class_table.proofs.LeastClass.{class_at_number, least_class, none_serving, serving-need}
 use Rattle.class_table.proofs.Spelled.{faultless, line-table_of_line, of_classes, spelled-table_of, table_of-line, table_of-spelled}
 pub use Rattle.class_table.proofs.Covering.{slot_over-covers as one_slot_covers}
+pub use Rattle.class_table.proofs.Legal.{AreClassesAbove, class_above, classes-from_legal as classes_of_legal_table, legal-from_classes as legal_table_of_classes}
 pub use Rattle.class_table.proofs.FirstSlots.{first_slot-suc as first_slot_of_next_class, first_slot-le as first_slots_ascend}
 pub use Rattle.class_table.proofs.Slots.{in_order as legal_slots_are_in_order, class_of_slot as slots_have_classes, slot_of-class as slots_of_a_class, slot_count-classes as slots_of_classes_are_all}
 

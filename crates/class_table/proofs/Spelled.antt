@@ -27,18 +27,18 @@ name_is_line = All-from_recursion (λ b. is_newline b ≡ false) (codes "classes
 name_is_word : IsWord (codes "classes")
 name_is_word = All-from_recursion (λ b. is_space b ≡ false) (codes "classes") (refl, (refl, (refl, (refl, (refl, (refl, (refl, tt)))))))
 
-numbers_of-decimals : (ns : List ℕ) (below : ℕ) → AreClassesAbove below ns → numbers_of (map decimal ns) ≡ Some ns
+numbers_of-decimals : (ns : List ℕ) (low : ℕ) → AreClassesAbove 1 low ns → numbers_of (map decimal ns) ≡ Some ns
 unfolding numbers_of
-numbers_of-decimals [] below all = refl
-numbers_of-decimals (n ∷ ns) below all = rw (laws.read n (omega (arith, all.2)), numbers_of-decimals ns n all.3) refl
+numbers_of-decimals [] low all = refl
+numbers_of-decimals (n ∷ ns) low all = rw (laws.read n (omega (arith, all.1)), numbers_of-decimals ns n all.3) refl
 
-lines_all : (ns : List ℕ) (below : ℕ) → AreClassesAbove below ns → All IsLine (map decimal ns)
-lines_all [] below all = All-nil IsLine
-lines_all (n ∷ ns) below all = All-cons IsLine (decimal n) (map decimal ns) (laws.word n (omega (arith, all.2))).0 (lines_all ns n all.3)
+lines_all : (ns : List ℕ) (low : ℕ) → AreClassesAbove 1 low ns → All IsLine (map decimal ns)
+lines_all [] low all = All-nil IsLine
+lines_all (n ∷ ns) low all = All-cons IsLine (decimal n) (map decimal ns) (laws.word n (omega (arith, all.1))).0 (lines_all ns n all.3)
 
-words_all : (ns : List ℕ) (below : ℕ) → AreClassesAbove below ns → All IsWord (map decimal ns)
-words_all [] below all = All-nil IsWord
-words_all (n ∷ ns) below all = All-cons IsWord (decimal n) (map decimal ns) (laws.word n (omega (arith, all.2))).1 (words_all ns n all.3)
+words_all : (ns : List ℕ) (low : ℕ) → AreClassesAbove 1 low ns → All IsWord (map decimal ns)
+words_all [] low all = All-nil IsWord
+words_all (n ∷ ns) low all = All-cons IsWord (decimal n) (map decimal ns) (laws.word n (omega (arith, all.1))).1 (words_all ns n all.3)
 
 some_bytes : (table : List ℕ) → 0 < length (class_line table)
 some_bytes [] = omega arith
@@ -57,22 +57,22 @@ one_line text line is_line some spelled =
 -- A text that spells a table has one line, which is the table's.
 pub lines-spelled : (text table : List ℕ) → SpellsTable text table → lines text ≡ class_line table ∷ []
 lines-spelled text table spells =
-    let above = classes-from_legal table spells.legal in
+    let above = classes-from_legal 1 table spells.legal in
     let is_line =
     laws.makes_line (codes "classes" ∷ map decimal table)
-    (All-cons IsLine (codes "classes") (map decimal table) name_is_line (lines_all table 0 above)) in
+    (All-cons IsLine (codes "classes") (map decimal table) name_is_line (lines_all table 1 above)) in
     one_line text (class_line table) is_line (some_bytes table) spells.line
 
 -- The line of a table is read as that table,
 pub table_of_line-legal : (table : List ℕ) → IsLegalTable 1 table → table_of_line (class_line table) ≡ Ok table
 unfolding table_of_line
 table_of_line-legal table legal =
-    let above = classes-from_legal table legal in
+    let above = classes-from_legal 1 table legal in
     let parts =
     laws.written_words (codes "classes") (map decimal table)
-    (All-cons IsWord (codes "classes") (map decimal table) name_is_word (words_all table 0 above)) in
+    (All-cons IsWord (codes "classes") (map decimal table) name_is_word (words_all table 1 above)) in
     let few : ltb 32 (length table) ≡ false = le-ltb 32 (length table) legal.few in
-    rw (parts, numbers_of-decimals table 0 above, few, no_fault-from_classes 0 table above) refl
+    rw (parts, numbers_of-decimals table 1 above, few, no_fault-from_classes table above) refl
 
 -- and so is a text of that line.
 pub table_of-spelled : (text table : List ℕ) → SpellsTable text table → table_of text ≡ Ok table
@@ -110,16 +110,16 @@ cons_head a b x y e = cc
 cons_tail : (a b : ℕ) (x y : List ℕ) → a ∷ x ≡ b ∷ y → x ≡ y
 cons_tail a b x y e = cc
 
-decimals-numbers_of : (ws : List (List ℕ)) (ns : List ℕ) (below : ℕ) → numbers_of ws ≡ Some ns → AreClassesAbove below ns →
+decimals-numbers_of : (ws : List (List ℕ)) (ns : List ℕ) (low : ℕ) → numbers_of ws ≡ Some ns → AreClassesAbove 1 low ns →
     ws ≡ map decimal ns
 unfolding numbers_of
-decimals-numbers_of [] ns below e above = let none = same_list [] ns e in rw (← none) refl
-decimals-numbers_of (w ∷ ws) [] below e above = let f = first_of_numbers w ws [] e in let g = f.both in absurd cc
-decimals-numbers_of (w ∷ ws) (n ∷ ns) below e above =
+decimals-numbers_of [] ns low e above = let none = same_list [] ns e in rw (← none) refl
+decimals-numbers_of (w ∷ ws) [] low e above = let f = first_of_numbers w ws [] e in let g = f.both in absurd cc
+decimals-numbers_of (w ∷ ws) (n ∷ ns) low e above =
     let f = first_of_numbers w ws (n ∷ ns) e in
     let is_n : f.n ≡ n = cons_head f.n n f.ns ns (sym f.both) in
     let is_ns : f.ns ≡ ns = cons_tail f.n n f.ns ns (sym f.both) in
-    let word : w ≡ decimal n = laws.spelled w n (omega (arith, above.2)) (f.first ∙ ap Some is_n) in
+    let word : w ≡ decimal n = laws.spelled w n (omega (arith, above.1)) (f.first ∙ ap Some is_n) in
     let others : ws ≡ map decimal ns = decimals-numbers_of ws ns n (f.others ∙ ap Some is_ns) above.3 in
     cc
 
@@ -132,12 +132,12 @@ of_classes classes table e = go (ltb 32 (length classes)) refl (fault_from 0 cla
     go false h (Some fault) k = let f = rw (h, k) at e in absurd cc
     go false h None k =
         let same : classes ≡ table = (let f = rw (h, k) at e in cc) in
-        (same, rw (← same) (legal-from_classes classes (ltb-false 32 (length classes) h) (classes-from_no_fault 0 classes k)))
+        (same, rw (← same) (legal-from_classes 1 1 classes (omega arith) (ltb-false 32 (length classes) h) (classes-from_no_fault classes k)))
 
 pub faultless : (classes : List ℕ) → IsLegalTable 1 classes → table_of_classes classes ≡ Ok classes
 faultless classes legal =
     let few : ltb 32 (length classes) ≡ false = le-ltb 32 (length classes) legal.few in
-    rw (few, no_fault-from_classes 0 classes (classes-from_legal classes legal)) refl
+    rw (few, no_fault-from_classes classes (classes-from_legal 1 classes legal)) refl
 
 of_numbers : (numbers : Option (List ℕ)) (table : List ℕ) → table_of_numbers numbers ≡ Ok table →
     (numbers ≡ Some table) × IsLegalTable 1 table
@@ -154,7 +154,7 @@ of_words (w ∷ ws) table e = go (bytes_eq w (codes "classes")) refl
     go true h =
         let parts = of_numbers (numbers_of ws) table (rw h at e) in
         let name : w ≡ codes "classes" = (bytes_eq-Decides w (codes "classes")).0 h in
-        let others = decimals-numbers_of ws table 0 parts.0 (classes-from_legal table parts.1) in
+        let others = decimals-numbers_of ws table 1 parts.0 (classes-from_legal 1 table parts.1) in
         (cc, parts.1)
 
 -- two texts that are one with a newline after each

@@ -1,10 +1,11 @@
 -- Valid potentials bound the waste of every table from below.
 use Rattle.std.proofs.Common.{◌≡◌, ℕ, zero, suc, ◌+◌, ◌<◌, ◌≤◌, List, [], ◌∷◌, length, arith, ap, inl, inr}
 use Rattle.std.proofs.lemmas.Bool.{cases_lt}
+use Rattle.class_table.proofs.LawLemmas.{AreClassesAbove}
 use Rattle.tuner_theory.specs.Potentials.{AreValidPotentials}
 use Rattle.tuner_theory.specs.Spans.{places, span_waste}
 use Rattle.tuner_theory.proofs.Needs.{Reaches, reach}
-use Rattle.tuner_theory.proofs.Tables.{AreClassesAbove, ServesAbove, ServesAbove-later, nothing-left, span-least, waste_above, waste_above-cons}
+use Rattle.tuner_theory.proofs.Tables.{ServesAbove, ServesAbove-later, nothing-left, span-least, waste_above, waste_above-cons}
 
 module _ (cost : ℕ → ℕ → ℕ) (d limit : ℕ) (potential : ℕ → ℕ → ℕ) (valid : AreValidPotentials cost d limit potential) where
   -- one class more, in numbers: the class reaches from place i to place j, and the classes after it cost at least the rest

@@ -3,6 +3,7 @@ use Rattle.std.proofs.Common.{◌≡◌, ℕ, zero, suc, ◌+◌, ◌*◌, ◌<�
 use Rattle.std.specs.Prelude.{IsSome}
 use Rattle.std.proofs.lemmas.Bool.{cases_lt, cond_both, cond-true, cond-false, le-leb, le-ltb, lt-leb, lt-ltb}
 use Rattle.class_table.specs.Sizes.{loss_of}
+use Rattle.class_table.proofs.LawLemmas.{AreClassesAbove, classes_of_legal_table}
 use Rattle.tuner_theory.specs.Best.{IsCandidate}
 use Rattle.tuner_theory.specs.Potentials.{AreValidPotentials}
 use Rattle.tuner_theory.specs.Rests.{counts_above, counts_above_from}
@@ -12,7 +13,7 @@ use Rattle.tuner_theory.proofs.Bound.{bound}
 use Rattle.tuner_theory.proofs.Needs.{Reaches, need_at-from, needs_ascend}
 use Rattle.tuner_theory.proofs.Rounding.{rounded-positive}
 use Rattle.tuner_theory.proofs.Sums.{sum_same}
-use Rattle.tuner_theory.proofs.Tables.{AreClassesAbove, ServesAbove, class_for-later, classes-from_legal, waste_above}
+use Rattle.tuner_theory.proofs.Tables.{ServesAbove, class_for-later, waste_above}
 
 -- ---- the counts above a need
 
@@ -142,7 +143,7 @@ module _ (counts : List ℕ) (step : ℕ) (pos : 0 < step) (limit : ℕ) (potent
       let low = max 1 (need_at counts step i) in
       let served : ServesAbove counts step low classes =
       (λ n counted above. candidate.serving n (counted-to counts step i n counted (omega arith))) in
-      let dropped = drop-low counts step pos low 1 classes (omega arith) (classes-from_legal step classes candidate.legal) served in
+      let dropped = drop-low counts step pos low 1 classes (omega arith) (classes_of_legal_table step classes candidate.legal) served in
       omega (
         arith,
         waste-above counts step pos i classes,

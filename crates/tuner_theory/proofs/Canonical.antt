@@ -5,6 +5,7 @@ use Rattle.std.specs.Prelude.{All}
 use Rattle.std.proofs.lemmas.Bool.{cases_lt, cond_both, ltb-true}
 use Rattle.std.proofs.lemmas.List.{get_or_default}
 use Rattle.class_table.specs.Tables.{class_for}
+use Rattle.class_table.proofs.LawLemmas.{AreClassesAbove, class_above, classes_of_legal_table, legal_table_of_classes}
 use Rattle.tuner_theory.specs.Best.{IsBest, IsCandidate, IsCanonical, IsLexicographicallyAtMost, IsUsed}
 use Rattle.tuner_theory.specs.Tuned.{AreTunedRows, tuned_table}
 use Rattle.tuner_theory.specs.Rows.{AreLeastRows, table_of_ends}
@@ -15,7 +16,7 @@ use Rattle.tuner_theory.proofs.BoundRests.{potentials-bound}
 use Rattle.tuner_theory.proofs.LeastRows.{ends-later, rows-valid}
 use Rattle.tuner_theory.proofs.Needs.{Reaches, need_at-from, needs_ascend, reach, reach-at, reach-covers, reach-one}
 use Rattle.tuner_theory.proofs.Rounding.{rounded-positive, step-positive}
-use Rattle.tuner_theory.proofs.Tables.{AreClassesAbove, ServesAbove, ServesAbove-later, class-above, class_for-first, class_for-later, classes-from_legal, legal-from_classes, nothing-left, span-least, waste_above, waste_above-all, waste_above-cons}
+use Rattle.tuner_theory.proofs.Tables.{ServesAbove, ServesAbove-later, class_for-first, class_for-later, nothing-left, span-least, waste_above, waste_above-all, waste_above-cons}
 use Rattle.tuner_theory.proofs.TunedTable.{IsTableFor, next-above, table-tuned}
 
 -- ---- used classes
@@ -58,7 +59,7 @@ module _ (counts : List ℕ) (step : ℕ) (pos : 0 < step) where
             elim (cases_lt c (rounded_need step u.0)) [
               | inl over ↦ (u.0, u.1, over, sym (class_for-later step pos u.0 c cs (omega (arith, above.0)) above.2 over) ∙ u.3)
               | inr le ↦ absurd (let same : c ≡ slice_index cs k = some-same (sym (class_for-first step pos u.0 c cs le) ∙ u.3) in
-                  omega (arith, same, class-above step c k cs above.3 (omega arith)))
+                  omega (arith, same, class_above step c k cs above.3 (omega arith)))
             ]),
       )
 
@@ -197,7 +198,7 @@ tuned-canonical counts step (suc k) rows ends tuned = (record { best = best; use
 
     candidate : IsCandidate counts step (suc k) table
     candidate = record {
-      legal = legal-from_classes step table (omega (arith, is.few, tuned.few)) is.above;
+      legal = legal_table_of_classes step 1 table (omega arith) (omega (arith, is.few, tuned.few)) is.above;
       few = is.few;
       serving = λ n counted. is.served n counted (omega (arith, rounded-positive step pos n));
     }
@@ -220,7 +221,7 @@ tuned-canonical counts step (suc k) rows ends tuned = (record { best = best; use
 
     least : (other : List ℕ) → IsBest counts step (suc k) other → All (IsUsed counts other) other → IsLexicographicallyAtMost table other
     least other best_too used_too =
-        let above = classes-from_legal step other best_too.candidate.legal in
+        let above = classes_of_legal_table step other best_too.candidate.legal in
         tuned-first counts step pos (suc k) rows ends tuned.least (suc k) 0 1 other (omega arith) (omega arith) (reach-one counts step pos)
         above best_too.candidate.few (λ n counted over. best_too.candidate.serving n counted)
         (used-from_all counts step pos other above used_too)

@@ -4,11 +4,11 @@ use Rattle.tuner_theory.specs.Rests.{IsRest}
 use Rattle.tuner_theory.specs.Rows.{AreLeastRows, table_of_ends}
 use Rattle.tuner_theory.specs.Spans.{need_at, places, rounded_need, span_waste}
 use Rattle.class_table.specs.Steps.{IsStep}
+use Rattle.class_table.proofs.LawLemmas.{legal_table_of_classes}
 use Rattle.tuner_theory.proofs.BoundRests.{counted-above, reach-low, rests-bound, waste-above}
 use Rattle.tuner_theory.proofs.LeastRows.{rows-valid}
 use Rattle.tuner_theory.proofs.Needs.{Reaches}
 use Rattle.tuner_theory.proofs.Rounding.{rounded-positive, step-positive}
-use Rattle.tuner_theory.proofs.Tables.{legal-from_classes, lower_above}
 use Rattle.tuner_theory.proofs.TunedTable.{IsTableFor, table-tuned}
 
 module _ (counts : List ℕ) (step : ℕ) (is_step : IsStep step) (small : length counts ≤ 16369) (limit : ℕ) (few : limit ≤ 32)
@@ -19,7 +19,7 @@ module _ (counts : List ℕ) (step : ℕ) (is_step : IsStep step) (small : lengt
     table = table;
     best = record {
       candidate = record {
-        legal = legal-from_classes step table (omega (arith, is.few)) (lower_above step low table (omega arith) is.above);
+        legal = legal_table_of_classes step low table (omega arith) (omega (arith, is.few)) is.above;
         few = is.few;
         serving = λ n counted. let c = counted-above counts step i n counted in is.served n c.0 (over n c.1);
       };

@@ -1,72 +1,17 @@
 -- A table and its waste, class by class.
-use Rattle.std.proofs.Common.{◌≡◌, ℕ, zero, suc, ◌+◌, ◌-◌, ◌*◌, ◌%◌, ◌<◌, ◌≤◌, ◌&&◌, List, [], ◌∷◌, length, slice_index, get_or, cond, ltb, leb, Option, Some, unwrap_or, arith, refl, sym, subst, inl, inr}
-use Rattle.std.specs.Bool.{⊤}
-use Rattle.std.specs.Prelude.{IsSome, All}
-use Rattle.std.specs.List.Sorted.{IsStrictlyIncreasing}
+use Rattle.std.proofs.Common.{◌≡◌, ℕ, ◌+◌, ◌-◌, ◌*◌, ◌%◌, ◌<◌, ◌≤◌, ◌&&◌, List, [], ◌∷◌, length, slice_index, cond, ltb, leb, Option, Some, unwrap_or, arith, refl, sym, subst, inl, inr}
+use Rattle.std.specs.Prelude.{IsSome}
 use Rattle.std.proofs.lemmas.Bool.{cases_lt, cond_both, cond-true, cond-false, le-leb, lt-leb, lt-ltb, false≢true}
 use Rattle.std.proofs.lemmas.Bool.Decides.{nat_tests}
 use Rattle.std.proofs.Math.Nat.{mul-le-mul_right}
 use Rattle.class_table.specs.Sizes.{loss_of}
-use Rattle.class_table.specs.Tables.{FitsStep, IsLegalTable, class_for}
+use Rattle.class_table.specs.Tables.{class_for}
 use Rattle.tuner_theory.specs.Spans.{need_at, places, rounded_need, span_waste, waste_between}
 use Rattle.tuner_theory.specs.Waste.{IsCounted, sum_below, waste_at, waste_of}
 use Rattle.tuner_theory.proofs.Needs.{Reaches, need_at-from, reach-covers}
 use Rattle.tuner_theory.proofs.Rounding.{fits-rounded, rounded-fits, rounded-positive}
 use Rattle.tuner_theory.proofs.Spans.{loss-mono}
 use Rattle.tuner_theory.proofs.Sums.{sum_at_most, sum_none, sum_same, sum_split}
-
--- ---- legal tables, class by class
-
--- each class is above the one before it, the first above low, none above 1024, and each a multiple of the step
-abbrev pub AreClassesAbove : ℕ → ℕ → List ℕ → Type 0
-AreClassesAbove step low [] = ⊤
-AreClassesAbove step low (c ∷ cs) = (low < c) × (c ≤ 1024) × (c % step ≡ 0) × AreClassesAbove step c cs
-
-classes-from : (step low : ℕ) (classes : List ℕ) → (0 < length classes → low < slice_index classes 0) → IsStrictlyIncreasing classes
-    → All (λ class. (2 ≤ class) × (class ≤ 1024)) classes → FitsStep step classes → AreClassesAbove step low classes
-classes-from step low [] first up range fits = tt
-classes-from step low (c ∷ cs) first up range fits = (
-  first (omega arith),
-  (range 0 0 (omega arith)).1,
-  fits 0 0 (omega arith),
-  classes-from step c cs (λ some. let next : 0 + 1 ≡ suc 0 = refl in
-      subst (λ (k : ℕ). c < slice_index (c ∷ cs) k) next (up 0 (omega arith)))
-      (λ k lt. let next : suc k + 1 ≡ suc (k + 1) = omega arith in
-      subst (λ (m : ℕ). slice_index cs k < slice_index (c ∷ cs) m) next (up (suc k) (omega arith)))
-      (λ k d lt. range (suc k) d (omega arith)) (λ k d lt. fits (suc k) d (omega arith)),
-)
-
-pub classes-from_legal : (step : ℕ) (classes : List ℕ) → IsLegalTable step classes → AreClassesAbove step 1 classes
-classes-from_legal step classes legal =
-    classes-from step 1 classes (λ some. let r = legal.in_range 0 0 some in omega (arith, r.0)) legal.ascending legal.in_range legal.fitting
-
-class_in : (step low k d : ℕ) (classes : List ℕ) → AreClassesAbove step low classes → k < length classes
-    → (low < get_or classes k d) × (get_or classes k d ≤ 1024) × (get_or classes k d % step ≡ 0)
-class_in step low k d [] above lt = absurd (omega arith)
-class_in step low zero d (c ∷ cs) above lt = (above.0, above.1, above.2)
-class_in step low (suc k) d (c ∷ cs) above lt =
-    let later = class_in step c k d cs above.3 (omega arith) in (omega (arith, above.0, later.0), later.1, later.2)
-
-pub class-above : (step low k : ℕ) (classes : List ℕ) → AreClassesAbove step low classes → k < length classes → low < slice_index classes k
-class-above step low k classes above lt = (class_in step low k 0 classes above lt).0
-
-next_above : (step low k : ℕ) (classes : List ℕ) → AreClassesAbove step low classes → suc k < length classes
-    → slice_index classes k < slice_index classes (suc k)
-next_above step low k [] above lt = absurd (omega arith)
-next_above step low zero (c ∷ cs) above lt = class-above step c 0 cs above.3 (omega arith)
-next_above step low (suc k) (c ∷ cs) above lt = next_above step c k cs above.3 (omega arith)
-
-pub legal-from_classes : (step : ℕ) (classes : List ℕ) → length classes ≤ 32 → AreClassesAbove step 1 classes → IsLegalTable step classes
-legal-from_classes step classes few above = record {
-  few = few;
-  in_range = λ k d lt. let here = class_in step 1 k d classes above lt in (omega (arith, here.0), here.1);
-  ascending = λ k lt. let next : k + 1 ≡ suc k = omega arith in rw next (next_above step 1 k classes above (omega arith));
-  fitting = λ k d lt. (class_in step 1 k d classes above lt).2;
-}
-
-pub lower_above : (step low : ℕ) (classes : List ℕ) → 1 ≤ low → AreClassesAbove step low classes → AreClassesAbove step 1 classes
-lower_above step low [] one above = tt
-lower_above step low (c ∷ cs) one above = (omega (arith, above.0), above.1, above.2, above.3)
 
 -- ---- the class of a request, by its rounded need
 

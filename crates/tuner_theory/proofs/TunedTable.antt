@@ -7,10 +7,11 @@ use Rattle.class_table.specs.Sizes.{loss_of}
 use Rattle.tuner_theory.specs.Rows.{AreLeastRows, table_of_ends}
 use Rattle.tuner_theory.specs.Spans.{need_at, places, rounded_need, span_waste, waste_between}
 use Rattle.class_table.specs.Steps.{IsStep}
+use Rattle.class_table.proofs.LawLemmas.{AreClassesAbove}
 use Rattle.tuner_theory.proofs.Needs.{Reaches, need_at-has, need_at-mono, place-class, reach-at}
 use Rattle.tuner_theory.proofs.Rounding.{step-positive}
 use Rattle.tuner_theory.proofs.Sums.{sum_at_most}
-use Rattle.tuner_theory.proofs.Tables.{AreClassesAbove, ServesAbove, class_for-first, class_for-later, span-least, waste_above, waste_above-cons, waste_above-none}
+use Rattle.tuner_theory.proofs.Tables.{ServesAbove, class_for-first, class_for-later, span-least, waste_above, waste_above-cons, waste_above-none}
 
 -- a table for the requests above low, of at most k classes, that wastes so much
 pub record IsTableFor (counts : List ℕ) (step k low waste : ℕ) (classes : List ℕ) : Type 0 where
