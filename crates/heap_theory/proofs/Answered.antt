@@ -11,11 +11,11 @@ use Rattle.machine_theory.specs.Address.{moved_by}
 use Rattle.class_table.specs.Layout.{Partition}
 use Rattle.heap_theory.specs.declared.event.Event.{Event}
 use Rattle.heap_theory.specs.declared.event.Event.TheVariants.{Load, Store}
-use Rattle.heap_theory.specs.Generations.{Run, run_after, first_run, run}
+use Rattle.heap_theory.specs.Run.{Run, run_after, first_run, run}
 use Rattle.heap_theory.specs.Hardening.{IsFaultAnswer}
 use Rattle.heap_theory.specs.Report.{report_line, report_lines}
-use Rattle.heap_theory.specs.Run.{Replay, Answer, variable, store_with, store_step, heap_after, replay_after, access_answer, answer_of, answers, first_replay, replay_of}
-use Rattle.heap_theory.specs.Run.Answer.{Silent}
+use Rattle.heap_theory.specs.Replay.{Replay, Answer, variable, store_with, store_step, heap_after, replay_after, access_answer, answer_of, answers, first_replay, replay_of}
+use Rattle.heap_theory.specs.Replay.Answer.{Silent}
 use Rattle.heap_theory.specs.State.{Heap}
 use Rattle.heap_theory.specs.Totals.{no_totals, totals_of, totals_after, one_if, is_request, is_large, is_no_class, is_exhausted, is_tag_fault, is_unmapped, is_refused, loss_of_event}
 

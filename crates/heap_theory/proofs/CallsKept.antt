@@ -11,14 +11,14 @@ use Rattle.machine_theory.specs.Memory.{written}
 use Rattle.class_table.specs.Layout.{Partition, slot_count}
 use Rattle.heap_theory.specs.declared.refusal.FreeError.{FreeError}
 use Rattle.heap_theory.specs.Calls.{Step, next_tag, given_out, freed, resized, with_payload, payload_bytes, moved, malloc_with, malloc_step, calloc_with, calloc_step, free_with, free_step, stays_in_class, move_with, realloc_with, realloc_step}
-use Rattle.heap_theory.specs.Choice.{Chunk, IsReusable, IsGiven, IsLiveChunk, is_released, slot_for_request, chunk_at}
-use Rattle.heap_theory.specs.Generations.{slot_if_moved}
-use Rattle.heap_theory.specs.Run.{store_with, store_step}
+use Rattle.heap_theory.specs.Lookups.{Chunk, IsReusable, IsGiven, IsLiveChunk, is_released, slot_for_request, chunk_at}
+use Rattle.heap_theory.specs.Run.{slot_if_moved}
+use Rattle.heap_theory.specs.Replay.{store_with, store_step}
 use Rattle.heap_theory.specs.Sound.{IsSoundHeap}
 use Rattle.class_table.specs.Sizes.{chunk_granules}
 use Rattle.heap_theory.specs.State.{State, Heap, state_at, last_tag, is_fresh}
 use Rattle.heap_theory.specs.State.State.{Fresh, Live, Dead}
-use Rattle.heap_theory.proofs.Choices.{slot_for_request-cases, chunk_at-is, room_in_place}
+use Rattle.heap_theory.proofs.Lookups.{slot_for_request-cases, chunk_at-is, room_in_place}
 use Rattle.heap_theory.proofs.HeapKept.{in_states, IsSoundHeap-given_out, IsSoundHeap-resized, IsSoundHeap-freed, IsSoundHeap-written, IsSoundHeap-with_payload}
 
 -- ---- changes that give out no slot, and leave dead ones as they are

@@ -5,16 +5,16 @@ use Rattle.std.specs.Option.{option_or}
 use Rattle.std.specs.List.{range_with_len}
 use Rattle.std.proofs.lemmas.Bool.{cases_eq, eq-eqb, leb-true, le-leb, ltb-true, and_from, and_parts}
 use Rattle.class_table.specs.Layout.{slot_count}
-use Rattle.heap_theory.specs.Booked.{HasMark, IsFreedList, IsBooked}
-use Rattle.heap_theory.specs.Choice.{is_dead, is_released, mark_of, slots_with, freed_last, lowest_fresh, slot_for}
+use Rattle.heap_theory.specs.QueueAndLists.{HasMark, IsFreedList, AgreeWithMarks}
+use Rattle.heap_theory.specs.Lookups.{is_dead, is_released, mark_of, slots_with, freed_last, lowest_fresh, slot_for}
 use Rattle.heap_theory.specs.Links.{list_of}
 use Rattle.heap_theory.specs.Sound.{IsSoundHeap}
 use Rattle.heap_theory.specs.State.{Heap, slot_in, state_at}
-use Rattle.heap_theory.proofs.Choices.{IsCandidate, All-slots_with, is_latest, freed_last-is}
+use Rattle.heap_theory.proofs.Lookups.{IsCandidate, All-slots_with, is_latest, freed_last-is}
 use Rattle.heap_theory.proofs.ListSearch.{find_only, in_filter, list_all-from, from-list_all, Contains-range, Contains-cases, Contains-none}
 use Rattle.heap_theory.proofs.Marks.{HasMark-own, mark_of-is, same_mark, released_from_mark, chain_bytes, list_mark, IsNumberOf, number_is}
 
-module _ (h : Heap) (queue : List ℕ) (lists : List (List ℕ)) (number class : ℕ) (sound : IsSoundHeap h) (b : IsBooked h queue lists)
+module _ (h : Heap) (queue : List ℕ) (lists : List (List ℕ)) (number class : ℕ) (sound : IsSoundHeap h) (b : AgreeWithMarks h queue lists)
     (numbered : slice_get h.layout.classes number ≡ Some class) where
   is_number : IsNumberOf h.layout.classes number class
   is_number = number_is h.layout.classes number class numbered
@@ -22,15 +22,15 @@ module _ (h : Heap) (queue : List ℕ) (lists : List (List ℕ)) (number class :
   pub freed_list : IsFreedList h class b.from (list_of lists number)
   freed_list =
       subst (λ c. IsFreedList h c b.from (list_of lists number)) is_number.is
-      (b.booked.freed number (subst (λ n. number < n) (sym b.booked.long) is_number.within))
+      (b.agree.freed number (subst (λ n. number < n) (sym b.agree.long) is_number.within))
 
   -- a released slot of the class stands in its list
   pub listed : (r : ℕ) → IsCandidate h (is_released h) class r → Contains (list_of lists number) r
   listed r c =
       let both = and_parts (is_dead (state_at h r)) _ c.passes in
       let over : h.quarantine < h.total - mark_of (state_at h r) = ltb-true _ _ both.1 in
-      let sum = chain_bytes h b.from queue b.booked.chain in
-      b.booked.listed r (mark_of (state_at h r)) number c.in_range (HasMark-own (state_at h r) both.0) (omega (arith, b.held))
+      let sum = chain_bytes h b.from queue b.agree.chain in
+      b.agree.listed r (mark_of (state_at h r)) number c.in_range (HasMark-own (state_at h r) both.0) (omega (arith, b.held))
       (numbered ∙ ap Some (sym c.of_class))
 
   marked : (r : ℕ) → IsCandidate h (is_released h) class r → HasMark (state_at h r) (mark_of (state_at h r))
@@ -40,7 +40,7 @@ module _ (h : Heap) (queue : List ℕ) (lists : List (List ℕ)) (number class :
   unfolding slot_for
   front_is_given s rest is =
       let f : IsFreedList h class b.from (s ∷ rest) = subst (λ list. IsFreedList h class b.from list) is freed_list in
-      let over : h.quarantine < h.total - f.0 = b.booked.released s f.0 f.1 f.3 f.4 in
+      let over : h.quarantine < h.total - f.0 = b.agree.released s f.0 f.1 f.3 f.4 in
       let candidate : Contains (slots_with h (is_released h) class) s =
       in_filter (λ s. (slot_in h s).class == class && is_released h (state_at h s)) (range_with_len 0 (slot_count h.layout)) s
       (Contains-range (slot_count h.layout) s f.1)

@@ -5,9 +5,9 @@ use Rattle.std.proofs.lemmas.Bool.{cases_eq, cases_lt, cases_Bool, eqb-true, eqb
 use Rattle.machine_theory.specs.Memory.{tag_at, is_among}
 use Rattle.class_table.specs.Layout.{Slot, Covers, slot_over}
 use Rattle.class_table.specs.LayoutLaws.{OneSlotCovers}
-use Rattle.heap_theory.specs.declared.place.PlaceKind.TheVariants.{Header, Tail}
+use Rattle.heap_theory.specs.declared.place_kind.PlaceKind.TheVariants.{Header, Tail}
 use Rattle.heap_theory.specs.Hardening.{IsBookkeeping, IsChunkGranule, IsPayloadGranule, ChunksAreTagged, ParitiesDiffer}
-use Rattle.heap_theory.specs.Places.{kind_of_chunk, kind_in_slot, kind_at, place_kind}
+use Rattle.heap_theory.specs.PlaceKinds.{kind_of_chunk, kind_in_slot, kind_at, place_kind}
 use Rattle.heap_theory.specs.Sound.{IsTagOf, IsChunkTag, IsTaggedSlot, IsSoundHeap}
 use Rattle.heap_theory.specs.State.{State, Heap, slot_in, state_at, chunk_of, payload_start}
 use Rattle.heap_theory.specs.State.State.{Fresh, Live, Dead}

@@ -5,9 +5,9 @@ use Rattle.machine_theory.specs.Address.{logical_tag, place_of, with_tag, moved_
 use Rattle.machine_theory.specs.Memory.{tag_at}
 use Rattle.class_table.specs.Layout.{end_of}
 use Rattle.heap_theory.proofs.TheoryLemmas as laws
-use Rattle.heap_theory.specs.Generations.{Run}
+use Rattle.heap_theory.specs.Run.{Run}
 use Rattle.heap_theory.specs.Hardening.{IsAccess, Faults, IsChunkGranule, IsLive, IsDead, HasGeneration, WasFreed, NullOrTagged, BookkeepingOutOfReach, InsideSucceeds, NeighboursFault, FreedFaults, ChunkTagsNotZero, ChunkTagsDiffer}
-use Rattle.heap_theory.specs.Run.{variable}
+use Rattle.heap_theory.specs.Replay.{variable}
 use Rattle.heap_theory.specs.Sound.{IsTagOf, IsChunkTag, IsTaggedSlot}
 use Rattle.heap_theory.specs.SoundRun.{IsAddressOf, IsSoundRun, ForGeneration}
 use Rattle.heap_theory.specs.State.{State, slot_in, state_at, last_tag, chunk_of, payload_place}

@@ -9,7 +9,7 @@ use Rattle.std.proofs.lemmas.Option.{slice_get-get_or, slice_get_within}
 use Rattle.machine_theory.specs.Memory.{Granule, IsMemory, word_at, tag_at, tagged, written}
 use Rattle.class_table.specs.Layout.{Partition, slot_count, slot_of}
 use Rattle.heap_theory.proofs.TheoryLemmas as laws
-use Rattle.heap_theory.specs.Choice.{is_released, mark_of}
+use Rattle.heap_theory.specs.Lookups.{is_released, mark_of}
 use Rattle.heap_theory.specs.Header.{Standing, Header, FitsWords, code_of, standing_of, first_word, second_word, header_of, header_at, with_header, shown_state, size_of, standing_in, class_number, header_with, header_for}
 use Rattle.heap_theory.specs.Header.Standing.{Fresh, Live, Quarantined, Freed}
 use Rattle.heap_theory.specs.Sound.{IfDead, IsChunkTag, IsSoundHeap}

@@ -5,7 +5,7 @@ use Rattle.std.proofs.lemmas.Bool.{and_from, cases_Bool, cases_lt, le-leb, lt-lt
 use Rattle.std.proofs.lemmas.Option.{slice_get_within}
 use Rattle.machine_theory.specs.Memory.{Granule, word_at}
 use Rattle.class_table.specs.Layout.{slot_count, slot_of}
-use Rattle.heap_theory.specs.Choice.{is_dead, mark_of}
+use Rattle.heap_theory.specs.Lookups.{is_dead, mark_of}
 use Rattle.heap_theory.specs.Header.{first_word, second_word, header_at, class_number, header_for}
 use Rattle.heap_theory.specs.HeaderLaws.{ClassIsAtItsNumber}
 use Rattle.heap_theory.specs.HeapInMemory.{IsKeptIn, HaveSameSlots, HeaderWordsStay}

@@ -3,8 +3,8 @@ use Rattle.std.proofs.Common.{◌≡◌, ℕ, ◌+◌, ◌-◌, ◌<◌, ◌≤�
 use Rattle.std.specs.Prelude.{AllPairs, Contains, slice_get}
 use Rattle.std.proofs.lemmas.Bool.{and_from, and_parts, cases_lt, leb-true, le-leb}
 use Rattle.class_table.specs.Layout.{slot_count, block_bytes}
-use Rattle.heap_theory.specs.Booked.{IsChain, IsFreedList, IsBooked, HoldsQuarantined, HoldsReleased}
-use Rattle.heap_theory.specs.Choice.{is_dead, is_released, is_quarantined, mark_of}
+use Rattle.heap_theory.specs.QueueAndLists.{IsChain, IsFreedList, AgreeWithMarks, HoldsQuarantined, HoldsReleased}
+use Rattle.heap_theory.specs.Lookups.{is_dead, is_released, is_quarantined, mark_of}
 use Rattle.heap_theory.specs.Links.{list_of}
 use Rattle.heap_theory.specs.Sound.{IsSoundHeap}
 use Rattle.heap_theory.specs.State.{Heap, slot_in, state_at}
@@ -25,20 +25,20 @@ ascending h from (s ∷ rest) sound c =
     omega (arith, mark_of-is (state_at h s) from c.1, mark_of-is (state_at h r) q.mark q.marked, q.above))
     (ascending h (from + block_bytes (slot_in h s)) rest sound c.2)
 
-pub holds_quarantined : (h : Heap) (queue : List ℕ) (lists : List (List ℕ)) → IsSoundHeap h → IsBooked h queue lists →
+pub holds_quarantined : (h : Heap) (queue : List ℕ) (lists : List (List ℕ)) → IsSoundHeap h → AgreeWithMarks h queue lists →
     HoldsQuarantined h queue
 holds_quarantined h queue lists sound b = record {
   slots = λ s. (in_queue s, queued s);
-  ascending = ascending h b.from queue sound b.booked.chain;
+  ascending = ascending h b.from queue sound b.agree.chain;
 }
   where
     in_queue : (s : ℕ) → Contains queue s → (s < slot_count h.layout) × (is_quarantined h (state_at h s) ≡ true)
     in_queue s there =
-        let q = chain_dead h b.from queue s b.booked.chain there in
+        let q = chain_dead h b.from queue s b.agree.chain there in
         let mark = mark_of-is (state_at h s) q.mark q.marked in (
           q.in_range,
           and_from _ _ (dead_with_mark (state_at h s) q.mark q.marked)
-              (le-leb _ _ (omega (arith, chain_bytes h b.from queue b.booked.chain, b.held, q.above))),
+              (le-leb _ _ (omega (arith, chain_bytes h b.from queue b.agree.chain, b.held, q.above))),
         )
 
     queued : (s : ℕ) → (s < slot_count h.layout) × (is_quarantined h (state_at h s) ≡ true) → Contains queue s
@@ -47,8 +47,8 @@ holds_quarantined h queue lists sound b = record {
         let marked = HasMark-own (state_at h s) both.0 in
         let still : h.total - mark_of (state_at h s) ≤ h.quarantine = leb-true _ _ both.1 in
         elim (cases_lt (mark_of (state_at h s)) b.from) [
-          | inl before ↦ absurd (omega (arith, b.booked.released s (mark_of (state_at h s)) is.0 marked before))
-          | inr after ↦ b.booked.queued s (mark_of (state_at h s)) is.0 marked after
+          | inl before ↦ absurd (omega (arith, b.agree.released s (mark_of (state_at h s)) is.0 marked before))
+          | inr after ↦ b.agree.queued s (mark_of (state_at h s)) is.0 marked after
         ]
 
 -- ---- a class's list
@@ -63,7 +63,7 @@ descending h class bound (s ∷ rest) f =
     omega (arith, mark_of-is (state_at h s) f.0 f.3, mark_of-is (state_at h r) l.mark l.marked, l.below))
     (descending h class f.0 rest f.5)
 
-pub holds_released : (h : Heap) (queue : List ℕ) (lists : List (List ℕ)) (number class : ℕ) → IsSoundHeap h → IsBooked h queue lists →
+pub holds_released : (h : Heap) (queue : List ℕ) (lists : List (List ℕ)) (number class : ℕ) → IsSoundHeap h → AgreeWithMarks h queue lists →
     slice_get h.layout.classes number ≡ Some class →
     HoldsReleased h class (list_of lists number)
 holds_released h queue lists number class sound b numbered = record {
@@ -82,22 +82,22 @@ holds_released h queue lists number class sound b numbered = record {
         let l = list_dead h class b.from (list_of lists number) s (freed_list h queue lists number class sound b numbered) there in (
           l.in_range,
           l.of_class,
-          released_from_mark h (state_at h s) l.mark l.marked (b.booked.released s l.mark l.in_range l.marked l.below),
+          released_from_mark h (state_at h s) l.mark l.marked (b.agree.released s l.mark l.in_range l.marked l.below),
         )
 
 -- ---- no slot is in two of them
 
-pub one_list_has : (h : Heap) (queue : List ℕ) (lists : List (List ℕ)) (a b s : ℕ) → IsSoundHeap h → IsBooked h queue lists →
+pub one_list_has : (h : Heap) (queue : List ℕ) (lists : List (List ℕ)) (a b s : ℕ) → IsSoundHeap h → AgreeWithMarks h queue lists →
     a < length lists → b < length lists → Contains (list_of lists a) s → Contains (list_of lists b) s → a ≡ b
-one_list_has h queue lists a b s sound booked in_a in_b at_a at_b =
-    let l = list_dead h _ booked.from (list_of lists a) s (booked.booked.freed a in_a) at_a in
-    let k = list_dead h _ booked.from (list_of lists b) s (booked.booked.freed b in_b) at_b in
-    one_number 1 h.layout.classes a b sound.region.table (subst (λ n. a < n) booked.booked.long in_a)
-    (subst (λ n. b < n) booked.booked.long in_b) (sym l.of_class ∙ k.of_class)
+one_list_has h queue lists a b s sound agree in_a in_b at_a at_b =
+    let l = list_dead h _ agree.from (list_of lists a) s (agree.agree.freed a in_a) at_a in
+    let k = list_dead h _ agree.from (list_of lists b) s (agree.agree.freed b in_b) at_b in
+    one_number 1 h.layout.classes a b sound.region.table (subst (λ n. a < n) agree.agree.long in_a)
+    (subst (λ n. b < n) agree.agree.long in_b) (sym l.of_class ∙ k.of_class)
 
-pub queue_or_list : (h : Heap) (queue : List ℕ) (lists : List (List ℕ)) (number s : ℕ) → IsBooked h queue lists → number < length lists →
+pub queue_or_list : (h : Heap) (queue : List ℕ) (lists : List (List ℕ)) (number s : ℕ) → AgreeWithMarks h queue lists → number < length lists →
     Contains queue s → Contains (list_of lists number) s → ⊥
 queue_or_list h queue lists number s b within in_queue in_list =
-    let q = chain_dead h b.from queue s b.booked.chain in_queue in
-    let l = list_dead h _ b.from (list_of lists number) s (b.booked.freed number within) in_list in
+    let q = chain_dead h b.from queue s b.agree.chain in_queue in
+    let l = list_dead h _ b.from (list_of lists number) s (b.agree.freed number within) in_list in
     omega (arith, mark_of-is (state_at h s) q.mark q.marked, mark_of-is (state_at h s) l.mark l.marked, q.above, l.below)

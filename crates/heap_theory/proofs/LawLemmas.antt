@@ -15,11 +15,11 @@ pub moving_keeps_sound : MovingKeepsSound
 moving_keeps_sound h p chunk s n sound live given = IsSoundHeap-moved h p chunk s n sound live given
 
 pub front_of_list_is_given : FrontIsGiven
-front_of_list_is_given h queue lists number class s rest sound booked numbered =
-    front_is_given h queue lists number class sound booked numbered s rest
+front_of_list_is_given h queue lists number class s rest sound agree numbered =
+    front_is_given h queue lists number class sound agree numbered s rest
 
 pub rest_is_held : RestIsHeld
-rest_is_held h from queue lists booked held = record { from = from; booked = booked; held = held }
+rest_is_held h from queue lists agree held = record { from = from; agree = agree; held = held }
 
 pub variables_are_null_or_tagged : AfterEveryRun NullOrTagged
 variables_are_null_or_tagged layout seed quarantine events is = null_or_tagged _ (IsRunWith-run layout seed quarantine events is).sound

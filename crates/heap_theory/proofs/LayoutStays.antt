@@ -10,8 +10,8 @@ use Rattle.heap_theory.specs.declared.event.Event.TheVariants.{Malloc, Calloc, R
 use Rattle.heap_theory.specs.declared.refusal.FreeError.{FreeError}
 use Rattle.heap_theory.specs.declared.refusal.NullCause.{NullCause}
 use Rattle.heap_theory.specs.Calls.{Step, given_out, freed, resized, with_payload, moved, malloc_with, malloc_step, calloc_with, calloc_step, free_with, free_step, stays_in_class, move_with, realloc_with, realloc_step}
-use Rattle.heap_theory.specs.Choice.{Chunk, slot_for_request, chunk_at}
-use Rattle.heap_theory.specs.Run.{Replay, variable, store_with, store_step, heap_after, replay_after, first_replay, replay_of}
+use Rattle.heap_theory.specs.Lookups.{Chunk, slot_for_request, chunk_at}
+use Rattle.heap_theory.specs.Replay.{Replay, variable, store_with, store_step, heap_after, replay_after, first_replay, replay_of}
 use Rattle.heap_theory.specs.State.{Heap, first_heap}
 
 malloc_layout : (h : Heap) (n : ℕ) (o : Result ℕ NullCause) → (malloc_with h n o).heap.layout ≡ h.layout

@@ -4,10 +4,10 @@ use Rattle.std.proofs.lemmas.Bool.{cases_eq, both_ways, ltb-true, false≢true}
 use Rattle.std.proofs.lemmas.List.{get_or-set_same, get_or-set_other}
 use Rattle.heap_theory.specs.declared.event.Event.{Event}
 use Rattle.heap_theory.specs.Calls.{given_out}
-use Rattle.heap_theory.specs.Choice.{IsReusable, is_released}
-use Rattle.heap_theory.specs.Generations.{Run, times_of, slot_given, times_with, run_after}
+use Rattle.heap_theory.specs.Lookups.{IsReusable, is_released}
+use Rattle.heap_theory.specs.Run.{Run, times_of, slot_given, times_with, run_after}
 use Rattle.heap_theory.specs.Hardening.{IsLive, ReuseIsDelayed, LifeStep, LivesOn}
-use Rattle.heap_theory.specs.Run.{heap_after, replay_after}
+use Rattle.heap_theory.specs.Replay.{heap_after, replay_after}
 use Rattle.heap_theory.specs.SoundRun.{IsSoundRun}
 use Rattle.heap_theory.specs.State.{State, Heap, state_at, is_fresh}
 use Rattle.heap_theory.specs.State.State.{Fresh, Live, Dead}

@@ -19,10 +19,10 @@ use Rattle.heap_theory.specs.declared.refusal.NullCause.{NullCause}
 use Rattle.heap_theory.specs.declared.refusal.NullCause.TheVariants.{Large, NoClass, Exhausted}
 use Rattle.heap_theory.specs.declared.refusal.ReallocError.{ReallocError}
 use Rattle.heap_theory.specs.Calls.{Step, malloc_with, malloc_step, calloc_with, calloc_step, as_realloc, free_with, free_step, is_class_of, resized, move_with, realloc_with, realloc_step}
-use Rattle.heap_theory.specs.Choice.{Chunk, class_for_request, slot_for_request, slot_in_class, slot_for, chunk_at}
+use Rattle.heap_theory.specs.Lookups.{Chunk, class_for_request, slot_for_request, slot_in_class, slot_for, chunk_at}
 use Rattle.heap_theory.specs.Losses.{requested_sizes, counted_sizes, rounding_loss, LosesAtMostItsWaste, ServedRunLosesItsWaste}
-use Rattle.heap_theory.specs.Run.{Replay, Answer, variable, answer_of, answers, replay_after, first_replay, malloc_answer, free_answer, realloc_answer, access_answer}
-use Rattle.heap_theory.specs.Run.Answer.{Silent, NoPointer, NotFreed}
+use Rattle.heap_theory.specs.Replay.{Replay, Answer, variable, answer_of, answers, replay_after, first_replay, malloc_answer, free_answer, realloc_answer, access_answer}
+use Rattle.heap_theory.specs.Replay.Answer.{Silent, NoPointer, NotFreed}
 use Rattle.heap_theory.specs.State.{Heap, slot_in, first_heap}
 use Rattle.heap_theory.specs.Totals.{one_if, request_size, is_request, is_no_class, is_exhausted, is_refused, is_silent, loss_of_request, loss_of_event, totals_of}
 use Rattle.heap_theory.proofs.LayoutStays.{layout_after}

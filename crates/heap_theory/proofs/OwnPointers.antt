@@ -11,18 +11,18 @@ use Rattle.heap_theory.specs.declared.refusal.FreeError.{FreeError}
 use Rattle.heap_theory.specs.declared.refusal.NullCause.{NullCause}
 use Rattle.heap_theory.specs.declared.refusal.ReallocError.{ReallocError}
 use Rattle.heap_theory.specs.Calls.{Step, given_out, freed, resized, with_payload, payload_bytes, moved, malloc_with, malloc_step, calloc_with, calloc_step, free_with, free_step, stays_in_class, move_with, realloc_with, as_realloc, realloc_step}
-use Rattle.heap_theory.specs.Choice.{Chunk, IsReusable, IsGiven, IsLiveChunk, slot_for_request, chunk_at}
-use Rattle.heap_theory.specs.Generations.{Run}
+use Rattle.heap_theory.specs.Lookups.{Chunk, IsReusable, IsGiven, IsLiveChunk, slot_for_request, chunk_at}
+use Rattle.heap_theory.specs.Run.{Run}
 use Rattle.heap_theory.specs.Hardening.{IsLive}
 use Rattle.heap_theory.specs.OwnPointers.{IsOwnPointer, IsNullOrOwn, FreeAccepts, IsNotRefused, ReallocAccepts, GivesOwnPointers, StaysOwnPointer, LiveVariablesAreAccepted}
-use Rattle.heap_theory.specs.Run.{variable, store_with, store_step}
+use Rattle.heap_theory.specs.Replay.{variable, store_with, store_step}
 use Rattle.heap_theory.specs.Sound.{IsSoundHeap}
 use Rattle.heap_theory.specs.SoundRun.{IsAddressOf, IsSoundRun, ForGeneration}
 use Rattle.class_table.specs.Sizes.{chunk_granules}
 use Rattle.heap_theory.specs.State.{State, Heap, slot_in, state_at, last_tag, payload_place, pointer_to}
 use Rattle.heap_theory.specs.State.State.{Fresh, Live, Dead}
 use Rattle.heap_theory.proofs.CallsKept.{KeepsGiven, KeepsGiven-refl, KeepsGiven-with_payload, KeepsGiven-resized, KeepsGiven-moved, HeapChange, IsKept-malloc, IsKept-calloc, IsKept-free, IsKept-realloc, IsKept-store, state_at-with_payload, state_at-given_out, state_at-given_out_other, live_moved, layout-given_out, not_reusable}
-use Rattle.heap_theory.proofs.Choices.{slot_for_request-cases, chunk_at-is}
+use Rattle.heap_theory.proofs.Lookups.{slot_for_request-cases, chunk_at-is}
 use Rattle.heap_theory.proofs.HeapKept.{in_states}
 use Rattle.heap_theory.proofs.Pointers.{chunk_at-pointer_to}
 

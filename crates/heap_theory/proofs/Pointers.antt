@@ -10,11 +10,11 @@ use Rattle.std.proofs.lemmas.Option.{slice_get-get_or}
 use Rattle.machine_theory.specs.Address.{logical_tag, place_of}
 use Rattle.class_table.specs.Layout.{no_slot, slots_of, slot_count}
 use Rattle.heap_theory.proofs.TheoryLemmas as laws
-use Rattle.heap_theory.specs.Choice.{chunk_in, chunk_in_slot, lowest_fresh, slot_of_pointer, chunk_at}
+use Rattle.heap_theory.specs.Lookups.{chunk_in, chunk_in_slot, lowest_fresh, slot_of_pointer, chunk_at}
 use Rattle.heap_theory.specs.Sound.{IsChunkTag, IsSoundHeap}
 use Rattle.heap_theory.specs.State.{Heap, slot_in, state_at, is_fresh, last_tag, payload_place, pointer_to}
 use Rattle.heap_theory.specs.State.State.{Live}
-use Rattle.heap_theory.proofs.Choices.{slot_of_pointer-is, lowest_fresh-is}
+use Rattle.heap_theory.proofs.Lookups.{slot_of_pointer-is, lowest_fresh-is}
 use Rattle.heap_theory.proofs.ListSearch.{first_in_filter}
 
 -- ---- the slot of a pointer

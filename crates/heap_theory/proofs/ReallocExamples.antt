@@ -5,10 +5,10 @@ use Rattle.heap_theory.specs.declared.event.Event.{Event}
 use Rattle.heap_theory.specs.declared.event.Event.TheVariants.{Malloc, Realloc, Free, Load, Store, Addg}
 use Rattle.heap_theory.specs.declared.refusal.FreeError.TheVariants.{NotLive}
 use Rattle.heap_theory.specs.declared.refusal.NullCause.TheVariants.{NoClass, Exhausted}
-use Rattle.heap_theory.specs.declared.place.PlaceKind.TheVariants.{Tail, Dead as DeadChunk}
+use Rattle.heap_theory.specs.declared.place_kind.PlaceKind.TheVariants.{Tail, Dead as DeadChunk}
 use Rattle.heap_theory.specs.Header.{first_word, header_for}
 use Rattle.heap_theory.specs.Header.Standing.{Quarantined, Freed}
-use Rattle.heap_theory.specs.Run.Answer.{Silent, Loaded, TagFault, NoPointer, NotFreed}
+use Rattle.heap_theory.specs.Replay.Answer.{Silent, Loaded, TagFault, NoPointer, NotFreed}
 use Rattle.heap_theory.proofs.ExampleAnswers.{shown, heap_of, totals}
 use Rattle.class_table.specs.Layout.{slots_of_classes, slots_of}
 

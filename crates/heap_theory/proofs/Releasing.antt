@@ -4,7 +4,7 @@ use Rattle.std.specs.Prelude.{Contains, slice_get, slice_set, Some}
 use Rattle.std.proofs.lemmas.Bool.{cases_eq, cases_lt}
 use Rattle.std.proofs.lemmas.List.{get_or-set_same, get_or-set_other, length-set}
 use Rattle.class_table.specs.Layout.{block_bytes}
-use Rattle.heap_theory.specs.Booked.{HasMark, IsFreedList, IsBookedFrom, bytes_of}
+use Rattle.heap_theory.specs.QueueAndLists.{HasMark, IsFreedList, AgreeWithMarksFrom, bytes_of}
 use Rattle.heap_theory.specs.Links.{list_of}
 use Rattle.heap_theory.specs.Sound.{IsSoundHeap}
 use Rattle.heap_theory.specs.State.{Heap, slot_in, state_at}
@@ -21,7 +21,7 @@ pub list_of-there : (lists : List (List ℕ)) (number other : ℕ) (list : List 
 list_of-there lists number other list not = get_or-set_other lists number other list [] not
 
 module _ (h : Heap) (from s number : ℕ) (queue : List ℕ) (lists : List (List ℕ)) (sound : IsSoundHeap h)
-    (b : IsBookedFrom h from (s ∷ queue) lists)
+    (b : AgreeWithMarksFrom h from (s ∷ queue) lists)
     (numbered : slice_get h.layout.classes number ≡ Some (slot_in h s).class) where
   is_number : IsNumberOf h.layout.classes number (slot_in h s).class
   is_number = number_is h.layout.classes number (slot_in h s).class numbered
@@ -91,7 +91,7 @@ module _ (h : Heap) (from s number : ℕ) (queue : List ℕ) (lists : List (List
       ]
 
   pub release : h.quarantine < bytes_of h.layout (s ∷ queue) →
-      IsBookedFrom h (from + block_bytes (slot_in h s)) queue (slice_set lists number (s ∷ list_of lists number))
+      AgreeWithMarksFrom h (from + block_bytes (slot_in h s)) queue (slice_set lists number (s ∷ list_of lists number))
   release over =
       let some = wide in
       let bytes : bytes_of h.layout (s ∷ queue) ≡ block_bytes (slot_in h s) + bytes_of h.layout queue = bytes_of-cons h.layout s queue in

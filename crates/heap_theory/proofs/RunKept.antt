@@ -9,8 +9,8 @@ use Rattle.class_table.specs.Layout.{Partition, IsPartition, slot_count}
 use Rattle.heap_theory.proofs.TheoryLemmas as laws
 use Rattle.heap_theory.specs.declared.event.Event.{Event}
 use Rattle.heap_theory.specs.declared.event.Event.TheVariants.{Malloc, Calloc, Realloc, Free, Load, Store, Addg, Subg}
-use Rattle.heap_theory.specs.Generations.{Run, Generation, times_of, generation_of, slot_given, times_with, generations_after, run_after, first_run, run}
-use Rattle.heap_theory.specs.Run.{Replay, variable, heap_after, variables_after, replay_after, first_replay}
+use Rattle.heap_theory.specs.Run.{Run, Generation, times_of, generation_of, slot_given, times_with, generations_after, run_after, first_run, run}
+use Rattle.heap_theory.specs.Replay.{Replay, variable, heap_after, variables_after, replay_after, first_replay}
 use Rattle.heap_theory.specs.Sound.{IsSoundHeap}
 use Rattle.heap_theory.specs.SoundRun.{IsSoundVariable, IsSoundRun}
 use Rattle.heap_theory.specs.State.{Heap, first_heap}

@@ -10,16 +10,16 @@ use Rattle.heap_theory.proofs.TheoryLemmas as laws
 use Rattle.heap_theory.specs.declared.refusal.FreeError.{FreeError}
 use Rattle.heap_theory.specs.declared.refusal.ReallocError.{ReallocError}
 use Rattle.heap_theory.specs.Calls.{Step, next_tag, given_out, resized, with_payload, moved, malloc_with, malloc_step, calloc_with, calloc_step, stays_in_class, move_with, as_realloc, realloc_with, realloc_step}
-use Rattle.heap_theory.specs.Choice.{Chunk, IsReusable, IsGiven, slot_for_request, chunk_at}
-use Rattle.heap_theory.specs.Generations.{Run, Generation, times_of, generation_of, slot_if_moved, times_with, begun_or}
-use Rattle.heap_theory.specs.Run.{variable}
+use Rattle.heap_theory.specs.Lookups.{Chunk, IsReusable, IsGiven, slot_for_request, chunk_at}
+use Rattle.heap_theory.specs.Run.{Run, Generation, times_of, generation_of, slot_if_moved, times_with, begun_or}
+use Rattle.heap_theory.specs.Replay.{variable}
 use Rattle.heap_theory.specs.Sound.{IsTagOf}
 use Rattle.heap_theory.specs.SoundRun.{IsAddressOf, IsSoundVariable, IsSoundRun}
 use Rattle.class_table.specs.Sizes.{chunk_granules}
 use Rattle.heap_theory.specs.State.{Heap, slot_in, state_at, last_tag, is_fresh, payload_place, pointer_to}
 use Rattle.heap_theory.specs.State.State.{Live}
 use Rattle.heap_theory.proofs.CallsKept.{KeepsGiven, KeepsGiven-refl, KeepsGiven-with_payload, KeepsGiven-resized, KeepsGiven-moved, HeapChange, state_at-given_out, state_at-given_out_other, layout-given_out}
-use Rattle.heap_theory.proofs.Choices.{slot_for_request-cases, chunk_at-is}
+use Rattle.heap_theory.proofs.Lookups.{slot_for_request-cases, chunk_at-is}
 use Rattle.heap_theory.proofs.HeapKept.{in_states}
 use Rattle.heap_theory.proofs.Tags.{IsTagOf-next_tag, next_tag-differs}
 

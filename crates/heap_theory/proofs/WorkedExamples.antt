@@ -4,8 +4,8 @@ use Rattle.std.specs.Prelude.{pos, negsuc, replicate}
 use Rattle.heap_theory.specs.declared.event.Event.TheVariants.{Malloc, Calloc, Free, Load, Store, Addg, Subg}
 use Rattle.heap_theory.specs.declared.refusal.FreeError.TheVariants.{Misplaced, NotLive, WrongTag}
 use Rattle.heap_theory.specs.declared.refusal.NullCause.TheVariants.{Large, NoClass, Exhausted}
-use Rattle.heap_theory.specs.declared.place.PlaceKind.TheVariants.{Slack, Header, Tail, Dead, Other}
-use Rattle.heap_theory.specs.Run.Answer.{Silent, Loaded, NotMapped, TagFault, NoPointer, NotFreed}
+use Rattle.heap_theory.specs.declared.place_kind.PlaceKind.TheVariants.{Slack, Header, Tail, Dead, Other}
+use Rattle.heap_theory.specs.Replay.Answer.{Silent, Loaded, NotMapped, TagFault, NoPointer, NotFreed}
 use Rattle.heap_theory.proofs.ExampleAnswers.{shown, totals}
 
 empty_table_serves_nothing : shown [] 0 (Malloc 1 16 ∷ []) ≡ (NoPointer NoClass ∷ [], totals 1 1 0 1 0 0 0 0 0)

@@ -5,10 +5,10 @@ use Rattle.machine_theory.specs.Address.{logical_tag, moved_by, Touches}
 use Rattle.machine_theory.specs.Memory.{tag_at}
 use Rattle.heap_theory.specs.declared.event.Event.{Event}
 use Rattle.heap_theory.specs.declared.event.Event.TheVariants.{Load, Store}
-use Rattle.heap_theory.specs.declared.place.PlaceKind.{PlaceKind}
-use Rattle.heap_theory.specs.Places.{place_kind}
-use Rattle.heap_theory.specs.Run.{Replay, Answer, variable, heap_after, answer_of, answers, replay_of}
-use Rattle.heap_theory.specs.Run.Answer.{Silent, Loaded, NotMapped, TagFault}
+use Rattle.heap_theory.specs.declared.place_kind.PlaceKind.{PlaceKind}
+use Rattle.heap_theory.specs.PlaceKinds.{place_kind}
+use Rattle.heap_theory.specs.Replay.{Replay, Answer, variable, heap_after, answer_of, answers, replay_of}
+use Rattle.heap_theory.specs.Replay.Answer.{Silent, Loaded, NotMapped, TagFault}
 use Rattle.heap_theory.specs.State.{Heap}
 use Rattle.heap_theory.specs.Totals.{is_tag_fault}
 

@@ -9,7 +9,7 @@ use Rattle.heap_theory.specs.declared.refusal.FreeError.{FreeError}
 use Rattle.heap_theory.specs.declared.refusal.NullCause.{NullCause}
 use Rattle.heap_theory.specs.declared.refusal.ReallocError.{ReallocError}
 use Rattle.heap_theory.specs.declared.refusal.ReallocError.TheVariants.{Null, Refused}
-use Rattle.heap_theory.specs.Choice.{Chunk, class_for_request, slot_for_request, chunk_at}
+use Rattle.heap_theory.specs.Lookups.{Chunk, class_for_request, slot_for_request, chunk_at}
 use Rattle.class_table.specs.Sizes.{chunk_granules}
 use Rattle.heap_theory.specs.State.{Heap, slot_in, state_at, last_tag, payload_start, pointer_to}
 use Rattle.heap_theory.specs.State.State.{Live, Dead}

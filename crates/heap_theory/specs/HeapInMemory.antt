@@ -2,8 +2,8 @@
 use Rattle.std.specs.Prelude.{◌≡◌, ◌≢◌, ℕ, ◌+◌, ◌*◌, ◌<◌, List, length, slice_get, slice_index, Some, AllPairs, Contains, IsFalse}
 use Rattle.machine_theory.specs.Memory.{Granule, word_at}
 use Rattle.class_table.specs.Layout.{Partition, slot_count, slot_of}
-use Rattle.heap_theory.specs.Booked.{HoldsQuarantined, HoldsReleased}
-use Rattle.heap_theory.specs.Choice.{is_dead}
+use Rattle.heap_theory.specs.QueueAndLists.{HoldsQuarantined, HoldsReleased}
+use Rattle.heap_theory.specs.Lookups.{is_dead}
 use Rattle.heap_theory.specs.Header.{header_for}
 use Rattle.heap_theory.specs.Links.{IsLinked, list_of}
 use Rattle.heap_theory.specs.Region.{Region, header_in, next_in, region_of}

@@ -6,14 +6,14 @@ use Rattle.machine_theory.specs.Memory.{Granule, written}
 use Rattle.class_table.specs.Layout.{Partition, IsPartition, block_bytes}
 use Rattle.heap_theory.specs.declared.event.Event.{Event}
 use Rattle.heap_theory.specs.declared.event.Event.TheVariants.{Load, Store}
-use Rattle.heap_theory.specs.Booked.{IsBooked, IsBookedFrom, HoldsQuarantined, HoldsReleased, bytes_of}
+use Rattle.heap_theory.specs.QueueAndLists.{AgreeWithMarks, AgreeWithMarksFrom, HoldsQuarantined, HoldsReleased, bytes_of}
 use Rattle.heap_theory.specs.Calls.{given_out, freed, resized, moved, malloc_step, calloc_step, free_step, realloc_step}
-use Rattle.heap_theory.specs.Choice.{Chunk, IsGiven, IsLiveChunk, slot_for, lowest_fresh, slot_for_request, slot_of_pointer, chunk_at}
-use Rattle.heap_theory.specs.Generations.{Run, run_after, run}
+use Rattle.heap_theory.specs.Lookups.{Chunk, IsGiven, IsLiveChunk, slot_for, lowest_fresh, slot_for_request, slot_of_pointer, chunk_at}
+use Rattle.heap_theory.specs.Run.{Run, run_after, run}
 use Rattle.heap_theory.specs.Hardening.{IsFaultAnswer}
 use Rattle.heap_theory.specs.Links.{list_of}
 use Rattle.heap_theory.specs.Report.{report_line, report_lines}
-use Rattle.heap_theory.specs.Run.{Replay, Answer, variable, store_step, heap_after, replay_after, answer_of, first_replay, answers, replay_of}
+use Rattle.heap_theory.specs.Replay.{Replay, Answer, variable, store_step, heap_after, replay_after, answer_of, first_replay, answers, replay_of}
 use Rattle.heap_theory.specs.Sound.{IsSoundHeap}
 use Rattle.class_table.specs.Sizes.{chunk_granules}
 use Rattle.heap_theory.specs.State.{Heap, slot_in, state_at, is_fresh, payload_place, pointer_to, first_heap, IsSlot}
@@ -98,86 +98,86 @@ NoneIsFresh =
 abbrev pub FrontIsGiven : Type 0
 FrontIsGiven =
     (heap : Heap) (queue : List ℕ) (lists : List (List ℕ)) (number class s : ℕ) (rest : List ℕ) → IsSoundHeap heap →
-    IsBooked heap queue lists →
+    AgreeWithMarks heap queue lists →
     slice_get heap.layout.classes number ≡ Some class → list_of lists number ≡ s ∷ rest → slot_for heap class ≡ Some s
 
 abbrev pub LowestFreshIsGiven : Type 0
 LowestFreshIsGiven =
-    (heap : Heap) (queue : List ℕ) (lists : List (List ℕ)) (number class : ℕ) → IsSoundHeap heap → IsBooked heap queue lists →
+    (heap : Heap) (queue : List ℕ) (lists : List (List ℕ)) (number class : ℕ) → IsSoundHeap heap → AgreeWithMarks heap queue lists →
     slice_get heap.layout.classes number ≡ Some class → list_of lists number ≡ [] → slot_for heap class ≡ lowest_fresh heap class
 
 -- ---- and each step of a call keeps them
 
-abbrev pub NothingIsBookedAtFirst : Type 0
-NothingIsBookedAtFirst =
-    (layout : Partition) (seed quarantine : ℕ) → IsBooked (first_heap layout seed quarantine) [] (replicate (length layout.classes) [])
+abbrev pub NothingIsFreedAtFirst : Type 0
+NothingIsFreedAtFirst =
+    (layout : Partition) (seed quarantine : ℕ) → AgreeWithMarks (first_heap layout seed quarantine) [] (replicate (length layout.classes) [])
 
 -- a freed slot leaves its class's list, as it is given out,
 abbrev pub FrontIsTaken : Type 0
 FrontIsTaken =
     (heap : Heap) (queue : List ℕ) (lists : List (List ℕ)) (number class s n : ℕ) (rest : List ℕ) → IsSoundHeap heap →
-    IsBooked heap queue lists →
+    AgreeWithMarks heap queue lists →
     slice_get heap.layout.classes number ≡ Some class → list_of lists number ≡ s ∷ rest →
-    IsBooked (given_out heap s n) queue (slice_set lists number rest)
+    AgreeWithMarks (given_out heap s n) queue (slice_set lists number rest)
 
 -- a fresh one is in none,
 abbrev pub FreshIsTaken : Type 0
 FreshIsTaken =
-    (heap : Heap) (queue : List ℕ) (lists : List (List ℕ)) (s n : ℕ) → IsSoundHeap heap → IsBooked heap queue lists →
-    IsSlot heap s → IsTrue (is_fresh (state_at heap s)) → IsBooked (given_out heap s n) queue lists
+    (heap : Heap) (queue : List ℕ) (lists : List (List ℕ)) (s n : ℕ) → IsSoundHeap heap → AgreeWithMarks heap queue lists →
+    IsSlot heap s → IsTrue (is_fresh (state_at heap s)) → AgreeWithMarks (given_out heap s n) queue lists
 
 -- nor is a live one that is resized,
 abbrev pub ResizedStaysOut : Type 0
 ResizedStaysOut =
-    (heap : Heap) (queue : List ℕ) (lists : List (List ℕ)) (s n size tag : ℕ) → IsSoundHeap heap → IsBooked heap queue lists →
-    IsSlot heap s → state_at heap s ≡ Live size tag → IsBooked (resized heap s n) queue lists
+    (heap : Heap) (queue : List ℕ) (lists : List (List ℕ)) (s n size tag : ℕ) → IsSoundHeap heap → AgreeWithMarks heap queue lists →
+    IsSlot heap s → state_at heap s ≡ Live size tag → AgreeWithMarks (resized heap s n) queue lists
 
 -- and memory has no part in it;
-abbrev pub MemoryIsNotBooked : Type 0
-MemoryIsNotBooked =
-    (heap : Heap) (memory : List Granule) (queue : List ℕ) (lists : List (List ℕ)) → IsBooked heap queue lists →
-    IsBooked (record heap { memory = memory }) queue lists
+abbrev pub MemoryHasNoMarks : Type 0
+MemoryHasNoMarks =
+    (heap : Heap) (memory : List Granule) (queue : List ℕ) (lists : List (List ℕ)) → AgreeWithMarks heap queue lists →
+    AgreeWithMarks (record heap { memory = memory }) queue lists
 
 -- a slot that is freed goes to the end of the queue,
 abbrev pub FreedIsQueued : Type 0
 FreedIsQueued =
-    (heap : Heap) (queue : List ℕ) (lists : List (List ℕ)) (s n tag : ℕ) → IsSoundHeap heap → (b : IsBooked heap queue lists) →
-    IsSlot heap s → state_at heap s ≡ Live n tag → IsBookedFrom (freed heap s n) b.from (queue ++ s ∷ []) lists
+    (heap : Heap) (queue : List ℕ) (lists : List (List ℕ)) (s n tag : ℕ) → IsSoundHeap heap → (b : AgreeWithMarks heap queue lists) →
+    IsSlot heap s → state_at heap s ≡ Live n tag → AgreeWithMarksFrom (freed heap s n) b.from (queue ++ s ∷ []) lists
 
 -- and while the queue has more bytes than the limit, its front goes to its class's list.
 abbrev pub FrontIsReleased : Type 0
 FrontIsReleased =
     (heap : Heap) (from s number : ℕ) (queue : List ℕ) (lists : List (List ℕ)) → IsSoundHeap heap →
-    IsBookedFrom heap from (s ∷ queue) lists →
+    AgreeWithMarksFrom heap from (s ∷ queue) lists →
     slice_get heap.layout.classes number ≡ Some (slot_in heap s).class → heap.quarantine < bytes_of heap.layout (s ∷ queue) →
-    IsBookedFrom heap (from + block_bytes (slot_in heap s)) queue (slice_set lists number (s ∷ list_of lists number))
+    AgreeWithMarksFrom heap (from + block_bytes (slot_in heap s)) queue (slice_set lists number (s ∷ list_of lists number))
 
 abbrev pub RestIsHeld : Type 0
 RestIsHeld =
-    (heap : Heap) (from : ℕ) (queue : List ℕ) (lists : List (List ℕ)) → IsBookedFrom heap from queue lists →
-    bytes_of heap.layout queue ≤ heap.quarantine → IsBooked heap queue lists
+    (heap : Heap) (from : ℕ) (queue : List ℕ) (lists : List (List ℕ)) → AgreeWithMarksFrom heap from queue lists →
+    bytes_of heap.layout queue ≤ heap.quarantine → AgreeWithMarks heap queue lists
 
 -- ---- what they hold
 
 abbrev pub QueueHoldsQuarantined : Type 0
 QueueHoldsQuarantined =
-    (heap : Heap) (queue : List ℕ) (lists : List (List ℕ)) → IsSoundHeap heap → IsBooked heap queue lists → HoldsQuarantined heap queue
+    (heap : Heap) (queue : List ℕ) (lists : List (List ℕ)) → IsSoundHeap heap → AgreeWithMarks heap queue lists → HoldsQuarantined heap queue
 
 abbrev pub ListsHoldReleased : Type 0
 ListsHoldReleased =
-    (heap : Heap) (queue : List ℕ) (lists : List (List ℕ)) (number class : ℕ) → IsSoundHeap heap → IsBooked heap queue lists →
+    (heap : Heap) (queue : List ℕ) (lists : List (List ℕ)) (number class : ℕ) → IsSoundHeap heap → AgreeWithMarks heap queue lists →
     slice_get heap.layout.classes number ≡ Some class → HoldsReleased heap class (list_of lists number)
 
 -- No slot is in two lists,
 abbrev pub OneListHasASlot : Type 0
 OneListHasASlot =
-    (heap : Heap) (queue : List ℕ) (lists : List (List ℕ)) (a b s : ℕ) → IsSoundHeap heap → IsBooked heap queue lists →
+    (heap : Heap) (queue : List ℕ) (lists : List (List ℕ)) (a b s : ℕ) → IsSoundHeap heap → AgreeWithMarks heap queue lists →
     a < length lists → b < length lists → Contains (list_of lists a) s → Contains (list_of lists b) s → a ≡ b
 
 -- nor in a list and in the queue.
 abbrev pub QueueHasNoListedSlot : Type 0
 QueueHasNoListedSlot =
-    (heap : Heap) (queue : List ℕ) (lists : List (List ℕ)) (number s : ℕ) → IsBooked heap queue lists →
+    (heap : Heap) (queue : List ℕ) (lists : List (List ℕ)) (number s : ℕ) → AgreeWithMarks heap queue lists →
     number < length lists → Contains queue s → Contains (list_of lists number) s → ⊥
 
 -- ---- events and answers

@@ -1,8 +1,5 @@
 pub mod AccessLaws
-pub mod Booked
 pub mod Calls
-pub mod Choice
-pub mod Generations
 pub mod Hardening
 pub mod Header
 pub mod HeaderLaws
@@ -10,11 +7,14 @@ pub mod HeapInMemory
 pub mod KindLaws
 pub mod Laws
 pub mod Links
+pub mod Lookups
 pub mod Losses
 pub mod OwnPointers
-pub mod Places
+pub mod PlaceKinds
+pub mod QueueAndLists
 pub mod Ranges
 pub mod Region
+pub mod Replay
 pub mod Report
 pub mod Run
 pub mod Sound

@@ -4,7 +4,7 @@ use Rattle.class_table.specs.Layout.{Partition}
 use Rattle.class_table.specs.Sizes.{counted_of}
 use Rattle.class_table.specs.Tables.{class_for, loss_of_size}
 use Rattle.heap_theory.specs.declared.event.Event.{Event}
-use Rattle.heap_theory.specs.Run.{Answer, answers, first_replay}
+use Rattle.heap_theory.specs.Replay.{Answer, answers, first_replay}
 use Rattle.heap_theory.specs.Totals.{request_size, is_request, is_refused, totals_of}
 
 -- ---- what a trace requests

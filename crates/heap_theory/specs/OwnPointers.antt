@@ -3,9 +3,9 @@ use Rattle.std.specs.Prelude.{◌≡◌, ◌≢◌, ◌↔◌, ◌⊎◌, ℕ, L
 use Rattle.heap_theory.specs.declared.refusal.ReallocError.{ReallocError}
 use Rattle.heap_theory.specs.declared.refusal.ReallocError.TheVariants.{Null, Refused}
 use Rattle.heap_theory.specs.Calls.{freed, malloc_step, calloc_step, free_step, realloc_step}
-use Rattle.heap_theory.specs.Generations.{Run}
+use Rattle.heap_theory.specs.Run.{Run}
 use Rattle.heap_theory.specs.Hardening.{IsLive, HasGeneration, IsLiveGeneration}
-use Rattle.heap_theory.specs.Run.{variable, store_step}
+use Rattle.heap_theory.specs.Replay.{variable, store_step}
 use Rattle.heap_theory.specs.Sound.{IsSoundHeap}
 use Rattle.heap_theory.specs.State.{Heap, state_at, pointer_to, IsSlot}
 use Rattle.heap_theory.specs.State.State.{Live}

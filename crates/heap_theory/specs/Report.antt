@@ -10,10 +10,10 @@ use Rattle.heap_theory.specs.declared.refusal.FreeError.{FreeError}
 use Rattle.heap_theory.specs.declared.refusal.FreeError.TheVariants.{Misplaced, NotLive, WrongTag}
 use Rattle.heap_theory.specs.declared.refusal.NullCause.{NullCause}
 use Rattle.heap_theory.specs.declared.refusal.NullCause.TheVariants.{Large, NoClass, Exhausted}
-use Rattle.heap_theory.specs.declared.place.PlaceKind.{PlaceKind}
-use Rattle.heap_theory.specs.declared.place.PlaceKind.TheVariants.{Slack, Header, Tail, Dead, Other}
-use Rattle.heap_theory.specs.Run.{Answer, answers, first_replay}
-use Rattle.heap_theory.specs.Run.Answer.{Silent, Loaded, NotMapped, TagFault, NoPointer, NotFreed}
+use Rattle.heap_theory.specs.declared.place_kind.PlaceKind.{PlaceKind}
+use Rattle.heap_theory.specs.declared.place_kind.PlaceKind.TheVariants.{Slack, Header, Tail, Dead, Other}
+use Rattle.heap_theory.specs.Replay.{Answer, answers, first_replay}
+use Rattle.heap_theory.specs.Replay.Answer.{Silent, Loaded, NotMapped, TagFault, NoPointer, NotFreed}
 use Rattle.heap_theory.specs.Totals.{Totals, totals_of}
 
 abbrev pub kind_word : PlaceKind → List ℕ

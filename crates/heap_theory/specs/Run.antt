@@ -1,127 +1,87 @@
--- The run of a trace over 1,024 variables: what each event does, and its result.
-use Rattle.std.specs.Prelude.{ℕ, ◌+◌, List, [], ◌∷◌, length, replicate, fold, slice_set, slice_index, Option, Some, None, Result, Ok, Err}
-use Rattle.std.specs.Result.{result_unwrap_or}
-use Rattle.machine_theory.specs.declared.fault.Fault.{Fault}
-use Rattle.machine_theory.specs.declared.fault.Fault.TheVariants.{Unmapped, Alignment, TagCheck}
-use Rattle.machine_theory.specs.Access.{access_fault, loaded, stored}
-use Rattle.machine_theory.specs.Address.{moved_by}
-use Rattle.machine_theory.specs.Instructions.{addg, subg}
-use Rattle.class_table.specs.Layout.{Partition}
+-- The run with what nothing stores: how often each slot was given out, and of which giving-out each variable has its address. No answer
+-- depends on these: what is stored determines each answer, and what is stored after it.
+use Rattle.std.specs.Prelude.{ℕ, ◌+◌, suc, ◌==◌, if◌then◌else◌, List, replicate, fold, slice_set, slice_index, slice_index_or, Option, Some, None, Result, Ok, Err}
+use Rattle.std.specs.Result.{result_ok}
+use Rattle.class_table.specs.Layout.{Partition, slot_count}
 use Rattle.heap_theory.specs.declared.event.Event.{Event}
 use Rattle.heap_theory.specs.declared.event.Event.TheVariants.{Malloc, Calloc, Realloc, Free, Load, Store, Addg, Subg}
 use Rattle.heap_theory.specs.declared.refusal.FreeError.{FreeError}
-use Rattle.heap_theory.specs.declared.refusal.NullCause.{NullCause}
-use Rattle.heap_theory.specs.declared.refusal.ReallocError.{ReallocError}
-use Rattle.heap_theory.specs.declared.refusal.ReallocError.TheVariants.{Null, Refused}
-use Rattle.heap_theory.specs.declared.place.PlaceKind.{PlaceKind}
-use Rattle.heap_theory.specs.Calls.{malloc_step, calloc_step, free_step, realloc_step}
-use Rattle.heap_theory.specs.Places.{place_kind}
-use Rattle.heap_theory.specs.State.{Heap, first_heap}
+use Rattle.heap_theory.specs.Calls.{stays_in_class}
+use Rattle.heap_theory.specs.Lookups.{Chunk, slot_for_request, chunk_at}
+use Rattle.heap_theory.specs.Replay.{Replay, variable, replay_after, first_replay}
+use Rattle.heap_theory.specs.State.{Heap}
 use Rattle.heap_theory.specs.declared.event.TheConstants.Event.{LAST_VARIABLE}
 
--- A replay: the heap, and the variables' values.
-pub record Replay : Type 0 where
-  pub heap : Heap
-  pub variables : List ℕ
+-- A generation: the time-th time that the slot was given out.
+pub record Generation : Type 0 where
+  pub slot : ℕ
+  pub time : ℕ
 
--- the result of an event; a silent one has no line in the report
-pub data Answer : Type 0 where
-  Silent : Answer
-  Loaded : List ℕ → Answer
-  NotMapped : Answer
-  TagFault : (granule memory_tag pointer_tag : ℕ) (kind : PlaceKind) → Answer
-  NoPointer : NullCause → Answer
-  NotFreed : FreeError → Answer
+-- A run: what is stored, for each slot the times that it was given out, and for each variable its generation, if it has one.
+pub record Run : Type 0 where
+  pub replay : Replay
+  pub times : List ℕ
+  pub generations : List (Option Generation)
 
-abbrev pub variable : Replay → ℕ → ℕ
-variable replay v = slice_index replay.variables v
+abbrev pub times_of : Run → ℕ → ℕ
+times_of run s = slice_index run.times s
+
+abbrev pub generation_of : Run → ℕ → Option Generation
+generation_of run v = slice_index_or run.generations v None
+
+-- ---- which slot an event gives out
+
+abbrev pub slot_if_moved : Heap → ℕ → Result Chunk FreeError → Option ℕ
+slot_if_moved heap n (Ok chunk) = if stays_in_class heap chunk n then None else result_ok (slot_for_request heap n)
+slot_if_moved heap n (Err error) = None
+
+unfoldable pub slot_given : Replay → Event → Option ℕ
+slot_given replay (Malloc v n) = result_ok (slot_for_request replay.heap n)
+slot_given replay (Calloc v n) = result_ok (slot_for_request replay.heap n)
+slot_given replay (Realloc v n) =
+    if variable replay v == 0 then result_ok (slot_for_request replay.heap n) else slot_if_moved replay.heap n
+    (chunk_at replay.heap (variable replay v))
+slot_given replay (Free v) = None
+slot_given replay (Load v off len) = None
+slot_given replay (Store v off len byte) = None
+slot_given replay (Addg v w u6 u4) = None
+slot_given replay (Subg v w u6 u4) = None
 
 -- ---- what an event leaves
 
-abbrev pub store_with : Heap → ℕ → List ℕ → Option Fault → Heap
-store_with heap address bytes None = record heap { memory = stored heap.memory address bytes }
-store_with heap address bytes (Some fault) = heap
+abbrev pub times_with : Run → Option ℕ → List ℕ
+times_with run None = run.times
+times_with run (Some s) = slice_set run.times s (suc (times_of run s))
 
--- A store: nothing changes where the access is a fault.
-unfoldable pub store_step : Heap → ℕ → List ℕ → Heap
-store_step heap address bytes = store_with heap address bytes (access_fault heap.memory address (length bytes))
+-- the generation that begins where a slot is given out, else the other one
+abbrev pub begun_or : Run → Option Generation → Option ℕ → Option Generation
+begun_or run other None = other
+begun_or run other (Some s) = Some (record { slot = s; time = suc (times_of run s) })
 
-unfoldable pub heap_after : Replay → Event → Heap
-heap_after replay (Malloc v n) = (malloc_step replay.heap n).heap
-heap_after replay (Calloc v n) = (calloc_step replay.heap n).heap
-heap_after replay (Realloc v n) = (realloc_step replay.heap (variable replay v) n).heap
-heap_after replay (Free v) = (free_step replay.heap (variable replay v)).heap
-heap_after replay (Load v off len) = replay.heap
-heap_after replay (Store v off len byte) = store_step replay.heap (moved_by (variable replay v) off) (replicate len byte)
-heap_after replay (Addg v w u6 u4) = replay.heap
-heap_after replay (Subg v w u6 u4) = replay.heap
+unfoldable pub generations_after : Run → Event → List (Option Generation)
+generations_after run (Malloc v n) = slice_set run.generations v (begun_or run None (slot_given run.replay (Malloc v n)))
+generations_after run (Calloc v n) = slice_set run.generations v (begun_or run None (slot_given run.replay (Calloc v n)))
+generations_after run (Realloc v n) = slice_set run.generations v (begun_or run (generation_of run v) (slot_given run.replay (Realloc v n)))
+generations_after run (Free v) = run.generations
+generations_after run (Load v off len) = run.generations
+generations_after run (Store v off len byte) = run.generations
+generations_after run (Addg v w u6 u4) = slice_set run.generations v None
+generations_after run (Subg v w u6 u4) = slice_set run.generations v None
 
-unfoldable pub variables_after : Replay → Event → List ℕ
-variables_after replay (Malloc v n) = slice_set replay.variables v (result_unwrap_or (malloc_step replay.heap n).answer 0)
-variables_after replay (Calloc v n) = slice_set replay.variables v (result_unwrap_or (calloc_step replay.heap n).answer 0)
-variables_after replay (Realloc v n) =
-    slice_set replay.variables v (result_unwrap_or (realloc_step replay.heap (variable replay v) n).answer (variable replay v))
-variables_after replay (Free v) = replay.variables
-variables_after replay (Load v off len) = replay.variables
-variables_after replay (Store v off len byte) = replay.variables
-variables_after replay (Addg v w u6 u4) = slice_set replay.variables v (addg (variable replay w) u6 u4)
-variables_after replay (Subg v w u6 u4) = slice_set replay.variables v (subg (variable replay w) u6 u4)
+unfoldable pub run_after : Run → Event → Run
+run_after run event = record {
+  replay = replay_after run.replay event;
+  times = times_with run (slot_given run.replay event);
+  generations = generations_after run event;
+}
 
-unfoldable pub replay_after : Replay → Event → Replay
-replay_after replay event = record { heap = heap_after replay event; variables = variables_after replay event }
+unfoldable pub first_run : Partition → ℕ → ℕ → Run
+first_run layout seed quarantine = record {
+  replay = first_replay layout seed quarantine;
+  times = replicate (slot_count layout) 0;
+  generations = replicate (LAST_VARIABLE + 1) None;
+}
 
--- ---- its result
-
--- an access meets no Alignment fault
-abbrev pub fault_answer : Heap → Fault → Answer
-fault_answer heap Unmapped = NotMapped
-fault_answer heap Alignment = NotMapped
-fault_answer heap (TagCheck granule memory_tag pointer_tag) = TagFault granule memory_tag pointer_tag (place_kind heap granule)
-
-abbrev pub access_answer : Heap → Answer → Option Fault → Answer
-access_answer heap done None = done
-access_answer heap done (Some fault) = fault_answer heap fault
-
-abbrev pub malloc_answer : Result ℕ NullCause → Answer
-malloc_answer (Ok p) = Silent
-malloc_answer (Err cause) = NoPointer cause
-
-abbrev pub free_answer : Result (Unit {0}) FreeError → Answer
-free_answer (Ok done) = Silent
-free_answer (Err error) = NotFreed error
-
-abbrev pub realloc_answer : Result ℕ ReallocError → Answer
-realloc_answer (Ok p) = Silent
-realloc_answer (Err (Null cause)) = NoPointer cause
-realloc_answer (Err (Refused error)) = NotFreed error
-
-abbrev pub load_answer : Heap → ℕ → ℕ → Answer
-load_answer heap address len = access_answer heap (Loaded (loaded heap.memory address len)) (access_fault heap.memory address len)
-
-abbrev pub store_answer : Heap → ℕ → ℕ → Answer
-store_answer heap address len = access_answer heap Silent (access_fault heap.memory address len)
-
-unfoldable pub answer_of : Replay → Event → Answer
-answer_of replay (Malloc v n) = malloc_answer (malloc_step replay.heap n).answer
-answer_of replay (Calloc v n) = malloc_answer (calloc_step replay.heap n).answer
-answer_of replay (Realloc v n) = realloc_answer (realloc_step replay.heap (variable replay v) n).answer
-answer_of replay (Free v) = free_answer (free_step replay.heap (variable replay v)).answer
-answer_of replay (Load v off len) = load_answer replay.heap (moved_by (variable replay v) off) len
-answer_of replay (Store v off len byte) = store_answer replay.heap (moved_by (variable replay v) off) len
-answer_of replay (Addg v w u6 u4) = Silent
-answer_of replay (Subg v w u6 u4) = Silent
-
--- ---- whole traces
-
--- A new heap, and all variables null.
-unfoldable pub first_replay : Partition → ℕ → ℕ → Replay
-first_replay layout seed quarantine = record { heap = first_heap layout seed quarantine; variables = replicate (LAST_VARIABLE + 1) 0 }
-
--- The results of events, one after the other.
-unfoldable pub answers : Replay → List Event → List Answer
-answers replay [] = []
-answers replay (event ∷ events) = answer_of replay event ∷ answers (replay_after replay event) events
-
--- What they leave.
-unfoldable pub replay_of : Replay → List Event → Replay
-replay_of replay events = fold replay_after replay events
+-- The run of a list of events, from a new heap on.
+unfoldable pub run : Partition → ℕ → ℕ → List Event → Run
+run layout seed quarantine events = fold run_after (first_run layout seed quarantine) events

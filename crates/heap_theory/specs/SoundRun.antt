@@ -2,8 +2,8 @@
 use Rattle.std.specs.Prelude.{◌≡◌, ◌≢◌, ◌⊎◌, ℕ, suc, ◌≤◌, false, List, length, slice_index, Option, Some, None, ⊤}
 use Rattle.machine_theory.specs.Address.{logical_tag, with_tag}
 use Rattle.class_table.specs.Layout.{slot_count}
-use Rattle.heap_theory.specs.Generations.{Run, Generation, generation_of}
-use Rattle.heap_theory.specs.Run.{variable}
+use Rattle.heap_theory.specs.Run.{Run, Generation, generation_of}
+use Rattle.heap_theory.specs.Replay.{variable}
 use Rattle.heap_theory.specs.Sound.{IsTagOf, IsSoundHeap}
 use Rattle.heap_theory.specs.State.{Heap, slot_in, state_at, last_tag, is_fresh, payload_place, IsSlot}
 

@@ -4,8 +4,8 @@ use Rattle.class_table.specs.Tables.{loss_of_size}
 use Rattle.heap_theory.specs.declared.event.Event.{Event}
 use Rattle.heap_theory.specs.declared.event.Event.TheVariants.{Malloc, Calloc, Realloc, Free, Load, Store, Addg, Subg}
 use Rattle.heap_theory.specs.declared.refusal.NullCause.TheVariants.{Large, NoClass, Exhausted}
-use Rattle.heap_theory.specs.Run.{Answer}
-use Rattle.heap_theory.specs.Run.Answer.{Silent, NotMapped, TagFault, NoPointer, NotFreed}
+use Rattle.heap_theory.specs.Replay.{Answer}
+use Rattle.heap_theory.specs.Replay.Answer.{Silent, NotMapped, TagFault, NoPointer, NotFreed}
 
 pub record Totals : Type 0 where
   pub events : ℕ

@@ -4,9 +4,9 @@
 
 mod event;
 pub mod laws;
-mod place;
+mod place_kind;
 mod refusal;
 
 pub use event::Event;
-pub use place::PlaceKind;
+pub use place_kind::PlaceKind;
 pub use refusal::{FreeError, NullCause, ReallocError};

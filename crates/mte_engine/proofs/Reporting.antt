@@ -3,7 +3,7 @@ use Rattle.std.proofs.Common.{◌≡◌, ◌≤◌, ℕ, ◌+◌, List, [], ◌�
 use Rattle.std.proofs.lemmas.List.{drop-append-le, drop-drop}
 use Rattle.std.proofs.Math.Seq.{drop-length}
 use Rattle.heap_theory.specs.Report.{report, report_line, totals_text}
-use Rattle.heap_theory.specs.Run.{answer_of}
+use Rattle.heap_theory.specs.Replay.{answer_of}
 use Rattle.heap_theory.specs.Totals.{totals_after}
 use Rattle.heap_theory.specs.declared.event.Event.{Event}
 use Rattle.replay_core.specs.ReplayState.{Stored, first_stored, lines_of, stored_after, stored_of}

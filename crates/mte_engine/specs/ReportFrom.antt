@@ -1,7 +1,7 @@
 -- What is still to be reported in a replay.
 use Rattle.std.specs.Prelude.{ℕ, ◌+◌, Bool, true, false, List, [], ◌∷◌, ◌++◌}
 use Rattle.heap_theory.specs.Report.{report_line, totals_text}
-use Rattle.heap_theory.specs.Run.{answer_of}
+use Rattle.heap_theory.specs.Replay.{answer_of}
 use Rattle.heap_theory.specs.declared.event.Event.{Event}
 use Rattle.replay_core.specs.ReplayState.{Stored, stored_after}
 

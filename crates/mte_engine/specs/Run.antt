@@ -6,7 +6,7 @@ use Rattle.class_tuner.specs.Tuned.{IsTuned}
 use Rattle.heap_theory.specs.AccessLaws.{AccessesAreAnswered}
 use Rattle.heap_theory.specs.Losses.{ServesEach, counted_sizes, refused_reallocs, rounding_loss}
 use Rattle.heap_theory.specs.Report.{report_lines, totals_text}
-use Rattle.heap_theory.specs.Run.{Replay, answers, first_replay, Answer as HeapAnswer}
+use Rattle.heap_theory.specs.Replay.{Replay, answers, first_replay, Answer as HeapAnswer}
 use Rattle.heap_theory.specs.Totals.{Totals, totals_of}
 use Rattle.heap_theory.specs.declared.event.Event.{Event}
 use Rattle.potential_check.specs.SheetText.{sheet_text}

@@ -10,7 +10,7 @@ use Rattle.std.proofs.lemmas.Map.Keys.{IsDistinct-from_apart}
 use Rattle.std.proofs.lemmas.Map.Steps.{length-le_from_distinct_below}
 use Rattle.class_table.specs.Layout.{Partition, IsPartition, block_bytes, slot_count, slot_of}
 use Rattle.class_table.proofs.LawLemmas.{slots_have_classes}
-use Rattle.heap_theory.specs.Booked.{bytes_of}
+use Rattle.heap_theory.specs.QueueAndLists.{bytes_of}
 
 -- numbers below n that differ are at most n
 pub few_below : (n : ℕ) (xs : List ℕ) → All (λ x. x < n) xs → AllPairs (λ x y. x ≢ y) xs → length xs ≤ n

@@ -4,7 +4,7 @@ use Rattle.std.specs.Prelude.{All, Contains}
 use Rattle.std.proofs.lemmas.List.Elements.{Contains-get_or}
 use Rattle.std.proofs.lemmas.List.Sums.{sum_by-cons, sum_by_push}
 use Rattle.class_table.specs.Layout.{Partition, block_bytes, slot_count, slot_of}
-use Rattle.heap_theory.specs.Booked.{bytes_of}
+use Rattle.heap_theory.specs.QueueAndLists.{bytes_of}
 use Rattle.heap_theory.specs.Links.{IsLinked, last_link}
 use Rattle.heap_theory.specs.Region.{Region, next_in, with_slot_link}
 use Rattle.heap_theory.proofs.ListSearch.{Contains-cases, Contains-last_cases, Contains-tail}

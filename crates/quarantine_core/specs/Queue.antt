@@ -3,7 +3,7 @@ use Rattle.std.specs.Prelude.{◌≡◌, ℕ, suc, ◌+◌, ◌-◌, ◌<◌, �
 use Rattle.machine_theory.specs.Memory.{Granule}
 use Rattle.chunk_header.specs.Links.{SetsLink}
 use Rattle.class_table.specs.Layout.{Partition, block_bytes, slot_count, slot_of}
-use Rattle.heap_theory.specs.Booked.{bytes_of}
+use Rattle.heap_theory.specs.QueueAndLists.{bytes_of}
 use Rattle.heap_theory.specs.Links.{IsLinked, last_link}
 use Rattle.heap_theory.specs.Region.{Region, next_in, region_of}
 

@@ -4,7 +4,7 @@ use Rattle.std.proofs.lemmas.Int.{to_z-of_z, fits_signed_from_abs}
 use Rattle.std.specs.Prelude.{List, length, replicate, Option, Some, None, Ok}
 use Rattle.machine_theory.specs.declared.fault.Fault.{Fault}
 use Rattle.machine_theory.specs.Access.{access_fault, ok_unless, stored}
-use Rattle.heap_theory.specs.Run.{store_with, store_step}
+use Rattle.heap_theory.specs.Replay.{store_with, store_step}
 use Rattle.std.proofs.Common.{◌≡◌, ◌≢◌, ◌⊎◌, ℕ, ◌≤◌, Bool, true, false, length, refl, sym, ◌∙◌, subst, inl, inr, arith}
 use Rattle.std.specs.Prelude.{ℤ, nat_abs, IsFalse}
 use Rattle.machine_theory.specs.Access.{IsMapped, is_mapped}

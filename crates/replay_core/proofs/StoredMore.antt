@@ -4,7 +4,7 @@ use Rattle.std.specs.Prelude.{zip}
 use Rattle.class_table.specs.Layout.{Partition}
 use Rattle.heap_theory.specs.declared.event.Event.{Event}
 use Rattle.heap_theory.specs.Report.{report, report_line, report_lines, totals_text}
-use Rattle.heap_theory.specs.Run.{Replay, Answer, answer_of, first_replay, answers, replay_of}
+use Rattle.heap_theory.specs.Replay.{Replay, Answer, answer_of, first_replay, answers, replay_of}
 use Rattle.heap_theory.specs.Totals.{totals_of, totals_after}
 use Rattle.replay_core.proofs.TheoryLemmas as laws
 use Rattle.replay_core.specs.ReplayState.{first_stored, lines_of, stored_after, stored_of}

@@ -4,7 +4,7 @@ use Rattle.std.specs.Prelude.{◌≡◌, ℕ, ◌+◌, List, [], ◌∷◌, ◌+
 use Rattle.class_table.specs.Layout.{Partition, IsPartition}
 use Rattle.heap_theory.specs.declared.event.Event.{Event}
 use Rattle.heap_theory.specs.Report.{report, report_line, report_lines, totals_text}
-use Rattle.heap_theory.specs.Run.{Replay, replay_after, answer_of, first_replay, answers, replay_of}
+use Rattle.heap_theory.specs.Replay.{Replay, replay_after, answer_of, first_replay, answers, replay_of}
 use Rattle.heap_theory.specs.Totals.{Totals, no_totals, totals_of, totals_after}
 
 pub record Stored : Type 0 where

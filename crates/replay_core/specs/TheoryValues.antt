@@ -1,8 +1,8 @@
 -- The types of the code, as the definitions see them.
 use Rattle.std.specs.Prelude.{◌≡◌, ℕ, ◌≤◌, List, length, take, ⊤}
 use Rattle.heap_theory.specs.Hardening.{AreNullOrTagged}
-use Rattle.heap_theory.specs.Run.{Replay, Answer}
-use Rattle.heap_theory.specs.Run.Answer.{Silent, Loaded, NotMapped, TagFault, NoPointer, NotFreed}
+use Rattle.heap_theory.specs.Replay.{Replay, Answer}
+use Rattle.heap_theory.specs.Replay.Answer.{Silent, Loaded, NotMapped, TagFault, NoPointer, NotFreed}
 use Rattle.heap_theory.specs.State.{Heap}
 use Rattle.heap_theory.specs.Totals.{Totals}
 use Rattle.replay_core.specs.declared.answer.Answer.{Answer as TheAnswer}

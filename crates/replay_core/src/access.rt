@@ -1,6 +1,6 @@
 //! Loads and stores through a variable.
-ghost use Rattle.heap_theory.specs.Run.{access_answer, fault_answer, store_step};
-ghost use Rattle.heap_theory.specs.Run.Answer.{Loaded, Silent};
+ghost use Rattle.heap_theory.specs.Replay.{access_answer, fault_answer, store_step};
+ghost use Rattle.heap_theory.specs.Replay.Answer.{Loaded, Silent};
 ghost use Rattle.machine_theory.specs.Access.{access_fault, is_mapped, loaded};
 ghost use Rattle.machine_theory.specs.Address.{logical_tag, moved_by};
 ghost use Rattle.replay_core.specs.TheoryValues.{FitsBuffer, shown};
@@ -37,7 +37,7 @@ pub(crate) fn load(heap: &Heap, address: u64, len: u8, bytes: &mut [u8; LONGEST_
 }
 
 // Stores `len` bytes of this value. The address must have a tag other than 0, or the access must not be mapped.
-#[tactic(auto, unfolding(heap_theory::specs::Run::store_step))]
+#[tactic(auto, unfolding(heap_theory::specs::Replay::store_step))]
 pub(crate) fn store(heap: &mut Heap, address: u64, len: u8, byte: u8) -> Answer
     requires len { (1 ≤ len) × (len ≤ LONGEST_ACCESS) }
     requires tagged { (logical_tag address ≢ 0) ⊎ IsFalse (is_mapped (length heap.old.state.memory) address len) }

@@ -1,7 +1,7 @@
 //! What an event does to the heap and to the variables.
 ghost use Rattle.heap_theory.specs.Calls.{free_step, realloc_step};
 ghost use Rattle.heap_theory.specs.Ranges.{IsInRange};
-ghost use Rattle.heap_theory.specs.Run.{answer_of, free_answer, malloc_answer, realloc_answer, replay_after};
+ghost use Rattle.heap_theory.specs.Replay.{answer_of, free_answer, malloc_answer, realloc_answer, replay_after};
 ghost use Rattle.heap_theory.specs.Sound.{IsSoundHeap};
 ghost use Rattle.replay_core.specs.TheoryValues.{AreVariables, FitsBuffer, over, shown};
 ghost use Rattle.std.specs.Prelude.{◌≡◌, ◌+◌, ◌^◌, ◌<◌, ◌≤◌, List, length, slice_index, slice_set, ℕ};
@@ -13,7 +13,7 @@ use heap_theory::{Event, NullCause, ReallocError};
 use tagged_heap::Heap;
 
 // Performs the event. A load fills the first bytes of `bytes`.
-#[tactic(auto, unfolding(heap_theory::specs::Run::replay_after, heap_theory::specs::Run::heap_after, heap_theory::specs::Run::variables_after, heap_theory::specs::Run::answer_of))]
+#[tactic(auto, unfolding(heap_theory::specs::Replay::replay_after, heap_theory::specs::Replay::heap_after, heap_theory::specs::Replay::variables_after, heap_theory::specs::Replay::answer_of))]
 pub(crate) fn perform(
     heap: &mut Heap,
     variables: &mut [u64],

@@ -1,7 +1,7 @@
-ghost use Rattle.heap_theory.specs.Generations.{Run, run_after};
+ghost use Rattle.heap_theory.specs.Run.{Run, run_after};
 ghost use Rattle.heap_theory.specs.Ranges.{IsInRange};
 ghost use Rattle.heap_theory.specs.Report.{report_line};
-ghost use Rattle.heap_theory.specs.Run.{answer_of};
+ghost use Rattle.heap_theory.specs.Replay.{answer_of};
 ghost use Rattle.replay_core.specs.ReplayState.{first_stored, stored_after};
 ghost use Rattle.tagged_heap.specs.Config.{IsConfig};
 ghost use Rattle.std.specs.Prelude.{◌≡◌, ◌+◌, ◌^◌, ◌<◌, ◌≤◌, IfOk};

@@ -1,6 +1,6 @@
 //! The report's line of an event.
 ghost use Rattle.heap_theory.specs.Report.{cause_word, error_word, kind_word, report_line};
-ghost use Rattle.heap_theory.specs.Run.Answer.{Loaded, TagFault};
+ghost use Rattle.heap_theory.specs.Replay.Answer.{Loaded, TagFault};
 ghost use Rattle.line_text.specs.Lines.{ended, line_of};
 ghost use Rattle.replay_core.specs.TheoryValues.{FitsBuffer, shown};
 ghost use Rattle.std.specs.Fmt.{decimal};

@@ -1,7 +1,7 @@
 -- What a call makes of a heap, by what is chosen for it.
 use Rattle.std.proofs.Common.{◌≡◌, ℕ, ◌<◌, List, refl, ap, ◌∙◌, inl, inr, Ok, Err, ◌≢◌, ◌+◌, ◌⊎◌, true, false, sym, subst, arith, Result}
 use Rattle.heap_theory.specs.Calls.{given_out, with_payload, move_with, moved, payload_bytes, next_tag, free_step, realloc_step}
-use Rattle.heap_theory.specs.Choice.{slot_for_request, Chunk, IsReusable, is_released}
+use Rattle.heap_theory.specs.Lookups.{slot_for_request, Chunk, IsReusable, is_released}
 use Rattle.class_table.specs.Sizes.{chunk_granules}
 use Rattle.heap_theory.specs.State.{Heap, slot_in, state_at, is_fresh, pointer_to}
 use Rattle.std.specs.Prelude.{MatchResult, IfOk, IfErr, OnErr, IsTrue, ◌↔◌}
@@ -11,7 +11,7 @@ use Rattle.heap_theory.specs.declared.refusal.NullCause.{NullCause}
 use Rattle.heap_theory.specs.declared.refusal.ReallocError.TheVariants.{Null}
 use Rattle.heap_theory.specs.State.State.{Fresh, Live}
 use Rattle.machine_theory.specs.Memory.{Granule, bytes_at, tagged}
-use Rattle.tagged_heap.specs.HeldHeap.{HeapAndFrees}
+use Rattle.tagged_heap.specs.HeapAtRest.{HeapAndFrees}
 use Rattle.tagged_heap.specs.Chunks.{IsChunk}
 use Rattle.tagged_heap.specs.declared.freeing.Chunk.{Chunk as Found}
 use Rattle.tagged_heap.specs.Frees.{frees_for_slot}

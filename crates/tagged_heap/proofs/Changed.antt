@@ -4,9 +4,9 @@ use Rattle.std.specs.Prelude.{Contains, slice_set, slice_index}
 use Rattle.std.proofs.lemmas.Bool.{cases_eq}
 use Rattle.std.proofs.lemmas.List.{get_or-set_same, get_or-set_other, length-set}
 use Rattle.machine_theory.specs.Memory.{Granule, IsMemory}
-use Rattle.heap_theory.specs.Booked.{HasMark, IsBooked}
+use Rattle.heap_theory.specs.QueueAndLists.{HasMark, AgreeWithMarks}
 use Rattle.heap_theory.specs.Calls.{chunk_tagged}
-use Rattle.heap_theory.specs.Choice.{is_dead}
+use Rattle.heap_theory.specs.Lookups.{is_dead}
 use Rattle.heap_theory.specs.Header.{Standing, Header, FitsWords, with_header}
 use Rattle.heap_theory.specs.Links.{IsLinked, list_of}
 use Rattle.heap_theory.specs.Region.{Region, region_of, header_in, next_in}
@@ -20,7 +20,7 @@ use Rattle.heap_theory.proofs.SeenMemory.{length-without_headers}
 use Rattle.tagged_heap.proofs.TheoryLemmas as laws
 use Rattle.tagged_heap.specs.Representation.{header_from, IsRewritten, HasHeaders, AreListed, AreFirstFresh, Parts, IsKept}
 use Rattle.tagged_heap.proofs.RewrittenHeaders.{then_tagged, then_written, written_header}
-use Rattle.tagged_heap.proofs.Kept.{header_fits, within_states, booked_same}
+use Rattle.tagged_heap.proofs.Kept.{header_fits, within_states, agree_same}
 
 -- ---- lists
 
@@ -146,7 +146,7 @@ module _ {h : Heap} {p : Parts} (k : IsKept h p) (s n tag seed drawn : ℕ) (in_
 
   pub kept_alive : {new : List Granule} {fronts : List ℕ} {lists : List (List ℕ)} →
       AreListed (next_in (region_of h.layout p.memory)) fronts lists →
-      IsBooked (alive h s n tag seed drawn) k.queue lists →
+      AgreeWithMarks (alive h s n tag seed drawn) k.queue lists →
       IsRewritten h.layout p.memory new s (header_from h.layout k.from s (Live n tag) 0) (alive h s n tag seed drawn).memory →
       IsMemory new → IsKept (alive h s n tag seed drawn) (record p { memory = new; fronts = fronts })
   kept_alive {new} {fronts} {lists} listed b written is = record {
@@ -165,16 +165,16 @@ module _ {h : Heap} {p : Parts} (k : IsKept h p) (s n tag seed drawn : ℕ) (in_
     queued = record {
       slots = k.queued.slots;
       linked = laws.links_stay _ _ _ k.queue
-          (λ r there. let d = chain_dead now b.from k.queue r b.booked.chain there in dead_next r d.mark d.in_range d.marked)
+          (λ r there. let d = chain_dead now b.from k.queue r b.agree.chain there in dead_next r d.mark d.in_range d.marked)
           k.queued.linked;
       back = k.queued.back;
       held = k.queued.held;
     };
     listed = listed_same listed
         (λ number r inside there.
-        let d = list_dead now _ b.from (list_of lists number) r (b.booked.freed number inside) there in
+        let d = list_dead now _ b.from (list_of lists number) r (b.agree.freed number inside) there in
         dead_next r d.mark d.in_range d.marked);
-    booked = booked_same k refl refl b;
+    agree = agree_same k refl refl b;
     limit = k.limit;
   }
     where

@@ -5,7 +5,7 @@ use Rattle.std.proofs.lemmas.Bool.{cases_eq}
 use Rattle.std.proofs.lemmas.List.{get_or-set_same, get_or-set_other, length-set}
 use Rattle.machine_theory.specs.Memory.{Granule}
 use Rattle.class_table.specs.Layout.{first_slot}
-use Rattle.heap_theory.specs.Choice.{lowest_fresh}
+use Rattle.heap_theory.specs.Lookups.{lowest_fresh}
 use Rattle.heap_theory.specs.Sound.{IsSoundHeap}
 use Rattle.heap_theory.specs.State.{State, Heap, slot_in, state_at, is_fresh, IsSlot}
 use Rattle.tagged_heap.proofs.TheoryLemmas as laws

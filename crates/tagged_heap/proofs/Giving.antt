@@ -14,9 +14,9 @@ use Rattle.class_table.specs.Sizes.{largest_counted}
 use Rattle.class_table.specs.Tables.{class_for, class_number_for}
 use Rattle.heap_theory.specs.declared.refusal.NullCause.{NullCause}
 use Rattle.heap_theory.specs.declared.refusal.NullCause.TheVariants.{Large, NoClass, Exhausted}
-use Rattle.heap_theory.specs.Booked.{HasMark, IsBooked}
+use Rattle.heap_theory.specs.QueueAndLists.{HasMark, AgreeWithMarks}
 use Rattle.heap_theory.specs.Calls.{given_out, next_tag, parity_exclude, chunk_tagged}
-use Rattle.heap_theory.specs.Choice.{IsGiven, slot_for, slot_for_request, slot_in_class, lowest_fresh, is_dead}
+use Rattle.heap_theory.specs.Lookups.{IsGiven, slot_for, slot_for_request, slot_in_class, lowest_fresh, is_dead}
 use Rattle.heap_theory.specs.Header.{Header, with_header}
 use Rattle.heap_theory.specs.Links.{IsLinked, list_of}
 use Rattle.heap_theory.specs.Region.{region_of, header_in, next_in}
@@ -29,12 +29,12 @@ use Rattle.tagged_heap.proofs.TheoryLemmas as laws
 use Rattle.tagged_heap.specs.Chunks.{given_header, tag_for, HasRoom}
 use Rattle.tagged_heap.specs.ClassSlots.{IsCauseFor, HasClass, Takes}
 use Rattle.tagged_heap.specs.Representation.{header_from, IsRewritten, AreListed, AreFirstFresh, Parts, IsKept}
-use Rattle.tagged_heap.specs.HeldHeap.{shown_heap, IsHeldIn}
+use Rattle.tagged_heap.specs.HeapAtRest.{shown_heap, IsAtRest}
 use Rattle.tagged_heap.proofs.Changed.{with_link, other_list, state_here, counters_changed, kept_alive, alive_memory}
 use Rattle.tagged_heap.proofs.Counters.{counters_step, counted, lowest_counted, lowest_none}
 use Rattle.tagged_heap.proofs.RewrittenHeaders.{link_set}
 use Rattle.tagged_heap.proofs.Shares.{share_of_slot}
-use Rattle.tagged_heap.proofs.Kept.{class_few, within_states, within_lists, region_is, front_few, list_slot, booked_at_rest, shown_is}
+use Rattle.tagged_heap.proofs.Kept.{class_few, within_states, within_lists, region_is, front_few, list_slot, agree_at_rest, shown_is}
 
 -- ---- the request
 
@@ -89,16 +89,16 @@ pub record IsTaken (h : Heap) (p : Parts) (k : IsKept h p) (m1 : List Granule) (
   pub memory_is : IsMemory m1
   pub lists : List (List ℕ)
   pub listed : AreListed (next_in (region_of h.layout p.memory)) fronts lists
-  pub booked : IsBooked (given_out h s n) k.queue lists
+  pub agree : AgreeWithMarks (given_out h s n) k.queue lists
   pub fresh : AreFirstFresh (given_out h s n) counters
 
-module _ {h : Heap} {frees : ℕ} {p : Parts} {counters : List ℕ} (held : IsHeldIn h frees p counters) (n number : ℕ) (few : n ≤ 16368)
+module _ {h : Heap} {frees : ℕ} {p : Parts} {counters : List ℕ} (held : IsAtRest h frees p counters) (n number : ℕ) (few : n ≤ 16368)
     (numbered : class_number_for h.layout.classes n ≡ Some number) (within : number < length h.layout.classes) where
   listed : slice_get h.layout.classes number ≡ Some (slice_index h.layout.classes number)
   listed = slice_get-get_or h.layout.classes number 0 within
 
-  booked : IsBooked h held.kept.queue held.kept.lists
-  booked = booked_at_rest held.kept held.rests
+  agree : AgreeWithMarks h held.kept.queue held.kept.lists
+  agree = agree_at_rest held.kept held.rests
 
   linked : IsLinked (next_in (region_of h.layout p.memory)) (slice_index p.fronts number) (list_of held.kept.lists number)
   linked = held.kept.listed.linked number (within_lists held.kept number within)
@@ -126,7 +126,7 @@ module _ {h : Heap} {frees : ℕ} {p : Parts} {counters : List ℕ} (held : IsHe
       first_of (next_in (region_of h.layout p.memory)) (slice_index p.fronts number) s (list_of k.lists number) linked (t.front ∙ plus) in
       let request : slot_for_request h n ≡ Ok s =
       request_served h n number _ (Some s) few numbered listed
-      (laws.front_given h k.queue k.lists number _ s first.0 k.sound booked listed first.1) in
+      (laws.front_given h k.queue k.lists number _ s first.0 k.sound agree listed first.1) in
       let freed =
       list_slot k number s (within_lists k number within) (subst (λ list. Contains list s) (sym first.1) (Contains-head s first.0)) in
       record {
@@ -137,7 +137,7 @@ module _ {h : Heap} {frees : ℕ} {p : Parts} {counters : List ℕ} (held : IsHe
         lists = slice_set k.lists number first.0;
         listed = subst (λ x. AreListed (next_in (region_of h.layout p.memory)) x (slice_set k.lists number first.0)) (sym t.fronts_are)
             (other_list k.listed number (next_in (region_of h.layout p.memory) s) first.0 (within_lists k number within) first.2);
-        booked = laws.front_taken h k.queue k.lists number _ s n first.0 k.sound booked listed first.1;
+        agree = laws.front_taken h k.queue k.lists number _ s n first.0 k.sound agree listed first.1;
         fresh = subst (AreFirstFresh (given_out h s n)) (sym t.counters_are)
             (counters_changed h s (Live n (next_tag h s)) _ _ _ _ (within_states k s freed.in_range)
             (freed_not_fresh (state_at h s) freed.mark freed.marked) held.fresh);
@@ -154,7 +154,7 @@ module _ {h : Heap} {frees : ℕ} {p : Parts} {counters : List ℕ} (held : IsHe
       lowest_counted h k.sound counters held.fresh number within below ∙ ap Some (sym t.counter) in
       let request : slot_for_request h n ≡ Ok s =
       request_served h n number _ (Some s) few numbered listed
-      (laws.fresh_given h k.queue k.lists number _ k.sound booked listed none ∙ lowest) in
+      (laws.fresh_given h k.queue k.lists number _ k.sound agree listed none ∙ lowest) in
       record {
         request = request;
         given = laws.request h n s k.sound request;
@@ -170,7 +170,7 @@ module _ {h : Heap} {frees : ℕ} {p : Parts} {counters : List ℕ} (held : IsHe
         memory_is = is;
         lists = k.lists;
         listed = subst (λ x. AreListed (next_in (region_of h.layout p.memory)) x k.lists) (sym t.fronts_are) k.listed;
-        booked = laws.fresh_taken h k.queue k.lists s n k.sound booked own.0 own.2;
+        agree = laws.fresh_taken h k.queue k.lists s n k.sound agree own.0 own.2;
         fresh = subst (AreFirstFresh (given_out h s n)) (sym t.counters_are)
             (counters_step h k.sound counters held.fresh number within s (Live n (next_tag h s)) _ _ _ _ (within_states k s own.0) t.counter
             t.below refl);
@@ -193,10 +193,10 @@ module _ {h : Heap} {frees : ℕ} {p : Parts} {counters : List ℕ} (held : IsHe
       let k = held.kept in
       let none = none_of (next_in (region_of h.layout p.memory)) (slice_index p.fronts number) (list_of k.lists number) linked t.empty in
       request_served h n number _ None few numbered listed
-      (laws.fresh_given h k.queue k.lists number _ k.sound booked listed none
+      (laws.fresh_given h k.queue k.lists number _ k.sound agree listed none
       ∙ lowest_none h k.sound counters held.fresh number within (omega (arith, t.counter)))
 
-pub has_class : {h : Heap} {frees : ℕ} {p : Parts} {counters : List ℕ} → IsHeldIn h frees p counters → (number : ℕ) →
+pub has_class : {h : Heap} {frees : ℕ} {p : Parts} {counters : List ℕ} → IsAtRest h frees p counters → (number : ℕ) →
     number < length h.layout.classes → HasClass h.layout p.memory p.fronts counters number
 has_class {h} {frees} {p} {counters} held number within =
     let k = held.kept in
@@ -213,7 +213,7 @@ has_class {h} {frees} {p} {counters} held number within =
 
 -- ---- and is given out
 
-module _ {h : Heap} {frees : ℕ} {p : Parts} {counters : List ℕ} (held : IsHeldIn h frees p counters) {m1 : List Granule}
+module _ {h : Heap} {frees : ℕ} {p : Parts} {counters : List ℕ} (held : IsAtRest h frees p counters) {m1 : List Granule}
     {fronts counters' : List ℕ} {s n : ℕ}
     (t : IsTaken h p held.kept m1 fronts counters' s n) where
   pub taken_room : n ≤ 16368 → HasRoom h.layout m1 s n
@@ -242,7 +242,7 @@ module _ {h : Heap} {frees : ℕ} {p : Parts} {counters : List ℕ} (held : IsHe
       }
 
   module _ (machine : Machine) (given : IsGivenBy machine) (memory : IsMemory machine.memory) where
-    pub given_held : IsHeldIn (given_out h s n) frees (record p { memory = machine.memory; fronts = fronts }) counters'
+    pub given_held : IsAtRest (given_out h s n) frees (record p { memory = machine.memory; fronts = fronts }) counters'
     unfolding given_out
     given_held =
         let k = held.kept in
@@ -250,7 +250,7 @@ module _ {h : Heap} {frees : ℕ} {p : Parts} {counters : List ℕ} (held : IsHe
         let sound = laws.given_out_sound h s n k.sound in_range t.given.room in
         record {
           kept =
-              kept_alive k s n (next_tag h s) (next_seed h.seed) (next_tag h s) in_range held.fits sound t.listed t.booked
+              kept_alive k s n (next_tag h s) (next_seed h.seed) (next_tag h s) in_range held.fits sound t.listed t.agree
               (alive_memory k s n (next_tag h s) (next_seed h.seed) (next_tag h s) in_range held.fits sound t.before t.memory_is
               (λ i. given_header (t.before.own i) n (drawn_is i)) drawn_is (ap (λ (x : Machine). x.memory) given)) memory;
           rests = held.rests;

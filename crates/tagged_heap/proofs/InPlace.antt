@@ -3,7 +3,7 @@ use Rattle.std.proofs.Common.{◌≡◌, ℕ, ◌<◌, List, refl, sym, ap, ◌�
 use Rattle.machine_theory.specs.Machine.{Machine}
 use Rattle.machine_theory.specs.Memory.{IsMemory}
 use Rattle.heap_theory.specs.Calls.{chunk_tagged, resized}
-use Rattle.heap_theory.specs.Choice.{is_dead}
+use Rattle.heap_theory.specs.Lookups.{is_dead}
 use Rattle.heap_theory.specs.Header.{Header, with_header}
 use Rattle.class_table.specs.Sizes.{chunk_granules}
 use Rattle.heap_theory.specs.State.{Heap, slot_in, state_at, is_fresh, last_tag, IsSlot}
@@ -11,11 +11,11 @@ use Rattle.heap_theory.specs.State.State.{Live}
 use Rattle.tagged_heap.proofs.TheoryLemmas as laws
 use Rattle.tagged_heap.specs.Representation.{header_from, Parts}
 use Rattle.heap_theory.specs.Region.{region_of, header_in}
-use Rattle.tagged_heap.specs.HeldHeap.{shown_heap, IsHeldIn}
+use Rattle.tagged_heap.specs.HeapAtRest.{shown_heap, IsAtRest}
 use Rattle.tagged_heap.proofs.Changed.{counters_changed, kept_alive, alive_memory}
-use Rattle.tagged_heap.proofs.Kept.{within_states, booked_at_rest, shown_is}
+use Rattle.tagged_heap.proofs.Kept.{within_states, agree_at_rest, shown_is}
 
-module _ {h : Heap} {frees : ℕ} {p : Parts} {counters : List ℕ} (held : IsHeldIn h frees p counters) (s size tag n : ℕ)
+module _ {h : Heap} {frees : ℕ} {p : Parts} {counters : List ℕ} (held : IsAtRest h frees p counters) (s size tag n : ℕ)
     (in_range : IsSlot h s) (live : state_at h s ≡ Live size tag)
     (room : chunk_granules n < (slot_in h s).class) where
   header_is : record (header_in (region_of h.layout p.memory) s) { size = n }
@@ -38,7 +38,7 @@ module _ {h : Heap} {frees : ℕ} {p : Parts} {counters : List ℕ} (held : IsHe
       }
 
   module _ (machine : Machine) (is : IsResizedBy machine) (memory : IsMemory machine.memory) where
-    pub resized_held : IsHeldIn (resized h s n) frees (record p { memory = machine.memory }) counters
+    pub resized_held : IsAtRest (resized h s n) frees (record p { memory = machine.memory }) counters
     unfolding resized
     resized_held =
         let k = held.kept in
@@ -47,7 +47,7 @@ module _ {h : Heap} {frees : ℕ} {p : Parts} {counters : List ℕ} (held : IsHe
         record {
           kept =
               kept_alive k s n last h.seed h.tag in_range held.fits sound k.listed
-              (laws.resized_out h k.queue k.lists s n size tag k.sound (booked_at_rest k held.rests) in_range live)
+              (laws.resized_out h k.queue k.lists s n size tag k.sound (agree_at_rest k held.rests) in_range live)
               (alive_memory k s n last h.seed h.tag in_range held.fits sound
               (record { own = refl; others = λ r inside other. refl; seen_is = k.seen }) k.memory_is header_is
               (ap (λ (x : Header). x.tag) (k.headers.headers s in_range)) (ap (λ (x : Machine). x.memory) is)) memory;

@@ -5,7 +5,7 @@ use Rattle.std.proofs.lemmas.Bool.{cases_lt, lt-ltb, le-ltb, cond-true, cond-fal
 use Rattle.std.proofs.lemmas.List.{ext_get_or, get_or-map, length-map}
 use Rattle.std.proofs.lemmas.Option.{slice_get_within, get_or_from_slice_get}
 use Rattle.class_table.specs.Layout.{slot_count}
-use Rattle.heap_theory.specs.Booked.{HasMark, IsBooked, IsBookedFrom, bytes_of}
+use Rattle.heap_theory.specs.QueueAndLists.{HasMark, AgreeWithMarks, AgreeWithMarksFrom, bytes_of}
 use Rattle.heap_theory.specs.Header.{Header, FitsWords, header_for, shown_state, standing_in, state_by, class_number}
 use Rattle.heap_theory.specs.Header.Standing.{Freed, Quarantined}
 use Rattle.heap_theory.specs.HeapInMemory.{IsKeptIn}
@@ -22,7 +22,7 @@ use Rattle.heap_theory.proofs.SeenMemory.{length-without_headers}
 use Rattle.tagged_heap.proofs.TheoryLemmas as laws
 use Rattle.tagged_heap.specs.Chunks.{HasRoom}
 use Rattle.tagged_heap.specs.Representation.{standing_from, header_from, Parts, IsKept}
-use Rattle.tagged_heap.specs.HeldHeap.{shown_heap, shown_states}
+use Rattle.tagged_heap.specs.HeapAtRest.{shown_heap, shown_states}
 
 -- ---- sizes
 
@@ -70,24 +70,24 @@ module _ {h : Heap} {p : Parts} (k : IsKept h p) where
   within_states s in_range = subst (λ n. s < n) (sym k.sound.states) in_range
 
   pub within_lists : (number : ℕ) → number < length h.layout.classes → number < length k.lists
-  within_lists number within = subst (λ n. number < n) (sym k.booked.long) within
+  within_lists number within = subst (λ n. number < n) (sym k.agree.long) within
 
   pub bytes_from : k.from + bytes_of h.layout k.queue ≡ h.total
-  bytes_from = chain_bytes h k.from k.queue k.booked.chain
+  bytes_from = chain_bytes h k.from k.queue k.agree.chain
 
-  -- what is booked with the same queue and total has the same mark
-  pub booked_same : {h' : Heap} {lists : List (List ℕ)} → bytes_of h'.layout k.queue ≡ bytes_of h.layout k.queue → h'.total ≡ h.total →
-      IsBooked h' k.queue lists → IsBookedFrom h' k.from k.queue lists
-  booked_same {h'} {lists} bytes total b =
-      let from : b.from ≡ k.from = omega (arith, bytes, total, bytes_from, chain_bytes h' b.from k.queue b.booked.chain) in
-      subst (λ from. IsBookedFrom h' from k.queue lists) from b.booked
+  -- with the same queue and total, they agree from the same mark on
+  pub agree_same : {h' : Heap} {lists : List (List ℕ)} → bytes_of h'.layout k.queue ≡ bytes_of h.layout k.queue → h'.total ≡ h.total →
+      AgreeWithMarks h' k.queue lists → AgreeWithMarksFrom h' k.from k.queue lists
+  agree_same {h'} {lists} bytes total b =
+      let from : b.from ≡ k.from = omega (arith, bytes, total, bytes_from, chain_bytes h' b.from k.queue b.agree.chain) in
+      subst (λ from. AgreeWithMarksFrom h' from k.queue lists) from b.agree
 
   pub queue_slot : (s : ℕ) → Contains k.queue s → IsQueued h k.from s
-  queue_slot s there = chain_dead h k.from k.queue s k.booked.chain there
+  queue_slot s there = chain_dead h k.from k.queue s k.agree.chain there
 
   pub list_slot : (number s : ℕ) → number < length k.lists → Contains (list_of k.lists number) s →
       IsListed h (slice_index h.layout.classes number) k.from s
-  list_slot number s within there = list_dead h _ k.from (list_of k.lists number) s (k.booked.freed number within) there
+  list_slot number s within there = list_dead h _ k.from (list_of k.lists number) s (k.agree.freed number within) there
 
   -- a front is the link to a slot
   pub front_few : (number : ℕ) → number < length k.lists → slice_index p.fronts number ≤ slot_count h.layout
@@ -144,8 +144,8 @@ module _ {h : Heap} {p : Parts} (k : IsKept h p) where
     pub queue_few : bytes_of h.layout k.queue ≤ h.quarantine
     queue_few = omega (arith, rests, k.queued.held, k.limit)
 
-    abbrev pub booked_at_rest : IsBooked h k.queue k.lists
-    booked_at_rest = record { from = k.from; booked = k.booked; held = queue_few }
+    abbrev pub agree_at_rest : AgreeWithMarks h k.queue k.lists
+    agree_at_rest = record { from = k.from; agree = k.agree; held = queue_few }
 
     -- the slots from the mark on are those that the heap's limit holds back
     standing_at_rest : (s : ℕ) (x : State) → IsSlot h s → state_at h s ≡ x → standing_from k.from x ≡ standing_in h x
@@ -153,7 +153,7 @@ module _ {h : Heap} {p : Parts} (k : IsKept h p) where
     standing_at_rest s (Live n t) in_range is = refl
     standing_at_rest s (Dead n t mark) in_range is = elim (cases_lt mark k.from) [
       | inl before ↦
-          let over = k.booked.released s mark in_range (subst (λ x. HasMark x mark) (sym is) refl) before in
+          let over = k.agree.released s mark in_range (subst (λ x. HasMark x mark) (sym is) refl) before in
           cond-true _ Freed Quarantined (lt-ltb _ _ before) ∙ sym (cond-true _ Freed Quarantined (lt-ltb _ _ over))
       | inr after ↦
           let total = bytes_from in
@@ -174,21 +174,21 @@ module _ {h : Heap} {p : Parts} (k : IsKept h p) where
       front = p.quarantine.front;
       queue = k.queue;
       queue_linked = k.queued.linked;
-      queue_holds = laws.queue_holds h k.queue k.lists k.sound booked_at_rest;
+      queue_holds = laws.queue_holds h k.queue k.lists k.sound agree_at_rest;
       queue_once = laws.each_once (next_in (region_of h.layout p.memory)) p.quarantine.front k.queue k.queued.linked;
       fronts = p.fronts;
       lists = k.lists;
-      fronts_long = k.listed.long ∙ k.booked.long;
+      fronts_long = k.listed.long ∙ k.agree.long;
       list_linked = λ number within. k.listed.linked number (in_lists number within);
-      list_holds = λ number class found. laws.lists_hold h k.queue k.lists number class k.sound booked_at_rest found;
+      list_holds = λ number class found. laws.lists_hold h k.queue k.lists number class k.sound agree_at_rest found;
       list_once =
           λ number within. laws.each_once (next_in (region_of h.layout p.memory)) _ (list_of k.lists number)
           (k.listed.linked number (in_lists number within));
       one_list =
-          λ a b s in_a in_b there also. laws.one_list_has h k.queue k.lists a b s k.sound booked_at_rest (in_lists a in_a) (in_lists b in_b)
+          λ a b s in_a in_b there also. laws.one_list_has h k.queue k.lists a b s k.sound agree_at_rest (in_lists a in_a) (in_lists b in_b)
           there also;
       apart =
-          λ number s within queued listed. laws.queue_apart h k.queue k.lists number s booked_at_rest (in_lists number within) queued
+          λ number s within queued listed. laws.queue_apart h k.queue k.lists number s agree_at_rest (in_lists number within) queued
           listed;
     }
       where

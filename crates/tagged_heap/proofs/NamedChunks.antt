@@ -4,7 +4,7 @@ use Rattle.std.specs.Prelude.{nat_lt, ◌==◌}
 use Rattle.std.proofs.lemmas.Bool.{cond-true, cond-false, eq-eqb, ne_eqb}
 use Rattle.machine_theory.specs.Address.{logical_tag, place_of}
 use Rattle.heap_theory.specs.declared.refusal.FreeError.TheVariants.{Misplaced, NotLive, WrongTag}
-use Rattle.heap_theory.specs.Choice.{chunk_at, chunk_in, chunk_in_slot, slot_of_pointer}
+use Rattle.heap_theory.specs.Lookups.{chunk_at, chunk_in, chunk_in_slot, slot_of_pointer}
 use Rattle.heap_theory.specs.Header.{Standing, Header, size_of}
 use Rattle.heap_theory.specs.Header.Standing.{Live as IsLive, Quarantined, Freed}
 use Rattle.heap_theory.specs.Sound.{IsSoundHeap}

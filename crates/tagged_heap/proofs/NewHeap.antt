@@ -18,7 +18,7 @@ use Rattle.heap_theory.proofs.FirstHeap.{get_or-replicate_any}
 use Rattle.heap_theory.proofs.Marks.{one_number, number_is}
 use Rattle.tagged_heap.proofs.TheoryLemmas as laws
 use Rattle.tagged_heap.specs.Representation.{header_from, AreFirstFresh, Parts}
-use Rattle.tagged_heap.specs.HeldHeap.{shown_heap, IsHeldIn}
+use Rattle.tagged_heap.specs.HeapAtRest.{shown_heap, IsAtRest}
 use Rattle.tagged_heap.proofs.Kept.{shown_is}
 use Rattle.tagged_heap.proofs.Shares.{share_of_slot}
 
@@ -76,13 +76,13 @@ module _ (layout : Partition) (seed quarantine : ℕ) (is : IsPartition layout) 
               (length layout.classes) 0;
         }
 
-    pub held_first : IsHeldIn (first_heap layout seed quarantine) 0 first_parts counters
+    pub held_first : IsAtRest (first_heap layout seed quarantine) 0 first_parts counters
     unfolding first_heap
     held_first =
-        let booked = laws.first_booked layout seed quarantine in
+        let agree = laws.agree_first layout seed quarantine in
         record {
           kept = record {
-            from = booked.from;
+            from = agree.from;
             queue = [];
             lists = replicate (length layout.classes) [];
             sound = laws.first_sound layout seed quarantine is;
@@ -91,7 +91,7 @@ module _ (layout : Partition) (seed quarantine : ℕ) (is : IsPartition layout) 
             headers = record {
               headers = λ s within.
                   headers s within ∙ ap (header_from layout 0 s Fresh) (sym (no_link s within))
-                  ∙ ap (λ (x : State). header_from layout booked.from s x (next_in (region_of layout m) s)) (sym (state_fresh s));
+                  ∙ ap (λ (x : State). header_from layout agree.from s x (next_in (region_of layout m) s)) (sym (state_fresh s));
               unlinked = λ s within alive. no_link s within;
             };
             queued = record { slots = λ s there. absurd (Contains-none s there); linked = refl; back = refl; held = refl };
@@ -103,7 +103,7 @@ module _ (layout : Partition) (seed quarantine : ℕ) (is : IsPartition layout) 
                   (subst (λ (list : List ℕ). IsLinked (next_in (region_of layout m)) 0 list)
                   (sym (get_or-replicate_any {A = List ℕ} (length layout.classes) number [])) refl);
             };
-            booked = booked.booked;
+            agree = agree.agree;
             limit = refl;
           };
           rests = omega arith;

@@ -20,10 +20,10 @@ use Rattle.heap_theory.proofs.Regions.{region_of-written, start_is_header}
 use Rattle.heap_theory.proofs.SeenMemory.{length-without_headers}
 use Rattle.tagged_heap.proofs.TheoryLemmas as laws
 use Rattle.tagged_heap.specs.Representation.{header_from, Parts, IsKept}
-use Rattle.tagged_heap.specs.HeldHeap.{shown_heap, IsHeldIn}
+use Rattle.tagged_heap.specs.HeapAtRest.{shown_heap, IsAtRest}
 use Rattle.tagged_heap.proofs.BytesInParts.{map_same}
 use Rattle.tagged_heap.proofs.Changed.{listed_same}
-use Rattle.tagged_heap.proofs.Kept.{booked_same, booked_at_rest, region_is, shown_is}
+use Rattle.tagged_heap.proofs.Kept.{agree_same, agree_at_rest, region_is, shown_is}
 
 -- these bytes from byte i on are in no header
 abbrev pub AreOutsideHeaders : Partition → ℕ → List ℕ → Type 0
@@ -32,7 +32,7 @@ AreOutsideHeaders layout i bytes =
 
 -- ---- a heap stays kept
 
-module _ {h : Heap} {frees : ℕ} {p : Parts} {counters : List ℕ} (held : IsHeldIn h frees p counters) {new : List Granule} (i : ℕ)
+module _ {h : Heap} {frees : ℕ} {p : Parts} {counters : List ℕ} (held : IsAtRest h frees p counters) {new : List Granule} (i : ℕ)
     (bytes : List ℕ) (is : new ≡ written i bytes p.memory)
     (outside : AreOutsideHeaders h.layout i bytes) (fit : All (λ b. b < 256) bytes) where
   same : region_of h.layout (written i bytes p.memory)
@@ -65,12 +65,12 @@ module _ {h : Heap} {frees : ℕ} {p : Parts} {counters : List ℕ} (held : IsHe
           held = k.queued.held;
         };
         listed = listed_same k.listed (λ number s inside there. next_same s);
-        booked =
-            booked_same k refl refl (laws.memory_not_booked h (written i bytes h.memory) k.queue k.lists (booked_at_rest k held.rests));
+        agree =
+            agree_same k refl refl (laws.memory_without_marks h (written i bytes h.memory) k.queue k.lists (agree_at_rest k held.rests));
         limit = k.limit;
       }
 
-  pub written_held : IsHeldIn (record h { memory = written i bytes h.memory }) frees (record p { memory = new }) counters
+  pub written_held : IsAtRest (record h { memory = written i bytes h.memory }) frees (record p { memory = new }) counters
   written_held = record {
     kept = subst (λ memory. IsKept (record h { memory = written i bytes h.memory }) (record p { memory = memory })) (sym is) kept_written;
     rests = held.rests;
@@ -108,9 +108,9 @@ pub record HasPayload (layout : Partition) (memory new : List Granule) (s : ℕ)
   pub fit : All (λ b. b < 256) bytes
   pub written_is : new ≡ written (16 * payload_start (slot_of layout s)) bytes memory
 
-module _ {h : Heap} {frees : ℕ} {p : Parts} {counters : List ℕ} (held : IsHeldIn h frees p counters) {new : List Granule} {s : ℕ}
+module _ {h : Heap} {frees : ℕ} {p : Parts} {counters : List ℕ} (held : IsAtRest h frees p counters) {new : List Granule} {s : ℕ}
     {bytes : List ℕ} (has : HasPayload h.layout p.memory new s bytes) where
-  payload_held : IsHeldIn (with_payload h s bytes) frees (record p { memory = new }) counters
+  payload_held : IsAtRest (with_payload h s bytes) frees (record p { memory = new }) counters
   unfolding with_payload
   payload_held =
       written_held held _ bytes has.written_is (payload_outside h.layout s bytes held.kept.sound.slots has.in_range has.room) has.fit
@@ -119,8 +119,8 @@ module _ {h : Heap} {frees : ℕ} {p : Parts} {counters : List ℕ} (held : IsHe
   unfolding with_payload
   payload_shown = shown_is payload_held.kept h.total h.seed h.tag refl refl refl
 
-  pub payload_kept : IsHeldIn (shown_heap h.layout p.quarantine.limit new h.total h.seed h.tag) frees (record p { memory = new }) counters
-  payload_kept = subst (λ x. IsHeldIn x frees (record p { memory = new }) counters) (sym payload_shown) payload_held
+  pub payload_kept : IsAtRest (shown_heap h.layout p.quarantine.limit new h.total h.seed h.tag) frees (record p { memory = new }) counters
+  payload_kept = subst (λ x. IsAtRest x frees (record p { memory = new }) counters) (sym payload_shown) payload_held
 
 header_starts : (layout : Partition) (g : ℕ) → is_header layout g ≡ true →
     (r : ℕ) × (r < slot_count layout) × ((slot_of layout r).start ≡ g)

@@ -5,7 +5,7 @@ use Rattle.std.proofs.lemmas.Bool.{cases_eq, cases_lt, lt-ltb, le-ltb, cond-true
 use Rattle.std.proofs.lemmas.Option.{slice_get_within}
 use Rattle.machine_theory.specs.Memory.{Granule, IsMemory}
 use Rattle.class_table.specs.Layout.{block_bytes}
-use Rattle.heap_theory.specs.Booked.{HasMark, IsChain, IsBookedFrom, bytes_of}
+use Rattle.heap_theory.specs.QueueAndLists.{HasMark, IsChain, AgreeWithMarksFrom, bytes_of}
 use Rattle.heap_theory.specs.Header.{Header, class_number}
 use Rattle.heap_theory.specs.Header.Standing.{Freed, Quarantined}
 use Rattle.heap_theory.specs.Links.{IsLinked, list_of}
@@ -55,7 +55,7 @@ module _ {h : Heap} {p : Parts} (k : IsKept h p) {q1 : Queue} {m1 : List Granule
 
   in_lists : (header_in (region_of h.layout m1) s).class < length k.lists
   in_lists =
-      subst (λ n. (header_in (region_of h.layout m1) s).class < n) (sym k.booked.long) (slice_get_within h.layout.classes _ _ class_found)
+      subst (λ n. (header_in (region_of h.layout m1) s).class < n) (sym k.agree.long) (slice_get_within h.layout.classes _ _ class_found)
 
   pub can_be_listed : HasFront p.fronts (header_in (region_of h.layout m1) s).class
   can_be_listed = record {
@@ -109,8 +109,8 @@ module _ {h : Heap} {p : Parts} (k : IsKept h p) {q1 : Queue} {m1 : List Granule
           subst (λ front. IsLinked (next_in (region_of h.layout m2)) front (list_of k.lists number)) (sym next_here)
               (old_lists.linked number in_lists),
         ));
-    booked =
-        laws.releases h k.from s number rest k.lists k.sound (subst (λ queue. IsBookedFrom h k.from queue k.lists) oldest k.booked)
+    agree =
+        laws.releases h k.from s number rest k.lists k.sound (subst (λ queue. AgreeWithMarksFrom h k.from queue k.lists) oldest k.agree)
         class_found
         (subst (λ queue. h.quarantine < bytes_of h.layout queue) oldest (omega (arith, over, k.queued.held, k.limit)));
     limit = ap (λ (x : Queue). x.limit) out.value ∙ k.limit;
@@ -129,7 +129,7 @@ module _ {h : Heap} {p : Parts} (k : IsKept h p) {q1 : Queue} {m1 : List Granule
       oldest = out.first k.queue k.queued
 
       chain : IsChain h k.from (s ∷ rest)
-      chain = subst (IsChain h k.from) oldest k.booked.chain
+      chain = subst (IsChain h k.from) oldest k.agree.chain
 
       rest_queued : AreQueued q1 h.layout (region_of h.layout m1) rest
       rest_queued = out.queued rest (subst (AreQueued p.quarantine h.layout (region_of h.layout p.memory)) oldest k.queued)
@@ -151,7 +151,7 @@ module _ {h : Heap} {p : Parts} (k : IsKept h p) {q1 : Queue} {m1 : List Granule
         | inl before ↦ inl before
         | inr after ↦
             elim (Contains-cases s rest r
-            (subst (λ queue. Contains queue r) oldest (k.booked.queued r mark inside marked after))) [
+            (subst (λ queue. Contains queue r) oldest (k.agree.queued r mark inside marked after))) [
               | inl is ↦ absurd (other (sym is))
               | inr there ↦ inr (chain_mark h to rest r mark chain.2 there marked)
             ]

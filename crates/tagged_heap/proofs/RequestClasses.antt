@@ -12,7 +12,7 @@ use Rattle.class_table.specs.Tables.{IsLegalTable, class_number_for}
 use Rattle.heap_theory.specs.declared.refusal.NullCause.{NullCause}
 use Rattle.heap_theory.specs.declared.refusal.NullCause.TheVariants.{Large, NoClass, Exhausted}
 use Rattle.heap_theory.specs.Calls.{is_class_of}
-use Rattle.heap_theory.specs.Choice.{class_for_request}
+use Rattle.heap_theory.specs.Lookups.{class_for_request}
 use Rattle.heap_theory.specs.State.{Heap}
 use Rattle.heap_theory.proofs.Marks.{one_number}
 use Rattle.tagged_heap.proofs.TheoryLemmas as laws

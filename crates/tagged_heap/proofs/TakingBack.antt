@@ -7,9 +7,9 @@ use Rattle.machine_theory.specs.Machine.{Machine}
 use Rattle.machine_theory.specs.Memory.{Granule, IsMemory, tagged}
 use Rattle.machine_theory.specs.Seed.{next_seed}
 use Rattle.class_table.specs.Layout.{block_bytes}
-use Rattle.heap_theory.specs.Booked.{HasMark}
+use Rattle.heap_theory.specs.QueueAndLists.{HasMark}
 use Rattle.heap_theory.specs.Calls.{freed, next_tag, parity_exclude}
-use Rattle.heap_theory.specs.Choice.{is_dead}
+use Rattle.heap_theory.specs.Lookups.{is_dead}
 use Rattle.heap_theory.specs.Header.{Header, FitsWords, with_header, size_of}
 use Rattle.heap_theory.specs.Header.Standing.{Quarantined, Freed}
 use Rattle.heap_theory.specs.Region.{region_of, header_in, next_in}
@@ -24,12 +24,12 @@ use Rattle.quarantine_core.specs.Queue.{Queue, AreQueued, CanBePut, with_newest}
 use Rattle.tagged_heap.proofs.TheoryLemmas as laws
 use Rattle.tagged_heap.specs.Chunks.{HasRoom, retired_header, tag_for}
 use Rattle.tagged_heap.specs.Representation.{standing_from, header_from, IsRewritten, Parts, IsKept}
-use Rattle.tagged_heap.specs.HeldHeap.{shown_heap, IsHeldIn}
+use Rattle.tagged_heap.specs.HeapAtRest.{shown_heap, IsAtRest}
 use Rattle.tagged_heap.proofs.Changed.{with_link, listed_same, state_here, headers_changed, counters_changed}
 use Rattle.tagged_heap.proofs.RewrittenHeaders.{link_set, then_tagged, written_header}
-use Rattle.tagged_heap.proofs.Kept.{class_most, size_most, header_fits, region_is, within_states, bytes_from, queue_slot, list_slot, has_room, booked_at_rest, shown_is}
+use Rattle.tagged_heap.proofs.Kept.{class_most, size_most, header_fits, region_is, within_states, bytes_from, queue_slot, list_slot, has_room, agree_at_rest, shown_is}
 
-module _ {h : Heap} {frees : ℕ} {p : Parts} {counters : List ℕ} (held : IsHeldIn h frees p counters) (s n tag : ℕ) (in_range : IsSlot h s)
+module _ {h : Heap} {frees : ℕ} {p : Parts} {counters : List ℕ} (held : IsAtRest h frees p counters) (s n tag : ℕ) (in_range : IsSlot h s)
     (live : state_at h s ≡ Live n tag) where
   -- ---- the slot
 
@@ -202,16 +202,16 @@ module _ {h : Heap} {frees : ℕ} {p : Parts} {counters : List ℕ} (held : IsHe
             listed = listed_same k.listed
                 (λ number r inside there.
                 let d = list_slot k number r inside there in
-                let apart = laws.queue_apart h k.queue k.lists number r (booked_at_rest k held.rests) inside in
+                let apart = laws.queue_apart h k.queue k.lists number r (agree_at_rest k held.rests) inside in
                 left.links r d.in_range (λ queued. apart queued there) ∙ next_retired r d.mark d.in_range d.marked);
-            booked = laws.queues h k.queue k.lists s n tag k.sound (booked_at_rest k held.rests) in_range live;
+            agree = laws.queues h k.queue k.lists s n tag k.sound (agree_at_rest k held.rests) in_range live;
             limit = ap (λ (x : Queue). x.limit) value ∙ k.limit;
           }
 
     -- ---- the quarantine has let go what it had too much
 
     pub freed_held : {after : Parts} → IsKept (freed h s n) after → after.quarantine.held ≤ after.quarantine.limit →
-        IsHeldIn (freed h s n) (frees + 1) after counters
+        IsAtRest (freed h s n) (frees + 1) after counters
     unfolding freed
     freed_held kept rests = record {
       kept = kept;

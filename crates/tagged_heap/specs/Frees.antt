@@ -3,7 +3,7 @@ use Rattle.std.specs.Prelude.{ℕ, ◌==◌, if◌then◌else◌, Result, Ok, Er
 use Rattle.heap_theory.specs.declared.refusal.FreeError.{FreeError}
 use Rattle.heap_theory.specs.declared.refusal.NullCause.{NullCause}
 use Rattle.heap_theory.specs.Calls.{stays_in_class}
-use Rattle.heap_theory.specs.Choice.{Chunk, chunk_at, slot_for_request}
+use Rattle.heap_theory.specs.Lookups.{Chunk, chunk_at, slot_for_request}
 use Rattle.heap_theory.specs.State.{Heap}
 
 -- a chunk that is given another slot leaves its own

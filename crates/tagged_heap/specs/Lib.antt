@@ -1,7 +1,7 @@
-pub mod Config
 pub mod Chunks
 pub mod ClassSlots
-pub mod Representation
-pub mod HeldHeap
-pub mod HeapFields
+pub mod Config
 pub mod Frees
+pub mod HeapAtRest
+pub mod HeapFields
+pub mod Representation

@@ -3,8 +3,8 @@
 use Rattle.std.specs.Prelude.{◌≡◌, ◌≢◌, ℕ, ◌+◌, ◌<◌, ◌≤◌, nat_lt, List, length, slice_index, IsFalse, IsTrue}
 use Rattle.machine_theory.specs.Memory.{Granule, IsMemory}
 use Rattle.class_table.specs.Layout.{Partition, slot_count, first_slot}
-use Rattle.heap_theory.specs.Booked.{IsBookedFrom}
-use Rattle.heap_theory.specs.Choice.{is_dead, mark_of}
+use Rattle.heap_theory.specs.QueueAndLists.{AgreeWithMarksFrom}
+use Rattle.heap_theory.specs.Lookups.{is_dead, mark_of}
 use Rattle.heap_theory.specs.Header.{Standing, Header, standing_where, header_with}
 use Rattle.heap_theory.specs.Links.{IsLinked, list_of}
 use Rattle.heap_theory.specs.Region.{Region, region_of, header_in, next_in}
@@ -63,7 +63,7 @@ pub record IsKept (heap : Heap) (parts : Parts) : Type 0 where
   pub headers : HasHeaders heap (region_of heap.layout parts.memory) from
   pub queued : AreQueued parts.quarantine heap.layout (region_of heap.layout parts.memory) queue
   pub listed : AreListed (next_in (region_of heap.layout parts.memory)) parts.fronts lists
-  pub booked : IsBookedFrom heap from queue lists
+  pub agree : AgreeWithMarksFrom heap from queue lists
   pub limit : parts.quarantine.limit ≡ heap.quarantine
 
 -- some heap of this layout is kept so

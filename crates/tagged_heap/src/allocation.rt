@@ -2,7 +2,7 @@
 ghost use Rattle.class_table.specs.Sizes.{largest_counted, chunk_granules};
 ghost use Rattle.heap_theory.specs.Calls.{calloc_step, given_out, malloc_step, with_payload};
 ghost use Rattle.class_table.specs.Tables.{class_number_for};
-ghost use Rattle.heap_theory.specs.Choice.{slot_for_request};
+ghost use Rattle.heap_theory.specs.Lookups.{slot_for_request};
 ghost use Rattle.heap_theory.specs.Sound.{IsSoundHeap};
 ghost use Rattle.heap_theory.specs.State.{pointer_to, slot_in, IsSlot};
 ghost use Rattle.tagged_heap.specs.ClassSlots.{IsCauseFor};

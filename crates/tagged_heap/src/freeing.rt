@@ -1,7 +1,7 @@
 //! The call that takes a chunk back.
 ghost use Rattle.class_table.specs.Layout.{slot_count, IsPartition};
 ghost use Rattle.heap_theory.specs.Calls.{free_step, freed};
-ghost use Rattle.heap_theory.specs.Choice.{chunk_at};
+ghost use Rattle.heap_theory.specs.Lookups.{chunk_at};
 ghost use Rattle.heap_theory.specs.Header.Standing.{Freed};
 ghost use Rattle.heap_theory.specs.OwnPointers.{IsNullOrOwn};
 ghost use Rattle.heap_theory.specs.Sound.{IsSoundHeap};

@@ -55,7 +55,7 @@ pub struct Heap {
 }
 
 impl Model for Heap {
-    ghost use Rattle.tagged_heap.specs.HeldHeap.{HeapAndFrees};
+    ghost use Rattle.tagged_heap.specs.HeapAtRest.{HeapAndFrees};
 
     ghost Value = { HeapAndFrees };
 

@@ -1,7 +1,7 @@
 //! The call that resizes a chunk.
 ghost use Rattle.class_table.specs.Sizes.{largest_counted, chunk_granules};
 ghost use Rattle.heap_theory.specs.Calls.{given_out, is_class_of, moved, payload_bytes, realloc_step, resized, with_payload};
-ghost use Rattle.heap_theory.specs.Choice.{class_for_request, slot_for_request};
+ghost use Rattle.heap_theory.specs.Lookups.{class_for_request, slot_for_request};
 ghost use Rattle.heap_theory.specs.OwnPointers.{IsNotRefused, IsNullOrOwn};
 ghost use Rattle.heap_theory.specs.State.{pointer_to, slot_in, IsSlot};
 ghost use Rattle.std.specs.Prelude.{◌≡◌, ◌↔◌, ◌+◌, ◌*◌, ◌^◌, ◌<◌, ◌≤◌, ◌≢◌, IfErr, IfOk, IsTrue, OnErr, ℕ};

@@ -1,6 +1,6 @@
-mod counts;
+mod evaluations;
 mod lines;
+mod sizes_and_profiles;
 mod support;
 mod traces;
-mod tuning;
 mod verdicts;

@@ -2,7 +2,7 @@
 use Rattle.std.specs.Prelude.{◌≡◌, ℕ, zero, suc, ◌+◌, ◌*◌, ◌<◌, ◌≤◌, List, length, slice_index, unwrap_or, IsSome, All}
 use Rattle.class_table.specs.Sizes.{largest_counted, loss_of}
 use Rattle.class_table.specs.Tables.{class_for}
-use Rattle.tuner_theory.specs.declared.count.TheConstants.{MOST_COUNTED}
+use Rattle.tuner_theory.specs.declared.most_counted.TheConstants.{MOST_COUNTED}
 
 -- What was counted: how often each size was requested, by its index from 0 bytes on, and how often a size past the last one.
 pub record Profile : Type 0 where

@@ -2,9 +2,9 @@
 //! and the rows from which a best table is read off. Definitions, and laws that are contracts of functions that do nothing.
 #![tactic(auto)]
 
-mod count;
 pub mod laws;
+mod most_counted;
 mod verdict;
 
-pub use count::MOST_COUNTED;
+pub use most_counted::MOST_COUNTED;
 pub use verdict::{Refusal, Verdict};

@@ -1,7 +1,7 @@
 use Rattle.std.proofs.Common.{◌≡◌, ℕ, ◌≤◌, take, ap, sym, ◌∙◌}
 use Rattle.std.specs.Prelude.{replicate}
 use Rattle.std.proofs.lemmas.List.{take-replicate}
-use Rattle.tagged_heap.specs.HeldHeap.{HeapAndFrees}
+use Rattle.tagged_heap.specs.HeapAtRest.{HeapAndFrees}
 use Rattle.replay_core.proofs.Accesses.{store_is}
 use Rattle.replay_core.proofs.access.store.Goals as goal
 

@@ -1,4 +1,4 @@
-use Rattle.heap_theory.proofs.Choices.{slot_for_request-is, chunk_at-is}
+use Rattle.heap_theory.proofs.Lookups.{slot_for_request-is, chunk_at-is}
 use Rattle.heap_theory.proofs.Pointers.{slot_of_pointer-iff}
 use Rattle.heap_theory.proofs.laws.heap.law_choices.Goals as goal
 

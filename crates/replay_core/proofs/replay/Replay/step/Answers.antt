@@ -5,7 +5,7 @@ use Rattle.class_table.specs.Layout.{Partition}
 use Rattle.class_table.specs.Tables.{IsLegalTable}
 use Rattle.heap_theory.specs.Report.{report_line}
 use Rattle.heap_theory.specs.declared.event.Event.{Event}
-use Rattle.heap_theory.specs.Run.{Replay, heap_after, replay_after, variables_after, answer_of}
+use Rattle.heap_theory.specs.Replay.{Replay, heap_after, replay_after, variables_after, answer_of}
 use Rattle.heap_theory.specs.Totals.{Totals, totals_after}
 use Rattle.heap_theory.specs.State.{Heap}
 use Rattle.replay_core.specs.ReplayFields.{stored}

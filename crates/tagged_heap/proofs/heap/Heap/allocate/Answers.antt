@@ -5,7 +5,7 @@ use Rattle.heap_theory.specs.declared.refusal.NullCause.{NullCause}
 use Rattle.heap_theory.specs.declared.refusal.NullCause.TheVariants.{Exhausted}
 use Rattle.heap_theory.specs.Calls.{given_out}
 use Rattle.tagged_heap.specs.HeapFields.{state_of, parts_of}
-use Rattle.tagged_heap.specs.HeldHeap.{shown_heap}
+use Rattle.tagged_heap.specs.HeapAtRest.{shown_heap}
 use Rattle.tagged_heap.proofs.Giving.{IsTaken, request_refused, has_class, taken, taken_class, exhausted, taken_room, given_held, given_shown, given_address}
 use Rattle.tagged_heap.proofs.heap.Heap.allocate.Goals as goal
 use Rattle.tagged_heap.proofs.heap.Heap.allocate.Goals.{In_ok-slot, After-give_out-address}

@@ -3,7 +3,7 @@ use Rattle.std.proofs.Common.{refl, ap}
 use Rattle.std.proofs.lemmas.Bool.{ne_eqb}
 use Rattle.std.proofs.lemmas.Result.{err_from_is_err_and}
 use Rattle.heap_theory.specs.Calls.{free_step}
-use Rattle.tagged_heap.specs.HeldHeap.{HeapAndFrees}
+use Rattle.tagged_heap.specs.HeapAtRest.{HeapAndFrees}
 use Rattle.tagged_heap.proofs.CallSteps.{free_accepted}
 use Rattle.tagged_heap.proofs.heap.Heap.free.Goals as goal
 

@@ -1,7 +1,7 @@
 use Rattle.std.proofs.Common.{◌≡◌, ◌+◌, ◌*◌, ap, ◌∙◌, arith}
 use Rattle.heap_theory.specs.Calls.{freed}
 use Rattle.tagged_heap.specs.HeapFields.{state_of}
-use Rattle.tagged_heap.specs.HeldHeap.{shown_heap}
+use Rattle.tagged_heap.specs.HeapAtRest.{shown_heap}
 use Rattle.tagged_heap.specs.Representation.{IsKept}
 use Rattle.tagged_heap.proofs.Kept.{class_most}
 use Rattle.tagged_heap.proofs.TakingBack.{retire_room, can_be_put, kept_freed, freed_held, freed_shown}

@@ -5,7 +5,7 @@ use Rattle.std.proofs.lemmas.Result.{err_from_is_err_and, IfOk-at_ok, IfErr-at_e
 use Rattle.heap_theory.specs.declared.refusal.FreeError.{FreeError}
 use Rattle.heap_theory.specs.declared.refusal.ReallocError.TheVariants.{Null, Refused}
 use Rattle.heap_theory.specs.Calls.{realloc_step}
-use Rattle.heap_theory.specs.Choice.{chunk_at}
+use Rattle.heap_theory.specs.Lookups.{chunk_at}
 use Rattle.tagged_heap.specs.declared.freeing.Chunk.{Chunk as Found}
 use Rattle.tagged_heap.specs.Chunks.{IsChunk}
 use Rattle.tagged_heap.specs.Frees.{frees_of_realloc}

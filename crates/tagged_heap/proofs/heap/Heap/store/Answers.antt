@@ -9,7 +9,7 @@ use Rattle.heap_theory.specs.HeapInMemory.{HaveSameSlots}
 use Rattle.heap_theory.proofs.HeaderWords.{class_number-is}
 use Rattle.heap_theory.proofs.HeadersAgree.{header_words_stay}
 use Rattle.tagged_heap.specs.HeapFields.{state_of, seen, parts_of}
-use Rattle.tagged_heap.specs.HeldHeap.{HeapAndFrees, shown_heap, IsHeldIn}
+use Rattle.tagged_heap.specs.HeapAtRest.{HeapAndFrees, shown_heap, IsAtRest}
 use Rattle.tagged_heap.proofs.PayloadWritten.{access_outside, tagged_access, fault_cases, written_held, written_shown}
 use Rattle.tagged_heap.proofs.heap.Heap.store.Goals as goal
 use Rattle.tagged_heap.proofs.heap.Heap.store.Goals.{After-store}
@@ -27,7 +27,7 @@ with_stored c v = record v { state = record v.state { memory = stored v.state.me
 -- a store that succeeds
 record IsStored (c : After-store) : Type 0 where
   pub none : access_fault c.self.inside.machine.memory c.args.address (length c.args.bytes.now) ≡ None
-  pub held : IsHeldIn (around c c.store.new.self).state c.self.inside.frees
+  pub held : IsAtRest (around c c.store.new.self).state c.self.inside.frees
       (record (parts_of c.self.inside) { memory = c.store.new.self.memory }) c.self.inside.counters.items
   pub shown : around c c.store.new.self ≡ with_stored c (seen c.self.inside)
 
@@ -47,9 +47,9 @@ is_stored c none =
     record {
       none = none;
       held =
-          subst (λ (machine : Machine). IsHeldIn (around c machine).state c.self.inside.frees
+          subst (λ (machine : Machine). IsAtRest (around c machine).state c.self.inside.frees
           (record (parts_of c.self.inside) { memory = machine.memory }) c.self.inside.counters.items) (sym machine)
-          (subst (λ h. IsHeldIn h c.self.inside.frees (record (parts_of c.self.inside) { memory = new }) c.self.inside.counters.items)
+          (subst (λ h. IsAtRest h c.self.inside.frees (record (parts_of c.self.inside) { memory = new }) c.self.inside.counters.items)
           (sym shown)
           (written_held c.self.invariant (byte_of (place_of c.args.address)) c.args.bytes.now refl spared fit));
       shown = ap (around c) machine ∙ (λ k. record { state = shown k; frees = c.self.inside.frees });

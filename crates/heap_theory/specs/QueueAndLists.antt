@@ -1,7 +1,7 @@
--- The bookkeeping of freed slots: a queue for the quarantine and a list for each class, and how they say the same as the marks.
+-- The freed slots: a queue for the quarantine and a list for each class, and how they agree with the marks in the slots' states.
 use Rattle.std.specs.Prelude.{◌≡◌, ◌↔◌, ℕ, ◌+◌, ◌-◌, ◌<◌, ◌≤◌, List, [], ◌∷◌, length, slice_get, slice_index, sum_by, Some, IsTrue, AllPairs, Contains, ⊤}
 use Rattle.class_table.specs.Layout.{Partition, block_bytes, slot_of}
-use Rattle.heap_theory.specs.Choice.{is_released, is_quarantined, mark_of}
+use Rattle.heap_theory.specs.Lookups.{is_released, is_quarantined, mark_of}
 use Rattle.heap_theory.specs.Links.{list_of}
 use Rattle.heap_theory.specs.State.{State, Heap, slot_in, state_at, IsSlot}
 use Rattle.heap_theory.specs.State.State.{Fresh, Live, Dead}
@@ -43,7 +43,7 @@ abbrev pub bytes_of : Partition → List ℕ → ℕ
 bytes_of layout slots = sum_by (λ s. block_bytes (slot_of layout s)) slots
 
 -- The queue has the dead slots from a mark on, and the lists have those before it, which are all released.
-pub record IsBookedFrom (heap : Heap) (from : ℕ) (queue : List ℕ) (lists : List (List ℕ)) : Type 0 where
+pub record AgreeWithMarksFrom (heap : Heap) (from : ℕ) (queue : List ℕ) (lists : List (List ℕ)) : Type 0 where
   pub chain : IsChain heap from queue
   pub long : length lists ≡ length heap.layout.classes
   pub freed : (number : ℕ) → number < length lists → IsFreedList heap (slice_index heap.layout.classes number) from (list_of lists number)
@@ -53,7 +53,7 @@ pub record IsBookedFrom (heap : Heap) (from : ℕ) (queue : List ℕ) (lists : L
   pub released : (s mark : ℕ) → IsSlot heap s → HasMark (state_at heap s) mark → mark < from → heap.quarantine < heap.total - mark
 
 -- And no slot of the queue is to be released.
-pub record IsBooked (heap : Heap) (queue : List ℕ) (lists : List (List ℕ)) : Type 0 where
+pub record AgreeWithMarks (heap : Heap) (queue : List ℕ) (lists : List (List ℕ)) : Type 0 where
   pub from : ℕ
-  pub booked : IsBookedFrom heap from queue lists
+  pub agree : AgreeWithMarksFrom heap from queue lists
   pub held : bytes_of heap.layout queue ≤ heap.quarantine

@@ -15,7 +15,7 @@ use Rattle.heap_theory.specs.declared.refusal.FreeError.TheVariants.{WrongTag}
 use Rattle.heap_theory.specs.declared.refusal.NullCause.{NullCause}
 use Rattle.heap_theory.specs.declared.refusal.NullCause.TheVariants.{Large, NoClass, Exhausted}
 use Rattle.heap_theory.specs.Calls.{is_class_of, stays_in_class}
-use Rattle.heap_theory.specs.Choice.{Chunk, IsReusable, IsGiven, IsLiveChunk, is_released, mark_of, slots_with, freed_last, lowest_fresh, slot_for, class_for_request, slot_in_class, slot_for_request, slot_of_pointer, chunk_in, chunk_in_slot, chunk_at}
+use Rattle.heap_theory.specs.Lookups.{Chunk, IsReusable, IsGiven, IsLiveChunk, is_released, mark_of, slots_with, freed_last, lowest_fresh, slot_for, class_for_request, slot_in_class, slot_for_request, slot_of_pointer, chunk_in, chunk_in_slot, chunk_at}
 use Rattle.heap_theory.specs.Sound.{IsSoundHeap}
 use Rattle.heap_theory.specs.State.{State, Heap, slot_in, state_at, is_fresh, payload_place}
 use Rattle.heap_theory.specs.State.State.{Fresh, Live, Dead}

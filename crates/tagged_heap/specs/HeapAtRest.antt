@@ -1,4 +1,4 @@
--- What a heap is seen as, and what a heap at rest keeps: `IsHeldIn`, which is `IsKept` and what else holds between two calls.
+-- What a heap is seen as, and what a heap at rest keeps: `IsAtRest`, which is `IsKept` and what else holds between two calls.
 use Rattle.std.specs.Prelude.{ℕ, ◌*◌, ◌^◌, ◌<◌, ◌≤◌, List, map}
 use Rattle.machine_theory.specs.Memory.{Granule}
 use Rattle.class_table.specs.Layout.{Partition}
@@ -29,7 +29,7 @@ shown_heap layout quarantine memory total seed tag = record {
 
 -- What a heap at rest keeps, over its state, frees, parts and counters: `IsKept` (Representation.antt) of the state and the parts. Besides,
 -- the quarantine holds no more than its limit, the counters show the fresh slots, and each free added a block to the total.
-pub record IsHeldIn (heap : Heap) (frees : ℕ) (parts : Parts) (counters : List ℕ) : Type 0 where
+pub record IsAtRest (heap : Heap) (frees : ℕ) (parts : Parts) (counters : List ℕ) : Type 0 where
   pub kept : IsKept heap parts
   pub rests : parts.quarantine.held ≤ parts.quarantine.limit
   pub fresh : AreFirstFresh heap counters

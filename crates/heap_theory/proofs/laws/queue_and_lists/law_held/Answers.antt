@@ -1,5 +1,5 @@
 use Rattle.heap_theory.proofs.Held.{holds_quarantined, holds_released, one_list_has, queue_or_list}
-use Rattle.heap_theory.proofs.laws.booking.law_held.Goals as goal
+use Rattle.heap_theory.proofs.laws.queue_and_lists.law_held.Goals as goal
 
 pub returns-clause-queue : goal.returns-clause-queue
 returns-clause-queue c = holds_quarantined

@@ -2,8 +2,8 @@
 use Rattle.std.specs.Prelude.{ℕ, ◌==◌, if◌then◌else◌, Option, Some, None}
 use Rattle.machine_theory.specs.Memory.{is_among}
 use Rattle.class_table.specs.Layout.{Slot, slot_over}
-use Rattle.heap_theory.specs.declared.place.PlaceKind.{PlaceKind}
-use Rattle.heap_theory.specs.declared.place.PlaceKind.TheVariants.{Slack, Header, Tail, Dead as DeadChunk, Other}
+use Rattle.heap_theory.specs.declared.place_kind.PlaceKind.{PlaceKind}
+use Rattle.heap_theory.specs.declared.place_kind.PlaceKind.TheVariants.{Slack, Header, Tail, Dead as DeadChunk, Other}
 use Rattle.heap_theory.specs.State.{State, Heap, slot_in, state_at, chunk_of, payload_start}
 use Rattle.heap_theory.specs.State.State.{Fresh, Live, Dead}
 

@@ -1,4 +1,4 @@
--- What a call makes of a heap is booked by what it makes of the queue and the lists.
+-- After each step of a call the queue and the lists agree with the marks again.
 use Rattle.std.proofs.Common.{◌≡◌, ℕ, ◌+◌, ◌-◌, ◌<◌, true, false, List, [], ◌∷◌, ◌++◌, length, get_or, refl, sym, ap, ◌∙◌, subst, inl, inr, ⊎_elim, arith, Some}
 use Rattle.std.specs.Prelude.{slice_get, slice_set, replicate, Contains}
 use Rattle.std.proofs.lemmas.Bool.{cases_eq}
@@ -6,9 +6,9 @@ use Rattle.std.proofs.lemmas.List.{get_or-set_same, get_or-set_other, length-set
 use Rattle.std.proofs.lemmas.List.Elements.{Contains-append_left, Contains-push}
 use Rattle.machine_theory.specs.Memory.{Granule}
 use Rattle.class_table.specs.Layout.{Partition, slot_count, block_bytes}
-use Rattle.heap_theory.specs.Booked.{HasMark, IsChain, IsFreedList, IsBookedFrom, IsBooked, bytes_of}
+use Rattle.heap_theory.specs.QueueAndLists.{HasMark, IsChain, IsFreedList, AgreeWithMarksFrom, AgreeWithMarks, bytes_of}
 use Rattle.heap_theory.specs.Calls.{next_tag, given_out, freed, resized}
-use Rattle.heap_theory.specs.Choice.{is_dead}
+use Rattle.heap_theory.specs.Lookups.{is_dead}
 use Rattle.heap_theory.specs.Links.{list_of}
 use Rattle.heap_theory.specs.Sound.{IsSoundHeap}
 use Rattle.heap_theory.specs.State.{State, Heap, slot_in, state_at, last_tag, is_fresh, first_heap}
@@ -31,17 +31,17 @@ list_over : (h : Heap) (memory : List Granule) (class bound : ℕ) (list : List 
 list_over h memory class bound [] f = tt
 list_over h memory class bound (s ∷ rest) f = (f.0, f.1, f.2, f.3, f.4, list_over h memory class f.0 rest f.5)
 
-pub booked_over : (h : Heap) (memory : List Granule) (queue : List ℕ) (lists : List (List ℕ)) → IsBooked h queue lists →
-    IsBooked (record h { memory = memory }) queue lists
-booked_over h memory queue lists b = record {
+pub agree_over : (h : Heap) (memory : List Granule) (queue : List ℕ) (lists : List (List ℕ)) → AgreeWithMarks h queue lists →
+    AgreeWithMarks (record h { memory = memory }) queue lists
+agree_over h memory queue lists b = record {
   from = b.from;
-  booked = record {
-    chain = chain_over h memory b.from queue b.booked.chain;
-    long = b.booked.long;
-    freed = λ number within. list_over h memory _ b.from (list_of lists number) (b.booked.freed number within);
-    queued = b.booked.queued;
-    listed = b.booked.listed;
-    released = b.booked.released;
+  agree = record {
+    chain = chain_over h memory b.from queue b.agree.chain;
+    long = b.agree.long;
+    freed = λ number within. list_over h memory _ b.from (list_of lists number) (b.agree.freed number within);
+    queued = b.agree.queued;
+    listed = b.agree.listed;
+    released = b.agree.released;
   };
   held = b.held;
 }
@@ -96,28 +96,28 @@ module _ (h : Heap) (s : ℕ) (state : State) (memory : List Granule) (total see
   bytes_same queue = refl
 
   -- a slot that becomes live, or stays so, leaves the lists if it was in one
-  made_live : (queue : List ℕ) (lists new : List (List ℕ)) → total ≡ h.total → is_dead state ≡ false → IsBooked h queue lists →
+  made_live : (queue : List ℕ) (lists new : List (List ℕ)) → total ≡ h.total → is_dead state ≡ false → AgreeWithMarks h queue lists →
       (Contains queue s → ⊥) →
       length new ≡ length lists → ((number : ℕ) → number < length new → Contains (list_of new number) s → ⊥) →
       ((number class bound : ℕ) → number < length new → IsFreedList h class bound (list_of lists number) →
       IsFreedList h class bound (list_of new number)) →
-      ((number r : ℕ) → (r ≡ s → ⊥) → Contains (list_of lists number) r → Contains (list_of new number) r) → IsBooked changed queue new
+      ((number r : ℕ) → (r ≡ s → ⊥) → Contains (list_of lists number) r → Contains (list_of new number) r) → AgreeWithMarks changed queue new
   unfolding changed
   made_live queue lists new same alive b not_queued long out kept others = record {
     from = b.from;
-    booked = record {
-      chain = chain_stays b.from queue same not_queued b.booked.chain;
-      long = long ∙ b.booked.long;
+    agree = record {
+      chain = chain_stays b.from queue same not_queued b.agree.chain;
+      long = long ∙ b.agree.long;
       freed =
           λ number inside. list_stays _ b.from (list_of new number) (out number inside)
-          (kept number _ b.from inside (b.booked.freed number (subst (λ n. number < n) long inside)));
-      queued = λ r mark in_range d le. let before = dead_before r mark d in b.booked.queued r mark in_range before.1 le;
+          (kept number _ b.from inside (b.agree.freed number (subst (λ n. number < n) long inside)));
+      queued = λ r mark in_range d le. let before = dead_before r mark d in b.agree.queued r mark in_range before.1 le;
       listed =
           λ r mark number in_range d lt found. let before = dead_before r mark d in
-          others number r before.0 (b.booked.listed r mark number in_range before.1 lt found);
+          others number r before.0 (b.agree.listed r mark number in_range before.1 lt found);
       released = λ r mark in_range d lt.
           let before = dead_before r mark d in
-          let over : h.quarantine < h.total - mark = b.booked.released r mark in_range before.1 lt in
+          let over : h.quarantine < h.total - mark = b.agree.released r mark in_range before.1 lt in
           subst (λ t. h.quarantine < t - mark) (sym same) over;
     };
     held = b.held;
@@ -142,32 +142,32 @@ module _ (h : Heap) (s : ℕ) (state : State) (memory : List Granule) (total see
 
   made_dead : (queue : List ℕ) (lists : List (List ℕ)) → s < slot_count h.layout → HasMark state h.total →
       total ≡ h.total + block_bytes (slot_in h s) →
-      (b : IsBooked h queue lists) → (Contains queue s → ⊥) →
+      (b : AgreeWithMarks h queue lists) → (Contains queue s → ⊥) →
       ((number : ℕ) → number < length lists → Contains (list_of lists number) s → ⊥) →
-      IsBookedFrom changed b.from (queue ++ s ∷ []) lists
+      AgreeWithMarksFrom changed b.from (queue ++ s ∷ []) lists
   unfolding changed
   made_dead queue lists in_range d grows b not_queued out = record {
-    chain = chain_push b.from queue in_range d grows not_queued b.booked.chain;
-    long = b.booked.long;
-    freed = λ number inside. list_stays _ b.from (list_of lists number) (out number inside) (b.booked.freed number inside);
+    chain = chain_push b.from queue in_range d grows not_queued b.agree.chain;
+    long = b.agree.long;
+    freed = λ number inside. list_stays _ b.from (list_of lists number) (out number inside) (b.agree.freed number inside);
     queued = λ r mark k dead le. elim (cases_eq r s) [
       | inl is ↦ subst (Contains (queue ++ s ∷ [])) (sym is) (Contains-push queue s)
-      | inr not ↦ Contains-append_left queue (s ∷ []) r (b.booked.queued r mark k (marked_before r mark not dead) le)
+      | inr not ↦ Contains-append_left queue (s ∷ []) r (b.agree.queued r mark k (marked_before r mark not dead) le)
     ];
     listed = λ r mark number k dead lt found. elim (cases_eq r s) [
       | inl is ↦ absurd (not_before r mark is dead lt)
-      | inr not ↦ b.booked.listed r mark number k (marked_before r mark not dead) lt found
+      | inr not ↦ b.agree.listed r mark number k (marked_before r mark not dead) lt found
     ];
     released = λ r mark k dead lt. elim (cases_eq r s) [
       | inl is ↦ absurd (not_before r mark is dead lt)
-      | inr not ↦ let over : h.quarantine < h.total - mark = b.booked.released r mark k (marked_before r mark not dead) lt in omega arith
+      | inr not ↦ let over : h.quarantine < h.total - mark = b.agree.released r mark k (marked_before r mark not dead) lt in omega arith
     ];
   }
     where
       not_before : (r mark : ℕ) → r ≡ s → HasMark (state_at changed r) mark → mark < b.from → ⊥
       not_before r mark is dead lt =
           let own : mark ≡ h.total = one_mark state mark h.total (marked_here r mark is dead) d in
-          let sum = chain_bytes h b.from queue b.booked.chain in
+          let sum = chain_bytes h b.from queue b.agree.chain in
           omega arith
 
 -- ---- a slot that is not dead is in no list
@@ -175,10 +175,10 @@ module _ (h : Heap) (s : ℕ) (state : State) (memory : List Granule) (total see
 not_queued : (h : Heap) (from : ℕ) (queue : List ℕ) (s : ℕ) → IsChain h from queue → is_dead (state_at h s) ≡ false → Contains queue s → ⊥
 not_queued h from queue s c alive there = let q = chain_dead h from queue s c there in not_marked (state_at h s) q.mark alive q.marked
 
-not_listed : (h : Heap) (queue : List ℕ) (lists : List (List ℕ)) (s : ℕ) → (b : IsBooked h queue lists) → is_dead (state_at h s) ≡ false →
+not_listed : (h : Heap) (queue : List ℕ) (lists : List (List ℕ)) (s : ℕ) → (b : AgreeWithMarks h queue lists) → is_dead (state_at h s) ≡ false →
     (number : ℕ) → number < length lists → Contains (list_of lists number) s → ⊥
 not_listed h queue lists s b alive number inside there =
-    let l = list_dead h _ b.from (list_of lists number) s (b.booked.freed number inside) there in
+    let l = list_dead h _ b.from (list_of lists number) s (b.agree.freed number inside) there in
     not_marked (state_at h s) l.mark alive l.marked
 
 alive_fresh : (x : State) → is_fresh x ≡ true → is_dead x ≡ false
@@ -188,58 +188,58 @@ alive_fresh (Dead n t m) fresh = cc
 
 -- ---- the changes that calls make
 
-pub booked_freed : (h : Heap) (queue : List ℕ) (lists : List (List ℕ)) (s n t : ℕ) → IsSoundHeap h → (b : IsBooked h queue lists) →
+pub agree_freed : (h : Heap) (queue : List ℕ) (lists : List (List ℕ)) (s n t : ℕ) → IsSoundHeap h → (b : AgreeWithMarks h queue lists) →
     s < slot_count h.layout → state_at h s ≡ Live n t →
-    IsBookedFrom (freed h s n) b.from (queue ++ s ∷ []) lists
+    AgreeWithMarksFrom (freed h s n) b.from (queue ++ s ∷ []) lists
 unfolding freed changed
-booked_freed h queue lists s n t sound b in_range live =
+agree_freed h queue lists s n t sound b in_range live =
     made_dead h s (Dead n (last_tag (state_at h s)) h.total) _ (h.total + block_bytes (slot_in h s)) _ _ (in_states h s sound in_range)
     queue lists in_range refl refl b
-    (not_queued h b.from queue s b.booked.chain (ap is_dead live))
+    (not_queued h b.from queue s b.agree.chain (ap is_dead live))
     (not_listed h queue lists s b (ap is_dead live))
 
-pub booked_fresh : (h : Heap) (queue : List ℕ) (lists : List (List ℕ)) (s n : ℕ) → IsSoundHeap h → IsBooked h queue lists →
+pub agree_fresh : (h : Heap) (queue : List ℕ) (lists : List (List ℕ)) (s n : ℕ) → IsSoundHeap h → AgreeWithMarks h queue lists →
     s < slot_count h.layout → is_fresh (state_at h s) ≡ true →
-    IsBooked (given_out h s n) queue lists
+    AgreeWithMarks (given_out h s n) queue lists
 unfolding given_out changed
-booked_fresh h queue lists s n sound b in_range fresh =
+agree_fresh h queue lists s n sound b in_range fresh =
     made_live h s (Live n (next_tag h s)) _ h.total _ _ (in_states h s sound in_range) queue lists lists refl refl b
-    (not_queued h b.from queue s b.booked.chain (alive_fresh (state_at h s) fresh))
+    (not_queued h b.from queue s b.agree.chain (alive_fresh (state_at h s) fresh))
     refl
     (not_listed h queue lists s b (alive_fresh (state_at h s) fresh))
     (λ number class bound inside f. f) (λ number r not there. there)
 
-pub booked_resized : (h : Heap) (queue : List ℕ) (lists : List (List ℕ)) (s n m t : ℕ) → IsSoundHeap h → IsBooked h queue lists →
+pub agree_resized : (h : Heap) (queue : List ℕ) (lists : List (List ℕ)) (s n m t : ℕ) → IsSoundHeap h → AgreeWithMarks h queue lists →
     s < slot_count h.layout → state_at h s ≡ Live m t →
-    IsBooked (resized h s n) queue lists
+    AgreeWithMarks (resized h s n) queue lists
 unfolding resized changed
-booked_resized h queue lists s n m t sound b in_range live =
+agree_resized h queue lists s n m t sound b in_range live =
     made_live h s (Live n (last_tag (state_at h s))) _ h.total _ _ (in_states h s sound in_range) queue lists lists refl refl b
-    (not_queued h b.from queue s b.booked.chain (ap is_dead live))
+    (not_queued h b.from queue s b.agree.chain (ap is_dead live))
     refl
     (not_listed h queue lists s b (ap is_dead live))
     (λ number class bound inside f. f) (λ number r not there. there)
 
 -- the front of a class's list is given out
 module _ (h : Heap) (queue : List ℕ) (lists : List (List ℕ)) (number class s n : ℕ) (rest : List ℕ) (sound : IsSoundHeap h)
-    (b : IsBooked h queue lists)
+    (b : AgreeWithMarks h queue lists)
     (numbered : slice_get h.layout.classes number ≡ Some class) (is : list_of lists number ≡ s ∷ rest) where
   is_number : IsNumberOf h.layout.classes number class
   is_number = number_is h.layout.classes number class numbered
 
   inside : number < length lists
-  inside = subst (λ k. number < k) (sym b.booked.long) is_number.within
+  inside = subst (λ k. number < k) (sym b.agree.long) is_number.within
 
   front : IsFreedList h class b.from (s ∷ rest)
   front =
       subst (λ list. IsFreedList h class b.from list) is
-      (subst (λ c. IsFreedList h c b.from (list_of lists number)) is_number.is (b.booked.freed number inside))
+      (subst (λ c. IsFreedList h c b.from (list_of lists number)) is_number.is (b.agree.freed number inside))
 
   in_no_queue : Contains queue s → ⊥
   in_no_queue there =
       let f = front in
       let below : f.0 < b.from = f.4 in
-      omega (arith, chain_mark h b.from queue s f.0 b.booked.chain there f.3)
+      omega (arith, chain_mark h b.from queue s f.0 b.agree.chain there f.3)
 
   in_no_list : (other : ℕ) → other < length (slice_set lists number rest) → Contains (list_of (slice_set lists number rest) other) s → ⊥
   in_no_list other within there =
@@ -253,9 +253,9 @@ module _ (h : Heap) (queue : List ℕ) (lists : List (List ℕ)) (number class s
             omega arith
         | inr not ↦
             let in_lists : other < length lists = subst (λ k. other < k) (length-set lists number rest) within in
-            let l = list_dead h (get_or h.layout.classes other 0) b.from (list_of lists other) s (b.booked.freed other in_lists)
+            let l = list_dead h (get_or h.layout.classes other 0) b.from (list_of lists other) s (b.agree.freed other in_lists)
             (subst (λ list. Contains list s) (list_of-there lists number other rest not) there) in
-            not (one_number 1 h.layout.classes other number sound.region.table (subst (λ k. other < k) b.booked.long in_lists)
+            not (one_number 1 h.layout.classes other number sound.region.table (subst (λ k. other < k) b.agree.long in_lists)
             is_number.within
             (sym l.of_class ∙ f.2 ∙ sym is_number.is))
       ]
@@ -283,21 +283,21 @@ module _ (h : Heap) (queue : List ℕ) (lists : List (List ℕ)) (number class s
     | inr not ↦ subst (λ list. Contains list r) (sym (list_of-there lists number other rest not)) there
   ]
 
-  pub booked_taken : IsBooked (given_out h s n) queue (slice_set lists number rest)
+  pub agree_taken : AgreeWithMarks (given_out h s n) queue (slice_set lists number rest)
   unfolding given_out changed
-  booked_taken =
+  agree_taken =
       let f = front in
       made_live h s (Live n (next_tag h s)) _ h.total _ _ (in_states h s sound f.1) queue lists (slice_set lists number rest) refl refl b
       in_no_queue (length-set lists number rest) in_no_list rest_freed others_listed
 
 -- ---- a new heap
 
-pub booked_first : (layout : Partition) (seed quarantine : ℕ) →
-    IsBooked (first_heap layout seed quarantine) [] (replicate (length layout.classes) [])
+pub agree_first : (layout : Partition) (seed quarantine : ℕ) →
+    AgreeWithMarks (first_heap layout seed quarantine) [] (replicate (length layout.classes) [])
 unfolding first_heap
-booked_first layout seed quarantine = record {
+agree_first layout seed quarantine = record {
   from = 0;
-  booked = record {
+  agree = record {
     chain = refl;
     long = length-replicate (length layout.classes) [];
     freed =

@@ -6,8 +6,8 @@ ghost use Rattle.heap_theory.specs.Laws.{
   FrontIsTaken,
   ListsHoldReleased,
   LowestFreshIsGiven,
-  MemoryIsNotBooked,
-  NothingIsBookedAtFirst,
+  MemoryHasNoMarks,
+  NothingIsFreedAtFirst,
   OneListHasASlot,
   QueueHasNoListedSlot,
   QueueHoldsQuarantined,
@@ -22,14 +22,14 @@ pub fn law_front()
 {}
 
 /// A queue and a list for each class that are changed step by step agree with the marks.
-pub fn law_booking()
-    ensures first { NothingIsBookedAtFirst }
+pub fn law_queue_and_lists()
+    ensures first { NothingIsFreedAtFirst }
 
     // as a slot is given out, or resized
     ensures takes_front { FrontIsTaken }
     ensures takes_fresh { FreshIsTaken }
     ensures resizes { ResizedStaysOut }
-    ensures memory { MemoryIsNotBooked }
+    ensures memory { MemoryHasNoMarks }
 
     // as a slot is freed, and others are released
     ensures queues { FreedIsQueued }
