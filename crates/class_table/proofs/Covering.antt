@@ -17,28 +17,28 @@ pub true-Covers : (slot : Slot) (granule : ℕ) → Covers slot granule → cove
 true-Covers slot granule it = and_from _ _ (le-leb slot.start granule it.from) (lt-ltb granule (end_of slot) it.to)
 
 -- two slots that cover one granule are one
-one_covers : (step : ℕ) (region : Partition) (granule s r : ℕ) → IsLegalTable step region.classes → r < s → s < slot_count region →
-    Covers (slot_of region s) granule → Covers (slot_of region r) granule → ⊥
-one_covers step region granule s r legal before within at_s at_r =
-    let apart : end_of (slot_of region r) ≤ (slot_of region s).start = (in_order step region legal).apart r s before within in
+one_covers : (step : ℕ) (layout : Partition) (granule s r : ℕ) → IsLegalTable step layout.classes → r < s → s < slot_count layout →
+    Covers (slot_of layout s) granule → Covers (slot_of layout r) granule → ⊥
+one_covers step layout granule s r legal before within at_s at_r =
+    let apart : end_of (slot_of layout r) ≤ (slot_of layout s).start = (in_order step layout legal).apart r s before within in
     omega (arith, at_s.from, at_r.to)
 
-pub slot_over-covers : (step : ℕ) (region : Partition) (granule s : ℕ) → IsLegalTable step region.classes →
-    (slot_over region granule ≡ Some s) ↔ ((s < slot_count region) × Covers (slot_of region s) granule)
+pub slot_over-covers : (step : ℕ) (layout : Partition) (granule s : ℕ) → IsLegalTable step layout.classes →
+    (slot_over layout granule ≡ Some s) ↔ ((s < slot_count layout) × Covers (slot_of layout s) granule)
 unfolding slot_over
-slot_over-covers step region granule s legal = (found, finds)
+slot_over-covers step layout granule s legal = (found, finds)
   where
-    found : slot_over region granule ≡ Some s → (s < slot_count region) × Covers (slot_of region s) granule
+    found : slot_over layout granule ≡ Some s → (s < slot_count layout) × Covers (slot_of layout s) granule
     found is =
-        let first = position-Some (λ slot. covers slot granule) (slots_of region) s no_slot is in
-        (first.0, Covers-true (slot_of region s) granule first.1)
+        let first = position-Some (λ slot. covers slot granule) (slots_of layout) s no_slot is in
+        (first.0, Covers-true (slot_of layout s) granule first.1)
 
-    finds : (s < slot_count region) × Covers (slot_of region s) granule → slot_over region granule ≡ Some s
+    finds : (s < slot_count layout) × Covers (slot_of layout s) granule → slot_over layout granule ≡ Some s
     finds at =
-        let place : position_or_len (λ slot. covers slot granule) (slots_of region) ≡ s =
-        position_or_len_is (λ slot. covers slot granule) (slots_of region) s no_slot (omega (arith, at.0))
-        (λ r before. false_from_ne_true (covers (slot_of region r) granule)
-        (λ test. one_covers step region granule s r legal before at.0 at.1 (Covers-true (slot_of region r) granule test)))
-        (λ within. true-Covers (slot_of region s) granule at.1) in
-        ap (λ p. cond (ltb p (slot_count region)) (Some p) None) place
-        ∙ cond-true (ltb s (slot_count region)) (Some s) None (lt-ltb s (slot_count region) at.0)
+        let place : position_or_len (λ slot. covers slot granule) (slots_of layout) ≡ s =
+        position_or_len_is (λ slot. covers slot granule) (slots_of layout) s no_slot (omega (arith, at.0))
+        (λ r before. false_from_ne_true (covers (slot_of layout r) granule)
+        (λ test. one_covers step layout granule s r legal before at.0 at.1 (Covers-true (slot_of layout r) granule test)))
+        (λ within. true-Covers (slot_of layout s) granule at.1) in
+        ap (λ p. cond (ltb p (slot_count layout)) (Some p) None) place
+        ∙ cond-true (ltb s (slot_count layout)) (Some s) None (lt-ltb s (slot_count layout) at.0)

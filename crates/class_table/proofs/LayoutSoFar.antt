@@ -6,28 +6,28 @@ use Rattle.std.proofs.lemmas.List.FromFn.{length-map-range_with_len, map-range_w
 use Rattle.class_table.specs.Layout.{Partition, share_of, first_slot}
 use Rattle.class_table.proofs.FirstSlots.{first_slot-suc}
 
-pub record IsFilled (region : Partition) (filled numbers : List ℕ) (count number : ℕ) : Type 0 where
-  pub classes : filled ≡ take number region.classes
-  pub firsts : numbers ≡ map (first_slot region) (range_with_len 0 number)
-  pub slots : count ≡ first_slot region number
+pub record IsFilled (layout : Partition) (filled numbers : List ℕ) (count number : ℕ) : Type 0 where
+  pub classes : filled ≡ take number layout.classes
+  pub firsts : numbers ≡ map (first_slot layout) (range_with_len 0 number)
+  pub slots : count ≡ first_slot layout number
 
-module _ (region : Partition) (filled numbers : List ℕ) (count number : ℕ) (is : IsFilled region filled numbers count number) where
+module _ (layout : Partition) (filled numbers : List ℕ) (count number : ℕ) (is : IsFilled layout filled numbers count number) where
   pub length-numbers : length numbers ≡ number
-  length-numbers = ap length is.firsts ∙ length-map-range_with_len (first_slot region) 0 number
+  length-numbers = ap length is.firsts ∙ length-map-range_with_len (first_slot layout) 0 number
 
   -- the first slots of these classes, and the number of slots after them
-  pub firsts_more : numbers ++ count ∷ [] ≡ map (first_slot region) (range_with_len 0 (number + 1))
+  pub firsts_more : numbers ++ count ∷ [] ≡ map (first_slot layout) (range_with_len 0 (number + 1))
   firsts_more =
       ap (λ firsts. firsts ++ count ∷ []) is.firsts
-      ∙ ap (λ n. map (first_slot region) (range_with_len 0 number) ++ n ∷ []) is.slots
-      ∙ sym (map-range_with_len_more (first_slot region) 0 number number (zero-add number))
+      ∙ ap (λ n. map (first_slot layout) (range_with_len 0 number) ++ n ∷ []) is.slots
+      ∙ sym (map-range_with_len_more (first_slot layout) 0 number number (zero-add number))
 
   -- and of one class more
-  pub IsFilled-more : number < length region.classes →
-      IsFilled region (filled ++ get_or region.classes number 0 ∷ []) (numbers ++ count ∷ [])
-      (count + share_of region / get_or region.classes number 0) (number + 1)
+  pub IsFilled-more : number < length layout.classes →
+      IsFilled layout (filled ++ get_or layout.classes number 0 ∷ []) (numbers ++ count ∷ [])
+      (count + share_of layout / get_or layout.classes number 0) (number + 1)
   IsFilled-more within = record {
-    classes = ap (λ classes. classes ++ get_or region.classes number 0 ∷ []) is.classes ∙ sym (take_more region.classes number 0 within);
+    classes = ap (λ classes. classes ++ get_or layout.classes number 0 ∷ []) is.classes ∙ sym (take_more layout.classes number 0 within);
     firsts = firsts_more;
-    slots = ap (λ n. n + share_of region / get_or region.classes number 0) is.slots ∙ sym (first_slot-suc region number within);
+    slots = ap (λ n. n + share_of layout / get_or layout.classes number 0) is.slots ∙ sym (first_slot-suc layout number within);
   }

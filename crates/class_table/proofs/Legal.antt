@@ -76,7 +76,8 @@ classes-faultless low below (class ∷ classes) least none =
     go false h true k others = let f = rw (h, k) at none in absurd cc
     go false h false k others =
         let range = or_parts _ _ h in
-        (least class (ltb-false class 2 range.0) (leb-false class below k), ltb-false 1024 class range.1, omega arith, others (rw (h, k) at none))
+        let larger = least class (ltb-false class 2 range.0) (leb-false class below k) in
+        (larger, ltb-false 1024 class range.1, omega arith, others (rw (h, k) at none))
 
 pub classes-from_no_fault : (classes : List ℕ) → fault_from 0 classes ≡ None → AreClassesAbove 1 1 classes
 classes-from_no_fault classes none = classes-faultless 1 0 classes (λ class two lt. omega (arith, two)) none

@@ -26,60 +26,60 @@ divided share granule number class k fits from to =
     }
 
 -- where a slot stands that covers the granule
-covered : (region : Partition) (granule s : ℕ) (place : Place region s) → Covers (slot_of region s) granule →
-    IsAt (share_of region) granule place.number (get_or region.classes place.number 0) place.k
-covered region granule s place at =
-    let slot = ap (slot_of region) place.is ∙ slot_of-class region place.number place.k place.within place.fits in
-    let from : (slot_of region s).start ≤ granule = at.from in
-    let to : granule < end_of (slot_of region s) = at.to in
-    let start : (slot_of region s).start ≡ share_of region * place.number + get_or region.classes place.number 0 * place.k =
+covered : (layout : Partition) (granule s : ℕ) (place : Place layout s) → Covers (slot_of layout s) granule →
+    IsAt (share_of layout) granule place.number (get_or layout.classes place.number 0) place.k
+covered layout granule s place at =
+    let slot = ap (slot_of layout) place.is ∙ slot_of-class layout place.number place.k place.within place.fits in
+    let from : (slot_of layout s).start ≤ granule = at.from in
+    let to : granule < end_of (slot_of layout s) = at.to in
+    let start : (slot_of layout s).start ≡ share_of layout * place.number + get_or layout.classes place.number 0 * place.k =
     ap (λ (slot : Slot). slot.start) slot in
-    let class : (slot_of region s).class ≡ get_or region.classes place.number 0 = ap (λ (slot : Slot). slot.class) slot in
-    divided (share_of region) granule place.number (get_or region.classes place.number 0) place.k place.fits (omega arith) (omega arith)
+    let class : (slot_of layout s).class ≡ get_or layout.classes place.number 0 = ap (λ (slot : Slot). slot.class) slot in
+    divided (share_of layout) granule place.number (get_or layout.classes place.number 0) place.k place.fits (omega arith) (omega arith)
 
 -- no slot is found where none covers the granule
-none_over : (region : Partition) (granule : ℕ) → IsPartition region →
-    ((s : ℕ) → s < slot_count region → Covers (slot_of region s) granule → ⊥) → None ≡ slot_over region granule
-none_over region granule is none = by (slot_over region granule) refl
+none_over : (layout : Partition) (granule : ℕ) → IsPartition layout →
+    ((s : ℕ) → s < slot_count layout → Covers (slot_of layout s) granule → ⊥) → None ≡ slot_over layout granule
+none_over layout granule is none = by (slot_over layout granule) refl
   where
-    by : (found : Option ℕ) → slot_over region granule ≡ found → None ≡ found
+    by : (found : Option ℕ) → slot_over layout granule ≡ found → None ≡ found
     by None was = refl
-    by (Some s) was = let at = (slot_over-covers 1 region granule s is.table).0 was in absurd (none s at.0 at.1)
+    by (Some s) was = let at = (slot_over-covers 1 layout granule s is.table).0 was in absurd (none s at.0 at.1)
 
-pub none_without_share : (region : Partition) (granule : ℕ) → IsPartition region → share_of region ≡ 0 → None ≡ slot_over region granule
-none_without_share region granule is no_share = none_over region granule is (λ s within at.
-    let place = place_of region s within in
-    let fits : place.k < 0 / get_or region.classes place.number 0 =
-    subst (λ n. place.k < n / get_or region.classes place.number 0) no_share place.fits in
+pub none_without_share : (layout : Partition) (granule : ℕ) → IsPartition layout → share_of layout ≡ 0 → None ≡ slot_over layout granule
+none_without_share layout granule is no_share = none_over layout granule is (λ s within at.
+    let place = place_of layout s within in
+    let fits : place.k < 0 / get_or layout.classes place.number 0 =
+    subst (λ n. place.k < n / get_or layout.classes place.number 0) no_share place.fits in
     omega arith)
 
-pub none_past_shares : (region : Partition) (granule : ℕ) → IsPartition region → length region.classes ≤ granule / share_of region →
-    None ≡ slot_over region granule
-none_past_shares region granule is past = none_over region granule is (λ s within at.
-    let place = place_of region s within in
-    let where_is = covered region granule s place at in
+pub none_past_shares : (layout : Partition) (granule : ℕ) → IsPartition layout → length layout.classes ≤ granule / share_of layout →
+    None ≡ slot_over layout granule
+none_past_shares layout granule is past = none_over layout granule is (λ s within at.
+    let place = place_of layout s within in
+    let where_is = covered layout granule s place at in
     omega (arith, place.within, where_is.number_is))
 
 -- where no slot of the granule's share covers it, none does
-pub none_after_slots : (region : Partition) (granule : ℕ) → IsPartition region → granule / share_of region < length region.classes →
-    share_of region / get_or region.classes (granule / share_of region) 0 ≤ granule % share_of region / get_or region.classes
-    (granule / share_of region) 0 →
-    None ≡ slot_over region granule
-none_after_slots region granule is within past = none_over region granule is (λ s inside at.
-    let place = place_of region s inside in
-    let where_is = covered region granule s place at in
-    let fits : place.k < share_of region / get_or region.classes (granule / share_of region) 0 =
-    subst (λ n. place.k < share_of region / get_or region.classes n 0) where_is.number_is place.fits in
-    let k_is : place.k ≡ granule % share_of region / get_or region.classes (granule / share_of region) 0 =
-    subst (λ n. place.k ≡ granule % share_of region / get_or region.classes n 0) where_is.number_is where_is.k_is in
+pub none_after_slots : (layout : Partition) (granule : ℕ) → IsPartition layout → granule / share_of layout < length layout.classes →
+    share_of layout / get_or layout.classes (granule / share_of layout) 0 ≤ granule % share_of layout / get_or layout.classes
+    (granule / share_of layout) 0 →
+    None ≡ slot_over layout granule
+none_after_slots layout granule is within past = none_over layout granule is (λ s inside at.
+    let place = place_of layout s inside in
+    let where_is = covered layout granule s place at in
+    let fits : place.k < share_of layout / get_or layout.classes (granule / share_of layout) 0 =
+    subst (λ n. place.k < share_of layout / get_or layout.classes n 0) where_is.number_is place.fits in
+    let k_is : place.k ≡ granule % share_of layout / get_or layout.classes (granule / share_of layout) 0 =
+    subst (λ n. place.k ≡ granule % share_of layout / get_or layout.classes n 0) where_is.number_is where_is.k_is in
     omega arith)
 
 -- a place is a slot's exactly where its number is below the next class's first slot
-module _ (region : Partition) (share number class k first next : ℕ) (share_is : share ≡ share_of region)
-    (class_is : class ≡ get_or region.classes number 0) (within : number < length region.classes)
-    (first_is : first ≡ first_slot region number) (next_is : next ≡ first_slot region (number + 1)) where
+module _ (layout : Partition) (share number class k first next : ℕ) (share_is : share ≡ share_of layout)
+    (class_is : class ≡ get_or layout.classes number 0) (within : number < length layout.classes)
+    (first_is : first ≡ first_slot layout number) (next_is : next ≡ first_slot layout (number + 1)) where
   counted : next ≡ first + share / class
-  counted = next_is ∙ first_slot-suc region number within ∙ (λ i. sym first_is i + sym share_is i / sym class_is i)
+  counted = next_is ∙ first_slot-suc layout number within ∙ (λ i. sym first_is i + sym share_is i / sym class_is i)
 
   pub place_fits : first + k < next → k < share / class
   place_fits below = omega (arith, counted, below)
@@ -88,41 +88,41 @@ module _ (region : Partition) (share number class k first next : ℕ) (share_is 
   place_after past = omega (arith, counted, past)
 
 -- and else it is the slot at that place
-pub some_in_share : (region : Partition) (granule s : ℕ) → IsPartition region → granule / share_of region < length region.classes →
-    granule % share_of region / get_or region.classes (granule / share_of region) 0 < share_of region / get_or region.classes
-    (granule / share_of region) 0 →
-    s ≡ first_slot region (granule / share_of region) + granule % share_of region / get_or region.classes (granule / share_of region) 0 →
-    Some s ≡ slot_over region granule
-some_in_share region granule s is within fits place =
-    let share = share_of region in
+pub some_in_share : (layout : Partition) (granule s : ℕ) → IsPartition layout → granule / share_of layout < length layout.classes →
+    granule % share_of layout / get_or layout.classes (granule / share_of layout) 0 < share_of layout / get_or layout.classes
+    (granule / share_of layout) 0 →
+    s ≡ first_slot layout (granule / share_of layout) + granule % share_of layout / get_or layout.classes (granule / share_of layout) 0 →
+    Some s ≡ slot_over layout granule
+some_in_share layout granule s is within fits place =
+    let share = share_of layout in
     let number = granule / share in
-    let class = get_or region.classes number 0 in
+    let class = get_or layout.classes number 0 in
     let k = granule % share / class in
-    let slot : slot_of region s ≡ record { start = share * number + class * k; class = class } =
-    ap (slot_of region) place ∙ slot_of-class region number k within fits in
-    let start : (slot_of region s).start ≡ share * number + class * k = ap (λ (slot : Slot). slot.start) slot in
-    let width : (slot_of region s).class ≡ class = ap (λ (slot : Slot). slot.class) slot in
+    let slot : slot_of layout s ≡ record { start = share * number + class * k; class = class } =
+    ap (slot_of layout) place ∙ slot_of-class layout number k within fits in
+    let start : (slot_of layout s).start ≡ share * number + class * k = ap (λ (slot : Slot). slot.start) slot in
+    let width : (slot_of layout s).class ≡ class = ap (λ (slot : Slot). slot.class) slot in
     let whole : number * share + granule % share ≡ granule = div-add-mod' granule share in
     let inner : k * class + granule % share % class ≡ granule % share = div-add-mod' (granule % share) class in
     let wide : 2 ≤ class = (is.table.in_range number 0 within).0 in
     let less : granule % share % class < class = mod_below (granule % share) class (omega arith) in
-    let inside : s < slot_count region = omega (arith, first_slot-suc region number within, first_slot-most region (number + 1)) in
-    sym ((slot_over-covers 1 region granule s is.table).1 (inside, record { from = omega arith; to = omega arith }))
+    let inside : s < slot_count layout = omega (arith, first_slot-suc layout number within, first_slot-most layout (number + 1)) in
+    sym ((slot_over-covers 1 layout granule s is.table).1 (inside, record { from = omega arith; to = omega arith }))
 
 -- which begins so many granules before
-pub place_in_share : (region : Partition) (granule : ℕ) → granule / share_of region < length region.classes →
-    granule % share_of region / get_or region.classes (granule / share_of region) 0 < share_of region / get_or region.classes
-    (granule / share_of region) 0 →
-    (slot_of region (first_slot region (granule / share_of region) + granule % share_of region / get_or region.classes
-    (granule / share_of region) 0)).start
-    + granule % share_of region % get_or region.classes (granule / share_of region) 0 ≡ granule
-place_in_share region granule within fits =
-    let share = share_of region in
+pub place_in_share : (layout : Partition) (granule : ℕ) → granule / share_of layout < length layout.classes →
+    granule % share_of layout / get_or layout.classes (granule / share_of layout) 0 < share_of layout / get_or layout.classes
+    (granule / share_of layout) 0 →
+    (slot_of layout (first_slot layout (granule / share_of layout) + granule % share_of layout / get_or layout.classes
+    (granule / share_of layout) 0)).start
+    + granule % share_of layout % get_or layout.classes (granule / share_of layout) 0 ≡ granule
+place_in_share layout granule within fits =
+    let share = share_of layout in
     let number = granule / share in
-    let class = get_or region.classes number 0 in
+    let class = get_or layout.classes number 0 in
     let k = granule % share / class in
-    let start : (slot_of region (first_slot region number + k)).start ≡ share * number + class * k =
-    ap (λ (slot : Slot). slot.start) (slot_of-class region number k within fits) in
+    let start : (slot_of layout (first_slot layout number + k)).start ≡ share * number + class * k =
+    ap (λ (slot : Slot). slot.start) (slot_of-class layout number k within fits) in
     let whole : number * share + granule % share ≡ granule = div-add-mod' granule share in
     let inner : k * class + granule % share % class ≡ granule % share = div-add-mod' (granule % share) class in
     omega (arith, start, whole, inner)

@@ -68,14 +68,14 @@ spread_classes first share (class ∷ classes) in_range =
     (spread_class first share class (in_range 0 0 (omega arith)).0)
     (subst (λ granule. IsSpread (first + share) granule (slots_of_classes (first + share) share classes)) to rest)
 
-spread_slots : (step : ℕ) (region : Partition) → IsLegalTable step region.classes → IsSpread 0 region.granules (slots_of region)
+spread_slots : (step : ℕ) (layout : Partition) → IsLegalTable step layout.classes → IsSpread 0 layout.granules (slots_of layout)
 unfolding slots_of
-spread_slots step region legal =
-    let fits : share_of region * length region.classes + region.granules % length region.classes ≡ region.granules =
-    div-add-mod' region.granules (length region.classes) in
-    spread_to 0 (0 + share_of region * length region.classes) region.granules (slots_of_classes 0 (share_of region) region.classes)
+spread_slots step layout legal =
+    let fits : share_of layout * length layout.classes + layout.granules % length layout.classes ≡ layout.granules =
+    div-add-mod' layout.granules (length layout.classes) in
+    spread_to 0 (0 + share_of layout * length layout.classes) layout.granules (slots_of_classes 0 (share_of layout) layout.classes)
     (omega arith)
-    (spread_classes 0 (share_of region) region.classes legal.in_range)
+    (spread_classes 0 (share_of layout) layout.classes legal.in_range)
 
 record IsBetween (from to : ℕ) (slot : Slot) : Type 0 where
   after : from ≤ slot.start
@@ -102,13 +102,13 @@ spread_apart a b (slot ∷ slots) zero (suc r) spread before within = (spread_at
 spread_apart a b (slot ∷ slots) (suc s) (suc r) spread before within =
     spread_apart (end_of slot) b slots s r spread.2 (omega arith) (omega arith)
 
-pub in_order : (step : ℕ) (region : Partition) → IsLegalTable step region.classes → AreInOrder region
-in_order step region legal =
-    let spread = spread_slots step region legal in
+pub in_order : (step : ℕ) (layout : Partition) → IsLegalTable step layout.classes → AreInOrder layout
+in_order step layout legal =
+    let spread = spread_slots step layout legal in
     record {
-      inside = λ s within. (spread_at 0 region.granules (slots_of region) s spread within).before;
-      wide = λ s within. (spread_at 0 region.granules (slots_of region) s spread within).wide;
-      apart = λ s r before within. spread_apart 0 region.granules (slots_of region) s r spread before within;
+      inside = λ s within. (spread_at 0 layout.granules (slots_of layout) s spread within).before;
+      wide = λ s within. (spread_at 0 layout.granules (slots_of layout) s spread within).wide;
+      apart = λ s r before within. spread_apart 0 layout.granules (slots_of layout) s r spread before within;
     }
 
 -- ---- class after class
@@ -134,11 +134,11 @@ length-slots_of_classes first share (class ∷ classes) =
     ∙ ap (λ n. share / class + n) (length-slots_of_classes (first + share) share classes)
     ∙ sym (sum_by-cons (λ class. share / class) class classes)
 
-pub slot_count-classes : (region : Partition) → slot_count region ≡ first_slot region (length region.classes)
+pub slot_count-classes : (layout : Partition) → slot_count layout ≡ first_slot layout (length layout.classes)
 unfolding slots_of
-slot_count-classes region =
-    length-slots_of_classes 0 (share_of region) region.classes
-    ∙ ap (sum_by (λ class. share_of region / class)) (sym (take_all (length region.classes) region.classes (omega arith)))
+slot_count-classes layout =
+    length-slots_of_classes 0 (share_of layout) layout.classes
+    ∙ ap (sum_by (λ class. share_of layout / class)) (sym (take_all (length layout.classes) layout.classes (omega arith)))
 
 -- the slot at a place of a class
 slot_in_class : (first share : ℕ) (classes : List ℕ) (number k : ℕ) → number < length classes → k < share / get_or classes number 0 →
@@ -163,23 +163,23 @@ slot_in_class first share (class ∷ classes) (suc number) k within fits =
     ∙ slot_in_class (first + share) share classes number k (omega arith) fits
     ∙ ap (λ n. record { start = n; class = get_or classes number 0 }) start
 
-pub slot_of-class : (region : Partition) (number k : ℕ) → number < length region.classes →
-    k < share_of region / get_or region.classes number 0 →
-    slot_of region (first_slot region number + k)
-    ≡ record { start = share_of region * number + get_or region.classes number 0 * k; class = get_or region.classes number 0 }
+pub slot_of-class : (layout : Partition) (number k : ℕ) → number < length layout.classes →
+    k < share_of layout / get_or layout.classes number 0 →
+    slot_of layout (first_slot layout number + k)
+    ≡ record { start = share_of layout * number + get_or layout.classes number 0 * k; class = get_or layout.classes number 0 }
 unfolding slots_of
-slot_of-class region number k within fits =
-    slot_in_class 0 (share_of region) region.classes number k within fits
-    ∙ ap (λ n. record { start = n + get_or region.classes number 0 * k; class = get_or region.classes number 0 })
-    (zero-add (share_of region * number))
+slot_of-class layout number k within fits =
+    slot_in_class 0 (share_of layout) layout.classes number k within fits
+    ∙ ap (λ n. record { start = n + get_or layout.classes number 0 * k; class = get_or layout.classes number 0 })
+    (zero-add (share_of layout * number))
 
 -- A place among the classes: a class, and the number of a slot in its share.
-pub record Place (region : Partition) (s : ℕ) : Type 0 where
+pub record Place (layout : Partition) (s : ℕ) : Type 0 where
   pub number : ℕ
   pub k : ℕ
-  pub within : number < length region.classes
-  pub fits : k < share_of region / get_or region.classes number 0
-  pub is : s ≡ first_slot region number + k
+  pub within : number < length layout.classes
+  pub fits : k < share_of layout / get_or layout.classes number 0
+  pub is : s ≡ first_slot layout number + k
 
 record PlaceIn (share : ℕ) (classes : List ℕ) (s : ℕ) : Type 0 where
   number : ℕ
@@ -206,18 +206,18 @@ place_in share (class ∷ classes) s within = elim (cases_lt s (share / class)) 
 ]
 
 -- each slot has a place
-pub place_of : (region : Partition) (s : ℕ) → s < slot_count region → Place region s
+pub place_of : (layout : Partition) (s : ℕ) → s < slot_count layout → Place layout s
 unfolding slots_of
-place_of region s within =
+place_of layout s within =
     let place =
-    place_in (share_of region) region.classes s
-    (subst (λ n. s < n) (length-slots_of_classes 0 (share_of region) region.classes) within) in
+    place_in (share_of layout) layout.classes s
+    (subst (λ n. s < n) (length-slots_of_classes 0 (share_of layout) layout.classes) within) in
     record { number = place.number; k = place.k; within = place.within; fits = place.fits; is = place.is }
 
-pub class_of_slot : (region : Partition) (s : ℕ) → s < slot_count region → Contains region.classes (slot_of region s).class
-class_of_slot region s within =
-    let place = place_of region s within in
-    let slot = slot_of-class region place.number place.k place.within place.fits in
-    let class : (slot_of region s).class ≡ get_or region.classes place.number 0 =
-    ap (λ s. (slot_of region s).class) place.is ∙ ap (λ (slot : Slot). slot.class) slot in
-    subst (Contains region.classes) (sym class) (Contains-get_or region.classes place.number 0 place.within)
+pub class_of_slot : (layout : Partition) (s : ℕ) → s < slot_count layout → Contains layout.classes (slot_of layout s).class
+class_of_slot layout s within =
+    let place = place_of layout s within in
+    let slot = slot_of-class layout place.number place.k place.within place.fits in
+    let class : (slot_of layout s).class ≡ get_or layout.classes place.number 0 =
+    ap (λ s. (slot_of layout s).class) place.is ∙ ap (λ (slot : Slot). slot.class) slot in
+    subst (Contains layout.classes) (sym class) (Contains-get_or layout.classes place.number 0 place.within)

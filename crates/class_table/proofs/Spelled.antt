@@ -132,7 +132,8 @@ of_classes classes table e = go (ltb 32 (length classes)) refl (fault_from 0 cla
     go false h (Some fault) k = let f = rw (h, k) at e in absurd cc
     go false h None k =
         let same : classes ≡ table = (let f = rw (h, k) at e in cc) in
-        (same, rw (← same) (legal-from_classes 1 1 classes (omega arith) (ltb-false 32 (length classes) h) (classes-from_no_fault classes k)))
+        let few = ltb-false 32 (length classes) h in
+        (same, rw (← same) (legal-from_classes 1 1 classes (omega arith) few (classes-from_no_fault classes k)))
 
 pub faultless : (classes : List ℕ) → IsLegalTable 1 classes → table_of_classes classes ≡ Ok classes
 faultless classes legal =

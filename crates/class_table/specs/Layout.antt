@@ -5,16 +5,16 @@ use Rattle.class_table.specs.Sizes.{granule_bytes}
 use Rattle.class_table.specs.Tables.{IsLegalTable}
 use Rattle.class_table.specs.declared.layout.TheConstants.{FEWEST_GRANULES, MOST_GRANULES}
 
--- A region with its number of granules, and the table whose classes share it.
+-- A table, and the number of granules of the region that its classes share.
 pub record Partition : Type 0 where
   pub classes : List ℕ
   pub granules : ℕ
 
 -- The partitions that a heap may have.
-pub record IsPartition (region : Partition) : Type 0 where
-  pub table : IsLegalTable 1 region.classes
-  pub least : FEWEST_GRANULES ≤ region.granules
-  pub most : region.granules ≤ MOST_GRANULES
+pub record IsPartition (layout : Partition) : Type 0 where
+  pub table : IsLegalTable 1 layout.classes
+  pub least : FEWEST_GRANULES ≤ layout.granules
+  pub most : layout.granules ≤ MOST_GRANULES
 
 -- A slot: its first granule, which is its header, and its class, which is the number of its granules.
 pub record Slot : Type 0 where
@@ -37,7 +37,7 @@ block_bytes slot = granule_bytes * slot.class
 
 -- the granules that each class has
 abbrev pub share_of : Partition → ℕ
-share_of region = region.granules / length region.classes
+share_of layout = layout.granules / length layout.classes
 
 -- the slots of a class whose share begins at granule `first`: as many as fit, one after the other
 abbrev pub slots_of_class : ℕ → ℕ → ℕ → List Slot
@@ -50,24 +50,24 @@ slots_of_classes first share (class ∷ classes) = slots_of_class first share cl
 
 -- All slots of a region, numbered from 0 in address order. Its other granules are slack.
 unfoldable pub slots_of : Partition → List Slot
-slots_of region = slots_of_classes 0 (share_of region) region.classes
+slots_of layout = slots_of_classes 0 (share_of layout) layout.classes
 
 abbrev pub slot_count : Partition → ℕ
-slot_count region = length (slots_of region)
+slot_count layout = length (slots_of layout)
 
 -- the slot of this number
 abbrev pub slot_of : Partition → ℕ → Slot
-slot_of region s = slice_index_or (slots_of region) s no_slot
+slot_of layout s = slice_index_or (slots_of layout) s no_slot
 
 -- the number of the first slot of the class of this number; for the number of classes itself, the number of slots
 abbrev pub first_slot : Partition → ℕ → ℕ
-first_slot region number = sum_by (λ class. share_of region / class) (take number region.classes)
+first_slot layout number = sum_by (λ class. share_of layout / class) (take number layout.classes)
 
 -- The class of this number is the slot's.
-pub record IsClassOf (region : Partition) (slot number : ℕ) : Type 0 where
-  pub within : number < length region.classes
-  pub from : first_slot region number ≤ slot
-  pub to : slot < first_slot region (number + 1)
+pub record IsClassOf (layout : Partition) (slot number : ℕ) : Type 0 where
+  pub within : number < length layout.classes
+  pub from : first_slot layout number ≤ slot
+  pub to : slot < first_slot layout (number + 1)
 
 -- ---- which slot covers a granule
 
@@ -80,12 +80,12 @@ covers slot granule = nat_le slot.start granule && nat_lt granule (end_of slot)
 
 -- The number of the slot that covers a granule, if one does.
 unfoldable pub slot_over : Partition → ℕ → Option ℕ
-slot_over region granule = position (λ slot. covers slot granule) (slots_of region)
+slot_over layout granule = position (λ slot. covers slot granule) (slots_of layout)
 
 -- ---- what is true of every layout
 
 -- The slots are in address order, apart from one another and inside the region. Each has a payload.
-pub record AreInOrder (region : Partition) : Type 0 where
-  pub inside : (s : ℕ) → s < slot_count region → end_of (slot_of region s) ≤ region.granules
-  pub wide : (s : ℕ) → s < slot_count region → 2 ≤ (slot_of region s).class
-  pub apart : (s r : ℕ) → s < r → r < slot_count region → end_of (slot_of region s) ≤ (slot_of region r).start
+pub record AreInOrder (layout : Partition) : Type 0 where
+  pub inside : (s : ℕ) → s < slot_count layout → end_of (slot_of layout s) ≤ layout.granules
+  pub wide : (s : ℕ) → s < slot_count layout → 2 ≤ (slot_of layout s).class
+  pub apart : (s r : ℕ) → s < r → r < slot_count layout → end_of (slot_of layout s) ≤ (slot_of layout r).start

@@ -39,7 +39,7 @@ pub IsSoundHeap-first : (layout : Partition) (seed quarantine : ℕ) → IsParti
 unfolding first_heap
 IsSoundHeap-first layout seed quarantine is order =
     record {
-      region = is;
+      partition = is;
       slots = order;
       long = length-first_memory layout;
       states = length-replicate (slot_count layout) Fresh;

@@ -30,11 +30,11 @@ module _ (h : Heap) (sound : IsSoundHeap h) (g : ℕ) where
     where
       by : (o : Option ℕ) → slot_over h.layout g ≡ o → kind_at h o g ≡ Slack
       by None was = refl
-      by (Some s) was = let at = (laws.one_slot_covers 1 h.layout g s sound.region.table).0 was in absurd (none s at.0 at.1)
+      by (Some s) was = let at = (laws.one_slot_covers 1 h.layout g s sound.partition.table).0 was in absurd (none s at.0 at.1)
 
   in_slot : (s : ℕ) → IsSlot h s → Covers (slot_in h s) g → place_kind h g ≡ kind_in_slot (slot_in h s) (state_at h s) g
   unfolding place_kind
-  in_slot s within c = ap (λ o. kind_at h o g) ((laws.one_slot_covers 1 h.layout g s sound.region.table).1 (within, c))
+  in_slot s within c = ap (λ o. kind_at h o g) ((laws.one_slot_covers 1 h.layout g s sound.partition.table).1 (within, c))
 
   header_is : (s : ℕ) → IsSlot h s → (slot_in h s).start ≡ g → place_kind h g ≡ Header
   header_is s within first =
@@ -103,10 +103,10 @@ module _ (h : Heap) (sound : IsSoundHeap h) (g : ℕ) where
       by : (o : Option ℕ) → slot_over h.layout g ≡ o → Means (place_kind h g)
       by None was =
           let none : (s : ℕ) → IsSlot h s → Covers (slot_in h s) g → ⊥ = λ s within c.
-          let some = sym was ∙ (laws.one_slot_covers 1 h.layout g s sound.region.table).1 (within, c) in absurd cc in
+          let some = sym was ∙ (laws.one_slot_covers 1 h.layout g s sound.partition.table).1 (within, c) in absurd cc in
           subst Means (sym (slack_is none)) none
       by (Some s) was =
-          let at = (laws.one_slot_covers 1 h.layout g s sound.region.table).0 was in
+          let at = (laws.one_slot_covers 1 h.layout g s sound.partition.table).0 was in
           let from : (slot_in h s).start ≤ g = at.1.from in
           elim (cases_eq (slot_in h s).start g) [
             | inl first ↦ subst Means (sym (header_is s at.0 first)) (s, at.0, first)

@@ -56,9 +56,9 @@ bookkeeping_tag one_covers h g sound book = by_slot (slot_over h.layout g) refl 
   where
     by_slot : (o : Option ℕ) → slot_over h.layout g ≡ o → IsBookkeeping (kind_at h o g) → tag_at h.memory g ≡ 0
     by_slot None was book =
-        sound.slack g (λ s within c. let some = sym was ∙ (one_covers 1 h.layout g s sound.region.table).1 (within, c) in absurd cc)
+        sound.slack g (λ s within c. let some = sym was ∙ (one_covers 1 h.layout g s sound.partition.table).1 (within, c) in absurd cc)
     by_slot (Some s) was book =
-        let at = (one_covers 1 h.layout g s sound.region.table).0 was in in_slot_tag h s g at.1 (sound.tagged s at.0) book
+        let at = (one_covers 1 h.layout g s sound.partition.table).0 was in in_slot_tag h s g at.1 (sound.tagged s at.0) book
 
 -- ---- the tags of payloads
 

@@ -30,7 +30,7 @@ chunk_tags_of_two w sound = parities_differ w.replay.heap sound.heap
 
 module _ (w : Run) (sound : IsSoundRun w) where
   small : length w.replay.heap.memory ≤ 262144
-  small = subst (λ n. n ≤ 262144) (sym sound.heap.long) sound.heap.region.most
+  small = subst (λ n. n ≤ 262144) (sym sound.heap.long) sound.heap.partition.most
 
   -- ---- an access has the variable's tag
 

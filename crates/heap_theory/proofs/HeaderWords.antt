@@ -176,7 +176,7 @@ header_for-fits h s next sound within link total = record {
       omega (
         arith,
         slice_get_within h.layout.classes (class_number h.layout s) (slot_in h s).class (class_number-is h.layout s within),
-        sound.region.table.few,
+        sound.partition.table.few,
       );
   next = link;
   mark = mark_fits (state_at h s) (sound.marks s);
@@ -184,7 +184,7 @@ header_for-fits h s next sound within link total = record {
   where
     class_fits : (slot_in h s).class ≤ 1024
     class_fits =
-        (All-contains (λ class. (2 ≤ class) × (class ≤ 1024)) h.layout.classes (slot_in h s).class sound.region.table.in_range
+        (All-contains (λ class. (2 ≤ class) × (class ≤ 1024)) h.layout.classes (slot_in h s).class sound.partition.table.in_range
         (laws.classes_listed h.layout s within)).1
 
     size_fits : (x : State) → chunk_of x < (slot_in h s).class → size_of x < 2 ^ 14

@@ -79,7 +79,7 @@ module _ (h : Heap) (s : ℕ) (state : State) (memory : List Granule) (total see
       IsSoundHeap (record h { states = slice_set h.states s state; memory = memory; total = total; seed = seed; tag = tag })
   IsSoundHeap-retagged long others tagged grows marked tag_below =
       record {
-        region = sound.region;
+        partition = sound.partition;
         slots = sound.slots;
         long = long ∙ sound.long;
         states = length-set h.states s state ∙ sound.states;
@@ -235,7 +235,7 @@ module _ where
       IsSoundHeap (record h { memory = written i bytes h.memory })
   IsSoundHeap-written h i bytes sound =
       record {
-        region = sound.region;
+        partition = sound.partition;
         slots = sound.slots;
         long = laws.written_length i bytes h.memory ∙ sound.long;
         states = sound.states;

@@ -92,10 +92,11 @@ pub one_list_has : (h : Heap) (queue : List ℕ) (lists : List (List ℕ)) (a b 
 one_list_has h queue lists a b s sound agree in_a in_b at_a at_b =
     let l = list_dead h _ agree.from (list_of lists a) s (agree.agree.freed a in_a) at_a in
     let k = list_dead h _ agree.from (list_of lists b) s (agree.agree.freed b in_b) at_b in
-    one_number 1 h.layout.classes a b sound.region.table (subst (λ n. a < n) agree.agree.long in_a)
+    one_number 1 h.layout.classes a b sound.partition.table (subst (λ n. a < n) agree.agree.long in_a)
     (subst (λ n. b < n) agree.agree.long in_b) (sym l.of_class ∙ k.of_class)
 
-pub queue_or_list : (h : Heap) (queue : List ℕ) (lists : List (List ℕ)) (number s : ℕ) → AgreeWithMarks h queue lists → number < length lists →
+pub queue_or_list : (h : Heap) (queue : List ℕ) (lists : List (List ℕ)) (number s : ℕ) → AgreeWithMarks h queue lists →
+    number < length lists →
     Contains queue s → Contains (list_of lists number) s → ⊥
 queue_or_list h queue lists number s b within in_queue in_list =
     let q = chain_dead h b.from queue s b.agree.chain in_queue in

@@ -93,7 +93,7 @@ not_null : (h : Heap) (s : ℕ) → IsSoundHeap h → s < slot_count h.layout �
 not_null h s sound within null =
     let inside = sound.slots.inside s within in
     let wide = sound.slots.wide s within in
-    let most = sound.region.most in
+    let most = sound.partition.most in
     let place : payload_place (slot_in h s) < 2 ^ 56 = omega arith in
     omega (arith, null)
 

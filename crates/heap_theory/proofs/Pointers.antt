@@ -46,7 +46,7 @@ unfolding chunk_at
 chunk_at-pointer_to h s n t sound within live =
     let inside = sound.slots.inside s within in
     let wide = sound.slots.wide s within in
-    let most = sound.region.most in
+    let most = sound.partition.most in
     let place : payload_place (slot_in h s) < 2 ^ 56 = omega arith in
     let tagged : IsChunkTag s (Live n t) (sound.tagged s within).chunk_tag =
     subst (λ x. IsChunkTag s x (sound.tagged s within).chunk_tag) live (sound.tagged s within).is_chunk_tag in

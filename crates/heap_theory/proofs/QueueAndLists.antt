@@ -101,7 +101,8 @@ module _ (h : Heap) (s : ℕ) (state : State) (memory : List Granule) (total see
       length new ≡ length lists → ((number : ℕ) → number < length new → Contains (list_of new number) s → ⊥) →
       ((number class bound : ℕ) → number < length new → IsFreedList h class bound (list_of lists number) →
       IsFreedList h class bound (list_of new number)) →
-      ((number r : ℕ) → (r ≡ s → ⊥) → Contains (list_of lists number) r → Contains (list_of new number) r) → AgreeWithMarks changed queue new
+      ((number r : ℕ) → (r ≡ s → ⊥) → Contains (list_of lists number) r → Contains (list_of new number) r) →
+      AgreeWithMarks changed queue new
   unfolding changed
   made_live queue lists new same alive b not_queued long out kept others = record {
     from = b.from;
@@ -175,7 +176,8 @@ module _ (h : Heap) (s : ℕ) (state : State) (memory : List Granule) (total see
 not_queued : (h : Heap) (from : ℕ) (queue : List ℕ) (s : ℕ) → IsChain h from queue → is_dead (state_at h s) ≡ false → Contains queue s → ⊥
 not_queued h from queue s c alive there = let q = chain_dead h from queue s c there in not_marked (state_at h s) q.mark alive q.marked
 
-not_listed : (h : Heap) (queue : List ℕ) (lists : List (List ℕ)) (s : ℕ) → (b : AgreeWithMarks h queue lists) → is_dead (state_at h s) ≡ false →
+not_listed : (h : Heap) (queue : List ℕ) (lists : List (List ℕ)) (s : ℕ) → (b : AgreeWithMarks h queue lists) →
+    is_dead (state_at h s) ≡ false →
     (number : ℕ) → number < length lists → Contains (list_of lists number) s → ⊥
 not_listed h queue lists s b alive number inside there =
     let l = list_dead h _ b.from (list_of lists number) s (b.agree.freed number inside) there in
@@ -255,7 +257,7 @@ module _ (h : Heap) (queue : List ℕ) (lists : List (List ℕ)) (number class s
             let in_lists : other < length lists = subst (λ k. other < k) (length-set lists number rest) within in
             let l = list_dead h (get_or h.layout.classes other 0) b.from (list_of lists other) s (b.agree.freed other in_lists)
             (subst (λ list. Contains list s) (list_of-there lists number other rest not) there) in
-            not (one_number 1 h.layout.classes other number sound.region.table (subst (λ k. other < k) b.agree.long in_lists)
+            not (one_number 1 h.layout.classes other number sound.partition.table (subst (λ k. other < k) b.agree.long in_lists)
             is_number.within
             (sym l.of_class ∙ f.2 ∙ sym is_number.is))
       ]

@@ -66,7 +66,7 @@ module _ (h : Heap) (from s number : ℕ) (queue : List ℕ) (lists : List (List
   front_listed other found =
       let there = number_is h.layout.classes other (slot_in h s).class found in
       let is : other ≡ number =
-      one_number 1 h.layout.classes other number sound.region.table there.within is_number.within (there.is ∙ sym is_number.is) in
+      one_number 1 h.layout.classes other number sound.partition.table there.within is_number.within (there.is ∙ sym is_number.is) in
       subst (λ n. Contains (list_of (slice_set lists number (s ∷ list_of lists number)) n) s) (sym is)
       (subst (λ list. Contains list s) (sym (list_of-here lists number (s ∷ list_of lists number) within))
       (Contains-head s (list_of lists number)))

@@ -110,7 +110,8 @@ LowestFreshIsGiven =
 
 abbrev pub NothingIsFreedAtFirst : Type 0
 NothingIsFreedAtFirst =
-    (layout : Partition) (seed quarantine : ℕ) → AgreeWithMarks (first_heap layout seed quarantine) [] (replicate (length layout.classes) [])
+    (layout : Partition) (seed quarantine : ℕ) →
+    AgreeWithMarks (first_heap layout seed quarantine) [] (replicate (length layout.classes) [])
 
 -- a freed slot leaves its class's list, as it is given out,
 abbrev pub FrontIsTaken : Type 0
@@ -161,7 +162,8 @@ RestIsHeld =
 
 abbrev pub QueueHoldsQuarantined : Type 0
 QueueHoldsQuarantined =
-    (heap : Heap) (queue : List ℕ) (lists : List (List ℕ)) → IsSoundHeap heap → AgreeWithMarks heap queue lists → HoldsQuarantined heap queue
+    (heap : Heap) (queue : List ℕ) (lists : List (List ℕ)) → IsSoundHeap heap → AgreeWithMarks heap queue lists →
+    HoldsQuarantined heap queue
 
 abbrev pub ListsHoldReleased : Type 0
 ListsHoldReleased =

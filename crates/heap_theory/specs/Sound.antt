@@ -33,7 +33,7 @@ IfDead (Live size given) P = ⊤
 IfDead (Dead size given mark) P = P mark
 
 pub record IsSoundHeap (heap : Heap) : Type 0 where
-  pub region : IsPartition heap.layout
+  pub partition : IsPartition heap.layout
   pub slots : AreInOrder heap.layout
   pub long : length heap.memory ≡ heap.layout.granules
   pub states : length heap.states ≡ slot_count heap.layout

@@ -7,7 +7,7 @@ use Rattle.heap_theory.proofs.Losses.{LosesAtMostItsWaste-run}
 use Rattle.profile_count.proofs.LawLemmas.{serves_each_request, waste_is_the_sum_of_losses}
 use Rattle.tuner_theory.specs.Best.{IsCandidate}
 use Rattle.mte_engine.specs.Laws.{TunedRunIsHeadline}
-use Rattle.mte_engine.specs.Replay.{region_for}
+use Rattle.mte_engine.specs.Replay.{layout_for}
 use Rattle.mte_engine.specs.Run.{new_replay}
 use Rattle.mte_engine.specs.Traces.{profile_of_events}
 
@@ -20,7 +20,7 @@ headline limit step config events sheet tuned =
     let each : ServesEach sheet.table events = (serves_each_request sizes sheet.table).0 best.candidate.serving in
     let waste : sheet.waste ≡ rounding_loss sheet.table (counted_sizes events) =
     tuned.wasted ∙ waste_is_the_sum_of_losses sizes sheet.table in
-    let lost = LosesAtMostItsWaste-run (region_for config sheet.table) config.seed config.quarantine events each in
+    let lost = LosesAtMostItsWaste-run (layout_for config sheet.table) config.seed config.quarantine events each in
     record {
       sheet = sheet;
       in_question = record { legal = best.candidate.legal; few = best.candidate.few; serves = each };

@@ -16,13 +16,13 @@ use Rattle.mte_engine.specs.declared.engine.Status.TheVariants.{Done}
 use Rattle.mte_engine.specs.declared.fault.InputFault.{InputFault}
 use Rattle.mte_engine.specs.declared.fault.InputFault.TheVariants.{Table}
 
--- A region of this many granules for the classes of a table.
-abbrev pub region_for : Config → List ℕ → Partition
-region_for config table = record { classes = table; granules = config.granules }
+-- The classes of a table over a region of this many granules.
+abbrev pub layout_for : Config → List ℕ → Partition
+layout_for config table = record { classes = table; granules = config.granules }
 
 -- The report on the events of a trace, on the heap that is set up so for this table.
 abbrev pub report_on : Config → List ℕ → List Event → List ℕ
-report_on config table events = report (region_for config table) config.seed config.quarantine events
+report_on config table events = report (layout_for config table) config.seed config.quarantine events
 
 -- A class line, and then a trace.
 abbrev pub replay_of_lines : Config → List (List ℕ) → Result Answer InputFault

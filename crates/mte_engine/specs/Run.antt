@@ -14,7 +14,7 @@ use Rattle.tagged_heap.specs.declared.heap.Config.{Config}
 use Rattle.trace_reader.specs.TraceText.{trace_of}
 use Rattle.tuner_theory.specs.Sheets.{Sheet}
 use Rattle.mte_engine.specs.Outcome.{Answer}
-use Rattle.mte_engine.specs.Replay.{region_for}
+use Rattle.mte_engine.specs.Replay.{layout_for}
 use Rattle.mte_engine.specs.Traces.{profile_of_events, trace_part}
 use Rattle.mte_engine.specs.declared.engine.Status.TheVariants.{Done}
 use Rattle.mte_engine.specs.declared.fault.InputFault.{InputFault}
@@ -31,7 +31,7 @@ pub record IsTableFor (step limit : ℕ) (events : List Event) (table : List ℕ
 
 -- A new heap over the table, and all variables null.
 abbrev pub new_replay : Config → List ℕ → Replay
-new_replay config table = first_replay (region_for config table) config.seed config.quarantine
+new_replay config table = first_replay (layout_for config table) config.seed config.quarantine
 
 -- The results of the events on the tagged machine, one after the other.
 abbrev pub answers_on : Config → List ℕ → List Event → List HeapAnswer

@@ -22,10 +22,10 @@ module _ (heap : Heap) (sound : IsSoundHeap heap) (a : ℕ) (off : ℤ) (len : �
   mapped_is_tagged mapped (inl null) same =
       let at_null = subst (λ z. IsMapped (length heap.memory) (moved_by z off) len) null mapped in
       laws.moved_null off 0 (omega arith) (omega arith) (omega (arith, at_null.from))
-      (omega (arith, at_null.to, sound.long, sound.region.most))
+      (omega (arith, at_null.to, sound.long, sound.partition.most))
   mapped_is_tagged mapped (inr tagged) same =
       tagged (sym (laws.moved_tag a off 0 (omega arith) (omega arith) (omega (arith, mapped.from))
-      (omega (arith, mapped.to, sound.long, sound.region.most))) ∙ same)
+      (omega (arith, mapped.to, sound.long, sound.partition.most))) ∙ same)
 
   pub tagged_or_not_mapped : (a ≡ 0) ⊎ (logical_tag a ≢ 0) →
       (logical_tag (moved_by a off) ≢ 0) ⊎ IsFalse (is_mapped (length heap.memory) (moved_by a off) len)

@@ -19,13 +19,13 @@ replay_is stored i = ap (λ (s : Stored). s.replay) i.stored_is
 pub sound_heap : (stored : Stored) → IsStored stored → IsSoundHeap stored.replay.heap
 sound_heap stored i =
     subst (λ (r : Replay). IsSoundHeap r.heap) (laws.stored_part i.layout i.seed i.quarantine i.events ∙ sym (replay_is stored i))
-    (laws.run_is_sound i.layout i.seed i.quarantine i.events i.region).sound.heap
+    (laws.run_is_sound i.layout i.seed i.quarantine i.events i.partition).sound.heap
 
 pub null_or_tagged : (stored : Stored) → IsStored stored → AreNullOrTagged stored.replay.variables
 null_or_tagged stored i =
     subst (λ (r : Replay). AreNullOrTagged r.variables)
     (laws.stored_part i.layout i.seed i.quarantine i.events ∙ sym (replay_is stored i))
-    (laws.variables i.layout i.seed i.quarantine i.events i.region)
+    (laws.variables i.layout i.seed i.quarantine i.events i.partition)
 
 pub IsStored-after : (stored : Stored) (e : Event) → IsStored stored → IsStored (stored_after stored e)
 IsStored-after stored e i = record {
@@ -33,7 +33,7 @@ IsStored-after stored e i = record {
   seed = i.seed;
   quarantine = i.quarantine;
   events = i.events ++ e ∷ [];
-  region = i.region;
+  partition = i.partition;
   stored_is = ap (λ s. stored_after s e) i.stored_is ∙ sym (stored_of-push i.layout i.seed i.quarantine i.events e);
 }
 

@@ -39,7 +39,7 @@ pub record IsStored (stored : Stored) : Type 0 where
   pub seed : ℕ
   pub quarantine : ℕ
   pub events : List Event
-  pub region : IsPartition layout
+  pub partition : IsPartition layout
   pub stored_is : stored ≡ stored_of layout seed quarantine events
 
 -- ---- the laws

@@ -134,7 +134,7 @@ module _ {h : Heap} {p : Parts} (k : IsKept h p) (s n tag seed drawn : ℕ) (in_
       let here = state_here h s (Live n tag) (alive h s n tag seed drawn).memory h.total seed drawn (within_states k s in_range) in
       let long : length m1 ≡ h.layout.granules = sym (length-without_headers h.layout m1) ∙ ap length before.seen_is ∙ k.sound.long in
       let written : IsRewritten h.layout m1 (with_header m1 (slot_in h s).start own) s own (without_headers h.layout m1) =
-      written_header h.layout m1 s own is k.sound.region long in_range
+      written_header h.layout m1 s own is k.sound.partition long in_range
       (subst (λ x. FitsWords (header_from h.layout k.from s x 0)) here
       (header_fits (alive h s n tag seed drawn) k.from s 0 sound in_range (omega arith) fits)) in
       let seen = subst (IsRewritten h.layout m1 (with_header m1 (slot_in h s).start own) s own) before.seen_is written in

@@ -40,7 +40,7 @@ module _ (h : Heap) (sound : IsSoundHeap h) (counters : List ℕ) (f : AreFirstF
   lowest_none above =
       laws.none_fresh h (slice_index h.layout.classes number)
       (λ r in_range class.
-      let own = share_of_slot h.layout number r sound.region.table within in_range class in
+      let own = share_of_slot h.layout number r sound.partition.table within in_range class in
       f.given number r in_counters in_range class (omega (arith, own.to)))
 
   -- the lowest fresh slot is given out
@@ -92,5 +92,5 @@ module _ (h : Heap) (sound : IsSoundHeap h) (counters : List ℕ) (f : AreFirstF
       another n r other k class is =
           let own : (slot_in h s).class ≡ slice_index h.layout.classes number =
           ap (λ q. (slot_in h q).class) counter ∙ (counted (omega (arith, counter))).1 in
-          other (one_number 1 h.layout.classes n number sound.region.table (subst (λ m. n < m) f.long k) within
+          other (one_number 1 h.layout.classes n number sound.partition.table (subst (λ m. n < m) f.long k) within
           (sym class ∙ ap (λ q. (slot_in h q).class) is ∙ own))

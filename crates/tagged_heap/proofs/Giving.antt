@@ -183,7 +183,7 @@ module _ {h : Heap} {frees : ℕ} {p : Parts} {counters : List ℕ} (held : IsAt
       let found = sym t.given.class ∙ laws.class_by_number n h.layout.classes
       ∙ ap (λ o. option_and_then (slice_get h.layout.classes) o) numbered ∙ listed in
       let class : (slot_in h s).class ≡ slice_index h.layout.classes number = cc in
-      share_of_slot h.layout number s held.kept.sound.region.table within t.given.reusable.in_range class
+      share_of_slot h.layout number s held.kept.sound.partition.table within t.given.reusable.in_range class
 
   -- neither is there
   pub exhausted : {m1 : List Granule} {fronts' counters' : List ℕ} →

@@ -62,7 +62,7 @@ size_fits (Dead size tag mark) class room most = size_most size class room most
 module _ {h : Heap} {p : Parts} (k : IsKept h p) {g s : ℕ} (before : ℕ) (there : slot_over h.layout g ≡ Some s)
     (at : (slot_in h s).start + before ≡ g) where
   pub in_range : IsSlot h s
-  in_range = ((laws.covers 1 h.layout g s k.sound.region.table).0 there).0
+  in_range = ((laws.covers 1 h.layout g s k.sound.partition.table).0 there).0
 
   pub start_kind : before ≡ 0 → Header ≡ place_kind h g
   unfolding place_kind

@@ -29,13 +29,13 @@ use Rattle.tagged_heap.specs.HeapAtRest.{shown_heap, shown_states}
 -- a class has one of at most 32 numbers,
 pub class_few : (h : Heap) (s : ℕ) → IsSoundHeap h → IsSlot h s → class_number h.layout s < 32
 class_few h s sound in_range =
-    omega (arith, slice_get_within h.layout.classes _ _ (laws.class_number_is h.layout s in_range), sound.region.table.few)
+    omega (arith, slice_get_within h.layout.classes _ _ (laws.class_number_is h.layout s in_range), sound.partition.table.few)
 
 -- and at most 1024 granules
 pub class_most : (h : Heap) (s : ℕ) → IsSoundHeap h → IsSlot h s → (slot_in h s).class ≤ 1024
 class_most h s sound in_range =
     let found = laws.class_number_is h.layout s in_range in
-    let range = sound.region.table.in_range (class_number h.layout s) 0 (slice_get_within h.layout.classes _ _ found) in
+    let range = sound.partition.table.in_range (class_number h.layout s) 0 (slice_get_within h.layout.classes _ _ found) in
     omega (arith, get_or_from_slice_get h.layout.classes (class_number h.layout s) _ 0 found, range.1)
 
 pub size_most : (n class : ℕ) → chunk_granules n < class → class ≤ 1024 → n ≤ 16368

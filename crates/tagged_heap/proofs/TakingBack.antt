@@ -89,7 +89,7 @@ module _ {h : Heap} {frees : ℕ} {p : Parts} {counters : List ℕ} (held : IsAt
           let fits =
           subst (λ x. FitsWords (header_from h.layout k.from s x 0)) here
           (header_fits (freed h s n) k.from s 0 sound_after in_range (omega arith) total_after) in
-          let written = written_header h.layout p.memory s own k.memory_is k.sound.region (region_is k) in_range fits in
+          let written = written_header h.layout p.memory s own k.memory_is k.sound.partition (region_is k) in_range fits in
           let seen = subst (IsRewritten h.layout p.memory (with_header p.memory (slot_in h s).start own) s own) k.seen written in
           subst (λ x. IsRewritten h.layout p.memory x s own
           (tagged (payload_start (slot_in h s)) (chunk_granules n) (next_tag h s) h.memory))

@@ -11,7 +11,7 @@ pub next_out-requires-clause-linked : goal.next_out-requires-clause-linked
 next_out-requires-clause-linked c = let k = c.loop-slot.invariant c.requires.kept.0 c.requires.kept.1 in (k.queue, k.queued)
 
 pub list_released-requires-clause-partition : goal.list_released-requires-clause-partition
-list_released-requires-clause-partition c = (c.loop-slot.invariant c.requires.kept.0 c.requires.kept.1).sound.region
+list_released-requires-clause-partition c = (c.loop-slot.invariant c.requires.kept.0 c.requires.kept.1).sound.partition
 
 pub list_released-requires-clause-class : goal.list_released-requires-clause-class
 list_released-requires-clause-class c = can_be_listed (c.loop-slot.invariant c.requires.kept.0 c.requires.kept.1) c.in-Some.ensures.oldest

@@ -18,14 +18,14 @@ record IsCounted (c : After-len) : Type 0 where
 is_counted : (c : After-len) → IsCounted c
 is_counted c =
     let classes : c.deref.result.now ≡ c.args.self.now.classes =
-    c.deref.ensures.0 ∙ ap (λ (region : Partition). region.classes) c.self.view_is in
+    c.deref.ensures.0 ∙ ap (λ (layout : Partition). layout.classes) c.self.view_is in
     record {
       place = counted_place 1 c.args.self.now.classes c.args.n c.count_up_to-number.result
           (rw c.self.view_is at c.self.invariant.partition).table
           (rw (← classes) c.count_up_to-number.ensures.bound)
           (rw (← classes, ← c.div_ceil.ensures) c.count_up_to-number.ensures.below)
           (rw (← classes, ← c.div_ceil.ensures) c.count_up_to-number.ensures.above);
-      len = c.len.ensures.value ∙ ap (λ (region : Partition). length region.classes) c.self.view_is;
+      len = c.len.ensures.value ∙ ap (λ (layout : Partition). length layout.classes) c.self.view_is;
     }
 
 pub returns-then-number-len-clause-number : goal.returns-then-number-len-clause-number

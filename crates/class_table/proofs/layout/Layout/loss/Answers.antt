@@ -11,7 +11,7 @@ use Rattle.class_table.proofs.layout.Layout.loss.Goals as goal
 pub overflow_sub-result : goal.overflow_sub-result
 overflow_sub-result c =
     let classes : c.deref.result.now ≡ c.args.self.now.classes =
-    c.deref.ensures.0 ∙ ap (λ (region : Partition). region.classes) c.self.view_is in
+    c.deref.ensures.0 ∙ ap (λ (layout : Partition). layout.classes) c.self.view_is in
     let serving =
     (least_at 1 c.args.self.now.classes c.args.n c.in-Some.number (rw c.self.view_is at c.self.invariant.partition).table
     (sym c.in-Some.ensures.number)).1.serving in
@@ -20,7 +20,7 @@ overflow_sub-result c =
 pub returns-in-Some-clause-loss : goal.returns-in-Some-clause-loss
 returns-in-Some-clause-loss c =
     let classes : c.deref.result.now ≡ c.args.self.now.classes =
-    c.deref.ensures.0 ∙ ap (λ (region : Partition). region.classes) c.self.view_is in
+    c.deref.ensures.0 ∙ ap (λ (layout : Partition). layout.classes) c.self.view_is in
     let class =
     class_at_number c.args.n c.args.self.now.classes
     ∙ ap (option_and_then (slice_get c.args.self.now.classes)) (sym c.in-Some.ensures.number)

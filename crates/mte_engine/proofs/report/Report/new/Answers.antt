@@ -1,6 +1,6 @@
 use Rattle.std.proofs.Common.{◌++◌, arith, ap, ◌∙◌, List, ℕ}
 use Rattle.replay_core.specs.ReplayState.{Stored}
-use Rattle.mte_engine.specs.Replay.{region_for}
+use Rattle.mte_engine.specs.Replay.{layout_for}
 use Rattle.mte_engine.specs.ReportFrom.{report_from}
 use Rattle.mte_engine.proofs.Reporting.{first_events, whole_report}
 use Rattle.mte_engine.proofs.report.Report.new.Goals as goal
@@ -19,7 +19,7 @@ invariant_of-result c = record {
 pub returns : goal.returns
 returns c =
     let report =
-    whole_report (region_for c.args.config c.args.table.now) c.args.config.seed c.args.config.quarantine c.args.reader.events in
+    whole_report (layout_for c.args.config c.args.table.now) c.args.config.seed c.args.config.quarantine c.args.reader.events in
     let text = c.args.text.items in
     let events = c.args.reader.events in
     c.fill-is_whole.ensures.report

@@ -10,7 +10,7 @@ returns-clause-test c =
     let chunk = rw (← c.self.view_is) at c.requires in
     rw (← c.self.view_is)
     (c.eq.ensures ∙ stays_is (state_of c.self.inside) c.args.n (slot_of c.self.inside.layout c.args.chunk.slot) c.args.chunk.number _
-    c.class_number_for.result c.self.invariant.kept.sound.region.table chunk.number
+    c.class_number_for.result c.self.invariant.kept.sound.partition.table chunk.number
     c.class_number_for.ensures.ok c.class_number_for.ensures.err)
 
 pub returns-clause-room : goal.returns-clause-room
