@@ -1,5 +1,5 @@
 -- How a list is shown as a slot comes in front of it, or leaves it.
-use Rattle.std.proofs.Common.{◌≡◌, ◌⊎◌, ℕ, zero, suc, ◌+◌, ◌<◌, ◌≤◌, List, [], ◌∷◌, length, get_or, drop, refl, sym, ap, subst, inl, inr, ⊎_elim, arith}
+use Rattle.std.proofs.Common.{◌≡◌, ℕ, suc, ◌+◌, ◌<◌, ◌≤◌, List, [], ◌∷◌, length, drop, refl, sym, ap, subst, ⊎_elim, arith}
 use Rattle.std.specs.Prelude.{Contains}
 use Rattle.std.proofs.lemmas.Bool.Decides.{Decides-eqb}
 use Rattle.std.proofs.lemmas.Map.Made.{IsDistinct-from_AllPairs}
@@ -8,27 +8,18 @@ use Rattle.std.proofs.lemmas.Map.Views.{Contains-from_any}
 use Rattle.std.proofs.lemmas.Map.Steps.{length-le_from_distinct_below}
 use Rattle.heap_theory.specs.Links.{IsLinked}
 use Rattle.heap_theory.specs.Region.{Region, next_in, with_slot_link}
+use Rattle.heap_theory.proofs.ListSearch.{Contains-cases, Contains-tail}
 use Rattle.heap_theory.proofs.Linked.{IsLinked-same}
 pub use Rattle.heap_theory.proofs.Linked.{IsLinked-once as each_once, IsLinked-one as one_list}
 use Rattle.heap_theory.proofs.Regions.{as_many_headers, other_link}
 use Rattle.class_lists.specs.Lists.{ShowsList}
-
-first_or_after : (s : ℕ) (list : List ℕ) (r : ℕ) → Contains (s ∷ list) r → (s ≡ r) ⊎ Contains list r
-first_or_after s list r there = at there.0 there.1 there.2
-  where
-    at : (k : ℕ) → k < length (s ∷ list) → get_or (s ∷ list) k r ≡ r → (s ≡ r) ⊎ Contains list r
-    at zero within is = inl is
-    at (suc k) within is = inr (k, omega arith, is)
-
-after : (s : ℕ) (list : List ℕ) (r : ℕ) → Contains list r → Contains (s ∷ list) r
-after s list r there = (suc there.0, omega (arith, there.1), there.2)
 
 pub shown_pushed : (region : Region) (front s : ℕ) (list : List ℕ) → s < length region.headers →
     next_in region s ≡ front →
     ShowsList region front list → ShowsList region (s + 1) (s ∷ list)
 shown_pushed region front s list within link shown = record {
   linked = (omega arith, subst (λ n. IsLinked (next_in region) n list) (sym link) shown.linked);
-  slots = λ r there. ⊎_elim (λ same. subst (λ n. n < length region.headers) same within) (shown.slots r) (first_or_after s list r there);
+  slots = λ r there. ⊎_elim (λ same. subst (λ n. n < length region.headers) same within) (shown.slots r) (Contains-cases s list r there);
 }
 
 -- a list stays where the links of its slots stay,
@@ -61,7 +52,7 @@ shown_first region front s (r ∷ rest) is shown = let same : r ≡ s = omega (a
 -- and the link of that slot shows the rest
 pub shown_rest : (region : Region) (s : ℕ) (rest : List ℕ) → ShowsList region (s + 1) (s ∷ rest) →
     ShowsList region (next_in region s) rest
-shown_rest region s rest shown = record { linked = shown.linked.1; slots = λ r there. shown.slots r (after s rest r there) }
+shown_rest region s rest shown = record { linked = shown.linked.1; slots = λ r there. shown.slots r (Contains-tail s rest r there) }
 
 -- in which it isn't
 pub first_not_in_rest : (region : Region) (s : ℕ) (rest : List ℕ) → ShowsList region (s + 1) (s ∷ rest) →

@@ -2,7 +2,7 @@ ghost use Rattle.std.specs.Prelude.{◌≡◌, ◌<◌, ◌≤◌, IfOk};
 ghost use Rattle.class_tuner.specs.CallCounts.{most_calls};
 ghost use Rattle.class_tuner.specs.Tuned.{AreEvaluations, IsTuned};
 ghost use Rattle.potential_check.specs.Lists.{lists_of};
-ghost use Rattle.potential_check.specs.Sheets.{sheet_of};
+ghost use Rattle.potential_check.specs.SheetView.{sheet_of};
 ghost use Rattle.potential_check.specs.Spanned.{IsSpanned};
 ghost use Rattle.tuner_theory.specs.Rows.{IsFilled};
 ghost use Rattle.tuner_theory.specs.Spans.{places, span_waste};

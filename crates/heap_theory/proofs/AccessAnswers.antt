@@ -15,7 +15,7 @@ use Rattle.heap_theory.specs.declared.event.Event.TheVariants.{Load, Store}
 use Rattle.heap_theory.specs.declared.place_kind.PlaceKind.{PlaceKind}
 use Rattle.heap_theory.specs.AccessLaws.{IsAnswerTo, LoadIsAnswered, StoreIsAnswered, StoreIsDone, AllAccessesAreAnswered}
 use Rattle.heap_theory.specs.Hardening.{IsFaultAnswer}
-use Rattle.heap_theory.specs.PlaceKinds.{place_kind}
+use Rattle.heap_theory.specs.GranuleKinds.{place_kind}
 use Rattle.heap_theory.specs.Replay.{Replay, Answer, variable, store_with, store_step, heap_after, replay_after, access_answer, answer_of, answers, replay_of}
 use Rattle.heap_theory.specs.Replay.Answer.{Silent, Loaded, NotMapped, TagFault, NoPointer, NotFreed}
 use Rattle.heap_theory.specs.State.{Heap}

@@ -9,7 +9,7 @@ use Rattle.class_table.specs.Layout.{slots_of_classes, slots_of, slot_over}
 use Rattle.heap_theory.specs.declared.event.Event.{Event}
 use Rattle.heap_theory.specs.Calls.{given_out, freed, resized, with_payload, moved, malloc_step, calloc_step, free_step, realloc_step}
 use Rattle.heap_theory.specs.Lookups.{slot_for, slot_for_request, chunk_at}
-use Rattle.heap_theory.specs.PlaceKinds.{place_kind}
+use Rattle.heap_theory.specs.GranuleKinds.{place_kind}
 use Rattle.heap_theory.specs.Replay.{Answer, store_step, heap_after, variables_after, replay_after, answer_of, first_replay, answers, replay_of}
 use Rattle.heap_theory.specs.State.{Heap, first_memory, first_heap}
 use Rattle.heap_theory.specs.Totals.{Totals, totals_of}

@@ -1,10 +1,11 @@
 -- A new heap is sound.
-use Rattle.std.proofs.Common.{◌≡◌, ◌≢◌, ℕ, ◌<◌, ◌≤◌, List, length, get_or, replicate, cond, refl, sym, ap, ◌∙◌, subst, ⊎_elim, arith}
+use Rattle.std.proofs.Common.{◌≡◌, ◌≢◌, ℕ, ◌<◌, ◌≤◌, length, get_or, replicate, cond, refl, sym, ap, ◌∙◌, subst, ⊎_elim, arith}
 use Rattle.std.proofs.lemmas.Bool.{cases_lt, cond_both}
 use Rattle.std.proofs.lemmas.List.{get_or-replicate, length-replicate, get_or_past}
 use Rattle.std.proofs.lemmas.List.FromFn.{get_or-map-range_with_len, length-map-range_with_len}
 use Rattle.machine_theory.specs.Memory.{Granule, no_granule, new_granule, tag_at}
 use Rattle.class_table.specs.Layout.{Partition, IsPartition, slot_count, slot_of, AreInOrder}
+use Rattle.machine_theory.proofs.MemoryLaws.{tag_at_past}
 use Rattle.heap_theory.specs.Sound.{IsTaggedSlot, IfDead, IsSoundHeap}
 use Rattle.heap_theory.specs.State.{is_header, first_memory, first_heap}
 use Rattle.heap_theory.specs.State.State.{Fresh}
@@ -14,9 +15,6 @@ unfolding first_memory
 length-first_memory layout = length-map-range_with_len (λ g. cond (is_header layout g) no_granule new_granule) 0 layout.granules
 
 -- past the end of a memory there is no tag
-pub tag_at-past : (memory : List Granule) (g : ℕ) → length memory ≤ g → tag_at memory g ≡ 0
-tag_at-past memory g past = ap (λ (granule : Granule). granule.tag) (get_or_past memory g no_granule past)
-
 tag_at-first_memory : (layout : Partition) (g : ℕ) → tag_at (first_memory layout) g ≡ 0
 unfolding first_memory
 tag_at-first_memory layout g = ⊎_elim
@@ -25,7 +23,7 @@ tag_at-first_memory layout g = ⊎_elim
     (get_or-map-range_with_len (λ g. cond (is_header layout g) no_granule new_granule) 0 layout.granules g g no_granule within
     (omega arith))
     ∙ cond_both (is_header layout g) no_granule new_granule (λ granule. granule.tag ≡ 0) (λ _. refl) (λ _. refl))
-    (λ past. tag_at-past (first_memory layout) g (subst (λ n. n ≤ g) (sym (length-first_memory layout)) past))
+    (λ past. tag_at_past (first_memory layout) g (subst (λ n. n ≤ g) (sym (length-first_memory layout)) past))
     (cases_lt g layout.granules)
 
 pub get_or-replicate_any : {A : Type 0} (n i : ℕ) (a : A) → get_or (replicate n a) i a ≡ a

@@ -9,7 +9,7 @@ use Rattle.heap_theory.specs.declared.place_kind.PlaceKind.{PlaceKind}
 use Rattle.heap_theory.specs.declared.place_kind.PlaceKind.TheVariants.{Slack, Header, Tail, Dead as DeadChunk, Other}
 use Rattle.heap_theory.specs.Hardening.{IsChunkGranule, IsPayloadGranule, IsLive, IsDead}
 use Rattle.heap_theory.specs.KindLaws.{IsOfItsKind, GranuleIsOfItsKind}
-use Rattle.heap_theory.specs.PlaceKinds.{kind_of_chunk, kind_in_slot, kind_at, place_kind}
+use Rattle.heap_theory.specs.GranuleKinds.{kind_of_chunk, kind_in_slot, kind_at, place_kind}
 use Rattle.heap_theory.specs.Sound.{IsSoundHeap}
 use Rattle.heap_theory.specs.State.{State, Heap, slot_in, state_at, chunk_of, payload_start, IsSlot}
 use Rattle.heap_theory.specs.State.State.{Fresh, Live, Dead}

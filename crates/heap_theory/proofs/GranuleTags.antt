@@ -7,7 +7,7 @@ use Rattle.class_table.specs.Layout.{Slot, Covers, slot_over}
 use Rattle.class_table.specs.LayoutLaws.{OneSlotCovers}
 use Rattle.heap_theory.specs.declared.place_kind.PlaceKind.TheVariants.{Header, Tail}
 use Rattle.heap_theory.specs.Hardening.{IsBookkeeping, IsChunkGranule, IsPayloadGranule, ChunksAreTagged, ParitiesDiffer}
-use Rattle.heap_theory.specs.PlaceKinds.{kind_of_chunk, kind_in_slot, kind_at, place_kind}
+use Rattle.heap_theory.specs.GranuleKinds.{kind_of_chunk, kind_in_slot, kind_at, place_kind}
 use Rattle.heap_theory.specs.Sound.{IsTagOf, IsChunkTag, IsTaggedSlot, IsSoundHeap}
 use Rattle.heap_theory.specs.State.{State, Heap, slot_in, state_at, chunk_of, payload_start}
 use Rattle.heap_theory.specs.State.State.{Fresh, Live, Dead}

@@ -43,7 +43,7 @@ header_of-words header fits =
     let next_is : first_word header / 2 ^ 32 ≡ header.next = omega arith in
     λ i. record { standing = standing_is i; size = size_is i; tag = tag_is i; class = class_is i; next = next_is i; mark = header.mark }
 
-code_of-standing_of : (code : ℕ) → code < 4 → code_of (standing_of code) ≡ code
+pub code_of-standing_of : (code : ℕ) → code < 4 → code_of (standing_of code) ≡ code
 code_of-standing_of zero below = refl
 code_of-standing_of (suc zero) below = refl
 code_of-standing_of (suc (suc zero)) below = refl

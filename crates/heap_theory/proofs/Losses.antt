@@ -2,7 +2,7 @@
 use Rattle.std.proofs.Common.{◌≡◌, ℕ, ◌+◌, ◌<◌, ◌≤◌, Bool, true, false, cond, List, [], ◌∷◌, refl, sym, ap, ◌∙◌, subst, arith, Result, Ok, Err, Option, Some, None}
 use Rattle.std.specs.List.{AllByRecursion as ByRecursion, cons_option}
 use Rattle.std.specs.Option.{ok_or}
-use Rattle.std.specs.Prelude.{◌==◌, ◌&&◌, nat_le, nat_lt, is_some, filter, zip, count_by, IsSome}
+use Rattle.std.specs.Prelude.{◌==◌, ◌&&◌, nat_le, nat_lt, is_some, zip, count_by, IsSome}
 use Rattle.std.proofs.lemmas.Bool.{true≢false, false≢true, cond_both, ltb-false, ltb-true, le-leb, leb-false, lt-leb}
 use Rattle.std.proofs.lemmas.List.Elements.{recursion_from_All}
 use Rattle.std.proofs.lemmas.List.Sums.{sum_by-cons}
@@ -10,7 +10,7 @@ use Rattle.machine_theory.specs.declared.fault.Fault.{Fault}
 use Rattle.machine_theory.specs.declared.fault.Fault.TheVariants.{Unmapped, Alignment, TagCheck}
 use Rattle.machine_theory.specs.Access.{access_fault}
 use Rattle.machine_theory.specs.Address.{moved_by}
-use Rattle.class_table.specs.Sizes.{largest_counted}
+use Rattle.class_table.specs.Sizes.{counted_of, largest_counted}
 use Rattle.class_table.specs.Tables.{class_for, loss_of_size}
 use Rattle.heap_theory.specs.declared.event.Event.{Event}
 use Rattle.heap_theory.specs.declared.event.Event.TheVariants.{Malloc, Calloc, Realloc, Free, Load, Store, Addg, Subg}
@@ -186,32 +186,29 @@ event_loses r (Subg v w u6 u4) has = nothing_lost _ Silent refl
 -- ---- every run
 
 -- of some sizes, those that a class may serve
-abbrev counted : List ℕ → List ℕ
-counted sizes = filter (λ n. nat_le n largest_counted) sizes
-
 -- each of some sizes has a class
 abbrev EachServed : List ℕ → List ℕ → Type 0
 EachServed classes sizes = ByRecursion (λ n. IsSome (class_for classes n)) sizes
 
 module _ (classes : List ℕ) where
   loss_of_one_more : (request : Option ℕ) (sizes : List ℕ) →
-      rounding_loss classes (counted (cons_option request sizes)) ≡ counted_loss classes request + rounding_loss classes (counted sizes)
+      rounding_loss classes (counted_of (cons_option request sizes)) ≡ counted_loss classes request + rounding_loss classes (counted_of sizes)
   loss_of_one_more None sizes = omega arith
   loss_of_one_more (Some n) sizes = passed (nat_le n largest_counted)
     where
       passed : (b : Bool) →
-          rounding_loss classes (cond b (n ∷ counted sizes) (counted sizes))
-          ≡ cond b (loss_of_size classes n) 0 + rounding_loss classes (counted sizes)
-      passed true = sum_by-cons (loss_of_size classes) n (counted sizes)
+          rounding_loss classes (cond b (n ∷ counted_of sizes) (counted_of sizes))
+          ≡ cond b (loss_of_size classes n) 0 + rounding_loss classes (counted_of sizes)
+      passed true = sum_by-cons (loss_of_size classes) n (counted_of sizes)
       passed false = omega arith
 
-  one_more_served : (request : Option ℕ) (sizes : List ℕ) → EachServed classes (counted (cons_option request sizes)) →
-      IsServed classes request × EachServed classes (counted sizes)
+  one_more_served : (request : Option ℕ) (sizes : List ℕ) → EachServed classes (counted_of (cons_option request sizes)) →
+      IsServed classes request × EachServed classes (counted_of sizes)
   one_more_served None sizes each = (tt, each)
   one_more_served (Some n) sizes each = passed (nat_le n largest_counted) refl each
     where
-      passed : (b : Bool) → nat_le n largest_counted ≡ b → EachServed classes (cond b (n ∷ counted sizes) (counted sizes)) →
-          IsServed classes (Some n) × EachServed classes (counted sizes)
+      passed : (b : Bool) → nat_le n largest_counted ≡ b → EachServed classes (cond b (n ∷ counted_of sizes) (counted_of sizes)) →
+          IsServed classes (Some n) × EachServed classes (counted_of sizes)
       passed true is each = (λ small. each.0, each.1)
       passed false is each = (λ small. absurd (omega (arith, leb-false n largest_counted is)), each)
 

@@ -183,10 +183,10 @@ not_listed h queue lists s b alive number inside there =
     let l = list_dead h _ b.from (list_of lists number) s (b.agree.freed number inside) there in
     not_marked (state_at h s) l.mark alive l.marked
 
-alive_fresh : (x : State) → is_fresh x ≡ true → is_dead x ≡ false
-alive_fresh Fresh fresh = refl
-alive_fresh (Live n t) fresh = refl
-alive_fresh (Dead n t m) fresh = cc
+pub fresh_not_dead : (x : State) → is_fresh x ≡ true → is_dead x ≡ false
+fresh_not_dead Fresh fresh = refl
+fresh_not_dead (Live n t) fresh = refl
+fresh_not_dead (Dead n t m) fresh = cc
 
 -- ---- the changes that calls make
 
@@ -206,9 +206,9 @@ pub agree_fresh : (h : Heap) (queue : List ℕ) (lists : List (List ℕ)) (s n :
 unfolding given_out changed
 agree_fresh h queue lists s n sound b in_range fresh =
     made_live h s (Live n (next_tag h s)) _ h.total _ _ (in_states h s sound in_range) queue lists lists refl refl b
-    (not_queued h b.from queue s b.agree.chain (alive_fresh (state_at h s) fresh))
+    (not_queued h b.from queue s b.agree.chain (fresh_not_dead (state_at h s) fresh))
     refl
-    (not_listed h queue lists s b (alive_fresh (state_at h s) fresh))
+    (not_listed h queue lists s b (fresh_not_dead (state_at h s) fresh))
     (λ number class bound inside f. f) (λ number r not there. there)
 
 pub agree_resized : (h : Heap) (queue : List ℕ) (lists : List (List ℕ)) (s n m t : ℕ) → IsSoundHeap h → AgreeWithMarks h queue lists →

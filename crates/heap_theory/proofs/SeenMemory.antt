@@ -8,11 +8,11 @@ use Rattle.std.proofs.lemmas.List.FromFn.{fill_by_all}
 use Rattle.machine_theory.specs.Access.{access_fault}
 use Rattle.machine_theory.specs.Address.{logical_tag, Touches}
 use Rattle.machine_theory.specs.Memory.{Granule, no_granule, new_granule, granule_at, tag_at, each_granule, is_among, tagged, byte_at, byte_after, bytes_after, written, IsMemory}
+use Rattle.machine_theory.proofs.MemoryLaws.{tag_at_past}
 use Rattle.class_table.specs.Layout.{Partition, Slot, no_slot, slots_of}
 use Rattle.heap_theory.proofs.TheoryLemmas as laws
 use Rattle.heap_theory.specs.Sound.{IsSoundHeap}
 use Rattle.heap_theory.specs.State.{Heap, slot_in, is_header, without_headers, first_memory}
-use Rattle.heap_theory.proofs.FirstHeap.{tag_at-past}
 
 -- what becomes of a granule
 abbrev hidden : Partition → ℕ → Granule → Granule
@@ -60,8 +60,8 @@ module _ (layout : Partition) where
         ∙ cond_both (is_header layout g) (record (granule_at memory g) { bytes = [] }) (granule_at memory g) (λ x. x.tag ≡ tag_at memory g)
         (λ _. refl) (λ _. refl)
     | inr past ↦
-        tag_at-past (each_granule (hidden layout) memory) g (subst (λ n. n ≤ g) (sym (laws.each_length _ memory)) past)
-        ∙ sym (tag_at-past memory g past)
+        tag_at_past (each_granule (hidden layout) memory) g (subst (λ n. n ≤ g) (sym (laws.each_length _ memory)) past)
+        ∙ sym (tag_at_past memory g past)
   ]
 
   pub access_fault-without_headers : (memory : List Granule) (address len : ℕ) →

@@ -6,7 +6,7 @@ use Rattle.machine_theory.specs.Memory.{tag_at}
 use Rattle.heap_theory.specs.declared.event.Event.{Event}
 use Rattle.heap_theory.specs.declared.event.Event.TheVariants.{Load, Store}
 use Rattle.heap_theory.specs.declared.place_kind.PlaceKind.{PlaceKind}
-use Rattle.heap_theory.specs.PlaceKinds.{place_kind}
+use Rattle.heap_theory.specs.GranuleKinds.{place_kind}
 use Rattle.heap_theory.specs.Replay.{Replay, Answer, variable, heap_after, answer_of, answers, replay_of}
 use Rattle.heap_theory.specs.Replay.Answer.{Silent, Loaded, NotMapped, TagFault}
 use Rattle.heap_theory.specs.State.{Heap}

@@ -3,7 +3,7 @@ use Rattle.std.specs.Prelude.{◌≡◌, ◌↔◌, ℕ}
 use Rattle.class_table.specs.Layout.{Covers}
 use Rattle.heap_theory.specs.declared.place_kind.PlaceKind.TheVariants.{Slack, Header, Tail, Dead as DeadChunk, Other}
 use Rattle.heap_theory.specs.Hardening.{IsChunkGranule, IsPayloadGranule, IsLive, IsDead}
-use Rattle.heap_theory.specs.PlaceKinds.{place_kind}
+use Rattle.heap_theory.specs.GranuleKinds.{place_kind}
 use Rattle.heap_theory.specs.Sound.{IsSoundHeap}
 use Rattle.heap_theory.specs.State.{Heap, slot_in, state_at, IsSlot}
 

@@ -1,5 +1,6 @@
 pub mod AccessLaws
 pub mod Calls
+pub mod GranuleKinds
 pub mod Hardening
 pub mod Header
 pub mod HeaderLaws
@@ -10,7 +11,6 @@ pub mod Links
 pub mod Lookups
 pub mod Losses
 pub mod OwnPointers
-pub mod PlaceKinds
 pub mod QueueAndLists
 pub mod Ranges
 pub mod Region

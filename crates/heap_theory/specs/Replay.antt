@@ -15,7 +15,7 @@ use Rattle.heap_theory.specs.declared.refusal.ReallocError.{ReallocError}
 use Rattle.heap_theory.specs.declared.refusal.ReallocError.TheVariants.{Null, Refused}
 use Rattle.heap_theory.specs.declared.place_kind.PlaceKind.{PlaceKind}
 use Rattle.heap_theory.specs.Calls.{malloc_step, calloc_step, free_step, realloc_step}
-use Rattle.heap_theory.specs.PlaceKinds.{place_kind}
+use Rattle.heap_theory.specs.GranuleKinds.{place_kind}
 use Rattle.heap_theory.specs.State.{Heap, first_heap}
 use Rattle.heap_theory.specs.declared.event.TheConstants.Event.{LAST_VARIABLE}
 

@@ -4,6 +4,7 @@ use Rattle.line_text.specs.Laws.{TextLaws, CutLinesAreRead, FullLinesAreRead, He
 use Rattle.line_text.proofs.Cuts.{All-lines, All-words, IsLine-line_of, IsTextOf-lines, line_of-words, lines-ended, words-line_of}
 use Rattle.line_text.proofs.Digits.{decimal-number_of, decimal_is_a_word, number_of-decimal}
 use Rattle.line_text.proofs.FullLines.{full_lines-read, lines-cut, lines-written}
+pub use Rattle.line_text.proofs.LeadingDigits.{short_is_number}
 use Rattle.line_text.proofs.HexDigits.{hex-hex_of, hex_of-hex}
 use Rattle.line_text.proofs.Signs.{signed_decimal-signed_of, signed_decimal_is_a_word, signed_of-signed_decimal}
 

@@ -118,7 +118,8 @@ leading_of_window text (Some found) read =
       read.2,
     )
 
-short_is_number : (word : List ℕ) (n : ℕ) → short_number_of word ≡ Some n → number_of word ≡ Some n
+-- a number of few bytes is a number
+pub short_is_number : (word : List ℕ) (n : ℕ) → short_number_of word ≡ Some n → number_of word ≡ Some n
 short_is_number word n is = elim (cases_Bool (leb (length word) 19)) [
   | inl few ↦ rw few at is
   | inr many ↦ let none = rw many at is in absurd cc

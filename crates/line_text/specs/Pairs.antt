@@ -1,5 +1,5 @@
 -- A line of two numbers.
-use Rattle.std.specs.Prelude.{ℕ, List, [], ◌∷◌, Option, Some, None, option_and_then}
+use Rattle.std.specs.Prelude.{ℕ, List, [], ◌∷◌, Option, None, option_and_then}
 use Rattle.std.specs.Option.{option_map}
 use Rattle.line_text.specs.Numbers.{short_number_of}
 

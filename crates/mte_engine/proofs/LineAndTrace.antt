@@ -9,6 +9,7 @@ use Rattle.class_table.specs.declared.fault.TableError.TheVariants.{BadLine}
 use Rattle.tagged_heap.specs.declared.heap.Config.{Config}
 use Rattle.trace_reader.specs.Reading.{Reading, finished, whole_reading}
 use Rattle.trace_reader.specs.TraceText.{trace_of}
+use Rattle.trace_reader.proofs.LawLemmas.{one_piece_is_the_text}
 use Rattle.mte_engine.specs.Outcome.{GivesFault}
 use Rattle.mte_engine.specs.Parts.{GivesPart, table_part}
 use Rattle.mte_engine.specs.Replay.{ReplayAnswers, replay_answer, report_on}
@@ -17,7 +18,7 @@ use Rattle.mte_engine.specs.declared.engine.Status.TheVariants.{Done}
 use Rattle.mte_engine.specs.declared.fault.AnswerError.{AnswerError}
 use Rattle.mte_engine.specs.declared.fault.AnswerError.TheVariants.{OutOfMemory, Input}
 use Rattle.mte_engine.specs.declared.fault.InputFault.TheVariants.{Table}
-use Rattle.mte_engine.proofs.TracePieces.{finished_whole, nothing_fed, trace_ends, trace_refused}
+use Rattle.mte_engine.proofs.TracePieces.{nothing_fed, trace_ends, trace_refused}
 
 -- an input of no bytes has no class line
 pub no_class_line : (config : Config) (has_ended : Bool) (line : List ℕ) (reading : Reading) (bytes : List ℕ) →
@@ -47,7 +48,7 @@ module _ (config : Config) (bytes line trace : List ℕ) (reading : Reading) (is
 
   module _ (table : List ℕ) (read : table_part (table_of_line line) ≡ Ok table) where
     finished_is : finished reading ≡ whole_reading (trace_of trace)
-    finished_is = ap finished is.keeps ∙ finished_whole trace
+    finished_is = ap finished is.keeps ∙ one_piece_is_the_text trace
 
     pub replay_refused : (error : AnswerError) → HasEnded 1 (finished reading).state (Err error) →
         GivesFault (ReplayAnswers config bytes) error

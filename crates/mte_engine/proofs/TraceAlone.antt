@@ -5,6 +5,7 @@ use Rattle.potential_check.specs.SheetText.{sheet_text}
 use Rattle.tagged_heap.specs.declared.heap.Config.{Config}
 use Rattle.trace_reader.specs.Reading.{Reading, finished, whole_reading}
 use Rattle.trace_reader.specs.TraceText.{trace_of}
+use Rattle.trace_reader.proofs.LawLemmas.{one_piece_is_the_text}
 use Rattle.tuner_theory.specs.Sheets.{Sheet}
 use Rattle.tuner_theory.specs.Waste.{Profile as Counted}
 use Rattle.mte_engine.specs.Outcome.{GivesFault}
@@ -15,12 +16,12 @@ use Rattle.mte_engine.specs.declared.engine.Status.TheVariants.{Done}
 use Rattle.mte_engine.specs.declared.fault.AnswerError.{AnswerError}
 use Rattle.mte_engine.specs.declared.fault.AnswerError.TheVariants.{OutOfMemory, Input}
 use Rattle.mte_engine.proofs.Headline.{headline}
-use Rattle.mte_engine.proofs.TracePieces.{finished_whole, trace_ends, trace_refused}
+use Rattle.mte_engine.proofs.TracePieces.{trace_ends, trace_refused}
 
 module _ (limit step : ℕ) (config : Config) (reading : Reading) (bytes : List ℕ)
     (keeps : KeepsEvents reading bytes) where
   finished_is : finished reading ≡ whole_reading (trace_of bytes)
-  finished_is = ap finished keeps ∙ finished_whole bytes
+  finished_is = ap finished keeps ∙ one_piece_is_the_text bytes
 
   pub run_refused : (error : AnswerError) → HasEnded 0 (finished reading).state (Err error) →
       GivesFault (RunAnswers limit step config bytes) error

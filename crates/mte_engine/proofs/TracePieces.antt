@@ -15,7 +15,7 @@ use Rattle.trace_reader.specs.TraceText.{Trace, trace_from, trace_of}
 use Rattle.trace_reader.specs.declared.fault.TraceError.TheVariants.{Line}
 use Rattle.trace_reader.specs.declared.fault.TraceFault.{TraceFault}
 use Rattle.trace_reader.proofs.LawLemmas.{events_are_few, fed_after_events, finished_after_events}
-use Rattle.trace_reader.proofs.LawLemmas.{pieces_are_joined, pieces_are_the_text, pieces_have_few_events}
+use Rattle.trace_reader.proofs.LawLemmas.{one_piece_is_the_text, pieces_are_joined, pieces_have_few_events}
 use Rattle.tuner_theory.specs.Waste.{Profile as Counted}
 use Rattle.mte_engine.specs.Outcome.{GivesFault}
 use Rattle.mte_engine.specs.Profile.{ProfileAnswers, profile_answer}
@@ -98,10 +98,6 @@ trace_refused lines trace state refused is (number, fault, failed, same) =
     rw (the_fault trace.fault number fault (sym is ∙ failed), same) refl
 
 module _ (bytes : List ℕ) where
-  -- all events wait
-  pub finished_whole : finished (fed nothing_read bytes) ≡ whole_reading (trace_of bytes)
-  finished_whole = pieces_are_the_text (bytes ∷ []) ∙ ap (λ (t : List ℕ). whole_reading (trace_of t)) (append-nil bytes)
-
   -- the events of the pieces were taken out
   abbrev left : Reading
   left = record { events = []; state = (fed nothing_read bytes).state }
@@ -111,7 +107,7 @@ module _ (bytes : List ℕ) where
       let read = fed nothing_read bytes in
       let same : read ≡ added read.events left =
       ap (λ (e : List Event). record { events = e; state = read.state }) (sym (append-nil read.events)) in
-      sym (finished_after_events read.events left) ∙ ap finished (sym same) ∙ finished_whole
+      sym (finished_after_events read.events left) ∙ ap finished (sym same) ∙ one_piece_is_the_text bytes
 
   -- ---- the answer of `profile`
 

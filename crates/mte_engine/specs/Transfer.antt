@@ -4,7 +4,7 @@ use Rattle.std.specs.Io.KnownBytes.{Appends, Consumes, IsAtEnd}
 use Rattle.mte_engine.specs.Streams.{SinkState, SourceState}
 use Rattle.mte_engine.specs.declared.fault.ReadError.{ReadError}
 use Rattle.mte_engine.specs.declared.fault.ReadError.TheVariants.{OutOfMemory, TooLong, Failed}
-use Rattle.mte_engine.specs.declared.streams.Failure.{Failure}
+use Rattle.mte_engine.specs.declared.byte_streams.Failure.{Failure}
 use Rattle.mte_engine.specs.declared.transfer.TheConstants.{MOST_INPUT}
 
 -- The most bytes of an input.

@@ -6,7 +6,7 @@ ghost use Rattle.mte_engine.specs.declared.fault.AnswerError.TheVariants.{OutOfM
 ghost use Rattle.mte_engine.specs.declared.fault.ReadError.TheVariants.{OutOfMemory as NoMemoryToRead};
 ghost use Rattle.mte_engine.specs.declared.fault.ToolFault.TheVariants.{OutOfMemory, WriteFault};
 
-use crate::streams::Failure;
+use crate::byte_streams::Failure;
 use class_table::TableError;
 use profile_count::ProfileFault;
 use std::alloc::{AllocError, AllocFailed};

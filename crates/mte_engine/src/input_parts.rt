@@ -4,7 +4,7 @@ ghost use Rattle.line_text.specs.Lines.{lines};
 ghost use Rattle.class_table.specs.ClassLine.{table_of_line};
 ghost use Rattle.profile_count.specs.ProfileText.{profile_of};
 ghost use Rattle.potential_check.specs.Leading.{leading_lines, lines_after};
-ghost use Rattle.potential_check.specs.Sheets.{sheet_of};
+ghost use Rattle.potential_check.specs.SheetView.{sheet_of};
 ghost use Rattle.potential_check.specs.SheetText.{sheet_of_lines};
 ghost use Rattle.tuner_theory.specs.Sheets.{Sheet};
 ghost use Rattle.mte_engine.specs.Parts.{GivesPart, table_part, sheet_part, profile_part};

@@ -4,6 +4,7 @@
 //! when a write fails. In every case they say which fault comes, and that the sink is unchanged unless a write failed.
 #![tactic(auto)]
 
+mod byte_streams;
 mod checking;
 mod engine;
 mod fault;
@@ -18,21 +19,20 @@ mod replaying;
 mod report;
 mod running;
 mod scoring;
-mod streams;
 mod trace_counting;
 mod trace_feeding;
 mod transfer;
 mod tuning;
 
+pub use byte_streams::{ByteSink, ByteSource, Failure};
 pub use checking::check;
 pub use engine::Status;
 pub use fault::{InputFault, ToolFault};
 pub use memory_streams::{MemorySink, MemorySource};
 pub use profiling::profile;
-pub use replaying::replay;
 pub use read_write_streams::{StreamSink, StreamSource};
+pub use replaying::replay;
 pub use running::run;
 pub use scoring::score;
-pub use streams::{ByteSink, ByteSource, Failure};
 pub use transfer::MOST_INPUT;
 pub use tuning::tune;

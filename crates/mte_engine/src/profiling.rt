@@ -6,11 +6,11 @@ ghost use Rattle.mte_engine.specs.Traces.{KeepsCounts};
 ghost use Rattle.std.specs.Prelude.{◌≡◌, List, ℕ, false};
 ghost use Rattle.trace_reader.specs.Reading.{is_finished};
 
+use crate::byte_streams::{ByteSink, ByteSource};
 use crate::engine::{Engine, Status, run_engine};
 use crate::fault::{AnswerError, ToolFault};
 use crate::input::Input;
 use crate::output::Text;
-use crate::streams::{ByteSink, ByteSource};
 use crate::trace_counting::count_out;
 use crate::trace_feeding::{end, feed};
 use profile_count::Profile;

@@ -7,12 +7,12 @@ ghost use Rattle.mte_engine.specs.Traces.{IsLineAndTrace, KeepsLineAndEvents};
 ghost use Rattle.std.specs.Prelude.{◌≡◌, List, ℕ, false};
 ghost use Rattle.trace_reader.specs.Reading.{is_finished};
 
+use crate::byte_streams::{ByteSink, ByteSource};
 use crate::engine::{Engine, Status, run_engine};
 use crate::fault::{AnswerError, InputFault, ToolFault};
 use crate::input::Input;
 use crate::input_parts::read_table;
 use crate::report::Report;
-use crate::streams::{ByteSink, ByteSource};
 use crate::trace_feeding::{end, feed};
 use class_table::TableError;
 use line_text::first_line;

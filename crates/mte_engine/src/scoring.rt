@@ -5,12 +5,12 @@ ghost use Rattle.mte_engine.specs.Outcome.{GivesAnswer, IsReady, Runs};
 ghost use Rattle.mte_engine.specs.Score.{ScoreAnswers, scored};
 ghost use Rattle.mte_engine.specs.TextLeft.{text_left};
 
+use crate::byte_streams::{ByteSink, ByteSource};
 use crate::engine::{Engine, Status, run_engine};
 use crate::fault::{AnswerError, InputFault, ToolFault};
 use crate::input::WholeText;
 use crate::input_parts::{read_profile, read_table};
 use crate::output::Text;
-use crate::streams::{ByteSink, ByteSource};
 use class_table::{ClassTable, TableError};
 use itoa::Buffer;
 use line_text::lines_in;

@@ -2,10 +2,10 @@
 ghost use Rattle.std.specs.Prelude.{◌≡◌, ◌^◌, ◌<◌, [], IfOk, vec_len};
 ghost use Rattle.mte_engine.specs.Transfer.{HasRead, HasWritten, IsReadFewTimes};
 
+use crate::byte_streams::{ByteSink, ByteSource, Failure};
 use crate::fault::ReadError;
 use crate::input::Input;
 use crate::output::Output;
-use crate::streams::{ByteSink, ByteSource, Failure};
 use std::alloc::{AllocError, Global};
 
 /// The most bytes of an input.

@@ -13,7 +13,8 @@ use Rattle.potential_check.specs.declared.fault.SheetError.TheVariants.{OutOfMem
 use Rattle.potential_check.specs.declared.leading_sheet.LeadingSheet.{LeadingSheet}
 use Rattle.potential_check.specs.declared.reading.Head.{Head}
 use Rattle.potential_check.specs.declared.sheet.Sheet.{Sheet as Held}
-use Rattle.potential_check.specs.Sheets.{sheet_of}
+use Rattle.potential_check.specs.SheetView.{sheet_of}
+use Rattle.potential_check.proofs.ReadIsSpelled.{head_and}
 use Rattle.tuner_theory.specs.Sheets.{Sheet}
 
 -- ---- rows
@@ -246,9 +247,6 @@ heading (a ∷ b ∷ c ∷ d ∷ xs) = go (is_named (codes "step") c) refl
     go true e = four a b c d xs e
 
 -- ---- the sheet
-
-abbrev head_and : Head → List (List ℕ) → Result (Head × List (List ℕ)) ℕ
-head_and head after = Ok (head, after)
 
 abbrev head_fault : ℕ → Result (Head × List (List ℕ)) ℕ
 head_fault number = Err number

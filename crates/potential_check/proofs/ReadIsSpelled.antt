@@ -132,7 +132,7 @@ record HeadParts (ls after : List (List ℕ)) (head : Head) : Type 0 where
   step : step_at after_limit ≡ Some (head.step, after_step)
   waste : line_at (waste_number head.step) waste_in after_step ≡ Ok (head.waste, after)
 
-abbrev head_and : Head → List (List ℕ) → Result (Head × List (List ℕ)) ℕ
+abbrev pub head_and : Head → List (List ℕ) → Result (Head × List (List ℕ)) ℕ
 head_and head after = Ok (head, after)
 
 head_read : (ls after : List (List ℕ)) (head : Head) → head_of_lines ls ≡ head_and head after → HeadParts ls after head

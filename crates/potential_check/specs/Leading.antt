@@ -2,7 +2,7 @@
 use Rattle.std.specs.Prelude.{◌≡◌, ◌≤◌, ℕ, ◌+◌, Bool, true, List, [], ◌++◌, length, take, drop, codes, slice_index_or, Result, Ok, Err}
 use Rattle.std.specs.List.{take_while}
 use Rattle.line_text.specs.Lines.{lines}
-use Rattle.potential_check.specs.Sheets.{sheet_of}
+use Rattle.potential_check.specs.SheetView.{sheet_of}
 use Rattle.potential_check.specs.SheetText.{head_lines, is_named, sheet_of_lines}
 use Rattle.potential_check.specs.declared.fault.SheetError.{SheetError}
 use Rattle.potential_check.specs.declared.fault.SheetError.TheVariants.{OutOfMemory, Line}

@@ -4,6 +4,6 @@ pub mod Leading
 pub mod Lists
 pub mod SheetOnCounts
 pub mod SheetText
-pub mod Sheets
+pub mod SheetView
 pub mod Spaced
 pub mod Spanned

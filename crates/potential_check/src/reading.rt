@@ -3,7 +3,7 @@ ghost use Rattle.std.specs.List.{take_while};
 ghost use Rattle.std.specs.Option.{option_map};
 ghost use Rattle.line_text.specs.Lines.{lines};
 ghost use Rattle.potential_check.specs.Leading.{GivesLeading, is_row_line};
-ghost use Rattle.potential_check.specs.Sheets.{sheet_of};
+ghost use Rattle.potential_check.specs.SheetView.{sheet_of};
 ghost use Rattle.potential_check.specs.SheetText.{Gives, IsNextNamed, IsWithinLimits, head_of_lines, is_named, rows_from, sheet_in, step_at, waste_number};
 
 use crate::fault::SheetError;

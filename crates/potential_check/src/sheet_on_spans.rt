@@ -3,7 +3,7 @@ ghost use Rattle.std.specs.Prelude.{◌≡◌, ◌↔◌, All, length, IfNone, I
 ghost use Rattle.std.specs.List.{AllAdjacentBelow};
 ghost use Rattle.potential_check.specs.RowConditions.{EdgesHold, StageDropHolds};
 ghost use Rattle.potential_check.specs.SheetOnCounts.{MeetsBefore};
-ghost use Rattle.potential_check.specs.Sheets.{sheet_of};
+ghost use Rattle.potential_check.specs.SheetView.{sheet_of};
 ghost use Rattle.tuner_theory.specs.Sheets.{IsVerdict, Meets};
 ghost use Rattle.tuner_theory.specs.Spans.{places};
 ghost use Rattle.tuner_theory.specs.declared.verdict.Refusal.TheVariants.{Edge, LastClass, NotTight, Shape, StageDrop};
@@ -26,7 +26,7 @@ pub(crate) struct SheetOnSpans<'a> {
 impl<'a> Model for SheetOnSpans<'a> {
     ghost use Rattle.std.specs.Prelude.{◌≡◌};
     ghost use Rattle.potential_check.specs.SheetOnCounts.{SheetOnCounts};
-    ghost use Rattle.potential_check.specs.Sheets.{sheet_of};
+    ghost use Rattle.potential_check.specs.SheetView.{sheet_of};
 
     ghost Value = { SheetOnCounts };
 

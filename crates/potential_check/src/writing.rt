@@ -2,7 +2,7 @@ ghost use Rattle.std.specs.Prelude.{◌≡◌, ◌≤◌, ◌++◌, length, map,
 ghost use Rattle.line_text.specs.Lines.{ended, text_of};
 ghost use Rattle.class_table.specs.ClassLine.{class_line};
 ghost use Rattle.profile_count.specs.Appended.{GoesOn};
-ghost use Rattle.potential_check.specs.Sheets.{sheet_of};
+ghost use Rattle.potential_check.specs.SheetView.{sheet_of};
 ghost use Rattle.potential_check.specs.SheetText.{named_line, sheet_text};
 ghost use Rattle.potential_check.specs.Spaced.{spaced};
 

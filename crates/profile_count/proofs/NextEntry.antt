@@ -1,20 +1,15 @@
 -- The entry of a line that was read as two numbers.
-use Rattle.std.proofs.Common.{◌≡◌, ℕ, false, leb, length, List, [], ◌∷◌, Option, Some, None, option_and_then, unwrap_or, slice_get, refl, sym, ap, ◌∙◌, codes, inl, inr}
+use Rattle.std.proofs.Common.{◌≡◌, ℕ, false, List, [], ◌∷◌, Option, Some, None, option_and_then, unwrap_or, slice_get, refl, sym, ap, ◌∙◌, codes}
 use Rattle.std.specs.Option.{option_map}
 use Rattle.std.specs.Str.{bytes_eq}
-use Rattle.std.proofs.lemmas.Bool.{cases_Bool, false_from_ne_true}
+use Rattle.std.proofs.lemmas.Bool.{false_from_ne_true}
 use Rattle.std.proofs.lemmas.Slice.Eq.{bytes_eq-Decides}
 use Rattle.line_text.specs.Lines.{words}
 use Rattle.line_text.specs.Numbers.{number_of, short_number_of}
 use Rattle.line_text.specs.Pairs.{short_pair_of}
+use Rattle.line_text.proofs.LawLemmas.{short_is_number}
 use Rattle.profile_count.specs.ProfileText.{entry_of, size_entry}
 use Rattle.profile_count.proofs.EntryLines.{large_is_no_number}
-
-short_is_number : (word : List ℕ) (n : ℕ) → short_number_of word ≡ Some n → number_of word ≡ Some n
-short_is_number word n is = elim (cases_Bool (leb (length word) 19)) [
-  | inl few ↦ rw few at is
-  | inr many ↦ let none = rw many at is in absurd cc
-]
 
 abbrev pair_is : ℕ → ℕ → Option (ℕ × ℕ) → Type 0
 pair_is m n read = Some (m, n) ≡ read

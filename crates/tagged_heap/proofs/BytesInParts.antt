@@ -5,8 +5,9 @@ use Rattle.std.specs.List.{range_with_len}
 use Rattle.std.specs.Prelude.{slice_index, nat_le, nat_lt}
 use Rattle.std.proofs.lemmas.Bool.{cases_Bool, and_parts, leb-true, ltb-true, cond-false}
 use Rattle.std.proofs.lemmas.List.{map-append, replicate-append-replicate}
-use Rattle.std.proofs.lemmas.List.FromFn.{fill_by_all, length-map-range_with_len}
+use Rattle.std.proofs.lemmas.List.FromFn.{fill_by_all}
 use Rattle.machine_theory.specs.Memory.{Granule, no_granule, granule_at, each_granule, is_among, byte_after, bytes_after, byte_at, bytes_at, written}
+use Rattle.machine_theory.proofs.ByteLaws.{length-bytes_at}
 
 none_among : (i j : ℕ) → is_among i 0 j ≡ false
 none_among i j = elim (cases_Bool (is_among i 0 j)) [
@@ -30,10 +31,6 @@ written-none i memory = sym (fill_by_all change memory (length memory) no_granul
 
     same : (g : ℕ) → g < length memory → get_or memory g no_granule ≡ change g
     same g within = λ j. record { tag = (granule_at memory g).tag; bytes = bytes_same g (granule_at memory g).bytes j }
-
-pub length-bytes_at : (memory : List Granule) (i len : ℕ) → length (bytes_at memory i len) ≡ len
-unfolding bytes_at
-length-bytes_at memory i len = length-map-range_with_len (λ j. byte_at memory j) i len
 
 pub bytes_at-none : (memory : List Granule) (i : ℕ) → bytes_at memory i 0 ≡ []
 unfolding bytes_at

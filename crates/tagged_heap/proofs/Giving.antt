@@ -16,7 +16,7 @@ use Rattle.heap_theory.specs.declared.refusal.NullCause.{NullCause}
 use Rattle.heap_theory.specs.declared.refusal.NullCause.TheVariants.{Large, NoClass, Exhausted}
 use Rattle.heap_theory.specs.QueueAndLists.{HasMark, AgreeWithMarks}
 use Rattle.heap_theory.specs.Calls.{given_out, next_tag, parity_exclude, chunk_tagged}
-use Rattle.heap_theory.specs.Lookups.{IsGiven, slot_for, slot_for_request, slot_in_class, lowest_fresh, is_dead}
+use Rattle.heap_theory.specs.Lookups.{IsGiven, slot_for, slot_for_request, slot_in_class, lowest_fresh}
 use Rattle.heap_theory.specs.Header.{Header, with_header}
 use Rattle.heap_theory.specs.Links.{IsLinked, list_of}
 use Rattle.heap_theory.specs.Region.{region_of, header_in, next_in}
@@ -25,6 +25,7 @@ use Rattle.heap_theory.specs.State.State.{Fresh, Live, Dead}
 use Rattle.heap_theory.proofs.ListSearch.{Contains-head}
 use Rattle.heap_theory.proofs.SeenMemory.{length-without_headers}
 use Rattle.chunk_header.specs.Links.{SetsLink}
+use Rattle.heap_theory.proofs.QueueAndLists.{fresh_not_dead}
 use Rattle.tagged_heap.proofs.TheoryLemmas as laws
 use Rattle.tagged_heap.specs.Chunks.{given_header, tag_for, HasRoom}
 use Rattle.tagged_heap.specs.ClassSlots.{IsCauseFor, HasClass, Takes}
@@ -75,11 +76,6 @@ freed_not_fresh : (x : State) (mark : ℕ) → HasMark x mark → false ≡ is_f
 freed_not_fresh Fresh mark marked = absurd marked
 freed_not_fresh (Live n t) mark marked = absurd marked
 freed_not_fresh (Dead n t m) mark marked = refl
-
-fresh_not_dead : (x : State) → is_fresh x ≡ true → is_dead x ≡ false
-fresh_not_dead Fresh fresh = refl
-fresh_not_dead (Live n t) fresh = refl
-fresh_not_dead (Dead n t m) fresh = cc
 
 -- A slot that was taken for a request of n bytes, and is to be given out.
 pub record IsTaken (h : Heap) (p : Parts) (k : IsKept h p) (m1 : List Granule) (fronts counters : List ℕ) (s n : ℕ) : Type 0 where

@@ -8,7 +8,7 @@ use Rattle.heap_theory.specs.declared.place_kind.PlaceKind.{PlaceKind}
 use Rattle.heap_theory.specs.declared.place_kind.PlaceKind.TheVariants.{Slack, Header, Tail, Dead as DeadChunk, Other}
 use Rattle.heap_theory.specs.Header.{Header as TheHeader, Standing, size_of}
 use Rattle.heap_theory.specs.Header.Standing.{Fresh as IsFresh, Live as IsLive, Quarantined as IsQuarantined, Freed as IsFreed}
-use Rattle.heap_theory.specs.PlaceKinds.{place_kind, kind_at, kind_of_chunk}
+use Rattle.heap_theory.specs.GranuleKinds.{place_kind, kind_at, kind_of_chunk}
 use Rattle.class_table.specs.Sizes.{chunk_granules}
 use Rattle.heap_theory.specs.State.{State, Heap, slot_in, state_at, chunk_of, payload_start, IsSlot}
 use Rattle.heap_theory.specs.State.State.{Fresh, Live, Dead}

@@ -1,6 +1,6 @@
 //! The calls that read and write the region, and that look at it.
 ghost use Rattle.heap_theory.specs.HeapInMemory.{HeaderWordsStay, IsKeptIn};
-ghost use Rattle.heap_theory.specs.PlaceKinds.{place_kind};
+ghost use Rattle.heap_theory.specs.GranuleKinds.{place_kind};
 ghost use Rattle.heap_theory.specs.Region.{region_of};
 ghost use Rattle.machine_theory.specs.Access.{IsMapped, access_fault, is_mapped, loaded, ok_unless, stored};
 ghost use Rattle.machine_theory.specs.Address.{logical_tag};

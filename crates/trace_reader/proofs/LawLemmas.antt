@@ -4,6 +4,7 @@ use Rattle.trace_reader.proofs.Cutting.{text_of-cut}
 use Rattle.trace_reader.proofs.Feeding.{fed-added, fed-append, finished-added}
 use Rattle.trace_reader.proofs.LineRanges.{few_events_of}
 use Rattle.trace_reader.proofs.Pieces.{few_in_pieces, in_pieces}
+pub use Rattle.trace_reader.proofs.Pieces.{whole_text as one_piece_is_the_text}
 use Rattle.trace_reader.proofs.Reaching.{IsFrontOf-fed, IsFrontOf-finished}
 use Rattle.trace_reader.proofs.TraceSpelling.{events_in_range, fault_is_after, one_trace, spelled-trace_of, trace_of-spelled}
 

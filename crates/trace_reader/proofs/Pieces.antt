@@ -49,7 +49,8 @@ at_end n c t None is = go (ltb 80 (length c.unfinished)) refl
     go true long = rw (too_long-trace n c.unfinished long) refl
     go false short = rw (last_line-trace n c.unfinished) refl
 
-whole_text : (text : List ℕ) → finished (fed nothing_read text) ≡ whole_reading (trace_of text)
+-- a text in one piece
+pub whole_text : (text : List ℕ) → finished (fed nothing_read text) ≡ whole_reading (trace_of text)
 unfolding fed finished
 whole_text text =
     let c = cut text in

@@ -1,5 +1,5 @@
 -- What the words of an event spell, read one after the other.
-use Rattle.std.proofs.Common.{◌≡◌, ℕ, ℤ, List, [], ◌∷◌, ◌++◌, append_assoc, refl, ap, ◌∙◌, false, Result, Ok, arith, length, ne_eqb, codes, nat_abs, ◌≤◌, Some, pos, sym, drop, slice_get, option_and_then, eqb, eqb-true, inl, inr, leb, to_z}
+use Rattle.std.proofs.Common.{◌≡◌, ℕ, ℤ, List, [], ◌∷◌, ◌++◌, append_assoc, refl, ap, ◌∙◌, false, Result, Ok, arith, length, ne_eqb, codes, nat_abs, ◌≤◌, Some, pos, sym, drop, slice_get, option_and_then, eqb, eqb-true, inl, inr, to_z}
 use Rattle.line_text.specs.Lines.{words}
 use Rattle.line_text.specs.Numbers.{number_of, short_number_of}
 use Rattle.std.proofs.lemmas.Bool.{cases_Bool}
@@ -7,6 +7,7 @@ use Rattle.std.proofs.Math.Facts.{to_z_pos}
 use Rattle.std.proofs.lemmas.Bool.Decides.{nat_tests}
 use Rattle.line_text.specs.Signed.{signed_of}
 use Rattle.line_text.specs.Hexadecimal.{hex_of}
+use Rattle.line_text.proofs.LawLemmas.{short_is_number}
 use Rattle.heap_theory.specs.declared.event.Event.{Event}
 use Rattle.heap_theory.specs.declared.event.Event.TheVariants.{Malloc, Calloc, Realloc, Free, Load, Store, Addg, Subg}
 use Rattle.std.specs.Int.{w32}
@@ -57,18 +58,12 @@ signed_is_number (b ∷ word) n e = elim (cases_Bool (eqb b 45)) [
   | inr other ↦ rw (other, e) refl
 ]
 
-short_is_number : (word : List ℕ) (n : ℕ) → Some n ≡ short_number_of word → number_of word ≡ Some n
-short_is_number word n e = elim (cases_Bool (leb (length word) 19)) [
-  | inl short ↦ sym (rw short at e)
-  | inr long ↦ let h = rw long at e in absurd cc
-]
-
 pub offset_without_sign : (ws left : List (List ℕ)) (n : ℕ) → Some n ≡ option_and_then short_number_of (slice_get ws 0) → left ≡ drop 1 ws →
     n ≤ 1048576
     → IsRead offset_of ws left (to_z w32 n)
 offset_without_sign [] left n e rest near = absurd cc
 offset_without_sign (word ∷ ws) left n e rest near =
-    let signed = signed_is_number word n (short_is_number word n e) in
+    let signed = signed_is_number word n (short_is_number word n (sym e)) in
     let whole : to_z w32 n ≡ pos n = to_z_pos w32 (omega (arith, near)) in
     record { word = word; words = rw rest refl; is = rw (signed, whole) (grind (arith, nat_tests, near)) }
 

@@ -1,5 +1,5 @@
 use Rattle.std.proofs.lemmas.Result.{err_from_is_err_and}
-use Rattle.potential_check.specs.Sheets.{sheet_of}
+use Rattle.potential_check.specs.SheetView.{sheet_of}
 use Rattle.mte_engine.proofs.SheetAndProfile.{both_read, profile_refused, sheet_refused}
 use Rattle.mte_engine.proofs.checking.check_text.Goals as goal
 

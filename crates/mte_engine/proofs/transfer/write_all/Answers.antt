@@ -1,5 +1,5 @@
 use Rattle.std.proofs.Common.{◌≡◌, ◌≤◌, ◌<◌, ◌++◌, length, take, ◌∙◌, arith}
-use Rattle.mte_engine.specs.declared.streams.Failure.{Failure}
+use Rattle.mte_engine.specs.declared.byte_streams.Failure.{Failure}
 use Rattle.mte_engine.proofs.Transfers.{appends_more, first_ready, no_failure, written_more}
 use Rattle.mte_engine.proofs.transfer.write_all.Goals as goal
 

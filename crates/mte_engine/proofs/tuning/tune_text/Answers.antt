@@ -1,5 +1,5 @@
 use Rattle.std.proofs.Common.{◌≡◌, ◌∙◌, ap, List, ℕ, ◌++◌}
-use Rattle.potential_check.specs.Sheets.{sheet_of}
+use Rattle.potential_check.specs.SheetView.{sheet_of}
 use Rattle.potential_check.specs.SheetText.{sheet_text}
 use Rattle.potential_check.specs.declared.sheet.Sheet.{Sheet}
 use Rattle.mte_engine.specs.TextLeft.{text_left}

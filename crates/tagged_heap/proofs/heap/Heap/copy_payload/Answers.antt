@@ -1,11 +1,11 @@
 use Rattle.std.proofs.Common.{◌*◌, List, ℕ, length, sym, ap, ◌∙◌, inl, inr, arith}
 use Rattle.std.proofs.lemmas.Bool.{cases_order}
 use Rattle.machine_theory.specs.Memory.{bytes_at}
+use Rattle.machine_theory.proofs.ByteLaws.{length-bytes_at}
 use Rattle.class_table.specs.Layout.{slot_of}
 use Rattle.heap_theory.specs.Calls.{with_payload}
 use Rattle.heap_theory.specs.State.{payload_start}
 use Rattle.tagged_heap.specs.HeapFields.{state_of}
-use Rattle.tagged_heap.proofs.BytesInParts.{length-bytes_at}
 use Rattle.tagged_heap.proofs.PayloadWritten.{HasPayload, payload_within, payload_seen, bytes_fit, payload_kept, payload_shown}
 use Rattle.tagged_heap.proofs.heap.Heap.copy_payload.Goals as goal
 use Rattle.tagged_heap.proofs.heap.Heap.copy_payload.Goals.{After-self-1}

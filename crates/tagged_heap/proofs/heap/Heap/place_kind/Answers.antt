@@ -2,7 +2,7 @@
 use Rattle.std.proofs.Common.{◌≡◌, ◌≢◌, ◌≤◌, sym, ap, ◌∙◌, inl, inr, arith}
 use Rattle.chunk_header.specs.HeaderView.{standing_seen, seen}
 use Rattle.heap_theory.specs.Header.{Header}
-use Rattle.heap_theory.specs.PlaceKinds.{place_kind}
+use Rattle.heap_theory.specs.GranuleKinds.{place_kind}
 use Rattle.class_table.specs.Sizes.{chunk_granules}
 use Rattle.heap_theory.specs.State.{IsSlot}
 use Rattle.tagged_heap.specs.HeapFields.{state_of}
