@@ -4,3 +4,4 @@ mod regions;
 mod replays;
 mod slots;
 mod support;
+mod traces;

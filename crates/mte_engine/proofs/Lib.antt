@@ -9,4 +9,4 @@ pub mod Reporting
 pub mod SheetAndProfile
 pub mod TableAndProfile
 pub mod TracePieces
-pub mod TraceAlone
+pub mod RunAnswers

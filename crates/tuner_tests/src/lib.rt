@@ -1,4 +1,4 @@
-//! Tests of lines, traces, profiles, sheets and the tuner: worked values, and each call once. The crate has tests alone.
+//! Tests of lines, profiles, sheets and the tuner: worked values, and each call once. The crate has tests alone.
 #![tactic(auto)]
 
 #[cfg(test)]

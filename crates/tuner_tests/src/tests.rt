@@ -2,5 +2,4 @@ mod evaluations;
 mod lines;
 mod sizes_and_profiles;
 mod support;
-mod traces;
 mod verdicts;

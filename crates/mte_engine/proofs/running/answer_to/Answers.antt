@@ -6,7 +6,7 @@ use Rattle.potential_check.specs.declared.sheet.Sheet.{Sheet}
 use Rattle.mte_engine.specs.Replay.{report_on}
 use Rattle.mte_engine.specs.ReportLeft.{report_left}
 use Rattle.mte_engine.specs.Traces.{profile_of_events}
-use Rattle.mte_engine.proofs.TraceAlone.{run_refused, run_written}
+use Rattle.mte_engine.proofs.RunAnswers.{run_refused, run_written}
 use Rattle.mte_engine.proofs.running.answer_to.Goals as goal
 
 pub returns-in_err-end : goal.returns-in_err-end
