@@ -3,23 +3,21 @@ use Rattle.std.specs.Prelude.{slice_index}
 use Rattle.std.specs.Int.{w64, to_le_bytes}
 use Rattle.std.proofs.Common.{◌≡◌, ℕ, ◌+◌, ◌-◌, ◌*◌, ◌/◌, ◌%◌, ◌<◌, List, length, get_or, false, ⊎_elim, refl, sym, ap, ◌∙◌, arith}
 use Rattle.std.proofs.lemmas.Bool.{cases_lt, cond-true, cond-false, and_from, and_left, and_right, le-leb, lt-ltb, lt-leb, le-ltb}
-use Rattle.std.proofs.lemmas.List.{get_or_past}
-use Rattle.std.proofs.lemmas.List.FromFn.{get_or-map-range_with_len, length-map-range_with_len, fill_by_all}
+use Rattle.std.proofs.lemmas.List.FromFn.{fill_by_all}
 use Rattle.std.proofs.lemmas.Nat.{le_bytes_8}
 use Rattle.machine_theory.specs.Memory as memory_words
 use Rattle.machine_theory.specs.Memory.{Granule, IsGranule, IsMemory, no_granule, granule_at, byte_at, bytes_at, word_at, is_among, written, byte_after, bytes_after}
+use Rattle.machine_theory.proofs.ByteLaws.{byte_below, bytes_at-below, get_or-bytes_at, length-bytes_at}
 
 module _ (memory : List Granule) (is : IsMemory memory) (i len : ℕ) where
   abbrev run : List ℕ
   run = bytes_at memory i len
 
   run_long : length run ≡ len
-  unfolding bytes_at
-  run_long = length-map-range_with_len (byte_at memory) i len
+  run_long = length-bytes_at memory i len
 
   run_byte : (k j : ℕ) → k < len → j ≡ i + k → get_or run k 0 ≡ byte_at memory j
-  unfolding bytes_at
-  run_byte k j inside at = get_or-map-range_with_len (byte_at memory) i len k (i + k) 0 inside refl ∙ ap (byte_at memory) (sym at)
+  run_byte k j inside at = get_or-bytes_at memory i len k inside ∙ ap (byte_at memory) (sym at)
 
   -- each byte of the run is written over itself
   same_byte : (j : ℕ) → byte_after i run j (byte_at memory j) ≡ byte_at memory j
@@ -62,21 +60,6 @@ pub word_written_over : (memory : List Granule) (i : ℕ) → IsMemory memory �
 unfolding word_at
 word_written_over memory i is =
     ap (λ (bytes : List ℕ). written i bytes memory)
-    (le_bytes_8 (bytes_at memory i 8) (word_at memory i) (run_long memory is i 8) below refl) ∙ written_over memory is i 8
-  where
-    byte_fits : (j : ℕ) → byte_at memory j < 256
-    byte_fits j = ⊎_elim
-        (λ among. let granule : IsGranule (granule_at memory (j / 16)) = is.granules (j / 16) no_granule among in
-        ⊎_elim
-        (λ inside. granule.bytes (j % 16) 0 inside)
-        (λ past. let none = get_or_past (granule_at memory (j / 16)).bytes (j % 16) 0 past in omega arith)
-        (cases_lt (j % 16) (length (granule_at memory (j / 16)).bytes)))
-        (λ past. let none : byte_at memory j
-        ≡ 0 = ap (λ (x : Granule). slice_index x.bytes (j % 16)) (get_or_past memory (j / 16) no_granule past) in omega arith)
-        (cases_lt (j / 16) (length memory))
-
-    below : (k : ℕ) → get_or (bytes_at memory i 8) k 0 < 256
-    below k = ⊎_elim
-        (λ inside. let is_byte = run_byte memory is i 8 k (i + k) inside refl in let fits = byte_fits (i + k) in omega arith)
-        (λ past. let none = get_or_past (bytes_at memory i 8) k 0 (omega (arith, run_long memory is i 8)) in omega arith)
-        (cases_lt k 8)
+    (le_bytes_8 (bytes_at memory i 8) (word_at memory i) (length-bytes_at memory i 8)
+    (λ k. byte_below (bytes_at memory i 8) k (bytes_at-below memory i 8 is)) refl)
+    ∙ written_over memory is i 8

@@ -1,5 +1,6 @@
 //! The words of a header. Only here are its fields bits: of the first word, bits 0 to 1 are the state, 2 to 15 the size, 16 to 19 the
-//! tag, 20 to 31 the class, and 32 to 63 the link. The second word is the mark. A class is below 32, so bits 25 to 31 of a header are 0.
+//! tag, 20 to 31 the class, and 32 to 63 the link. The second word is the mark. A class is below 32, so bits 25 to 31 of the first word
+//! are 0.
 ghost use Rattle.chunk_header.specs.HeaderView.{seen, standing_seen};
 ghost use Rattle.heap_theory.specs.Header.{FitsWords, code_of, first_word, header_of, standing_of};
 ghost use Rattle.std.specs.Prelude.{◌≡◌, ◌/◌, ◌%◌, ◌<◌, ◌^◌, ℕ};

@@ -1,15 +1,10 @@
 -- How a list is shown as a slot comes in front of it, or leaves it.
-use Rattle.std.proofs.Common.{◌≡◌, ℕ, suc, ◌+◌, ◌<◌, ◌≤◌, List, [], ◌∷◌, length, drop, refl, sym, ap, subst, ⊎_elim, arith}
+use Rattle.std.proofs.Common.{◌≡◌, ◌≢◌, ℕ, ◌+◌, ◌<◌, ◌≤◌, List, [], ◌∷◌, length, drop, refl, sym, subst, ⊎_elim, arith}
 use Rattle.std.specs.Prelude.{Contains}
-use Rattle.std.proofs.lemmas.Bool.Decides.{Decides-eqb}
-use Rattle.std.proofs.lemmas.Map.Made.{IsDistinct-from_AllPairs}
-use Rattle.std.proofs.lemmas.Bool.{eqb-true}
-use Rattle.std.proofs.lemmas.Map.Views.{Contains-from_any}
-use Rattle.std.proofs.lemmas.Map.Steps.{length-le_from_distinct_below}
 use Rattle.heap_theory.specs.Links.{IsLinked}
 use Rattle.heap_theory.specs.Region.{Region, next_in, with_slot_link}
-use Rattle.heap_theory.proofs.ListSearch.{Contains-cases, Contains-tail}
-use Rattle.heap_theory.proofs.Linked.{IsLinked-same}
+use Rattle.heap_theory.proofs.ListSearch.{Contains-cases, Contains-tail, AllPairs-first, few_below}
+use Rattle.heap_theory.proofs.Linked.{IsLinked-first, IsLinked-none, IsLinked-same}
 pub use Rattle.heap_theory.proofs.Linked.{IsLinked-once as each_once, IsLinked-one as one_list}
 use Rattle.heap_theory.proofs.Regions.{as_many_headers, other_link}
 use Rattle.class_lists.specs.Lists.{ShowsList}
@@ -40,14 +35,12 @@ shown_beside region {new} s next front list set outside shown =
 -- with no front there is no slot
 pub shown_none : (region : Region) (front : ℕ) (list : List ℕ) → front ≡ 0 → ShowsList region front list →
     list ≡ []
-shown_none region front [] none shown = refl
-shown_none region front (r ∷ rest) none shown = absurd (omega (arith, shown.linked.0))
+shown_none region front list none shown = IsLinked-none (next_in region) front list shown.linked none
 
 -- the front is the link to the first slot
 pub shown_first : (region : Region) (front s : ℕ) (list : List ℕ) → front ≡ s + 1 →
     ShowsList region front list → list ≡ s ∷ drop 1 list
-shown_first region front s [] is shown = absurd (omega (arith, shown.linked))
-shown_first region front s (r ∷ rest) is shown = let same : r ≡ s = omega (arith, shown.linked.0) in ap (λ q. q ∷ rest) same
+shown_first region front s list is shown = (IsLinked-first (next_in region) front s list shown.linked (omega (arith, is))).0
 
 -- and the link of that slot shows the rest
 pub shown_rest : (region : Region) (s : ℕ) (rest : List ℕ) → ShowsList region (s + 1) (s ∷ rest) →
@@ -58,16 +51,13 @@ shown_rest region s rest shown = record { linked = shown.linked.1; slots = λ r 
 pub first_not_in_rest : (region : Region) (s : ℕ) (rest : List ℕ) → ShowsList region (s + 1) (s ∷ rest) →
     Contains rest s → ⊥
 first_not_in_rest region s rest shown there =
-    let pairs = each_once (next_in region) (s + 1) (s ∷ rest) shown.linked in
-    pairs 0 (suc there.0) s (omega arith) (omega (arith, there.1)) (sym there.2)
+    AllPairs-first (λ s r. s ≢ r) s rest s (each_once (next_in region) (s + 1) (s ∷ rest) shown.linked) there refl
 
 -- distinct numbers below the number of slots are no more than that
 pub shown_short : (region : Region) (front : ℕ) (list : List ℕ) → ShowsList region front list
     → length list ≤ length region.headers
 shown_short region front list shown =
-    length-le_from_distinct_below list (length region.headers)
-    (IsDistinct-from_AllPairs Decides-eqb list (each_once (next_in region) front list shown.linked))
-    (λ s there. shown.slots s (Contains-from_any eqb-true s list there))
+    few_below (length region.headers) list shown.slots (each_once (next_in region) front list shown.linked)
 
 pub front_within : (region : Region) (front : ℕ) (list : List ℕ) → ShowsList region front list →
     front ≤ length region.headers

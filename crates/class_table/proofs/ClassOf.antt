@@ -7,8 +7,8 @@ use Rattle.std.proofs.lemmas.Bool.{cases_lt}
 use Rattle.std.proofs.lemmas.List.FromFn.{length-map-range_with_len, get_or-map-range_with_len}
 use Rattle.std.proofs.lemmas.Option.{slice_get-get_or}
 use Rattle.class_table.specs.Layout.{Partition, Slot, IsClassOf, share_of, slot_count, slot_of, first_slot}
-use Rattle.class_table.proofs.FirstSlots.{first_slot-suc, first_slot-le}
-use Rattle.class_table.proofs.Slots.{slot_of-class, slot_count-classes}
+use Rattle.class_table.proofs.FirstSlots.{first_slot-suc, first_slot-le, first_slot-most}
+use Rattle.class_table.proofs.Slots.{place_of, slot_of-class, slot_count-classes}
 
 -- the first slots of all classes, and the number of slots after them
 abbrev pub firsts_of : Partition → List ℕ
@@ -76,3 +76,14 @@ pub class_is : (layout : Partition) (slot number : ℕ) → IsClassOf layout slo
 class_is layout slot number is =
     slice_get-get_or layout.classes number 0 is.within
     ∙ ap Some (sym (ap (λ (slot : Slot). slot.class) (slot_of-number layout slot number is)))
+
+-- each slot has a class
+pub class_of_each : (layout : Partition) (slot : ℕ) → slot < slot_count layout → (number : ℕ) × IsClassOf layout slot number
+class_of_each layout slot within =
+    let place = place_of layout slot within in
+    let next = first_slot-suc layout place.number place.within in
+    (place.number, record { within = place.within; from = omega (arith, place.is); to = omega (arith, place.is, place.fits, next) })
+
+-- and the slots that have one are slots of the layout
+pub slot_of_class_within : (layout : Partition) (slot number : ℕ) → IsClassOf layout slot number → slot < slot_count layout
+slot_of_class_within layout slot number is = omega (arith, is.to, first_slot-most layout (number + 1))

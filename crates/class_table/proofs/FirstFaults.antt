@@ -7,8 +7,8 @@ use Rattle.class_table.specs.ClassLine.{BeginsWithTable, SpellsTable, class_line
 use Rattle.class_table.specs.Tables.{IsLegalTable}
 use Rattle.class_table.specs.declared.fault.TableError.{TableError}
 use Rattle.class_table.specs.declared.fault.TableError.TheVariants.{BadLine}
-use Rattle.class_table.proofs.Legal.{legal-from_classes}
-use Rattle.class_table.proofs.Spelled.{lines-spelled, line-table_of_line, spelled-table_of, table_of_line-legal}
+use Rattle.class_table.proofs.Legal.{no_classes_are_legal}
+use Rattle.class_table.proofs.Spelled.{line_is_its_text, lines-spelled, line-table_of_line, spelled-table_of, table_of_line-legal}
 
 -- what is read is not refused
 read_or_refused : (read : Result (List ℕ) TableError) (table : List ℕ) → IsErr read → read ≡ Ok table → ⊥
@@ -17,12 +17,9 @@ read_or_refused (Err fault) table refused e = absurd cc
 
 -- ---- texts that spell a table, and texts that begin with one
 
-no_classes : IsLegalTable 1 []
-no_classes = legal-from_classes 1 1 [] (omega arith) (omega arith) tt
-
 -- the line of a table alone spells it
 spells-class_line : (table : List ℕ) → IsLegalTable 1 table → SpellsTable (class_line table) table
-spells-class_line table legal = record { legal = legal; line = inl refl }
+spells-class_line table legal = record { legal = legal; line = line_is_its_text (class_line table) }
 
 -- what spells a table begins with it
 begins-spelled : (text table : List ℕ) → SpellsTable text table → BeginsWithTable text table
@@ -49,7 +46,7 @@ first_line_fault : (text : List ℕ)
 first_line_fault text none = record {
   some = omega arith;
   within = omega arith;
-  before = (class_line [], [], begins-spelled (class_line []) [] (spells-class_line [] no_classes), refl);
+  before = (class_line [], [], begins-spelled (class_line []) [] (spells-class_line [] no_classes_are_legal), refl);
   none = none;
 }
 
@@ -90,7 +87,7 @@ alone : (text : List ℕ) → IsFirstFault BeginsWithTable text 1 → IsFirstFau
 alone text first = record {
   some = first.some;
   within = first.within;
-  before = (class_line [], [], spells-class_line [] no_classes, refl);
+  before = (class_line [], [], spells-class_line [] no_classes_are_legal, refl);
   none = λ other table spells alike. first.none other table (begins-spelled other table spells) alike;
 }
 

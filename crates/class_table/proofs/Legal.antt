@@ -41,6 +41,9 @@ legal-from_classes step low classes one few above = record {
   fitting = λ k d within. (class_in step low k d classes above within).2;
 }
 
+pub no_classes_are_legal : IsLegalTable 1 []
+no_classes_are_legal = legal-from_classes 1 1 [] (omega arith) (omega arith) tt
+
 -- ---- and back
 
 classes_from : (step low : ℕ) (classes : List ℕ) → ((k : ℕ) → k < length classes → low < get_or classes k 0) →

@@ -7,6 +7,7 @@ pub mod LayoutExamples
 pub mod LawLemmas
 pub mod LeastClass
 pub mod Legal
+pub mod NamedLines
 pub mod SlotAt
 pub mod Slots
 pub mod Spelled

@@ -4,7 +4,7 @@ use Rattle.std.specs.Prelude.{All, Contains, sum_by}
 use Rattle.std.specs.List.{range_with_len}
 use Rattle.std.proofs.lemmas.Bool.{cases_lt}
 use Rattle.std.proofs.lemmas.List.{get_or_append_left, get_or-append-add, length-append, take_all}
-use Rattle.std.proofs.lemmas.List.Elements.{All-tail, Contains-get_or}
+use Rattle.std.proofs.lemmas.List.Elements.{All-contains, All-tail, Contains-get_or}
 use Rattle.std.proofs.lemmas.List.FromFn.{length-map-range_with_len, get_or-map-range_with_len}
 use Rattle.std.proofs.lemmas.List.Sums.{sum_by-cons}
 use Rattle.std.proofs.lemmas.Nat.{div-add-mod'}
@@ -221,3 +221,9 @@ class_of_slot layout s within =
     let class : (slot_of layout s).class ≡ get_or layout.classes place.number 0 =
     ap (λ s. (slot_of layout s).class) place.is ∙ ap (λ (slot : Slot). slot.class) slot in
     subst (Contains layout.classes) (sym class) (Contains-get_or layout.classes place.number 0 place.within)
+
+pub slot_is_small : (step : ℕ) (layout : Partition) (s : ℕ) → IsLegalTable step layout.classes → s < slot_count layout →
+    (slot_of layout s).class ≤ 1024
+slot_is_small step layout s table within =
+    (All-contains (λ class. (2 ≤ class) × (class ≤ 1024)) layout.classes (slot_of layout s).class table.in_range
+    (class_of_slot layout s within)).1

@@ -1,13 +1,15 @@
 -- Reading the numbers of a line, word by word.
-use Rattle.std.proofs.Common.{◌≡◌, ℕ, ◌<◌, ◌≤◌, Bool, true, false, List, [], ◌∷◌, ◌++◌, length, map, min, take, Option, Some, None, Ok, Err, refl, sym, ap, ◌∙◌, arith, append_assoc, append-nil, codes, ltb, leb, length-append}
+use Rattle.std.proofs.Common.{◌≡◌, ℕ, ◌<◌, ◌≤◌, Bool, true, false, List, [], ◌∷◌, ◌++◌, length, map, min, take, Option, Some, None, Result, Ok, Err, refl, sym, ap, ◌∙◌, arith, append_assoc, append-nil, codes, ltb, leb, length-append}
 use Rattle.std.specs.Option.{option_map}
+use Rattle.std.specs.Prelude.{option_and_then}
 use Rattle.std.specs.Str.{bytes_eq}
 use Rattle.std.proofs.lemmas.Bool.{lt-ltb, le-ltb, ltb-false}
 use Rattle.std.proofs.lemmas.Bool.Decides.{nat_tests}
 use Rattle.std.proofs.lemmas.List.{take_all, take-append-le, length-take, length-map, map-append}
 use Rattle.line_text.specs.Numbers.{number_of}
-use Rattle.class_table.specs.ClassLine.{numbers_of, table_of_numbers, table_of_words}
+use Rattle.class_table.specs.ClassLine.{table_of_numbers}
 use Rattle.class_table.specs.Faults.{fault_from, is_out_of_range, table_of_classes, unless}
+use Rattle.class_table.specs.NamedLines.{numbers_of, words_after}
 use Rattle.class_table.specs.declared.fault.TableError.{TableError}
 use Rattle.class_table.specs.declared.fault.TableError.TheVariants.{BadLine, TooMany}
 
@@ -156,6 +158,10 @@ number_is None m e = absurd cc
 number_is (Some n) m e = (n, refl, cc)
 
 -- ---- the first word
+
+-- the table of a line's words
+abbrev pub table_of_words : List (List ℕ) → Result (List ℕ) TableError
+table_of_words ws = table_of_numbers (option_and_then numbers_of (words_after (codes "classes") ws))
 
 pub other_name : (w : List ℕ) (ws : List (List ℕ)) → bytes_eq w (codes "classes") ≡ false → table_of_words (w ∷ ws) ≡ Err BadLine
 other_name w ws e = rw e refl

@@ -5,6 +5,7 @@ pub mod Layout
 pub mod LayoutLaws
 pub mod LayoutView
 pub mod FaultText
+pub mod NamedLines
 pub mod Sizes
 pub mod Steps
 pub mod Tables

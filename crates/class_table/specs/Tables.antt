@@ -1,5 +1,5 @@
 -- Class tables, and the class of a size.
-use Rattle.std.specs.Prelude.{◌≡◌, ℕ, ◌%◌, ◌≤◌, List, length, find, position, Option, IsTrue, All, Contains}
+use Rattle.std.specs.Prelude.{◌≡◌, ℕ, ◌%◌, ◌≤◌, List, length, find, position, sum_by, Option, IsSome, IsTrue, All, Contains}
 use Rattle.std.specs.Option.{option_map_or}
 use Rattle.std.specs.List.Sorted.{IsStrictlyIncreasing}
 use Rattle.class_table.specs.Sizes.{loss_of, serves}
@@ -28,6 +28,14 @@ class_number_for classes n = position (serves n) classes
 -- The bytes that a request of n bytes loses in its class; none where it has no class.
 abbrev pub loss_of_size : List ℕ → ℕ → ℕ
 loss_of_size classes n = option_map_or (loss_of n) (class_for classes n) 0
+
+-- The bytes that requests of these sizes lose in their classes.
+abbrev pub rounding_loss : List ℕ → List ℕ → ℕ
+rounding_loss classes sizes = sum_by (loss_of_size classes) sizes
+
+-- Each of these sizes has a class.
+abbrev pub ServesSizes : List ℕ → List ℕ → Type 0
+ServesSizes classes sizes = All (λ n. IsSome (class_for classes n)) sizes
 
 -- The least of the classes that serve n.
 pub record IsLeastServing (classes : List ℕ) (n class : ℕ) : Type 0 where

@@ -1,7 +1,8 @@
 ghost use Rattle.std.specs.Prelude.{◌≡◌, ◌<◌, ◌≤◌, ◌+◌, [], ◌∷◌, ◌++◌, true, false, codes, length, IfOk};
 ghost use Rattle.line_text.specs.Lines.{ended};
-ghost use Rattle.class_table.specs.ClassLine.{class_line, numbers_of, table_of, table_of_line, table_of_numbers};
+ghost use Rattle.class_table.specs.ClassLine.{class_line, table_of, table_of_line, table_of_numbers};
 ghost use Rattle.class_table.specs.Faults.{Gives};
+ghost use Rattle.class_table.specs.NamedLines.{numbers_of};
 ghost use Rattle.class_table.specs.Tables.{IsLegalTable};
 
 use crate::fault::TableError;

@@ -3,6 +3,8 @@ use Rattle.std.proofs.Common.{◌≡◌, ℕ, zero, suc, ◌+◌, ◌-◌, ◌*�
 use Rattle.std.proofs.lemmas.Bool.{cases_lt}
 use Rattle.std.proofs.lemmas.Int.Digits.{length-digits_of-le, length-digits_of_step}
 use Rattle.std.proofs.Math.Nat.{mul-le-mul_left, mul-le-mul_right}
+use Rattle.class_table.specs.declared.sizes.TheConstants.{MOST_NEEDS}
+use Rattle.class_table.specs.declared.table.TheConstants.{MOST_CLASSES}
 use Rattle.class_tuner.specs.CallCounts.{bits, most_calls}
 
 doubled : (n b c : ℕ) → n / 2 < 2 ^ b → c ≡ suc b → n < 2 ^ c
@@ -31,10 +33,11 @@ pub calls-more : (start calls more k limit d : ℕ) → calls ≤ start + most_c
 calls-more start calls more k limit d before now lt = stage-count start calls more k limit ((d - 1) * bits d + d) before now lt
 
 -- the rows before leave room for the calls of one more
-pub room-left : (start calls k d : ℕ) → start < 2 ^ 62 → k ≤ 32 → d ≤ 1023 → calls ≤ start + most_calls k d → calls + 1023 * d ≤ 2 ^ 63
+pub room-left : (start calls k d : ℕ) → start < 2 ^ 62 → k ≤ MOST_CLASSES → d ≤ MOST_NEEDS
+    → calls ≤ start + most_calls k d → calls + MOST_NEEDS * d ≤ 2 ^ 63
 room-left start calls k d small few le counted =
     let digits : bits d ≤ 10 = length-digits_of-le 2 10 d (omega arith) (omega arith) in
     let product : (d - 1) * bits d ≤ (d - 1) * 10 = mul-le-mul_left (d - 1) digits in
     let row : (d - 1) * bits d + d ≤ 11253 = omega arith in
-    let rows : k * ((d - 1) * bits d + d) ≤ 32 * ((d - 1) * bits d + d) = mul-le-mul_right ((d - 1) * bits d + d) few in
+    let rows : k * ((d - 1) * bits d + d) ≤ MOST_CLASSES * ((d - 1) * bits d + d) = mul-le-mul_right ((d - 1) * bits d + d) few in
     omega arith

@@ -9,16 +9,16 @@ module _ (cost : ℕ → ℕ → ℕ) (d : ℕ) (crossing : IsCrossing cost d) (
     (between : AreEndsBetween cost d before start stop low high) (least : IsLeastEnd (end_cost cost before middle) middle d end) where
   -- the places left of the middle one end no later than it does,
   pub between-left : middle < stop → AreEndsBetween cost d before start middle low end
-  between-left lt i e from below is_least = (
-    (between i e from (omega arith) is_least).0,
+  between-left lt i from below e is_least = (
+    (between i from (omega arith) e is_least).0,
     ends_ascend cost (slice_index before) d i middle e end crossing (omega arith) is_least least,
   )
 
   -- and those right of it no earlier
   pub between-right : start ≤ middle → AreEndsBetween cost d before (suc middle) stop end high
-  between-right le i e from below is_least = (
+  between-right le i from below e is_least = (
     ends_ascend cost (slice_index before) d middle i end e crossing (omega arith) least is_least,
-    (between i e (omega arith) below is_least).1,
+    (between i (omega arith) below e is_least).1,
   )
 
 -- a half has one binary digit less

@@ -2,6 +2,7 @@
 use Rattle.std.proofs.Common.{◌≡◌, ℕ, ◌≤◌, List, refl, sym, ◌∙◌}
 use Rattle.std.proofs.Math.Nat.{mod-one}
 use Rattle.class_table.specs.Tables.{IsLegalTable}
+use Rattle.class_table.specs.declared.table.TheConstants.{MOST_CLASSES}
 use Rattle.class_tuner.specs.Tuned.{IsTuned}
 use Rattle.potential_check.specs.Spanned.{IsSpanned, Spanned}
 use Rattle.tuner_theory.specs.Rows.{IsFilled, number_at}
@@ -20,7 +21,7 @@ legal-for_one step classes legal = record {
   fitting = λ k d within. mod-one _;
 }
 
-module _ (s : Spanned) (limit : ℕ) (rows ends : List (List ℕ)) (spanned : IsSpanned s) (some : 1 ≤ limit) (few : limit ≤ 32)
+module _ (s : Spanned) (limit : ℕ) (rows ends : List (List ℕ)) (spanned : IsSpanned s) (some : 1 ≤ limit) (few : limit ≤ MOST_CLASSES)
     (filled : IsFilled (span_waste s.counts s.step) (places s.counts s.step) limit rows ends) where
   tuned-rows : AreTunedRows s.counts s.step limit (number_at rows) (number_at ends)
   tuned-rows = record { is_step = spanned.is_step; are_counts = spanned.are_counts; some = some; few = few; least = filled.least }

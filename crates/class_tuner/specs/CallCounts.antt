@@ -45,5 +45,5 @@ calls_of ends d (suc (suc k)) = calls_of ends d (suc k) + tried_in_row (ends (su
 pub record AreCallsForPart (old new : ℕ) (ends : List ℕ) (part : Range ℕ) (window : Window) : Type 0 where
   pub exact : (b : ℕ) → part.end - part.start < 2 ^ b
       → new ≡ old + tried_within (slice_index ends) b part.start part.end window.low window.high
-  pub counted : (b : ℕ) → part.end - part.start < 2 ^ b → new ≤ old + (window.high - window.low) * b + (part.end - part.start)
+  pub bounded : (b : ℕ) → part.end - part.start < 2 ^ b → new ≤ old + (window.high - window.low) * b + (part.end - part.start)
   pub most : new ≤ old + MOST_NEEDS * (part.end - part.start)

@@ -27,10 +27,13 @@ pub record IsPart (d : ℕ) (row ends : List ℕ) (part : Range ℕ) (window : W
   pub some : window.low ≤ window.high
   pub within : window.high ≤ d
 
--- The least end of each place from start to below stop is between low and high.
+-- The least end of place i is between low and high.
+abbrev pub IsEndBetween : (ℕ → ℕ → ℕ) → ℕ → List ℕ → ℕ → ℕ → ℕ → Type 0
+IsEndBetween cost d before i low high = (e : ℕ) → IsLeastEnd (end_cost cost before i) i d e → (low ≤ e) × (e ≤ high)
+
+-- So it is for each place from start to below stop.
 abbrev pub AreEndsBetween : (ℕ → ℕ → ℕ) → ℕ → List ℕ → ℕ → ℕ → ℕ → ℕ → Type 0
-AreEndsBetween cost d before start stop low high =
-    (i e : ℕ) → start ≤ i → i < stop → IsLeastEnd (end_cost cost before i) i d e → (low ≤ e) × (e ≤ high)
+AreEndsBetween cost d before start stop low high = (i : ℕ) → start ≤ i → i < stop → IsEndBetween cost d before i low high
 
 -- ---- what is filled
 

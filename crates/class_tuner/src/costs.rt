@@ -1,4 +1,4 @@
-ghost use Rattle.std.specs.Prelude.{◌≡◌, ℕ, ◌+◌, ◌^◌, ◌<◌, ◌≤◌, IfOk, refl};
+ghost use Rattle.std.specs.Prelude.{◌≡◌, ℕ, ◌^◌, ◌<◌, ◌≤◌, IfOk, refl};
 ghost use Rattle.potential_check.specs.Spanned.{IsSpanned};
 ghost use Rattle.tuner_theory.specs.Spans.{IsCrossing, places, span_waste};
 ghost use Rattle.class_table.specs.Steps.{IsStep};

@@ -80,7 +80,7 @@ fn first_row<C: CostSource>(alloc: Global, costs: &mut C) -> Result<Row, AllocEr
     requires few { C.place_count costs.old ≤ MOST_NEEDS }
     requires room { C.call_count costs.old + C.place_count costs.old ≤ 2 ^ 63 }
     ensures first { IfOk result (IsFirstRow (C.cost costs.old) (C.place_count costs.old)) }
-    ensures counted { C.call_count costs.new ≤ C.call_count costs.old + C.place_count costs.old }
+    ensures bounded { C.call_count costs.new ≤ C.call_count costs.old + C.place_count costs.old }
     ensures exact { OnOk result (C.call_count costs.new ≡ C.call_count costs.old + C.place_count costs.old) }
     ensures only_counts { OnlyCounts C.CostSource costs.old costs.new }
 {
@@ -110,7 +110,7 @@ fn next_row<C: CostSource>(alloc: Global, costs: &mut C, before: &[u64]) -> Resu
     requires before { IsSmallRow (C.place_count costs.old) before.now }
     requires room { C.call_count costs.old + MOST_NEEDS * C.place_count costs.old ≤ 2 ^ 63 }
     ensures next { IfOk result (IsNextRow (C.cost costs.old) (C.place_count costs.old) before.now) }
-    ensures counted { let d = C.place_count costs.old in
+    ensures bounded { let d = C.place_count costs.old in
         C.call_count costs.new ≤ C.call_count costs.old + ((d - 1) * bits d + d) }
     ensures exact { let d = C.place_count costs.old in let calls = C.call_count costs.old in
         IfOk result (λ row. C.call_count costs.new ≡ calls + tried_in_row (slice_index row.ends.items) d) }

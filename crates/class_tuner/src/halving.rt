@@ -1,11 +1,10 @@
 //! One row by halving. The middle place comes first. By the law on spans that cross, a later place has no earlier least end. So the places
 //! before the middle need only the ends up to its least end, and the places after it only the ends from there on.
-ghost use Rattle.std.specs.Prelude.{◌≡◌, ℕ, ◌+◌, ◌-◌, ◌*◌, ◌^◌, ◌≤◌};
+ghost use Rattle.std.specs.Prelude.{◌≡◌, ◌+◌, ◌-◌, ◌*◌, ◌^◌, ◌≤◌};
 ghost use Rattle.class_tuner.specs.CallCounts.{AreCallsForPart};
-ghost use Rattle.class_tuner.specs.Filling.{AreEndsBetween, IsFilledWithin, IsLeastAt, IsPart, IsSmallRow, KeepsOutside, end_cost};
+ghost use Rattle.class_tuner.specs.Filling.{AreEndsBetween, IsEndBetween, IsFilledWithin, IsLeastAt, IsPart, IsSmallRow, KeepsOutside};
 ghost use Rattle.class_tuner.specs.Sources.{OnlyCounts};
 ghost use Rattle.class_tuner.specs.Windows.{IsWindowAfter};
-ghost use Rattle.tuner_theory.specs.Rows.{IsLeastEnd};
 
 use crate::cost_source::CostSource;
 use class_table::MOST_NEEDS;
@@ -68,9 +67,7 @@ fn least_end<C: CostSource>(
 ) -> (u64, usize)
     requires before { IsSmallRow (C.place_count costs.old) before.now }
     requires window { IsWindowAfter place low high (C.place_count costs.old) }
-    requires ends { (e : ℕ)
-        → IsLeastEnd (end_cost (C.cost costs.old) before.now place) place (C.place_count costs.old) e
-        → (low ≤ e) × (e ≤ high) }
+    requires between { IsEndBetween (C.cost costs.old) (C.place_count costs.old) before.now place low high }
     requires room { C.call_count costs.old + (high - low) + 1 ≤ 2 ^ 63 }
     ensures least { IsLeastAt (C.cost costs.old) (C.place_count costs.old) before.now place result.0 result.1 }
     ensures inside { (low ≤ result.1) × (result.1 ≤ high) }

@@ -1,7 +1,7 @@
-ghost use Rattle.std.specs.Prelude.{◌≡◌, ℕ, ◌+◌, ◌-◌, ◌<◌, ◌≤◌};
+ghost use Rattle.std.specs.Prelude.{◌≡◌, ◌≤◌};
 ghost use Rattle.class_table.specs.Tables.{IsLegalTable};
 ghost use Rattle.potential_check.specs.Lists.{lists_of};
-ghost use Rattle.tuner_theory.specs.Rows.{number_at};
+ghost use Rattle.tuner_theory.specs.Rows.{AreLaterEnds, number_at};
 ghost use Rattle.tuner_theory.specs.Spans.{places};
 ghost use Rattle.tuner_theory.specs.Tuned.{tuned_table};
 
@@ -12,11 +12,9 @@ use potential_check::Spans;
 // The table that the ends give. Start at place 0 in row `limit`. The need at that place's end is a class. Go on from that end in the row
 // before, until the last place is an end.
 #[tactic(auto, using(class_table::proofs::LawLemmas::legal_is_faultless))]
-pub(crate) fn table_of_ends(spans: &Spans<'_>, ends: &[Vec<usize>], limit: u8) -> ClassTable
+pub(crate) fn tuned_table(spans: &Spans<'_>, ends: &[Vec<usize>], limit: u8) -> ClassTable
     requires few { limit ≤ MOST_CLASSES }
-    requires later { (k i : ℕ) → 1 ≤ k → k ≤ limit → i < places spans.now.counts spans.now.step
-        → (i < number_at (lists_of ends.now) k i)
-        × (number_at (lists_of ends.now) k i ≤ places spans.now.counts spans.now.step) }
+    requires later { AreLaterEnds (places spans.now.counts spans.now.step) limit (number_at (lists_of ends.now)) }
     requires legal { IsLegalTable 1
         (tuned_table spans.now.counts spans.now.step limit (number_at (lists_of ends.now))) }
     ensures { result ≡ tuned_table spans.now.counts spans.now.step limit (number_at (lists_of ends.now)) }
@@ -29,9 +27,7 @@ pub(crate) fn table_of_ends(spans: &Spans<'_>, ends: &[Vec<usize>], limit: u8) -
 // the classes of that table
 fn classes_of_ends(spans: &Spans<'_>, ends: &[Vec<usize>], limit: u8) -> ArrayVec<u16, MOST_CLASSES>
     requires few { limit ≤ MOST_CLASSES }
-    requires later { (k i : ℕ) → 1 ≤ k → k ≤ limit → i < places spans.now.counts spans.now.step
-        → (i < number_at (lists_of ends.now) k i)
-        × (number_at (lists_of ends.now) k i ≤ places spans.now.counts spans.now.step) }
+    requires later { AreLaterEnds (places spans.now.counts spans.now.step) limit (number_at (lists_of ends.now)) }
     ensures { result.items ≡ tuned_table spans.now.counts spans.now.step limit (number_at (lists_of ends.now)) }
 {
     let mut classes = ArrayVec::new();

@@ -11,7 +11,7 @@ ghost use Rattle.class_table.specs.Steps.{IsStep};
 use crate::cost_source::CostSource;
 use crate::costs::Costs;
 use crate::filling::{Filled, fill_rows};
-use crate::read_off::table_of_ends;
+use crate::read_off::tuned_table;
 use class_table::MOST_CLASSES;
 use potential_check::{Rows, Sheet, Spans};
 use profile_count::Profile;
@@ -83,7 +83,7 @@ fn sheet_of_rows(spans: &Spans<'_>, filled: Filled, limit: u8) -> Sheet
     ensures tuned { IsTuned spans.now.counts spans.now.step limit (sheet_of result) }
     ensures rows { result.rows ≡ lists_of filled.rows.items }
 {
-    let table = table_of_ends(spans, &filled.ends, limit);
+    let table = tuned_table(spans, &filled.ends, limit);
     let rows = Rows::new(filled.rows);
     let waste = rows.number(limit as usize, 0);
     Sheet {

@@ -1,13 +1,10 @@
 -- What a typed getter of clap reads is the number that the option's text spells.
-use Rattle.std.proofs.Common.{◌≡◌, ℕ, ◌^◌, ◌<◌, List, Option, Some, None, Result, Ok, Err, ap, refl, sym, subst, ◌∙◌}
-use Rattle.std.specs.Prelude.{unwrap_or}
+use Rattle.std.proofs.Common.{◌≡◌, ℕ, ◌^◌, ◌<◌, List, Option, Some, None, Result, Ok, Err, refl, sym, subst, ◌∙◌}
 use Rattle.std.specs.Option.{MatchOption}
 use Rattle.std.specs.Str.Parse.{IsNumeral, ParsesUnsigned, digits_value, without_leading_plus}
+use Rattle.std.proofs.lemmas.Option.{none-some, same_Some}
 use Rattle.clap.specs.Words.{Row, ReadsOne, Text, one_of}
 use Rattle.command_line.specs.Calls.{HasNumber}
-
-some_is : {X : Type 0} (x y : X) → Some x ≡ Some y → x ≡ y
-some_is {X} x y same = ap (λ (o : Option X). unwrap_or o x) same
 
 module _ {E : Type 0} (G : Text → Result ℕ E → Type 0) (bits : ℕ)
     (only : (text : Text) (r : Result ℕ E) → G text r → ParsesUnsigned bits 10 text r) (options : List Row) (name : Text) where
@@ -19,7 +16,7 @@ module _ {E : Type 0} (G : Text → Result ℕ E → Type 0) (bits : ℕ)
       let parsed = only text (Ok n) read in
       (text, is, parsed.0.0, sym parsed.1)
   of_text text is None read = λ n short has.
-      let same : has.0 ≡ text = some_is _ _ (sym has.1 ∙ is) in
+      let same : has.0 ≡ text = same_Some _ _ (sym has.1 ∙ is) in
       only text (Err read.0) read.1 (
         subst (λ t. IsNumeral 10 (without_leading_plus t)) same has.2,
         subst (λ t. digits_value 10 (without_leading_plus t) < 2 ^ bits) same (subst (λ k. k < 2 ^ bits) (sym has.3) short),
@@ -28,7 +25,4 @@ module _ {E : Type 0} (G : Text → Result ℕ E → Type 0) (bits : ℕ)
   pub number_read : (found : Option Text) → one_of name options ≡ found → (r : Option ℕ)
       → (found ≡ None → r ≡ None) → ((text : Text) → found ≡ Some text → ReadsOne G text r) → IsNumber r
   number_read (Some text) is r none some = of_text text is r (some text refl)
-  number_read None is r none some = rw (none refl) (λ n short has. absurd_none (sym is ∙ has.1))
-    where
-      absurd_none : {text : Text} → None ≡ Some text → ⊥
-      absurd_none e = cc
+  number_read None is r none some = rw (none refl) (λ n short has. none-some _ (sym is ∙ has.1))

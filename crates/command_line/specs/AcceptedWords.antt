@@ -7,6 +7,19 @@ use Rattle.clap.specs.declared.builder.command.Command.{Command}
 use Rattle.clap.specs.declared.builder.command.Command.TheViews.{out-Command as fields_of}
 use Rattle.clap.specs.declared.builder.value_parser.ValueParser.TheVariants.{Signed}
 use Rattle.command_line.specs.Bounds.{granules_bounds, limit_bounds, quarantine_bounds, seed_bounds, step_bounds}
+use Rattle.command_line.specs.Spellings.{
+  check_name,
+  granules_name,
+  limit_name,
+  profile_name,
+  quarantine_name,
+  replay_name,
+  run_name,
+  score_name,
+  seed_name,
+  step_name,
+  tune_name,
+}
 
 -- An option of this name whose value is a number within these bounds.
 abbrev pub number_rule : List ℕ → ℕ × ℕ → Rule
@@ -18,39 +31,39 @@ number_rule name bounds = record (new_rule name) {
 
 -- `--limit`, which may not be left out.
 abbrev pub limit_rule : Rule
-limit_rule = record (number_rule (codes "limit") limit_bounds) { required = true }
+limit_rule = record (number_rule limit_name limit_bounds) { required = true }
 
 abbrev pub step_rule : Rule
-step_rule = record (number_rule (codes "step") step_bounds) { defaults = codes "1" ∷ [] }
+step_rule = record (number_rule step_name step_bounds) { defaults = codes "1" ∷ [] }
 
 abbrev pub granules_rule : Rule
-granules_rule = record (number_rule (codes "granules") granules_bounds) { defaults = codes "65536" ∷ [] }
+granules_rule = record (number_rule granules_name granules_bounds) { defaults = codes "65536" ∷ [] }
 
 abbrev pub seed_rule : Rule
-seed_rule = record (number_rule (codes "seed") seed_bounds) { defaults = codes "1" ∷ [] }
+seed_rule = record (number_rule seed_name seed_bounds) { defaults = codes "1" ∷ [] }
 
 abbrev pub quarantine_rule : Rule
-quarantine_rule = record (number_rule (codes "quarantine") quarantine_bounds) { defaults = codes "65536" ∷ [] }
+quarantine_rule = record (number_rule quarantine_name quarantine_bounds) { defaults = codes "65536" ∷ [] }
 
 -- The commands.
 abbrev pub score_words : App
-score_words = new_app (codes "score")
+score_words = new_app score_name
 
 abbrev pub tune_words : App
-tune_words = with_rule (with_rule (new_app (codes "tune")) limit_rule) step_rule
+tune_words = with_rule (with_rule (new_app tune_name) limit_rule) step_rule
 
 abbrev pub check_words : App
-check_words = new_app (codes "check")
+check_words = new_app check_name
 
 abbrev pub profile_words : App
-profile_words = new_app (codes "profile")
+profile_words = new_app profile_name
 
 abbrev pub replay_words : App
-replay_words = with_rule (with_rule (with_rule (new_app (codes "replay")) granules_rule) seed_rule) quarantine_rule
+replay_words = with_rule (with_rule (with_rule (new_app replay_name) granules_rule) seed_rule) quarantine_rule
 
 abbrev pub run_words : App
 run_words =
-    with_rule (with_rule (with_rule (with_rule (with_rule (new_app (codes "run")) limit_rule) step_rule) granules_rule) seed_rule)
+    with_rule (with_rule (with_rule (with_rule (with_rule (new_app run_name) limit_rule) step_rule) granules_rule) seed_rule)
     quarantine_rule
 
 -- The program: one of its commands has to be named.

@@ -1,5 +1,5 @@
 -- Which call the words of a command mean, and the answers of the call's engine.
-use Rattle.std.specs.Prelude.{◌≡◌, ℕ, ◌≤◌, List, Option, Some, None, Result, Ok, Err, codes, ⊤}
+use Rattle.std.specs.Prelude.{◌≡◌, ℕ, ◌≤◌, List, Option, Some, None, Result, Ok, Err, ⊤}
 use Rattle.std.specs.Str.Parse.{IsNumeral, without_leading_plus, digits_value}
 use Rattle.clap.specs.Words.{Row, Text, one_of}
 use Rattle.class_table.specs.Steps.{IsStep}
@@ -12,6 +12,19 @@ use Rattle.mte_engine.specs.Run.{RunAnswers}
 use Rattle.mte_engine.specs.Tune.{AreTuneOptions, TuneAnswers}
 use Rattle.mte_engine.specs.declared.fault.InputFault.{InputFault}
 use Rattle.command_line.specs.Bounds.{granules_bounds, limit_bounds, quarantine_bounds, seed_bounds, step_bounds}
+use Rattle.command_line.specs.Spellings.{
+  check_name,
+  granules_name,
+  limit_name,
+  profile_name,
+  quarantine_name,
+  replay_name,
+  run_name,
+  score_name,
+  seed_name,
+  step_name,
+  tune_name,
+}
 use Rattle.command_line.specs.declared.call.Call.{Call}
 use Rattle.command_line.specs.declared.call.Call.TheVariants.{Score, Tune, Check, Profile, Replay, Run}
 use Rattle.tagged_heap.specs.Config.{IsConfig}
@@ -33,20 +46,20 @@ IsRead P (Err fault) = (n : ℕ) → P n → ⊥
 
 -- `--limit` and `--step`.
 abbrev pub HasLimit : List Row → ℕ → Type 0
-HasLimit options n = HasNumberIn options (codes "limit") limit_bounds n
+HasLimit options n = HasNumberIn options limit_name limit_bounds n
 
 abbrev pub HasStep : List Row → ℕ → Type 0
-HasStep options n = HasNumberIn options (codes "step") step_bounds n × IsStep n
+HasStep options n = HasNumberIn options step_name step_bounds n × IsStep n
 
 -- `--granules`, `--seed` and `--quarantine`.
 abbrev pub HasGranules : List Row → ℕ → Type 0
-HasGranules options n = HasNumberIn options (codes "granules") granules_bounds n
+HasGranules options n = HasNumberIn options granules_name granules_bounds n
 
 abbrev pub HasSeed : List Row → ℕ → Type 0
-HasSeed options n = HasNumberIn options (codes "seed") seed_bounds n
+HasSeed options n = HasNumberIn options seed_name seed_bounds n
 
 abbrev pub HasQuarantine : List Row → ℕ → Type 0
-HasQuarantine options n = HasNumberIn options (codes "quarantine") quarantine_bounds n
+HasQuarantine options n = HasNumberIn options quarantine_name quarantine_bounds n
 
 abbrev pub HasConfig : List Row → Config → Type 0
 HasConfig options config =
@@ -54,12 +67,12 @@ HasConfig options config =
 
 -- The words name this call: its command, and each of its numbers by the option's name.
 abbrev pub Names : Text → List Row → Call → Type 0
-Names name options Score = name ≡ codes "score"
-Names name options (Tune o) = (name ≡ codes "tune") × HasLimit options o.limit × HasStep options o.step
-Names name options Check = name ≡ codes "check"
-Names name options Profile = name ≡ codes "profile"
-Names name options (Replay o) = (name ≡ codes "replay") × HasConfig options o.config
-Names name options (Run o) = (name ≡ codes "run") × HasLimit options o.limit × HasStep options o.step × HasConfig options o.config
+Names name options Score = name ≡ score_name
+Names name options (Tune o) = (name ≡ tune_name) × HasLimit options o.limit × HasStep options o.step
+Names name options Check = name ≡ check_name
+Names name options Profile = name ≡ profile_name
+Names name options (Replay o) = (name ≡ replay_name) × HasConfig options o.config
+Names name options (Run o) = (name ≡ run_name) × HasLimit options o.limit × HasStep options o.step × HasConfig options o.config
 
 -- This is the call of a command and its options, as clap finds them in the words.
 abbrev pub IsCall : Option (Text × List Row) → Call → Type 0

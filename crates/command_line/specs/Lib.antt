@@ -1,5 +1,7 @@
 pub mod Bounds
 pub mod Calls
 pub mod Exit
+pub mod FaultText
 pub mod AcceptedWords
+pub mod Spellings
 pub mod Words

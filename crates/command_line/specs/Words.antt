@@ -1,5 +1,5 @@
 -- What the words of a command line mean.
-use Rattle.std.specs.Prelude.{◌≡◌, ◌≢◌, ℕ, List, [], codes, ⊤}
+use Rattle.std.specs.Prelude.{◌≡◌, ◌≢◌, List, [], ⊤}
 use Rattle.clap.specs.Kinds.{IsAmong}
 use Rattle.clap.specs.Words.{Text, kind_of, fault_of, subcommand_of}
 use Rattle.clap.specs.declared.error.Error.{Error}
@@ -7,13 +7,8 @@ use Rattle.clap.specs.declared.error.kind.ErrorKind.TheVariants as kind
 use Rattle.command_line.specs.Calls.{IsCall, IsNoCall}
 use Rattle.command_line.specs.AcceptedWords.{program}
 use Rattle.command_line.specs.declared.call.Call.{Call}
-use Rattle.command_line.specs.declared.refusal.OptionFault.{OptionFault}
-use Rattle.command_line.specs.declared.refusal.OptionFault.TheVariants.{BadOption}
 use Rattle.command_line.specs.declared.refusal.Refusal.{Refusal}
 use Rattle.command_line.specs.declared.refusal.Refusal.TheVariants.{OutOfMemory, Words, Options}
-
-abbrev pub shown_option_fault : OptionFault → List ℕ
-shown_option_fault BadOption = codes "83 BadOption"
 
 -- The words, of which the first is the program's name, mean this call.
 abbrev pub Mean : List Text → Call → Type 0

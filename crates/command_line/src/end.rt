@@ -22,7 +22,8 @@ pub enum End {
     Shown,
     /// It refused its words.
     Refused,
-    /// A command ended like this, or failed before it began.
+    /// A command ended like this. `Err(OutOfMemory)` and `Err(WriteFault)` also stand for want of memory while the words are read, and for
+    /// help that could not be written.
     Ended(Result<Status, ToolFault>),
 }
 

@@ -19,8 +19,8 @@ const WAITS: &str =
 
 const TIP: &str = "tip: the input is standard input, and no file is named: mte_tool COMMAND < FILE";
 
-/// Runs the program on the words of its command line, from standard input to standard output. If it does not finish, it prints why on
-/// standard error. Before it reads standard input from a terminal, it says on standard error that it waits.
+/// Runs the program on the words of its command line, from standard input to standard output. If it refuses the words or the command fails,
+/// it prints why on standard error. Before it reads standard input from a terminal, it says on standard error that it waits.
 pub fn run<R: Env + AllocGlobal + Input + Print + Eprint>(rt: &R, at_terminal: bool) -> End {
     let words = match words(rt) {
         Ok(words) => words,
@@ -38,7 +38,7 @@ pub fn run<R: Env + AllocGlobal + Input + Print + Eprint>(rt: &R, at_terminal: b
     }
 }
 
-// the words of the command line, unless memory runs out or one is no text
+// the words of the command line; the error is that memory ran out or that a word is no text
 fn words<R: Env + AllocGlobal>(rt: &R) -> Result<Vec<String>, Refusal> {
     match std::env::args(rt) {
         Ok(words) => Ok(words.collect(rt.alloc())?),

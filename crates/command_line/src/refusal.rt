@@ -1,6 +1,7 @@
 //! Why the program runs no command.
 ghost use Rattle.std.specs.Prelude.{◌≡◌, Some};
-ghost use Rattle.command_line.specs.Words.{IsFromClap, shown_option_fault};
+ghost use Rattle.command_line.specs.FaultText.{shown_option_fault};
+ghost use Rattle.command_line.specs.Words.{IsFromClap};
 ghost use Rattle.command_line.specs.declared.refusal.Refusal.TheVariants.{OutOfMemory, Options};
 
 use clap::error::ErrorKind;

@@ -101,7 +101,7 @@ impl Memory {
         requires place { i < GRANULE_BYTES }
         ensures { result ≡ byte_at self.now (GRANULE_BYTES * g + i) }
     {
-        self.region.byte(place_of(g) + i)
+        self.region.byte(start_of_granule(g) + i)
     }
 
     /// Writes `b` to byte `i`, 0 to 15, of granule `g`, which must be below `granules()`. No tag changes.
@@ -114,7 +114,7 @@ impl Memory {
         ensures others { ChangesOnlyBytes self.old self.new (GRANULE_BYTES * g + i) (GRANULE_BYTES * g + i + 1) }
         ensures memory { IsMemory self.new }
     {
-        self.write_bytes(place_of(g) + i, &[b]);
+        self.write_bytes(start_of_granule(g) + i, &[b]);
     }
 
     /// Word `i`, 0 or 1, of granule `g`, which must be below `granules()`: its bytes 8 i to 8 i + 7, the lowest first.
@@ -124,7 +124,7 @@ impl Memory {
         requires place { i < 2 }
         ensures { result ≡ word_at self.now (GRANULE_BYTES * g + 8 * i) }
     {
-        self.region.word(place_of(g) + 8 * i)
+        self.region.word(start_of_granule(g) + 8 * i)
     }
 
     /// Writes `w` to word `i`, 0 or 1, of granule `g`, which must be below `granules()`: its bytes 8 i to 8 i + 7, the lowest first.
@@ -139,7 +139,7 @@ impl Memory {
             (GRANULE_BYTES * g + 8 * i) (GRANULE_BYTES * g + 8 * i + 8) }
         ensures memory { IsMemory self.new }
     {
-        self.region.set_word(place_of(g) + 8 * i, w);
+        self.region.set_word(start_of_granule(g) + 8 * i, w);
     }
 
     /// Sets the sixteen bytes of granule `g`, which must be below `granules()`, to 0. No tag changes.
@@ -149,7 +149,7 @@ impl Memory {
         ensures others { ChangesOnlyBytes self.old self.new (GRANULE_BYTES * g) (GRANULE_BYTES * g + GRANULE_BYTES) }
         ensures memory { IsMemory self.new }
     {
-        self.write_bytes(place_of(g), &[0; GRANULE]);
+        self.write_bytes(start_of_granule(g), &[0; GRANULE]);
     }
 
     /// Fills `to` with the bytes from byte `i` of the memory on; granule g begins at byte 16 g.
@@ -175,18 +175,18 @@ impl Memory {
         self.region.write_bytes(i, bytes);
     }
 
-    // The place of granule g's tag in the region; for g past the last granule the end.
+    // The place of granule g's tag in the region. For g = granules() it is the end of the region.
     #[tactic(auto, using(crate::proofs::Granules::granules_counted))]
     fn place_of_tag(&self, g: u32) -> usize
         requires { g ≤ length self.now }
         ensures { result ≡ GRANULE_BYTES * length self.now + g }
     {
-        place_of(self.granules) + g as usize
+        start_of_granule(self.granules) + g as usize
     }
 }
 
 // The place in the region where the bytes of granule g begin.
-fn place_of(g: u32) -> usize
+fn start_of_granule(g: u32) -> usize
     ensures { result ≡ GRANULE_BYTES * g }
 {
     g as usize * GRANULE

@@ -14,20 +14,18 @@ use Rattle.heap_theory.specs.declared.event.Event.{Event}
 use Rattle.heap_theory.specs.declared.event.Event.TheVariants.{Load, Store}
 use Rattle.heap_theory.specs.declared.place_kind.PlaceKind.{PlaceKind}
 use Rattle.heap_theory.specs.AccessLaws.{IsAnswerTo, LoadIsAnswered, StoreIsAnswered, StoreIsDone, AllAccessesAreAnswered}
-use Rattle.heap_theory.specs.Hardening.{IsFaultAnswer}
 use Rattle.heap_theory.specs.GranuleKinds.{place_kind}
-use Rattle.heap_theory.specs.Replay.{Replay, Answer, variable, store_with, store_step, heap_after, replay_after, access_answer, answer_of, answers, replay_of}
+use Rattle.heap_theory.specs.Replay.{Replay, Answer, IsFaultAnswer, is_tag_fault, variable, store_with, store_step, heap_after, replay_after, access_answer, answer_of, answers, replay_of}
 use Rattle.heap_theory.specs.Replay.Answer.{Silent, Loaded, NotMapped, TagFault, NoPointer, NotFreed}
 use Rattle.heap_theory.specs.State.{Heap}
-use Rattle.heap_theory.specs.Totals.{is_tag_fault}
 
 -- ---- which answers are faults
 
 tag_fault_faults : (a : Answer) → is_tag_fault a ≡ true → IsFaultAnswer a
 tag_fault_faults Silent is = absurd (false≢true is)
 tag_fault_faults (Loaded bytes) is = absurd (false≢true is)
-tag_fault_faults NotMapped is = tt
-tag_fault_faults (TagFault g m p kind) is = tt
+tag_fault_faults NotMapped is = refl
+tag_fault_faults (TagFault g m p kind) is = refl
 tag_fault_faults (NoPointer cause) is = absurd (false≢true is)
 tag_fault_faults (NotFreed error) is = absurd (false≢true is)
 
@@ -48,7 +46,7 @@ module _ (h : Heap) (address len : ℕ) (done : Answer) (no_fault : IsFaultAnswe
     unmapped = (λ is. never, λ it. refl);
     tag_fault = (λ is. absurd (false≢true is), λ it. absurd (never it.0));
     names = λ g m p kind. (λ is. absurd (false≢true (ap is_tag_fault is)), λ it. absurd (never it.0.mapped));
-    succeeds = (λ is. absurd (no_fault (subst IsFaultAnswer is tt)), λ it. absurd (never it.0));
+    succeeds = (λ is. absurd (no_fault (subst IsFaultAnswer is refl)), λ it. absurd (never it.0));
   }
 
   tag_answer : (g m p : ℕ) → IsTagFault h.memory address len g m p → IsAnswerTo h address len done (TagFault g m p (place_kind h g))
@@ -56,7 +54,7 @@ module _ (h : Heap) (address len : ℕ) (done : Answer) (no_fault : IsFaultAnswe
     unmapped = (λ is. absurd (subst (Names h address len) is (t, refl)), λ never. absurd (never t.mapped));
     tag_fault = (λ is. (t.mapped, (g, t.touches, differs)), λ it. refl);
     names = λ g' m' p' kind. (λ is. subst (Names h address len) is (t, refl), λ it. same g' m' p' kind it.0 it.1);
-    succeeds = (λ is. absurd (no_fault (subst IsFaultAnswer is tt)), λ it. absurd (differs (it.1 g t.touches)));
+    succeeds = (λ is. absurd (no_fault (subst IsFaultAnswer is refl)), λ it. absurd (differs (it.1 g t.touches)));
   }
     where
       differs : tag_at h.memory g ≢ logical_tag address
@@ -77,9 +75,9 @@ module _ (h : Heap) (address len : ℕ) (done : Answer) (no_fault : IsFaultAnswe
   done_answer : IsMapped (length h.memory) address len → ((g : ℕ) → Touches address len g → tag_at h.memory g ≡ logical_tag address) →
       IsAnswerTo h address len done done
   done_answer mapped each = record {
-    unmapped = (λ is. absurd (no_fault (subst IsFaultAnswer (sym is) tt)), λ never. absurd (never mapped));
+    unmapped = (λ is. absurd (no_fault (subst IsFaultAnswer (sym is) refl)), λ never. absurd (never mapped));
     tag_fault = (λ is. absurd (no_fault (tag_fault_faults done is)), λ it. absurd (it.1.2 (each it.1.0 it.1.1)));
-    names = λ g m p kind. (λ is. absurd (no_fault (subst IsFaultAnswer (sym is) tt)), λ it. absurd (differs g m p it.0));
+    names = λ g m p kind. (λ is. absurd (no_fault (subst IsFaultAnswer (sym is) refl)), λ it. absurd (differs g m p it.0));
     succeeds = (λ is. (mapped, each), λ it. refl);
   }
     where
@@ -123,11 +121,11 @@ module _ (h : Heap) (address len : ℕ) (done : Answer) (no_fault : IsFaultAnswe
 
 pub load_is_answered : LoadIsAnswered
 unfolding answer_of
-load_is_answered r v off len some = access_is_answered r.heap (moved_by (variable r v) off) len _ (λ is. is) some
+load_is_answered r v off len some = access_is_answered r.heap (moved_by (variable r v) off) len _ false≢true some
 
 pub store_is_answered : StoreIsAnswered
 unfolding answer_of
-store_is_answered r v off len byte some = access_is_answered r.heap (moved_by (variable r v) off) len Silent (λ is. is) some
+store_is_answered r v off len byte some = access_is_answered r.heap (moved_by (variable r v) off) len Silent false≢true some
 
 -- a fault is not silent
 not_silent : (h : Heap) (fault : Fault) → access_answer h Silent (Some fault) ≡ Silent → ⊥

@@ -8,24 +8,23 @@ use Rattle.machine_theory.specs.declared.fault.Fault.{Fault}
 use Rattle.machine_theory.specs.declared.fault.Fault.TheVariants.{Unmapped, Alignment, TagCheck}
 use Rattle.machine_theory.specs.Access.{access_fault}
 use Rattle.machine_theory.specs.Address.{moved_by}
-use Rattle.class_table.specs.Layout.{Partition}
 use Rattle.heap_theory.specs.declared.event.Event.{Event}
 use Rattle.heap_theory.specs.declared.event.Event.TheVariants.{Load, Store}
 use Rattle.heap_theory.specs.Run.{Run, run_after, first_run, run}
-use Rattle.heap_theory.specs.Hardening.{IsFaultAnswer}
 use Rattle.heap_theory.specs.Report.{report_line, report_lines}
-use Rattle.heap_theory.specs.Replay.{Replay, Answer, variable, store_with, store_step, heap_after, replay_after, access_answer, answer_of, answers, first_replay, replay_of}
+use Rattle.heap_theory.specs.Replay.{Replay, Answer, IsFaultAnswer, is_large, is_no_class, is_exhausted, is_tag_fault, is_unmapped, is_refused, variable, store_with, store_step, heap_after, replay_after, access_answer, answer_of, answers, replay_of}
 use Rattle.heap_theory.specs.Replay.Answer.{Silent}
 use Rattle.heap_theory.specs.State.{Heap}
-use Rattle.heap_theory.specs.Totals.{no_totals, totals_of, totals_after, one_if, is_request, is_large, is_no_class, is_exhausted, is_tag_fault, is_unmapped, is_refused, loss_of_event}
+use Rattle.heap_theory.specs.Totals.{totals_of, totals_after, one_if, is_request, loss_of_event}
+use Rattle.heap_theory.specs.Laws.{TotalsOfNone, TotalsOfOneMore, StoredPartIsAReplay, OneStepMore, OneReplayStepMore, OneAnswerMore, AsManyAnswersAsEvents, OneLineMore}
 
 -- ---- faults
 
 fault_shows : (h : Heap) (done : Answer) (o : Option Fault) → IsSome o → IsFaultAnswer (access_answer h done o)
 fault_shows h done None some = absurd (false≢true some)
-fault_shows h done (Some Unmapped) some = tt
-fault_shows h done (Some Alignment) some = tt
-fault_shows h done (Some (TagCheck g m p)) some = tt
+fault_shows h done (Some Unmapped) some = refl
+fault_shows h done (Some Alignment) some = refl
+fault_shows h done (Some (TagCheck g m p)) some = refl
 
 fault_keeps : (h : Heap) (address : ℕ) (bytes : List ℕ) (o : Option Fault) → IsSome o → store_with h address bytes o ≡ h
 fault_keeps h address bytes None some = absurd (false≢true some)
@@ -49,28 +48,25 @@ module _ (r : Replay) (v : ℕ) (off : ℤ) (len : ℕ) (fault : IsSome (access_
 
 -- ---- one event more
 
-pub run-push : (layout : Partition) (seed quarantine : ℕ) (events : List Event) (e : Event) →
-    run layout seed quarantine (events ++ e ∷ []) ≡ run_after (run layout seed quarantine events) e
+pub run-push : OneStepMore
 unfolding run
 run-push layout seed quarantine events e = fold_push run_after (first_run layout seed quarantine) events e
 
-pub replay_of-push : (r : Replay) (events : List Event) (e : Event) → replay_of r (events ++ e ∷ []) ≡ replay_after (replay_of r events) e
+pub replay_of-push : OneReplayStepMore
 unfolding replay_of
 replay_of-push r events e = fold_push replay_after r events e
 
-pub answers-push : (r : Replay) (events : List Event) (e : Event) →
-    answers r (events ++ e ∷ []) ≡ answers r events ++ answer_of (replay_of r events) e ∷ []
+pub answers-push : OneAnswerMore
 unfolding answers replay_of
 answers-push r [] e = refl
 answers-push r (event ∷ events) e = ap (λ rest. answer_of r event ∷ rest) (answers-push (replay_after r event) events e)
 
-pub length-answers : (r : Replay) (events : List Event) → length (answers r events) ≡ length events
+pub length-answers : AsManyAnswersAsEvents
 unfolding answers
 length-answers r [] = refl
 length-answers r (e ∷ events) = omega (arith, length-answers (replay_after r e) events)
 
-pub report_lines-push : (number : ℕ) (given : List Answer) (answer : Answer) →
-    report_lines number (given ++ answer ∷ []) ≡ report_lines number given ++ report_line (number + length given) answer
+pub report_lines-push : OneLineMore
 unfolding report_lines
 report_lines-push number [] answer = append-nil (report_line number answer) ∙ ap (λ n. report_line n answer) (omega arith)
 report_lines-push number (first ∷ rest) answer =
@@ -85,19 +81,17 @@ unfolding run_after replay_of
 stored_of w [] = refl
 stored_of w (e ∷ events) = stored_of (run_after w e) events
 
-pub stored_part : (layout : Partition) (seed quarantine : ℕ) (events : List Event) →
-    (run layout seed quarantine events).replay ≡ replay_of (first_replay layout seed quarantine) events
+pub stored_part : StoredPartIsAReplay
 unfolding run first_run
 stored_part layout seed quarantine events = stored_of (first_run layout seed quarantine) events
 
 -- ---- totals
 
-pub totals_of-none : (classes : List ℕ) → totals_of classes [] ≡ no_totals
+pub totals_of-none : TotalsOfNone
 unfolding totals_of
 totals_of-none classes = refl
 
-pub totals_of-push : (classes : List ℕ) (happened : List (Event × Answer)) (p : Event × Answer) →
-    totals_of classes (happened ++ p ∷ []) ≡ totals_after classes (totals_of classes happened) p
+pub totals_of-push : TotalsOfOneMore
 unfolding totals_of totals_after
 totals_of-push classes happened p = λ i. record {
   events = length-append happened (p ∷ []) i;

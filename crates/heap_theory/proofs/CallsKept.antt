@@ -10,13 +10,12 @@ use Rattle.machine_theory.specs.Address.{logical_tag}
 use Rattle.machine_theory.specs.Memory.{written}
 use Rattle.class_table.specs.Layout.{Partition, slot_count}
 use Rattle.heap_theory.specs.declared.refusal.FreeError.{FreeError}
-use Rattle.heap_theory.specs.Calls.{Step, next_tag, given_out, freed, resized, with_payload, payload_bytes, moved, malloc_with, malloc_step, calloc_with, calloc_step, free_with, free_step, stays_in_class, move_with, realloc_with, realloc_step}
-use Rattle.heap_theory.specs.Lookups.{Chunk, IsReusable, IsGiven, IsLiveChunk, is_released, slot_for_request, chunk_at}
-use Rattle.heap_theory.specs.Run.{slot_if_moved}
+use Rattle.heap_theory.specs.Calls.{Step, next_tag, given_out, freed, resized, with_payload, payload_bytes, moved, malloc_with, malloc_step, calloc_with, calloc_step, free_with, free_step, stays_in_class, slot_if_moved, move_with, realloc_with, realloc_step}
+use Rattle.heap_theory.specs.Lookups.{Chunk, IsReusable, MayBeGiven, IsLiveChunk, slot_for_request, chunk_at}
 use Rattle.heap_theory.specs.Replay.{store_with, store_step}
 use Rattle.heap_theory.specs.Sound.{IsSoundHeap}
 use Rattle.class_table.specs.Sizes.{chunk_granules}
-use Rattle.heap_theory.specs.State.{State, Heap, state_at, last_tag, is_fresh}
+use Rattle.heap_theory.specs.State.{State, Heap, state_at, last_tag, is_fresh, is_released}
 use Rattle.heap_theory.specs.State.State.{Fresh, Live, Dead}
 use Rattle.heap_theory.proofs.Lookups.{slot_for_request-cases, chunk_at-is, room_in_place}
 use Rattle.heap_theory.proofs.HeapKept.{in_states, IsSoundHeap-given_out, IsSoundHeap-resized, IsSoundHeap-freed, IsSoundHeap-written, IsSoundHeap-with_payload}
@@ -100,7 +99,7 @@ KeepsGiven-resized h s n m t within live = record {
 -- slot s was given out, and then nothing else
 pub record GivesOut (h new : Heap) (s : ℕ) : Type 0 where
   pub n : ℕ
-  pub given : IsGiven h n s
+  pub given : MayBeGiven h n s
   pub kept : KeepsGiven (given_out h s n) new
   pub live : state_at new s ≡ Live n (next_tag h s)
 
@@ -150,11 +149,11 @@ not_reusable h s size t reusable live = ⊎_elim
 -- ---- a chunk is moved
 
 module _ where
-  given_sound : (h : Heap) (n s : ℕ) → IsSoundHeap h → IsGiven h n s → IsSoundHeap (given_out h s n)
+  given_sound : (h : Heap) (n s : ℕ) → IsSoundHeap h → MayBeGiven h n s → IsSoundHeap (given_out h s n)
   given_sound h n s sound given = IsSoundHeap-given_out h s n sound given.reusable.in_range given.room
 
   -- what stands before the old chunk is freed
-  module _ (h : Heap) (p : ℕ) (chunk : Chunk) (s n : ℕ) (sound : IsSoundHeap h) (c : IsLiveChunk h p chunk) (given : IsGiven h n s) where
+  module _ (h : Heap) (p : ℕ) (chunk : Chunk) (s n : ℕ) (sound : IsSoundHeap h) (c : IsLiveChunk h p chunk) (given : MayBeGiven h n s) where
     copied : Heap
     copied = with_payload (given_out h s n) s (payload_bytes h chunk.slot (min chunk.size n))
 
@@ -204,7 +203,7 @@ module _ where
   -- ---- the calls
 
   -- a slot is given out, and keeps its state
-  IsKept-given : (h new : Heap) (n s : ℕ) → IsSoundHeap h → IsGiven h n s → IsSoundHeap new → KeepsGiven (given_out h s n) new →
+  IsKept-given : (h new : Heap) (n s : ℕ) → IsSoundHeap h → MayBeGiven h n s → IsSoundHeap new → KeepsGiven (given_out h s n) new →
       state_at new s ≡ state_at (given_out h s n) s → IsKept h new (Some s)
   IsKept-given h new n s sound given new_sound kept same =
       let live = same ∙ state_at-given_out h s n (in_states h s sound given.reusable.in_range) in

@@ -7,12 +7,12 @@ use Rattle.machine_theory.specs.Memory.{Granule, no_granule, new_granule, tag_at
 use Rattle.class_table.specs.Layout.{Partition, IsPartition, slot_count, slot_of, AreInOrder}
 use Rattle.machine_theory.proofs.MemoryLaws.{tag_at_past}
 use Rattle.heap_theory.specs.Sound.{IsTaggedSlot, IfDead, IsSoundHeap}
-use Rattle.heap_theory.specs.State.{is_header, first_memory, first_heap}
+use Rattle.heap_theory.specs.State.{is_header_granule, first_memory, first_heap}
 use Rattle.heap_theory.specs.State.State.{Fresh}
 
 pub length-first_memory : (layout : Partition) → length (first_memory layout) ≡ layout.granules
 unfolding first_memory
-length-first_memory layout = length-map-range_with_len (λ g. cond (is_header layout g) no_granule new_granule) 0 layout.granules
+length-first_memory layout = length-map-range_with_len (λ g. cond (is_header_granule layout g) no_granule new_granule) 0 layout.granules
 
 -- past the end of a memory there is no tag
 tag_at-first_memory : (layout : Partition) (g : ℕ) → tag_at (first_memory layout) g ≡ 0
@@ -20,9 +20,9 @@ unfolding first_memory
 tag_at-first_memory layout g = ⊎_elim
     (λ within.
     ap (λ (granule : Granule). granule.tag)
-    (get_or-map-range_with_len (λ g. cond (is_header layout g) no_granule new_granule) 0 layout.granules g g no_granule within
+    (get_or-map-range_with_len (λ g. cond (is_header_granule layout g) no_granule new_granule) 0 layout.granules g g no_granule within
     (omega arith))
-    ∙ cond_both (is_header layout g) no_granule new_granule (λ granule. granule.tag ≡ 0) (λ _. refl) (λ _. refl))
+    ∙ cond_both (is_header_granule layout g) no_granule new_granule (λ granule. granule.tag ≡ 0) (λ _. refl) (λ _. refl))
     (λ past. tag_at_past (first_memory layout) g (subst (λ n. n ≤ g) (sym (length-first_memory layout)) past))
     (cases_lt g layout.granules)
 

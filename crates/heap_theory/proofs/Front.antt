@@ -4,14 +4,15 @@ use Rattle.std.specs.Prelude.{◌==◌, ◌&&◌, nat_le, slice_get, Contains}
 use Rattle.std.specs.Option.{option_or}
 use Rattle.std.specs.List.{range_with_len}
 use Rattle.std.proofs.lemmas.Bool.{cases_eq, eq-eqb, leb-true, le-leb, ltb-true, and_from, and_parts}
+use Rattle.std.proofs.lemmas.List.Sums.{AllPass-from_list_all, list_all-from_AllPass}
 use Rattle.class_table.specs.Layout.{slot_count}
 use Rattle.heap_theory.specs.QueueAndLists.{HasMark, IsFreedList, AgreeWithMarks}
-use Rattle.heap_theory.specs.Lookups.{is_dead, is_released, mark_of, slots_with, freed_last, lowest_fresh, slot_for}
+use Rattle.heap_theory.specs.Lookups.{slots_with, freed_last, lowest_fresh, slot_for}
 use Rattle.heap_theory.specs.Links.{list_of}
 use Rattle.heap_theory.specs.Sound.{IsSoundHeap}
-use Rattle.heap_theory.specs.State.{Heap, slot_in, state_at}
+use Rattle.heap_theory.specs.State.{Heap, slot_in, state_at, is_dead, is_released, mark_of}
 use Rattle.heap_theory.proofs.Lookups.{IsCandidate, All-slots_with, is_latest, freed_last-is}
-use Rattle.heap_theory.proofs.ListSearch.{find_only, in_filter, list_all-from, from-list_all, Contains-range, Contains-cases, Contains-none}
+use Rattle.heap_theory.proofs.ListSearch.{find_only, in_filter, Contains-range, Contains-cases, Contains-none}
 use Rattle.heap_theory.proofs.Marks.{HasMark-own, mark_of-is, same_mark, released_from_mark, chain_bytes, list_mark, IsNumberOf, number_is}
 
 module _ (h : Heap) (queue : List ℕ) (lists : List (List ℕ)) (number class : ℕ) (sound : IsSoundHeap h) (b : AgreeWithMarks h queue lists)
@@ -47,7 +48,7 @@ module _ (h : Heap) (queue : List ℕ) (lists : List (List ℕ)) (number class :
       (and_from _ _ (eq-eqb _ _ f.2) (released_from_mark h (state_at h s) f.0 f.3 over)) in
       ap (λ o. option_or o (lowest_fresh h class))
       (find_only (is_latest h (slots_with h (is_released h) class)) (slots_with h (is_released h) class) s candidate
-      (list_all-from (λ r. nat_le (mark_of (state_at h r)) (mark_of (state_at h s))) (slots_with h (is_released h) class)
+      (list_all-from_AllPass (λ r. nat_le (mark_of (state_at h r)) (mark_of (state_at h s))) (slots_with h (is_released h) class)
       (λ k d inside. le-leb _ _ (before f _ (All-slots_with h (is_released h) class k d inside))))
       (λ k d inside latest. only f candidate _ (All-slots_with h (is_released h) class k d inside) latest))
     where
@@ -68,8 +69,8 @@ module _ (h : Heap) (queue : List ℕ) (lists : List (List ℕ)) (number class :
           let here : mark_of (state_at h s) ≡ f.0 = mark_of-is (state_at h s) f.0 f.3 in
           let above : mark_of (state_at h s) ≤ mark_of (state_at h r) =
           subst (λ q. mark_of (state_at h q) ≤ mark_of (state_at h r)) candidate.2
-          (leb-true _ _ (from-list_all (λ q. nat_le (mark_of (state_at h q)) (mark_of (state_at h r))) (slots_with h (is_released h) class)
-          latest candidate.0 s candidate.1)) in
+          (leb-true _ _ (AllPass-from_list_all (λ q. nat_le (mark_of (state_at h q)) (mark_of (state_at h r)))
+          (slots_with h (is_released h) class) latest candidate.0 s candidate.1)) in
           let under : mark_of (state_at h r) ≤ mark_of (state_at h s) = before f r c in
           elim (cases_eq r s) [
             | inl same ↦ same

@@ -1,17 +1,17 @@
 -- What the kinds of granules mean.
 use Rattle.std.proofs.Common.{◌≡◌, ℕ, ◌+◌, ◌<◌, ◌≤◌, true, cond, refl, sym, ap, ◌∙◌, subst, inl, inr, arith, Some, None, Option}
 use Rattle.std.specs.Prelude.{◌==◌, nat_le, nat_lt}
-use Rattle.std.proofs.lemmas.Bool.{and_from, cases_eq, cases_lt, cond-true, cond-false, eq-eqb, false_from_ne_true, le-leb, lt-ltb, ltb-true, and_parts, ne_eqb}
+use Rattle.std.proofs.lemmas.Bool.{and_from, cases_eq, cases_lt, cond-true, cond-false, eq-eqb, false_from_ne_true, le-leb, lt-ltb, ltb-true, and_parts, ne_eqb, false≢true}
 use Rattle.machine_theory.specs.Memory.{is_among}
 use Rattle.class_table.specs.Layout.{Covers, slot_over}
 use Rattle.heap_theory.proofs.TheoryLemmas as laws
 use Rattle.heap_theory.specs.declared.place_kind.PlaceKind.{PlaceKind}
 use Rattle.heap_theory.specs.declared.place_kind.PlaceKind.TheVariants.{Slack, Header, Tail, Dead as DeadChunk, Other}
-use Rattle.heap_theory.specs.Hardening.{IsChunkGranule, IsPayloadGranule, IsLive, IsDead}
+use Rattle.heap_theory.specs.Hardening.{IsChunkGranule, IsPayloadGranule}
 use Rattle.heap_theory.specs.KindLaws.{IsOfItsKind, GranuleIsOfItsKind}
 use Rattle.heap_theory.specs.GranuleKinds.{kind_of_chunk, kind_in_slot, kind_at, place_kind}
 use Rattle.heap_theory.specs.Sound.{IsSoundHeap}
-use Rattle.heap_theory.specs.State.{State, Heap, slot_in, state_at, chunk_of, payload_start, IsSlot}
+use Rattle.heap_theory.specs.State.{State, Heap, IsLive, is_dead, slot_in, state_at, chunk_granules_of, payload_start, IsSlot}
 use Rattle.heap_theory.specs.State.State.{Fresh, Live, Dead}
 
 is_among-from : (first count n : ℕ) → first ≤ n → n < first + count → is_among first count n ≡ true
@@ -43,7 +43,8 @@ module _ (h : Heap) (sound : IsSoundHeap h) (g : ℕ) where
 
   -- past the header
   in_payload : (s : ℕ) → IsPayloadGranule h s g →
-      place_kind h g ≡ cond (is_among (payload_start (slot_in h s)) (chunk_of (state_at h s)) g) (kind_of_chunk (state_at h s)) Tail
+      place_kind h g
+      ≡ cond (is_among (payload_start (slot_in h s)) (chunk_granules_of (state_at h s)) g) (kind_of_chunk (state_at h s)) Tail
   in_payload s p =
       let from : (slot_in h s).start < g = p.from in
       in_slot s p.in_range (record { from = omega arith; to = p.to })
@@ -56,17 +57,17 @@ module _ (h : Heap) (sound : IsSoundHeap h) (g : ℕ) where
   chunk_is : (s : ℕ) → IsChunkGranule h s g → place_kind h g ≡ kind_of_chunk (state_at h s)
   chunk_is s c =
       in_payload s (chunk_in_payload s c)
-      ∙ cond-true (is_among (payload_start (slot_in h s)) (chunk_of (state_at h s)) g) (kind_of_chunk (state_at h s)) Tail
-      (is_among-from (payload_start (slot_in h s)) (chunk_of (state_at h s)) g (omega (arith, c.from)) (omega (arith, c.to)))
+      ∙ cond-true (is_among (payload_start (slot_in h s)) (chunk_granules_of (state_at h s)) g) (kind_of_chunk (state_at h s)) Tail
+      (is_among-from (payload_start (slot_in h s)) (chunk_granules_of (state_at h s)) g (omega (arith, c.from)) (omega (arith, c.to)))
 
   tail_is : (s : ℕ) → IsPayloadGranule h s g → (IsChunkGranule h s g → ⊥) → place_kind h g ≡ Tail
   tail_is s p rest =
       in_payload s p
-      ∙ cond-false (is_among (payload_start (slot_in h s)) (chunk_of (state_at h s)) g) (kind_of_chunk (state_at h s)) Tail
+      ∙ cond-false (is_among (payload_start (slot_in h s)) (chunk_granules_of (state_at h s)) g) (kind_of_chunk (state_at h s)) Tail
       (false_from_ne_true _ (λ among. rest (record {
         in_range = p.in_range;
         from = p.from;
-        to = omega (arith, is_among-to (payload_start (slot_in h s)) (chunk_of (state_at h s)) g among);
+        to = omega (arith, is_among-to (payload_start (slot_in h s)) (chunk_granules_of (state_at h s)) g among);
       })))
 
   live_is : (x : State) → IsLive x → kind_of_chunk x ≡ Other
@@ -74,9 +75,9 @@ module _ (h : Heap) (sound : IsSoundHeap h) (g : ℕ) where
   live_is (Live size tag) live = refl
   live_is (Dead size tag mark) live = absurd live
 
-  dead_is : (x : State) → IsDead x → kind_of_chunk x ≡ DeadChunk
-  dead_is Fresh dead = absurd dead
-  dead_is (Live size tag) dead = absurd dead
+  dead_is : (x : State) → is_dead x ≡ true → kind_of_chunk x ≡ DeadChunk
+  dead_is Fresh dead = absurd (false≢true dead)
+  dead_is (Live size tag) dead = absurd (false≢true dead)
   dead_is (Dead size tag mark) dead = refl
 
   -- ---- the place of a granule whose kind is known
@@ -85,7 +86,7 @@ module _ (h : Heap) (sound : IsSoundHeap h) (g : ℕ) where
   Means Slack = (s : ℕ) → IsSlot h s → Covers (slot_in h s) g → ⊥
   Means Header = (s : ℕ) × IsSlot h s × ((slot_in h s).start ≡ g)
   Means Tail = (s : ℕ) × IsPayloadGranule h s g × (IsChunkGranule h s g → ⊥)
-  Means DeadChunk = (s : ℕ) × IsDead (state_at h s) × IsChunkGranule h s g
+  Means DeadChunk = (s : ℕ) × (is_dead (state_at h s) ≡ true) × IsChunkGranule h s g
   Means Other = (s : ℕ) × IsLive (state_at h s) × IsChunkGranule h s g
 
   means : Means (place_kind h g)
@@ -95,10 +96,10 @@ module _ (h : Heap) (sound : IsSoundHeap h) (g : ℕ) where
       chunk_means : (s : ℕ) → IsChunkGranule h s g → (x : State) → state_at h s ≡ x → Means (kind_of_chunk x)
       chunk_means s c Fresh was =
           let from : (slot_in h s).start < g = c.from in
-          let to : g ≤ (slot_in h s).start + 0 = subst (λ x. g ≤ (slot_in h s).start + chunk_of x) was c.to in
+          let to : g ≤ (slot_in h s).start + 0 = subst (λ x. g ≤ (slot_in h s).start + chunk_granules_of x) was c.to in
           absurd (omega arith)
       chunk_means s c (Live size tag) was = (s, subst IsLive (sym was) tt, c)
-      chunk_means s c (Dead size tag mark) was = (s, subst IsDead (sym was) tt, c)
+      chunk_means s c (Dead size tag mark) was = (s, ap is_dead was, c)
 
       by : (o : Option ℕ) → slot_over h.layout g ≡ o → Means (place_kind h g)
       by None was =
@@ -110,7 +111,7 @@ module _ (h : Heap) (sound : IsSoundHeap h) (g : ℕ) where
           let from : (slot_in h s).start ≤ g = at.1.from in
           elim (cases_eq (slot_in h s).start g) [
             | inl first ↦ subst Means (sym (header_is s at.0 first)) (s, at.0, first)
-            | inr past ↦ elim (cases_lt ((slot_in h s).start + chunk_of (state_at h s)) g) [
+            | inr past ↦ elim (cases_lt ((slot_in h s).start + chunk_granules_of (state_at h s)) g) [
               | inl above ↦
                   let p : IsPayloadGranule h s g = record { in_range = at.0; from = omega arith; to = at.1.to } in
                   let rest : IsChunkGranule h s g → ⊥ = λ c. omega (arith, c.to) in

@@ -9,7 +9,7 @@ use Rattle.heap_theory.specs.declared.place_kind.PlaceKind.TheVariants.{Header, 
 use Rattle.heap_theory.specs.Hardening.{IsBookkeeping, IsChunkGranule, IsPayloadGranule, ChunksAreTagged, ParitiesDiffer}
 use Rattle.heap_theory.specs.GranuleKinds.{kind_of_chunk, kind_in_slot, kind_at, place_kind}
 use Rattle.heap_theory.specs.Sound.{IsTagOf, IsChunkTag, IsTaggedSlot, IsSoundHeap}
-use Rattle.heap_theory.specs.State.{State, Heap, slot_in, state_at, chunk_of, payload_start}
+use Rattle.heap_theory.specs.State.{State, Heap, slot_in, state_at, chunk_granules_of, payload_start}
 use Rattle.heap_theory.specs.State.State.{Fresh, Live, Dead}
 
 -- ---- bookkeeping granules have tag 0
@@ -20,7 +20,7 @@ not_among first count g out =
     [ inl low ↦ inl (leb-false _ _ low) | inr high ↦ inr (ltb-false _ _ high) ]
 
 -- a granule of a chunk is no bookkeeping
-no_chunk : (slot : Slot) (state : State) (g : ℕ) → is_among (payload_start slot) (chunk_of state) g ≡ true →
+no_chunk : (slot : Slot) (state : State) (g : ℕ) → is_among (payload_start slot) (chunk_granules_of state) g ≡ true →
     IsBookkeeping (kind_of_chunk state) → ⊥
 no_chunk slot Fresh g among book =
     let both = and_parts (nat_le (payload_start slot) g) (nat_lt g (payload_start slot + 0)) among in
@@ -33,19 +33,21 @@ in_slot_tag : (h : Heap) (s g : ℕ) → Covers (slot_in h s) g → IsTaggedSlot
 in_slot_tag h s g c t book = elim (cases_Bool ((slot_in h s).start == g)) [
   | inl is ↦ subst (λ k. tag_at h.memory k ≡ 0) (eqb-true _ _ is) t.header
   | inr not ↦
-      let inner : IsBookkeeping (cond (is_among (payload_start (slot_in h s)) (chunk_of (state_at h s)) g) (kind_of_chunk (state_at h s)) Tail) =
+      let inner : IsBookkeeping (cond (is_among (payload_start (slot_in h s)) (chunk_granules_of (state_at h s)) g)
+      (kind_of_chunk (state_at h s)) Tail) =
       subst (λ b. IsBookkeeping
-      (cond b Header (cond (is_among (payload_start (slot_in h s)) (chunk_of (state_at h s)) g) (kind_of_chunk (state_at h s)) Tail)))
+      (cond b Header (cond (is_among (payload_start (slot_in h s)) (chunk_granules_of (state_at h s)) g)
+      (kind_of_chunk (state_at h s)) Tail)))
       not book in
-      elim (cases_Bool (is_among (payload_start (slot_in h s)) (chunk_of (state_at h s)) g)) [
+      elim (cases_Bool (is_among (payload_start (slot_in h s)) (chunk_granules_of (state_at h s)) g)) [
         | inl among ↦ absurd (no_chunk (slot_in h s) (state_at h s) g among
             (subst (λ b. IsBookkeeping (cond b (kind_of_chunk (state_at h s)) Tail)) among inner))
         | inr out ↦
             let not_header : (slot_in h s).start ≡ g → ⊥ = eqb-false _ _ not in
             let from : (slot_in h s).start ≤ g = c.from in
-            let above : (slot_in h s).start + chunk_of (state_at h s) < g =
+            let above : (slot_in h s).start + chunk_granules_of (state_at h s) < g =
             ⊎_elim (λ low. absurd (omega arith)) (λ high. omega arith)
-            (not_among (payload_start (slot_in h s)) (chunk_of (state_at h s)) g out) in
+            (not_among (payload_start (slot_in h s)) (chunk_granules_of (state_at h s)) g out) in
             t.tail g above c.to
       ]
 ]
@@ -70,14 +72,14 @@ payload_tag h r g sound p = by_state (state_at h r) refl
     t = sound.tagged r p.in_range
 
     at : IsTagOf r t.chunk_tag → (tag_at h.memory g ≡ 0) ⊎ IsTagOf r (tag_at h.memory g)
-    at is_tag = elim (cases_lt ((slot_in h r).start + chunk_of (state_at h r)) g) [
+    at is_tag = elim (cases_lt ((slot_in h r).start + chunk_granules_of (state_at h r)) g) [
       | inl above ↦ inl (t.tail g above p.to)
       | inr below ↦ inr (subst (IsTagOf r) (sym (t.chunk g p.from below)) is_tag)
     ]
 
     by_state : (x : State) → state_at h r ≡ x → (tag_at h.memory g ≡ 0) ⊎ IsTagOf r (tag_at h.memory g)
     by_state Fresh was =
-        inl (t.tail g (subst (λ x. (slot_in h r).start + chunk_of x < g) (sym was)
+        inl (t.tail g (subst (λ x. (slot_in h r).start + chunk_granules_of x < g) (sym was)
         (let above : (slot_in h r).start < g = p.from in omega arith)) p.to)
     by_state (Live n u) was =
         let both : IsTagOf r u × (t.chunk_tag ≡ u) = subst (λ x. IsChunkTag r x t.chunk_tag) was t.is_chunk_tag in
@@ -93,7 +95,7 @@ covered_tag h s g t c = elim (cases_eq (slot_in h s).start g) [
   | inl is ↦ inl (subst (λ k. tag_at h.memory k ≡ 0) is t.header)
   | inr not ↦
       let from : (slot_in h s).start ≤ g = c.from in
-      elim (cases_lt ((slot_in h s).start + chunk_of (state_at h s)) g) [
+      elim (cases_lt ((slot_in h s).start + chunk_granules_of (state_at h s)) g) [
         | inl above ↦ inl (t.tail g above c.to)
         | inr below ↦ inr (t.chunk g (omega arith) below)
       ]
@@ -110,7 +112,7 @@ chunk_has_tag h s g sound c = subst (IsTagOf s) (sym (t.chunk g c.from c.to)) (b
     by_state : (x : State) → state_at h s ≡ x → IsTagOf s t.chunk_tag
     by_state Fresh was =
         let from : (slot_in h s).start < g = c.from in
-        let to : g ≤ (slot_in h s).start + 0 = subst (λ x. g ≤ (slot_in h s).start + chunk_of x) was c.to in
+        let to : g ≤ (slot_in h s).start + 0 = subst (λ x. g ≤ (slot_in h s).start + chunk_granules_of x) was c.to in
         absurd (omega arith)
     by_state (Live n u) was =
         let both : IsTagOf s u × (t.chunk_tag ≡ u) = subst (λ x. IsChunkTag s x t.chunk_tag) was t.is_chunk_tag in

@@ -1,21 +1,22 @@
 -- What hardens the heap, in a sound run.
-use Rattle.std.proofs.Common.{◌≡◌, ◌≢◌, ℕ, ◌+◌, ◌-◌, ◌*◌, ◌%◌, ◌^◌, ◌<◌, ◌≤◌, length, refl, sym, ap, ◌∙◌, subst, inl, inr, arith}
+use Rattle.std.proofs.Common.{◌≡◌, ◌≢◌, ℕ, ◌+◌, ◌-◌, ◌*◌, ◌%◌, ◌^◌, ◌<◌, ◌≤◌, true, length, refl, sym, ap, ◌∙◌, subst, inl, inr, arith}
 use Rattle.std.specs.Prelude.{ℤ}
+use Rattle.std.proofs.lemmas.Bool.{false≢true}
 use Rattle.machine_theory.specs.Address.{logical_tag, place_of, with_tag, moved_by, region_start, Touches}
 use Rattle.machine_theory.specs.Memory.{tag_at}
 use Rattle.class_table.specs.Layout.{end_of}
 use Rattle.heap_theory.proofs.TheoryLemmas as laws
 use Rattle.heap_theory.specs.Run.{Run}
-use Rattle.heap_theory.specs.Hardening.{IsAccess, Faults, IsChunkGranule, IsLive, IsDead, HasGeneration, WasFreed, NullOrTagged, BookkeepingOutOfReach, InsideSucceeds, NeighboursFault, FreedFaults, ChunkTagsNotZero, ChunkTagsDiffer}
+use Rattle.heap_theory.specs.Hardening.{IsAccess, Faults, IsChunkGranule, HasGeneration, WasFreed, NullOrTagged, BookkeepingOutOfReach, InsideSucceeds, NeighboursFault, FreedFaults, ChunkTagsNotZero, ChunkTagsDiffer}
 use Rattle.heap_theory.specs.Replay.{variable}
 use Rattle.heap_theory.specs.Sound.{IsTagOf, IsChunkTag, IsTaggedSlot}
 use Rattle.heap_theory.specs.SoundRun.{IsAddressOf, IsSoundRun, ForGeneration}
-use Rattle.heap_theory.specs.State.{State, slot_in, state_at, last_tag, chunk_of, payload_place}
+use Rattle.heap_theory.specs.State.{State, IsLive, is_dead, slot_in, state_at, last_tag, chunk_granules_of, payload_place}
 use Rattle.heap_theory.specs.State.State.{Fresh, Live, Dead}
 use Rattle.heap_theory.proofs.GranuleTags.{bookkeeping_tag, payload_tag, covered_tag, chunks_tagged, parities_differ}
 use Rattle.heap_theory.proofs.HeapKept.{in_region}
 
--- an address below 2 ^ 60
+-- a place with a tag is an address below 2 ^ 60
 with_tag-below : (place tag : ℕ) → place < 2 ^ 56 → tag < 16 → with_tag place tag < 2 ^ 60
 with_tag-below place tag low fits = omega arith
 
@@ -120,9 +121,9 @@ module _ (w : Run) (sound : IsSoundRun w) where
           WasFreed w s time → tagged.chunk_tag ≡ logical_tag (variable w.replay v) → ⊥
       differs i tagged (inl dead) same = dead_differs (state_at w.replay.heap s) refl dead.0
         where
-          dead_differs : (x : State) → state_at w.replay.heap s ≡ x → IsDead x → ⊥
-          dead_differs Fresh was d = d
-          dead_differs (Live n u) was d = d
+          dead_differs : (x : State) → state_at w.replay.heap s ≡ x → is_dead x ≡ true → ⊥
+          dead_differs Fresh was d = false≢true d
+          dead_differs (Live n u) was d = false≢true d
           dead_differs (Dead n u m) was d =
               let all : IsTagOf s u × IsTagOf s tagged.chunk_tag × (tagged.chunk_tag ≢ u) =
               subst (λ x. IsChunkTag s x tagged.chunk_tag) was tagged.is_chunk_tag in
@@ -145,17 +146,17 @@ module _ (w : Run) (sound : IsSoundRun w) where
       sound.heap.tagged s i.in_range in
       let region_small = small in
       let inside = in_region w.replay.heap s sound.heap i.in_range in
-      let room : chunk_of (state_at w.replay.heap s) < (slot_in w.replay.heap s).class = tagged.room in
+      let room : chunk_granules_of (state_at w.replay.heap s) < (slot_in w.replay.heap s).class = tagged.room in
       let chunk_tag : tagged.chunk_tag ≡ logical_tag (variable w.replay v) = live_tag i tagged (state_at w.replay.heap s) refl live.live in
       let some : 0 < len = a.some in
       let few : len ≤ 64 = a.few in
       let first = within 0 some in
       let first_from : region_start + 16 * first.0 ≤ place_of address + 0 = first.2.from in
       let first_to : place_of address + 0 < region_start + 16 * first.0 + 16 = first.2.to in
-      let first_low : first.0 ≤ (slot_in w.replay.heap s).start + chunk_of (state_at w.replay.heap s) = first.1.to in
+      let first_low : first.0 ≤ (slot_in w.replay.heap s).start + chunk_granules_of (state_at w.replay.heap s) = first.1.to in
       let last = within (len - 1) (omega arith) in
       let last_to : place_of address + (len - 1) < region_start + 16 * last.0 + 16 = last.2.to in
-      let last_low : last.0 ≤ (slot_in w.replay.heap s).start + chunk_of (state_at w.replay.heap s) = last.1.to in
+      let last_low : last.0 ≤ (slot_in w.replay.heap s).start + chunk_granules_of (state_at w.replay.heap s) = last.1.to in
       let near : place_of address < 2 ^ 37 = omega arith in
       let place_low : payload_place (slot_in w.replay.heap s) < 2 ^ 56 = omega arith in
       let low : variable w.replay v < 2 ^ 60 =
@@ -172,7 +173,7 @@ module _ (w : Run) (sound : IsSoundRun w) where
       let here = within t.0 t.1 in
       let same : here.0 ≡ g = laws.one_granule here.0 g (place_of address + t.0) here.2 t.2 in
       let in_chunk : IsChunkGranule w.replay.heap s g = subst (IsChunkGranule w.replay.heap s) same here.1 in
-      let g_low : g ≤ (slot_in w.replay.heap s).start + chunk_of (state_at w.replay.heap s) = in_chunk.to in
+      let g_low : g ≤ (slot_in w.replay.heap s).start + chunk_granules_of (state_at w.replay.heap s) = in_chunk.to in
       tagged.chunk g in_chunk.from in_chunk.to ∙ chunk_tag ∙ sym (same_tag v off len address g a (omega arith) t))
     where
       live_tag : IsAddressOf w.replay.heap w.times (variable w.replay v) s time →

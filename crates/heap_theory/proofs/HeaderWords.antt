@@ -1,21 +1,22 @@
 -- A header that is written is read, and says how its slot stands.
-use Rattle.std.proofs.Common.{⊎_elim, ◌≡◌, ◌≢◌, ◌⊎◌, ℕ, zero, suc, ◌+◌, ◌*◌, ◌/◌, ◌%◌, ◌^◌, ◌<◌, ◌≤◌, false, List, ◌++◌, length, get_or, refl, sym, ap, ◌∙◌, inl, inr, arith, Some, None, Option}
+use Rattle.std.proofs.Common.{⊎_elim, ◌≡◌, ◌⊎◌, ℕ, zero, suc, ◌+◌, ◌*◌, ◌/◌, ◌%◌, ◌^◌, ◌<◌, ◌≤◌, false, ◌++◌, length, get_or, refl, sym, ap, ◌∙◌, inl, inr, arith, Some, None, Option}
 use Rattle.std.specs.Prelude.{◌==◌, All, slice_get, position, unwrap_or}
 use Rattle.std.specs.Int.{w64, to_le_bytes, from_le_bytes}
 use Rattle.std.proofs.lemmas.Bool.{cases_Bool, cases_order, eq-eqb, eqb-true, both_ways}
-use Rattle.std.proofs.lemmas.List.Elements.{All-append, All-contains, All-from_recursion}
+use Rattle.std.proofs.lemmas.List.Elements.{All-append, All-from_recursion}
 use Rattle.std.proofs.lemmas.List.Quantifiers.{position-Some}
 use Rattle.std.proofs.lemmas.Option.{slice_get-get_or, slice_get_within}
-use Rattle.machine_theory.specs.Memory.{Granule, IsMemory, word_at, tag_at, tagged, written}
+use Rattle.machine_theory.specs.Memory.{IsMemory, word_at, written}
 use Rattle.class_table.specs.Layout.{Partition, slot_count, slot_of}
+use Rattle.class_table.specs.Tables.{IsLegalTable}
 use Rattle.heap_theory.proofs.TheoryLemmas as laws
-use Rattle.heap_theory.specs.Lookups.{is_released, mark_of}
-use Rattle.heap_theory.specs.Header.{Standing, Header, FitsWords, code_of, standing_of, first_word, second_word, header_of, header_at, with_header, shown_state, size_of, standing_in, class_number, header_with, header_for}
+use Rattle.heap_theory.specs.Header.{Standing, code_of, standing_of, first_word, second_word, header_of, header_at, with_header, shown_state, size_of, standing_in, class_number, header_with, header_for}
 use Rattle.heap_theory.specs.Header.Standing.{Fresh, Live, Quarantined, Freed}
-use Rattle.heap_theory.specs.Sound.{IfDead, IsChunkTag, IsSoundHeap}
-use Rattle.heap_theory.specs.State.{State, Heap, slot_in, state_at, last_tag, chunk_of}
+use Rattle.heap_theory.specs.Sound.{IfDead, IsChunkTag}
+use Rattle.heap_theory.specs.State.{State, slot_in, state_at, last_tag, chunk_granules_of, is_released, mark_of}
 use Rattle.heap_theory.specs.State.State.{Fresh as NeverGiven, Live as Given, Dead}
 use Rattle.heap_theory.proofs.ListSearch.{position-None}
+use Rattle.heap_theory.specs.HeaderLaws.{HeaderIsReadFromWords, WordsAreOfHeader, WordsFit, ReadHeaderFits, HeaderShowsState, ClassIsAtItsNumber, SlotHeaderFits, HeaderIsTwoWords, WrittenHeaderIsRead, OtherHeadersStay, HeaderKeepsTags, HeaderKeepsMemory, TagsKeepHeaders, OtherBytesKeepHeaders}
 
 -- ---- words
 
@@ -31,7 +32,7 @@ standing_of-code_of Live = refl
 standing_of-code_of Quarantined = refl
 standing_of-code_of Freed = refl
 
-pub header_of-words : (header : Header) → FitsWords header → header_of (first_word header) (second_word header) ≡ header
+pub header_of-words : HeaderIsReadFromWords
 header_of-words header fits =
     let code = code_fits header.standing in
     let code_is : first_word header % 2 ^ 2 ≡ code_of header.standing = omega arith in
@@ -50,14 +51,13 @@ code_of-standing_of (suc (suc zero)) below = refl
 code_of-standing_of (suc (suc (suc zero))) below = refl
 code_of-standing_of (suc (suc (suc (suc code)))) below = absurd (omega arith)
 
-pub words-header_of : (first second : ℕ) → (first_word (header_of first second) ≡ first) × (second_word (header_of first second) ≡ second)
+pub words-header_of : WordsAreOfHeader
 words-header_of first second = let code = code_of-standing_of (first % 2 ^ 2) (omega arith) in (omega arith, refl)
 
-pub words_fit : (header : Header) → FitsWords header → (first_word header < 2 ^ 64) × (second_word header < 2 ^ 64)
+pub words_fit : WordsFit
 words_fit header fits = let code = code_fits header.standing in (omega arith, fits.mark)
 
-pub header_of-fits : (first second : ℕ) → first < 2 ^ 64 → second < 2 ^ 64 → (header_of first second).class < 32 →
-    FitsWords (header_of first second)
+pub header_of-fits : ReadHeaderFits
 header_of-fits first second one other class =
     record { size = omega arith; tag = omega arith; class = class; next = omega arith; mark = other }
 
@@ -67,22 +67,19 @@ bytes_fit : (n : ℕ) → All (λ b. b < 256) (to_le_bytes w64 n)
 bytes_fit n = All-from_recursion (λ b. b < 256) (to_le_bytes w64 n)
     (omega arith, (omega arith, (omega arith, (omega arith, (omega arith, (omega arith, (omega arith, (omega arith, tt))))))))
 
-pub with_header-words : (memory : List Granule) (g : ℕ) (header : Header) →
-    with_header memory g header
-    ≡ written (16 * g + 8) (to_le_bytes w64 (second_word header)) (written (16 * g) (to_le_bytes w64 (first_word header)) memory)
+pub with_header-words : HeaderIsTwoWords
 unfolding with_header
 with_header-words memory g header =
     sym (laws.in_parts (16 * g) (to_le_bytes w64 (first_word header)) (to_le_bytes w64 (second_word header)) memory)
 
-pub IsMemory-with_header : (memory : List Granule) (g : ℕ) (header : Header) → IsMemory memory → IsMemory (with_header memory g header)
+pub IsMemory-with_header : HeaderKeepsMemory
 unfolding with_header
 IsMemory-with_header memory g header is =
     laws.memory_written (16 * g) (to_le_bytes w64 (first_word header) ++ to_le_bytes w64 (second_word header)) memory
     (All-append (λ b. b < 256) (to_le_bytes w64 (first_word header)) (to_le_bytes w64 (second_word header)) (bytes_fit (first_word header))
     (bytes_fit (second_word header))) is
 
-pub header_at-with_header : (memory : List Granule) (g : ℕ) (header : Header) → IsMemory memory → g < length memory → FitsWords header →
-    header_at (with_header memory g header) g ≡ header
+pub header_at-with_header : WrittenHeaderIsRead
 unfolding header_at word_at
 header_at-with_header memory g header is within fits =
     let fit = words_fit header fits in
@@ -102,8 +99,7 @@ header_at-with_header memory g header is within fits =
     (λ i. header_of (first i) (second i)) ∙ header_of-words header fits
 
 -- bytes outside of a granule leave its header as it is
-pub header_at-written : (i g : ℕ) (new : List ℕ) (memory : List Granule) → (i + length new ≤ 16 * g) ⊎ (16 * g + 16 ≤ i) →
-    header_at (written i new memory) g ≡ header_at memory g
+pub header_at-written : OtherBytesKeepHeaders
 unfolding header_at word_at
 header_at-written i g new memory out =
     λ j. header_of
@@ -113,15 +109,14 @@ header_at-written i g new memory out =
     apart : (at : ℕ) → (16 * g ≤ at) × (at + 8 ≤ 16 * g + 16) → (at + 8 ≤ i) ⊎ (i + length new ≤ at)
     apart at inside = ⊎_elim (λ before. inr (omega (arith, inside.0))) (λ after. inl (omega (arith, inside.1))) out
 
-pub header_at-tagged : (first count tag g : ℕ) (memory : List Granule) → header_at (tagged first count tag memory) g ≡ header_at memory g
+pub header_at-tagged : TagsKeepHeaders
 unfolding header_at word_at
 header_at-tagged first count tag g memory =
     λ j. header_of
     (from_le_bytes w64 (laws.bytes_under_tags first count tag (16 * g) 8 memory j))
     (from_le_bytes w64 (laws.bytes_under_tags first count tag (16 * g + 8) 8 memory j))
 
-pub header_at-elsewhere : (memory : List Granule) (g k : ℕ) (header : Header) → k ≢ g →
-    header_at (with_header memory g header) k ≡ header_at memory k
+pub header_at-elsewhere : OtherHeadersStay
 unfolding with_header
 header_at-elsewhere memory g k header differs =
     header_at-written (16 * g) k (to_le_bytes w64 (first_word header) ++ to_le_bytes w64 (second_word header)) memory
@@ -131,14 +126,14 @@ header_at-elsewhere memory g k header differs =
       | inr (inr after) ↦ inl (omega arith)
     ])
 
-pub tag_at-with_header : (memory : List Granule) (g k : ℕ) (header : Header) → tag_at (with_header memory g header) k ≡ tag_at memory k
+pub tag_at-with_header : HeaderKeepsTags
 unfolding with_header
 tag_at-with_header memory g k header =
     laws.tag_under_bytes (16 * g) k (to_le_bytes w64 (first_word header) ++ to_le_bytes w64 (second_word header)) memory
 
 -- ---- the headers of a heap
 
-pub shown_state-header_for : (h : Heap) (s next : ℕ) → shown_state (header_for h s next) ≡ state_at h s
+pub shown_state-header_for : HeaderShowsState
 unfolding header_for
 shown_state-header_for h s next = by (state_at h s)
   where
@@ -151,8 +146,7 @@ shown_state-header_for h s next = by (state_at h s)
     ]
 
 -- the class at its number
-pub class_number-is : (layout : Partition) (s : ℕ) → s < slot_count layout →
-    slice_get layout.classes (class_number layout s) ≡ Some (slot_of layout s).class
+pub class_number-is : ClassIsAtItsNumber
 class_number-is layout s within = by (position (λ class. class == (slot_of layout s).class) layout.classes) refl
   where
     by : (o : Option ℕ) → position (λ class. class == (slot_of layout s).class) layout.classes ≡ o →
@@ -166,32 +160,33 @@ class_number-is layout s within = by (position (λ class. class == (slot_of layo
         position-None (λ class. class == (slot_of layout s).class) layout.classes was listed.0 (slot_of layout s).class listed.1 in
         absurd (both_ways _ no (eq-eqb _ _ listed.2))
 
-pub header_for-fits : (h : Heap) (s next : ℕ) → IsSoundHeap h → s < slot_count h.layout → next < 2 ^ 32 → h.total < 2 ^ 64 →
-    FitsWords (header_for h s next)
+-- it is one of at most 32
+pub class_number-few : (step : ℕ) (layout : Partition) (s : ℕ) → IsLegalTable step layout.classes → s < slot_count layout →
+    class_number layout s < 32
+class_number-few step layout s table within =
+    omega (arith, slice_get_within layout.classes _ _ (class_number-is layout s within), table.few)
+
+-- a slot's size is at most 16,368 bytes
+pub size_of-most : (x : State) (class : ℕ) → chunk_granules_of x < class → class ≤ 1024 → size_of x ≤ 16368
+size_of-most NeverGiven class room most = omega arith
+size_of-most (Given n t) class room most = omega arith
+size_of-most (Dead n t m) class room most = omega arith
+
+pub header_for-fits : SlotHeaderFits
 unfolding header_for
 header_for-fits h s next sound within link total = record {
-  size = size_fits (state_at h s) (sound.tagged s within).room;
-  tag = tag_fits (state_at h s) (sound.tagged s within).chunk_tag (sound.tagged s within).is_chunk_tag;
-  class =
+  size =
       omega (
         arith,
-        slice_get_within h.layout.classes (class_number h.layout s) (slot_in h s).class (class_number-is h.layout s within),
-        sound.partition.table.few,
+        size_of-most (state_at h s) (slot_in h s).class (sound.tagged s within).room
+            (laws.classes_small 1 h.layout s sound.partition.table within),
       );
+  tag = tag_fits (state_at h s) (sound.tagged s within).chunk_tag (sound.tagged s within).is_chunk_tag;
+  class = omega (arith, class_number-few 1 h.layout s sound.partition.table within);
   next = link;
   mark = mark_fits (state_at h s) (sound.marks s);
 }
   where
-    class_fits : (slot_in h s).class ≤ 1024
-    class_fits =
-        (All-contains (λ class. (2 ≤ class) × (class ≤ 1024)) h.layout.classes (slot_in h s).class sound.partition.table.in_range
-        (laws.classes_listed h.layout s within)).1
-
-    size_fits : (x : State) → chunk_of x < (slot_in h s).class → size_of x < 2 ^ 14
-    size_fits NeverGiven room = omega arith
-    size_fits (Given n t) room = omega (arith, class_fits)
-    size_fits (Dead n t m) room = omega (arith, class_fits)
-
     tag_fits : (x : State) (tag : ℕ) → IsChunkTag s x tag → last_tag x < 16
     tag_fits NeverGiven tag is = omega arith
     tag_fits (Given n t) tag is = is.0.below

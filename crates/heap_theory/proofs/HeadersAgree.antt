@@ -5,21 +5,17 @@ use Rattle.std.proofs.lemmas.Bool.{and_from, cases_Bool, cases_lt, le-leb, lt-lt
 use Rattle.std.proofs.lemmas.Option.{slice_get_within}
 use Rattle.machine_theory.specs.Memory.{Granule, word_at}
 use Rattle.class_table.specs.Layout.{slot_count, slot_of}
-use Rattle.heap_theory.specs.Lookups.{is_dead, mark_of}
 use Rattle.heap_theory.specs.Header.{first_word, second_word, header_at, class_number, header_for}
 use Rattle.heap_theory.specs.HeaderLaws.{ClassIsAtItsNumber}
 use Rattle.heap_theory.specs.HeapInMemory.{IsKeptIn, HaveSameSlots, HeaderWordsStay}
 use Rattle.heap_theory.specs.Links.{IsLinked, list_of}
 use Rattle.heap_theory.specs.Region.{Region, header_in, next_in, region_of}
-use Rattle.heap_theory.specs.State.{Heap, state_at}
-use Rattle.heap_theory.proofs.ListSearch.{Contains-head, Contains-tail, Contains-cases, Contains-none}
+use Rattle.heap_theory.specs.State.{Heap, state_at, is_dead, mark_of}
+use Rattle.heap_theory.proofs.ListSearch.{Contains-head, Contains-tail, Contains-cases, Contains-none, AllPairs-first}
 use Rattle.heap_theory.proofs.HeaderWords.{words-header_of}
 use Rattle.heap_theory.proofs.Regions.{header_in-region_of}
 
 -- ---- lists in an order
-
-first_before : (R : ℕ → ℕ → Type 0) (x : ℕ) (xs : List ℕ) (y : ℕ) → AllPairs R (x ∷ xs) → Contains xs y → R x y
-first_before R x xs y pairs there = subst (R x) there.2 (pairs 0 (suc there.0) y (omega arith) (omega (arith, there.1)))
 
 rest_pairs : (R : ℕ → ℕ → Type 0) (x : ℕ) (xs : List ℕ) → AllPairs R (x ∷ xs) → AllPairs R xs
 rest_pairs R x xs pairs i j d before within = pairs (suc i) (suc j) d (omega arith) (omega arith)
@@ -35,16 +31,16 @@ one_order R (x ∷ xs) (y ∷ ys) one_way pa pb to from =
       | inl is ↦ sym is
       | inr tail ↦ elim (Contains-cases x xs y (from y (Contains-head y ys))) [
         | inl is ↦ is
-        | inr after ↦ absurd (one_way x y (first_before R x xs y pa after) (first_before R y ys x pb tail))
+        | inr after ↦ absurd (one_way x y (AllPairs-first R x xs y pa after) (AllPairs-first R y ys x pb tail))
       ]
     ] in
     let tails : xs ≡ ys = one_order R xs ys one_way (rest_pairs R x xs pa) (rest_pairs R y ys pb)
     (λ s there. elim (Contains-cases y ys s (to s (Contains-tail x xs s there))) [
-      | inl is ↦ let own : R x x = subst (R x) (sym (same ∙ is)) (first_before R x xs s pa there) in absurd (one_way x x own own)
+      | inl is ↦ let own : R x x = subst (R x) (sym (same ∙ is)) (AllPairs-first R x xs s pa there) in absurd (one_way x x own own)
       | inr tail ↦ tail
     ])
     (λ s there. elim (Contains-cases x xs s (from s (Contains-tail y ys s there))) [
-      | inl is ↦ let own : R y y = subst (R y) (sym (sym same ∙ is)) (first_before R y ys s pb there) in absurd (one_way y y own own)
+      | inl is ↦ let own : R y y = subst (R y) (sym (sym same ∙ is)) (AllPairs-first R y ys s pb there) in absurd (one_way y y own own)
       | inr tail ↦ tail
     ]) in
     λ i. same i ∷ tails i

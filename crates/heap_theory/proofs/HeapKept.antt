@@ -10,7 +10,7 @@ use Rattle.heap_theory.proofs.TheoryLemmas as laws
 use Rattle.heap_theory.specs.Calls.{next_tag, chunk_tagged, given_out, freed, resized, with_payload}
 use Rattle.heap_theory.specs.Sound.{IsTagOf, IsChunkTag, IsTaggedSlot, IfDead, IsSoundHeap}
 use Rattle.class_table.specs.Sizes.{chunk_granules}
-use Rattle.heap_theory.specs.State.{State, Heap, slot_in, state_at, last_tag, chunk_of, payload_start}
+use Rattle.heap_theory.specs.State.{State, Heap, slot_in, state_at, last_tag, chunk_granules_of, payload_start}
 use Rattle.heap_theory.specs.State.State.{Fresh, Live, Dead}
 use Rattle.heap_theory.proofs.Tags.{IsTagOf-next_tag, next_tag-differs}
 
@@ -37,7 +37,7 @@ IsTaggedSlot-same : (memory other : List Granule) (s : ℕ) (slot : Slot) (state
     ((g : ℕ) → slot.start ≤ g → g < end_of slot → tag_at other g ≡ tag_at memory g) → IsTaggedSlot memory s slot state →
     IsTaggedSlot other s slot state
 IsTaggedSlot-same memory other s slot state same t =
-    let room : chunk_of state < slot.class = t.room in
+    let room : chunk_granules_of state < slot.class = t.room in
     record {
       room = t.room;
       chunk_tag = t.chunk_tag;
@@ -211,7 +211,7 @@ module _ where
   IsSoundHeap-freed h s n t sound in_range live =
       let inside = in_region h s sound in_range in
       let old = sound.tagged s in_range in
-      let room : chunk_granules n < (slot_in h s).class = subst (λ x. chunk_of x < (slot_in h s).class) live old.room in
+      let room : chunk_granules n < (slot_in h s).class = subst (λ x. chunk_granules_of x < (slot_in h s).class) live old.room in
       let is_tag = IsTagOf-next_tag h s sound.tag_below in
       IsSoundHeap-retagged h s (Dead n (last_tag (state_at h s)) h.total)
       (tagged (payload_start (slot_in h s)) (chunk_granules n) (next_tag h s) h.memory)
@@ -226,7 +226,7 @@ module _ where
         chunk = λ g from to. laws.written_tag _ _ (next_tag h s) g h.memory (omega arith) (omega arith) (omega arith);
         tail =
             λ g from to. laws.other_tag _ _ (next_tag h s) g h.memory (inr (omega arith))
-            ∙ old.tail g (subst (λ x. (slot_in h s).start + chunk_of x < g) (sym live) from) to;
+            ∙ old.tail g (subst (λ x. (slot_in h s).start + chunk_granules_of x < g) (sym live) from) to;
       })
       (omega arith) (omega arith, omega arith) is_tag.below
 

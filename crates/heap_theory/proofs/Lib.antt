@@ -1,6 +1,7 @@
 pub mod AccessAnswers
 pub mod Answered
 pub mod CallsKept
+pub mod ChangedSlot
 pub mod ExampleAnswers
 pub mod FirstHeap
 pub mod Front

@@ -1,12 +1,12 @@
 -- Lists that are linked through headers.
-use Rattle.std.proofs.Common.{◌≡◌, ◌≢◌, ℕ, suc, ◌<◌, List, [], ◌∷◌, ◌++◌, length, refl, sym, ap, ◌∙◌, subst, inl, inr, arith}
-use Rattle.std.specs.Prelude.{AllPairs, Contains}
-use Rattle.heap_theory.specs.Links.{IsLinked, last_link}
+use Rattle.std.proofs.Common.{◌≡◌, ◌≢◌, ℕ, ◌<◌, List, [], ◌∷◌, ◌++◌, length, suc, refl, sym, ap, ◌∙◌, subst, inl, inr, arith, drop}
+use Rattle.std.specs.Prelude.{Contains}
+use Rattle.heap_theory.specs.Links.{IsLinked}
 use Rattle.heap_theory.proofs.ListSearch.{Contains-head, Contains-tail, Contains-cases, Contains-none, AllPairs-cons, AllPairs-nil}
+use Rattle.heap_theory.specs.HeaderLaws.{LinksStay, OneListIsLinked, EachSlotOnce, LastSlotEnds, PutInFront, PutAtEnd, PutAtEndIsLast}
 
 -- links that change outside the list leave it linked
-pub IsLinked-same : (next new : ℕ → ℕ) (front : ℕ) (list : List ℕ) → ((s : ℕ) → Contains list s → new s ≡ next s) →
-    IsLinked next front list → IsLinked new front list
+pub IsLinked-same : LinksStay
 IsLinked-same next new front [] same l = l
 IsLinked-same next new front (s ∷ rest) same l = (
   l.0,
@@ -15,7 +15,7 @@ IsLinked-same next new front (s ∷ rest) same l = (
 )
 
 -- from one front there is one list
-pub IsLinked-one : (next : ℕ → ℕ) (front : ℕ) (a b : List ℕ) → IsLinked next front a → IsLinked next front b → a ≡ b
+pub IsLinked-one : OneListIsLinked
 IsLinked-one next front [] [] l k = refl
 IsLinked-one next front [] (s ∷ rest) l k = absurd (omega (arith, k.0))
 IsLinked-one next front (s ∷ rest) [] l k = absurd (omega (arith, l.0))
@@ -23,6 +23,18 @@ IsLinked-one next front (s ∷ rest) (r ∷ more) l k =
     let same : s ≡ r = omega (arith, l.0, k.0) in
     let tails : rest ≡ more = IsLinked-one next (next s) rest more l.1 (subst (λ q. IsLinked next (next q) more) (sym same) k.1) in
     λ i. same i ∷ tails i
+
+-- with no front there is no slot,
+pub IsLinked-none : (next : ℕ → ℕ) (front : ℕ) (list : List ℕ) → IsLinked next front list → front ≡ 0 → list ≡ []
+IsLinked-none next front [] l is = refl
+IsLinked-none next front (s ∷ rest) l is = absurd (omega (arith, is, l.0))
+
+-- and any other front is the link to the first slot, whose link shows the rest
+pub IsLinked-first : (next : ℕ → ℕ) (front s : ℕ) (list : List ℕ) → IsLinked next front list → front ≡ suc s →
+    (list ≡ s ∷ drop 1 list) × IsLinked next (next s) (drop 1 list)
+IsLinked-first next front s [] l is = absurd (omega (arith, is, l))
+IsLinked-first next front s (r ∷ rest) l is =
+    let same : r ≡ s = omega (arith, is, l.0) in (ap (λ q. q ∷ rest) same, subst (λ q. IsLinked next (next q) rest) same l.1)
 
 -- the list from each of its slots on
 from_there : (next : ℕ → ℕ) (front : ℕ) (list : List ℕ) (s : ℕ) → IsLinked next front list → Contains list s →
@@ -34,7 +46,7 @@ from_there next front (r ∷ rest) s l there = elim (Contains-cases r rest s the
 ]
 
 -- each slot is met once, since links do not go round
-pub IsLinked-once : (next : ℕ → ℕ) (front : ℕ) (list : List ℕ) → IsLinked next front list → AllPairs (λ s r. s ≢ r) list
+pub IsLinked-once : EachSlotOnce
 IsLinked-once next front [] l = AllPairs-nil (λ s r. s ≢ r)
 IsLinked-once next front (s ∷ rest) l =
     AllPairs-cons (λ s r. s ≢ r) s rest
@@ -45,13 +57,11 @@ IsLinked-once next front (s ∷ rest) l =
     (IsLinked-once next (next s) rest l.1)
 
 -- a slot is put in front of a list
-pub IsLinked-push : (next : ℕ → ℕ) (front s : ℕ) (list : List ℕ) → next s ≡ front → IsLinked next front list →
-    IsLinked next (suc s) (s ∷ list)
+pub IsLinked-push : PutInFront
 IsLinked-push next front s list is l = (refl, subst (λ n. IsLinked next n list) (sym is) l)
 
 -- the last slot has no link
-pub IsLinked-ends : (next : ℕ → ℕ) (front s : ℕ) (list : List ℕ) → IsLinked next front list → last_link list ≡ suc s →
-    Contains list s × (next s ≡ 0)
+pub IsLinked-ends : LastSlotEnds
 IsLinked-ends next front s [] l is = absurd (omega (arith, is))
 IsLinked-ends next front s (r ∷ []) l is =
     let same : r ≡ s = omega (arith, is) in (subst (Contains (r ∷ [])) same (Contains-head r []), subst (λ q. next q ≡ 0) same l.1)
@@ -59,8 +69,7 @@ IsLinked-ends next front s (r ∷ q ∷ rest) l is =
     let more = IsLinked-ends next (next r) s (q ∷ rest) l.1 is in (Contains-tail r (q ∷ rest) s more.0, more.1)
 
 -- a slot is put after a list, where the list's last slot is linked to it
-pub IsLinked-append : (next new : ℕ → ℕ) (front last s : ℕ) (list : List ℕ) → IsLinked next front list → last_link list ≡ suc last →
-    ((r : ℕ) → Contains list r → r ≢ last → new r ≡ next r) → new last ≡ suc s → new s ≡ 0 → IsLinked new front (list ++ s ∷ [])
+pub IsLinked-append : PutAtEnd
 IsLinked-append next new front last s [] l is others linked ends = absurd (omega (arith, is))
 IsLinked-append next new front last s (r ∷ []) l is others linked ends =
     let same : r ≡ last = omega (arith, is) in
@@ -72,7 +81,7 @@ IsLinked-append next new front last s (r ∷ q ∷ rest) l is others linked ends
     omega (arith, ap next same, end.1, l.1.0) in
     (l.0, subst (λ n. IsLinked new n ((q ∷ rest) ++ s ∷ [])) (sym (others r (Contains-head r (q ∷ rest)) another)) more)
 
-pub last_link-append : (list : List ℕ) (s : ℕ) → last_link (list ++ s ∷ []) ≡ suc s
+pub last_link-append : PutAtEndIsLast
 last_link-append [] s = refl
 last_link-append (r ∷ []) s = refl
 last_link-append (r ∷ q ∷ rest) s = last_link-append (q ∷ rest) s

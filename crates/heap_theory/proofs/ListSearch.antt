@@ -1,11 +1,15 @@
 -- What `find`, `filter` and `position` give.
-use Rattle.std.proofs.Common.{◌≡◌, ◌⊎◌, ℕ, zero, suc, ◌<◌, Bool, true, false, cond, List, [], ◌∷◌, length, get_or, refl, sym, ap, ◌∙◌, subst, inl, inr, arith, Some, None, Option, ◌++◌, ⊎_elim}
+use Rattle.std.proofs.Common.{◌≡◌, ◌≢◌, ◌⊎◌, ℕ, zero, suc, ◌<◌, ◌≤◌, Bool, true, false, cond, List, [], ◌∷◌, length, get_or, refl, sym, ap, ◌∙◌, subst, inl, inr, arith, Some, None, Option}
 use Rattle.std.specs.Prelude.{slice_get, All, AllPairs, Contains}
-use Rattle.std.specs.List.{find, filter, list_all, position, position_or_len, range_with_len}
-use Rattle.std.proofs.lemmas.Bool.{both_ways, cases_Bool, cases_lt, cond_both, cond-true, and_from, and_parts, lt-ltb}
+use Rattle.std.specs.List.{find, filter, position, position_or_len, range_with_len}
+use Rattle.std.proofs.lemmas.Bool.{both_ways, cases_Bool, cases_lt, cond_both, cond-true, eqb-true, lt-ltb}
+use Rattle.std.proofs.lemmas.Bool.Decides.{Decides-eqb}
 use Rattle.std.proofs.lemmas.List.Elements.{All-nil, All-cons, Contains-get_or}
 use Rattle.std.proofs.lemmas.List.Sums.{fails_before_first}
 use Rattle.std.proofs.lemmas.List.FromFn.{get_or-range_with_len, length-range_with_len}
+use Rattle.std.proofs.lemmas.Map.Made.{IsDistinct-from_AllPairs}
+use Rattle.std.proofs.lemmas.Map.Steps.{length-le_from_distinct_below}
+use Rattle.std.proofs.lemmas.Map.Views.{Contains-from_any}
 
 -- ---- find
 
@@ -69,16 +73,6 @@ first_in_filter p (x ∷ xs) = elim (cases_Bool (p x)) [
   | inr failed ↦ rw failed (first_in_filter p xs)
 ]
 
-pub list_all-from : {X : Type 0} (p : X → Bool) (xs : List X) → All (λ x. p x ≡ true) xs → list_all p xs ≡ true
-list_all-from p [] all = refl
-list_all-from p (x ∷ xs) all =
-    and_from (p x) (list_all p xs) (all 0 x (omega arith)) (list_all-from p xs (λ k d within. all (suc k) d (omega arith)))
-
-pub from-list_all : {X : Type 0} (p : X → Bool) (xs : List X) → list_all p xs ≡ true → All (λ x. p x ≡ true) xs
-from-list_all p [] all = All-nil (λ x. p x ≡ true)
-from-list_all p (x ∷ xs) all =
-    let both = and_parts (p x) (list_all p xs) all in All-cons (λ x. p x ≡ true) x xs both.0 (from-list_all p xs both.1)
-
 -- ---- numbers below a bound
 
 pub All-range : (n : ℕ) → All (λ s. s < n) (range_with_len 0 n)
@@ -89,6 +83,12 @@ All-range n k d within =
 pub Contains-range : (n s : ℕ) → s < n → Contains (range_with_len 0 n) s
 Contains-range n s below =
     (s, subst (λ m. s < m) (sym (length-range_with_len 0 n)) below, get_or-range_with_len 0 n s s below ∙ omega arith)
+
+-- numbers below n that differ are at most n
+pub few_below : (n : ℕ) (xs : List ℕ) → ((x : ℕ) → Contains xs x → x < n) → AllPairs (λ x y. x ≢ y) xs → length xs ≤ n
+few_below n xs below apart =
+    length-le_from_distinct_below xs n (IsDistinct-from_AllPairs Decides-eqb xs apart)
+    (λ x there. below x (Contains-from_any eqb-true x xs there))
 
 -- ---- what a list contains
 
@@ -108,13 +108,6 @@ Contains-cases {X} y xs x there = at there.0 there.1 there.2
 pub Contains-none : {X : Type 0} (x : X) → Contains [] x → ⊥
 Contains-none x there = omega (arith, there.1)
 
-pub Contains-last_cases : {X : Type 0} (xs : List X) (x y : X) → Contains (xs ++ x ∷ []) y → (x ≡ y) ⊎ Contains xs y
-Contains-last_cases [] x y there = Contains-cases x [] y there
-Contains-last_cases (z ∷ zs) x y there =
-    ⊎_elim (λ is. inr (0, omega arith, is))
-    (λ more. ⊎_elim inl (λ before. inr (Contains-tail z zs y before)) (Contains-last_cases zs x y more))
-    (Contains-cases z (zs ++ x ∷ []) y there)
-
 pub AllPairs-cons : {X : Type 0} (R : X → X → Type 0) (x : X) (xs : List X) → ((y : X) → Contains xs y → R x y) → AllPairs R xs →
     AllPairs R (x ∷ xs)
 AllPairs-cons R x xs front rest = pairs
@@ -123,6 +116,10 @@ AllPairs-cons R x xs front rest = pairs
     pairs i zero d before within = absurd (omega arith)
     pairs zero (suc j) d before within = front (get_or xs j d) (Contains-get_or xs j d (omega arith))
     pairs (suc i) (suc j) d before within = rest i j d (omega arith) (omega arith)
+
+-- the first element is related to each later one
+pub AllPairs-first : {X : Type 0} (R : X → X → Type 0) (x : X) (xs : List X) (y : X) → AllPairs R (x ∷ xs) → Contains xs y → R x y
+AllPairs-first R x xs y pairs there = subst (R x) there.2 (pairs 0 (suc there.0) y (omega arith) (omega (arith, there.1)))
 
 pub AllPairs-nil : {X : Type 0} (R : X → X → Type 0) → AllPairs R []
 AllPairs-nil R i j d before within = absurd (omega arith)

@@ -4,12 +4,12 @@ use Rattle.std.proofs.lemmas.Bool.{cases_eq, both_ways, ltb-true, false≢true}
 use Rattle.std.proofs.lemmas.List.{get_or-set_same, get_or-set_other}
 use Rattle.heap_theory.specs.declared.event.Event.{Event}
 use Rattle.heap_theory.specs.Calls.{given_out}
-use Rattle.heap_theory.specs.Lookups.{IsReusable, is_released}
+use Rattle.heap_theory.specs.Lookups.{IsReusable}
 use Rattle.heap_theory.specs.Run.{Run, times_of, slot_given, times_with, run_after}
-use Rattle.heap_theory.specs.Hardening.{IsLive, ReuseIsDelayed, LifeStep, LivesOn}
+use Rattle.heap_theory.specs.Hardening.{ReuseIsDelayed, LifeStep, LivesOn}
 use Rattle.heap_theory.specs.Replay.{heap_after, replay_after}
 use Rattle.heap_theory.specs.SoundRun.{IsSoundRun}
-use Rattle.heap_theory.specs.State.{State, Heap, state_at, is_fresh}
+use Rattle.heap_theory.specs.State.{State, Heap, IsLive, state_at, is_fresh, is_released}
 use Rattle.heap_theory.specs.State.State.{Fresh, Live, Dead}
 use Rattle.heap_theory.proofs.CallsKept.{KeepsGiven, HeapChange, not_reusable, state_at-given_out_other}
 use Rattle.heap_theory.proofs.RunKept.{IsKept-event}
@@ -46,7 +46,7 @@ kept_life h new s times next kept same = at (state_at h s) refl (state_at new s)
     at (Dead n t m) was y now = inl (sym now ∙ kept.dead s n t m was, same)
     at (Live n t) was Fresh now = absurd (false≢true (sym (ap is_fresh was) ∙ sym (kept.fresh s) ∙ ap is_fresh now))
     at (Live n t) was (Live m u) now = inl (tt, same)
-    at (Live n t) was (Dead m u k) now = inr (inl (tt, tt, same))
+    at (Live n t) was (Dead m u k) now = inr (inl (tt, refl, same))
 
 not_live : (h : Heap) (s : ℕ) → IsReusable h s → (x : State) → state_at h s ≡ x → IsLive x → ⊥
 not_live h s reusable Fresh was l = l

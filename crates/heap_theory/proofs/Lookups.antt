@@ -15,11 +15,12 @@ use Rattle.heap_theory.specs.declared.refusal.FreeError.TheVariants.{WrongTag}
 use Rattle.heap_theory.specs.declared.refusal.NullCause.{NullCause}
 use Rattle.heap_theory.specs.declared.refusal.NullCause.TheVariants.{Large, NoClass, Exhausted}
 use Rattle.heap_theory.specs.Calls.{is_class_of, stays_in_class}
-use Rattle.heap_theory.specs.Lookups.{Chunk, IsReusable, IsGiven, IsLiveChunk, is_released, mark_of, slots_with, freed_last, lowest_fresh, slot_for, class_for_request, slot_in_class, slot_for_request, slot_of_pointer, chunk_in, chunk_in_slot, chunk_at}
+use Rattle.heap_theory.specs.Lookups.{Chunk, IsReusable, MayBeGiven, IsLiveChunk, slots_with, freed_last, lowest_fresh, slot_for, class_for_request, slot_in_class, slot_for_request, slot_of_pointer, chunk_in, chunk_in_slot, chunk_at}
 use Rattle.heap_theory.specs.Sound.{IsSoundHeap}
-use Rattle.heap_theory.specs.State.{State, Heap, slot_in, state_at, is_fresh, payload_place}
+use Rattle.heap_theory.specs.State.{State, Heap, slot_in, state_at, is_fresh, payload_place, is_released, mark_of}
 use Rattle.heap_theory.specs.State.State.{Fresh, Live, Dead}
 use Rattle.heap_theory.proofs.ListSearch.{All-find, find_passes, first_in_filter, All-range}
+use Rattle.heap_theory.specs.Laws.{RequestIsGiven, NamedChunkIsLive}
 
 -- ---- slots of a class
 
@@ -100,12 +101,12 @@ class_for_request-is h n class is = elim (cases_Bool (nat_lt largest_counted n))
     from None was is = absurd cc
     from (Some other) was is = let same : other ≡ class = cc in was ∙ ap Some same
 
-pub slot_for_request-is : (h : Heap) (n s : ℕ) → IsSoundHeap h → slot_for_request h n ≡ Ok s → IsGiven h n s
+pub slot_for_request-is : RequestIsGiven
 unfolding slot_for_request
 slot_for_request-is h n s sound is = in_class (class_for_request h n) refl is
   where
     in_slot : (class : ℕ) → class_for h.layout.classes n ≡ Some class → (o : Option ℕ) → slot_for h class ≡ o → ok_or o Exhausted ≡ Ok s →
-        IsGiven h n s
+        MayBeGiven h n s
     in_slot class was None given is = absurd cc
     in_slot class was (Some r) given is =
         let same : r ≡ s = cc in
@@ -113,13 +114,13 @@ slot_for_request-is h n s sound is = in_class (class_for_request h n) refl is
         let found : class_for h.layout.classes n ≡ Some (slot_in h s).class = was ∙ ap Some (sym chosen.1) in
         record { reusable = chosen.0; class = found; room = room_in h.layout.classes n _ found (sound.slots.wide s chosen.0.in_range) }
 
-    in_class : (r : Result ℕ NullCause) → class_for_request h n ≡ r → slot_in_class h r ≡ Ok s → IsGiven h n s
+    in_class : (r : Result ℕ NullCause) → class_for_request h n ≡ r → slot_in_class h r ≡ Ok s → MayBeGiven h n s
     in_class (Err cause) was is = absurd cc
     in_class (Ok class) was is = in_slot class (class_for_request-is h n class was) (slot_for h class) refl is
 
 -- what holds of each refusal and of each slot that may be given holds of what a request is given
 pub slot_for_request-cases : (h : Heap) (n : ℕ) → IsSoundHeap h → (P : Result ℕ NullCause → Type 0) →
-    ((cause : NullCause) → P (Err cause)) → ((s : ℕ) → IsGiven h n s → P (Ok s)) → P (slot_for_request h n)
+    ((cause : NullCause) → P (Err cause)) → ((s : ℕ) → MayBeGiven h n s → P (Ok s)) → P (slot_for_request h n)
 slot_for_request-cases h n sound P refused given = by_slot (slot_for_request h n) refl
   where
     by_slot : (r : Result ℕ NullCause) → slot_for_request h n ≡ r → P r
@@ -139,7 +140,7 @@ slot_of_pointer-is h p s is = elim (cases_Bool (nat_lt p (2 ^ 60))) [
       subst (λ b. cond b (position (λ slot. payload_place slot == place_of p) (slots_of h.layout)) None ≡ Some s) high is in absurd cc
 ]
 
-pub chunk_at-is : (h : Heap) (p : ℕ) (chunk : Chunk) → chunk_at h p ≡ Ok chunk → IsLiveChunk h p chunk
+pub chunk_at-is : NamedChunkIsLive
 unfolding chunk_at
 chunk_at-is h p chunk is = from (slot_of_pointer h p) refl is
   where

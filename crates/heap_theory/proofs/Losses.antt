@@ -11,7 +11,7 @@ use Rattle.machine_theory.specs.declared.fault.Fault.TheVariants.{Unmapped, Alig
 use Rattle.machine_theory.specs.Access.{access_fault}
 use Rattle.machine_theory.specs.Address.{moved_by}
 use Rattle.class_table.specs.Sizes.{counted_of, largest_counted}
-use Rattle.class_table.specs.Tables.{class_for, loss_of_size}
+use Rattle.class_table.specs.Tables.{class_for, loss_of_size, rounding_loss}
 use Rattle.heap_theory.specs.declared.event.Event.{Event}
 use Rattle.heap_theory.specs.declared.event.Event.TheVariants.{Malloc, Calloc, Realloc, Free, Load, Store, Addg, Subg}
 use Rattle.heap_theory.specs.declared.refusal.FreeError.{FreeError}
@@ -20,11 +20,27 @@ use Rattle.heap_theory.specs.declared.refusal.NullCause.TheVariants.{Large, NoCl
 use Rattle.heap_theory.specs.declared.refusal.ReallocError.{ReallocError}
 use Rattle.heap_theory.specs.Calls.{Step, malloc_with, malloc_step, calloc_with, calloc_step, as_realloc, free_with, free_step, is_class_of, resized, move_with, realloc_with, realloc_step}
 use Rattle.heap_theory.specs.Lookups.{Chunk, class_for_request, slot_for_request, slot_in_class, slot_for, chunk_at}
-use Rattle.heap_theory.specs.Losses.{requested_sizes, counted_sizes, rounding_loss, LosesAtMostItsWaste, ServedRunLosesItsWaste}
-use Rattle.heap_theory.specs.Replay.{Replay, Answer, variable, answer_of, answers, replay_after, first_replay, malloc_answer, free_answer, realloc_answer, access_answer}
+use Rattle.heap_theory.specs.Losses.{requested_sizes, counted_sizes, LosesAtMostItsWaste, ServedRunLosesItsWaste}
+use Rattle.heap_theory.specs.Replay.{
+  Replay,
+  Answer,
+  is_no_class,
+  is_exhausted,
+  is_refused,
+  is_silent,
+  variable,
+  answer_of,
+  answers,
+  replay_after,
+  first_replay,
+  malloc_answer,
+  free_answer,
+  realloc_answer,
+  access_answer,
+}
 use Rattle.heap_theory.specs.Replay.Answer.{Silent, NoPointer, NotFreed}
 use Rattle.heap_theory.specs.State.{Heap, slot_in, first_heap}
-use Rattle.heap_theory.specs.Totals.{one_if, request_size, is_request, is_no_class, is_exhausted, is_refused, is_silent, loss_of_request, loss_of_event, totals_of}
+use Rattle.heap_theory.specs.Totals.{one_if, request_size, is_request, loss_of_request, loss_of_event, totals_of}
 use Rattle.heap_theory.proofs.LayoutStays.{layout_after}
 
 -- ---- one event
@@ -144,7 +160,7 @@ abbrev IsServed : List ℕ → Option ℕ → Type 0
 IsServed classes None = Unit {0}
 IsServed classes (Some n) = n ≤ largest_counted → IsSome (class_for classes n)
 
--- an event that requests nothing is not refused for want of a class
+-- an event that requests nothing is not refused because it has no class
 free_wants_no_class : (h : Heap) (null : Bool) (chunk : Result Chunk FreeError) →
     is_no_class (free_answer (cond null (record { heap = h; answer = Ok tt }) (free_with h chunk)).answer) ≡ false
 free_wants_no_class h true chunk = refl
@@ -185,7 +201,6 @@ event_loses r (Subg v w u6 u4) has = nothing_lost _ Silent refl
 
 -- ---- every run
 
--- of some sizes, those that a class may serve
 -- each of some sizes has a class
 abbrev EachServed : List ℕ → List ℕ → Type 0
 EachServed classes sizes = ByRecursion (λ n. IsSome (class_for classes n)) sizes

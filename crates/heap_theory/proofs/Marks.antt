@@ -8,9 +8,8 @@ use Rattle.std.proofs.lemmas.Option.{get_or_from_slice_get, slice_get_within}
 use Rattle.class_table.specs.Layout.{Partition, slot_count, slot_of, block_bytes}
 use Rattle.class_table.specs.Tables.{IsLegalTable}
 use Rattle.heap_theory.specs.QueueAndLists.{HasMark, IsChain, IsFreedList, bytes_of}
-use Rattle.heap_theory.specs.Lookups.{mark_of, is_dead, is_released}
 use Rattle.heap_theory.specs.Sound.{IfDead}
-use Rattle.heap_theory.specs.State.{State, Heap, slot_in, state_at}
+use Rattle.heap_theory.specs.State.{State, Heap, slot_in, state_at, mark_of, is_dead, is_released}
 use Rattle.heap_theory.specs.State.State.{Fresh, Live, Dead}
 use Rattle.heap_theory.proofs.ListSearch.{Contains-cases, Contains-none}
 

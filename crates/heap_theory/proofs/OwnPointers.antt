@@ -1,6 +1,6 @@
 -- The pointer that was given out for a live chunk is accepted by `free` and by `realloc`, and of the others only null is.
 use Rattle.std.proofs.Common.{◌≡◌, ◌≢◌, ℕ, ◌*◌, ◌^◌, ◌<◌, Bool, cond, length, List, refl, sym, ap, ◌∙◌, subst, inl, inr, arith, Option, Some, None, Result, Ok, Err}
-use Rattle.std.specs.Prelude.{◌↔◌, ◌==◌, min, replicate}
+use Rattle.std.specs.Prelude.{◌==◌, min, replicate}
 use Rattle.std.proofs.lemmas.Bool.{cases_eq, cond-true, cond-false, cond_both, eq-eqb, eqb-true, false_from_ne_true}
 use Rattle.std.proofs.lemmas.List.{get_or-set_same, get_or-set_other}
 use Rattle.machine_theory.specs.Address.{logical_tag, place_of, with_tag}
@@ -11,15 +11,14 @@ use Rattle.heap_theory.specs.declared.refusal.FreeError.{FreeError}
 use Rattle.heap_theory.specs.declared.refusal.NullCause.{NullCause}
 use Rattle.heap_theory.specs.declared.refusal.ReallocError.{ReallocError}
 use Rattle.heap_theory.specs.Calls.{Step, given_out, freed, resized, with_payload, payload_bytes, moved, malloc_with, malloc_step, calloc_with, calloc_step, free_with, free_step, stays_in_class, move_with, realloc_with, as_realloc, realloc_step}
-use Rattle.heap_theory.specs.Lookups.{Chunk, IsReusable, IsGiven, IsLiveChunk, slot_for_request, chunk_at}
+use Rattle.heap_theory.specs.Lookups.{Chunk, IsReusable, MayBeGiven, IsLiveChunk, slot_for_request, chunk_at}
 use Rattle.heap_theory.specs.Run.{Run}
-use Rattle.heap_theory.specs.Hardening.{IsLive}
-use Rattle.heap_theory.specs.OwnPointers.{IsOwnPointer, IsNullOrOwn, FreeAccepts, IsNotRefused, ReallocAccepts, GivesOwnPointers, StaysOwnPointer, LiveVariablesAreAccepted}
+use Rattle.heap_theory.specs.OwnPointers.{IsOwnPointer, IsNullOrOwn, FreeAccepts, IsNotRefused, ReallocAccepts, OwnPointerFreesChunk, LiveVariablesAreAccepted, FreeAcceptsOwnPointers, ReallocAcceptsOwnPointers, OwnPointersAreGiven, OwnPointersStay}
 use Rattle.heap_theory.specs.Replay.{variable, store_with, store_step}
 use Rattle.heap_theory.specs.Sound.{IsSoundHeap}
 use Rattle.heap_theory.specs.SoundRun.{IsAddressOf, IsSoundRun, ForGeneration}
 use Rattle.class_table.specs.Sizes.{chunk_granules}
-use Rattle.heap_theory.specs.State.{State, Heap, slot_in, state_at, last_tag, payload_place, pointer_to}
+use Rattle.heap_theory.specs.State.{State, Heap, IsLive, slot_in, state_at, last_tag, payload_place, pointer_to}
 use Rattle.heap_theory.specs.State.State.{Fresh, Live, Dead}
 use Rattle.heap_theory.proofs.CallsKept.{KeepsGiven, KeepsGiven-refl, KeepsGiven-with_payload, KeepsGiven-resized, KeepsGiven-moved, HeapChange, IsKept-malloc, IsKept-calloc, IsKept-free, IsKept-realloc, IsKept-store, state_at-with_payload, state_at-given_out, state_at-given_out_other, live_moved, layout-given_out, not_reusable}
 use Rattle.heap_theory.proofs.Lookups.{slot_for_request-cases, chunk_at-is}
@@ -66,7 +65,7 @@ free_some : (h : Heap) (p : ℕ) (r : Result Chunk FreeError) → p ≢ 0 → ch
 unfolding free_step
 free_some h p r some named = cond-false (p == 0) _ _ (false_from_ne_true _ (λ null. some (eqb-true _ _ null))) ∙ ap (free_with h) named
 
-pub free_accepts : (h : Heap) (p : ℕ) → IsSoundHeap h → FreeAccepts h p ↔ IsNullOrOwn h p
+pub free_accepts : FreeAcceptsOwnPointers
 free_accepts h p sound = (
   λ accepts. elim (cases_eq p 0) [
     | inl null ↦ inl null
@@ -97,8 +96,7 @@ not_null h s sound within null =
     let place : payload_place (slot_in h s) < 2 ^ 56 = omega arith in
     omega (arith, null)
 
-pub frees_chunk : (h : Heap) (s n t : ℕ) → IsSoundHeap h → s < slot_count h.layout → state_at h s ≡ Live n t →
-    free_step h (pointer_to h s) ≡ record { heap = freed h s n; answer = Ok tt }
+pub frees_chunk : OwnPointerFreesChunk
 frees_chunk h s n t sound within live =
     free_some h (pointer_to h s) (Ok (record { slot = s; size = n })) (not_null h s sound within)
     (chunk_at-pointer_to h s n t sound within live)
@@ -131,7 +129,7 @@ not_refused h p n chunk = cond_both (stays_in_class h chunk n) _ _ Accepted (λ 
     by_slot (Ok s) = tt
     by_slot (Err cause) = tt
 
-pub realloc_accepts : (h : Heap) (p n : ℕ) → IsSoundHeap h → ReallocAccepts h p n ↔ IsNullOrOwn h p
+pub realloc_accepts : ReallocAcceptsOwnPointers
 realloc_accepts h p n sound = (
   λ accepts. elim (cases_eq p 0) [
     | inl null ↦ inl null
@@ -160,7 +158,7 @@ kept_pointer h new s kept = λ i. with_tag (payload_place (slot_of (kept.layout 
 same_layout : (h new : Heap) (s : ℕ) → new.layout ≡ h.layout → s < slot_count h.layout → s < slot_count new.layout
 same_layout h new s same within = subst (λ (layout : Partition). s < slot_count layout) (sym same) within
 
-own_new : (h new : Heap) (s n : ℕ) → IsGiven h n s → KeepsGiven (given_out h s n) new → IsLive (state_at new s) →
+own_new : (h new : Heap) (s n : ℕ) → MayBeGiven h n s → KeepsGiven (given_out h s n) new → IsLive (state_at new s) →
     IsOwnPointer new s (pointer_to (given_out h s n) s)
 own_new h new s n given kept live = record {
   in_range = same_layout h new s (kept.layout ∙ layout-given_out h s n) given.reusable.in_range;
@@ -169,12 +167,12 @@ own_new h new s n given kept live = record {
 }
 
 -- the slot of an own pointer is not given out
-not_given : (h : Heap) (s p n r : ℕ) → IsOwnPointer h s p → IsGiven h n r → s ≢ r
+not_given : (h : Heap) (s p n r : ℕ) → IsOwnPointer h s p → MayBeGiven h n r → s ≢ r
 not_given h s p n r own given is =
     let l = live_is (state_at h s) own.live in
     not_reusable h s l.0 l.1 (subst (IsReusable h) (sym is) given.reusable) l.2
 
--- an own pointer stays one where nothing is given out, and another slot is none that is live
+-- an own pointer stays one while its slot stays live, whether nothing or another slot is given out
 own_kept : (h new : Heap) (s p : ℕ) → KeepsGiven h new → IsOwnPointer h s p → IsLive (state_at new s) → IsOwnPointer new s p
 own_kept h new s p kept own live = record {
   in_range = same_layout h new s kept.layout own.in_range;
@@ -210,7 +208,7 @@ state_at-resized_other h s n r another = get_or-set_other h.states s r (Live n (
 
 -- so each call but its own leaves its state as it is
 module _ (h : Heap) (s p : ℕ) (sound : IsSoundHeap h) (own : IsOwnPointer h s p) where
-  spared : (n r : ℕ) → IsGiven h n r → state_at (given_out h r n) s ≡ state_at h s
+  spared : (n r : ℕ) → MayBeGiven h n r → state_at (given_out h r n) s ≡ state_at h s
   spared n r given = state_at-given_out_other h r n s (not_given h s p n r own given)
 
   state_after_malloc : (n : ℕ) → state_at (malloc_step h n).heap s ≡ state_at h s
@@ -258,7 +256,7 @@ module _ (h : Heap) (s p : ℕ) (sound : IsSoundHeap h) (own : IsOwnPointer h s 
       by_fault None = refl
       by_fault (Some fault) = refl
 
-pub stays_own : (h : Heap) (s p : ℕ) → IsSoundHeap h → IsOwnPointer h s p → StaysOwnPointer h s p
+pub stays_own : OwnPointersStay
 stays_own h s p sound own = record {
   malloc = λ n. own_stays h _ _ s p (IsKept-malloc h n sound).change own (live (state_after_malloc h s p sound own n));
   calloc = λ n. own_stays h _ _ s p (IsKept-calloc h n sound).change own (live (state_after_calloc h s p sound own n));
@@ -278,13 +276,13 @@ abbrev GivesOwn : {E : Type 0} → Step (Result ℕ E) → ℕ → Type 0
 GivesOwn step p = step.answer ≡ Ok p → (s : ℕ) × IsOwnPointer step.heap s p
 
 -- a slot is given out, and keeps its pointer
-slot_gives : {E : Type 0} (h new : Heap) (n s p : ℕ) → IsGiven h n s → KeepsGiven (given_out h s n) new → IsLive (state_at new s) →
+slot_gives : {E : Type 0} (h new : Heap) (n s p : ℕ) → MayBeGiven h n s → KeepsGiven (given_out h s n) new → IsLive (state_at new s) →
     ◌≡◌ {A = Result ℕ E} (Ok (pointer_to (given_out h s n) s)) (Ok p) → (r : ℕ) × IsOwnPointer new r p
 slot_gives {E} h new n s p given kept live is =
     let same : pointer_to (given_out h s n) s ≡ p = cc in
     (s, subst (IsOwnPointer new s) same (own_new h new s n given kept live))
 
-live_given : (h : Heap) (n s : ℕ) → IsSoundHeap h → IsGiven h n s → IsLive (state_at (given_out h s n) s)
+live_given : (h : Heap) (n s : ℕ) → IsSoundHeap h → MayBeGiven h n s → IsLive (state_at (given_out h s n) s)
 live_given h n s sound given = subst IsLive (sym (state_at-given_out h s n (in_states h s sound given.reusable.in_range))) tt
 
 malloc_own : (h : Heap) (n p : ℕ) → IsSoundHeap h → GivesOwn (malloc_step h n) p
@@ -342,7 +340,7 @@ realloc_own h q n p sound =
     cond_both (q == 0) _ _ (λ (step : Step (Result ℕ ReallocError)). GivesOwn step p) (λ _. null_gives h n p sound)
     (λ _. chunk_gives h q n p sound (chunk_at h q) refl)
 
-pub gives_own : (h : Heap) → IsSoundHeap h → GivesOwnPointers h
+pub gives_own : OwnPointersAreGiven
 gives_own h sound = record {
   malloc = λ n p. malloc_own h n p sound;
   calloc = λ n p. calloc_own h n p sound;

@@ -2,22 +2,23 @@
 use Rattle.std.proofs.Common.{◌≡◌, ℕ, ◌+◌, ◌-◌, ◌<◌, true, false, List, [], ◌∷◌, ◌++◌, length, get_or, refl, sym, ap, ◌∙◌, subst, inl, inr, ⊎_elim, arith, Some}
 use Rattle.std.specs.Prelude.{slice_get, slice_set, replicate, Contains}
 use Rattle.std.proofs.lemmas.Bool.{cases_eq}
-use Rattle.std.proofs.lemmas.List.{get_or-set_same, get_or-set_other, length-set, length-replicate}
+use Rattle.std.proofs.lemmas.List.{length-set, length-replicate}
 use Rattle.std.proofs.lemmas.List.Elements.{Contains-append_left, Contains-push}
 use Rattle.machine_theory.specs.Memory.{Granule}
-use Rattle.class_table.specs.Layout.{Partition, slot_count, block_bytes}
-use Rattle.heap_theory.specs.QueueAndLists.{HasMark, IsChain, IsFreedList, AgreeWithMarksFrom, AgreeWithMarks, bytes_of}
+use Rattle.class_table.specs.Layout.{slot_count, block_bytes}
+use Rattle.heap_theory.specs.QueueAndLists.{HasMark, IsChain, IsFreedList, AgreeWithMarksFrom, AgreeWithMarks}
 use Rattle.heap_theory.specs.Calls.{next_tag, given_out, freed, resized}
-use Rattle.heap_theory.specs.Lookups.{is_dead}
 use Rattle.heap_theory.specs.Links.{list_of}
 use Rattle.heap_theory.specs.Sound.{IsSoundHeap}
-use Rattle.heap_theory.specs.State.{State, Heap, slot_in, state_at, last_tag, is_fresh, first_heap}
+use Rattle.heap_theory.specs.State.{State, Heap, slot_in, state_at, last_tag, is_fresh, first_heap, is_dead}
 use Rattle.heap_theory.specs.State.State.{Fresh, Live, Dead}
+use Rattle.heap_theory.proofs.ChangedSlot.{changed, state_here, state_there}
 use Rattle.heap_theory.proofs.FirstHeap.{get_or-replicate_any}
 use Rattle.heap_theory.proofs.ListSearch.{Contains-head, Contains-tail, Contains-cases}
 use Rattle.heap_theory.proofs.HeapKept.{in_states}
 use Rattle.heap_theory.proofs.Marks.{one_mark, not_marked, chain_bytes, chain_mark, chain_dead, list_mark, list_dead, list_weaker, one_number, IsNumberOf, number_is}
 use Rattle.heap_theory.proofs.Releasing.{list_of-here, list_of-there}
+use Rattle.heap_theory.specs.Laws.{NothingIsFreedAtFirst, FreshIsTaken, ResizedStaysOut, MemoryHasNoMarks, FreedIsQueued}
 
 -- ---- a change of the memory
 
@@ -31,8 +32,7 @@ list_over : (h : Heap) (memory : List Granule) (class bound : ℕ) (list : List 
 list_over h memory class bound [] f = tt
 list_over h memory class bound (s ∷ rest) f = (f.0, f.1, f.2, f.3, f.4, list_over h memory class f.0 rest f.5)
 
-pub agree_over : (h : Heap) (memory : List Granule) (queue : List ℕ) (lists : List (List ℕ)) → AgreeWithMarks h queue lists →
-    AgreeWithMarks (record h { memory = memory }) queue lists
+pub agree_over : MemoryHasNoMarks
 agree_over h memory queue lists b = record {
   from = b.from;
   agree = record {
@@ -49,29 +49,21 @@ agree_over h memory queue lists b = record {
 -- ---- the state of one slot changes
 
 module _ (h : Heap) (s : ℕ) (state : State) (memory : List Granule) (total seed tag : ℕ) (within : s < length h.states) where
-  changed : Heap
-  changed = record h { states = slice_set h.states s state; memory = memory; total = total; seed = seed; tag = tag }
+  abbrev now : Heap
+  now = changed h s state memory total seed tag
 
-  state_here : state_at changed s ≡ state
-  unfolding changed
-  state_here = get_or-set_same h.states s state Fresh within
+  marked_there : (r mark : ℕ) → (r ≡ s → ⊥) → HasMark (state_at h r) mark → HasMark (state_at now r) mark
+  marked_there r mark not d = subst (λ x. HasMark x mark) (sym (state_there h s state memory total seed tag within r not)) d
 
-  state_there : (r : ℕ) → (r ≡ s → ⊥) → state_at changed r ≡ state_at h r
-  unfolding changed
-  state_there r not = get_or-set_other h.states s r state Fresh not
+  marked_before : (r mark : ℕ) → (r ≡ s → ⊥) → HasMark (state_at now r) mark → HasMark (state_at h r) mark
+  marked_before r mark not d = subst (λ x. HasMark x mark) (state_there h s state memory total seed tag within r not) d
 
-  marked_there : (r mark : ℕ) → (r ≡ s → ⊥) → HasMark (state_at h r) mark → HasMark (state_at changed r) mark
-  marked_there r mark not d = subst (λ x. HasMark x mark) (sym (state_there r not)) d
-
-  marked_before : (r mark : ℕ) → (r ≡ s → ⊥) → HasMark (state_at changed r) mark → HasMark (state_at h r) mark
-  marked_before r mark not d = subst (λ x. HasMark x mark) (state_there r not) d
-
-  marked_here : (r mark : ℕ) → r ≡ s → HasMark (state_at changed r) mark → HasMark state mark
-  marked_here r mark is d = subst (λ x. HasMark x mark) state_here (subst (λ q. HasMark (state_at changed q) mark) is d)
+  marked_here : (r mark : ℕ) → r ≡ s → HasMark (state_at now r) mark → HasMark state mark
+  marked_here r mark is d =
+      subst (λ x. HasMark x mark) (state_here h s state memory total seed tag within) (subst (λ q. HasMark (state_at now q) mark) is d)
 
   list_stays : (class bound : ℕ) (list : List ℕ) → (Contains list s → ⊥) → IsFreedList h class bound list →
-      IsFreedList changed class bound list
-  unfolding changed
+      IsFreedList now class bound list
   list_stays class bound [] out f = tt
   list_stays class bound (r ∷ rest) out f = (
     f.0,
@@ -82,18 +74,13 @@ module _ (h : Heap) (s : ℕ) (state : State) (memory : List Granule) (total see
     list_stays class f.0 rest (λ there. out (Contains-tail r rest s there)) f.5,
   )
 
-  chain_stays : (from : ℕ) (queue : List ℕ) → total ≡ h.total → (Contains queue s → ⊥) → IsChain h from queue → IsChain changed from queue
-  unfolding changed
+  chain_stays : (from : ℕ) (queue : List ℕ) → total ≡ h.total → (Contains queue s → ⊥) → IsChain h from queue → IsChain now from queue
   chain_stays from [] same out c = c ∙ sym same
   chain_stays from (r ∷ rest) same out c = (
     c.0,
     marked_there r from (λ is. out (subst (Contains (r ∷ rest)) is (Contains-head r rest))) c.1,
     chain_stays (from + block_bytes (slot_in h r)) rest same (λ there. out (Contains-tail r rest s there)) c.2,
   )
-
-  bytes_same : (queue : List ℕ) → bytes_of changed.layout queue ≡ bytes_of h.layout queue
-  unfolding changed
-  bytes_same queue = refl
 
   -- a slot that becomes live, or stays so, leaves the lists if it was in one
   made_live : (queue : List ℕ) (lists new : List (List ℕ)) → total ≡ h.total → is_dead state ≡ false → AgreeWithMarks h queue lists →
@@ -102,8 +89,7 @@ module _ (h : Heap) (s : ℕ) (state : State) (memory : List Granule) (total see
       ((number class bound : ℕ) → number < length new → IsFreedList h class bound (list_of lists number) →
       IsFreedList h class bound (list_of new number)) →
       ((number r : ℕ) → (r ≡ s → ⊥) → Contains (list_of lists number) r → Contains (list_of new number) r) →
-      AgreeWithMarks changed queue new
-  unfolding changed
+      AgreeWithMarks now queue new
   made_live queue lists new same alive b not_queued long out kept others = record {
     from = b.from;
     agree = record {
@@ -124,17 +110,19 @@ module _ (h : Heap) (s : ℕ) (state : State) (memory : List Granule) (total see
     held = b.held;
   }
     where
-      dead_before : (r mark : ℕ) → HasMark (state_at changed r) mark → (r ≡ s → ⊥) × HasMark (state_at h r) mark
+      dead_before : (r mark : ℕ) → HasMark (state_at now r) mark → (r ≡ s → ⊥) × HasMark (state_at h r) mark
       dead_before r mark d =
           let not : r ≡ s → ⊥ = λ is. not_marked state mark alive (marked_here r mark is d) in
           (not, marked_before r mark not d)
 
   -- a live slot that is freed goes to the end of the queue
   chain_push : (from : ℕ) (queue : List ℕ) → s < slot_count h.layout → HasMark state h.total → total ≡ h.total + block_bytes (slot_in h s) →
-      (Contains queue s → ⊥) → IsChain h from queue → IsChain changed from (queue ++ s ∷ [])
-  unfolding changed
-  chain_push from [] in_range d grows out c =
-      (in_range, subst (λ x. HasMark x from) (sym state_here) (subst (HasMark state) (sym c) d), omega (arith, c))
+      (Contains queue s → ⊥) → IsChain h from queue → IsChain now from (queue ++ s ∷ [])
+  chain_push from [] in_range d grows out c = (
+    in_range,
+    subst (λ x. HasMark x from) (sym (state_here h s state memory total seed tag within)) (subst (HasMark state) (sym c) d),
+    omega (arith, c),
+  )
   chain_push from (r ∷ rest) in_range d grows out c = (
     c.0,
     marked_there r from (λ is. out (subst (Contains (r ∷ rest)) is (Contains-head r rest))) c.1,
@@ -145,8 +133,7 @@ module _ (h : Heap) (s : ℕ) (state : State) (memory : List Granule) (total see
       total ≡ h.total + block_bytes (slot_in h s) →
       (b : AgreeWithMarks h queue lists) → (Contains queue s → ⊥) →
       ((number : ℕ) → number < length lists → Contains (list_of lists number) s → ⊥) →
-      AgreeWithMarksFrom changed b.from (queue ++ s ∷ []) lists
-  unfolding changed
+      AgreeWithMarksFrom now b.from (queue ++ s ∷ []) lists
   made_dead queue lists in_range d grows b not_queued out = record {
     chain = chain_push b.from queue in_range d grows not_queued b.agree.chain;
     long = b.agree.long;
@@ -165,7 +152,7 @@ module _ (h : Heap) (s : ℕ) (state : State) (memory : List Granule) (total see
     ];
   }
     where
-      not_before : (r mark : ℕ) → r ≡ s → HasMark (state_at changed r) mark → mark < b.from → ⊥
+      not_before : (r mark : ℕ) → r ≡ s → HasMark (state_at now r) mark → mark < b.from → ⊥
       not_before r mark is dead lt =
           let own : mark ≡ h.total = one_mark state mark h.total (marked_here r mark is dead) d in
           let sum = chain_bytes h b.from queue b.agree.chain in
@@ -190,20 +177,16 @@ fresh_not_dead (Dead n t m) fresh = cc
 
 -- ---- the changes that calls make
 
-pub agree_freed : (h : Heap) (queue : List ℕ) (lists : List (List ℕ)) (s n t : ℕ) → IsSoundHeap h → (b : AgreeWithMarks h queue lists) →
-    s < slot_count h.layout → state_at h s ≡ Live n t →
-    AgreeWithMarksFrom (freed h s n) b.from (queue ++ s ∷ []) lists
-unfolding freed changed
+pub agree_freed : FreedIsQueued
+unfolding freed
 agree_freed h queue lists s n t sound b in_range live =
     made_dead h s (Dead n (last_tag (state_at h s)) h.total) _ (h.total + block_bytes (slot_in h s)) _ _ (in_states h s sound in_range)
     queue lists in_range refl refl b
     (not_queued h b.from queue s b.agree.chain (ap is_dead live))
     (not_listed h queue lists s b (ap is_dead live))
 
-pub agree_fresh : (h : Heap) (queue : List ℕ) (lists : List (List ℕ)) (s n : ℕ) → IsSoundHeap h → AgreeWithMarks h queue lists →
-    s < slot_count h.layout → is_fresh (state_at h s) ≡ true →
-    AgreeWithMarks (given_out h s n) queue lists
-unfolding given_out changed
+pub agree_fresh : FreshIsTaken
+unfolding given_out
 agree_fresh h queue lists s n sound b in_range fresh =
     made_live h s (Live n (next_tag h s)) _ h.total _ _ (in_states h s sound in_range) queue lists lists refl refl b
     (not_queued h b.from queue s b.agree.chain (fresh_not_dead (state_at h s) fresh))
@@ -211,10 +194,8 @@ agree_fresh h queue lists s n sound b in_range fresh =
     (not_listed h queue lists s b (fresh_not_dead (state_at h s) fresh))
     (λ number class bound inside f. f) (λ number r not there. there)
 
-pub agree_resized : (h : Heap) (queue : List ℕ) (lists : List (List ℕ)) (s n m t : ℕ) → IsSoundHeap h → AgreeWithMarks h queue lists →
-    s < slot_count h.layout → state_at h s ≡ Live m t →
-    AgreeWithMarks (resized h s n) queue lists
-unfolding resized changed
+pub agree_resized : ResizedStaysOut
+unfolding resized
 agree_resized h queue lists s n m t sound b in_range live =
     made_live h s (Live n (last_tag (state_at h s))) _ h.total _ _ (in_states h s sound in_range) queue lists lists refl refl b
     (not_queued h b.from queue s b.agree.chain (ap is_dead live))
@@ -286,7 +267,7 @@ module _ (h : Heap) (queue : List ℕ) (lists : List (List ℕ)) (number class s
   ]
 
   pub agree_taken : AgreeWithMarks (given_out h s n) queue (slice_set lists number rest)
-  unfolding given_out changed
+  unfolding given_out
   agree_taken =
       let f = front in
       made_live h s (Live n (next_tag h s)) _ h.total _ _ (in_states h s sound f.1) queue lists (slice_set lists number rest) refl refl b
@@ -294,8 +275,7 @@ module _ (h : Heap) (queue : List ℕ) (lists : List (List ℕ)) (number class s
 
 -- ---- a new heap
 
-pub agree_first : (layout : Partition) (seed quarantine : ℕ) →
-    AgreeWithMarks (first_heap layout seed quarantine) [] (replicate (length layout.classes) [])
+pub agree_first : NothingIsFreedAtFirst
 unfolding first_heap
 agree_first layout seed quarantine = record {
   from = 0;

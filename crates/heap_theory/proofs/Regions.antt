@@ -11,7 +11,7 @@ use Rattle.class_table.specs.Layout.{Partition, IsPartition, no_slot, slots_of, 
 use Rattle.heap_theory.proofs.TheoryLemmas as laws
 use Rattle.heap_theory.specs.Header.{Header, FitsWords, first_word, second_word, header_at, with_header}
 use Rattle.heap_theory.specs.Region.{Region, headers_of, region_of, no_header, header_in, next_in, with_slot_header, with_slot_link}
-use Rattle.heap_theory.specs.State.{is_header, without_headers}
+use Rattle.heap_theory.specs.State.{is_header_granule, without_headers}
 use Rattle.heap_theory.proofs.HeaderWords.{header_at-elsewhere, header_at-tagged, header_at-with_header, header_at-written}
 use Rattle.heap_theory.proofs.SeenMemory.{without_headers-in_header, without_headers-tagged, without_headers-written}
 
@@ -40,7 +40,7 @@ module _ (layout : Partition) where
   headers_of-same memory new same =
       headers_of-is memory (headers_of layout new) (length-headers_of new) (λ s within. header_in-region_of new s within ∙ same s within)
 
-  pub start_is_header : (s : ℕ) → s < slot_count layout → is_header layout (slot_of layout s).start ≡ true
+  pub start_is_header : (s : ℕ) → s < slot_count layout → is_header_granule layout (slot_of layout s).start ≡ true
   start_is_header s within =
       list_any-from_Any (λ slot. slot.start == (slot_of layout s).start) (slots_of layout)
       (s, slot_of layout s, within, get_or_default (slots_of layout) s (slot_of layout s) no_slot within, eq-eqb _ _ refl)

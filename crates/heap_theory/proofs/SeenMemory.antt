@@ -1,22 +1,22 @@
 -- What is seen of a memory without the bytes of its headers.
-use Rattle.std.proofs.Common.{◌≡◌, ◌≢◌, ◌⊎◌, ℕ, ◌+◌, ◌-◌, ◌*◌, ◌/◌, ◌%◌, ◌<◌, ◌≤◌, Bool, true, false, cond, List, [], length, replicate, refl, sym, ap, ◌∙◌, subst, inl, inr, ⊎_elim, arith, None}
+use Rattle.std.proofs.Common.{◌≡◌, ◌⊎◌, ℕ, ◌+◌, ◌-◌, ◌*◌, ◌/◌, ◌%◌, ◌<◌, ◌≤◌, Bool, true, false, cond, List, [], length, replicate, refl, sym, ap, ◌∙◌, subst, inl, inr, ⊎_elim, arith}
 use Rattle.std.specs.Prelude.{◌==◌, nat_le, nat_lt, slice_index, Any, is_some}
 use Rattle.std.proofs.lemmas.Bool.{cases_lt, cases_Bool, cases_order, cond-false, cond_both, eqb-true, both_ways, and_left, and_right, lt-leb, le-ltb, false_from_ne_true}
 use Rattle.std.proofs.lemmas.List.{length-replicate, get_or-replicate, get_or_past, get_or_default}
 use Rattle.std.proofs.lemmas.List.Folds.{Any-from_list_any}
 use Rattle.std.proofs.lemmas.List.FromFn.{fill_by_all}
 use Rattle.machine_theory.specs.Access.{access_fault}
-use Rattle.machine_theory.specs.Address.{logical_tag, Touches}
 use Rattle.machine_theory.specs.Memory.{Granule, no_granule, new_granule, granule_at, tag_at, each_granule, is_among, tagged, byte_at, byte_after, bytes_after, written, IsMemory}
 use Rattle.machine_theory.proofs.MemoryLaws.{tag_at_past}
-use Rattle.class_table.specs.Layout.{Partition, Slot, no_slot, slots_of}
+use Rattle.class_table.specs.Layout.{Partition, Slot, no_slot, slots_of, slot_count, slot_of}
 use Rattle.heap_theory.proofs.TheoryLemmas as laws
 use Rattle.heap_theory.specs.Sound.{IsSoundHeap}
-use Rattle.heap_theory.specs.State.{Heap, slot_in, is_header, without_headers, first_memory}
+use Rattle.heap_theory.specs.State.{Heap, is_header_granule, without_headers, first_memory}
+use Rattle.heap_theory.specs.HeaderLaws.{HeaderBytesAreNotSeen, HeadersAreSpared}
 
 -- what becomes of a granule
 abbrev hidden : Partition → ℕ → Granule → Granule
-hidden layout g granule = cond (is_header layout g) (record granule { bytes = [] }) granule
+hidden layout g granule = cond (is_header_granule layout g) (record granule { bytes = [] }) granule
 
 swap_tag : (a b : Bool) (tag : ℕ) (x : Granule) →
     ◌≡◌ {A = Granule} (cond a (record (cond b (record x { tag = tag }) x) { bytes = [] }) (cond b (record x { tag = tag }) x))
@@ -39,14 +39,14 @@ module _ (layout : Partition) where
   unfolding without_headers tagged
   without_headers-tagged first count tag memory =
       laws.either_order (hidden layout) (λ g x. cond (is_among first count g) (record x { tag = tag }) x) memory
-      (λ g x. swap_tag (is_header layout g) (is_among first count g) tag x)
+      (λ g x. swap_tag (is_header_granule layout g) (is_among first count g) tag x)
 
   pub without_headers-written : (i : ℕ) (new : List ℕ) (memory : List Granule) →
       without_headers layout (written i new memory) ≡ written i new (without_headers layout memory)
   unfolding without_headers written
   without_headers-written i new memory =
       laws.either_order (hidden layout) (λ g x. record x { bytes = bytes_after i new g x.bytes }) memory
-      (λ g x. swap_bytes (is_header layout g) i new g x)
+      (λ g x. swap_bytes (is_header_granule layout g) i new g x)
 
   pub length-without_headers : (memory : List Granule) → length (without_headers layout memory) ≡ length memory
   unfolding without_headers
@@ -57,8 +57,8 @@ module _ (layout : Partition) where
   tag_at-without_headers memory g = elim (cases_lt g (length memory)) [
     | inl within ↦
         ap (λ (x : Granule). x.tag) (laws.each_at (hidden layout) memory g within)
-        ∙ cond_both (is_header layout g) (record (granule_at memory g) { bytes = [] }) (granule_at memory g) (λ x. x.tag ≡ tag_at memory g)
-        (λ _. refl) (λ _. refl)
+        ∙ cond_both (is_header_granule layout g) (record (granule_at memory g) { bytes = [] }) (granule_at memory g)
+        (λ x. x.tag ≡ tag_at memory g) (λ _. refl) (λ _. refl)
     | inr past ↦
         tag_at_past (each_granule (hidden layout) memory) g (subst (λ n. n ≤ g) (sym (laws.each_length _ memory)) past)
         ∙ sym (tag_at_past memory g past)
@@ -70,25 +70,25 @@ module _ (layout : Partition) where
       laws.by_tags memory (without_headers layout memory) address len (length-without_headers memory) (tag_at-without_headers memory)
 
   -- a granule that is no header is seen as it is
-  pub granule_at-without_headers : (memory : List Granule) (g : ℕ) → is_header layout g ≡ false →
+  pub granule_at-without_headers : (memory : List Granule) (g : ℕ) → is_header_granule layout g ≡ false →
       granule_at (without_headers layout memory) g ≡ granule_at memory g
   unfolding without_headers
   granule_at-without_headers memory g no_header = elim (cases_lt g (length memory)) [
     | inl within ↦ laws.each_at (hidden layout) memory g within
-        ∙ cond-false (is_header layout g) (record (granule_at memory g) { bytes = [] }) (granule_at memory g) no_header
+        ∙ cond-false (is_header_granule layout g) (record (granule_at memory g) { bytes = [] }) (granule_at memory g) no_header
     | inr past ↦
         get_or_past (each_granule (hidden layout) memory) g no_granule (subst (λ n. n ≤ g) (sym (laws.each_length _ memory)) past)
         ∙ sym (get_or_past memory g no_granule past)
   ]
 
-  pub byte_at-without_headers : (memory : List Granule) (i : ℕ) → is_header layout (i / 16) ≡ false →
+  pub byte_at-without_headers : (memory : List Granule) (i : ℕ) → is_header_granule layout (i / 16) ≡ false →
       byte_at (without_headers layout memory) i ≡ byte_at memory i
   byte_at-without_headers memory i no_header =
       ap (λ (x : Granule). slice_index x.bytes (i % 16)) (granule_at-without_headers memory (i / 16) no_header)
 
   -- two memories that differ in bytes of headers alone are seen as one
   pub without_headers-same : (memory other : List Granule) → length other ≡ length memory → ((g : ℕ) → tag_at other g ≡ tag_at memory g) →
-      ((g : ℕ) → is_header layout g ≡ false → granule_at other g ≡ granule_at memory g) →
+      ((g : ℕ) → is_header_granule layout g ≡ false → granule_at other g ≡ granule_at memory g) →
       without_headers layout other ≡ without_headers layout memory
   unfolding without_headers
   without_headers-same memory other long tags granules =
@@ -99,7 +99,7 @@ module _ (layout : Partition) where
       (laws.each_length _ memory) (λ g within. laws.each_at (hidden layout) memory g within))
     where
       at : (g : ℕ) → hidden layout g (granule_at other g) ≡ hidden layout g (granule_at memory g)
-      at g = elim (cases_Bool (is_header layout g)) [
+      at g = elim (cases_Bool (is_header_granule layout g)) [
         | inl header ↦ rw header (λ i. record { tag = tags g i; bytes = [] })
         | inr none ↦ ap (hidden layout g) (granules g none)
       ]
@@ -107,7 +107,7 @@ module _ (layout : Partition) where
   pub without_headers-new : without_headers layout (replicate layout.granules new_granule) ≡ first_memory layout
   unfolding without_headers first_memory
   without_headers-new =
-      fill_by_all (λ g. cond (is_header layout g) no_granule new_granule)
+      fill_by_all (λ g. cond (is_header_granule layout g) no_granule new_granule)
       (each_granule (hidden layout) (replicate layout.granules new_granule)) layout.granules no_granule
       (laws.each_length _ (replicate layout.granules new_granule) ∙ length-replicate layout.granules new_granule)
       (λ k within.
@@ -146,33 +146,34 @@ granule_at-written i g new memory is apart = elim (cases_lt g (length memory)) [
         apart
 
 -- bytes that are written in a header are not seen
-pub without_headers-in_header : (layout : Partition) (g i : ℕ) (new : List ℕ) (memory : List Granule) → IsMemory memory →
-    is_header layout g ≡ true →
-    16 * g ≤ i → i + length new ≤ 16 * g + 16 → without_headers layout (written i new memory) ≡ without_headers layout memory
+pub without_headers-in_header : HeaderBytesAreNotSeen
 without_headers-in_header layout g i new memory is header from to =
     without_headers-same layout memory (written i new memory) (laws.written_length i new memory) (λ k. laws.tag_under_bytes i k new memory)
     (λ k none. granule_at-written i k new memory is (elim (cases_order k g) [
-      | inl same ↦ absurd (both_ways _ none (subst (λ n. is_header layout n ≡ true) (sym same) header))
+      | inl same ↦ absurd (both_ways _ none (subst (λ n. is_header_granule layout n ≡ true) (sym same) header))
       | inr (inl before) ↦ inl (omega arith)
       | inr (inr after) ↦ inr (omega arith)
     ]))
 
 -- ---- headers are spared
 
--- a header has tag 0
-header_tag : (h : Heap) (g : ℕ) → IsSoundHeap h → is_header h.layout g ≡ true → tag_at h.memory g ≡ 0
+-- a header is the first granule of a slot,
+pub header_starts : (layout : Partition) (g : ℕ) → is_header_granule layout g ≡ true →
+    (s : ℕ) × (s < slot_count layout) × ((slot_of layout s).start ≡ g)
+header_starts layout g is =
+    let any : Any (λ (slot : Slot). (slot.start == g) ≡ true) (slots_of layout) =
+    Any-from_list_any (λ slot. slot.start == g) (slots_of layout) is in
+    let slot : slot_of layout any.0 ≡ any.1 = get_or_default (slots_of layout) any.0 no_slot any.1 any.2 ∙ any.3 in
+    (any.0, any.2, ap (λ (slot : Slot). slot.start) slot ∙ eqb-true any.1.start g any.4)
+
+-- and has tag 0
+header_tag : (h : Heap) (g : ℕ) → IsSoundHeap h → is_header_granule h.layout g ≡ true → tag_at h.memory g ≡ 0
 header_tag h g sound is =
-    let any : Any (λ (slot : Slot). (slot.start == g) ≡ true) (slots_of h.layout) =
-    Any-from_list_any (λ slot. slot.start == g) (slots_of h.layout) is in
-    let slot : slot_in h any.0 ≡ any.1 = get_or_default (slots_of h.layout) any.0 no_slot any.1 any.2 ∙ any.3 in
-    let start : (slot_in h any.0).start ≡ g = ap (λ (slot : Slot). slot.start) slot ∙ eqb-true any.1.start g any.4 in
-    subst (λ k. tag_at h.memory k ≡ 0) start (sound.tagged any.0 any.2).header
+    let slot = header_starts h.layout g is in subst (λ k. tag_at h.memory k ≡ 0) slot.2 (sound.tagged slot.0 slot.1).header
 
 -- an access that succeeds under another tag than 0 touches no header
-pub headers_spared : (h : Heap) (address len g : ℕ) → IsSoundHeap h → logical_tag address ≢ 0 → access_fault h.memory address len ≡ None →
-    Touches address len g →
-    is_header h.layout g ≡ false
-headers_spared h address len g sound tagged succeeds touches = false_from_ne_true (is_header h.layout g) (λ is.
+pub headers_spared : HeadersAreSpared
+headers_spared h address len g sound tagged succeeds touches = false_from_ne_true (is_header_granule h.layout g) (λ is.
     let fault = laws.other_tag_faults h.memory address len g touches (λ same. tagged (sym same ∙ header_tag h g sound is)) in
     let none : is_some (access_fault h.memory address len) ≡ false = ap is_some succeeds in
     both_ways _ none fault)

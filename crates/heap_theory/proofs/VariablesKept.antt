@@ -9,9 +9,9 @@ use Rattle.class_table.specs.Layout.{Partition, slot_count, slot_of}
 use Rattle.heap_theory.proofs.TheoryLemmas as laws
 use Rattle.heap_theory.specs.declared.refusal.FreeError.{FreeError}
 use Rattle.heap_theory.specs.declared.refusal.ReallocError.{ReallocError}
-use Rattle.heap_theory.specs.Calls.{Step, next_tag, given_out, resized, with_payload, moved, malloc_with, malloc_step, calloc_with, calloc_step, stays_in_class, move_with, as_realloc, realloc_with, realloc_step}
-use Rattle.heap_theory.specs.Lookups.{Chunk, IsReusable, IsGiven, slot_for_request, chunk_at}
-use Rattle.heap_theory.specs.Run.{Run, Generation, times_of, generation_of, slot_if_moved, times_with, begun_or}
+use Rattle.heap_theory.specs.Calls.{Step, next_tag, given_out, resized, with_payload, moved, malloc_with, malloc_step, calloc_with, calloc_step, stays_in_class, slot_if_moved, move_with, as_realloc, realloc_with, realloc_step}
+use Rattle.heap_theory.specs.Lookups.{Chunk, IsReusable, MayBeGiven, slot_for_request, chunk_at}
+use Rattle.heap_theory.specs.Run.{Run, Generation, times_of, generation_of, times_with, begun_or}
 use Rattle.heap_theory.specs.Replay.{variable}
 use Rattle.heap_theory.specs.Sound.{IsTagOf}
 use Rattle.heap_theory.specs.SoundRun.{IsAddressOf, IsSoundVariable, IsSoundRun}
@@ -133,7 +133,7 @@ module _ (w : Run) (sound : IsSoundRun w) where
   }
 
   -- a variable that an event sets to the address of a slot that it gives out
-  IsSoundVariable-new : (new : Heap) (s n : ℕ) → IsGiven w.replay.heap n s → KeepsGiven (given_out w.replay.heap s n) new →
+  IsSoundVariable-new : (new : Heap) (s n : ℕ) → MayBeGiven w.replay.heap n s → KeepsGiven (given_out w.replay.heap s n) new →
       IsSoundVariable new (times_with w (Some s)) (pointer_to (given_out w.replay.heap s n) s)
       (Some (record { slot = s; time = suc (times_of w s) }))
   IsSoundVariable-new new s n given kept =

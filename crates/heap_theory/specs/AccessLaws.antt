@@ -7,10 +7,9 @@ use Rattle.heap_theory.specs.declared.event.Event.{Event}
 use Rattle.heap_theory.specs.declared.event.Event.TheVariants.{Load, Store}
 use Rattle.heap_theory.specs.declared.place_kind.PlaceKind.{PlaceKind}
 use Rattle.heap_theory.specs.GranuleKinds.{place_kind}
-use Rattle.heap_theory.specs.Replay.{Replay, Answer, variable, heap_after, answer_of, answers, replay_of}
+use Rattle.heap_theory.specs.Replay.{Replay, Answer, variable, heap_after, answer_of, answers, replay_of, is_tag_fault}
 use Rattle.heap_theory.specs.Replay.Answer.{Silent, Loaded, NotMapped, TagFault}
 use Rattle.heap_theory.specs.State.{Heap}
-use Rattle.heap_theory.specs.Totals.{is_tag_fault}
 
 -- The result of an access of `len` bytes at an address: unmapped, a tag fault, or `done` if it succeeds.
 pub record IsAnswerTo (heap : Heap) (address len : ℕ) (done answer : Answer) : Type 0 where

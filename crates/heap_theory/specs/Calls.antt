@@ -1,6 +1,6 @@
 -- The calls of the heap: how each changes it, and what each returns.
-use Rattle.std.specs.Prelude.{ℕ, ◌+◌, ◌-◌, ◌*◌, ◌^◌, ◌%◌, min, Bool, false, ◌==◌, if◌then◌else◌, List, replicate, bit_or, slice_set, Result, Ok, Err}
-use Rattle.std.specs.Result.{result_map_both}
+use Rattle.std.specs.Prelude.{ℕ, ◌+◌, ◌-◌, ◌*◌, ◌^◌, ◌%◌, min, Bool, false, ◌==◌, if◌then◌else◌, List, replicate, bit_or, slice_set, Option, None, Result, Ok, Err}
+use Rattle.std.specs.Result.{result_map_both, result_ok}
 use Rattle.machine_theory.specs.Instructions.{drawn_tag}
 use Rattle.machine_theory.specs.Memory.{Granule, tagged, written, bytes_at}
 use Rattle.machine_theory.specs.Seed.{next_seed}
@@ -21,7 +21,7 @@ use Rattle.machine_theory.specs.declared.sizes.TheConstants.{GRANULE_BYTES}
 abbrev pub parity_exclude : ℕ → ℕ
 parity_exclude s = if s % 2 == 0 then 0x5555 else 0xAAAB
 
--- the tags that a slot does not take next: those of the other parity, and the one that it was last given out with
+-- the tags that a slot does not take next: those that it never takes, and the one that it was last given out with
 abbrev pub exclude_at : Heap → ℕ → ℕ
 exclude_at heap s = bit_or (parity_exclude s) (2 ^ last_tag (state_at heap s))
 
@@ -121,6 +121,11 @@ is_class_of slot (Err cause) = false
 -- whether n bytes are of the class that the chunk's slot has
 abbrev pub stays_in_class : Heap → Chunk → ℕ → Bool
 stays_in_class heap chunk n = is_class_of (slot_in heap chunk.slot) (class_for_request heap n)
+
+-- the slot to which a realloc to n bytes moves the chunk at its pointer, if it moves one
+abbrev pub slot_if_moved : Heap → ℕ → Result Chunk FreeError → Option ℕ
+slot_if_moved heap n (Ok chunk) = if stays_in_class heap chunk n then None else result_ok (slot_for_request heap n)
+slot_if_moved heap n (Err error) = None
 
 abbrev pub move_with : Heap → Chunk → ℕ → Result ℕ NullCause → Step (Result ℕ ReallocError)
 move_with heap chunk n (Ok s) = record { heap = moved heap chunk s n; answer = Ok (pointer_to (given_out heap s n) s) }

@@ -4,7 +4,7 @@ use Rattle.machine_theory.specs.Memory.{is_among}
 use Rattle.class_table.specs.Layout.{Slot, slot_over}
 use Rattle.heap_theory.specs.declared.place_kind.PlaceKind.{PlaceKind}
 use Rattle.heap_theory.specs.declared.place_kind.PlaceKind.TheVariants.{Slack, Header, Tail, Dead as DeadChunk, Other}
-use Rattle.heap_theory.specs.State.{State, Heap, slot_in, state_at, chunk_of, payload_start}
+use Rattle.heap_theory.specs.State.{State, Heap, slot_in, state_at, chunk_granules_of, payload_start}
 use Rattle.heap_theory.specs.State.State.{Fresh, Live, Dead}
 
 -- a granule of a chunk; a fresh slot has none
@@ -16,7 +16,7 @@ kind_of_chunk (Dead size tag mark) = DeadChunk
 abbrev pub kind_in_slot : Slot → State → ℕ → PlaceKind
 kind_in_slot slot state g =
     if slot.start == g then Header
-    else if is_among (payload_start slot) (chunk_of state) g then kind_of_chunk state
+    else if is_among (payload_start slot) (chunk_granules_of state) g then kind_of_chunk state
     else Tail
 
 abbrev pub kind_at : Heap → Option ℕ → ℕ → PlaceKind

@@ -1,6 +1,6 @@
 -- What hardens the heap, said of a run. An access touches each granule that holds one of its bytes, whether the whole access is mapped or
 -- not.
-use Rattle.std.specs.Prelude.{◌≡◌, ◌≢◌, ◌⊎◌, ℕ, suc, ◌+◌, ◌-◌, ◌%◌, ◌<◌, ◌≤◌, ℤ, nat_abs, List, length, slice_index, Some, None, IsSome, ⊤}
+use Rattle.std.specs.Prelude.{◌≡◌, ◌≢◌, ◌⊎◌, ℕ, suc, ◌+◌, ◌-◌, ◌%◌, ◌<◌, ◌≤◌, ℤ, nat_abs, List, length, slice_index, Some, None, IsSome, IsTrue, ⊤}
 use Rattle.machine_theory.specs.Access.{access_fault}
 use Rattle.machine_theory.specs.Address.{logical_tag, place_of, moved_by, Holds, Touches}
 use Rattle.machine_theory.specs.Memory.{tag_at}
@@ -9,9 +9,8 @@ use Rattle.heap_theory.specs.declared.place_kind.PlaceKind.{PlaceKind}
 use Rattle.heap_theory.specs.declared.place_kind.PlaceKind.TheVariants.{Slack, Header, Tail, Dead as DeadChunk, Other}
 use Rattle.heap_theory.specs.Run.{Run, times_of, generation_of}
 use Rattle.heap_theory.specs.GranuleKinds.{place_kind}
-use Rattle.heap_theory.specs.Replay.{Answer, variable}
-use Rattle.heap_theory.specs.Replay.Answer.{Silent, Loaded, NotMapped, TagFault, NoPointer, NotFreed}
-use Rattle.heap_theory.specs.State.{State, Heap, slot_in, state_at, chunk_of, IsSlot}
+use Rattle.heap_theory.specs.Replay.{variable}
+use Rattle.heap_theory.specs.State.{State, Heap, IsLive, is_dead, slot_in, state_at, chunk_granules_of, IsSlot}
 use Rattle.heap_theory.specs.State.State.{Fresh, Live, Dead}
 use Rattle.machine_theory.specs.declared.sizes.TheConstants.{LONGEST_ACCESS}
 use Rattle.heap_theory.specs.declared.event.TheConstants.Event.{FARTHEST_ACCESS}
@@ -33,20 +32,12 @@ Faults run address len = IsSome (access_fault run.replay.heap.memory address len
 abbrev pub Succeeds : Run → ℕ → ℕ → Type 0
 Succeeds run address len = access_fault run.replay.heap.memory address len ≡ None
 
-abbrev pub IsFaultAnswer : Answer → Type 0
-IsFaultAnswer Silent = ⊥
-IsFaultAnswer (Loaded bytes) = ⊥
-IsFaultAnswer NotMapped = ⊤
-IsFaultAnswer (TagFault granule memory_tag pointer_tag kind) = ⊤
-IsFaultAnswer (NoPointer cause) = ⊥
-IsFaultAnswer (NotFreed error) = ⊥
-
 -- ---- granules
 
 pub record IsChunkGranule (heap : Heap) (s g : ℕ) : Type 0 where
   pub in_range : IsSlot heap s
   pub from : (slot_in heap s).start < g
-  pub to : g ≤ (slot_in heap s).start + chunk_of (state_at heap s)
+  pub to : g ≤ (slot_in heap s).start + chunk_granules_of (state_at heap s)
 
 pub record IsPayloadGranule (heap : Heap) (s g : ℕ) : Type 0 where
   pub in_range : IsSlot heap s
@@ -65,16 +56,6 @@ HaveOtherParity s r = (s + r) % 2 ≡ 1
 
 -- ---- generations
 
-abbrev pub IsLive : State → Type 0
-IsLive Fresh = ⊥
-IsLive (Live size tag) = ⊤
-IsLive (Dead size tag mark) = ⊥
-
-abbrev pub IsDead : State → Type 0
-IsDead Fresh = ⊥
-IsDead (Live size tag) = ⊥
-IsDead (Dead size tag mark) = ⊤
-
 -- the variable has its address from the time-th giving-out of the slot
 abbrev pub HasGeneration : Run → ℕ → ℕ → ℕ → Type 0
 HasGeneration run v s time = generation_of run v ≡ Some (record { slot = s; time = time })
@@ -87,7 +68,8 @@ pub record IsLiveGeneration (run : Run) (s time : ℕ) : Type 0 where
 -- it was freed, and the next one was not
 abbrev pub WasFreed : Run → ℕ → ℕ → Type 0
 WasFreed run s time =
-    (IsDead (state_at run.replay.heap s) × (times_of run s ≡ time)) ⊎ (IsLive (state_at run.replay.heap s) × (times_of run s ≡ suc time))
+    (IsTrue (is_dead (state_at run.replay.heap s)) × (times_of run s ≡ time))
+    ⊎ (IsLive (state_at run.replay.heap s) × (times_of run s ≡ suc time))
 
 -- ---- tags
 
@@ -110,9 +92,13 @@ ChunkTagsDiffer run = ParitiesDiffer run.replay.heap
 
 -- ---- bookkeeping out of reach
 
+-- The address is null, or has a tag other than 0.
+abbrev pub IsNullOrTagged : ℕ → Type 0
+IsNullOrTagged address = (address ≡ 0) ⊎ (logical_tag address ≢ 0)
+
 -- Each variable is null or tagged.
 abbrev pub AreNullOrTagged : List ℕ → Type 0
-AreNullOrTagged variables = (v : ℕ) → (slice_index variables v ≡ 0) ⊎ (logical_tag (slice_index variables v) ≢ 0)
+AreNullOrTagged variables = (v : ℕ) → IsNullOrTagged (slice_index variables v)
 
 abbrev pub NullOrTagged : Run → Type 0
 NullOrTagged run = AreNullOrTagged run.replay.variables
@@ -159,7 +145,7 @@ StaysAsItIs (Dead size tag mark) new = new ≡ Dead size tag mark
 -- A slot stays fresh, live or dead, or is freed, or is given out once more.
 abbrev pub LifeStep : State → ℕ → State → ℕ → Type 0
 LifeStep old times new next =
-    (StaysAsItIs old new × (next ≡ times)) ⊎ (IsLive old × IsDead new × (next ≡ times))
+    (StaysAsItIs old new × (next ≡ times)) ⊎ (IsLive old × IsTrue (is_dead new) × (next ≡ times))
     ⊎ ((IsLive old → ⊥) × IsLive new × (next ≡ suc times))
 
 abbrev pub LivesOn : Run → Run → Type 0

@@ -3,8 +3,7 @@ use Rattle.std.specs.Prelude.{ℕ, zero, suc, ◌+◌, ◌*◌, ◌/◌, ◌%◌
 use Rattle.std.specs.Int.{w64, to_le_bytes}
 use Rattle.machine_theory.specs.Memory.{Granule, word_at, written}
 use Rattle.class_table.specs.Layout.{Partition, slot_of}
-use Rattle.heap_theory.specs.Lookups.{is_released, mark_of}
-use Rattle.heap_theory.specs.State.{State, Heap, state_at, last_tag}
+use Rattle.heap_theory.specs.State.{State, Heap, state_at, last_tag, is_released, mark_of}
 use Rattle.heap_theory.specs.State.State.{Fresh as NeverGiven, Live as Given, Dead}
 use Rattle.machine_theory.specs.declared.sizes.TheConstants.{GRANULE_BYTES}
 use Rattle.class_table.specs.declared.table.TheConstants.{MOST_CLASSES}

@@ -10,7 +10,7 @@ use Rattle.heap_theory.specs.HeapInMemory.{HaveSameSlots, HeaderWordsStay}
 use Rattle.heap_theory.specs.Links.{IsLinked, last_link}
 use Rattle.heap_theory.specs.Region.{region_of, header_in, with_slot_header}
 use Rattle.heap_theory.specs.Sound.{IsSoundHeap}
-use Rattle.heap_theory.specs.State.{Heap, state_at, is_header, without_headers, first_memory, IsSlot}
+use Rattle.heap_theory.specs.State.{Heap, state_at, is_header_granule, without_headers, first_memory, IsSlot}
 use Rattle.machine_theory.specs.declared.sizes.TheConstants.{GRANULE_BYTES}
 use Rattle.class_table.specs.declared.table.TheConstants.{MOST_CLASSES}
 
@@ -32,6 +32,10 @@ ReadHeaderFits =
     FitsWords (header_of first second)
 
 -- ---- headers in memory
+
+-- `count` bytes from byte i on lie before granule g, or after it
+abbrev pub LieOutside : ℕ → ℕ → ℕ → Type 0
+LieOutside i count g = (i + count ≤ GRANULE_BYTES * g) ⊎ (GRANULE_BYTES * g + GRANULE_BYTES ≤ i)
 
 -- A header is written word by word,
 abbrev pub HeaderIsTwoWords : Type 0
@@ -64,7 +68,7 @@ TagsKeepHeaders = (first count tag g : ℕ) (memory : List Granule) → header_a
 
 abbrev pub OtherBytesKeepHeaders : Type 0
 OtherBytesKeepHeaders =
-    (i g : ℕ) (new : List ℕ) (memory : List Granule) → (i + length new ≤ GRANULE_BYTES * g) ⊎ (GRANULE_BYTES * g + GRANULE_BYTES ≤ i) →
+    (i g : ℕ) (new : List ℕ) (memory : List Granule) → LieOutside i (length new) g →
     header_at (written i new memory) g ≡ header_at memory g
 
 -- ---- the headers of a heap's slots
@@ -146,8 +150,7 @@ TagsChangeNoHeader =
 abbrev pub OtherBytesChangeNoHeader : Type 0
 OtherBytesChangeNoHeader =
     (layout : Partition) (i : ℕ) (new : List ℕ) (memory : List Granule) →
-    ((s : ℕ) → s < slot_count layout →
-    (i + length new ≤ GRANULE_BYTES * (slot_of layout s).start) ⊎ (GRANULE_BYTES * (slot_of layout s).start + GRANULE_BYTES ≤ i)) →
+    ((s : ℕ) → s < slot_count layout → LieOutside i (length new) (slot_of layout s).start) →
     region_of layout (written i new memory)
     ≡ record (region_of layout memory) { granules = written i new (without_headers layout memory) }
 
@@ -176,13 +179,13 @@ AccessesAreSeen =
 -- other granules are seen as they are,
 abbrev pub OtherGranulesAreSeen : Type 0
 OtherGranulesAreSeen =
-    (layout : Partition) (memory : List Granule) (g : ℕ) → IsFalse (is_header layout g) →
+    (layout : Partition) (memory : List Granule) (g : ℕ) → IsFalse (is_header_granule layout g) →
     granule_at (without_headers layout memory) g ≡ granule_at memory g
 
 -- and what is written in a header is not.
 abbrev pub HeaderBytesAreNotSeen : Type 0
 HeaderBytesAreNotSeen =
-    (layout : Partition) (g i : ℕ) (new : List ℕ) (memory : List Granule) → IsMemory memory → IsTrue (is_header layout g) →
+    (layout : Partition) (g i : ℕ) (new : List ℕ) (memory : List Granule) → IsMemory memory → IsTrue (is_header_granule layout g) →
     GRANULE_BYTES * g ≤ i → i + length new ≤ GRANULE_BYTES * g + GRANULE_BYTES →
     without_headers layout (written i new memory) ≡ without_headers layout memory
 
@@ -191,4 +194,4 @@ abbrev pub HeadersAreSpared : Type 0
 HeadersAreSpared =
     (heap : Heap) (address len g : ℕ) → IsSoundHeap heap → logical_tag address ≢ 0 → access_fault heap.memory address len ≡ None →
     Touches address len g →
-    IsFalse (is_header heap.layout g)
+    IsFalse (is_header_granule heap.layout g)

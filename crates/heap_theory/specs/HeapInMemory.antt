@@ -3,11 +3,10 @@ use Rattle.std.specs.Prelude.{◌≡◌, ◌≢◌, ℕ, ◌+◌, ◌*◌, ◌<�
 use Rattle.machine_theory.specs.Memory.{Granule, word_at}
 use Rattle.class_table.specs.Layout.{Partition, slot_count, slot_of}
 use Rattle.heap_theory.specs.QueueAndLists.{HoldsQuarantined, HoldsReleased}
-use Rattle.heap_theory.specs.Lookups.{is_dead}
 use Rattle.heap_theory.specs.Header.{header_for}
 use Rattle.heap_theory.specs.Links.{IsLinked, list_of}
 use Rattle.heap_theory.specs.Region.{Region, header_in, next_in, region_of}
-use Rattle.heap_theory.specs.State.{Heap, state_at, IsSlot}
+use Rattle.heap_theory.specs.State.{Heap, state_at, IsSlot, is_dead}
 use Rattle.machine_theory.specs.declared.sizes.TheConstants.{GRANULE_BYTES}
 
 -- The region of a heap at rest, over the heap and its memory alone: its headers, and the queue and lists that are linked through them.

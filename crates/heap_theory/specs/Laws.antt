@@ -8,15 +8,14 @@ use Rattle.heap_theory.specs.declared.event.Event.{Event}
 use Rattle.heap_theory.specs.declared.event.Event.TheVariants.{Load, Store}
 use Rattle.heap_theory.specs.QueueAndLists.{AgreeWithMarks, AgreeWithMarksFrom, HoldsQuarantined, HoldsReleased, bytes_of}
 use Rattle.heap_theory.specs.Calls.{given_out, freed, resized, moved, malloc_step, calloc_step, free_step, realloc_step}
-use Rattle.heap_theory.specs.Lookups.{Chunk, IsGiven, IsLiveChunk, slot_for, lowest_fresh, slot_for_request, slot_of_pointer, chunk_at}
+use Rattle.heap_theory.specs.Lookups.{Chunk, MayBeGiven, IsLiveChunk, slot_for, lowest_fresh, slot_for_request, slot_of_pointer, chunk_at}
 use Rattle.heap_theory.specs.Run.{Run, run_after, run}
-use Rattle.heap_theory.specs.Hardening.{IsFaultAnswer}
 use Rattle.heap_theory.specs.Links.{list_of}
 use Rattle.heap_theory.specs.Report.{report_line, report_lines}
-use Rattle.heap_theory.specs.Replay.{Replay, Answer, variable, store_step, heap_after, replay_after, answer_of, first_replay, answers, replay_of}
+use Rattle.heap_theory.specs.Replay.{Replay, Answer, IsFaultAnswer, variable, store_step, heap_after, replay_after, answer_of, first_replay, answers, replay_of}
 use Rattle.heap_theory.specs.Sound.{IsSoundHeap}
 use Rattle.class_table.specs.Sizes.{chunk_granules}
-use Rattle.heap_theory.specs.State.{Heap, slot_in, state_at, is_fresh, payload_place, pointer_to, first_heap, IsSlot}
+use Rattle.heap_theory.specs.State.{Heap, slot_in, state_at, is_fresh, payload_place, first_heap, IsSlot}
 use Rattle.heap_theory.specs.State.State.{Live}
 use Rattle.heap_theory.specs.Totals.{no_totals, totals_of, totals_after}
 
@@ -42,7 +41,7 @@ ResizingKeepsSound =
 
 abbrev pub MovingKeepsSound : Type 0
 MovingKeepsSound =
-    (heap : Heap) (p : ℕ) (chunk : Chunk) (s n : ℕ) → IsSoundHeap heap → IsLiveChunk heap p chunk → IsGiven heap n s →
+    (heap : Heap) (p : ℕ) (chunk : Chunk) (s n : ℕ) → IsSoundHeap heap → IsLiveChunk heap p chunk → MayBeGiven heap n s →
     IsSoundHeap (moved heap chunk s n)
 
 abbrev pub WritingKeepsSound : Type 0
@@ -64,17 +63,11 @@ EachCallKeepsSound = (heap : Heap) → IsSoundHeap heap → CallsKeepSound heap
 
 -- The slot that a request is given is fresh or released, of the request's class, and has room for its chunk.
 abbrev pub RequestIsGiven : Type 0
-RequestIsGiven = (heap : Heap) (n s : ℕ) → IsSoundHeap heap → slot_for_request heap n ≡ Ok s → IsGiven heap n s
+RequestIsGiven = (heap : Heap) (n s : ℕ) → IsSoundHeap heap → slot_for_request heap n ≡ Ok s → MayBeGiven heap n s
 
 -- The chunk that a pointer names is live, under the pointer's tag.
 abbrev pub NamedChunkIsLive : Type 0
 NamedChunkIsLive = (heap : Heap) (p : ℕ) (chunk : Chunk) → chunk_at heap p ≡ Ok chunk → IsLiveChunk heap p chunk
-
--- The pointer to a live slot names its chunk.
-abbrev pub OwnPointerNamesChunk : Type 0
-OwnPointerNamesChunk =
-    (heap : Heap) (s n tag : ℕ) → IsSoundHeap heap → IsSlot heap s → state_at heap s ≡ Live n tag →
-    chunk_at heap (pointer_to heap s) ≡ Ok (record { slot = s; size = n })
 
 -- A pointer is a slot's exactly where its place is the first one of the slot's payload.
 abbrev pub PointerIsOfSlot : Type 0

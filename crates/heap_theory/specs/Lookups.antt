@@ -1,5 +1,5 @@
 -- Which slot a request is given, and which chunk a pointer names.
-use Rattle.std.specs.Prelude.{◌≡◌, ◌⊎◌, ℕ, ◌-◌, ◌^◌, ◌<◌, Bool, IsTrue, true, false, ◌==◌, ◌&&◌, nat_lt, nat_le, if◌then◌else◌, List, filter, find, position, slice_get, Option, Some, None, Result, Ok, Err}
+use Rattle.std.specs.Prelude.{◌≡◌, ◌⊎◌, ℕ, ◌^◌, ◌<◌, Bool, IsTrue, ◌==◌, ◌&&◌, nat_lt, nat_le, if◌then◌else◌, List, filter, find, position, slice_get, Option, Some, None, Result, Ok, Err}
 use Rattle.std.specs.Option.{ok_or, option_or}
 use Rattle.std.specs.List.{range_with_len, list_all}
 use Rattle.machine_theory.specs.Address.{logical_tag, place_of}
@@ -10,28 +10,8 @@ use Rattle.heap_theory.specs.declared.refusal.FreeError.{FreeError}
 use Rattle.heap_theory.specs.declared.refusal.FreeError.TheVariants.{Misplaced, NotLive, WrongTag}
 use Rattle.heap_theory.specs.declared.refusal.NullCause.{NullCause}
 use Rattle.heap_theory.specs.declared.refusal.NullCause.TheVariants.{Large, NoClass, Exhausted}
-use Rattle.heap_theory.specs.State.{State, Heap, slot_in, state_at, is_fresh, payload_place, IsSlot}
+use Rattle.heap_theory.specs.State.{State, Heap, slot_in, state_at, is_fresh, mark_of, is_released, payload_place, IsSlot}
 use Rattle.heap_theory.specs.State.State.{Fresh, Live, Dead}
-
--- ---- the quarantine
-
-abbrev pub mark_of : State → ℕ
-mark_of Fresh = 0
-mark_of (Live size tag) = 0
-mark_of (Dead size tag mark) = mark
-
-abbrev pub is_dead : State → Bool
-is_dead Fresh = false
-is_dead (Live size tag) = false
-is_dead (Dead size tag mark) = true
-
--- whether more bytes than the quarantine's limit were freed from the slot's free on, its own among them
-abbrev pub is_released : Heap → State → Bool
-is_released heap state = is_dead state && nat_lt heap.quarantine (heap.total - mark_of state)
-
--- whether the slot was freed and is still held back
-abbrev pub is_quarantined : Heap → State → Bool
-is_quarantined heap state = is_dead state && nat_le (heap.total - mark_of state) heap.quarantine
 
 -- ---- the slot for a request
 
@@ -96,8 +76,8 @@ pub record IsReusable (heap : Heap) (s : ℕ) : Type 0 where
   pub in_range : IsSlot heap s
   pub free : IsTrue (is_fresh (state_at heap s)) ⊎ IsTrue (is_released heap (state_at heap s))
 
--- the slot that is given to a request of n bytes
-pub record IsGiven (heap : Heap) (n s : ℕ) : Type 0 where
+-- a slot that may be given to a request of n bytes: reusable, of the request's class, and with room for its chunk
+pub record MayBeGiven (heap : Heap) (n s : ℕ) : Type 0 where
   pub reusable : IsReusable heap s
   pub class : class_for heap.layout.classes n ≡ Some (slot_in heap s).class
   pub room : chunk_granules n < (slot_in heap s).class

@@ -1,11 +1,11 @@
 -- What a run loses by rounding requests up to their classes, against what its trace requests.
-use Rattle.std.specs.Prelude.{◌≡◌, ℕ, ◌≤◌, ◌&&◌, List, count_by, sum_by, filter_map, zip, All, IsSome}
+use Rattle.std.specs.Prelude.{◌≡◌, ℕ, ◌≤◌, ◌&&◌, List, count_by, filter_map, zip}
 use Rattle.class_table.specs.Layout.{Partition}
 use Rattle.class_table.specs.Sizes.{counted_of}
-use Rattle.class_table.specs.Tables.{class_for, loss_of_size}
+use Rattle.class_table.specs.Tables.{ServesSizes, rounding_loss}
 use Rattle.heap_theory.specs.declared.event.Event.{Event}
-use Rattle.heap_theory.specs.Replay.{Answer, answers, first_replay}
-use Rattle.heap_theory.specs.Totals.{request_size, is_request, is_refused, totals_of}
+use Rattle.heap_theory.specs.Replay.{Answer, answers, first_replay, is_refused}
+use Rattle.heap_theory.specs.Totals.{request_size, is_request, totals_of}
 
 -- ---- what a trace requests
 
@@ -17,13 +17,9 @@ requested_sizes events = filter_map request_size events
 abbrev pub counted_sizes : List Event → List ℕ
 counted_sizes events = counted_of (requested_sizes events)
 
--- The bytes lost by rounding requests of these sizes up to their classes.
-abbrev pub rounding_loss : List ℕ → List ℕ → ℕ
-rounding_loss classes sizes = sum_by (loss_of_size classes) sizes
-
 -- Each counted request has a class.
 abbrev pub ServesEach : List ℕ → List Event → Type 0
-ServesEach classes events = All (λ n. IsSome (class_for classes n)) (counted_sizes events)
+ServesEach classes events = ServesSizes classes (counted_sizes events)
 
 -- ---- what its run loses
 
@@ -31,7 +27,7 @@ ServesEach classes events = All (λ n. IsSome (class_for classes n)) (counted_si
 abbrev pub refused_reallocs : List (Event × Answer) → ℕ
 refused_reallocs happened = count_by (λ p. is_request p.0 && is_refused p.1) happened
 
--- No request is refused for want of a class. The bytes lost are at most those that rounding loses over the counted
+-- No request is refused because it has no class. The bytes lost are at most those that rounding loses over the counted
 -- requests, and exactly those where no request was exhausted and no realloc was refused for its pointer.
 pub record LosesAtMostItsWaste (classes : List ℕ) (events : List Event) (happened : List (Event × Answer)) : Type 0 where
   pub no_class : (totals_of classes happened).null_no_class ≡ 0

@@ -3,11 +3,12 @@ use Rattle.std.specs.Prelude.{◌≡◌, ◌≢◌, ◌↔◌, ◌⊎◌, ℕ, L
 use Rattle.heap_theory.specs.declared.refusal.ReallocError.{ReallocError}
 use Rattle.heap_theory.specs.declared.refusal.ReallocError.TheVariants.{Null, Refused}
 use Rattle.heap_theory.specs.Calls.{freed, malloc_step, calloc_step, free_step, realloc_step}
+use Rattle.heap_theory.specs.Lookups.{chunk_at}
 use Rattle.heap_theory.specs.Run.{Run}
-use Rattle.heap_theory.specs.Hardening.{IsLive, HasGeneration, IsLiveGeneration}
+use Rattle.heap_theory.specs.Hardening.{HasGeneration, IsLiveGeneration}
 use Rattle.heap_theory.specs.Replay.{variable, store_step}
 use Rattle.heap_theory.specs.Sound.{IsSoundHeap}
-use Rattle.heap_theory.specs.State.{Heap, state_at, pointer_to, IsSlot}
+use Rattle.heap_theory.specs.State.{Heap, IsLive, state_at, pointer_to, IsSlot}
 use Rattle.heap_theory.specs.State.State.{Live}
 
 -- The own pointer of the live chunk in slot s: the address of its first byte, under the tag that the slot was given out with.
@@ -43,7 +44,13 @@ FreeAcceptsOwnPointers = (heap : Heap) (p : ℕ) → IsSoundHeap heap → FreeAc
 abbrev pub ReallocAcceptsOwnPointers : Type 0
 ReallocAcceptsOwnPointers = (heap : Heap) (p n : ℕ) → IsSoundHeap heap → ReallocAccepts heap p n ↔ IsNullOrOwn heap p
 
--- What `free` frees at an own pointer is that chunk.
+-- An own pointer names its chunk,
+abbrev pub OwnPointerNamesChunk : Type 0
+OwnPointerNamesChunk =
+    (heap : Heap) (s n tag : ℕ) → IsSoundHeap heap → IsSlot heap s → state_at heap s ≡ Live n tag →
+    chunk_at heap (pointer_to heap s) ≡ Ok (record { slot = s; size = n })
+
+-- and `free` frees that chunk.
 abbrev pub OwnPointerFreesChunk : Type 0
 OwnPointerFreesChunk =
     (heap : Heap) (s n tag : ℕ) → IsSoundHeap heap → IsSlot heap s → state_at heap s ≡ Live n tag →

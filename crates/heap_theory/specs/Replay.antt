@@ -1,5 +1,5 @@
 -- The run of a trace over 1,024 variables: what each event does, and its result.
-use Rattle.std.specs.Prelude.{ℕ, ◌+◌, List, [], ◌∷◌, length, replicate, fold, slice_set, slice_index, Option, Some, None, Result, Ok, Err}
+use Rattle.std.specs.Prelude.{ℕ, ◌+◌, Bool, true, false, ◌||◌, IsTrue, List, [], ◌∷◌, length, replicate, fold, slice_set, slice_index, Option, Some, None, Result, Ok, Err}
 use Rattle.std.specs.Result.{result_unwrap_or}
 use Rattle.machine_theory.specs.declared.fault.Fault.{Fault}
 use Rattle.machine_theory.specs.declared.fault.Fault.TheVariants.{Unmapped, Alignment, TagCheck}
@@ -11,6 +11,7 @@ use Rattle.heap_theory.specs.declared.event.Event.{Event}
 use Rattle.heap_theory.specs.declared.event.Event.TheVariants.{Malloc, Calloc, Realloc, Free, Load, Store, Addg, Subg}
 use Rattle.heap_theory.specs.declared.refusal.FreeError.{FreeError}
 use Rattle.heap_theory.specs.declared.refusal.NullCause.{NullCause}
+use Rattle.heap_theory.specs.declared.refusal.NullCause.TheVariants.{Large, NoClass, Exhausted}
 use Rattle.heap_theory.specs.declared.refusal.ReallocError.{ReallocError}
 use Rattle.heap_theory.specs.declared.refusal.ReallocError.TheVariants.{Null, Refused}
 use Rattle.heap_theory.specs.declared.place_kind.PlaceKind.{PlaceKind}
@@ -24,6 +25,9 @@ pub record Replay : Type 0 where
   pub heap : Heap
   pub variables : List ℕ
 
+abbrev pub variable : Replay → ℕ → ℕ
+variable replay v = slice_index replay.variables v
+
 -- the result of an event; a silent one has no line in the report
 pub data Answer : Type 0 where
   Silent : Answer
@@ -33,8 +37,41 @@ pub data Answer : Type 0 where
   NoPointer : NullCause → Answer
   NotFreed : FreeError → Answer
 
-abbrev pub variable : Replay → ℕ → ℕ
-variable replay v = slice_index replay.variables v
+-- ---- tests of a result
+
+abbrev pub is_silent : Answer → Bool
+is_silent Silent = true
+is_silent other = false
+
+-- a request that was refused, for each cause
+abbrev pub is_large : Answer → Bool
+is_large (NoPointer Large) = true
+is_large other = false
+
+abbrev pub is_no_class : Answer → Bool
+is_no_class (NoPointer NoClass) = true
+is_no_class other = false
+
+abbrev pub is_exhausted : Answer → Bool
+is_exhausted (NoPointer Exhausted) = true
+is_exhausted other = false
+
+-- a free or a realloc whose pointer was refused
+abbrev pub is_refused : Answer → Bool
+is_refused (NotFreed error) = true
+is_refused other = false
+
+-- an access that was a fault, for each kind, and of either kind
+abbrev pub is_unmapped : Answer → Bool
+is_unmapped NotMapped = true
+is_unmapped other = false
+
+abbrev pub is_tag_fault : Answer → Bool
+is_tag_fault (TagFault granule memory_tag pointer_tag kind) = true
+is_tag_fault other = false
+
+abbrev pub IsFaultAnswer : Answer → Type 0
+IsFaultAnswer answer = IsTrue (is_unmapped answer || is_tag_fault answer)
 
 -- ---- what an event leaves
 
@@ -70,7 +107,7 @@ variables_after replay (Subg v w u6 u4) = slice_set replay.variables v (subg (va
 unfoldable pub replay_after : Replay → Event → Replay
 replay_after replay event = record { heap = heap_after replay event; variables = variables_after replay event }
 
--- ---- its result
+-- ---- an event's result
 
 -- an access meets no Alignment fault
 abbrev pub fault_answer : Heap → Fault → Answer

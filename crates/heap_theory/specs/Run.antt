@@ -1,15 +1,13 @@
 -- The run with what nothing stores: how often each slot was given out, and of which giving-out each variable has its address. No answer
 -- depends on these: what is stored determines each answer, and what is stored after it.
-use Rattle.std.specs.Prelude.{ℕ, ◌+◌, suc, ◌==◌, if◌then◌else◌, List, replicate, fold, slice_set, slice_index, slice_index_or, Option, Some, None, Result, Ok, Err}
+use Rattle.std.specs.Prelude.{ℕ, ◌+◌, suc, ◌==◌, if◌then◌else◌, List, replicate, fold, slice_set, slice_index, slice_index_or, Option, Some, None}
 use Rattle.std.specs.Result.{result_ok}
 use Rattle.class_table.specs.Layout.{Partition, slot_count}
 use Rattle.heap_theory.specs.declared.event.Event.{Event}
 use Rattle.heap_theory.specs.declared.event.Event.TheVariants.{Malloc, Calloc, Realloc, Free, Load, Store, Addg, Subg}
-use Rattle.heap_theory.specs.declared.refusal.FreeError.{FreeError}
-use Rattle.heap_theory.specs.Calls.{stays_in_class}
-use Rattle.heap_theory.specs.Lookups.{Chunk, slot_for_request, chunk_at}
+use Rattle.heap_theory.specs.Calls.{slot_if_moved}
+use Rattle.heap_theory.specs.Lookups.{slot_for_request, chunk_at}
 use Rattle.heap_theory.specs.Replay.{Replay, variable, replay_after, first_replay}
-use Rattle.heap_theory.specs.State.{Heap}
 use Rattle.heap_theory.specs.declared.event.TheConstants.Event.{LAST_VARIABLE}
 
 -- A generation: the time-th time that the slot was given out.
@@ -30,10 +28,6 @@ abbrev pub generation_of : Run → ℕ → Option Generation
 generation_of run v = slice_index_or run.generations v None
 
 -- ---- which slot an event gives out
-
-abbrev pub slot_if_moved : Heap → ℕ → Result Chunk FreeError → Option ℕ
-slot_if_moved heap n (Ok chunk) = if stays_in_class heap chunk n then None else result_ok (slot_for_request heap n)
-slot_if_moved heap n (Err error) = None
 
 unfoldable pub slot_given : Replay → Event → Option ℕ
 slot_given replay (Malloc v n) = result_ok (slot_for_request replay.heap n)

@@ -2,7 +2,7 @@
 use Rattle.std.specs.Prelude.{◌≡◌, ◌≢◌, ℕ, ◌+◌, ◌%◌, ◌<◌, ◌≤◌, List, length, ⊤}
 use Rattle.machine_theory.specs.Memory.{Granule, tag_at}
 use Rattle.class_table.specs.Layout.{IsPartition, Slot, end_of, slot_count, Covers, AreInOrder}
-use Rattle.heap_theory.specs.State.{State, Heap, slot_in, state_at, chunk_of, IsSlot}
+use Rattle.heap_theory.specs.State.{State, Heap, slot_in, state_at, chunk_granules_of, IsSlot}
 use Rattle.heap_theory.specs.State.State.{Fresh, Live, Dead}
 
 -- a tag that a slot of this number may take: not 0, and odd where the number is even
@@ -19,12 +19,12 @@ IsChunkTag s (Dead size given mark) tag = IsTagOf s given × IsTagOf s tag × (t
 
 -- The tags of a slot's granules: its chunk granules share one, and its header and its tail have tag 0.
 pub record IsTaggedSlot (memory : List Granule) (s : ℕ) (slot : Slot) (state : State) : Type 0 where
-  pub room : chunk_of state < slot.class
+  pub room : chunk_granules_of state < slot.class
   pub chunk_tag : ℕ
   pub is_chunk_tag : IsChunkTag s state chunk_tag
   pub header : tag_at memory slot.start ≡ 0
-  pub chunk : (g : ℕ) → slot.start < g → g ≤ slot.start + chunk_of state → tag_at memory g ≡ chunk_tag
-  pub tail : (g : ℕ) → slot.start + chunk_of state < g → g < end_of slot → tag_at memory g ≡ 0
+  pub chunk : (g : ℕ) → slot.start < g → g ≤ slot.start + chunk_granules_of state → tag_at memory g ≡ chunk_tag
+  pub tail : (g : ℕ) → slot.start + chunk_granules_of state < g → g < end_of slot → tag_at memory g ≡ 0
 
 -- the fact holds of the slot's mark, if it is dead
 abbrev pub IfDead : State → (ℕ → Type 0) → Type 0

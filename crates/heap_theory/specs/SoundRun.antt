@@ -1,7 +1,8 @@
 -- What is true of every run: where the variables' addresses come from.
-use Rattle.std.specs.Prelude.{◌≡◌, ◌≢◌, ◌⊎◌, ℕ, suc, ◌≤◌, false, List, length, slice_index, Option, Some, None, ⊤}
+use Rattle.std.specs.Prelude.{◌≡◌, ◌≢◌, ℕ, suc, ◌≤◌, false, List, length, slice_index, Option, Some, None, ⊤}
 use Rattle.machine_theory.specs.Address.{logical_tag, with_tag}
 use Rattle.class_table.specs.Layout.{slot_count}
+use Rattle.heap_theory.specs.Hardening.{IsNullOrTagged}
 use Rattle.heap_theory.specs.Run.{Run, Generation, generation_of}
 use Rattle.heap_theory.specs.Replay.{variable}
 use Rattle.heap_theory.specs.Sound.{IsTagOf, IsSoundHeap}
@@ -22,7 +23,7 @@ ForGeneration None P = ⊤
 ForGeneration (Some generation) P = P generation.slot generation.time
 
 pub record IsSoundVariable (heap : Heap) (times : List ℕ) (address : ℕ) (generation : Option Generation) : Type 0 where
-  pub null_or_tagged : (address ≡ 0) ⊎ (logical_tag address ≢ 0)
+  pub null_or_tagged : IsNullOrTagged address
   pub follows : ForGeneration generation (λ s time. IsAddressOf heap times address s time)
 
 pub record IsSoundRun (run : Run) : Type 0 where

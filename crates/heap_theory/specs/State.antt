@@ -1,5 +1,5 @@
 -- What a heap holds.
-use Rattle.std.specs.Prelude.{ℕ, ◌+◌, ◌*◌, ◌<◌, Bool, true, false, ◌==◌, if◌then◌else◌, List, [], map, replicate, slice_index_or}
+use Rattle.std.specs.Prelude.{ℕ, ◌+◌, ◌-◌, ◌*◌, ◌<◌, Bool, true, false, ◌&&◌, ◌==◌, nat_lt, nat_le, if◌then◌else◌, List, [], map, replicate, slice_index_or, ⊤}
 use Rattle.std.specs.List.{range_with_len, list_any}
 use Rattle.machine_theory.specs.Address.{region_start, with_tag}
 use Rattle.machine_theory.specs.Memory.{Granule, no_granule, new_granule, each_granule}
@@ -39,6 +39,30 @@ is_fresh Fresh = true
 is_fresh (Live size tag) = false
 is_fresh (Dead size tag mark) = false
 
+abbrev pub IsLive : State → Type 0
+IsLive Fresh = ⊥
+IsLive (Live size tag) = ⊤
+IsLive (Dead size tag mark) = ⊥
+
+abbrev pub is_dead : State → Bool
+is_dead Fresh = false
+is_dead (Live size tag) = false
+is_dead (Dead size tag mark) = true
+
+-- the mark of a dead slot, or 0
+abbrev pub mark_of : State → ℕ
+mark_of Fresh = 0
+mark_of (Live size tag) = 0
+mark_of (Dead size tag mark) = mark
+
+-- whether the slot is dead, and more bytes than the quarantine's limit were freed from its free on, its own among them
+abbrev pub is_released : Heap → State → Bool
+is_released heap state = is_dead state && nat_lt heap.quarantine (heap.total - mark_of state)
+
+-- whether the slot is dead, and still held back
+abbrev pub is_quarantined : Heap → State → Bool
+is_quarantined heap state = is_dead state && nat_le (heap.total - mark_of state) heap.quarantine
+
 -- the tag that the slot was last given out with, or 0
 abbrev pub last_tag : State → ℕ
 last_tag Fresh = 0
@@ -48,10 +72,10 @@ last_tag (Dead size tag mark) = tag
 -- ---- chunks
 
 -- how many granules of the slot's payload are its chunk: the first ones
-abbrev pub chunk_of : State → ℕ
-chunk_of Fresh = 0
-chunk_of (Live size tag) = chunk_granules size
-chunk_of (Dead size tag mark) = chunk_granules size
+abbrev pub chunk_granules_of : State → ℕ
+chunk_granules_of Fresh = 0
+chunk_granules_of (Live size tag) = chunk_granules size
+chunk_granules_of (Dead size tag mark) = chunk_granules size
 
 -- the first granule of the payload
 abbrev pub payload_start : Slot → ℕ
@@ -67,15 +91,17 @@ pointer_to heap s = with_tag (payload_place (slot_in heap s)) (last_tag (state_a
 
 -- ---- memory without header bytes, which is what a heap's caller may know of
 
-abbrev pub is_header : Partition → ℕ → Bool
-is_header layout g = list_any (λ slot. slot.start == g) (slots_of layout)
+-- whether granule g is the first one of a slot, which has its header
+abbrev pub is_header_granule : Partition → ℕ → Bool
+is_header_granule layout g = list_any (λ slot. slot.start == g) (slots_of layout)
 
 unfoldable pub without_headers : Partition → List Granule → List Granule
-without_headers layout memory = each_granule (λ g granule. if is_header layout g then record granule { bytes = [] } else granule) memory
+without_headers layout memory =
+    each_granule (λ g granule. if is_header_granule layout g then record granule { bytes = [] } else granule) memory
 
 -- a new memory, without header bytes
 unfoldable pub first_memory : Partition → List Granule
-first_memory layout = map (λ g. if is_header layout g then no_granule else new_granule) (range_with_len 0 layout.granules)
+first_memory layout = map (λ g. if is_header_granule layout g then no_granule else new_granule) (range_with_len 0 layout.granules)
 
 -- A heap of which nothing was given out, with this seed and this limit of its quarantine.
 unfoldable pub first_heap : Partition → ℕ → ℕ → Heap

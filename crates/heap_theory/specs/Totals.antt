@@ -1,11 +1,9 @@
 -- What is counted over a trace.
-use Rattle.std.specs.Prelude.{ℕ, ◌+◌, Bool, true, false, if◌then◌else◌, List, length, count_by, sum_by, Option, Some, None, is_some}
+use Rattle.std.specs.Prelude.{ℕ, ◌+◌, Bool, if◌then◌else◌, List, length, count_by, sum_by, Option, Some, None, is_some}
 use Rattle.class_table.specs.Tables.{loss_of_size}
 use Rattle.heap_theory.specs.declared.event.Event.{Event}
 use Rattle.heap_theory.specs.declared.event.Event.TheVariants.{Malloc, Calloc, Realloc, Free, Load, Store, Addg, Subg}
-use Rattle.heap_theory.specs.declared.refusal.NullCause.TheVariants.{Large, NoClass, Exhausted}
-use Rattle.heap_theory.specs.Replay.{Answer}
-use Rattle.heap_theory.specs.Replay.Answer.{Silent, NotMapped, TagFault, NoPointer, NotFreed}
+use Rattle.heap_theory.specs.Replay.{Answer, is_large, is_no_class, is_exhausted, is_tag_fault, is_unmapped, is_refused, is_silent}
 
 pub record Totals : Type 0 where
   pub events : ℕ
@@ -45,34 +43,6 @@ request_size (Subg v w u6 u4) = None
 
 abbrev pub is_request : Event → Bool
 is_request event = is_some (request_size event)
-
-abbrev pub is_large : Answer → Bool
-is_large (NoPointer Large) = true
-is_large other = false
-
-abbrev pub is_no_class : Answer → Bool
-is_no_class (NoPointer NoClass) = true
-is_no_class other = false
-
-abbrev pub is_exhausted : Answer → Bool
-is_exhausted (NoPointer Exhausted) = true
-is_exhausted other = false
-
-abbrev pub is_tag_fault : Answer → Bool
-is_tag_fault (TagFault granule memory_tag pointer_tag kind) = true
-is_tag_fault other = false
-
-abbrev pub is_unmapped : Answer → Bool
-is_unmapped NotMapped = true
-is_unmapped other = false
-
-abbrev pub is_refused : Answer → Bool
-is_refused (NotFreed error) = true
-is_refused other = false
-
-abbrev pub is_silent : Answer → Bool
-is_silent Silent = true
-is_silent other = false
 
 -- the bytes lost by rounding a request of this size, if there is one, up to its class
 abbrev pub loss_of_request : List ℕ → Option ℕ → ℕ

@@ -1,5 +1,5 @@
 -- A text and its lines, a line and its words.
-use Rattle.std.proofs.Common.{◌≡◌, ℕ, ◌+◌, ◌<◌, ◌∙◌, List, [], ◌∷◌, ◌++◌, length, get_or, take, drop, refl, ap, arith, add-one, append_assoc, All, ◌⊎◌, inl, inr, Some, None, true, false, cond, eqb, eqb-true, Bool}
+use Rattle.std.proofs.Common.{◌≡◌, ℕ, ◌+◌, ◌<◌, ◌∙◌, List, [], ◌∷◌, ◌++◌, length, get_or, take, drop, refl, ap, arith, add-one, append_assoc, All, inl, inr, Some, None, true, false, cond, eqb, eqb-true, Bool}
 use Rattle.std.proofs.Math.Seq.{split_at}
 use Rattle.std.proofs.lemmas.Bool.{false_from_ne_true}
 use Rattle.std.proofs.lemmas.List.{get_or-take, length-take-le}
@@ -8,7 +8,7 @@ use Rattle.std.proofs.lemmas.List.Concat.{flat_map-cons}
 use Rattle.std.proofs.lemmas.List.Splits.{slice_split_none, slice_split_at, join_with_byte-slice_split}
 use Rattle.std.specs.List.{onto_first}
 use Rattle.memchr.specs.Find.{IsFirstByte, is_byte}
-use Rattle.line_text.specs.Lines.{lines, words, is_newline, is_space, text_of, line_of, ended, IsLine, IsWord}
+use Rattle.line_text.specs.Lines.{lines, words, is_newline, is_space, text_of, line_of, IsLine, IsTextOf, IsWord}
 
 -- ---- where a search found a byte, or found none
 
@@ -83,30 +83,27 @@ All-lines (b ∷ text) = go (is_newline b) refl (All-lines text)
     go false e all = All-onto_first 10 b (lines text) e all
 
 -- a text is its lines, the last with its newline or without
-abbrev IsTextOf : List (List ℕ) → List ℕ → Type 0
-IsTextOf ls text = (text_of ls ≡ text) ⊎ (text_of ls ≡ ended text)
-
-IsTextOf-onto_first : (b : ℕ) (ls : List (List ℕ)) (text : List ℕ) → IsTextOf ls text → IsTextOf (onto_first b ls) (b ∷ text)
+IsTextOf-onto_first : (b : ℕ) (text : List ℕ) (ls : List (List ℕ)) → IsTextOf text ls → IsTextOf (b ∷ text) (onto_first b ls)
 IsTextOf-onto_first b [] [] (inl e) = inr refl
-IsTextOf-onto_first b [] (x ∷ text) (inl e) = absurd cc
+IsTextOf-onto_first b (x ∷ text) [] (inl e) = absurd cc
 IsTextOf-onto_first b [] [] (inr e) = absurd cc
-IsTextOf-onto_first b [] (x ∷ text) (inr e) = absurd cc
-IsTextOf-onto_first b (l ∷ ls) text (inl e) = inl (rw flat_map-cons (ap (λ (t : List ℕ). b ∷ t) (rw flat_map-cons at e)))
-IsTextOf-onto_first b (l ∷ ls) text (inr e) = inr (rw flat_map-cons (ap (λ (t : List ℕ). b ∷ t) (rw flat_map-cons at e)))
+IsTextOf-onto_first b (x ∷ text) [] (inr e) = absurd cc
+IsTextOf-onto_first b text (l ∷ ls) (inl e) = inl (rw flat_map-cons (ap (λ (t : List ℕ). b ∷ t) (rw flat_map-cons at e)))
+IsTextOf-onto_first b text (l ∷ ls) (inr e) = inr (rw flat_map-cons (ap (λ (t : List ℕ). b ∷ t) (rw flat_map-cons at e)))
 
-IsTextOf-newline : (ls : List (List ℕ)) (text : List ℕ) → IsTextOf ls text → IsTextOf ([] ∷ ls) (10 ∷ text)
-IsTextOf-newline ls text (inl e) = inl (rw flat_map-cons (ap (λ (t : List ℕ). 10 ∷ t) e))
-IsTextOf-newline ls text (inr e) = inr (rw flat_map-cons (ap (λ (t : List ℕ). 10 ∷ t) e))
+IsTextOf-newline : (text : List ℕ) (ls : List (List ℕ)) → IsTextOf text ls → IsTextOf (10 ∷ text) ([] ∷ ls)
+IsTextOf-newline text ls (inl e) = inl (rw flat_map-cons (ap (λ (t : List ℕ). 10 ∷ t) e))
+IsTextOf-newline text ls (inr e) = inr (rw flat_map-cons (ap (λ (t : List ℕ). 10 ∷ t) e))
 
-pub IsTextOf-lines : (text : List ℕ) → IsTextOf (lines text) text
+pub IsTextOf-lines : (text : List ℕ) → IsTextOf text (lines text)
 unfolding lines
 IsTextOf-lines [] = inl refl
 IsTextOf-lines (b ∷ text) = go (is_newline b) refl (IsTextOf-lines text)
   where
-    go : (v : Bool) → is_newline b ≡ v → IsTextOf (lines text) text →
-        IsTextOf (cond v ([] ∷ lines text) (onto_first b (lines text))) (b ∷ text)
-    go true e h = rw (eqb-true b 10 e) (IsTextOf-newline (lines text) text h)
-    go false e h = IsTextOf-onto_first b (lines text) text h
+    go : (v : Bool) → is_newline b ≡ v → IsTextOf text (lines text) →
+        IsTextOf (b ∷ text) (cond v ([] ∷ lines text) (onto_first b (lines text)))
+    go true e h = rw (eqb-true b 10 e) (IsTextOf-newline text (lines text) h)
+    go false e h = IsTextOf-onto_first b text (lines text) h
 
 -- ---- a line and its words
 

@@ -1,5 +1,5 @@
 -- Reading a number digit by digit, and the laws of its spelling.
-use Rattle.std.proofs.Common.{rules, ◌≡◌, ℕ, zero, suc, ◌+◌, ◌*◌, ◌-◌, ◌^◌, ◌<◌, ◌≤◌, true, false, not, eqb, ◌&&◌, ◌||◌, List, [], ◌∷◌, All, length, get_or, take, refl, sym, ap, ◌∙◌, arith, Option, Some, inl, inr, ne_eqb}
+use Rattle.std.proofs.Common.{rules, ◌≡◌, ℕ, zero, suc, ◌+◌, ◌*◌, ◌-◌, ◌^◌, ◌<◌, ◌≤◌, true, false, not, eqb, ◌&&◌, ◌||◌, List, [], ◌∷◌, All, length, get_or, take, refl, sym, ap, ◌∙◌, arith, Some, inl, inr, ne_eqb}
 use Rattle.std.specs.Fmt.{decimal}
 use Rattle.std.specs.Char.{is_ascii_digit, digit_value}
 use Rattle.std.specs.List.{list_all}
@@ -12,6 +12,7 @@ use Rattle.std.proofs.lemmas.List.{length-take-le}
 use Rattle.std.proofs.lemmas.List.Folds.{list_all_more}
 use Rattle.std.proofs.lemmas.Str.Parse.{IsNumeralModel, numerals_by_value, digits_value_short, digits_value-take-le}
 use Rattle.std.proofs.lemmas.Fmt.{decimal-digits_value, digits_decimal, digits_value-decimal, decimal_nonempty, first_decimal, decimal_digit}
+use Rattle.std.proofs.lemmas.Option.{same_Some}
 use Rattle.line_text.specs.Lines.{IsLine, IsWord}
 use Rattle.line_text.specs.Numbers.{number_of, is_numeral}
 
@@ -72,12 +73,6 @@ spelled_parts word e =
 short_zero : (n k : ℕ) → (eqb k 1 || not (eqb n 48)) ≡ true → n ≡ 48 → k ≡ 1
 short_zero n k e h = grind (arith, nat_tests)
 
-abbrev some_of : ℕ → Option ℕ
-some_of n = Some n
-
-same_value : (m n : ℕ) → some_of m ≡ some_of n → m ≡ n
-same_value m n e = cc
-
 -- what is read as a number of at most 64 bits is its spelling
 pub decimal-number_of : (word : List ℕ) (n : ℕ) → n < 2 ^ 64 → number_of word ≡ Some n → word ≡ decimal n
 unfolding number_of
@@ -85,7 +80,7 @@ decimal-number_of word n small e =
     elim (cases_Bool (is_numeral word)) [
       | inl spelled ↦
           let s = spelled_parts word spelled in
-          let is_n : digits_value 10 word ≡ n = same_value _ _ (rw spelled at e) in
+          let is_n : digits_value 10 word ≡ n = same_Some _ _ (rw spelled at e) in
           let back =
           decimal-digits_value own word s.digits (grind (arith, nat_tests, s.some)) (short_zero (get_or word 0 0) (length word) s.first)
           (rw is_n small) in

@@ -1,12 +1,12 @@
 -- Lines are read from the text that they make; where they are not empty, also without its last newline.
-use Rattle.std.proofs.Common.{◌≡◌, ℕ, List, [], ◌∷◌, ◌++◌, length, Some, refl, sym, ap, ◌∙◌, arith, ◌⊎◌, inl, inr, append_assoc, append-nil, length-append}
+use Rattle.std.proofs.Common.{◌≡◌, ℕ, List, [], ◌∷◌, ◌++◌, length, Some, refl, sym, ap, ◌∙◌, arith, inl, inr, append_assoc, append-nil, length-append}
 use Rattle.std.specs.Prelude.{All}
 use Rattle.std.proofs.lemmas.Grind.{flat_map-append}
 use Rattle.std.proofs.lemmas.List.{append_cancel_right}
 use Rattle.std.proofs.lemmas.List.Concat.{flat_map-cons}
 use Rattle.std.proofs.lemmas.List.Elements.{All-pop, All-weaker}
 use Rattle.line_text.specs.Laws.{CutLinesAreRead, WrittenLinesAreRead}
-use Rattle.line_text.specs.Lines.{lines, text_of, ended, IsFullLine, IsLine}
+use Rattle.line_text.specs.Lines.{lines, text_of, ended, IsFullLine, IsLine, IsTextOf}
 use Rattle.line_text.proofs.Cuts.{line_alone, lines-text_of}
 
 pub lines-written : WrittenLinesAreRead
@@ -48,7 +48,6 @@ lines-short (line ∷ ls) text full e =
     let same : text ≡ text_of apart.front ++ apart.last = append_cancel_right text (text_of apart.front ++ apart.last) (10 ∷ []) whole in
     ap lines same ∙ lines-cut apart.front apart.last (all_lines apart.front both.0) both.1.0 both.1.1 ∙ sym apart.is
 
-pub full_lines-read : (ls : List (List ℕ)) (text : List ℕ) → All IsFullLine ls → (text ≡ text_of ls) ⊎ (ended text ≡ text_of ls)
-    → lines text ≡ ls
+pub full_lines-read : (ls : List (List ℕ)) (text : List ℕ) → All IsFullLine ls → IsTextOf text ls → lines text ≡ ls
 full_lines-read ls text full (inl whole) = ap lines whole ∙ lines-written ls (all_lines ls full)
 full_lines-read ls text full (inr short) = lines-short ls text full short

@@ -1,10 +1,12 @@
--- The laws as lemmas, for the proofs of the crates above.
+-- The laws as lemmas, for the proofs of the crates above, and what they need of prefixes, first faults and short numbers.
 use Rattle.std.proofs.Common.{rules}
 use Rattle.line_text.specs.Laws.{TextLaws, CutLinesAreRead, FullLinesAreRead, HexIsAByte, HexIsSpelled, LineInFrontIsRead, LineIsItsWords, LinesAreLines, NumberIsSpelled, SignedIsSpelled, SpelledHexIsAWord, SpelledHexIsRead, SpelledNumberIsAWord, SpelledNumberIsRead, SpelledSignedIsAWord, SpelledSignedIsRead, TextIsItsLines, WordsAreWords, WordsMakeALine, WrittenLinesAreRead, WrittenWordsAreRead}
 use Rattle.line_text.proofs.Cuts.{All-lines, All-words, IsLine-line_of, IsTextOf-lines, line_of-words, lines-ended, words-line_of}
 use Rattle.line_text.proofs.Digits.{decimal-number_of, decimal_is_a_word, number_of-decimal}
 use Rattle.line_text.proofs.FullLines.{full_lines-read, lines-cut, lines-written}
+pub use Rattle.line_text.proofs.FirstFaults.{one_first_fault}
 pub use Rattle.line_text.proofs.LeadingDigits.{short_is_number}
+pub use Rattle.line_text.proofs.Prefixes.{equal_is_prefix, prefix_of_prefix}
 use Rattle.line_text.proofs.HexDigits.{hex-hex_of, hex_of-hex}
 use Rattle.line_text.proofs.Signs.{signed_decimal-signed_of, signed_decimal_is_a_word, signed_of-signed_decimal}
 

@@ -1,6 +1,7 @@
 pub mod LawLemmas
 pub mod Cuts
 pub mod Digits
+pub mod FirstFaults
 pub mod FirstNumbers
 pub mod FirstPairs
 pub mod FullLines
@@ -8,4 +9,5 @@ pub mod HexDigits
 pub mod LeadingDigits
 pub mod DigitDistance
 pub mod NearNumbers
+pub mod Prefixes
 pub mod Signs

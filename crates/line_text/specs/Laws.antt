@@ -1,8 +1,8 @@
 -- The laws of lines, words and numbers, as a crate that reads or writes a format wants them.
-use Rattle.std.specs.Prelude.{◌≡◌, ℕ, ◌<◌, ◌^◌, List, [], ◌∷◌, ◌++◌, length, Some, All, ◌⊎◌, ℤ, FitsSigned}
+use Rattle.std.specs.Prelude.{◌≡◌, ℕ, ◌<◌, ◌^◌, List, [], ◌∷◌, ◌++◌, length, Some, All, ℤ, FitsSigned}
 use Rattle.std.specs.Fmt.{decimal, signed_decimal}
 use Rattle.std.specs.Int.{w64}
-use Rattle.line_text.specs.Lines.{lines, words, text_of, ended, line_of, IsFullLine, IsLine, IsWord}
+use Rattle.line_text.specs.Lines.{lines, words, text_of, line_of, IsFullLine, IsLine, IsTextOf, IsWord}
 use Rattle.line_text.specs.Numbers.{number_of}
 use Rattle.line_text.specs.Signed.{signed_of}
 use Rattle.line_text.specs.Hexadecimal.{hex_of, hex}
@@ -11,8 +11,7 @@ use Rattle.line_text.specs.Hexadecimal.{hex_of, hex}
 
 -- A text is its lines, the last of them with its newline or without.
 abbrev pub TextIsItsLines : Type 0
-TextIsItsLines =
-    (text : List ℕ) → (text_of (lines text) ≡ text) ⊎ (text_of (lines text) ≡ ended text)
+TextIsItsLines = (text : List ℕ) → IsTextOf text (lines text)
 
 -- No line holds a newline.
 abbrev pub LinesAreLines : Type 0
@@ -36,8 +35,7 @@ LineInFrontIsRead =
 -- Lines that are not empty are the lines of their text, with its last newline or without.
 abbrev pub FullLinesAreRead : Type 0
 FullLinesAreRead =
-    (ls : List (List ℕ)) (text : List ℕ) → All IsFullLine ls
-    → (text ≡ text_of ls) ⊎ (ended text ≡ text_of ls) → lines text ≡ ls
+    (ls : List (List ℕ)) (text : List ℕ) → All IsFullLine ls → IsTextOf text ls → lines text ≡ ls
 
 -- ---- words
 

@@ -4,4 +4,5 @@ pub mod Laws
 pub mod Lines
 pub mod Numbers
 pub mod Pairs
+pub mod Prefixes
 pub mod Signed

@@ -1,5 +1,5 @@
 -- The lines of a text, and the words of a line.
-use Rattle.std.specs.Prelude.{◌≡◌, ◌<◌, ℕ, Bool, length, List, [], ◌∷◌, ◌++◌, Option, Some, None, ◌==◌, if◌then◌else◌, All}
+use Rattle.std.specs.Prelude.{◌≡◌, ◌<◌, ◌⊎◌, ℕ, Bool, length, List, [], ◌∷◌, ◌++◌, Option, Some, None, ◌==◌, if◌then◌else◌, All}
 use Rattle.std.specs.List.{onto_first, slice_split, flat_map, join_with_byte}
 
 abbrev pub is_newline : ℕ → Bool
@@ -33,6 +33,10 @@ ended line = line ++ 10 ∷ []
 -- Lines, each with its newline.
 abbrev pub text_of : List (List ℕ) → List ℕ
 text_of ls = flat_map ended ls
+
+-- The text of these lines. The newline of the last one may be missing.
+abbrev pub IsTextOf : List ℕ → List (List ℕ) → Type 0
+IsTextOf text ls = (text ≡ text_of ls) ⊎ (ended text ≡ text_of ls)
 
 -- Words, with a space between each two.
 abbrev pub line_of : List (List ℕ) → List ℕ

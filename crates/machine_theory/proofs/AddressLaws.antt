@@ -16,7 +16,7 @@ tag_fits address = omega arith
 pub one_granule : (g k place : ℕ) → Holds g place → Holds k place → g ≡ k
 one_granule g k place a b = omega (arith, a.from, a.to, b.from, b.to)
 
--- an address near the region keeps its tag and its highest four bits when it is moved by at most 2 ^ 20 bytes
+-- an address that is moved by at most 2 ^ 20 bytes to a place near the region keeps its tag, and stays below 2 ^ 60 if it was
 pub moved_tag : (address : ℕ) (offset : ℤ) (i : ℕ) → nat_abs offset ≤ 2 ^ 20 → i < 64 →
     region_start ≤ place_of (moved_by address offset) + i → place_of (moved_by address offset) < 2 ^ 37 →
     logical_tag (moved_by address offset) ≡ logical_tag address
@@ -28,7 +28,7 @@ pub moved_plain : (address : ℕ) (offset : ℤ) → nat_abs offset ≤ 2 ^ 20 �
 moved_plain address (pos n) near plain from to = omega (arith, near, plain, from, to)
 moved_plain address (negsuc n) near plain from to = omega (arith, near, plain, from, to)
 
--- null is not near the region
+-- null is moved to no such place
 pub moved_null : (offset : ℤ) (i : ℕ) → nat_abs offset ≤ 2 ^ 20 → i < 64 →
     region_start ≤ place_of (moved_by 0 offset) + i → place_of (moved_by 0 offset) < 2 ^ 37 → ⊥
 moved_null (pos n) i near few from to = omega (arith, near, few, from, to)

@@ -1,8 +1,10 @@
--- Which bytes are read after a change.
+-- Bytes that are read are below 256, and which bytes are read after a change.
 use Rattle.std.proofs.Common.{◌≡◌, ℕ, ◌+◌, ◌-◌, ◌*◌, ◌/◌, ◌%◌, ◌<◌, ◌≤◌, ◌^◌, cond, List, length, get_or, refl, sym, ap, ◌∙◌, subst, inl, inr, arith, ◌⊎◌}
-use Rattle.std.specs.Prelude.{slice_index}
+use Rattle.std.specs.Prelude.{All, slice_index}
+use Rattle.std.specs.List.{range_with_len}
 use Rattle.std.specs.Int.{w64, from_le_bytes, to_le_bytes}
 use Rattle.std.proofs.lemmas.List.{get_or_past}
+use Rattle.std.proofs.lemmas.List.Elements.{All-map}
 use Rattle.std.proofs.lemmas.List.FromFn.{get_or-map-range_with_len, length-map-range_with_len, fill_by_all}
 use Rattle.std.proofs.lemmas.Bool.{cases_lt, cond_both}
 use Rattle.std.proofs.lemmas.Nat.{from_le_bytes-to_le_bytes_8}
@@ -14,15 +16,18 @@ pub length-bytes_at : (memory : List Granule) (i len : ℕ) → length (bytes_at
 unfolding bytes_at
 length-bytes_at memory i len = length-map-range_with_len (byte_at memory) i len
 
+pub get_or-bytes_at : (memory : List Granule) (i len k : ℕ) → k < len → get_or (bytes_at memory i len) k 0 ≡ byte_at memory (i + k)
+unfolding bytes_at
+get_or-bytes_at memory i len k within = get_or-map-range_with_len (byte_at memory) i len k (i + k) 0 within refl
+
 -- bytes that agree one by one
 pub bytes_at_agree : (memory memory' : List Granule) (i len : ℕ) → ((k : ℕ) → k < len → byte_at memory (i + k) ≡ byte_at memory' (i + k)) →
     bytes_at memory i len ≡ bytes_at memory' i len
-unfolding bytes_at
 bytes_at_agree memory memory' i len same =
     fill_by_all (λ k. byte_at memory' (i + k)) (bytes_at memory i len) len 0 (length-bytes_at memory i len)
-    (λ k h. get_or-map-range_with_len (byte_at memory) i len k (i + k) 0 h refl ∙ same k h)
+    (λ k h. get_or-bytes_at memory i len k h ∙ same k h)
     ∙ sym (fill_by_all (λ k. byte_at memory' (i + k)) (bytes_at memory' i len) len 0 (length-bytes_at memory' i len)
-    (λ k h. get_or-map-range_with_len (byte_at memory') i len k (i + k) 0 h refl))
+    (λ k h. get_or-bytes_at memory' i len k h))
 
 -- a byte of a memory whose granules a change makes
 byte_at_changed : (change : ℕ → Granule → Granule) (memory : List Granule) (j : ℕ) → j / 16 < length memory →
@@ -31,6 +36,25 @@ byte_at_changed change memory j h = ap (λ (x : Granule). slice_index x.bytes (j
 
 byte_at_past : (memory : List Granule) (j : ℕ) → length memory ≤ j / 16 → byte_at memory j ≡ 0
 byte_at_past memory j h = ap (λ (x : Granule). slice_index x.bytes (j % 16)) (get_or_past memory (j / 16) no_granule h)
+
+-- a byte of a list of bytes, or 0 past its end
+pub byte_below : (bytes : List ℕ) (k : ℕ) → All (λ b. b < 256) bytes → slice_index bytes k < 256
+byte_below bytes k below = elim (cases_lt k (length bytes)) [
+  | inl within ↦ below k 0 within
+  | inr past ↦ subst (λ b. b < 256) (sym (get_or_past bytes k 0 past)) (omega arith)
+]
+
+byte_at-below : (memory : List Granule) (j : ℕ) → IsMemory memory → byte_at memory j < 256
+byte_at-below memory j is = elim (cases_lt (j / 16) (length memory)) [
+  | inl within ↦ byte_below (granule_at memory (j / 16)).bytes (j % 16) (is.granules (j / 16) no_granule within).bytes
+  | inr past ↦ subst (λ b. b < 256) (sym (byte_at_past memory j past)) (omega arith)
+]
+
+pub bytes_at-below : (memory : List Granule) (i len : ℕ) → IsMemory memory → All (λ b. b < 256) (bytes_at memory i len)
+unfolding bytes_at
+bytes_at-below memory i len is =
+    All-map (λ b. b < 256) (byte_at memory) (range_with_len i len)
+    (λ k d within. byte_at-below memory (get_or (range_with_len i len) k d) is)
 
 -- a byte that a change leaves in its granule stays
 byte_at_same : (change : ℕ → Granule → Granule) (memory : List Granule) (j : ℕ) →
@@ -96,11 +120,10 @@ byte_at-written_inside i new memory j is within from to =
 
 pub bytes_at-written_same : (i : ℕ) (new : List ℕ) (memory : List Granule) → IsMemory memory → i + length new ≤ 16 * length memory →
     bytes_at (written i new memory) i (length new) ≡ new
-unfolding bytes_at
 bytes_at-written_same i new memory is within =
     fill_by_all (λ k. get_or new k 0) (bytes_at (written i new memory) i (length new)) (length new) 0
     (length-bytes_at (written i new memory) i (length new))
-    (λ k h. get_or-map-range_with_len (byte_at (written i new memory)) i (length new) k (i + k) 0 h refl
+    (λ k h. get_or-bytes_at (written i new memory) i (length new) k h
     ∙ byte_at-written_inside i new memory (i + k) is (omega arith) (omega arith) (omega arith) ∙ ap (λ n. get_or new n 0) (omega arith))
     ∙ sym (fill_by_all (λ k. get_or new k 0) new (length new) 0 refl (λ k h. refl))
 

@@ -1,5 +1,5 @@
 -- Changes of the memory, one after another.
-use Rattle.std.proofs.Common.{◌≡◌, ℕ, ◌+◌, ◌-◌, ◌*◌, ◌<◌, ◌≤◌, Bool, true, false, cond, List, ◌++◌, map, length, get_or, refl, sym, ap, ◌∙◌, subst, inl, inr, ⊎_elim, arith, ◌⊎◌}
+use Rattle.std.proofs.Common.{◌≡◌, ℕ, ◌+◌, ◌-◌, ◌*◌, ◌<◌, ◌≤◌, Bool, true, false, cond, List, [], ◌++◌, map, length, get_or, refl, sym, ap, ◌∙◌, subst, inl, inr, ⊎_elim, arith, ◌⊎◌}
 use Rattle.std.specs.Prelude.{◌||◌, slice_index}
 use Rattle.std.specs.List.{range_with_len}
 use Rattle.std.proofs.lemmas.List.{length-append, get_or_append_left, get_or-append_right}
@@ -72,6 +72,18 @@ unfolding tagged
 tagged-none first tag memory = sym (each_granule_is (λ g x. cond (is_among first 0 g) (record x { tag = tag }) x) memory memory refl
     (λ g _. sym (cond-false (is_among first 0 g) (record (granule_at memory g) { tag = tag }) (granule_at memory g)
     (is_among-none first g))))
+
+-- no bytes
+pub written-none : (i : ℕ) (memory : List Granule) → written i [] memory ≡ memory
+unfolding written
+written-none i memory =
+    sym (each_granule_is (λ g x. record x { bytes = bytes_after i [] g x.bytes }) memory memory refl
+    (λ g _ j. record { tag = (granule_at memory g).tag; bytes = same g (granule_at memory g).bytes j }))
+  where
+    same : (g : ℕ) (bytes : List ℕ) → bytes ≡ bytes_after i [] g bytes
+    same g bytes =
+        fill_by_all (λ k. byte_after i [] (16 * g + k) (slice_index bytes k)) bytes (length bytes) 0 refl
+        (λ k _. sym (cond-false (is_among i 0 (16 * g + k)) _ _ (is_among-none i (16 * g + k))))
 
 -- ---- bytes
 

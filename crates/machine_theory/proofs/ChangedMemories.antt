@@ -1,21 +1,15 @@
 -- A changed memory is a memory.
-use Rattle.std.proofs.Common.{ℕ, ◌*◌, ◌+◌, ◌-◌, ◌<◌, ◌≤◌, cond, List, length, get_or, replicate, refl, sym, ◌∙◌, subst, inl, inr, arith}
+use Rattle.std.proofs.Common.{ℕ, ◌*◌, ◌+◌, ◌-◌, ◌<◌, ◌≤◌, cond, List, length, get_or, replicate, refl, sym, ◌∙◌, subst, arith}
 use Rattle.std.specs.Prelude.{All, slice_index}
 use Rattle.std.specs.List.{range_with_len}
-use Rattle.std.proofs.lemmas.List.{length-replicate, get_or_past}
+use Rattle.std.proofs.lemmas.List.{length-replicate}
 use Rattle.std.proofs.lemmas.List.FromFn.{get_or-range_with_len, length-range_with_len}
 use Rattle.std.proofs.lemmas.List.Elements.{All-map, All-replicate}
-use Rattle.std.proofs.lemmas.Bool.{cases_lt, cond_both}
+use Rattle.std.proofs.lemmas.Bool.{cond_both}
 use Rattle.machine_theory.specs.Memory.{Granule, no_granule, new_granule, IsGranule, IsMemory, granule_at, each_granule, is_among, tagged, byte_after, bytes_after, written}
 use Rattle.machine_theory.proofs.MemoryLaws.{length-each_granule}
 use Rattle.machine_theory.proofs.ChangeLaws.{length-bytes_after}
-
--- a byte of a list of bytes, or 0 past its end
-byte_below : (bytes : List ℕ) (k : ℕ) → All (λ b. b < 256) bytes → slice_index bytes k < 256
-byte_below bytes k below = elim (cases_lt k (length bytes)) [
-  | inl within ↦ below k 0 within
-  | inr past ↦ subst (λ b. b < 256) (sym (get_or_past bytes k 0 past)) (omega arith)
-]
+use Rattle.machine_theory.proofs.ByteLaws.{byte_below}
 
 pub IsMemory-new : (granules : ℕ) → 64 ≤ granules → granules ≤ 262144 → IsMemory (replicate granules new_granule)
 IsMemory-new granules least most =

@@ -1,5 +1,6 @@
 -- The tag instructions, each named as in the Arm ARM DDI 0487, Memory Tagging Extension.
--- GCR_EL1.Exclude is 1 for good: a chosen tag is never 0. Unmapped, and its order after Alignment, are this project's own.
+-- GCR_EL1.Exclude is always 1: a chosen tag is never 0, unless all other tags are excluded. Unmapped, and its order after Alignment, are
+-- this project's own.
 use Rattle.machine_theory.specs.declared.fault.Fault.{Fault}
 use Rattle.machine_theory.specs.declared.fault.Fault.TheVariants.{Unmapped, Alignment}
 use Rattle.machine_theory.specs.declared.sizes.TheConstants.{GRANULE_BYTES}
@@ -17,7 +18,8 @@ gcr_exclude = 1
 
 -- ---- IRG Xd, Xn, Xm: Xn with a random tag
 
--- the tag that is chosen from `tag` on, by the offset that the seed gives, among those that are neither excluded nor 0
+-- the tag that is chosen from `tag` on, by the offset that the seed gives, among those that are neither excluded nor 0; 0 where all others
+-- are excluded
 unfoldable pub drawn_tag : ℕ → ℕ → ℕ → ℕ
 drawn_tag tag seed exclude = choose_tag tag (next_offset seed) (bit_or exclude gcr_exclude)
 
@@ -32,7 +34,7 @@ irg m xn xm = with_tag xn (irg_tag m xm)
 abbrev pub after_irg : Machine → ℕ → Machine
 after_irg m xm = record m { seed = next_seed m.seed; tag = irg_tag m xm }
 
--- ---- ADDG, SUBG Xd, Xn, u6, u4: u6 granules up or down, modulo 2 ^ 64, and the tag stepped u4 allowed ones up by both
+-- ---- ADDG, SUBG Xd, Xn, u6, u4: Xn, moved u6 granules up or down, modulo 2 ^ 64; both choose its tag from Xn's on, by the offset u4
 
 unfoldable pub addg : ℕ → ℕ → ℕ → ℕ
 addg xn u6 u4 = with_tag ((xn + GRANULE_BYTES * u6) % 2 ^ 64) (choose_tag (logical_tag xn) u4 gcr_exclude)

@@ -13,11 +13,11 @@ pub record Begins (seed : ℕ) (x : ℕ → ℕ) : Type 0 where
 abbrev pub next_bit : ℕ → ℕ → ℕ
 next_bit seed n = (bit_at seed n + bit_at seed (n + 2) + bit_at seed (n + 3) + bit_at seed (n + 5)) % 2
 
--- the random tag that IRG draws: bits 16 to 19, lowest first
+-- the offset that IRG draws, by which it chooses a tag: bits 16 to 19 of that sequence, lowest first
 unfoldable pub next_offset : ℕ → ℕ
 next_offset seed = next_bit seed 0 + 2 * next_bit seed 1 + 4 * next_bit seed 2 + 8 * next_bit seed 3
 
--- the register that IRG leaves: bits 4 to 19, lowest first
+-- the register that IRG leaves: bits 4 to 19 of the sequence, lowest first
 unfoldable pub next_seed : ℕ → ℕ
 next_seed seed = seed / 16 + 2 ^ 12 * next_offset seed
 

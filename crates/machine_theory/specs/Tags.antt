@@ -20,7 +20,8 @@ allowed_after tag exclude = filter (λ t. not (is_excluded exclude t)) (tags_aft
 abbrev pub next_allowed : ℕ → ℕ → ℕ
 next_allowed exclude tag = slice_index (allowed_after tag exclude) 0
 
--- the tag `offset` allowed ones on; for offset 0 the tag itself, or the next allowed one where it is excluded; 0 where all are excluded
+-- The tag that is `offset` allowed tags after `tag`. For offset 0 it is `tag` itself, or the next allowed tag where `tag` is excluded.
+-- Where all tags are excluded, it is 0.
 unfoldable pub choose_tag : ℕ → ℕ → ℕ → ℕ
 choose_tag tag offset exclude =
     if length (allowed_after tag exclude) == 0 then 0

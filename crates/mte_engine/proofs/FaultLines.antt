@@ -1,19 +1,19 @@
 -- An input that is refused for its table or for its profile has its first fault in the line of the refusal.
-use Rattle.std.proofs.Common.{◌≡◌, ℕ, suc, ◌+◌, ◌-◌, ◌<◌, ◌≤◌, Bool, List, [], ◌∷◌, ◌++◌, take, drop, codes}
+use Rattle.std.proofs.Common.{◌≡◌, ℕ, suc, ◌+◌, ◌-◌, ◌<◌, ◌≤◌, List, [], ◌∷◌, ◌++◌, take, drop, codes}
 use Rattle.std.proofs.Common.{Option, Some, None, Result, Ok, Err, refl, sym, ap, ◌∙◌, append_assoc, arith}
 use Rattle.std.specs.Prelude.{All, length}
 use Rattle.std.specs.Fmt.{decimal}
 use Rattle.std.proofs.lemmas.Fmt.{decimal_digit}
 use Rattle.std.proofs.lemmas.List.{drop-take, length-drop, take-take}
-use Rattle.std.proofs.lemmas.List.Elements.{All-take, All-drop, All-from_recursion, All-head, All-tail}
+use Rattle.std.proofs.lemmas.Option.{same_Some}
+use Rattle.std.proofs.lemmas.List.Elements.{All-take, All-drop, All-head, All-tail}
 use Rattle.line_text.specs.FirstFault.{◌>>=◌, IsFirstFault}
-use Rattle.line_text.specs.Lines.{lines, text_of, words, is_newline, IsLine}
+use Rattle.line_text.specs.Lines.{ended, lines, text_of, IsLine}
 use Rattle.line_text.proofs.LawLemmas.{line_in_front_is_read, lines_are_lines, written_lines_are_read}
-use Rattle.class_table.specs.ClassLine.{BeginsWithTable, numbers_of, table_of_line}
-use Rattle.class_table.specs.Faults.{fault_from}
+use Rattle.class_table.specs.ClassLine.{BeginsWithTable, class_line, table_of_line}
 use Rattle.class_table.specs.declared.fault.TableError.{TableError}
 use Rattle.class_table.specs.declared.fault.TableError.TheVariants.{BadLine}
-use Rattle.class_table.proofs.LawLemmas.{first_fault_is_refused as table_fault_is_refused, missing_line_is_first_fault, read_line_is_spelled}
+use Rattle.class_table.proofs.LawLemmas.{class_line_is_full, first_fault_is_refused as table_fault_is_refused, missing_line_is_first_fault, no_classes_are_legal, read_line_is_spelled, table_line_is_read}
 use Rattle.profile_count.specs.Counts.{nothing_counted}
 use Rattle.profile_count.specs.Laws.{IsRefusedAt}
 use Rattle.profile_count.specs.ProfileText.{SpellsProfile, profile_from, profile_of, profile_of_lines}
@@ -28,7 +28,7 @@ use Rattle.tagged_heap.specs.declared.heap.Config.{Config}
 use Rattle.trace_reader.specs.TraceText.{trace_from}
 use Rattle.trace_reader.specs.declared.fault.TraceFault.{TraceFault}
 use Rattle.tuner_theory.specs.Sheets.{Sheet}
-use Rattle.tuner_theory.specs.Waste.{Profile as Counted}
+use Rattle.tuner_theory.specs.Profiles.{Profile as Counted}
 use Rattle.mte_engine.specs.Check.{sheet_and_profile}
 use Rattle.mte_engine.specs.FaultLines.{IsAtFirstFault, SpellsSheetAndProfile, SpellsTableAndProfile, line_of_fault}
 use Rattle.mte_engine.specs.Outcome.{Answer}
@@ -47,9 +47,6 @@ use Rattle.mte_engine.proofs.SheetLinesSettled.{after_alike, leading_lines-cut, 
 
 -- ---- how a fault is shown
 
-same_line : (m n : ℕ) → Some m ≡ Some n → m ≡ n
-same_line m n e = cc
-
 pub shown_with_line : (fault : InputFault) (n : ℕ) → line_of_fault fault ≡ Some n
     → (name : List ℕ) × (shown_input_fault fault ≡ in_line name n)
 shown_with_line TooLong n e = absurd cc
@@ -57,10 +54,10 @@ shown_with_line (Table fault) n e =
     let one : codes " line 1" ≡ codes " line " ++ decimal 1 = rw (decimal_digit 1 (omega arith)) refl in
     let name = shown_table_error fault in
     let first = ap (λ (end : List ℕ). name ++ end) one ∙ sym (append_assoc name (codes " line ") (decimal 1)) in
-    (name, first ∙ ap (in_line name) (same_line 1 n e))
-shown_with_line (BadSheet line) n e = (codes "48 BadSheet", ap (in_line (codes "48 BadSheet")) (same_line line n e))
-shown_with_line (Profile line fault) n e = (shown_profile_fault fault, ap (in_line (shown_profile_fault fault)) (same_line line n e))
-shown_with_line (Trace line fault) n e = (shown_trace_fault fault, ap (in_line (shown_trace_fault fault)) (same_line line n e))
+    (name, first ∙ ap (in_line name) (same_Some 1 n e))
+shown_with_line (BadSheet line) n e = (codes "48 BadSheet", ap (in_line (codes "48 BadSheet")) (same_Some line n e))
+shown_with_line (Profile line fault) n e = (shown_profile_fault fault, ap (in_line (shown_profile_fault fault)) (same_Some line n e))
+shown_with_line (Trace line fault) n e = (shown_trace_fault fault, ap (in_line (shown_trace_fault fault)) (same_Some line n e))
 
 -- ---- lines
 
@@ -92,14 +89,6 @@ in_front line table text p is_line read spells =
 
 -- ---- the fault of the table
 
-no_classes_line : IsLine (codes "classes")
-no_classes_line =
-    All-from_recursion (λ b. is_newline b ≡ Bool.false) (codes "classes") (refl, (refl, (refl, (refl, (refl, (refl, (refl, tt)))))))
-
-no_classes_read : table_of_line (codes "classes") ≡ Ok []
-unfolding table_of_line words numbers_of fault_from
-no_classes_read = refl
-
 nothing_spelled : SpellsProfile [] nothing_counted
 unfolding lines profile_from
 nothing_spelled = profile_is_spelled [] nothing_counted refl
@@ -110,9 +99,10 @@ first_line text first = record {
   some = first.some;
   within = first.within;
   before = (
-    codes "classes" ++ 10 ∷ [],
+    ended (class_line []),
     ([], nothing_counted),
-    in_front (codes "classes") [] [] nothing_counted no_classes_line no_classes_read nothing_spelled,
+    in_front (class_line []) [] [] nothing_counted (class_line_is_full [] no_classes_are_legal).0
+        (table_line_is_read [] no_classes_are_legal) nothing_spelled,
     refl,
   );
   none = λ other parts spells alike. first.none other parts.0 spells.table alike;

@@ -1,13 +1,14 @@
 -- From a tuned sheet to the headline, by the laws of the crates below.
 use Rattle.std.proofs.Common.{◌≡◌, refl, sym, ◌∙◌}
-use Rattle.heap_theory.specs.Losses.{ServesEach, counted_sizes, requested_sizes, rounding_loss}
+use Rattle.class_table.specs.Tables.{rounding_loss}
+use Rattle.heap_theory.specs.Losses.{ServesEach, counted_sizes, requested_sizes}
 use Rattle.heap_theory.specs.Report.{report}
 use Rattle.heap_theory.proofs.AccessAnswers.{accesses_are_answered}
 use Rattle.heap_theory.proofs.Losses.{LosesAtMostItsWaste-run}
 use Rattle.profile_count.proofs.LawLemmas.{serves_each_request, waste_is_the_sum_of_losses}
+use Rattle.tagged_heap.specs.Config.{layout_for}
 use Rattle.tuner_theory.specs.Best.{IsCandidate}
 use Rattle.mte_engine.specs.Laws.{TunedRunIsHeadline}
-use Rattle.mte_engine.specs.Replay.{layout_for}
 use Rattle.mte_engine.specs.Run.{new_replay}
 use Rattle.mte_engine.specs.Traces.{profile_of_events}
 

@@ -1,50 +1,55 @@
 -- From a class line and a trace to the answer of `replay`.
-use Rattle.std.proofs.Common.{◌≡◌, ℕ, ◌<◌, Bool, true, false, List, [], ◌∷◌, ◌++◌, length, Ok, Err, refl, sym, ap, ◌∙◌}
-use Rattle.std.proofs.lemmas.List.{nil_from_length}
+use Rattle.std.proofs.Common.{◌≡◌, ℕ, Bool, true, false, List, [], ◌∷◌, ◌++◌, drop, Ok, Err, refl, sym, ap, ◌∙◌, arith}
+use Rattle.std.specs.Prelude.{slice_index_or}
 use Rattle.std.proofs.lemmas.List.Elements.{All-nil}
-use Rattle.line_text.specs.Lines.{lines, IsLine}
+use Rattle.line_text.specs.Lines.{lines, words, IsLine}
 use Rattle.line_text.proofs.LawLemmas.{cut_lines_are_read, line_in_front_is_read}
 use Rattle.class_table.specs.ClassLine.{table_of_line}
-use Rattle.class_table.specs.declared.fault.TableError.TheVariants.{BadLine}
 use Rattle.tagged_heap.specs.declared.heap.Config.{Config}
 use Rattle.trace_reader.specs.Reading.{Reading, finished, whole_reading}
 use Rattle.trace_reader.specs.TraceText.{trace_of}
 use Rattle.trace_reader.proofs.LawLemmas.{one_piece_is_the_text}
 use Rattle.mte_engine.specs.Outcome.{GivesFault}
 use Rattle.mte_engine.specs.Parts.{GivesPart, table_part}
-use Rattle.mte_engine.specs.Replay.{ReplayAnswers, replay_answer, report_on}
+use Rattle.mte_engine.specs.Replay.{ReplayAnswers, replay_answer, replay_of_lines, report_on}
 use Rattle.mte_engine.specs.Traces.{HasEnded, IsLineAndTrace, KeepsLineAndEvents}
 use Rattle.mte_engine.specs.declared.engine.Status.TheVariants.{Done}
 use Rattle.mte_engine.specs.declared.fault.AnswerError.{AnswerError}
 use Rattle.mte_engine.specs.declared.fault.AnswerError.TheVariants.{OutOfMemory, Input}
-use Rattle.mte_engine.specs.declared.fault.InputFault.TheVariants.{Table}
 use Rattle.mte_engine.proofs.TracePieces.{nothing_fed, trace_ends, trace_refused}
 
--- an input of no bytes has no class line
-pub no_class_line : (config : Config) (has_ended : Bool) (line : List ℕ) (reading : Reading) (bytes : List ℕ) →
-    KeepsLineAndEvents has_ended line reading bytes
-    → has_ended ≡ false → length line ≡ 0 → ReplayAnswers config bytes (Err (Table BadLine))
-unfolding replay_answer lines
-no_class_line config false line reading bytes keeps unended none = rw (sym keeps.0 ∙ nil_from_length line none) refl
-no_class_line config true line reading bytes keeps unended none = cc
+-- an empty line spells no table, so an input without lines is answered as one of an empty line
+answer_by_lines : (config : Config) (ls : List (List ℕ)) →
+    replay_of_lines config ls ≡ replay_of_lines config (slice_index_or ls 0 [] ∷ drop 1 ls)
+unfolding table_of_line words
+answer_by_lines config [] = refl
+answer_by_lines config (line ∷ ls) = refl
+
+abbrev first : List (List ℕ) → List ℕ
+first ls = slice_index_or ls 0 []
 
 -- the first line of an input, and the trace after it
 pub line_and_trace : (has_ended : Bool) (line : List ℕ) (reading : Reading) (bytes : List ℕ)
-    → KeepsLineAndEvents has_ended line reading bytes → (has_ended ≡ false → 0 < length line) →
-    (trace : List ℕ) × IsLineAndTrace bytes line trace reading
+    → KeepsLineAndEvents has_ended line reading bytes → (trace : List ℕ) × IsLineAndTrace bytes line trace reading
 unfolding lines
-line_and_trace false line reading bytes keeps some =
-    let whole : lines bytes ≡ bytes ∷ [] = cut_lines_are_read [] bytes (All-nil IsLine) keeps.1 (rw keeps.0 at (some refl)) in
-    ([], record { parts = whole ∙ ap (λ (l : List ℕ). l ∷ []) (sym keeps.0); keeps = keeps.2 ∙ sym nothing_fed })
-line_and_trace true line reading bytes keeps some =
-    (keeps.0, record { parts = ap lines keeps.1 ∙ line_in_front_is_read line keeps.0 keeps.2; keeps = keeps.3 })
+line_and_trace false line reading [] keeps = ([], record { line_is = keeps.0; others = refl; keeps = keeps.2 ∙ sym nothing_fed })
+line_and_trace false line reading (b ∷ bytes) keeps =
+    let whole : lines (b ∷ bytes) ≡ (b ∷ bytes) ∷ [] = cut_lines_are_read [] (b ∷ bytes) (All-nil IsLine) keeps.1 (omega arith) in
+    ([], record { line_is = keeps.0 ∙ sym (ap first whole); others = sym (ap (drop 1) whole); keeps = keeps.2 ∙ sym nothing_fed })
+line_and_trace true line reading bytes keeps =
+    let whole : lines bytes ≡ line ∷ lines keeps.0 = ap lines keeps.1 ∙ line_in_front_is_read line keeps.0 keeps.2 in
+    (keeps.0, record { line_is = sym (ap first whole); others = sym (ap (drop 1) whole); keeps = keeps.3 })
 
 module _ (config : Config) (bytes line trace : List ℕ) (reading : Reading) (is : IsLineAndTrace bytes line trace reading) where
+  answer_is : replay_answer config bytes ≡ replay_of_lines config (line ∷ lines trace)
+  unfolding replay_answer
+  answer_is = answer_by_lines config (lines bytes) ∙ rw (is.line_is, is.others) refl
+
   pub table_refused : (error : AnswerError) → GivesPart {A = List ℕ} (Err error) (table_part (table_of_line line)) →
       GivesFault (ReplayAnswers config bytes) error
   unfolding replay_answer
   table_refused OutOfMemory gives = tt
-  table_refused (Input fault) gives = rw (is.parts, gives) refl
+  table_refused (Input fault) gives = answer_is ∙ rw gives refl
 
   module _ (table : List ℕ) (read : table_part (table_of_line line) ≡ Ok table) where
     finished_is : finished reading ≡ whole_reading (trace_of trace)
@@ -56,7 +61,7 @@ module _ (config : Config) (bytes line trace : List ℕ) (reading : Reading) (is
     replay_refused OutOfMemory ended = tt
     replay_refused (Input refused) ended =
         let part = trace_refused 1 (trace_of trace) (finished reading).state refused (ap (λ (r : Reading). r.state) finished_is) ended in
-        rw (is.parts, read, part) refl
+        answer_is ∙ rw (read, part) refl
 
     pub replay_written : (reading' : Reading) (text : List ℕ) → HasEnded 1 (finished reading).state (Ok tt) → reading' ≡ finished reading
         → text ≡ [] ++ report_on config table reading'.events → ReplayAnswers config bytes (Ok (record { text = text; status = Done }))
@@ -64,4 +69,4 @@ module _ (config : Config) (bytes line trace : List ℕ) (reading : Reading) (is
     replay_written reading' text ended same is_text =
         let part = trace_ends 1 (trace_of trace) (finished reading).state (ap (λ (r : Reading). r.state) finished_is) ended in
         let events : reading'.events ≡ (trace_of trace).events = ap (λ (r : Reading). r.events) (same ∙ finished_is) in
-        rw (is.parts, read, part, is_text, events) refl
+        answer_is ∙ rw (read, part, is_text, events) refl

@@ -7,7 +7,7 @@ use Rattle.trace_reader.specs.Reading.{Reading, finished, whole_reading}
 use Rattle.trace_reader.specs.TraceText.{trace_of}
 use Rattle.trace_reader.proofs.LawLemmas.{one_piece_is_the_text}
 use Rattle.tuner_theory.specs.Sheets.{Sheet}
-use Rattle.tuner_theory.specs.Waste.{Profile as Counted}
+use Rattle.tuner_theory.specs.Profiles.{Profile as Counted}
 use Rattle.mte_engine.specs.Outcome.{GivesFault}
 use Rattle.mte_engine.specs.Replay.{report_on}
 use Rattle.mte_engine.specs.Run.{RunAnswers}

@@ -5,7 +5,7 @@ use Rattle.potential_check.specs.Leading.{leading_lines, lines_after}
 use Rattle.potential_check.specs.SheetText.{sheet_of_lines}
 use Rattle.profile_count.specs.ProfileText.{profile_of, profile_of_lines}
 use Rattle.tuner_theory.specs.Sheets.{Sheet}
-use Rattle.tuner_theory.specs.Waste.{Profile as Counted}
+use Rattle.tuner_theory.specs.Profiles.{Profile as Counted}
 use Rattle.mte_engine.specs.Check.{CheckAnswers, sheet_and_profile}
 use Rattle.mte_engine.specs.Outcome.{GivesFault}
 use Rattle.mte_engine.specs.Parts.{GivesPart, profile_part, sheet_part}

@@ -4,7 +4,7 @@ use Rattle.line_text.specs.Lines.{lines}
 use Rattle.class_table.specs.ClassLine.{table_of_line}
 use Rattle.class_table.specs.declared.fault.TableError.TheVariants.{BadLine}
 use Rattle.profile_count.specs.ProfileText.{profile_of_lines, profile_of}
-use Rattle.tuner_theory.specs.Waste.{Profile as Counted}
+use Rattle.tuner_theory.specs.Profiles.{Profile as Counted}
 use Rattle.mte_engine.specs.Outcome.{GivesFault}
 use Rattle.mte_engine.specs.Parts.{GivesPart, table_part, profile_part}
 use Rattle.mte_engine.specs.Score.{ScoreAnswers, score_of, scored}

@@ -8,7 +8,7 @@ use Rattle.profile_count.specs.ProfileText.{profile_of_lines}
 use Rattle.tuner_theory.specs.Best.{IsBest}
 use Rattle.tuner_theory.specs.Sheets.{IsVerdict, Sheet}
 use Rattle.tuner_theory.specs.RefusalText.{shown_refusal}
-use Rattle.tuner_theory.specs.Waste.{Profile as Counted}
+use Rattle.tuner_theory.specs.Profiles.{Profile as Counted}
 use Rattle.tuner_theory.specs.declared.verdict.Verdict.{Verdict}
 use Rattle.tuner_theory.specs.declared.verdict.Verdict.TheVariants.{Optimal, Refused}
 use Rattle.mte_engine.specs.Outcome.{Answer}

@@ -7,7 +7,7 @@ use Rattle.potential_check.specs.Leading.{leading_lines, lines_after}
 use Rattle.potential_check.specs.SheetText.{SpellsSheet}
 use Rattle.profile_count.specs.ProfileText.{SpellsProfile}
 use Rattle.tuner_theory.specs.Sheets.{Sheet}
-use Rattle.tuner_theory.specs.Waste.{Profile as Counted}
+use Rattle.tuner_theory.specs.Profiles.{Profile as Counted}
 use Rattle.mte_engine.specs.declared.fault.InputFault.{InputFault}
 use Rattle.mte_engine.specs.declared.fault.InputFault.TheVariants.{TooLong, Table, BadSheet, Profile, Trace}
 

@@ -3,10 +3,10 @@ use Rattle.std.specs.Prelude.{◌≡◌, ℕ, List, [], ◌∷◌, Result, Ok, E
 use Rattle.line_text.specs.FirstFault.{◌>>=◌}
 use Rattle.line_text.specs.Lines.{lines}
 use Rattle.class_table.specs.ClassLine.{table_of_line}
-use Rattle.class_table.specs.Layout.{Partition}
 use Rattle.class_table.specs.declared.fault.TableError.TheVariants.{BadLine}
 use Rattle.heap_theory.specs.Report.{report}
 use Rattle.heap_theory.specs.declared.event.Event.{Event}
+use Rattle.tagged_heap.specs.Config.{layout_for}
 use Rattle.tagged_heap.specs.declared.heap.Config.{Config}
 use Rattle.trace_reader.specs.TraceText.{trace_from}
 use Rattle.mte_engine.specs.Outcome.{Answer}
@@ -15,10 +15,6 @@ use Rattle.mte_engine.specs.Traces.{trace_part}
 use Rattle.mte_engine.specs.declared.engine.Status.TheVariants.{Done}
 use Rattle.mte_engine.specs.declared.fault.InputFault.{InputFault}
 use Rattle.mte_engine.specs.declared.fault.InputFault.TheVariants.{Table}
-
--- The classes of a table over a region of this many granules.
-abbrev pub layout_for : Config → List ℕ → Partition
-layout_for config table = record { classes = table; granules = config.granules }
 
 -- The report on the events of a trace, on the heap that is set up so for this table.
 abbrev pub report_on : Config → List ℕ → List Event → List ℕ

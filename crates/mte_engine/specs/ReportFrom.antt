@@ -1,5 +1,5 @@
 -- What is still to be reported in a replay.
-use Rattle.std.specs.Prelude.{ℕ, ◌+◌, Bool, true, false, List, [], ◌∷◌, ◌++◌}
+use Rattle.std.specs.Prelude.{ℕ, ◌+◌, ◌≤◌, ◌^◌, Bool, true, false, List, [], ◌∷◌, ◌++◌, length}
 use Rattle.heap_theory.specs.Report.{report_line, totals_text}
 use Rattle.heap_theory.specs.Replay.{answer_of}
 use Rattle.heap_theory.specs.declared.event.Event.{Event}
@@ -15,3 +15,7 @@ report_from stored (event ∷ events) =
 abbrev pub report_unless : Bool → Stored → List Event → List ℕ
 report_unless false stored events = report_from stored events
 report_unless true stored events = []
+
+-- The events that were replayed, and those that are still to come, are few enough for the totals.
+abbrev pub AreFewEvents : Stored → List Event → Type 0
+AreFewEvents stored events = stored.totals.events + length events ≤ 2 ^ 40

@@ -1,20 +1,20 @@
 -- The headline: the answers of `run`. It tunes a class table for the requests of a trace, and replays the trace on the heap over that
 -- table.
 use Rattle.std.specs.Prelude.{◌≡◌, ℕ, ◌≤◌, List, ◌++◌, length, zip, Result, Ok, Err}
-use Rattle.class_table.specs.Tables.{IsLegalTable}
+use Rattle.class_table.specs.Tables.{IsLegalTable, rounding_loss}
 use Rattle.class_tuner.specs.Tuned.{IsTuned}
 use Rattle.heap_theory.specs.AccessLaws.{AccessesAreAnswered}
-use Rattle.heap_theory.specs.Losses.{ServesEach, counted_sizes, refused_reallocs, rounding_loss}
+use Rattle.heap_theory.specs.Losses.{ServesEach, counted_sizes, refused_reallocs}
 use Rattle.heap_theory.specs.Report.{report_lines, totals_text}
 use Rattle.heap_theory.specs.Replay.{Replay, answers, first_replay, Answer as HeapAnswer}
 use Rattle.heap_theory.specs.Totals.{Totals, totals_of}
 use Rattle.heap_theory.specs.declared.event.Event.{Event}
 use Rattle.potential_check.specs.SheetText.{sheet_text}
+use Rattle.tagged_heap.specs.Config.{layout_for}
 use Rattle.tagged_heap.specs.declared.heap.Config.{Config}
 use Rattle.trace_reader.specs.TraceText.{trace_of}
 use Rattle.tuner_theory.specs.Sheets.{Sheet}
 use Rattle.mte_engine.specs.Outcome.{Answer}
-use Rattle.mte_engine.specs.Replay.{layout_for}
 use Rattle.mte_engine.specs.Traces.{profile_of_events, trace_part}
 use Rattle.mte_engine.specs.declared.engine.Status.TheVariants.{Done}
 use Rattle.mte_engine.specs.declared.fault.InputFault.{InputFault}

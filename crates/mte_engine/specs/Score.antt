@@ -7,7 +7,8 @@ use Rattle.class_table.specs.ClassLine.{table_of_line}
 use Rattle.class_table.specs.declared.fault.TableError.TheVariants.{BadLine}
 use Rattle.profile_count.specs.Counts.{unserved_of}
 use Rattle.profile_count.specs.ProfileText.{profile_of_lines}
-use Rattle.tuner_theory.specs.Waste.{Profile as Counted, waste_of}
+use Rattle.tuner_theory.specs.Profiles.{Profile as Counted}
+use Rattle.tuner_theory.specs.Waste.{waste_of}
 use Rattle.mte_engine.specs.Outcome.{Answer}
 use Rattle.mte_engine.specs.Parts.{table_part, profile_part}
 use Rattle.mte_engine.specs.declared.engine.Status.TheVariants.{Done, No}

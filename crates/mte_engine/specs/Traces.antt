@@ -1,5 +1,5 @@
 -- The trace in an input, and what the engines over traces keep of it while they read.
-use Rattle.std.specs.Prelude.{◌≡◌, ℕ, ◌+◌, Bool, true, false, List, [], ◌∷◌, ◌++◌, Option, Some, None, Result, Ok, Err, ⊤}
+use Rattle.std.specs.Prelude.{◌≡◌, ℕ, ◌+◌, Bool, true, false, List, [], ◌∷◌, ◌++◌, Option, Some, None, Result, Ok, Err, ⊤, drop, slice_index_or}
 use Rattle.line_text.specs.Lines.{lines, IsLine}
 use Rattle.heap_theory.specs.Losses.{requested_sizes}
 use Rattle.heap_theory.specs.declared.event.Event.{Event}
@@ -9,7 +9,7 @@ use Rattle.trace_reader.specs.Reading.State.{Failed, Finished}
 use Rattle.trace_reader.specs.TraceText.{Trace as TraceRead}
 use Rattle.trace_reader.specs.declared.fault.TraceError.TheVariants.{Line}
 use Rattle.trace_reader.specs.declared.fault.TraceFault.{TraceFault}
-use Rattle.tuner_theory.specs.Waste.{Profile as Counted}
+use Rattle.tuner_theory.specs.Profiles.{Profile as Counted}
 use Rattle.mte_engine.specs.declared.fault.AnswerError.{AnswerError}
 use Rattle.mte_engine.specs.declared.fault.AnswerError.TheVariants.{OutOfMemory, Input}
 use Rattle.mte_engine.specs.declared.fault.InputFault.{InputFault}
@@ -54,7 +54,8 @@ abbrev pub KeepsLineAndEvents : Bool → List ℕ → Reading → List ℕ → T
 KeepsLineAndEvents false line reading bytes = (line ≡ bytes) × IsLine bytes × (reading ≡ nothing_read)
 KeepsLineAndEvents true line reading bytes = (trace : List ℕ) × (bytes ≡ line ++ 10 ∷ trace) × IsLine line × KeepsEvents reading trace
 
--- The input begins with this line, and a trace comes after it whose events wait in the reader.
+-- The input begins with this line, and a trace comes after it whose events wait in the reader. An empty input has an empty line here.
 pub record IsLineAndTrace (bytes line trace : List ℕ) (reading : Reading) : Type 0 where
-  pub parts : lines bytes ≡ line ∷ lines trace
+  pub line_is : line ≡ slice_index_or (lines bytes) 0 []
+  pub others : lines trace ≡ drop 1 (lines bytes)
   pub keeps : KeepsEvents reading trace

@@ -1,5 +1,5 @@
 //! `check`: the verdict on a sheet, whoever wrote it.
-ghost use Rattle.std.specs.Prelude.{◌≡◌, Err, IfOk};
+ghost use Rattle.std.specs.Prelude.{◌≡◌, IfOk};
 ghost use Rattle.mte_engine.specs.Check.{CheckAnswers, verdict_text};
 ghost use Rattle.mte_engine.specs.Outcome.{GivesAnswer, IsReady, Runs};
 ghost use Rattle.mte_engine.specs.TextLeft.{text_left};

@@ -1,5 +1,5 @@
 //! The parts of inputs, read with the input's line numbers.
-ghost use Rattle.std.specs.Prelude.{◌≡◌, ◌^◌, ◌<◌, length, Ok, Err, IfOk, MatchResult};
+ghost use Rattle.std.specs.Prelude.{◌≡◌, length, Ok, Err, IfOk, MatchResult};
 ghost use Rattle.line_text.specs.Lines.{lines};
 ghost use Rattle.class_table.specs.ClassLine.{table_of_line};
 ghost use Rattle.profile_count.specs.ProfileText.{profile_of};
@@ -7,7 +7,7 @@ ghost use Rattle.potential_check.specs.Leading.{leading_lines, lines_after};
 ghost use Rattle.potential_check.specs.SheetView.{sheet_of};
 ghost use Rattle.potential_check.specs.SheetText.{sheet_of_lines};
 ghost use Rattle.tuner_theory.specs.Sheets.{Sheet};
-ghost use Rattle.mte_engine.specs.Parts.{GivesPart, table_part, sheet_part, profile_part};
+ghost use Rattle.mte_engine.specs.Parts.{AreFewLines, GivesPart, table_part, sheet_part, profile_part};
 
 use crate::fault::{AnswerError, InputFault};
 use class_table::ClassTable;
@@ -31,7 +31,7 @@ pub fn read_leading(alloc: Global, text: &[u8]) -> Result<LeadingSheet<'_>, Answ
         (λ leading. sheet_part (sheet_of_lines (leading_lines (lines text.now))) ≡ Ok (sheet_of leading.sheet))
         (λ fault. GivesPart {A = Sheet} (Err fault) (sheet_part (sheet_of_lines (leading_lines (lines text.now))))) }
     ensures lines { IfOk result
-        (λ leading. (leading.lines ≡ length (leading_lines (lines text.now))) × (leading.lines < 2 ^ 63)) }
+        (λ leading. (leading.lines ≡ length (leading_lines (lines text.now))) × AreFewLines leading.lines) }
     ensures rest { IfOk result (λ leading. lines leading.rest.now ≡ lines_after (lines text.now)) }
 {
     match read_leading_sheet(alloc, text) {
@@ -43,7 +43,7 @@ pub fn read_leading(alloc: Global, text: &[u8]) -> Result<LeadingSheet<'_>, Answ
 
 /// The profile that a text spells. The text follows this many lines of the input.
 pub fn read_profile(alloc: Global, text: &[u8], lines: u64) -> Result<Profile, AnswerError>
-    requires { lines < 2 ^ 63 }
+    requires { AreFewLines lines }
     ensures { GivesPart result (profile_part lines (profile_of text.now)) }
 {
     match Profile::read(alloc, text) {

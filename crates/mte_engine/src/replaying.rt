@@ -9,12 +9,11 @@ ghost use Rattle.trace_reader.specs.Reading.{is_finished};
 
 use crate::byte_streams::{ByteSink, ByteSource};
 use crate::engine::{Engine, Status, run_engine};
-use crate::fault::{AnswerError, InputFault, ToolFault};
+use crate::fault::{AnswerError, ToolFault};
 use crate::input::Input;
 use crate::input_parts::read_table;
 use crate::report::Report;
 use crate::trace_feeding::{end, feed};
-use class_table::TableError;
 use line_text::first_line;
 use replay_core::Config;
 use std::alloc::{AllocError, Global};
@@ -105,16 +104,13 @@ fn answer_to(
 {
     let LineAndTrace {
         line,
-        line_has_ended,
+        line_has_ended: _,
         reader,
     } = input;
-    if !line_has_ended && line.is_empty() {
-        return Err(AnswerError::Input(InputFault::Table(TableError::BadLine)));
-    }
     answer_to_parts(alloc, config, &line, reader)
 }
 
-// the answer to a class line and the trace after it
+// the answer to a class line, which is empty if the input is, and the trace after it
 fn answer_to_parts(
     alloc: Global,
     config: Config,

@@ -3,9 +3,9 @@ ghost use Rattle.heap_theory.specs.Report.{totals_text};
 ghost use Rattle.mte_engine.specs.Replay.{report_on};
 ghost use Rattle.mte_engine.specs.declared.report.TheConstants.{BUFFER};
 ghost use Rattle.tagged_heap.specs.Config.{IsConfig};
-ghost use Rattle.mte_engine.specs.ReportFrom.{report_from, report_unless};
+ghost use Rattle.mte_engine.specs.ReportFrom.{AreFewEvents, report_from, report_unless};
 ghost use Rattle.trace_reader.specs.TraceLine.{most_events};
-ghost use Rattle.std.specs.Prelude.{◌≡◌, ◌+◌, ◌^◌, ◌≤◌, ◌++◌, drop, length, vec_capacity, vec_len, true, IfOk};
+ghost use Rattle.std.specs.Prelude.{◌≡◌, ◌+◌, ◌≤◌, ◌++◌, drop, length, vec_capacity, vec_len, true, IfOk};
 
 use crate::output::Output;
 use arrayvec::ArrayVec;
@@ -28,7 +28,7 @@ pub struct Report {
     is_whole: bool,
     ghost in_buffer: { written ≤ vec_len buffer },
     ghost room: { BUFFER ≤ vec_capacity buffer },
-    ghost few: { replay.totals.events + length reader.events ≤ 2 ^ 40 },
+    ghost few: { AreFewEvents replay reader.events },
     ghost ready: { written ≡ vec_len buffer → is_whole ≡ true },
 }
 
@@ -88,12 +88,12 @@ impl Output for Report {
 // appends the totals. Returns whether it has appended the totals. A step writes its line into a buffer of its own, from which it is
 // appended. There is room for all of this, so the call takes no memory.
 fn fill(replay: &mut Replay, reader: &mut TraceReader, buffer: &mut Vec<u8>) -> bool
-    requires few { replay.old.totals.events + length reader.old.events ≤ 2 ^ 40 }
+    requires few { AreFewEvents replay.old reader.old.events }
     requires room { vec_len buffer.old + BUFFER ≤ vec_capacity buffer.old }
     ensures report { buffer.new.items ++ report_unless result replay.new reader.new.events
         ≡ buffer.old.items ++ report_from replay.old reader.old.events }
     ensures some { vec_len buffer.new ≤ vec_len buffer.old → result ≡ true }
-    ensures few { replay.new.totals.events + length reader.new.events ≤ 2 ^ 40 }
+    ensures few { AreFewEvents replay.new reader.new.events }
     ensures capacity { vec_capacity buffer.old ≤ vec_capacity buffer.new }
 {
     let full = buffer.len() + BUFFER - LINE_ROOM - TOTALS_ROOM;

@@ -3,7 +3,7 @@ ghost use Rattle.std.specs.Prelude.{◌≡◌, ◌++◌, ◌+◌, ◌<◌, ◌�
 ghost use Rattle.heap_theory.specs.Losses.{requested_sizes};
 ghost use Rattle.profile_count.specs.Requests.{profile_of_sizes};
 ghost use Rattle.trace_reader.specs.TraceLine.{most_events};
-ghost use Rattle.tuner_theory.specs.Waste.{most_counted};
+ghost use Rattle.tuner_theory.specs.Profiles.{most_counted};
 ghost use Rattle.mte_engine.specs.Traces.{profile_of_events};
 
 use profile_count::Profile;

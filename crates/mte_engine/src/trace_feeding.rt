@@ -1,7 +1,8 @@
 //! Traces as the engines read them: fed in pieces, and ended.
-ghost use Rattle.std.specs.Prelude.{◌≡◌, ◌+◌, ◌^◌, ◌<◌, ◌≤◌, length, false, OnOk};
+ghost use Rattle.std.specs.Prelude.{◌≡◌, ◌≤◌, length, false, OnOk};
 ghost use Rattle.trace_reader.specs.TraceLine.{most_events};
 ghost use Rattle.trace_reader.specs.Reading.{fed, finished, is_finished};
+ghost use Rattle.mte_engine.specs.Parts.{AreFewLines};
 ghost use Rattle.mte_engine.specs.Traces.{HasEnded};
 
 use crate::fault::{AnswerError, InputFault};
@@ -23,7 +24,7 @@ pub fn feed(reader: &mut TraceReader, piece: &[u8]) -> Result<(), AllocError>
 /// Ends a trace that follows this many lines of its input.
 pub fn end(reader: &mut TraceReader, lines: u64) -> Result<(), AnswerError>
     requires open { is_finished reader.old ≡ false }
-    requires few { lines < 2 ^ 63 }
+    requires few { AreFewLines lines }
     ensures events { OnOk result (reader.new ≡ finished reader.old) }
     ensures ended { HasEnded lines (finished reader.old).state result }
     ensures few { OnOk result (length reader.new.events ≤ most_events) }

@@ -1,5 +1,4 @@
 //! `tune`: the class table of least waste for a profile, with its certificate.
-ghost use Rattle.std.specs.Prelude.{◌≡◌, Err, IfOk};
 ghost use Rattle.mte_engine.specs.Outcome.{GivesAnswer, IsReady, Runs};
 ghost use Rattle.mte_engine.specs.TextLeft.{text_left};
 ghost use Rattle.mte_engine.specs.Tune.{AreTuneOptions, TuneAnswers};

@@ -1,23 +1,13 @@
--- Appending to a text.
-use Rattle.std.proofs.Common.{◌≡◌, ℕ, ◌+◌, List, [], ◌∷◌, ◌++◌, length, map, take, get_or, Some, refl, sym, ap, ◌∙◌, append-nil}
+-- Appending lines to a text, and words to a line.
+use Rattle.std.proofs.Common.{◌≡◌, ℕ, ◌+◌, List, [], ◌∷◌, ◌++◌, map, take, get_or, Some, refl, sym, ap, ◌∙◌, append-nil}
 use Rattle.std.specs.Fmt.{decimal}
 use Rattle.std.specs.Prelude.{slice_get}
-use Rattle.std.proofs.lemmas.List.{map-append, take_at, take_more}
+use Rattle.std.proofs.lemmas.List.{map-append, take_more}
 use Rattle.std.proofs.lemmas.List.Concat.{flat_map-append}
 use Rattle.std.proofs.lemmas.Option.{get_or_from_slice_get, slice_get_within}
 use Rattle.line_text.specs.Lines.{ended, text_of}
-use Rattle.profile_count.specs.Appended.{GoesOn}
-use Rattle.potential_check.specs.SheetText.{named_line}
+use Rattle.class_table.specs.NamedLines.{named_line}
 use Rattle.potential_check.specs.Spaced.{spaced}
-
--- ---- a text that goes on
-
-pub goes_on-same : (old new : List ℕ) → new ≡ old → GoesOn old new
-goes_on-same old new same = record { after = []; is = same ∙ sym (append-nil old) }
-
--- what was there before is its front
-pub take-goes_on : (old new : List ℕ) → GoesOn old new → take (length old) new ≡ old
-take-goes_on old new goes_on = rw goes_on.is (take_at old goes_on.after (length old) refl)
 
 -- ---- a line's words, one after the other
 

@@ -6,7 +6,7 @@ use Rattle.std.proofs.lemmas.List.Elements.{All-nil, All-cons, All-head, All-tai
 use Rattle.line_text.specs.FirstFault.{◌>>=◌}
 use Rattle.line_text.specs.Lines.{IsLine}
 use Rattle.potential_check.specs.SheetText.{is_named, line_at, row_in, rows_from, step_at, step_in, waste_number}
-use Rattle.potential_check.proofs.LeadingLines.{written_not_one}
+use Rattle.potential_check.proofs.LeadingLines.{waste_number-written}
 
 abbrev pub Lines : Type 0
 Lines = List (List ℕ)
@@ -272,6 +272,6 @@ module _ {B C : Type 0} (more : ℕ × Lines → Result B ℕ) (last : B → Res
               line_read fault None g =
                   stops_here 3 at step_then l ls default (let is = rw g at fault in cc) (λ os. rw (f, g) (rw g at fault))
               line_read fault (Some s) g =
-                  let four = written_not_one l s g in
+                  let four = waste_number-written l s g in
                   reads_on 3 at step_then l ls (λ ls. more (s, ls) >>= last) (All-head IsLine l ls all) (λ os. rw (f, g) refl)
                   (rw four at (after s).fault ls at (All-tail IsLine l ls all) (rw g at fault))

@@ -6,7 +6,23 @@ use Rattle.std.proofs.lemmas.List.Sums.{take_while-cons}
 use Rattle.line_text.specs.FirstFault.{◌>>=◌}
 use Rattle.line_text.specs.Lines.{lines, words}
 use Rattle.potential_check.specs.Leading.{GivesLeading, IsLeading, is_row_line, leading_lines, lines_after}
-use Rattle.potential_check.specs.SheetText.{Gives, head_of_lines, is_named, limit_in, row_in, rows_from, sheet_of_lines, step_in, table_in, waste_in, waste_number, with_rows, words_after}
+use Rattle.class_table.specs.declared.table.TheConstants.{MOST_CLASSES}
+use Rattle.potential_check.specs.SheetText.{
+  Gives,
+  head_line_count,
+  head_of_lines,
+  is_named,
+  limit_in,
+  row_in,
+  rows_from,
+  sheet_of_lines,
+  step_in,
+  table_in,
+  waste_in,
+  waste_number,
+  with_rows,
+}
+use Rattle.class_table.specs.NamedLines.{words_after}
 use Rattle.potential_check.proofs.SheetLines.{line-step_in}
 use Rattle.potential_check.specs.declared.fault.SheetError.{SheetError}
 use Rattle.potential_check.specs.declared.fault.SheetError.TheVariants.{OutOfMemory, Line}
@@ -122,9 +138,9 @@ data Heading (ls : List (List ℕ)) : Type 0 where
   Faulty : (number : ℕ) → head_of_lines ls ≡ Err number → head_of_lines (leading_lines ls) ≡ Err number → Heading ls
   Found : (head : Head) (after : List (List ℕ)) → head_of_lines ls ≡ Ok (head, after) → HeadIsFound ls head after → Heading ls
 
--- a step that is written is not 1
-pub written_not_one : (line : List ℕ) (step : ℕ) → step_in line ≡ Some step → waste_number step ≡ 4
-written_not_one line step e = elim (cases_eq step 1) [
+-- a step that is written is not 1, so the waste comes after its line
+pub waste_number-written : (line : List ℕ) (step : ℕ) → step_in line ≡ Some step → waste_number step ≡ head_line_count true
+waste_number-written line step e = elim (cases_eq step 1) [
   | inl one ↦ absurd ((line-step_in line step e).2 one)
   | inr other ↦ rw (ne_eqb step 1 other) refl
 ]
@@ -167,7 +183,7 @@ module _ (a b c d : List ℕ) (xs : List (List ℕ)) where
           (rw (is_table, is_limit, e, is_step, is_waste) refl)
           (record {
             leading = rw (e, is_table, is_limit, e, is_step, is_waste) refl;
-            size = rw (e, written_not_one c step is_step) (omega arith);
+            size = rw (e, waste_number-written c step is_step) (omega arith);
             rest = rw e refl;
           })
 
@@ -276,12 +292,12 @@ head-is_found ls head after e = elim (heading ls) [
 ]
 
 module _ (ls : List (List ℕ)) (head : Head) (after : List (List ℕ)) (found : HeadIsFound ls head after) where
-  pub leading-read : (rows : List (List ℕ)) → rows_from (waste_number head.step + 1) 32 (rows_of after) ≡ Ok rows →
+  pub leading-read : (rows : List (List ℕ)) → rows_from (waste_number head.step + 1) MOST_CLASSES (rows_of after) ≡ Ok rows →
       sheet_of_lines (leading_lines ls) ≡ Ok (with_rows head rows)
   unfolding sheet_of_lines
   leading-read rows e = rw (found.leading, ← add-one (waste_number head.step), e) refl
 
-  pub leading-row_fault : (number : ℕ) → rows_from (waste_number head.step + 1) 32 (rows_of after) ≡ Err number →
+  pub leading-row_fault : (number : ℕ) → rows_from (waste_number head.step + 1) MOST_CLASSES (rows_of after) ≡ Err number →
       sheet_of_lines (leading_lines ls) ≡ Err number
   unfolding sheet_of_lines
   leading-row_fault number e = rw (found.leading, ← add-one (waste_number head.step), e) refl
@@ -296,7 +312,8 @@ head_fault_given view ls result y (Line number) is same given = rw (is, same) (l
 
 pub row_fault_given : (ls : List (List ℕ)) (head : Head) (after : List (List ℕ)) (result : Result LeadingSheet SheetError)
     (y e : SheetError) → HeadIsFound ls head after
-    → result ≡ Err y → y ≡ e → Gives (λ (rows : List (List ℕ)). rows) (Err e) (rows_from (waste_number head.step + 1) 32 (rows_of after)) →
+    → result ≡ Err y → y ≡ e
+    → Gives (λ (rows : List (List ℕ)). rows) (Err e) (rows_from (waste_number head.step + 1) MOST_CLASSES (rows_of after)) →
     GivesLeading ls result
 row_fault_given ls head after result y OutOfMemory found is same given = rw (is, same) tt
 row_fault_given ls head after result y (Line number) found is same given =
@@ -317,9 +334,9 @@ unfolding sheet_of_lines
 sheet_of_all ls = elim (heading ls) [
   | Faulty k all leading ↦ rw (all, leading) (either (lines_after ls) k)
   | Found head after all found ↦
-      rw (all, found.leading, found.rest, found.size, rows_from-all after (suc (waste_number head.step)) 32)
-      (more head (rest_of after) (length (rows_of after)) (rows_from (suc (waste_number head.step)) 32 (rows_of after))
-      (λ rows e. (rows_from-length (rows_of after) (suc (waste_number head.step)) 32 rows e).0))
+      rw (all, found.leading, found.rest, found.size, rows_from-all after (suc (waste_number head.step)) MOST_CLASSES)
+      (more head (rest_of after) (length (rows_of after)) (rows_from (suc (waste_number head.step)) MOST_CLASSES (rows_of after))
+      (λ rows e. (rows_from-length (rows_of after) (suc (waste_number head.step)) MOST_CLASSES rows e).0))
 ]
   where
     either : (rest : List (List ℕ)) (k : ℕ) → Err k ≡ unless_line rest (length (leading_lines ls)) (Err k)

@@ -5,7 +5,7 @@ pub mod FaultyReadings
 pub mod HeadLines
 pub mod LawLemmas
 pub mod LeadingLines
-pub mod NamedLines
+pub mod OneNumber
 pub mod ReadIsSpelled
 pub mod RowConditions
 pub mod RowLines

@@ -1,14 +1,36 @@
 -- What is read as a sheet is its text, line by line.
-use Rattle.std.proofs.Common.{◌≡◌, ℕ, zero, suc, ◌≤◌, Bool, true, false, List, [], ◌∷◌, ◌++◌, length, map, Option, Some, None, Result, Ok, Err, refl, subst, sym, ap, ◌∙◌, arith, codes, ne_eqb, inl, inr}
+use Rattle.std.proofs.Common.{◌≡◌, ℕ, zero, suc, ◌≤◌, Bool, true, false, List, [], ◌∷◌, ◌++◌, length, map, Option, Some, None, Result, Ok, Err, refl, subst, ap, ◌∙◌, arith, codes, ne_eqb}
 use Rattle.std.specs.Option.{ok_or}
 use Rattle.std.specs.Prelude.{All}
-use Rattle.std.proofs.lemmas.List.Elements.{All-nil, All-cons, All-head}
+use Rattle.std.proofs.lemmas.List.Elements.{All-nil, All-cons}
 use Rattle.std.proofs.lemmas.Option.{some_pair_parts}
 use Rattle.line_text.specs.FirstFault.{◌>>=◌}
 use Rattle.class_table.specs.Steps.{IsStep}
-use Rattle.line_text.specs.Lines.{IsLine, lines, text_of}
+use Rattle.line_text.specs.Lines.{IsTextOf, lines}
 use Rattle.line_text.proofs.LawLemmas.{text_laws as laws}
-use Rattle.potential_check.specs.SheetText.{IsRow, IsWithinLimits, SpellsSheet, head_of_lines, is_named, line_at, limit_in, named_line, row_in, rows_from, sheet_in, sheet_lines, sheet_of_lines, sheet_text, step_at, step_in, step_lines, table_in, waste_in, waste_number, with_rows}
+use Rattle.class_table.specs.declared.table.TheConstants.{MOST_CLASSES}
+use Rattle.potential_check.specs.SheetText.{
+  IsRow,
+  IsWithinLimits,
+  SpellsSheet,
+  head_of_lines,
+  is_named,
+  line_at,
+  limit_in,
+  row_in,
+  rows_from,
+  sheet_in,
+  sheet_lines,
+  sheet_of_lines,
+  step_at,
+  step_in,
+  step_lines,
+  table_in,
+  waste_in,
+  waste_number,
+  with_rows,
+}
+use Rattle.class_table.specs.NamedLines.{named_line}
 use Rattle.potential_check.specs.declared.reading.Head.{Head}
 use Rattle.potential_check.proofs.SheetLines.{line-limit_in, line-row_in, line-step_in, line-table_in, line-waste_in}
 use Rattle.tuner_theory.specs.Sheets.{Sheet}
@@ -99,21 +121,21 @@ same_sheet : (s t : Sheet) → as_read s ≡ as_read t → s ≡ t
 same_sheet s t e = cc
 
 -- all that was read
-whole_read : (ls after_table after_limit after_step after_waste : List (List ℕ)) (s : Sheet) → All IsLine ls →
+whole_read : (ls after_table after_limit after_step after_waste : List (List ℕ)) (s : Sheet) →
     line_at 1 table_in ls ≡ Ok (s.table, after_table)
     → line_at 2 limit_in after_table ≡ Ok (s.limit, after_limit) → step_at after_limit ≡ Some (s.step, after_step)
     → line_at (waste_number s.step) waste_in after_step ≡ Ok (s.waste, after_waste) →
-    rows_from (suc (waste_number s.step)) 32 after_waste ≡ Ok s.rows
+    rows_from (suc (waste_number s.step)) MOST_CLASSES after_waste ≡ Ok s.rows
     → (ls ≡ sheet_lines s) × IsWithinLimits s
-whole_read ls after_table after_limit after_step after_waste s all is_table is_limit is_step is_waste is_rows =
+whole_read ls after_table after_limit after_step after_waste s is_table is_limit is_step is_waste is_rows =
     let first = was_read 1 table_in ls after_table s.table is_table in
-    let table = line-table_in first.line s.table (All-head IsLine first.line after_table (rw first.first at all)) first.read in
+    let table = line-table_in first.line s.table first.read in
     let second = was_read 2 limit_in after_table after_limit s.limit is_limit in
     let limit = line-limit_in second.line s.limit second.read in
     let step = step_read after_limit after_step s.step is_step in
     let next = was_read (waste_number s.step) waste_in after_step after_waste s.waste is_waste in
     let waste = line-waste_in next.line s.waste next.read in
-    let rows = rows_read after_waste (suc (waste_number s.step)) 32 s.rows is_rows in (
+    let rows = rows_read after_waste (suc (waste_number s.step)) MOST_CLASSES s.rows is_rows in (
       rw (first.first, table.0, second.first, limit.0, step.0, next.first, waste.0, rows.0) refl,
       record { table = table.1; limit = (limit.1, limit.2); step = step.1; waste = waste.1; few = rows.1; rows = rows.2 },
     )
@@ -156,26 +178,19 @@ head_read ls after head e =
     })))))
 
 -- Lines that are read as a sheet are its lines, and it is within the limits.
-lines_read : (ls : List (List ℕ)) (s : Sheet) → All IsLine ls → sheet_of_lines ls ≡ Ok s → (ls ≡ sheet_lines s) × IsWithinLimits s
+lines_read : (ls : List (List ℕ)) (s : Sheet) → sheet_of_lines ls ≡ Ok s → (ls ≡ sheet_lines s) × IsWithinLimits s
 unfolding sheet_of_lines
-lines_read ls s all e =
+lines_read ls s e =
     went_on (head_of_lines ls) _ s e (λ head is_head e.
-    went_on (rows_from (suc (waste_number head.0.step)) 32 head.1) _ s e (λ rows is_rows e.
+    went_on (rows_from (suc (waste_number head.0.step)) MOST_CLASSES head.1) _ s e (λ rows is_rows e.
     let parts = head_read ls head.1 head.0 is_head in
     let read =
-    whole_read ls parts.after_table parts.after_limit parts.after_step head.1 (with_rows head.0 rows) all parts.table parts.limit
+    whole_read ls parts.after_table parts.after_limit parts.after_step head.1 (with_rows head.0 rows) parts.table parts.limit
     parts.step parts.waste is_rows in
     subst (λ (t : Sheet). (ls ≡ sheet_lines t) × IsWithinLimits t) (same_sheet (with_rows head.0 rows) s e) read))
 
 -- What is read as a sheet is its text, and the sheet is within the limits.
 pub spelled-sheet_in : (text : List ℕ) (s : Sheet) → sheet_in text ≡ Ok s → SpellsSheet text s
 spelled-sheet_in text s e =
-    let read = lines_read (lines text) s (laws.lines text) e in
-    let is : text_of (lines text) ≡ sheet_text s = ap text_of read.0 in
-    record {
-      limits = read.1;
-      spelled = elim (laws.text text) [
-        | inl whole ↦ inl (sym whole ∙ is)
-        | inr cut ↦ inr (sym cut ∙ is)
-      ];
-    }
+    let read = lines_read (lines text) s e in
+    record { limits = read.1; spelled = subst (IsTextOf text) read.0 (laws.text text) }

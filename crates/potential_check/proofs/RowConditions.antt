@@ -6,8 +6,7 @@ use Rattle.std.proofs.lemmas.List.{get_or_default}
 use Rattle.potential_check.specs.RowConditions.{EdgesHold, StageDropHolds}
 use Rattle.potential_check.specs.Spanned.{Spanned}
 use Rattle.tuner_theory.specs.Rows.{number_at}
-use Rattle.potential_check.specs.SheetOnCounts.{MeetsBefore}
-use Rattle.tuner_theory.specs.Sheets.{IsVerdict, Meets, Sheet}
+use Rattle.tuner_theory.specs.Sheets.{IsVerdict, Meets, MeetsBefore, Sheet}
 use Rattle.tuner_theory.specs.Spans.{places, span_waste}
 use Rattle.tuner_theory.specs.declared.verdict.Refusal.TheVariants.{Shape, LastClass, StageDrop, Edge, NotTight}
 use Rattle.tuner_theory.specs.declared.verdict.Verdict.TheVariants.{Optimal, Refused}

@@ -1,9 +1,11 @@
 -- Reading the rows of a sheet, line by line.
 use Rattle.std.proofs.Common.{◌≡◌, ℕ, suc, ◌+◌, ◌-◌, ◌<◌, ◌≤◌, List, [], ◌∷◌, ◌++◌, length, Result, Ok, Err, Some, None, codes, true, refl, sym, ap, ◌∙◌, arith, length-append, append_assoc, append-nil}
+use Rattle.class_table.specs.declared.table.TheConstants.{MOST_CLASSES}
 use Rattle.line_text.specs.FirstFault.{◌>>=◌}
 use Rattle.line_text.specs.Lines.{words}
 use Rattle.potential_check.specs.Leading.{is_row_line}
-use Rattle.potential_check.specs.SheetText.{row_in, row_of_words, rows_from, words_after}
+use Rattle.class_table.specs.NamedLines.{words_after}
+use Rattle.potential_check.specs.SheetText.{row_in, row_of_words, rows_from}
 
 -- A line with this name is a row line, and it is the row that its other words spell.
 pub named_row : (line : List ℕ) (rest : List (List ℕ)) → words_after (codes "row") (words line) ≡ Some rest →
@@ -16,39 +18,38 @@ after front (Ok rows) = Ok (front ++ rows)
 after front (Err number) = Err number
 
 pub record RowsSoFar (first : ℕ) (all rest front : List (List ℕ)) : Type 0 where
-  pub read : rows_from first 32 all ≡ after front (rows_from (first + length front) (32 - length front) rest)
-  pub few : length front ≤ 32
+  pub read : rows_from first MOST_CLASSES all ≡ after front (rows_from (first + length front) (MOST_CLASSES - length front) rest)
+  pub few : length front ≤ MOST_CLASSES
 
 -- a line more than there is room for
 pub rows_from-full : (first : ℕ) (all rest new front : List (List ℕ)) (line : List ℕ) → RowsSoFar first all rest front → rest ≡ line ∷ new →
-    length front ≡ 32
-    → rows_from first 32 all ≡ Err (first + length front)
+    length front ≡ MOST_CLASSES
+    → rows_from first MOST_CLASSES all ≡ Err (first + length front)
 unfolding rows_from
 rows_from-full first all rest new front line so_far parts full = so_far.read ∙ rw (parts, full) refl
 
 -- a line that is no row
 pub rows_from-no_row : (first : ℕ) (all rest new front : List (List ℕ)) (line : List ℕ) → RowsSoFar first all rest front →
-    rest ≡ line ∷ new → length front < 32
-    → row_in line ≡ None → rows_from first 32 all ≡ Err (first + length front)
+    rest ≡ line ∷ new → length front < MOST_CLASSES
+    → row_in line ≡ None → rows_from first MOST_CLASSES all ≡ Err (first + length front)
 unfolding rows_from
 rows_from-no_row first all rest new front line so_far parts room none =
-    let most : 32 - length front ≡ suc (31 - length front) = omega arith in
+    let most : MOST_CLASSES - length front ≡ suc (MOST_CLASSES - suc (length front)) = omega arith in
     so_far.read ∙ rw (parts, most, none) refl
 
 -- a row more
 pub rows_from-more : (first : ℕ) (all rest new front : List (List ℕ)) (line row : List ℕ) → RowsSoFar first all rest front →
-    rest ≡ line ∷ new → length front < 32
+    rest ≡ line ∷ new → length front < MOST_CLASSES
     → row_in line ≡ Some row → RowsSoFar first all new (front ++ row ∷ [])
 unfolding rows_from
 rows_from-more first all rest new front line row so_far parts room is_row =
-    let most : 32 - length front ≡ suc (31 - length front) = omega arith in
+    let most : MOST_CLASSES - length front ≡ suc (MOST_CLASSES - suc (length front)) = omega arith in
     let longer : length (front ++ row ∷ []) ≡ suc (length front) = omega (arith, length-append front (row ∷ [])) in
     let number : first + suc (length front) ≡ suc (first + length front) = omega arith in
-    let left : 32 - suc (length front) ≡ 31 - length front = omega arith in
     record {
       read =
-          so_far.read ∙ rw (parts, most, is_row, longer, number, left)
-          (go (rows_from (suc (first + length front)) (31 - length front) new));
+          so_far.read ∙ rw (parts, most, is_row, longer, number)
+          (go (rows_from (suc (first + length front)) (MOST_CLASSES - suc (length front)) new));
       few = omega arith;
     }
   where
@@ -58,6 +59,6 @@ rows_from-more first all rest new front line row so_far parts room is_row =
 
 -- no line more
 pub rows_from-end : (first : ℕ) (all rest front : List (List ℕ)) → RowsSoFar first all rest front → rest ≡ [] →
-    rows_from first 32 all ≡ Ok front
+    rows_from first MOST_CLASSES all ≡ Ok front
 unfolding rows_from
 rows_from-end first all rest front so_far none = so_far.read ∙ rw (none, append-nil front) refl

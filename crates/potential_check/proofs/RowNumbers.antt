@@ -4,7 +4,8 @@ use Rattle.std.specs.List.{list_all}
 use Rattle.std.specs.Prelude.{option_and_then}
 use Rattle.std.proofs.lemmas.Bool.{and_left, and_right, lt-leb, le-leb}
 use Rattle.std.proofs.lemmas.List.Folds.{list_all-append}
-use Rattle.class_table.specs.ClassLine.{numbers_of}
+use Rattle.class_table.specs.declared.sizes.TheConstants.{MOST_NEEDS}
+use Rattle.class_table.specs.NamedLines.{numbers_of}
 use Rattle.line_text.specs.Numbers.{number_of, classified}
 use Rattle.line_text.specs.declared.number.Number.{Number}
 use Rattle.line_text.specs.declared.number.Number.TheVariants.{Value}
@@ -100,7 +101,7 @@ row_on front ws = passing is_row (option_map (λ ns. front ++ ns) (numbers_of ws
 
 pub record RowSoFar (all rest : List (List ℕ)) (front : List ℕ) : Type 0 where
   pub read : row_of_words all ≡ row_on front rest
-  pub few : length front ≤ 1023
+  pub few : length front ≤ MOST_NEEDS
   pub small : list_all fits front ≡ true
 
 -- a word that is no number of at most 64 bits
@@ -111,7 +112,7 @@ row_on-no_number front rest new w parts none = rw parts (go (number_of w) none (
   where
     large : (n : ℕ) (ns : List ℕ) → fits n ≡ false → is_row (front ++ n ∷ ns) ≡ false
     large n ns e =
-        and_right (leb (length (front ++ n ∷ ns)) 1023) _
+        and_right (leb (length (front ++ n ∷ ns)) MOST_NEEDS) _
         (list_all-append fits front (n ∷ ns) ∙ rw e (and_right (list_all fits front) false refl))
 
     go : (o : Option ℕ) → passing fits o ≡ None → (p : Option (List ℕ)) →
@@ -125,12 +126,13 @@ row_on-no_number front rest new w parts none = rw parts (go (number_of w) none (
         no_fit n false f e = f
 
 -- a word more than a row has room for
-pub row_on-full : (front : List ℕ) (rest new : List (List ℕ)) (w : List ℕ) → rest ≡ w ∷ new → length front ≡ 1023 → row_on front rest ≡ None
+pub row_on-full : (front : List ℕ) (rest new : List (List ℕ)) (w : List ℕ) → rest ≡ w ∷ new → length front ≡ MOST_NEEDS →
+    row_on front rest ≡ None
 unfolding numbers_of
 row_on-full front rest new w parts full = rw parts (go (number_of w) (numbers_of new))
   where
     long : (n : ℕ) (ns : List ℕ) → is_row (front ++ n ∷ ns) ≡ false
-    long n ns = and_left _ (list_all fits (front ++ n ∷ ns)) (lt-leb _ 1023 (omega (arith, length-append front (n ∷ ns))))
+    long n ns = and_left _ (list_all fits (front ++ n ∷ ns)) (lt-leb _ MOST_NEEDS (omega (arith, length-append front (n ∷ ns))))
 
     go : (o : Option ℕ) (p : Option (List ℕ)) →
         passing is_row (option_map (λ ns. front ++ ns) (option_and_then (λ n. option_map (λ ns. n ∷ ns) p) o)) ≡ None
@@ -141,7 +143,7 @@ row_on-full front rest new w parts full = rw parts (go (number_of w) (numbers_of
 -- a number more
 pub row_on-more : (all rest new : List (List ℕ)) (w front : List ℕ) (n : ℕ) → RowSoFar all rest front → rest ≡ w ∷ new →
     passing fits (number_of w) ≡ Some n
-    → length front < 1023 → RowSoFar all new (front ++ n ∷ [])
+    → length front < MOST_NEEDS → RowSoFar all new (front ++ n ∷ [])
 unfolding numbers_of
 row_on-more all rest new w front n so_far parts passes room =
     let is = passing-some fits (number_of w) n passes in
@@ -161,4 +163,4 @@ row_on-more all rest new w front n so_far parts passes room =
 pub row_on-end : (all rest : List (List ℕ)) (front : List ℕ) → RowSoFar all rest front → rest ≡ [] → row_of_words all ≡ Some front
 unfolding numbers_of
 row_on-end all rest front so_far none =
-    so_far.read ∙ rw (none, append-nil front, le-leb (length front) 1023 so_far.few, so_far.small) refl
+    so_far.read ∙ rw (none, append-nil front, le-leb (length front) MOST_NEEDS so_far.few, so_far.small) refl

@@ -1,25 +1,38 @@
 -- The number of a sheet's fault is that of its first fault.
-use Rattle.std.proofs.Common.{◌≡◌, ℕ, suc, ◌-◌, ◌^◌, ◌<◌, ◌≤◌, true, List, [], ◌∷◌, take, Result, Ok, Err, refl, sym, ap, ◌∙◌, arith, codes, inl, inr}
+use Rattle.std.proofs.Common.{◌≡◌, ℕ, suc, ◌-◌, ◌^◌, ◌<◌, true, List, [], ◌∷◌, Result, Ok, Err, refl, sym, ap, ◌∙◌, arith, codes}
 use Rattle.std.specs.Option.{ok_or}
-use Rattle.std.proofs.lemmas.Bool.{cases_order}
-use Rattle.std.proofs.lemmas.List.{take-take}
 use Rattle.class_table.specs.ClassLine.{class_line}
-use Rattle.class_table.specs.Tables.{IsLegalTable}
+use Rattle.class_table.proofs.LawLemmas.{IsName, class_line_is_full, named_line_is_line, no_classes_are_legal, words_of_named_line}
 use Rattle.line_text.specs.Lines.{IsLine, lines, text_of}
-use Rattle.line_text.specs.FirstFault.{◌>>=◌, IsFirstFault}
-use Rattle.line_text.proofs.LawLemmas.{text_laws as laws}
+use Rattle.line_text.specs.FirstFault.{◌>>=◌}
+use Rattle.line_text.proofs.LawLemmas.{one_first_fault, text_laws as laws}
 use Rattle.potential_check.specs.Laws.{FaultIsFirst, FirstFaultIsReported}
-use Rattle.potential_check.specs.SheetText.{SpellsSheet, head_of_lines, is_named, line_at, limit_in, named_line, rows_from, sheet_in, sheet_of_lines, step_at, table_in, waste_in, waste_number, with_rows}
+use Rattle.class_table.specs.declared.table.TheConstants.{MOST_CLASSES}
+use Rattle.potential_check.specs.SheetText.{
+  SpellsSheet,
+  head_of_lines,
+  is_named,
+  line_at,
+  limit_in,
+  rows_from,
+  sheet_in,
+  sheet_of_lines,
+  step_at,
+  table_in,
+  waste_in,
+  waste_number,
+  with_rows,
+}
+use Rattle.class_table.specs.NamedLines.{named_line}
 use Rattle.potential_check.specs.declared.reading.Head.{Head}
 use Rattle.potential_check.proofs.FaultyReadings.{Lines, Reports, rows-report, reports-as, reports-line, reports-step}
-use Rattle.potential_check.proofs.NamedLines.{IsName, named_line-is_line, words-named_line}
 use Rattle.potential_check.proofs.ReadIsSpelled.{spelled-sheet_in}
-use Rattle.potential_check.proofs.SheetLines.{class_line-is_line, limit_in-line, names, one_small, step_in-line, table_in-line, waste_in-line}
+use Rattle.potential_check.proofs.SheetLines.{limit_in-line, names, one_small, step_in-line, table_in-line, waste_in-line}
 use Rattle.potential_check.proofs.SpelledIsRead.{sheet_in-spelled}
 use Rattle.tuner_theory.specs.Sheets.{Sheet}
 
 abbrev rows_after : Head × Lines → Result Sheet ℕ
-rows_after p = rows_from (suc (waste_number p.0.step)) 32 p.1 >>= λ rows. Ok (with_rows p.0 rows)
+rows_after p = rows_from (suc (waste_number p.0.step)) MOST_CLASSES p.1 >>= λ rows. Ok (with_rows p.0 rows)
 
 abbrev head_with : List ℕ → ℕ → ℕ → ℕ × Lines → Result (Head × Lines) ℕ
 head_with table limit step p = Ok (record { table = table; limit = limit; step = step; waste = p.0 }, p.1)
@@ -40,24 +53,16 @@ by_lines : (ls : Lines) → sheet_of_lines ls ≡ sheet_by_lines ls
 unfolding sheet_of_lines head_of_lines
 by_lines ls = refl
 
-no_classes : IsLegalTable 1 []
-no_classes = record {
-  few = omega arith;
-  in_range = λ k d lt. absurd (omega arith);
-  ascending = λ k lt. absurd (omega arith);
-  fitting = λ k d lt. absurd (omega arith);
-}
-
 line_of_one : (name : List ℕ) (n : ℕ) → IsName name → n < 2 ^ 64 → IsLine (named_line name (n ∷ []))
-line_of_one name n is_name small = named_line-is_line name (n ∷ []) is_name (one_small n small)
+line_of_one name n is_name small = named_line_is_line name (n ∷ []) is_name (one_small n small)
 
 is_step_line : is_named (codes "step") (named_line (codes "step") (2 ∷ [])) ≡ true
-is_step_line = rw (words-named_line (codes "step") (2 ∷ []) names.step (one_small 2 (omega arith))) refl
+is_step_line = rw (words_of_named_line (codes "step") (2 ∷ []) names.step (one_small 2 (omega arith))) refl
 
 sheet-reports : Reports 1 sheet_by_lines
 sheet-reports =
     reports-line 1 table_in limit_after rows_after (class_line []) []
-    (class_line-is_line [] no_classes) (table_in-line [] no_classes)
+    (class_line_is_full [] no_classes_are_legal).0 (table_in-line [] no_classes_are_legal)
     (λ table.
     reports-line 2 limit_in (step_after table) rows_after (named_line (codes "limit") (1 ∷ [])) 1
     (line_of_one (codes "limit") 1 names.limit (omega arith)) (limit_in-line 1 (omega arith, omega arith))
@@ -69,8 +74,9 @@ sheet-reports =
     reports-line (waste_number step) waste_in (head_with table limit step) rows_after (named_line (codes "waste") (0 ∷ [])) 0
     (line_of_one (codes "waste") 0 names.waste (omega arith)) (waste_in-line 0 (omega arith))
     (λ waste.
-    reports-as (suc (waste_number step)) (rows_from (suc (waste_number step)) 32)
-    (with_rows (record { table = table; limit = limit; step = step; waste = waste })) (rows-report 32 (suc (waste_number step)))))))
+    reports-as (suc (waste_number step)) (rows_from (suc (waste_number step)) MOST_CLASSES)
+    (with_rows (record { table = table; limit = limit; step = step; waste = waste }))
+    (rows-report MOST_CLASSES (suc (waste_number step)))))))
 
 -- ---- the first fault
 
@@ -97,22 +103,9 @@ fault-first text number e =
           cc;
     })
 
--- two first faults are one
-earlier : (text : List ℕ) (m n : ℕ) → IsFirstFault SpellsSheet text m → IsFirstFault SpellsSheet text n → m < n → ⊥
-earlier text m n of_m of_n lt =
-    let b = of_n.before in
-    let le : m ≤ n - 1 = omega arith in
-    of_m.none b.0 b.1 b.2 (sym (take-take m (n - 1) (lines b.0) le) ∙ (ap (take m) b.3 ∙ take-take m (n - 1) (lines text) le))
-
 pub first-fault : FirstFaultIsReported
 first-fault text number is = go (sheet_in text) refl
   where
     go : (read : Result Sheet ℕ) → sheet_in text ≡ read → sheet_in text ≡ Err number
     go (Ok s) e = absurd (is.none text s (spelled-sheet_in text s e) refl)
-    go (Err other) e =
-        let first = fault-first text other e in
-        elim (cases_order other number) [
-          | inl same ↦ e ∙ ap Err same
-          | inr (inl lt) ↦ absurd (earlier text other number first is lt)
-          | inr (inr gt) ↦ absurd (earlier text number other is first gt)
-        ]
+    go (Err other) e = e ∙ ap Err (one_first_fault SpellsSheet text other number (fault-first text other e) is)

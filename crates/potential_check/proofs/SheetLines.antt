@@ -1,49 +1,35 @@
 -- Each line of a sheet: it is read as what it spells, and no other line is.
-use Rattle.std.proofs.Common.{◌≡◌, ◌≢◌, ℕ, ◌<◌, ◌≤◌, ◌^◌, Bool, true, false, not, ◌&&◌, List, [], ◌∷◌, length, Option, Some, None, Result, Ok, Err, refl, ap, sym, ◌∙◌, arith, codes, leb, length-append, inl, inr}
+use Rattle.std.proofs.Common.{◌≡◌, ◌≢◌, ℕ, ◌<◌, ◌≤◌, ◌^◌, true, List, [], ◌∷◌, length, Option, Some, None, Result, Ok, Err, refl, ap, sym, ◌∙◌, arith, codes, leb}
 use Rattle.std.specs.List.{list_all}
 use Rattle.std.specs.Prelude.{option_and_then}
-use Rattle.std.proofs.lemmas.Bool.{and_from, and_parts, leb-true, le-leb, lt-ltb, ltb-true, not-true}
+use Rattle.std.proofs.lemmas.Bool.{and_from, and_parts, leb-true, le-leb, lt-ltb, ltb-true}
 use Rattle.std.proofs.lemmas.Bool.Decides.{nat_tests}
-use Rattle.std.proofs.lemmas.List.{get_or_at}
 use Rattle.std.proofs.lemmas.List.Elements.{All-nil, All-cons, All-head, All-tail, All-weaker}
 use Rattle.std.proofs.lemmas.List.Sums.{AllPass-from_list_all}
-use Rattle.class_table.specs.ClassLine.{class_line, numbers_of, table_of_line}
+use Rattle.class_table.specs.ClassLine.{class_line, table_of_line}
 use Rattle.class_table.specs.Steps.{IsStep}
 use Rattle.class_table.specs.Tables.{IsLegalTable}
 use Rattle.class_table.specs.declared.fault.TableError.{TableError}
-use Rattle.line_text.specs.Lines.{IsLine, ended, is_newline, is_space, words}
-use Rattle.class_table.proofs.LawLemmas.{line_alone_is_read, spelled_table_is_read, table_is_spelled}
-use Rattle.potential_check.specs.SheetText.{IsRow, fits, is_limit, is_row, is_written_step, limit_in, named_line, passing, row_in, row_of_words, step_in, table_in, waste_in, words_after}
-use Rattle.potential_check.proofs.NamedLines.{AreSmall, IsName, named_line-is_line, line-number_in, line-numbers_in, number_in-named_line, numbers_in, numbers_in-named_line}
+use Rattle.class_table.specs.declared.sizes.TheConstants.{LARGEST_CLASS, MOST_NEEDS, SMALLEST_CLASS}
+use Rattle.class_table.specs.declared.table.TheConstants.{MOST_CLASSES}
+use Rattle.line_text.specs.Lines.{words}
+use Rattle.class_table.proofs.LawLemmas.{AreSmall, IsName, line_of_read_numbers, named_numbers_are_read, plain_name, read_line_is_spelled, table_line_is_read}
+use Rattle.class_table.specs.NamedLines.{named_line, numbers_in, numbers_of, words_after}
+use Rattle.potential_check.specs.SheetText.{IsRow, fits, is_limit, is_row, is_written_step, limit_in, passing, row_in, row_of_words, step_in, table_in, waste_in}
+use Rattle.potential_check.proofs.OneNumber.{line-number_in, number_in-named_line}
 use Rattle.potential_check.proofs.RowNumbers.{passing-some}
 
 -- ---- the names
 
-is_plain : ℕ → Bool
-is_plain b = not (is_newline b) && not (is_space b)
-
-plain_name : (name : List ℕ) → list_all is_plain name ≡ true → 0 < length name → IsName name
-unfolding is_plain
-plain_name name plain some =
-    let all = AllPass-from_list_all is_plain name plain in
-    record {
-      line = All-weaker (λ b. is_plain b ≡ true) (λ b. is_newline b ≡ false) (λ b e. not-true (is_newline b) (and_parts _ _ e).0) name all;
-      word = All-weaker (λ b. is_plain b ≡ true) (λ b. is_space b ≡ false) (λ b e. not-true (is_space b) (and_parts _ _ e).1) name all;
-      some = some;
-    }
-
--- the names of a sheet's lines
+-- the names of a sheet's lines after its table
 pub record AreNames : Type 0 where
-  pub classes : IsName (codes "classes")
   pub limit : IsName (codes "limit")
   pub step : IsName (codes "step")
   pub waste : IsName (codes "waste")
   pub row : IsName (codes "row")
 
 pub names : AreNames
-unfolding is_plain
 names = record {
-  classes = plain_name (codes "classes") refl (omega arith);
   limit = plain_name (codes "limit") refl (omega arith);
   step = plain_name (codes "step") refl (omega arith);
   waste = plain_name (codes "waste") refl (omega arith);
@@ -52,11 +38,11 @@ names = record {
 
 -- ---- the tests
 
-limit_passes : (k : ℕ) → (1 ≤ k) × (k ≤ 32) → is_limit k ≡ true
-limit_passes k within = and_from (leb 1 k) (leb k 32) (le-leb 1 k within.0) (le-leb k 32 within.1)
+limit_passes : (k : ℕ) → (1 ≤ k) × (k ≤ MOST_CLASSES) → is_limit k ≡ true
+limit_passes k within = and_from (leb 1 k) (leb k MOST_CLASSES) (le-leb 1 k within.0) (le-leb k MOST_CLASSES within.1)
 
-passed_limit : (k : ℕ) → is_limit k ≡ true → (1 ≤ k) × (k ≤ 32)
-passed_limit k e = let both = and_parts (leb 1 k) (leb k 32) e in (leb-true 1 k both.0, leb-true k 32 both.1)
+passed_limit : (k : ℕ) → is_limit k ≡ true → (1 ≤ k) × (k ≤ MOST_CLASSES)
+passed_limit k e = let both = and_parts (leb 1 k) (leb k MOST_CLASSES) e in (leb-true 1 k both.0, leb-true k MOST_CLASSES both.1)
 
 step_passes : (s : ℕ) → IsStep s → s ≢ 1 → is_written_step s ≡ true
 step_passes s is_step other = grind (arith, nat_tests)
@@ -77,17 +63,18 @@ fitted : (ns : List ℕ) → list_all fits ns ≡ true → AreSmall ns
 fitted ns e = All-weaker (λ n. fits n ≡ true) (λ n. n < 2 ^ 64) (λ n f. ltb-true n (2 ^ 64) f) ns (AllPass-from_list_all fits ns e)
 
 row_passes : (ns : List ℕ) → IsRow ns → is_row ns ≡ true
-row_passes ns is = and_from (leb (length ns) 1023) (list_all fits ns) (le-leb (length ns) 1023 is.0) (all_fit ns is.1)
+row_passes ns is = and_from (leb (length ns) MOST_NEEDS) (list_all fits ns) (le-leb (length ns) MOST_NEEDS is.0) (all_fit ns is.1)
 
 passed_row : (ns : List ℕ) → is_row ns ≡ true → IsRow ns
-passed_row ns e = let both = and_parts (leb (length ns) 1023) (list_all fits ns) e in (leb-true (length ns) 1023 both.0, fitted ns both.1)
+passed_row ns e =
+    let both = and_parts (leb (length ns) MOST_NEEDS) (list_all fits ns) e in (leb-true (length ns) MOST_NEEDS both.0, fitted ns both.1)
 
 -- ---- from what is spelled to the line
 
 pub one_small : (n : ℕ) → n < 2 ^ 64 → AreSmall (n ∷ [])
 one_small n small = All-cons (λ n. n < 2 ^ 64) n [] small (All-nil (λ n. n < 2 ^ 64))
 
-pub limit_in-line : (k : ℕ) → (1 ≤ k) × (k ≤ 32) → limit_in (named_line (codes "limit") (k ∷ [])) ≡ Some k
+pub limit_in-line : (k : ℕ) → (1 ≤ k) × (k ≤ MOST_CLASSES) → limit_in (named_line (codes "limit") (k ∷ [])) ≡ Some k
 limit_in-line k within = number_in-named_line (codes "limit") is_limit k names.limit (omega (arith, within.1)) (limit_passes k within)
 
 pub step_in-line : (s : ℕ) → IsStep s → s ≢ 1 → step_in (named_line (codes "step") (s ∷ [])) ≡ Some s
@@ -108,24 +95,15 @@ row_in-numbers line = go (words_after (codes "row") (words line))
 
 pub row_in-line : (ns : List ℕ) → IsRow ns → row_in (named_line (codes "row") ns) ≡ Some ns
 row_in-line ns is =
-    row_in-numbers (named_line (codes "row") ns) ∙ rw (numbers_in-named_line (codes "row") ns names.row is.1, row_passes ns is) refl
-
-pub legal_small : (table : List ℕ) → IsLegalTable 1 table → AreSmall table
-legal_small table legal =
-    All-weaker (λ class. (2 ≤ class) × (class ≤ 1024)) (λ n. n < 2 ^ 64) (λ class within. omega (arith, within.1)) table legal.in_range
-
-pub class_line-is_line : (table : List ℕ) → IsLegalTable 1 table → IsLine (class_line table)
-class_line-is_line table legal = named_line-is_line (codes "classes") table names.classes (legal_small table legal)
+    row_in-numbers (named_line (codes "row") ns) ∙ rw (named_numbers_are_read (codes "row") ns names.row is.1, row_passes ns is) refl
 
 pub table_in-line : (table : List ℕ) → IsLegalTable 1 table → table_in (class_line table) ≡ Some table
-table_in-line table legal =
-    let alone = line_alone_is_read (class_line table) (class_line-is_line table legal) in
-    let read = spelled_table_is_read (class_line table) table (record { legal = legal; line = inl refl }) in
-    rw (← alone, read) refl
+table_in-line table legal = rw (table_line_is_read table legal) refl
 
 -- ---- from a line to what it spells
 
-pub line-limit_in : (line : List ℕ) (k : ℕ) → limit_in line ≡ Some k → (line ≡ named_line (codes "limit") (k ∷ [])) × (1 ≤ k) × (k ≤ 32)
+pub line-limit_in : (line : List ℕ) (k : ℕ) → limit_in line ≡ Some k
+    → (line ≡ named_line (codes "limit") (k ∷ [])) × (1 ≤ k) × (k ≤ MOST_CLASSES)
 line-limit_in line k e =
     let read = line-number_in (codes "limit") is_limit line k e (λ m f. omega (arith, (passed_limit m f).1)) in
     let within = passed_limit k read.1 in
@@ -146,22 +124,13 @@ pub line-row_in : (line ns : List ℕ) → row_in line ≡ Some ns → (line ≡
 line-row_in line ns e =
     let passed = passing-some is_row (numbers_in (codes "row") line) ns (sym (row_in-numbers line) ∙ e) in
     let is = passed_row ns passed.1 in
-    (line-numbers_in (codes "row") line ns passed.0 is.1, is)
+    (line_of_read_numbers (codes "row") line ns passed.0 is.1, is)
 
--- a line holds no newline
-not_ended : (line front : List ℕ) → IsLine line → line ≡ ended front → ⊥
-not_ended line front is_line e =
-    let all : IsLine (ended front) = rw e at is_line in
-    let newline = all (length front) 0 (omega (arith, length-append front (10 ∷ []))) in
-    let here = rw (get_or_at front 10 [] 0 (length front) refl) at newline in
-    cc
-
-pub line-table_in : (line table : List ℕ) → IsLine line → table_in line ≡ Some table → (line ≡ class_line table) × IsLegalTable 1 table
-line-table_in line table is_line e = go (table_of_line line) refl
+pub line-table_in : (line table : List ℕ) → table_in line ≡ Some table → (line ≡ class_line table) × IsLegalTable 1 table
+line-table_in line table e = go (table_of_line line) refl
   where
     go : (read : Result (List ℕ) TableError) → table_of_line line ≡ read → (line ≡ class_line table) × IsLegalTable 1 table
     go (Err fault) f = let none = rw f at e in absurd cc
     go (Ok found) f =
         let same : found ≡ table = (let is = rw f at e in cc) in
-        let spelled = table_is_spelled line table (line_alone_is_read line is_line ∙ f ∙ ap (λ (t : List ℕ). Ok t) same) in
-        (elim spelled.line [ inl is ↦ is | inr whole ↦ absurd (not_ended line (class_line table) is_line whole) ], spelled.legal)
+        read_line_is_spelled line table (f ∙ ap (λ (t : List ℕ). Ok t) same)

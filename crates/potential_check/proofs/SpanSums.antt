@@ -2,13 +2,16 @@
 use Rattle.std.proofs.Common.{◌≡◌, ℕ, zero, suc, ◌-◌, ◌*◌, ◌^◌, ◌<◌, ◌≤◌, List, get_or, arith, ap, sym, ◌∙◌}
 use Rattle.std.proofs.lemmas.List.{get_or_default}
 use Rattle.std.proofs.Math.Nat.{mul-le-mul}
+use Rattle.class_table.specs.Sizes.{largest_counted}
+use Rattle.class_table.specs.declared.sizes.TheConstants.{GRANULE_BYTES, LARGEST_CLASS, SMALLEST_CLASS}
 use Rattle.tuner_theory.proofs.LawLemmas.{place_is_class, places_ascend, sums_ascend, sums_fit, sums_give_waste}
 use Rattle.potential_check.specs.Spanned.{HoldsSums, IsSpanned, Spanned}
+use Rattle.tuner_theory.specs.Laws.{HasNoUnderflow}
 use Rattle.tuner_theory.specs.Spans.{bytes_up_to, counted_up_to, distinct_needs, need_at, places, span_waste}
 
 -- the need that is kept for a place is a class
 pub need-class : (counts : List ℕ) (step place need : ℕ) (needs counted bytes : List ℕ) → HoldsSums counts step needs counted bytes
-    → 0 < place → place ≤ places counts step → need ≡ get_or needs (place - 1) need → (2 ≤ need) × (need ≤ 1024)
+    → 0 < place → place ≤ places counts step → need ≡ get_or needs (place - 1) need → (SMALLEST_CLASS ≤ need) × (need ≤ LARGEST_CLASS)
 need-class counts step zero need needs counted bytes held some le e = absurd (omega arith)
 need-class counts step (suc i) need needs counted bytes held some le e =
     let front : suc i - 1 ≡ i = omega arith in
@@ -20,11 +23,9 @@ need-class counts step (suc i) need needs counted bytes held some le e =
 
 -- the waste by the need at the span's end and the sums up to its two ends, each step of it a number of 64 bits
 pub record HasSpanSums (waste need counted_low counted_high bytes_low bytes_high : ℕ) : Type 0 where
-  pub counted : counted_low ≤ counted_high
-  pub bytes : bytes_low ≤ bytes_high
-  pub fits : 16 * (need - 1) * (counted_high - counted_low) < 2 ^ 64
-  pub held : bytes_high - bytes_low ≤ 16 * (need - 1) * (counted_high - counted_low)
-  pub waste_is : 16 * (need - 1) * (counted_high - counted_low) - (bytes_high - bytes_low) ≡ waste
+  pub no_underflow : HasNoUnderflow need counted_low counted_high bytes_low bytes_high
+  pub fits : GRANULE_BYTES * (need - 1) * (counted_high - counted_low) < 2 ^ 64
+  pub waste_is : GRANULE_BYTES * (need - 1) * (counted_high - counted_low) - (bytes_high - bytes_low) ≡ waste
 
 pub span_sums : (s : Spanned) → IsSpanned s → (i j : ℕ) → i < j → j ≤ places s.counts s.step
     → HasSpanSums (span_waste s.counts s.step i j) (need_at s.counts s.step j)
@@ -34,15 +35,12 @@ span_sums s spanned i j lt le =
     let low = need_at s.counts s.step i in
     let high = need_at s.counts s.step j in
     let up : low ≤ high = omega (arith, places_ascend s.counts s.step i j spanned.is_step lt le) in
-    let between = sums_ascend s.counts s.step low high spanned.is_step up in
     let small = (place_is_class s.counts s.step j spanned.is_step spanned.are_counts (omega arith) le).1 in
-    let payload : 16 * (high - 1) ≤ 16368 = omega (arith, small) in
+    let payload : GRANULE_BYTES * (high - 1) ≤ largest_counted = omega (arith, small) in
     let requests : counted_up_to s.counts s.step high - counted_up_to s.counts s.step low ≤ 2 ^ 44 =
     omega (arith, (sums_fit s.counts s.step high spanned.are_counts).0) in
     record {
-      counted = between.counted;
-      bytes = between.bytes;
+      no_underflow = sums_ascend s.counts s.step low high spanned.is_step up;
       fits = omega (arith, mul-le-mul payload requests);
-      held = between.held;
       waste_is = sym (sums_give_waste s.counts s.step low high spanned.is_step up);
     }

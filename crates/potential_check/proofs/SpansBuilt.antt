@@ -4,13 +4,14 @@ use Rattle.std.proofs.lemmas.Bool.{cases_lt, cond_both, cond-false, cond-true, e
 use Rattle.std.proofs.lemmas.List.{get_or_append_left}
 use Rattle.std.proofs.Math.Seq.{get_or-append_seam}
 use Rattle.std.proofs.Math.Nat.{mul-le-mul}
-use Rattle.class_table.specs.Sizes.{need_of}
+use Rattle.class_table.specs.Sizes.{largest_counted, need_of}
 use Rattle.potential_check.specs.Spanned.{AreSumsUpTo, HoldsSums, last_need}
 use Rattle.tuner_theory.specs.Spans.{needs_below, rounded_need, with_need}
 use Rattle.tuner_theory.proofs.LawLemmas.{rounding_is_least}
 use Rattle.tuner_theory.proofs.Sums.{sum_below-more, sum_below-none, sum_bounded, sum_same}
 use Rattle.class_table.specs.Steps.{IsStep}
-use Rattle.tuner_theory.specs.Waste.{AreCounts, sum_below}
+use Rattle.tuner_theory.specs.Profiles.{AreCounts, most_counted}
+use Rattle.tuner_theory.specs.Waste.{sum_below}
 
 -- ---- sums
 
@@ -290,20 +291,21 @@ built-end counts step n total total_bytes needs counted bytes is_step are end b 
           ∙ ap (λ (xs : List ℕ). sum_up_to f step (length counts) (need_in xs i)) all.needs_are.needs_are;
     }
 
-pub built-small : (counts : List ℕ) (step n total total_bytes : ℕ) (needs counted bytes : List ℕ) → AreCounts counts → n ≤ 16369
-    → IsBuilt counts step n needs counted bytes total total_bytes → (total ≤ 16369 * 1000000000) × (total_bytes ≤ 16369 * 16368000000000)
+pub built-small : (counts : List ℕ) (step n total total_bytes : ℕ) (needs counted bytes : List ℕ) → AreCounts counts
+    → n ≤ largest_counted + 1 → IsBuilt counts step n needs counted bytes total total_bytes
+    → (total ≤ n * most_counted) × (total_bytes ≤ n * (most_counted * largest_counted))
 built-small counts step n total total_bytes needs counted bytes are le b = (
   omega (
     arith,
     b.counted_are.total_is,
-    sum_bounded (slice_index counts) n 1000000000 (λ k lt. are.in_range k 0 (omega (arith, are.sizes))),
+    sum_bounded (slice_index counts) n most_counted (λ k lt. are.in_range k 0 (omega (arith, are.sizes))),
   ),
   omega (
     arith,
     b.bytes_are.total_is,
-    sum_bounded (λ k. slice_index counts k * k) n 16368000000000 (λ k lt.
-        let small : slice_index counts k ≤ 1000000000 = are.in_range k 0 (omega (arith, are.sizes)) in
-        let within : k ≤ 16368 = omega arith in
+    sum_bounded (λ k. slice_index counts k * k) n (most_counted * largest_counted) (λ k lt.
+        let small : slice_index counts k ≤ most_counted = are.in_range k 0 (omega (arith, are.sizes)) in
+        let within : k ≤ largest_counted = omega arith in
         mul-le-mul small within),
   ),
 )

@@ -3,7 +3,7 @@ use Rattle.std.specs.Prelude.{◌≡◌, ◌≤◌, ℕ, ◌+◌, Bool, true, Li
 use Rattle.std.specs.List.{take_while}
 use Rattle.line_text.specs.Lines.{lines}
 use Rattle.potential_check.specs.SheetView.{sheet_of}
-use Rattle.potential_check.specs.SheetText.{head_lines, is_named, sheet_of_lines}
+use Rattle.potential_check.specs.SheetText.{head_line_count, is_named, sheet_of_lines}
 use Rattle.potential_check.specs.declared.fault.SheetError.{SheetError}
 use Rattle.potential_check.specs.declared.fault.SheetError.TheVariants.{OutOfMemory, Line}
 use Rattle.potential_check.specs.declared.leading_sheet.LeadingSheet.{LeadingSheet}
@@ -13,9 +13,9 @@ use Rattle.class_table.specs.declared.table.TheConstants.{MOST_CLASSES}
 abbrev pub is_row_line : List ℕ → Bool
 is_row_line line = is_named (codes "row") line
 
--- How many lines come before a sheet's rows: four if the third line's first word is `step`, otherwise three.
+-- How many lines come before a sheet's rows. The third one is the line of the step if its first word is `step`.
 abbrev pub head_size : List (List ℕ) → ℕ
-head_size ls = head_lines (is_named (codes "step") (slice_index_or ls 2 []))
+head_size ls = head_line_count (is_named (codes "step") (slice_index_or ls 2 []))
 
 -- The lines of the sheet: those before its rows, and all lines directly after them whose first word is `row`.
 unfoldable pub leading_lines : List (List ℕ) → List (List ℕ)
@@ -29,7 +29,7 @@ lines_after ls = drop (length (leading_lines ls)) ls
 pub record IsLeading (ls : List (List ℕ)) (leading : LeadingSheet) : Type 0 where
   pub sheet : sheet_of_lines (leading_lines ls) ≡ Ok (sheet_of leading.sheet)
   pub size : leading.lines ≡ length (leading_lines ls)
-  pub few : leading.lines ≤ head_lines true + MOST_CLASSES
+  pub few : leading.lines ≤ head_line_count true + MOST_CLASSES
   pub after : lines leading.rest.now ≡ lines_after ls
 
 -- What was read of these lines, unless memory ran out.

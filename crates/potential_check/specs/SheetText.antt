@@ -1,15 +1,14 @@
 -- A sheet's text: a class line, `limit K`, `step S` where the step is not 1, `waste W`, and a line `row ..` for each row.
-use Rattle.std.specs.Prelude.{◌≡◌, ℕ, zero, suc, ◌<◌, ◌≤◌, ◌^◌, Bool, ◌⊎◌, ◌||◌, ◌&&◌, not, List, [], ◌∷◌, ◌++◌, length, map, All, codes, Option, Some, None, is_some, option_and_then, Result, Ok, Err, nat_lt, nat_le, ◌==◌, if◌then◌else◌}
-use Rattle.std.specs.Fmt.{decimal}
+use Rattle.std.specs.Prelude.{◌≡◌, ℕ, zero, suc, ◌<◌, ◌≤◌, ◌^◌, Bool, ◌||◌, ◌&&◌, not, List, [], ◌∷◌, ◌++◌, length, map, All, codes, Option, Some, None, is_some, option_and_then, Result, Ok, Err, nat_lt, nat_le, ◌==◌, if◌then◌else◌}
 use Rattle.std.specs.List.{list_all}
 use Rattle.std.specs.Option.{ok_or, option_map}
 use Rattle.std.specs.Result.{result_ok}
-use Rattle.std.specs.Str.{bytes_eq}
 use Rattle.line_text.specs.FirstFault.{◌>>=◌}
-use Rattle.class_table.specs.ClassLine.{class_line, numbers_of, table_of_line}
+use Rattle.class_table.specs.ClassLine.{class_line, table_of_line}
+use Rattle.class_table.specs.NamedLines.{named_line, numbers_of, words_after}
 use Rattle.class_table.specs.Steps.{IsStep}
 use Rattle.class_table.specs.Tables.{IsLegalTable}
-use Rattle.line_text.specs.Lines.{lines, words, line_of, text_of, ended}
+use Rattle.line_text.specs.Lines.{IsTextOf, lines, words, text_of}
 use Rattle.potential_check.specs.declared.fault.SheetError.{SheetError}
 use Rattle.potential_check.specs.declared.fault.SheetError.TheVariants.{OutOfMemory, Line}
 use Rattle.potential_check.specs.declared.reading.Head.{Head}
@@ -18,10 +17,6 @@ use Rattle.class_table.specs.declared.sizes.TheConstants.{MOST_NEEDS}
 use Rattle.class_table.specs.declared.table.TheConstants.{MOST_CLASSES}
 
 -- ---- the spelling
-
--- The line of a name and numbers.
-abbrev pub named_line : List ℕ → List ℕ → List ℕ
-named_line name numbers = line_of (name ∷ map decimal numbers)
 
 -- For step 1 there is no line.
 abbrev pub step_lines : ℕ → List (List ℕ)
@@ -52,7 +47,7 @@ pub record IsWithinLimits (s : Sheet) : Type 0 where
 -- The text spells this sheet, its last line with its newline or without.
 pub record SpellsSheet (text : List ℕ) (s : Sheet) : Type 0 where
   pub limits : IsWithinLimits s
-  pub spelled : (text ≡ sheet_text s) ⊎ (ended text ≡ sheet_text s)
+  pub spelled : IsTextOf text (sheet_lines s)
 
 -- ---- reading a line
 
@@ -60,11 +55,6 @@ pub record SpellsSheet (text : List ℕ) (s : Sheet) : Type 0 where
 abbrev pub passing : {A : Type 0} → (A → Bool) → Option A → Option A
 passing test None = None
 passing test (Some x) = if test x then Some x else None
-
--- The words of a line after this name; `None` if the first word is another.
-abbrev pub words_after : List ℕ → List (List ℕ) → Option (List (List ℕ))
-words_after name [] = None
-words_after name (w ∷ ws) = if bytes_eq w name then Some ws else None
 
 -- The first of these lines has this name and then these words. The other lines come after it.
 pub record IsNextNamed (name : List ℕ) (before after : List (List ℕ)) (rest : List (List ℕ)) : Type 0 where
@@ -138,12 +128,12 @@ step_at [] = Some (1, [])
 step_at (line ∷ ls) = if is_named (codes "step") line then option_map (λ step. (step, ls)) (step_in line) else Some (1, line ∷ ls)
 
 -- How many lines come before the rows, the last of which is the waste's: one more where there is a step line.
-abbrev pub head_lines : Bool → ℕ
-head_lines has_step = if has_step then 4 else 3
+abbrev pub head_line_count : Bool → ℕ
+head_line_count has_step = if has_step then 4 else 3
 
 -- The number of the waste's line. A step line never says 1.
 abbrev pub waste_number : ℕ → ℕ
-waste_number step = head_lines (not (step == 1))
+waste_number step = head_line_count (not (step == 1))
 
 -- The rows of the lines, the first of which has this number. A line after the last one allowed is faulty, whatever it says.
 unfoldable pub rows_from : ℕ → ℕ → List (List ℕ) → Result (List (List ℕ)) ℕ

@@ -2,7 +2,7 @@
 use Rattle.std.specs.Prelude.{◌≡◌, ℕ, ◌+◌, ◌≤◌, List, ◌∷◌, length, slice_index}
 use Rattle.tuner_theory.specs.Spans.{bytes_up_to, counted_up_to, distinct_needs, need_at, places}
 use Rattle.class_table.specs.Steps.{IsStep}
-use Rattle.tuner_theory.specs.Waste.{AreCounts}
+use Rattle.tuner_theory.specs.Profiles.{AreCounts}
 
 -- The spans of a profile are seen as its counts and the step.
 pub record Spanned : Type 0 where

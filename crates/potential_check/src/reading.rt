@@ -1,16 +1,18 @@
-ghost use Rattle.std.specs.Prelude.{◌≡◌, ◌≤◌, [], length, drop, IfNone, IfOk, IfSome};
+ghost use Rattle.std.specs.Prelude.{◌≡◌, ◌≤◌, ◌+◌, [], true, length, drop, IfNone, IfOk, IfSome};
 ghost use Rattle.std.specs.List.{take_while};
 ghost use Rattle.std.specs.Option.{option_map};
 ghost use Rattle.line_text.specs.Lines.{lines};
 ghost use Rattle.potential_check.specs.Leading.{GivesLeading, is_row_line};
 ghost use Rattle.potential_check.specs.SheetView.{sheet_of};
-ghost use Rattle.potential_check.specs.SheetText.{Gives, IsNextNamed, IsWithinLimits, head_of_lines, is_named, rows_from, sheet_in, step_at, waste_number};
+ghost use Rattle.potential_check.specs.SheetText.{Gives, IsNextNamed, IsWithinLimits, head_line_count, head_of_lines, is_named, rows_from, sheet_in, step_at, waste_number};
 
 use crate::fault::SheetError;
 use crate::leading_sheet::LeadingSheet;
 use crate::rows::Rows;
 use crate::sheet::Sheet;
-use crate::sheet_line::{ROW, STEP, limit_in, row_in, step_in, table_in, waste_in, words_after};
+use crate::sheet_line::{
+    ROW, STEP, limit_in, row_of_words, step_of_words, table_in, waste_in, words_after,
+};
 use class_table::{ClassTable, MOST_CLASSES};
 use line_text::{Lines, Words, lines_in};
 use std::alloc::Global;
@@ -89,7 +91,7 @@ fn step_at(lines: &mut Lines<'_>) -> Option<u8>
     ensures { step_at lines.old ≡ option_map (λ step. (step, lines.new)) result }
 {
     match next_named(STEP, lines) {
-        Some(words) => step_in(words),
+        Some(words) => step_of_words(words),
         None => Some(1),
     }
 }
@@ -97,14 +99,14 @@ fn step_at(lines: &mut Lines<'_>) -> Option<u8>
 // the number of the waste's line: 3, or 4 after a line of the step
 fn waste_number(step: u8) -> u64
     ensures number { result ≡ waste_number step }
-    ensures small { result ≤ 4 }
+    ensures small { result ≤ head_line_count true }
 {
     if step == 1 { 3 } else { 4 }
 }
 
 // The rows of the next lines, as long as their first word is `row`. The first of these lines has the number `first`.
 fn rows_in(alloc: Global, lines: &mut Lines<'_>, first: u64) -> Result<Rows, SheetError>
-    requires { first ≤ 5 }
+    requires { first ≤ head_line_count true + 1 }
     ensures rows { Gives (λ rows. rows) result (rows_from first MOST_ROWS (take_while is_row_line lines.old)) }
     ensures size { IfOk result
         (λ rows. (length rows ≡ length (take_while is_row_line lines.old)) × (length rows ≤ MOST_ROWS)) }
@@ -116,7 +118,7 @@ fn rows_in(alloc: Global, lines: &mut Lines<'_>, first: u64) -> Result<Rows, She
         if rows.len() == MOST_ROWS {
             return Err(SheetError::Line(number));
         }
-        let Some(row) = row_in(alloc, words)? else {
+        let Some(row) = row_of_words(alloc, words)? else {
             return Err(SheetError::Line(number));
         };
         rows.push(row).map_err(|_| SheetError::OutOfMemory)?;

@@ -62,7 +62,7 @@ fn edges_hold_within(
     requires row { length row.now ≡ places spans.now.counts spans.now.step }
     requires some { ends.start < ends.end }
     requires within { ends.end ≤ places spans.now.counts spans.now.step + 1 }
-    requires short { part.end < ends.end }
+    requires after { part.end < ends.end }
     ensures { IsTrue result ↔ EdgesHoldWithin spans.now before.now row.now part.start part.end ends.start ends.end }
 {
     if part.is_empty() {

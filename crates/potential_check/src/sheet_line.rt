@@ -2,7 +2,8 @@
 ghost use Rattle.std.specs.Prelude.{◌≡◌, IfOk};
 ghost use Rattle.std.specs.Option.{option_map};
 ghost use Rattle.line_text.specs.Lines.{words};
-ghost use Rattle.potential_check.specs.SheetText.{fits, limit_in, number_of_words, row_of_words, step_of_words, table_in, waste_in, words_after};
+ghost use Rattle.class_table.specs.NamedLines.{words_after};
+ghost use Rattle.potential_check.specs.SheetText.{fits, limit_in, number_of_words, row_of_words, step_of_words, table_in, waste_in};
 
 use class_table::{ClassTable, MOST_CLASSES, MOST_NEEDS, is_step};
 use line_text::{Number, Words, number_in, words_in};
@@ -36,7 +37,7 @@ pub(crate) fn limit_in(line: &[u8]) -> Option<u8>
 }
 
 // the step that the words after the name spell, which is never 1
-pub(crate) fn step_in(words: Words<'_>) -> Option<u8>
+pub(crate) fn step_of_words(words: Words<'_>) -> Option<u8>
     ensures { result ≡ step_of_words words.entry }
 {
     match u8::try_from(only_number(words)?) {
@@ -52,7 +53,10 @@ pub(crate) fn waste_in(line: &[u8]) -> Option<u64>
 }
 
 // the numbers of a row, which are the words after the name
-pub(crate) fn row_in(alloc: Global, mut words: Words<'_>) -> Result<Option<Vec<u64>>, AllocError>
+pub(crate) fn row_of_words(
+    alloc: Global,
+    mut words: Words<'_>,
+) -> Result<Option<Vec<u64>>, AllocError>
     ensures { IfOk result (λ row. option_map (λ v. v.items) row ≡ row_of_words words.entry) }
 {
     let mut row = Vec::new(alloc);

@@ -2,9 +2,8 @@
 ghost use Rattle.std.specs.Prelude.{◌≡◌, ◌↔◌, All, length, IfNone, IfSome, IsTrue};
 ghost use Rattle.std.specs.List.{AllAdjacentBelow};
 ghost use Rattle.potential_check.specs.RowConditions.{EdgesHold, StageDropHolds};
-ghost use Rattle.potential_check.specs.SheetOnCounts.{MeetsBefore};
 ghost use Rattle.potential_check.specs.SheetView.{sheet_of};
-ghost use Rattle.tuner_theory.specs.Sheets.{IsVerdict, Meets};
+ghost use Rattle.tuner_theory.specs.Sheets.{IsVerdict, Meets, MeetsBefore};
 ghost use Rattle.tuner_theory.specs.Spans.{places};
 ghost use Rattle.tuner_theory.specs.declared.verdict.Refusal.TheVariants.{Edge, LastClass, NotTight, Shape, StageDrop};
 ghost use Rattle.tuner_theory.specs.declared.verdict.Verdict.TheVariants.{Optimal, Refused};
@@ -62,7 +61,7 @@ impl<'a> SheetOnSpans<'a> {
         if !self.meets_edge() {
             return Some(Refusal::Edge);
         }
-        if !self.is_tight() {
+        if !self.bound_is_waste() {
             return Some(Refusal::NotTight);
         }
         None
@@ -101,8 +100,8 @@ impl<'a> SheetOnSpans<'a> {
         all_edges_hold(self.spans, &self.sheet.rows)
     }
 
-    // whether the rows show that no table wastes less than the sheet's waste
-    fn is_tight(&self) -> bool
+    // whether the bound that the rows give, the first number of the last row, is the sheet's waste
+    fn bound_is_waste(&self) -> bool
         requires { Meets self.now.counts self.now.sheet Shape }
         ensures { IsTrue result ↔ Meets self.now.counts self.now.sheet NotTight }
     {

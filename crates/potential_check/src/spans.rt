@@ -1,8 +1,7 @@
-ghost use Rattle.std.specs.Prelude.{◌≡◌, ◌↔◌, ◌+◌, ◌<◌, ◌≤◌, ◌^◌, ℕ, List, IfOk, IsTrue};
-ghost use Rattle.class_table.specs.Sizes.{need_of};
+ghost use Rattle.std.specs.Prelude.{◌≡◌, ◌↔◌, ◌<◌, ◌≤◌, ◌^◌, IfOk, IsTrue};
 ghost use Rattle.potential_check.specs.Spanned.{IsSpanned, last_need};
 ghost use Rattle.tuner_theory.specs.Spans.{bytes_up_to, counted_up_to, need_at, places, rounded_need, span_waste};
-ghost use Rattle.class_table.specs.Steps.{IsStep, round_up};
+ghost use Rattle.class_table.specs.Steps.{IsStep};
 
 use class_table::{
     GRANULE_BYTES, LARGEST_CLASS, LARGEST_COUNTED, MOST_NEEDS, SMALLEST_CLASS, need, round_up,

@@ -1,9 +1,10 @@
 ghost use Rattle.std.specs.Prelude.{◌≡◌, ◌≤◌, ◌++◌, length, map, OnOk, OnErr};
 ghost use Rattle.line_text.specs.Lines.{ended, text_of};
 ghost use Rattle.class_table.specs.ClassLine.{class_line};
-ghost use Rattle.profile_count.specs.Appended.{GoesOn};
+ghost use Rattle.line_text.specs.Prefixes.{IsPrefix};
 ghost use Rattle.potential_check.specs.SheetView.{sheet_of};
-ghost use Rattle.potential_check.specs.SheetText.{named_line, sheet_text};
+ghost use Rattle.class_table.specs.NamedLines.{named_line};
+ghost use Rattle.potential_check.specs.SheetText.{sheet_text};
 ghost use Rattle.potential_check.specs.Spaced.{spaced};
 
 use crate::rows::Rows;
@@ -38,7 +39,7 @@ pub fn write_sheet(sheet: &Sheet, text: &mut Vec<u8>) -> Result<(), AllocError>
 
 fn append_sheet(text: &mut Vec<u8>, sheet: &Sheet) -> Result<(), AllocError>
     ensures written { OnOk result (text.new.items ≡ text.old.items ++ sheet_text (sheet_of sheet.now)) }
-    ensures kept { GoesOn text.old.items text.new.items }
+    ensures kept { IsPrefix text.old.items text.new.items }
 {
     append_table(text, &sheet.table)?;
     append_line(text, LIMIT, &[u64::from(sheet.limit)])?;
@@ -51,7 +52,7 @@ fn append_sheet(text: &mut Vec<u8>, sheet: &Sheet) -> Result<(), AllocError>
 
 fn append_table(text: &mut Vec<u8>, table: &ClassTable) -> Result<(), AllocError>
     ensures written { OnOk result (text.new.items ≡ text.old.items ++ ended (class_line table.now)) }
-    ensures kept { GoesOn text.old.items text.new.items }
+    ensures kept { IsPrefix text.old.items text.new.items }
 {
     let mut line = ArrayVec::<u8, LINE_BYTES>::new();
     table.write_line(&mut line);
@@ -60,7 +61,7 @@ fn append_table(text: &mut Vec<u8>, table: &ClassTable) -> Result<(), AllocError
 
 fn append_rows(text: &mut Vec<u8>, rows: &Rows) -> Result<(), AllocError>
     ensures written { OnOk result (text.new.items ≡ text.old.items ++ text_of (map (named_line ROW.now) rows.now)) }
-    ensures kept { GoesOn text.old.items text.new.items }
+    ensures kept { IsPrefix text.old.items text.new.items }
 {
     for index in 0..rows.len() {
         append_line(text, ROW, rows.row(index))?;
@@ -71,7 +72,7 @@ fn append_rows(text: &mut Vec<u8>, rows: &Rows) -> Result<(), AllocError>
 // appends the line of a name and numbers
 fn append_line(text: &mut Vec<u8>, name: &[u8], numbers: &[u64]) -> Result<(), AllocError>
     ensures written { OnOk result (text.new.items ≡ text.old.items ++ ended (named_line name.now numbers.now)) }
-    ensures kept { GoesOn text.old.items text.new.items }
+    ensures kept { IsPrefix text.old.items text.new.items }
 {
     text.extend_from_slice(name)?;
     let mut rest = numbers;
@@ -88,7 +89,7 @@ fn append_line(text: &mut Vec<u8>, name: &[u8], numbers: &[u64]) -> Result<(), A
 fn append_spaced(text: &mut Vec<u8>, numbers: &[u64]) -> Result<(), AllocError>
     requires { length numbers.now ≤ TOGETHER }
     ensures written { OnOk result (text.new.items ≡ text.old.items ++ spaced numbers.now) }
-    ensures kept { GoesOn text.old.items text.new.items }
+    ensures kept { IsPrefix text.old.items text.new.items }
 {
     let mut buffer = [0u8; TOGETHER_BYTES];
     let mut start = TOGETHER_BYTES;

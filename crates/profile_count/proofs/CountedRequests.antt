@@ -5,7 +5,7 @@ use Rattle.std.proofs.lemmas.List.{get_or-set_same, get_or-set_other, length-set
 use Rattle.std.proofs.lemmas.List.FromFn.{fill_by_all, get_or-map-range_with_len, length-map-range_with_len}
 use Rattle.std.proofs.lemmas.List.Sums.{count_by-le-length, sum_by_push}
 use Rattle.class_table.specs.Sizes.{largest_counted}
-use Rattle.tuner_theory.specs.Waste.{Profile}
+use Rattle.tuner_theory.specs.Profiles.{Profile}
 use Rattle.profile_count.specs.Counts.{count_for, nothing_counted, with_one_more, zeros}
 use Rattle.profile_count.specs.Requests.{CountsRequests, large_requests, profile_of_sizes, requests_below, requests_of, with_more}
 use Rattle.profile_count.proofs.Zeros.{counts-zeros, get_or-zeros}
@@ -74,17 +74,20 @@ with_one_more-profile_of_sizes sizes n = go (leb n largest_counted) refl
     go : (b : Bool) → leb n largest_counted ≡ b → with_one_more (profile_of_sizes sizes) n ≡ profile_of_sizes (sizes ++ n ∷ [])
     go true e =
         let small : n ≤ largest_counted = leb-true n largest_counted e in
-        rw e (same_parts _ _ _ _ (requests_below-raised 16369 sizes n (omega arith)) (sym (large_requests-same sizes n small)))
+        let raised = requests_below-raised (largest_counted + 1) sizes n (omega arith) in
+        rw e (same_parts _ _ _ _ raised (sym (large_requests-same sizes n small)))
     go false e =
         let large : largest_counted < n = leb-false n largest_counted e in
-        rw e (same_parts _ _ _ _ (requests_below-same 16369 sizes n (omega arith)) (sym (large_requests-more sizes n large)))
+        let same = requests_below-same (largest_counted + 1) sizes n (omega arith) in
+        rw e (same_parts _ _ _ _ same (sym (large_requests-more sizes n large)))
 
 -- ---- all requests, one by one
 
 nothing_counted-is : nothing_counted ≡ profile_of_sizes []
 nothing_counted-is =
-    same_parts (zeros 16369) (requests_below 16369 []) 0 0
-    (requests_below-is (zeros 16369) 16369 [] (counts-zeros (zeros 16369) refl).sizes (λ k below. get_or-zeros 16369 k)) refl
+    same_parts (zeros (largest_counted + 1)) (requests_below (largest_counted + 1) []) 0 0
+    (requests_below-is (zeros (largest_counted + 1)) (largest_counted + 1) []
+    (counts-zeros (zeros (largest_counted + 1)) refl).sizes (λ k below. get_or-zeros (largest_counted + 1) k)) refl
 
 with_more-profile_of_sizes : (before sizes : List ℕ) → with_more (profile_of_sizes before) sizes ≡ profile_of_sizes (before ++ sizes)
 with_more-profile_of_sizes before [] = ap profile_of_sizes (sym (append-nil before))
@@ -101,8 +104,8 @@ with_more-nothing_counted sizes = ap (λ p. with_more p sizes) nothing_counted-i
 
 pub profile_of_sizes-counts : (sizes : List ℕ) → CountsRequests (profile_of_sizes sizes) sizes
 profile_of_sizes-counts sizes = record {
-  size_count = length-requests_below 16369 sizes;
-  each = λ n small. get_or-requests_below 16369 sizes n (omega arith);
+  size_count = length-requests_below (largest_counted + 1) sizes;
+  each = λ n small. get_or-requests_below (largest_counted + 1) sizes n (omega arith);
   large = refl;
 }
 
@@ -113,6 +116,7 @@ count_for-le sizes n = go (leb n largest_counted) refl
     go : (b : Bool) → leb n largest_counted ≡ b → count_for (profile_of_sizes sizes) n ≤ length sizes
     go true e =
         let small : n ≤ largest_counted = leb-true n largest_counted e in
-        let is : get_or (requests_below 16369 sizes) n 0 ≡ requests_of sizes n = get_or-requests_below 16369 sizes n (omega arith) in
+        let is : get_or (requests_below (largest_counted + 1) sizes) n 0 ≡ requests_of sizes n =
+        get_or-requests_below (largest_counted + 1) sizes n (omega arith) in
         rw (e, is) (count_by-le-length (λ size. eqb size n) sizes)
     go false e = rw e (count_by-le-length (λ size. ltb largest_counted size) sizes)

@@ -3,13 +3,14 @@ use Rattle.std.proofs.Common.{◌≡◌, ℕ, ◌≤◌, ◌<◌, ◌^◌, Bool,
 use Rattle.std.specs.Fmt.{decimal}
 use Rattle.std.specs.Str.{bytes_eq}
 use Rattle.std.proofs.lemmas.Bool.{le-ltb, ltb-false, le-leb, leb-true, false_from_ne_true}
-use Rattle.std.proofs.lemmas.List.Elements.{All-nil, All-cons, All-from_recursion}
+use Rattle.std.proofs.lemmas.List.Elements.{All-nil, All-cons}
 use Rattle.std.proofs.lemmas.Slice.Eq.{bytes_eq-Decides}
 use Rattle.class_table.specs.Sizes.{largest_counted}
-use Rattle.line_text.specs.Lines.{words, line_of, IsLine, IsWord, is_newline, is_space}
+use Rattle.line_text.specs.Lines.{words, line_of, IsLine, IsWord}
 use Rattle.line_text.specs.Numbers.{number_of}
-use Rattle.tuner_theory.specs.Waste.{most_counted}
+use Rattle.tuner_theory.specs.Profiles.{most_counted}
 use Rattle.line_text.proofs.LawLemmas.{text_laws as laws}
+use Rattle.class_table.proofs.LawLemmas.{IsName, plain_name}
 use Rattle.profile_count.specs.ProfileText.{IsNext, entry_of, counted, size_entry, numbers_entry, large_entry}
 use Rattle.profile_count.specs.declared.entry.Entry.{Entry}
 use Rattle.profile_count.specs.declared.entry.Entry.TheVariants.{Size, Large}
@@ -23,15 +24,15 @@ entry_line entry = line_of (entry_words entry)
 
 -- ---- from an entry to its line
 
-pub large_is_no_number : number_of (codes "large") ≡ None
+large_is_no_number : number_of (codes "large") ≡ None
 unfolding number_of
 large_is_no_number = refl
 
--- no spelling of a number is the word `large`
-number_is_not_large : (n : ℕ) → n < 2 ^ 64 → bytes_eq (decimal n) (codes "large") ≡ false
-number_is_not_large n small = false_from_ne_true _ (λ same.
-    let word : decimal n ≡ codes "large" = (bytes_eq-Decides (decimal n) (codes "large")).0 same in
-    let some : None ≡ Some n = sym large_is_no_number ∙ ap number_of (sym word) ∙ laws.read n small in
+-- a word that spells a number is not `large`
+pub number_is_not_large : (word : List ℕ) (n : ℕ) → number_of word ≡ Some n → bytes_eq word (codes "large") ≡ false
+number_is_not_large word n is = false_from_ne_true _ (λ same.
+    let large : word ≡ codes "large" = (bytes_eq-Decides word (codes "large")).0 same in
+    let some : None ≡ Some n = sym large_is_no_number ∙ ap number_of (sym large) ∙ is in
     cc)
 
 -- an entry is read from its words
@@ -40,7 +41,7 @@ entry_of-words next (Size size count) is =
     let small : size < 2 ^ 64 = omega (arith, is.2) in
     let small_count : count < 2 ^ 64 = omega (arith, is.4) in
     rw (
-      number_is_not_large size small,
+      number_is_not_large (decimal size) size (laws.read size small),
       laws.read size small,
       laws.read count small_count,
       le-ltb largest_counted size is.2,
@@ -52,12 +53,8 @@ entry_of-words next (Large count) is =
     let small : count < 2 ^ 64 = omega (arith, is.2) in
     rw (laws.read count small, le-leb 1 count is.1, le-leb count most_counted is.2) refl
 
--- the word `large` is one
-name_is_word : IsLine (codes "large") × IsWord (codes "large")
-name_is_word = (
-  All-from_recursion (λ b. is_newline b ≡ false) (codes "large") (refl, (refl, (refl, (refl, (refl, tt))))),
-  All-from_recursion (λ b. is_space b ≡ false) (codes "large") (refl, (refl, (refl, (refl, (refl, tt))))),
-)
+large_is_a_name : IsName (codes "large")
+large_is_a_name = plain_name (codes "large") refl (omega arith)
 
 -- two words make a line, and are its words
 two_words : (a b : List ℕ) → IsLine a × IsWord a → IsLine b × IsWord b →
@@ -72,7 +69,9 @@ line_of_entry : (next : ℕ) (entry : Entry) → IsNext next 0 entry →
     IsLine (entry_line entry) × (words (entry_line entry) ≡ entry_words entry)
 line_of_entry next (Size size count) is =
     two_words (decimal size) (decimal count) (laws.word size (omega (arith, is.2))) (laws.word count (omega (arith, is.4)))
-line_of_entry next (Large count) is = two_words (codes "large") (decimal count) name_is_word (laws.word count (omega (arith, is.2)))
+line_of_entry next (Large count) is =
+    let name = large_is_a_name in
+    two_words (codes "large") (decimal count) (name.line, name.word) (laws.word count (omega (arith, is.2)))
 
 -- An entry's line is one;
 pub entry_line-is_line : (next : ℕ) (entry : Entry) → IsNext next 0 entry → IsLine (entry_line entry)

@@ -1,13 +1,12 @@
 -- The line at which a text is refused as a profile is its first fault.
 use Rattle.std.proofs.Common.{◌≡◌, ℕ, suc, ◌+◌, ◌-◌, ◌<◌, ◌≤◌, List, [], ◌∷◌, length, take, Result, Ok, Err}
-use Rattle.std.proofs.Common.{refl, sym, ap, ◌∙◌, arith, add-one, add-zero, inl, inr}
-use Rattle.std.proofs.lemmas.Bool.{cases_lt}
+use Rattle.std.proofs.Common.{refl, sym, ap, ◌∙◌, arith, add-one, add-zero}
 use Rattle.std.proofs.lemmas.List.{take-take}
 use Rattle.std.proofs.lemmas.List.Elements.{All-take}
 use Rattle.line_text.specs.FirstFault.{IsFirstFault}
 use Rattle.line_text.specs.Lines.{lines, words, text_of, IsLine}
-use Rattle.tuner_theory.specs.Waste.{Profile}
-use Rattle.line_text.proofs.LawLemmas.{text_laws as laws}
+use Rattle.tuner_theory.specs.Profiles.{Profile}
+use Rattle.line_text.proofs.LawLemmas.{text_laws as laws, one_first_fault}
 use Rattle.profile_count.specs.Laws.{IsRefusedAt}
 use Rattle.profile_count.specs.ProfileText.{Reading, SpellsProfile, entry_of, with_entry, profile_from, profile_of}
 use Rattle.profile_count.specs.declared.entry.Entry.{Entry}
@@ -24,10 +23,6 @@ cons_head a b x y e = cc
 
 cons_tail : {A : Type 0} (a b : A) (x y : List A) → a ∷ x ≡ b ∷ y → x ≡ y
 cons_tail a b x y e = cc
-
--- so they do up to an earlier place
-take_fewer : {A : Type 0} (m n : ℕ) (xs ys : List A) → m ≤ n → take n xs ≡ take n ys → take m xs ≡ take m ys
-take_fewer m n xs ys few e = sym (take-take m n xs few) ∙ ap (take m) e ∙ take-take m n ys few
 
 take_twice : {A : Type 0} (n : ℕ) (xs : List A) → take n (take n xs) ≡ take n xs
 take_twice n xs = take-take n n xs (omega arith)
@@ -114,15 +109,6 @@ fault_at (line ∷ ls) number reading n fault e = go (fault_at ls) (entry_of rea
 read_or_refused : (p : Profile) (fault : ℕ × ProfileFault) → Ok p ≡ refusal fault → ⊥
 read_or_refused p fault e = absurd cc
 
--- a text has one first fault at most: none is after another
-not_after : (m n : ℕ) (text : List ℕ) → IsFirstFault SpellsProfile text m → IsFirstFault SpellsProfile text n → m ≤ n
-not_after m n text first second = elim (cases_lt n m) [
-  | inl less ↦
-      let other = first.before in
-      absurd (second.none other.0 other.1 other.2 (take_fewer n (m - 1) (lines other.0) (lines text) (omega (arith, less)) other.3))
-  | inr more ↦ omega (arith, more)
-]
-
 -- some of a text's lines are the lines of their text
 front_lines : (k : ℕ) (text : List ℕ) → lines (text_of (take k (lines text))) ≡ take k (lines text)
 front_lines k text = laws.written_lines (take k (lines text)) (All-take IsLine k (lines text) (laws.lines text))
@@ -169,5 +155,5 @@ refused-first_fault text n first = go (profile_of text) refl
     go (Ok p) is = absurd (first.none text p (spelled-profile_of text p is) refl)
     go (Err fault) is =
         let here = first_fault-refused text fault.0 (fault.1, is) in
-        let same : fault.0 ≡ n = omega (arith, not_after fault.0 n text here first, not_after n fault.0 text first here) in
+        let same = one_first_fault SpellsProfile text fault.0 n here first in
         (fault.1, is ∙ ap (λ m. Err (m, fault.1)) same)

@@ -1,6 +1,4 @@
--- The laws as lemmas, for the proofs of the crates above, and what they need to append to a text.
-use Rattle.std.proofs.Common.{◌≡◌, List, ℕ, ◌++◌, ◌∙◌, append_assoc}
-use Rattle.profile_count.specs.Appended.{GoesOn}
+-- The laws as lemmas, for the proofs of the crates above.
 use Rattle.profile_count.specs.Laws.{AddedRequestsAreCounted, CountsAreFew, FirstFaultIsRefused, LinesBeforeItSpell, OneMoreIsCounted, ProfileCountsRequests, ProfileIsSpelled, ProfileOfSizesIsOne, RefusedLineIsThere, SpelledProfileIsRead}
 use Rattle.profile_count.specs.RequestLosses.{ServesEachRequest, WasteIsTheSumOfLosses}
 use Rattle.profile_count.proofs.CountedRequests.{count_for-le, profile_of_sizes-counts, with_more-nothing_counted, with_one_more-profile_of_sizes}
@@ -45,12 +43,3 @@ serves_each_request = serves-profile_of_sizes
 
 pub profile_of_sizes_is_one : ProfileOfSizesIsOne
 profile_of_sizes_is_one = profile_of_sizes-is_profile
-
--- ---- a text that goes on
-
-pub goes_on-more : (old mid new more : List ℕ) → GoesOn old mid → new ≡ mid ++ more → GoesOn old new
-goes_on-more old mid new more goes_on is =
-    record { after = goes_on.after ++ more; is = is ∙ rw goes_on.is (append_assoc old goes_on.after more) }
-
-pub goes_on-through : (old mid new : List ℕ) → GoesOn old mid → GoesOn mid new → GoesOn old new
-goes_on-through old mid new first second = goes_on-more old mid new second.after first second.is

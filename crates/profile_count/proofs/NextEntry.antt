@@ -1,15 +1,12 @@
 -- The entry of a line that was read as two numbers.
-use Rattle.std.proofs.Common.{◌≡◌, ℕ, false, List, [], ◌∷◌, Option, Some, None, option_and_then, unwrap_or, slice_get, refl, sym, ap, ◌∙◌, codes}
+use Rattle.std.proofs.Common.{◌≡◌, ℕ, List, [], ◌∷◌, Option, Some, None, option_and_then, unwrap_or, slice_get, refl, sym, ap}
 use Rattle.std.specs.Option.{option_map}
-use Rattle.std.specs.Str.{bytes_eq}
-use Rattle.std.proofs.lemmas.Bool.{false_from_ne_true}
-use Rattle.std.proofs.lemmas.Slice.Eq.{bytes_eq-Decides}
 use Rattle.line_text.specs.Lines.{words}
-use Rattle.line_text.specs.Numbers.{number_of, short_number_of}
+use Rattle.line_text.specs.Numbers.{short_number_of}
 use Rattle.line_text.specs.Pairs.{short_pair_of}
 use Rattle.line_text.proofs.LawLemmas.{short_is_number}
 use Rattle.profile_count.specs.ProfileText.{entry_of, size_entry}
-use Rattle.profile_count.proofs.EntryLines.{large_is_no_number}
+use Rattle.profile_count.proofs.EntryLines.{number_is_not_large}
 
 abbrev pair_is : ℕ → ℕ → Option (ℕ × ℕ) → Type 0
 pair_is m n read = Some (m, n) ≡ read
@@ -19,12 +16,6 @@ both None y m n e = absurd cc
 both (Some i) None m n e = absurd cc
 both (Some i) (Some k) m n e =
     (ap (λ (o : Option (ℕ × ℕ)). Some (unwrap_or o (0, 0)).0) (sym e), ap (λ (o : Option (ℕ × ℕ)). Some (unwrap_or o (0, 0)).1) (sym e))
-
-number_is_not_large : (word : List ℕ) (n : ℕ) → number_of word ≡ Some n → bytes_eq word (codes "large") ≡ false
-number_is_not_large word n is = false_from_ne_true _ (λ same.
-    let large : word ≡ codes "large" = (bytes_eq-Decides word (codes "large")).0 same in
-    let some : None ≡ Some n = sym large_is_no_number ∙ ap number_of (sym large) ∙ is in
-    cc)
 
 entry_of-pair : (next size count : ℕ) (ws : List (List ℕ)) → pair_is size count (short_pair_of ws) →
     entry_of next 0 ws ≡ size_entry next size count

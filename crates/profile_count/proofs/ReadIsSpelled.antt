@@ -1,12 +1,12 @@
 -- From a text that is read as a profile to its spelling: line by line, the rest spells what is counted from there on.
-use Rattle.std.proofs.Common.{◌≡◌, ℕ, suc, ◌+◌, ◌<◌, List, [], ◌∷◌, ◌++◌, length, get_or, drop, Result, Ok, Err, refl, sym, ap, ◌∙◌, arith, inl, inr, ne_eqb}
+use Rattle.std.proofs.Common.{◌≡◌, ℕ, suc, ◌+◌, ◌<◌, List, [], ◌∷◌, ◌++◌, length, get_or, drop, Result, Ok, Err, refl, subst, ◌∙◌, arith, ne_eqb}
 use Rattle.std.proofs.Math.Seq.{drop-cons}
 use Rattle.std.proofs.lemmas.List.{get_or-drop, get_or-set_same}
-use Rattle.line_text.specs.Lines.{lines, words, text_of}
-use Rattle.tuner_theory.specs.Waste.{Profile, IsProfile}
+use Rattle.line_text.specs.Lines.{lines, words, IsTextOf}
+use Rattle.tuner_theory.specs.Profiles.{Profile, IsProfile}
 use Rattle.line_text.proofs.LawLemmas.{text_laws as laws}
 use Rattle.profile_count.specs.Counts.{with_large}
-use Rattle.profile_count.specs.ProfileText.{Reading, SpellsProfile, IsNext, large_lines, profile_text, entry_of, with_entry, profile_from, profile_of}
+use Rattle.profile_count.specs.ProfileText.{Reading, SpellsProfile, IsNext, large_lines, entry_of, with_entry, profile_from, profile_of}
 use Rattle.profile_count.specs.declared.entry.Entry.{Entry}
 use Rattle.profile_count.specs.declared.entry.Entry.TheVariants.{Size, Large}
 use Rattle.profile_count.specs.declared.fault.ProfileFault.{ProfileFault}
@@ -115,11 +115,4 @@ spells_rest-read (line ∷ ls) number reading p is_open e =
 pub spelled-profile_of : (text : List ℕ) (p : Profile) → profile_of text ≡ Ok p → SpellsProfile text p
 spelled-profile_of text p e =
     let rest = spells_rest-read (lines text) 1 nothing_read p is_open-nothing_read e in
-    let is : text_of (lines text) ≡ profile_text p = ap text_of rest.spelled in
-    record {
-      profile = rest.profile;
-      spelled = elim (laws.text text) [
-        | inl whole ↦ inl (sym whole ∙ is)
-        | inr cut ↦ inr (sym cut ∙ is)
-      ];
-    }
+    record { profile = rest.profile; spelled = subst (IsTextOf text) rest.spelled (laws.text text) }

@@ -7,8 +7,9 @@ use Rattle.std.proofs.lemmas.List.Elements.{All-from_get_or, All-head, All-tail,
 use Rattle.std.proofs.lemmas.List.Filters.{sum_by-filter_both}
 use Rattle.std.proofs.lemmas.List.Sums.{count_by-le-length, get_or-le-sum_by, sum_by-cons}
 use Rattle.class_table.specs.Sizes.{counted_of, largest_counted, loss_of}
-use Rattle.class_table.specs.Tables.{class_for, loss_of_size}
-use Rattle.tuner_theory.specs.Waste.{IsProfile, Serves, most_counted, sum_below, waste_at, waste_of}
+use Rattle.class_table.specs.Tables.{class_for, loss_of_size, ServesSizes, rounding_loss}
+use Rattle.tuner_theory.specs.Profiles.{IsProfile, most_counted}
+use Rattle.tuner_theory.specs.Waste.{Serves, sum_below, waste_at, waste_of}
 use Rattle.tuner_theory.proofs.Sums.{sum_none, sum_same, sum_split}
 use Rattle.profile_count.specs.Requests.{profile_of_sizes, requests_below, requests_of}
 use Rattle.profile_count.proofs.CountedRequests.{get_or-requests_below, length-requests_below}
@@ -81,7 +82,7 @@ waste_of-requests_below top sizes classes =
 
 -- The waste is the sum of what the counted requests lose.
 pub waste_of-profile_of_sizes : (sizes classes : List ℕ)
-    → waste_of (profile_of_sizes sizes).counts classes ≡ sum_by (loss_of_size classes) (counted_of sizes)
+    → waste_of (profile_of_sizes sizes).counts classes ≡ rounding_loss classes (counted_of sizes)
 waste_of-profile_of_sizes = waste_of-requests_below largest_counted
 
 -- ---- serving
@@ -133,7 +134,7 @@ serves-requests_below top sizes classes = (each, served)
 
 -- A table serves the profile where each counted request has a class.
 pub serves-profile_of_sizes : (sizes classes : List ℕ)
-    → Serves (profile_of_sizes sizes).counts classes ↔ All (λ n. IsSome (class_for classes n)) (counted_of sizes)
+    → Serves (profile_of_sizes sizes).counts classes ↔ ServesSizes classes (counted_of sizes)
 serves-profile_of_sizes = serves-requests_below largest_counted
 
 -- ---- a profile
@@ -146,6 +147,9 @@ few-requests_below n most sizes few = All-from_get_or (λ count. count ≤ most)
 -- No count of few requests is too high for a profile.
 pub profile_of_sizes-is_profile : (sizes : List ℕ) → length sizes ≤ most_counted → IsProfile (profile_of_sizes sizes)
 profile_of_sizes-is_profile sizes few = record {
-  counts = record { sizes = length-requests_below 16369 sizes; in_range = few-requests_below 16369 most_counted sizes few };
+  counts = record {
+    sizes = length-requests_below (largest_counted + 1) sizes;
+    in_range = few-requests_below (largest_counted + 1) most_counted sizes few;
+  };
   large = omega (arith, count_by-le-length (λ size. ltb largest_counted size) sizes);
 }

@@ -6,10 +6,11 @@ use Rattle.std.proofs.lemmas.Bool.{cases_eq}
 use Rattle.std.proofs.lemmas.Grind.{same_number_lists}
 use Rattle.std.proofs.lemmas.List.{get_or-set_same}
 use Rattle.std.proofs.lemmas.List.Elements.{All-nil, All-cons, All-head, All-tail, All-append}
+use Rattle.class_table.specs.Sizes.{largest_counted}
 use Rattle.line_text.specs.Lines.{IsFullLine, lines}
-use Rattle.tuner_theory.specs.Waste.{Profile, IsProfile, most_counted}
+use Rattle.tuner_theory.specs.Profiles.{Profile, IsProfile, most_counted}
 use Rattle.line_text.proofs.LawLemmas.{text_laws as laws}
-use Rattle.profile_count.specs.ProfileText.{Reading, SpellsProfile, IsNext, size_lines, large_lines, with_entry, profile_from, profile_of}
+use Rattle.profile_count.specs.ProfileText.{Reading, SpellsProfile, IsNext, size_lines, large_lines, profile_lines, with_entry, profile_from, profile_of}
 use Rattle.profile_count.specs.declared.entry.Entry.{Entry}
 use Rattle.profile_count.specs.declared.entry.Entry.TheVariants.{Size, Large}
 use Rattle.profile_count.proofs.EntryLines.{entry_line, entry_line-is_line, entry_line-some, entry_of-line}
@@ -95,7 +96,7 @@ profile_from-size_lines (suc n ∷ counts) size number reading p is_open is_prof
 full_line : (entry : Entry) → IsNext 0 0 entry → IsFullLine (entry_line entry)
 full_line entry next = (entry_line-is_line 0 entry next, entry_line-some entry)
 
-size_lines-full : (counts : List ℕ) (size : ℕ) → size + length counts ≤ 16369 → All (λ count. count ≤ most_counted) counts →
+size_lines-full : (counts : List ℕ) (size : ℕ) → size + length counts ≤ largest_counted + 1 → All (λ count. count ≤ most_counted) counts →
     All IsFullLine (size_lines size counts)
 unfolding size_lines
 size_lines-full [] size few small = All-nil IsFullLine
@@ -120,7 +121,6 @@ pub profile_of-spelled : (text : List ℕ) (p : Profile) → SpellsProfile text 
 profile_of-spelled text p spells =
     let sizes = size_lines-full p.counts 0 (omega (arith, spells.profile.counts.sizes)) spells.profile.counts.in_range in
     let full = All-append IsFullLine (size_lines 0 p.counts) (large_lines p.large) sizes (large_lines-full p.large spells.profile.large) in
-    let is : lines text ≡ size_lines 0 p.counts ++ large_lines p.large =
-    laws.full_lines (size_lines 0 p.counts ++ large_lines p.large) text full spells.spelled in
+    let is : lines text ≡ profile_lines p = laws.full_lines (profile_lines p) text full spells.spelled in
     rw is (profile_from-size_lines p.counts 0 1 nothing_read p is_open-nothing_read spells.profile (omega arith)
     (λ k below. absurd (omega arith)) refl)

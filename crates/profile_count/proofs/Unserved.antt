@@ -5,7 +5,8 @@ use Rattle.std.proofs.Math.Seq.{drop-cons}
 use Rattle.std.proofs.lemmas.Bool.{cases_lt, lt-ltb, le-ltb, ltb-true, and_parts}
 use Rattle.std.proofs.lemmas.List.{drop_all}
 use Rattle.class_table.specs.Tables.{class_for}
-use Rattle.tuner_theory.specs.Waste.{IsCounted, Serves}
+use Rattle.tuner_theory.specs.Profiles.{IsCounted}
+use Rattle.tuner_theory.specs.Waste.{Serves}
 use Rattle.profile_count.specs.Counts.{unserved_from, unserved_of}
 
 -- ---- one size after the other

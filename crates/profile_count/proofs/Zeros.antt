@@ -1,10 +1,11 @@
 -- A profile that counts nothing.
-use Rattle.std.proofs.Common.{◌≡◌, ℕ, ◌≤◌, List, length, get_or, ap, ◌∙◌, arith, inl, inr}
+use Rattle.std.proofs.Common.{◌≡◌, ℕ, ◌+◌, ◌≤◌, List, length, get_or, ap, ◌∙◌, arith, inl, inr}
 use Rattle.std.proofs.lemmas.Bool.{cases_lt}
 use Rattle.std.proofs.lemmas.List.{length-replicate, get_or-replicate, get_or_past}
 use Rattle.std.proofs.lemmas.List.Elements.{All-from_get_or}
+use Rattle.class_table.specs.Sizes.{largest_counted}
 use Rattle.profile_count.specs.Counts.{zeros}
-use Rattle.tuner_theory.specs.Waste.{AreCounts, most_counted}
+use Rattle.tuner_theory.specs.Profiles.{AreCounts, most_counted}
 
 length-zeros : (n : ℕ) → length (zeros n) ≡ n
 unfolding zeros
@@ -18,9 +19,9 @@ get_or-zeros n k = elim (cases_lt k n) [
   | inr past ↦ get_or_past (zeros n) k 0 (omega (arith, length-zeros n))
 ]
 
-pub counts-zeros : (items : List ℕ) → items ≡ zeros 16369 → AreCounts items
+pub counts-zeros : (items : List ℕ) → items ≡ zeros (largest_counted + 1) → AreCounts items
 counts-zeros items are =
-    let sizes : length items ≡ 16369 = ap length are ∙ length-zeros 16369 in
+    let sizes : length items ≡ largest_counted + 1 = ap length are ∙ length-zeros (largest_counted + 1) in
     record {
       sizes = sizes;
       in_range = All-from_get_or (λ count. count ≤ most_counted) items 0

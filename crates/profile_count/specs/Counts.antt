@@ -2,14 +2,14 @@
 use Rattle.std.specs.Prelude.{ℕ, suc, ◌+◌, ◌&&◌, List, [], ◌∷◌, Option, Some, None, nat_lt, nat_le, is_none, if◌then◌else◌, replicate, slice_index, slice_set}
 use Rattle.class_table.specs.Sizes.{largest_counted}
 use Rattle.class_table.specs.Tables.{class_for}
-use Rattle.tuner_theory.specs.Waste.{Profile}
+use Rattle.tuner_theory.specs.Profiles.{Profile}
 
 -- So many zeros. It is opaque, since there are many.
 unfoldable pub zeros : ℕ → List ℕ
 zeros n = replicate n 0
 
 abbrev pub nothing_counted : Profile
-nothing_counted = record { counts = zeros 16369; large = 0 }
+nothing_counted = record { counts = zeros (largest_counted + 1); large = 0 }
 
 -- A profile with another count of one size, or of the large requests.
 abbrev pub with_count : Profile → ℕ → ℕ → Profile

@@ -2,7 +2,7 @@
 use Rattle.std.specs.Prelude.{◌≡◌, ◌↔◌, ◌≤◌, ◌-◌, List, [], ◌∷◌, ◌++◌, length, take, ℕ, Ok, Err}
 use Rattle.line_text.specs.FirstFault.{IsFirstFault}
 use Rattle.line_text.specs.Lines.{lines, text_of}
-use Rattle.tuner_theory.specs.Waste.{IsProfile, Profile, most_counted}
+use Rattle.tuner_theory.specs.Profiles.{IsProfile, Profile, most_counted}
 use Rattle.profile_count.specs.Counts.{count_for, nothing_counted, with_one_more}
 use Rattle.profile_count.specs.ProfileText.{SpellsProfile, profile_of}
 use Rattle.profile_count.specs.Requests.{CountsRequests, profile_of_sizes, with_more}

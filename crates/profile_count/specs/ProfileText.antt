@@ -1,11 +1,12 @@
 -- A profile's text: a line `SIZE COUNT` for each counted size, ascending, and then a line `large COUNT` where large requests were counted.
-use Rattle.std.specs.Prelude.{◌≡◌, ◌≤◌, ℕ, suc, ◌⊎◌, ◌&&◌, Bool, List, [], ◌∷◌, ◌++◌, codes, Option, Some, None, Result, Ok, Err, nat_lt, nat_le, ◌==◌, if◌then◌else◌}
+use Rattle.std.specs.Prelude.{◌≡◌, ◌≤◌, ℕ, suc, ◌&&◌, Bool, List, [], ◌∷◌, ◌++◌, codes, Option, Some, None, Result, Ok, Err, nat_lt, nat_le, ◌==◌, if◌then◌else◌}
 use Rattle.std.specs.Fmt.{decimal}
 use Rattle.std.specs.Str.{bytes_eq}
+use Rattle.class_table.specs.NamedLines.{named_line}
 use Rattle.class_table.specs.Sizes.{largest_counted}
-use Rattle.line_text.specs.Lines.{lines, words, line_of, text_of, ended}
+use Rattle.line_text.specs.Lines.{IsTextOf, lines, words, line_of, text_of}
 use Rattle.line_text.specs.Numbers.{number_of}
-use Rattle.tuner_theory.specs.Waste.{Profile, IsProfile, most_counted}
+use Rattle.tuner_theory.specs.Profiles.{Profile, IsProfile, most_counted}
 use Rattle.profile_count.specs.Counts.{nothing_counted, with_count, with_large}
 use Rattle.profile_count.specs.declared.entry.Entry.{Entry}
 use Rattle.profile_count.specs.declared.entry.Entry.TheVariants.{Size, Large}
@@ -25,15 +26,18 @@ size_lines size [] = []
 size_lines size (count ∷ counts) = if count == 0 then size_lines (suc size) counts else size_line size count ∷ size_lines (suc size) counts
 
 abbrev pub large_lines : ℕ → List (List ℕ)
-large_lines count = if count == 0 then [] else line_of (codes "large" ∷ decimal count ∷ []) ∷ []
+large_lines count = if count == 0 then [] else named_line (codes "large") (count ∷ []) ∷ []
+
+abbrev pub profile_lines : Profile → List (List ℕ)
+profile_lines p = size_lines 0 p.counts ++ large_lines p.large
 
 abbrev pub profile_text : Profile → List ℕ
-profile_text p = text_of (size_lines 0 p.counts ++ large_lines p.large)
+profile_text p = text_of (profile_lines p)
 
 -- The text spells this profile, its last line with its newline or without.
 pub record SpellsProfile (text : List ℕ) (p : Profile) : Type 0 where
   pub profile : IsProfile p
-  pub spelled : (text ≡ profile_text p) ⊎ (ended text ≡ profile_text p)
+  pub spelled : IsTextOf text (profile_lines p)
 
 -- ---- reading a line
 

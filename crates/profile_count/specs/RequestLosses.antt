@@ -1,7 +1,7 @@
 -- What a class table wastes on requests, request by request. Each is given by its size in bytes.
-use Rattle.std.specs.Prelude.{◌≡◌, ◌↔◌, ℕ, List, sum_by, IsSome, All}
+use Rattle.std.specs.Prelude.{◌≡◌, ◌↔◌, ℕ, List}
 use Rattle.class_table.specs.Sizes.{counted_of}
-use Rattle.class_table.specs.Tables.{class_for, loss_of_size}
+use Rattle.class_table.specs.Tables.{ServesSizes, rounding_loss}
 use Rattle.tuner_theory.specs.Waste.{Serves, waste_of}
 use Rattle.profile_count.specs.Requests.{profile_of_sizes}
 
@@ -9,10 +9,10 @@ use Rattle.profile_count.specs.Requests.{profile_of_sizes}
 abbrev pub WasteIsTheSumOfLosses : Type 0
 WasteIsTheSumOfLosses =
     (sizes classes : List ℕ)
-    → waste_of (profile_of_sizes sizes).counts classes ≡ sum_by (loss_of_size classes) (counted_of sizes)
+    → waste_of (profile_of_sizes sizes).counts classes ≡ rounding_loss classes (counted_of sizes)
 
 -- A table serves the profile exactly where each counted request has a class.
 abbrev pub ServesEachRequest : Type 0
 ServesEachRequest =
     (sizes classes : List ℕ)
-    → Serves (profile_of_sizes sizes).counts classes ↔ All (λ n. IsSome (class_for classes n)) (counted_of sizes)
+    → Serves (profile_of_sizes sizes).counts classes ↔ ServesSizes classes (counted_of sizes)

@@ -1,8 +1,8 @@
 -- The profile of requests, each given by its size in bytes.
-use Rattle.std.specs.Prelude.{◌≡◌, ℕ, ◌≤◌, ◌==◌, nat_lt, List, length, map, fold, count_by, slice_index}
+use Rattle.std.specs.Prelude.{◌≡◌, ℕ, ◌+◌, ◌≤◌, ◌==◌, nat_lt, List, length, map, fold, count_by, slice_index}
 use Rattle.std.specs.List.{range_with_len}
 use Rattle.class_table.specs.Sizes.{largest_counted}
-use Rattle.tuner_theory.specs.Waste.{Profile}
+use Rattle.tuner_theory.specs.Profiles.{Profile}
 use Rattle.profile_count.specs.Counts.{with_one_more}
 
 -- How many of the requests are of n bytes.
@@ -19,11 +19,11 @@ requests_below n sizes = map (requests_of sizes) (range_with_len 0 n)
 
 -- For each size up to 16,368 bytes the number of its requests, and the number of those above.
 abbrev pub profile_of_sizes : List ℕ → Profile
-profile_of_sizes sizes = record { counts = requests_below 16369 sizes; large = large_requests sizes }
+profile_of_sizes sizes = record { counts = requests_below (largest_counted + 1) sizes; large = large_requests sizes }
 
 -- What a profile of these requests has.
 pub record CountsRequests (p : Profile) (sizes : List ℕ) : Type 0 where
-  pub size_count : length p.counts ≡ 16369
+  pub size_count : length p.counts ≡ largest_counted + 1
   pub each : (n : ℕ) → n ≤ largest_counted → slice_index p.counts n ≡ requests_of sizes n
   pub large : p.large ≡ large_requests sizes
 

@@ -1,6 +1,7 @@
 ghost use Rattle.std.specs.Prelude.{◌≡◌, ◌↔◌, ◌<◌, ◌≤◌, ◌+◌, ◌^◌, ℕ, slice_index, None, IsErr, IsSome, IfOk, IfSome, IfNone, OnErr, OnOk};
 ghost use Rattle.class_table.specs.Tables.{class_for};
-ghost use Rattle.tuner_theory.specs.Waste.{IsCounted, IsProfile, Serves, waste_of};
+ghost use Rattle.tuner_theory.specs.Profiles.{IsCounted, IsProfile};
+ghost use Rattle.tuner_theory.specs.Waste.{Serves, waste_of};
 ghost use Rattle.profile_count.specs.Counts.{count_for, nothing_counted, unserved_of, with_count, with_large, with_one_more, zeros};
 
 use crate::fault::CountFull;
@@ -21,7 +22,7 @@ pub struct Profile {
 }
 
 impl Model for Profile {
-    ghost use Rattle.tuner_theory.specs.Waste.{IsProfile, Profile as Counted};
+    ghost use Rattle.tuner_theory.specs.Profiles.{IsProfile, Profile as Counted};
 
     ghost Value = { Counted };
 

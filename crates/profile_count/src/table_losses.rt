@@ -2,7 +2,8 @@
 ghost use Rattle.std.specs.Prelude.{◌≡◌, ◌<◌, ◌≤◌, ◌+◌, ◌-◌, ◌*◌, ◌^◌, ℕ, None, IsSome, length, slice_index};
 ghost use Rattle.class_table.specs.Tables.{class_for};
 ghost use Rattle.profile_count.specs.Counts.{unserved_of};
-ghost use Rattle.tuner_theory.specs.Waste.{AreCounts, sum_below, waste_of};
+ghost use Rattle.tuner_theory.specs.Profiles.{AreCounts};
+ghost use Rattle.tuner_theory.specs.Waste.{sum_below, waste_of};
 
 use class_table::{ClassTable, GRANULE_BYTES, LARGEST_CLASS, LARGEST_COUNTED, SMALLEST_CLASS};
 use tuner_theory::MOST_COUNTED;

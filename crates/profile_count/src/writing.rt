@@ -1,9 +1,9 @@
 ghost use Rattle.std.specs.Prelude.{◌≡◌, [], ◌∷◌, ◌++◌, OnOk, OnErr};
-ghost use Rattle.std.specs.Fmt.{decimal};
-ghost use Rattle.line_text.specs.Lines.{ended, line_of, text_of};
-ghost use Rattle.profile_count.specs.Appended.{GoesOn};
+ghost use Rattle.class_table.specs.NamedLines.{named_line};
+ghost use Rattle.line_text.specs.Lines.{ended, text_of};
+ghost use Rattle.line_text.specs.Prefixes.{IsPrefix};
 ghost use Rattle.profile_count.specs.ProfileText.{large_lines, profile_text, size_lines};
-ghost use Rattle.tuner_theory.specs.Waste.{IsProfile};
+ghost use Rattle.tuner_theory.specs.Profiles.{IsProfile};
 
 use crate::entry::LARGE;
 use crate::profile::Profile;
@@ -30,7 +30,7 @@ impl Profile {
 
 fn append_profile(text: &mut Vec<u8>, profile: &Profile) -> Result<(), AllocError>
     ensures written { OnOk result (text.new.items ≡ text.old.items ++ profile_text profile.now) }
-    ensures kept { GoesOn text.old.items text.new.items }
+    ensures kept { IsPrefix text.old.items text.new.items }
     ensures profile { IsProfile profile.now }
 {
     let large = profile.large();
@@ -42,7 +42,7 @@ fn append_profile(text: &mut Vec<u8>, profile: &Profile) -> Result<(), AllocErro
 fn append_sizes(text: &mut Vec<u8>, profile: &Profile) -> Result<(), AllocError>
     requires { IsProfile profile.now }
     ensures written { OnOk result (text.new.items ≡ text.old.items ++ text_of (size_lines 0 profile.now.counts)) }
-    ensures kept { GoesOn text.old.items text.new.items }
+    ensures kept { IsPrefix text.old.items text.new.items }
 {
     let mut buffer = Buffer::new();
     for size in 0..=LARGEST_COUNTED {
@@ -57,7 +57,7 @@ fn append_sizes(text: &mut Vec<u8>, profile: &Profile) -> Result<(), AllocError>
 // appends the line of the large requests, if there were any
 fn append_large(text: &mut Vec<u8>, count: u32) -> Result<(), AllocError>
     ensures written { OnOk result (text.new.items ≡ text.old.items ++ text_of (large_lines count)) }
-    ensures kept { GoesOn text.old.items text.new.items }
+    ensures kept { IsPrefix text.old.items text.new.items }
 {
     if count == 0 {
         return Ok(());
@@ -67,8 +67,8 @@ fn append_large(text: &mut Vec<u8>, count: u32) -> Result<(), AllocError>
 
 // appends the line of a word and a count
 fn append_line(text: &mut Vec<u8>, word: &[u8], count: u32) -> Result<(), AllocError>
-    ensures written { OnOk result (text.new.items ≡ text.old.items ++ ended (line_of (word.now ∷ decimal count ∷ []))) }
-    ensures kept { GoesOn text.old.items text.new.items }
+    ensures written { OnOk result (text.new.items ≡ text.old.items ++ ended (named_line word.now (count ∷ []))) }
+    ensures kept { IsPrefix text.old.items text.new.items }
 {
     let mut buffer = Buffer::new();
     text.extend_from_slice(word)?;

@@ -1,13 +1,13 @@
 -- What putting a slot after a queue, and taking one off its front, make of it.
-use Rattle.std.proofs.Common.{◌≡◌, ◌≢◌, ℕ, suc, ◌+◌, ◌-◌, ◌<◌, ◌≤◌, List, [], ◌∷◌, ◌++◌, length, get_or, drop, refl, sym, ap, ◌∙◌, subst, ⊎_elim, arith}
-use Rattle.std.specs.Prelude.{All, Contains}
-use Rattle.std.proofs.lemmas.List.Elements.{Contains-get_or}
+use Rattle.std.proofs.Common.{◌≡◌, ◌≢◌, ℕ, suc, ◌+◌, ◌-◌, ◌<◌, ◌≤◌, List, [], ◌∷◌, ◌++◌, length, drop, refl, sym, ap, ◌∙◌, subst, ⊎_elim, arith}
+use Rattle.std.specs.Prelude.{Contains}
+use Rattle.std.proofs.lemmas.List.Elements.{Contains-push_cases}
 use Rattle.std.proofs.lemmas.List.Sums.{sum_by-cons, sum_by_push}
 use Rattle.class_table.specs.Layout.{Partition, block_bytes, slot_count, slot_of}
 use Rattle.heap_theory.specs.QueueAndLists.{bytes_of}
 use Rattle.heap_theory.specs.Links.{IsLinked, last_link}
 use Rattle.heap_theory.specs.Region.{Region, next_in, with_slot_link}
-use Rattle.heap_theory.proofs.ListSearch.{Contains-cases, Contains-last_cases, Contains-tail}
+use Rattle.heap_theory.proofs.ListSearch.{Contains-cases, Contains-tail, AllPairs-first}
 use Rattle.heap_theory.proofs.Regions.{other_link, own_link}
 use Rattle.quarantine_core.specs.Queue.{Queue, AreQueued}
 use Rattle.quarantine_core.proofs.TheoryLemmas.{each_once, last_ends, links_stay, put_after, put_is_last}
@@ -29,13 +29,8 @@ pub last_within : (value : Queue) (layout : Partition) (region : Region) (queue 
     value.back ≢ 0 →
     value.back - 1 < slot_count layout
 last_within value layout region queue old some =
-    subst (λ last. last - 1 < slot_count layout) (sym old.back)
-    (last_in queue (λ k d at. old.slots (get_or queue k d) (Contains-get_or queue k d at)) (λ none. some (old.back ∙ none)))
-  where
-    last_in : (slots : List ℕ) → All (λ s. s < slot_count layout) slots → last_link slots ≢ 0 → last_link slots - 1 < slot_count layout
-    last_in [] within some = absurd (some refl)
-    last_in (s ∷ []) within some = let first : s < slot_count layout = within 0 s (omega arith) in omega arith
-    last_in (s ∷ r ∷ rest) within some = last_in (r ∷ rest) (λ k d at. within (suc k) d (omega arith)) some
+    old.slots (value.back - 1)
+    (last_ends (next_in region) value.front (value.back - 1) queue old.linked (omega (arith, old.back, some))).0
 
 pub put_first : (value new : Queue) (layout : Partition) (region : Region) (queue : List ℕ) (slot bytes : ℕ) →
     AreQueued value layout region queue → value.back ≡ 0 → slot < slot_count layout → next_in region slot ≡ 0 →
@@ -60,7 +55,7 @@ pub put_at_end : (value new : Queue) (layout : Partition) (region after : Region
     slot < slot_count layout → (Contains queue slot → ⊥) → next_in region slot ≡ 0 → bytes ≡ block_bytes (slot_of layout slot) →
     new.front ≡ value.front → new.back ≡ suc slot → new.held ≡ value.held + bytes → AreQueued new layout after (queue ++ slot ∷ [])
 put_at_end value new layout region after queue last slot next bytes old long some link to within outside ends is front back held = record {
-  slots = λ s there. ⊎_elim (λ same. subst (λ n. n < slot_count layout) same within) (old.slots s) (Contains-last_cases queue slot s there);
+  slots = λ s there. ⊎_elim (old.slots s) (λ same. subst (λ n. n < slot_count layout) same within) (Contains-push_cases queue slot s there);
   linked =
       subst (λ f. IsLinked (next_in after) f (queue ++ slot ∷ [])) (sym front)
       (put_after (next_in region) (next_in after) value.front last slot queue old.linked (sym old.back ∙ some)
@@ -112,8 +107,8 @@ take_oldest value new layout region after slot next queue old link is front none
     same : (r : ℕ) → Contains queue r → next_in after r ≡ next_in region r
     same r there =
         other_link region slot 0 link r
-        (λ is. each_once (next_in region) value.front (slot ∷ queue) old.linked 0 (suc there.0) r (omega arith)
-        (omega (arith, there.1)) (sym (there.2 ∙ is)))
+        (λ is. AllPairs-first (λ s r. s ≢ r) slot queue r (each_once (next_in region) value.front (slot ∷ queue) old.linked) there
+        (sym is))
 
     back : (queue : List ℕ) → IsLinked (next_in region) (next_in region slot) queue → value.back ≡ last_link (slot ∷ queue) →
         new.back ≡ last_link queue

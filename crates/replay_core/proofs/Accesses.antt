@@ -4,6 +4,7 @@ use Rattle.std.proofs.lemmas.Int.{to_z-of_z, fits_signed_from_abs}
 use Rattle.std.specs.Prelude.{List, length, replicate, Option, Some, None, Ok}
 use Rattle.machine_theory.specs.declared.fault.Fault.{Fault}
 use Rattle.machine_theory.specs.Access.{access_fault, ok_unless, stored}
+use Rattle.heap_theory.specs.Hardening.{IsNullOrTagged}
 use Rattle.heap_theory.specs.Replay.{store_with, store_step}
 use Rattle.std.proofs.Common.{◌≡◌, ◌≢◌, ◌⊎◌, ℕ, ◌≤◌, Bool, true, false, length, refl, sym, ◌∙◌, subst, inl, inr, arith}
 use Rattle.std.specs.Prelude.{ℤ, nat_abs, IsFalse}
@@ -18,7 +19,7 @@ pub near_offset : (off : ℤ) → nat_abs off ≤ 1048576 → cast_signed w32 (c
 near_offset off near = to_z-of_z w32 off (fits_signed_from_abs w32 off (omega arith))
 
 module _ (heap : Heap) (sound : IsSoundHeap heap) (a : ℕ) (off : ℤ) (len : ℕ) (near : nat_abs off ≤ 1048576) (some : 1 ≤ len) where
-  mapped_is_tagged : IsMapped (length heap.memory) (moved_by a off) len → (a ≡ 0) ⊎ (logical_tag a ≢ 0) → logical_tag (moved_by a off) ≢ 0
+  mapped_is_tagged : IsMapped (length heap.memory) (moved_by a off) len → IsNullOrTagged a → logical_tag (moved_by a off) ≢ 0
   mapped_is_tagged mapped (inl null) same =
       let at_null = subst (λ z. IsMapped (length heap.memory) (moved_by z off) len) null mapped in
       laws.moved_null off 0 (omega arith) (omega arith) (omega (arith, at_null.from))
@@ -27,7 +28,7 @@ module _ (heap : Heap) (sound : IsSoundHeap heap) (a : ℕ) (off : ℤ) (len : �
       tagged (sym (laws.moved_tag a off 0 (omega arith) (omega arith) (omega (arith, mapped.from))
       (omega (arith, mapped.to, sound.long, sound.partition.most))) ∙ same)
 
-  pub tagged_or_not_mapped : (a ≡ 0) ⊎ (logical_tag a ≢ 0) →
+  pub tagged_or_not_mapped : IsNullOrTagged a →
       (logical_tag (moved_by a off) ≢ 0) ⊎ IsFalse (is_mapped (length heap.memory) (moved_by a off) len)
   tagged_or_not_mapped null_or_tagged = by_test (is_mapped (length heap.memory) (moved_by a off) len) refl
     where

@@ -10,7 +10,7 @@ use Rattle.heap_theory.specs.Totals.{Totals, totals_after}
 use Rattle.replay_core.proofs.TheoryLemmas as laws
 use Rattle.replay_core.specs.TheoryValues.{over}
 use Rattle.replay_core.specs.ReplayState.{Stored, IsStored, stored_after, stored_of}
-use Rattle.replay_core.proofs.StoredMore.{stored_of-push}
+use Rattle.replay_core.proofs.StoredMore.{stored_of_one_more}
 
 replay_is : (stored : Stored) (i : IsStored stored) → stored.replay ≡ replay_of (first_replay i.layout i.seed i.quarantine) i.events
 unfolding stored_of
@@ -34,7 +34,7 @@ IsStored-after stored e i = record {
   quarantine = i.quarantine;
   events = i.events ++ e ∷ [];
   partition = i.partition;
-  stored_is = ap (λ s. stored_after s e) i.stored_is ∙ sym (stored_of-push i.layout i.seed i.quarantine i.events e);
+  stored_is = ap (λ s. stored_after s e) i.stored_is ∙ sym (stored_of_one_more i.layout i.seed i.quarantine i.events e);
 }
 
 -- the parts of what is stored, each after the event

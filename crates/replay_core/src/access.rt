@@ -1,7 +1,6 @@
 //! Loads and stores through a variable.
-ghost use Rattle.heap_theory.specs.Replay.{access_answer, fault_answer, store_step};
-ghost use Rattle.heap_theory.specs.Replay.Answer.{Loaded, Silent};
-ghost use Rattle.machine_theory.specs.Access.{access_fault, is_mapped, loaded};
+ghost use Rattle.heap_theory.specs.Replay.{fault_answer, load_answer, store_answer, store_step};
+ghost use Rattle.machine_theory.specs.Access.{is_mapped};
 ghost use Rattle.machine_theory.specs.Address.{logical_tag, moved_by};
 ghost use Rattle.replay_core.specs.TheoryValues.{FitsBuffer, shown};
 ghost use Rattle.std.specs.Prelude.{◌≡◌, ◌≢◌, ◌⊎◌, ◌≤◌, IsFalse, List, length, replicate, ℕ};
@@ -25,9 +24,7 @@ pub(crate) fn moved_by(address: u64, off: i32) -> u64
 pub(crate) fn load(heap: &Heap, address: u64, len: u8, bytes: &mut [u8; LONGEST_ACCESS]) -> Answer
     requires len { (1 ≤ len) × (len ≤ LONGEST_ACCESS) }
     requires tagged { (logical_tag address ≢ 0) ⊎ IsFalse (is_mapped (length heap.now.state.memory) address len) }
-    ensures answer { shown bytes.new result
-        ≡ access_answer heap.now.state (Loaded (loaded heap.now.state.memory address len))
-        (access_fault heap.now.state.memory address len) }
+    ensures answer { shown bytes.new result ≡ load_answer heap.now.state address len }
     ensures filled { FitsBuffer result }
 {
     match heap.load(address, &mut bytes[..usize::from(len)]) {
@@ -41,8 +38,7 @@ pub(crate) fn load(heap: &Heap, address: u64, len: u8, bytes: &mut [u8; LONGEST_
 pub(crate) fn store(heap: &mut Heap, address: u64, len: u8, byte: u8) -> Answer
     requires len { (1 ≤ len) × (len ≤ LONGEST_ACCESS) }
     requires tagged { (logical_tag address ≢ 0) ⊎ IsFalse (is_mapped (length heap.old.state.memory) address len) }
-    ensures answer { (bytes : List ℕ)
-        → shown bytes result ≡ access_answer heap.old.state Silent (access_fault heap.old.state.memory address len) }
+    ensures answer { (bytes : List ℕ) → shown bytes result ≡ store_answer heap.old.state address len }
     ensures filled { FitsBuffer result }
     ensures state { heap.new.state ≡ store_step heap.old.state address (replicate len byte) }
     ensures frees { heap.new.frees ≡ heap.old.frees }

@@ -3,8 +3,8 @@ ghost use Rattle.heap_theory.specs.Ranges.{IsInRange};
 ghost use Rattle.heap_theory.specs.Report.{report_line};
 ghost use Rattle.heap_theory.specs.Replay.{answer_of};
 ghost use Rattle.replay_core.specs.ReplayState.{first_stored, stored_after};
-ghost use Rattle.tagged_heap.specs.Config.{IsConfig};
-ghost use Rattle.std.specs.Prelude.{◌≡◌, ◌+◌, ◌^◌, ◌<◌, ◌≤◌, IfOk};
+ghost use Rattle.tagged_heap.specs.Config.{IsConfig, layout_for};
+ghost use Rattle.std.specs.Prelude.{◌≡◌, ◌+◌, ◌^◌, ◌<◌, IfOk};
 
 use crate::access::LONGEST_ACCESS;
 use crate::perform::perform;
@@ -51,8 +51,7 @@ impl Replay {
     pub fn new(alloc: Global, table: &ClassTable, config: Config) -> Result<Replay, AllocError>
         requires { IsConfig config }
         ensures { IfOk result (λ replay.
-            replay
-            ≡ first_stored (record { classes = table.now; granules = config.granules }) config.seed config.quarantine) }
+            replay ≡ first_stored (layout_for config table.now) config.seed config.quarantine) }
     {
         // the proof needs that the table is legal, as the contract of `len` says
         prove!(table.len() <= MOST_CLASSES);

@@ -1,4 +1,4 @@
-//! Random tags, and the choice of a tag.
+//! Random offsets, and the choice of a tag by an offset.
 ghost use Rattle.machine_theory.specs.Seed.{next_offset, next_seed};
 ghost use Rattle.machine_theory.specs.Tags.{allowed_after, choose_tag, is_excluded};
 ghost use Rattle.std.specs.Prelude.{◌≡◌, ◌+◌, ◌%◌, ◌<◌, map};
@@ -6,7 +6,7 @@ ghost use Rattle.tag_machine.specs.SetBits.{set_bits};
 
 use crate::set_bits::nth_set_bit;
 
-/// The random tag that a draw takes from the seed: four new bits, the first one lowest.
+/// The offset that a draw takes from the seed: four new bits, the first one lowest.
 #[tactic(auto, using(crate::proofs::DrawnTags::new_bits))]
 pub(crate) fn next_offset(seed: u16) -> u8
     ensures offset { result ≡ next_offset seed }
@@ -39,7 +39,8 @@ fn allowed_above(tag: u8, exclude: u16) -> u16
     (!exclude).rotate_right(u32::from(tag) + 1)
 }
 
-/// The tag that is `offset` allowed tags after `tag`. For offset 0 it is `tag` itself, or the next allowed tag; 0 if all are excluded.
+/// The tag that is `offset` allowed tags after `tag`. For offset 0 it is `tag` itself, or the next allowed tag if `tag` is excluded. If all
+/// tags are excluded, it is 0.
 pub(crate) fn choose_tag(tag: u8, offset: u8, exclude: u16) -> u8
     requires { tag < 16 }
     ensures chosen { result ≡ choose_tag tag offset exclude }

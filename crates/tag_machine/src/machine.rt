@@ -11,7 +11,7 @@ use granule_memory::Memory;
 use machine_theory::{FARTHEST_MOVE, Fault, GRANULE_BYTES, LARGEST_TAG_STEP, LONGEST_ACCESS};
 use std::marker::Model;
 
-/// The tags that no instruction chooses, as `GCR_EL1.Exclude`: bit 0, for tag 0.
+/// The tags that every instruction excludes, as `GCR_EL1.Exclude`: bit 0, for tag 0.
 const EXCLUDE: u16 = 1;
 
 /// The machine: a memory with tags, and the register `RGSR_EL1` with its fields SEED and TAG.
@@ -27,14 +27,13 @@ pub struct Machine {
 }
 
 impl Model for Machine {
-    ghost use Rattle.machine_theory.specs.Machine.{Machine as State};
-    ghost use Rattle.std.specs.Prelude.{◌<◌, ◌^◌};
+    ghost use Rattle.machine_theory.specs.Machine.{IsRegister, Machine as State};
 
     ghost Value = { State };
 
     ghost view = { λ m. record { memory = m.memory; seed = m.seed; tag = m.tag } };
 
-    ghost invariant = { λ m. (0 < m.seed) × (m.seed < 2 ^ 16) × (m.tag < 16) };
+    ghost invariant = { λ m. IsRegister (record { memory = m.memory; seed = m.seed; tag = m.tag }) };
 }
 
 impl Machine {
@@ -95,7 +94,8 @@ impl Machine {
         xm | 1 << logical_tag(xn)
     }
 
-    /// LDG: Xt with the tag of the granule that holds Xn. `Unmapped` if that granule lies outside the region. It checks no tag.
+    /// LDG: Xt with the tag of the granule that holds Xn. It checks no tag.
+    /// `Unmapped` if that granule lies outside the region, or bits 63 to 60 of Xn are not 0.
     #[tactic(auto, unfolding(machine_theory::specs::Instructions::ldg))]
     pub fn ldg(&self, xt: u64, xn: u64) -> Result<u64, Fault>
         ensures { result ≡ ldg self.now.memory xt xn }
@@ -107,7 +107,8 @@ impl Machine {
     }
 
     /// STG: gives the granule at Xn the tag of Xt. It checks no tag.
-    /// `Alignment` if Xn is no multiple of 16; otherwise `Unmapped` if the granule lies outside the region.
+    /// `Alignment` if Xn is no multiple of 16; otherwise `Unmapped` if the granule lies outside the region, or bits 63 to 60 of Xn are
+    /// not 0.
     pub fn stg(&mut self, xt: u64, xn: u64) -> Result<(), Fault>
         ensures answer { result ≡ ok_unless (tag_store_fault self.old.memory 1 xn) }
         ensures ok { OnOk result (self.new ≡ record self.old { memory = stg self.old.memory xt xn }) }

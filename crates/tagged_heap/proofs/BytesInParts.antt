@@ -1,49 +1,14 @@
 -- Bytes that are written and read in parts.
-use Rattle.std.proofs.Common.{◌≡◌, ℕ, zero, suc, ◌+◌, ◌*◌, ◌<◌, ◌≤◌, ◌⊎◌, false, List, [], ◌∷◌, ◌++◌, length, get_or, map, take, drop, replicate, refl, sym, ap, ◌∙◌, subst, inl, inr, arith, min, length-append, length-drop, length-take}
+use Rattle.std.proofs.Common.{◌≡◌, ℕ, zero, suc, ◌+◌, ◌*◌, ◌≤◌, ◌⊎◌, List, [], ◌∷◌, ◌++◌, length, map, take, drop, replicate, refl, sym, ap, ◌∙◌, subst, inl, inr, arith, min, length-append, length-drop, length-take}
 use Rattle.std.proofs.Math.Seq.{take-append_seam}
 use Rattle.std.specs.List.{range_with_len}
-use Rattle.std.specs.Prelude.{slice_index, nat_le, nat_lt}
-use Rattle.std.proofs.lemmas.Bool.{cases_Bool, and_parts, leb-true, ltb-true, cond-false}
 use Rattle.std.proofs.lemmas.List.{map-append, replicate-append-replicate}
-use Rattle.std.proofs.lemmas.List.FromFn.{fill_by_all}
-use Rattle.machine_theory.specs.Memory.{Granule, no_granule, granule_at, each_granule, is_among, byte_after, bytes_after, byte_at, bytes_at, written}
+use Rattle.machine_theory.specs.Memory.{Granule, byte_at, bytes_at, written}
 use Rattle.machine_theory.proofs.ByteLaws.{length-bytes_at}
-
-none_among : (i j : ℕ) → is_among i 0 j ≡ false
-none_among i j = elim (cases_Bool (is_among i 0 j)) [
-  | inl is ↦
-      let parts = and_parts (nat_le i j) (nat_lt j (i + 0)) is in
-      absurd (omega (arith, leb-true i j parts.0, ltb-true j (i + 0) parts.1))
-  | inr not ↦ not
-]
-
-pub written-none : (i : ℕ) (memory : List Granule) → written i [] memory ≡ memory
-unfolding written each_granule
-written-none i memory = sym (fill_by_all change memory (length memory) no_granule refl same)
-  where
-    change : ℕ → Granule
-    change g = record (granule_at memory g) { bytes = bytes_after i [] g (granule_at memory g).bytes }
-
-    bytes_same : (g : ℕ) (bytes : List ℕ) → bytes ≡ bytes_after i [] g bytes
-    bytes_same g bytes =
-        fill_by_all (λ k. byte_after i [] (16 * g + k) (slice_index bytes k)) bytes (length bytes) 0 refl
-        (λ k within. sym (cond-false (is_among i 0 (16 * g + k)) _ _ (none_among i (16 * g + k))))
-
-    same : (g : ℕ) → g < length memory → get_or memory g no_granule ≡ change g
-    same g within = λ j. record { tag = (granule_at memory g).tag; bytes = bytes_same g (granule_at memory g).bytes j }
 
 pub bytes_at-none : (memory : List Granule) (i : ℕ) → bytes_at memory i 0 ≡ []
 unfolding bytes_at
 bytes_at-none memory i = refl
-
--- functions that agree on a range make the same list of it
-pub map_same : {X : Type 0} (f g : ℕ → X) (a n : ℕ) → ((j : ℕ) → a ≤ j → j < a + n → f j ≡ g j) →
-    map f (range_with_len a n) ≡ map g (range_with_len a n)
-map_same f g a zero same = refl
-map_same f g a (suc n) same =
-    let first = same a (omega arith) (omega arith) in
-    let rest = map_same f g (a + 1) n (λ j from to. same j (omega arith) (omega arith)) in
-    λ i. first i ∷ rest i
 
 range-append : (i a b : ℕ) → range_with_len i (a + b) ≡ range_with_len i a ++ range_with_len (i + a) b
 range-append i zero b =

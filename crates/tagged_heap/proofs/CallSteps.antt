@@ -1,11 +1,11 @@
 -- What a call makes of a heap, by what is chosen for it.
 use Rattle.std.proofs.Common.{◌≡◌, ℕ, ◌<◌, List, refl, ap, ◌∙◌, inl, inr, Ok, Err, ◌≢◌, ◌+◌, ◌⊎◌, true, false, sym, subst, arith, Result}
 use Rattle.heap_theory.specs.Calls.{given_out, with_payload, move_with, moved, payload_bytes, next_tag, free_step, realloc_step}
-use Rattle.heap_theory.specs.Lookups.{slot_for_request, Chunk, IsReusable, is_released}
+use Rattle.heap_theory.specs.Lookups.{slot_for_request, Chunk, IsReusable}
 use Rattle.class_table.specs.Sizes.{chunk_granules}
-use Rattle.heap_theory.specs.State.{Heap, slot_in, state_at, is_fresh, pointer_to}
-use Rattle.std.specs.Prelude.{MatchResult, IfOk, IfErr, OnErr, IsTrue, ◌↔◌}
-use Rattle.std.specs.Result.{result_map_both, IsErrAnd}
+use Rattle.heap_theory.specs.State.{Heap, slot_in, state_at, is_fresh, pointer_to, is_released}
+use Rattle.std.specs.Prelude.{MatchResult, IfOk, IfErr, OnErr, IsTrue, is_some, ◌↔◌}
+use Rattle.std.specs.Result.{result_map_both, result_ok, IsErrAnd}
 use Rattle.std.proofs.lemmas.List.{get_or-set_other}
 use Rattle.heap_theory.specs.declared.refusal.NullCause.{NullCause}
 use Rattle.heap_theory.specs.declared.refusal.ReallocError.TheVariants.{Null}
@@ -14,12 +14,12 @@ use Rattle.machine_theory.specs.Memory.{Granule, bytes_at, tagged}
 use Rattle.tagged_heap.specs.HeapAtRest.{HeapAndFrees}
 use Rattle.tagged_heap.specs.Chunks.{IsChunk}
 use Rattle.tagged_heap.specs.declared.freeing.Chunk.{Chunk as Found}
-use Rattle.tagged_heap.specs.Frees.{frees_for_slot}
 use Rattle.heap_theory.specs.declared.refusal.FreeError.{FreeError}
 use Rattle.heap_theory.specs.declared.refusal.ReallocError.{ReallocError}
 use Rattle.heap_theory.proofs.OwnPointers.{free_accepts, realloc_accepts}
 use Rattle.heap_theory.specs.OwnPointers.{IsNotRefused, IsNullOrOwn}
 use Rattle.heap_theory.specs.Sound.{IsSoundHeap}
+use Rattle.heap_theory.specs.Totals.{one_if}
 
 -- ---- what a slot that is given out leaves
 
@@ -61,7 +61,7 @@ IsMoved old chunk n new p =
 pub record IsMove (old new : HeapAndFrees) (chunk : Chunk) (n : ℕ) (r : Result ℕ NullCause) : Type 0 where
   pub answer : result_map_both (λ p. p) Null r ≡ (move_with old.state chunk n (slot_for_request old.state n)).answer
   pub state : new.state ≡ (move_with old.state chunk n (slot_for_request old.state n)).heap
-  pub counted : new.frees ≡ old.frees + frees_for_slot (slot_for_request old.state n)
+  pub counted : new.frees ≡ old.frees + one_if (is_some (result_ok (slot_for_request old.state n)))
 
 pub moves : (old new : HeapAndFrees) (chunk : Chunk) (n : ℕ) (r : Result ℕ NullCause) → IfOk r (IsMoved old chunk n new) →
     IfErr r (λ cause. slot_for_request old.state n ≡ Err cause) → OnErr r (new ≡ old) → IsMove old new chunk n r

@@ -6,14 +6,14 @@ use Rattle.std.proofs.lemmas.List.{get_or-set_same, get_or-set_other, length-set
 use Rattle.machine_theory.specs.Memory.{Granule, IsMemory}
 use Rattle.heap_theory.specs.QueueAndLists.{HasMark, AgreeWithMarks}
 use Rattle.heap_theory.specs.Calls.{chunk_tagged}
-use Rattle.heap_theory.specs.Lookups.{is_dead}
 use Rattle.heap_theory.specs.Header.{Standing, Header, FitsWords, with_header}
 use Rattle.heap_theory.specs.Links.{IsLinked, list_of}
 use Rattle.heap_theory.specs.Region.{Region, region_of, header_in, next_in}
 use Rattle.heap_theory.specs.Sound.{IsSoundHeap}
 use Rattle.class_table.specs.Sizes.{chunk_granules}
-use Rattle.heap_theory.specs.State.{State, Heap, slot_in, state_at, is_fresh, payload_start, without_headers, IsSlot}
-use Rattle.heap_theory.specs.State.State.{Fresh, Live}
+use Rattle.heap_theory.specs.State.{State, Heap, slot_in, state_at, is_fresh, payload_start, without_headers, IsSlot, is_dead}
+use Rattle.heap_theory.specs.State.State.{Live}
+use Rattle.heap_theory.proofs.ChangedSlot.{changed, state_here, state_there}
 use Rattle.heap_theory.proofs.Marks.{chain_dead, list_dead, not_marked}
 use Rattle.heap_theory.proofs.Releasing.{list_of-here, list_of-there}
 use Rattle.heap_theory.proofs.SeenMemory.{length-without_headers}
@@ -60,17 +60,7 @@ with_link header next = record header { next = next }
 abbrev pub with_standing : Header → Standing → Header
 with_standing header standing = record header { standing = standing }
 
-abbrev pub changed : Heap → ℕ → State → List Granule → ℕ → ℕ → ℕ → Heap
-changed h s state memory total seed tag =
-    record h { states = slice_set h.states s state; memory = memory; total = total; seed = seed; tag = tag }
-
 module _ (h : Heap) (s : ℕ) (state : State) (memory : List Granule) (total seed tag : ℕ) (within : s < length h.states) where
-  pub state_here : state_at (changed h s state memory total seed tag) s ≡ state
-  state_here = get_or-set_same h.states s state Fresh within
-
-  pub state_there : (r : ℕ) → r ≢ s → state_at (changed h s state memory total seed tag) r ≡ state_at h r
-  state_there r other = get_or-set_other h.states s r state Fresh other
-
   -- the slot's header is that of its new state, and in other headers at most the links change
   pub headers_changed : {m new : Region} {from : ℕ} → HasHeaders h m from →
       header_in new s ≡ header_from h.layout from s state (next_in new s) →
@@ -83,17 +73,19 @@ module _ (h : Heap) (s : ℕ) (state : State) (memory : List Granule) (total see
       | inl is ↦
           subst (λ q. header_in new q ≡ header_from h.layout from q (state_at (changed h s state memory total seed tag) q)
           (next_in new q)) (sym is)
-          (own ∙ ap (λ x. header_from h.layout from s x (next_in new s)) (sym state_here))
+          (own ∙ ap (λ x. header_from h.layout from s x (next_in new s)) (sym (state_here h s state memory total seed tag within)))
       | inr other ↦
           others r in_range other ∙ ap (λ x. with_link x (next_in new r)) (before.headers r in_range)
-          ∙ ap (λ x. header_from h.layout from r x (next_in new r)) (sym (state_there r other))
+          ∙ ap (λ x. header_from h.layout from r x (next_in new r)) (sym (state_there h s state memory total seed tag within r other))
     ];
     unlinked = λ r in_range alive. elim (cases_eq r s) [
       | inl is ↦
           ap (next_in new) is
-          ∙ link (sym (ap is_dead state_here) ∙ ap (λ q. is_dead (state_at (changed h s state memory total seed tag) q)) (sym is) ∙ alive)
+          ∙ link (sym (ap is_dead (state_here h s state memory total seed tag within))
+          ∙ ap (λ q. is_dead (state_at (changed h s state memory total seed tag) q)) (sym is) ∙ alive)
       | inr other ↦
-          let alive' : is_dead (state_at h r) ≡ false = ap is_dead (sym (state_there r other)) ∙ alive in
+          let alive' : is_dead (state_at h r) ≡ false =
+          ap is_dead (sym (state_there h s state memory total seed tag within r other)) ∙ alive in
           links r in_range other alive' ∙ before.unlinked r in_range alive'
     ];
   }
@@ -112,9 +104,10 @@ module _ (h : Heap) (s : ℕ) (state : State) (memory : List Granule) (total see
       fresh_same : (r : ℕ) → is_fresh (state_at (changed h s state memory total seed tag) r) ≡ is_fresh (state_at h r)
       fresh_same r = elim (cases_eq r s) [
         | inl is ↦
-            ap (λ q. is_fresh (state_at (changed h s state memory total seed tag) q)) is ∙ ap is_fresh state_here ∙ same
+            ap (λ q. is_fresh (state_at (changed h s state memory total seed tag) q)) is
+            ∙ ap is_fresh (state_here h s state memory total seed tag within) ∙ same
             ∙ ap (λ q. is_fresh (state_at h q)) (sym is)
-        | inr other ↦ ap is_fresh (state_there r other)
+        | inr other ↦ ap is_fresh (state_there h s state memory total seed tag within r other)
       ]
 
 -- ---- a slot is live with n bytes under a tag: it is given out, or resized

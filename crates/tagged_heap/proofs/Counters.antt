@@ -11,7 +11,7 @@ use Rattle.heap_theory.specs.State.{State, Heap, slot_in, state_at, is_fresh, Is
 use Rattle.tagged_heap.proofs.TheoryLemmas as laws
 use Rattle.tagged_heap.specs.Representation.{AreFirstFresh}
 use Rattle.heap_theory.proofs.Marks.{one_number}
-use Rattle.tagged_heap.proofs.Changed.{changed, state_here, state_there}
+use Rattle.heap_theory.proofs.ChangedSlot.{changed, state_here, state_there}
 use Rattle.tagged_heap.proofs.Shares.{in_share, share_of_slot}
 
 module _ (h : Heap) (sound : IsSoundHeap h) (counters : List ℕ) (f : AreFirstFresh h counters) (number : ℕ)

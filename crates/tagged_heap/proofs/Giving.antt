@@ -1,5 +1,5 @@
 -- A slot is taken for a request and given out.
-use Rattle.std.proofs.Common.{◌≡◌, ℕ, suc, ◌+◌, ◌^◌, ◌<◌, ◌≤◌, true, false, List, [], ◌∷◌, length, refl, sym, ap, ◌∙◌, subst, inl, inr, arith, Some, None, Option, Ok, Err}
+use Rattle.std.proofs.Common.{◌≡◌, ℕ, suc, ◌+◌, ◌^◌, ◌<◌, ◌≤◌, true, false, List, length, drop, refl, sym, ap, ◌∙◌, subst, inl, inr, arith, Some, None, Option, Ok, Err}
 use Rattle.std.specs.Prelude.{Contains, slice_get, slice_index, slice_set, bit_or, nat_lt}
 use Rattle.std.specs.Option.{ok_or, option_and_then}
 use Rattle.std.proofs.lemmas.Bool.{cond-true, cond-false, lt-ltb, le-ltb}
@@ -16,12 +16,13 @@ use Rattle.heap_theory.specs.declared.refusal.NullCause.{NullCause}
 use Rattle.heap_theory.specs.declared.refusal.NullCause.TheVariants.{Large, NoClass, Exhausted}
 use Rattle.heap_theory.specs.QueueAndLists.{HasMark, AgreeWithMarks}
 use Rattle.heap_theory.specs.Calls.{given_out, next_tag, parity_exclude, chunk_tagged}
-use Rattle.heap_theory.specs.Lookups.{IsGiven, slot_for, slot_for_request, slot_in_class, lowest_fresh}
+use Rattle.heap_theory.specs.Lookups.{MayBeGiven, slot_for, slot_for_request, slot_in_class, lowest_fresh}
 use Rattle.heap_theory.specs.Header.{Header, with_header}
 use Rattle.heap_theory.specs.Links.{IsLinked, list_of}
 use Rattle.heap_theory.specs.Region.{region_of, header_in, next_in}
 use Rattle.heap_theory.specs.State.{State, Heap, slot_in, state_at, last_tag, is_fresh, payload_place, pointer_to, IsSlot}
 use Rattle.heap_theory.specs.State.State.{Fresh, Live, Dead}
+use Rattle.heap_theory.proofs.Linked.{IsLinked-first, IsLinked-none}
 use Rattle.heap_theory.proofs.ListSearch.{Contains-head}
 use Rattle.heap_theory.proofs.SeenMemory.{length-without_headers}
 use Rattle.chunk_header.specs.Links.{SetsLink}
@@ -31,7 +32,8 @@ use Rattle.tagged_heap.specs.Chunks.{given_header, tag_for, HasRoom}
 use Rattle.tagged_heap.specs.ClassSlots.{IsCauseFor, HasClass, Takes}
 use Rattle.tagged_heap.specs.Representation.{header_from, IsRewritten, AreListed, AreFirstFresh, Parts, IsKept}
 use Rattle.tagged_heap.specs.HeapAtRest.{shown_heap, IsAtRest}
-use Rattle.tagged_heap.proofs.Changed.{with_link, other_list, state_here, counters_changed, kept_alive, alive_memory}
+use Rattle.heap_theory.proofs.ChangedSlot.{state_here}
+use Rattle.tagged_heap.proofs.Changed.{with_link, other_list, counters_changed, kept_alive, alive_memory}
 use Rattle.tagged_heap.proofs.Counters.{counters_step, counted, lowest_counted, lowest_none}
 use Rattle.tagged_heap.proofs.RewrittenHeaders.{link_set}
 use Rattle.tagged_heap.proofs.Shares.{share_of_slot}
@@ -61,17 +63,6 @@ request_served h n number class found few numbered listed given =
 
 -- ---- which slot
 
-first_of : (next : ℕ → ℕ) (front s : ℕ) (list : List ℕ) → IsLinked next front list → front ≡ suc s →
-    (rest : List ℕ) × (list ≡ s ∷ rest) × IsLinked next (next s) rest
-first_of next front s [] linked is = absurd (omega (arith, is, linked))
-first_of next front s (r ∷ rest) linked is =
-    let same : r ≡ s = omega (arith, is, linked.0) in
-    (rest, ap (λ x. x ∷ rest) same, subst (λ x. IsLinked next (next x) rest) same linked.1)
-
-none_of : (next : ℕ → ℕ) (front : ℕ) (list : List ℕ) → IsLinked next front list → front ≡ 0 → list ≡ []
-none_of next front [] linked is = refl
-none_of next front (r ∷ rest) linked is = absurd (omega (arith, is, linked.0))
-
 freed_not_fresh : (x : State) (mark : ℕ) → HasMark x mark → false ≡ is_fresh x
 freed_not_fresh Fresh mark marked = absurd marked
 freed_not_fresh (Live n t) mark marked = absurd marked
@@ -80,7 +71,7 @@ freed_not_fresh (Dead n t m) mark marked = refl
 -- A slot that was taken for a request of n bytes, and is to be given out.
 pub record IsTaken (h : Heap) (p : Parts) (k : IsKept h p) (m1 : List Granule) (fronts counters : List ℕ) (s n : ℕ) : Type 0 where
   pub request : slot_for_request h n ≡ Ok s
-  pub given : IsGiven h n s
+  pub given : MayBeGiven h n s
   pub before : IsRewritten h.layout p.memory m1 s (header_from h.layout k.from s (state_at h s) 0) h.memory
   pub memory_is : IsMemory m1
   pub lists : List (List ℕ)
@@ -118,22 +109,24 @@ module _ {h : Heap} {frees : ℕ} {p : Parts} {counters : List ℕ} (held : IsAt
   taken s (inl t) is =
       let k = held.kept in
       let plus : s + 1 ≡ suc s = omega arith in
+      let rest = drop 1 (list_of k.lists number) in
       let first =
-      first_of (next_in (region_of h.layout p.memory)) (slice_index p.fronts number) s (list_of k.lists number) linked (t.front ∙ plus) in
+      IsLinked-first (next_in (region_of h.layout p.memory)) (slice_index p.fronts number) s (list_of k.lists number) linked
+      (t.taken.was ∙ plus) in
       let request : slot_for_request h n ≡ Ok s =
       request_served h n number _ (Some s) few numbered listed
-      (laws.front_given h k.queue k.lists number _ s first.0 k.sound agree listed first.1) in
+      (laws.front_given h k.queue k.lists number _ s rest k.sound agree listed first.0) in
       let freed =
-      list_slot k number s (within_lists k number within) (subst (λ list. Contains list s) (sym first.1) (Contains-head s first.0)) in
+      list_slot k number s (within_lists k number within) (subst (λ list. Contains list s) (sym first.0) (Contains-head s rest)) in
       record {
         request = request;
         given = laws.request h n s k.sound request;
-        before = link_cleared s freed.in_range t.link;
+        before = link_cleared s freed.in_range t.taken.link;
         memory_is = is;
-        lists = slice_set k.lists number first.0;
-        listed = subst (λ x. AreListed (next_in (region_of h.layout p.memory)) x (slice_set k.lists number first.0)) (sym t.fronts_are)
-            (other_list k.listed number (next_in (region_of h.layout p.memory) s) first.0 (within_lists k number within) first.2);
-        agree = laws.front_taken h k.queue k.lists number _ s n first.0 k.sound agree listed first.1;
+        lists = slice_set k.lists number rest;
+        listed = subst (λ x. AreListed (next_in (region_of h.layout p.memory)) x (slice_set k.lists number rest)) (sym t.taken.front)
+            (other_list k.listed number (next_in (region_of h.layout p.memory) s) rest (within_lists k number within) first.1);
+        agree = laws.front_taken h k.queue k.lists number _ s n rest k.sound agree listed first.0;
         fresh = subst (AreFirstFresh (given_out h s n)) (sym t.counters_are)
             (counters_changed h s (Live n (next_tag h s)) _ _ _ _ (within_states k s freed.in_range)
             (freed_not_fresh (state_at h s) freed.mark freed.marked) held.fresh);
@@ -145,7 +138,8 @@ module _ {h : Heap} {frees : ℕ} {p : Parts} {counters : List ℕ} (held : IsAt
       subst (λ x. IsSlot h x × ((slot_in h x).class ≡ slice_index h.layout.classes number) × (is_fresh (state_at h x) ≡ true))
       (sym t.counter)
       (counted h k.sound counters held.fresh number within below) in
-      let none = none_of (next_in (region_of h.layout p.memory)) (slice_index p.fronts number) (list_of k.lists number) linked t.empty in
+      let none =
+      IsLinked-none (next_in (region_of h.layout p.memory)) (slice_index p.fronts number) (list_of k.lists number) linked t.empty in
       let lowest : lowest_fresh h (slice_index h.layout.classes number) ≡ Some s =
       lowest_counted h k.sound counters held.fresh number within below ∙ ap Some (sym t.counter) in
       let request : slot_for_request h n ≡ Ok s =
@@ -187,7 +181,8 @@ module _ {h : Heap} {frees : ℕ} {p : Parts} {counters : List ℕ} (held : IsAt
       slot_for_request h n ≡ Err Exhausted
   exhausted t =
       let k = held.kept in
-      let none = none_of (next_in (region_of h.layout p.memory)) (slice_index p.fronts number) (list_of k.lists number) linked t.empty in
+      let none =
+      IsLinked-none (next_in (region_of h.layout p.memory)) (slice_index p.fronts number) (list_of k.lists number) linked t.empty in
       request_served h n number _ None few numbered listed
       (laws.fresh_given h k.queue k.lists number _ k.sound agree listed none
       ∙ lowest_none h k.sound counters held.fresh number within (omega (arith, t.counter)))

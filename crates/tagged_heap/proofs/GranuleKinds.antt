@@ -10,12 +10,13 @@ use Rattle.heap_theory.specs.Header.{Header as TheHeader, Standing, size_of}
 use Rattle.heap_theory.specs.Header.Standing.{Fresh as IsFresh, Live as IsLive, Quarantined as IsQuarantined, Freed as IsFreed}
 use Rattle.heap_theory.specs.GranuleKinds.{place_kind, kind_at, kind_of_chunk}
 use Rattle.class_table.specs.Sizes.{chunk_granules}
-use Rattle.heap_theory.specs.State.{State, Heap, slot_in, state_at, chunk_of, payload_start, IsSlot}
+use Rattle.heap_theory.specs.State.{State, Heap, slot_in, state_at, chunk_granules_of, payload_start, IsSlot}
+use Rattle.heap_theory.proofs.HeaderWords.{size_of-most}
 use Rattle.heap_theory.specs.State.State.{Fresh, Live, Dead}
 use Rattle.tagged_heap.specs.Representation.{standing_from, Parts, IsKept}
 use Rattle.heap_theory.specs.Region.{region_of, header_in}
 use Rattle.tagged_heap.proofs.TheoryLemmas as laws
-use Rattle.tagged_heap.proofs.Kept.{class_most, size_most}
+use Rattle.tagged_heap.proofs.Kept.{class_most}
 
 pub kind_outside : (h : Heap) (g : ℕ) → slot_over h.layout g ≡ None → Slack ≡ place_kind h g
 unfolding place_kind
@@ -36,14 +37,14 @@ same_tail : (b : Bool) → cond b Tail Tail ≡ Tail
 same_tail true = refl
 same_tail false = refl
 
-chunk_most : (x : State) → chunk_of x ≤ chunk_granules (size_of x)
+chunk_most : (x : State) → chunk_granules_of x ≤ chunk_granules (size_of x)
 chunk_most Fresh = omega arith
 chunk_most (Live size tag) = omega arith
 chunk_most (Dead size tag mark) = omega arith
 
 -- a granule of the chunk, or of a fresh slot as far as the chunk of size 0 goes
 chunk_kind : (from first g : ℕ) (x : State) → first ≤ g → g < first + chunk_granules (size_of x) →
-    kind_by (standing_from from x) ≡ cond (is_among first (chunk_of x) g) (kind_of_chunk x) Tail
+    kind_by (standing_from from x) ≡ cond (is_among first (chunk_granules_of x) g) (kind_of_chunk x) Tail
 chunk_kind from first g Fresh above below = sym (same_tail (is_among first 0 g))
 chunk_kind from first g (Live size tag) above below =
     sym (cond-true (is_among first (chunk_granules size) g) _ _
@@ -52,11 +53,6 @@ chunk_kind from first g (Dead size tag mark) above below =
     sym (dead_kind (nat_lt mark from))
     ∙ sym (cond-true (is_among first (chunk_granules size) g) _ _
     (and_from _ _ (le-leb first g above) (lt-ltb g (first + chunk_granules size) below)))
-
-size_fits : (x : State) (class : ℕ) → chunk_of x < class → class ≤ 1024 → size_of x ≤ 16368
-size_fits Fresh class room most = omega arith
-size_fits (Live size tag) class room most = size_most size class room most
-size_fits (Dead size tag mark) class room most = size_most size class room most
 
 -- a granule of slot s, so many granules from its first one
 module _ {h : Heap} {p : Parts} (k : IsKept h p) {g s : ℕ} (before : ℕ) (there : slot_over h.layout g ≡ Some s)
@@ -78,12 +74,12 @@ module _ {h : Heap} {p : Parts} (k : IsKept h p) {g s : ℕ} (before : ℕ) (the
       omega (
         arith,
         size_is,
-        size_fits (state_at h s) (slot_in h s).class (k.sound.tagged s in_range).room
+        size_of-most (state_at h s) (slot_in h s).class (k.sound.tagged s in_range).room
             (class_most h s k.sound in_range),
       )
 
   module _ (other : before ≢ 0) where
-    payload_kind : cond (is_among (payload_start (slot_in h s)) (chunk_of (state_at h s)) g) (kind_of_chunk (state_at h s)) Tail ≡
+    payload_kind : cond (is_among (payload_start (slot_in h s)) (chunk_granules_of (state_at h s)) g) (kind_of_chunk (state_at h s)) Tail ≡
         place_kind h g
     unfolding place_kind
     payload_kind =
@@ -93,8 +89,8 @@ module _ {h : Heap} {p : Parts} (k : IsKept h p) {g s : ℕ} (before : ℕ) (the
     pub tail_kind : chunk_granules (header_in (region_of h.layout p.memory) s).size < before → Tail ≡ place_kind h g
     tail_kind after =
         let most = chunk_most (state_at h s) in
-        let past : payload_start (slot_in h s) + chunk_of (state_at h s) ≤ g = omega (arith, ap chunk_granules size_is, at) in
-        sym (cond-false (is_among (payload_start (slot_in h s)) (chunk_of (state_at h s)) g) _ _ (and_right _ _ (le-ltb g _ past)))
+        let past : payload_start (slot_in h s) + chunk_granules_of (state_at h s) ≤ g = omega (arith, ap chunk_granules size_is, at) in
+        sym (cond-false (is_among (payload_start (slot_in h s)) (chunk_granules_of (state_at h s)) g) _ _ (and_right _ _ (le-ltb g _ past)))
         ∙ payload_kind
 
     pub chunk_granule_kind : before ≤ chunk_granules (header_in (region_of h.layout p.memory) s).size →

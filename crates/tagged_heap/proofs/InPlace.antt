@@ -3,10 +3,9 @@ use Rattle.std.proofs.Common.{◌≡◌, ℕ, ◌<◌, List, refl, sym, ap, ◌�
 use Rattle.machine_theory.specs.Machine.{Machine}
 use Rattle.machine_theory.specs.Memory.{IsMemory}
 use Rattle.heap_theory.specs.Calls.{chunk_tagged, resized}
-use Rattle.heap_theory.specs.Lookups.{is_dead}
 use Rattle.heap_theory.specs.Header.{Header, with_header}
 use Rattle.class_table.specs.Sizes.{chunk_granules}
-use Rattle.heap_theory.specs.State.{Heap, slot_in, state_at, is_fresh, last_tag, IsSlot}
+use Rattle.heap_theory.specs.State.{Heap, slot_in, state_at, is_fresh, last_tag, IsSlot, is_dead}
 use Rattle.heap_theory.specs.State.State.{Live}
 use Rattle.tagged_heap.proofs.TheoryLemmas as laws
 use Rattle.tagged_heap.specs.Representation.{header_from, Parts}

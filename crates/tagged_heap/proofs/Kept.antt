@@ -3,7 +3,6 @@ use Rattle.std.proofs.Common.{◌≡◌, ℕ, ◌+◌, ◌-◌, ◌^◌, ◌<◌
 use Rattle.std.specs.Prelude.{Contains, map, slice_index}
 use Rattle.std.proofs.lemmas.Bool.{cases_lt, lt-ltb, le-ltb, cond-true, cond-false}
 use Rattle.std.proofs.lemmas.List.{ext_get_or, get_or-map, length-map}
-use Rattle.std.proofs.lemmas.Option.{slice_get_within, get_or_from_slice_get}
 use Rattle.class_table.specs.Layout.{slot_count}
 use Rattle.heap_theory.specs.QueueAndLists.{HasMark, AgreeWithMarks, AgreeWithMarksFrom, bytes_of}
 use Rattle.heap_theory.specs.Header.{Header, FitsWords, header_for, shown_state, standing_in, state_by, class_number}
@@ -28,15 +27,11 @@ use Rattle.tagged_heap.specs.HeapAtRest.{shown_heap, shown_states}
 
 -- a class has one of at most 32 numbers,
 pub class_few : (h : Heap) (s : ℕ) → IsSoundHeap h → IsSlot h s → class_number h.layout s < 32
-class_few h s sound in_range =
-    omega (arith, slice_get_within h.layout.classes _ _ (laws.class_number_is h.layout s in_range), sound.partition.table.few)
+class_few h s sound in_range = laws.class_number_few 1 h.layout s sound.partition.table in_range
 
 -- and at most 1024 granules
 pub class_most : (h : Heap) (s : ℕ) → IsSoundHeap h → IsSlot h s → (slot_in h s).class ≤ 1024
-class_most h s sound in_range =
-    let found = laws.class_number_is h.layout s in_range in
-    let range = sound.partition.table.in_range (class_number h.layout s) 0 (slice_get_within h.layout.classes _ _ found) in
-    omega (arith, get_or_from_slice_get h.layout.classes (class_number h.layout s) _ 0 found, range.1)
+class_most h s sound in_range = laws.classes_small 1 h.layout s sound.partition.table in_range
 
 pub size_most : (n class : ℕ) → chunk_granules n < class → class ≤ 1024 → n ≤ 16368
 size_most n class room most = omega arith

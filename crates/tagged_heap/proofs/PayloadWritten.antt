@@ -1,27 +1,23 @@
 -- Bytes that are written outside all headers keep a heap, and are seen as they are written.
-use Rattle.std.proofs.Common.{◌≡◌, ◌≢◌, ◌⊎◌, ℕ, ◌+◌, ◌-◌, ◌*◌, ◌/◌, ◌%◌, ◌^◌, ◌<◌, ◌≤◌, true, false, List, length, map, max, refl, sym, ap, ◌∙◌, subst, inl, inr, arith, Some, None, Option}
-use Rattle.std.specs.List.{range_with_len}
-use Rattle.std.specs.Prelude.{All, slice_index, nat_lt, nat_le, ◌&&◌, ◌==◌}
-use Rattle.std.proofs.lemmas.Bool.{cases_lt, cases_order, cases_Bool, and_parts, leb-true, eqb-true, cond-false, false≢true}
-use Rattle.std.proofs.lemmas.List.{get_or_default, get_or_past}
-use Rattle.std.proofs.lemmas.List.Elements.{All-nil, All-get_or, All-from_get_or}
-use Rattle.std.proofs.lemmas.List.Folds.{Any-from_list_any}
-use Rattle.std.proofs.lemmas.List.FromFn.{length-map-range_with_len, get_or-map-range_with_len}
+use Rattle.std.proofs.Common.{◌≡◌, ◌≢◌, ◌⊎◌, ℕ, ◌+◌, ◌-◌, ◌*◌, ◌/◌, ◌<◌, ◌≤◌, true, false, List, length, max, refl, sym, ap, ◌∙◌, subst, inl, inr, arith, Some, None, Option}
+use Rattle.std.specs.Prelude.{All}
+use Rattle.std.proofs.lemmas.Bool.{cases_lt, cases_order, cases_Bool, cond-false, false≢true}
 use Rattle.machine_theory.specs.declared.fault.Fault.{Fault}
 use Rattle.machine_theory.specs.declared.fault.Fault.TheVariants.{Unmapped}
 use Rattle.machine_theory.specs.Access.{access_fault, is_mapped, loaded, tag_fault, touched}
 use Rattle.machine_theory.specs.Address.{logical_tag, place_of, region_start, byte_of}
-use Rattle.machine_theory.specs.Memory.{Granule, IsGranule, IsMemory, no_granule, granule_at, byte_at, bytes_at, written}
-use Rattle.class_table.specs.Layout.{Partition, Slot, AreInOrder, end_of, no_slot, slots_of, slot_count, slot_of}
+use Rattle.machine_theory.specs.Memory.{Granule, bytes_at, written}
+use Rattle.machine_theory.proofs.AccessLaws.{IsMapped-from}
+use Rattle.machine_theory.proofs.ByteLaws.{bytes_at_agree}
+use Rattle.class_table.specs.Layout.{Partition, AreInOrder, end_of, slot_count, slot_of}
 use Rattle.heap_theory.specs.Calls.{with_payload}
 use Rattle.heap_theory.specs.Region.{Region, region_of, header_in, headers_of, next_in}
-use Rattle.heap_theory.specs.State.{Heap, state_at, payload_start, is_header, without_headers}
+use Rattle.heap_theory.specs.State.{Heap, state_at, payload_start, is_header_granule, without_headers}
 use Rattle.heap_theory.proofs.Regions.{region_of-written, start_is_header}
-use Rattle.heap_theory.proofs.SeenMemory.{length-without_headers}
+use Rattle.heap_theory.proofs.SeenMemory.{header_starts, length-without_headers}
 use Rattle.tagged_heap.proofs.TheoryLemmas as laws
 use Rattle.tagged_heap.specs.Representation.{header_from, Parts, IsKept}
 use Rattle.tagged_heap.specs.HeapAtRest.{shown_heap, IsAtRest}
-use Rattle.tagged_heap.proofs.BytesInParts.{map_same}
 use Rattle.tagged_heap.proofs.Changed.{listed_same}
 use Rattle.tagged_heap.proofs.Kept.{agree_same, agree_at_rest, region_is, shown_is}
 
@@ -122,16 +118,9 @@ module _ {h : Heap} {frees : ℕ} {p : Parts} {counters : List ℕ} (held : IsAt
   pub payload_kept : IsAtRest (shown_heap h.layout p.quarantine.limit new h.total h.seed h.tag) frees (record p { memory = new }) counters
   payload_kept = subst (λ x. IsAtRest x frees (record p { memory = new }) counters) (sym payload_shown) payload_held
 
-header_starts : (layout : Partition) (g : ℕ) → is_header layout g ≡ true →
-    (r : ℕ) × (r < slot_count layout) × ((slot_of layout r).start ≡ g)
-header_starts layout g is =
-    let any = Any-from_list_any (λ slot. slot.start == g) (slots_of layout) is in
-    let slot : slot_of layout any.0 ≡ any.1 = get_or_default (slots_of layout) any.0 no_slot any.1 any.2 ∙ any.3 in
-    (any.0, any.2, ap (λ (x : Slot). x.start) slot ∙ eqb-true any.1.start g any.4)
-
 not_header : (layout : Partition) (s g : ℕ) → AreInOrder layout → s < slot_count layout → (slot_of layout s).start < g →
-    g < end_of (slot_of layout s) → is_header layout g ≡ false
-not_header layout s g order in_s from to = elim (cases_Bool (is_header layout g)) [
+    g < end_of (slot_of layout s) → is_header_granule layout g ≡ false
+not_header layout s g order in_s from to = elim (cases_Bool (is_header_granule layout g)) [
   | inl is ↦
       let r = header_starts layout g is in
       elim (cases_lt r.0 s) [
@@ -150,37 +139,10 @@ not_header layout s g order in_s from to = elim (cases_Bool (is_header layout g)
 pub payload_seen : (layout : Partition) (m : List Granule) (s n : ℕ) → AreInOrder layout → s < slot_count layout →
     n + 16 ≤ 16 * (slot_of layout s).class →
     bytes_at (without_headers layout m) (16 * payload_start (slot_of layout s)) n ≡ bytes_at m (16 * payload_start (slot_of layout s)) n
-unfolding bytes_at
 payload_seen layout m s n order in_s room =
-    map_same (byte_at (without_headers layout m)) (byte_at m) (16 * payload_start (slot_of layout s)) n
-    (λ j from to.
-    ap (λ (granule : Granule). slice_index granule.bytes (j % 16))
-    (laws.granules_seen layout m (j / 16) (not_header layout s (j / 16) order in_s (omega arith) (omega arith))))
-
--- ---- bytes that are read fit
-
-byte_fits : (m : List Granule) → IsMemory m → (j : ℕ) → byte_at m j < 256
-byte_fits m is j = elim (cases_lt (j / 16) (length m)) [
-  | inl within ↦ of (granule_at m (j / 16)).bytes (All-get_or IsGranule m (j / 16) no_granule within is.granules).bytes (j % 16)
-  | inr past ↦
-      of (granule_at m (j / 16)).bytes
-      (subst (λ (granule : Granule). All (λ b. b < 256) granule.bytes) (sym (get_or_past m (j / 16) no_granule past))
-      (All-nil (λ b. b < 256))) (j % 16)
-]
-  where
-    of : (bytes : List ℕ) → All (λ b. b < 256) bytes → (k : ℕ) → slice_index bytes k < 256
-    of bytes all k = elim (cases_lt k (length bytes)) [
-      | inl within ↦ All-get_or (λ b. b < 256) bytes k 0 within all
-      | inr past ↦ omega (arith, get_or_past bytes k 0 past)
-    ]
-
-pub bytes_fit : (m : List Granule) → IsMemory m → (i len : ℕ) → All (λ b. b < 256) (bytes_at m i len)
-unfolding bytes_at
-bytes_fit m is i len =
-    All-from_get_or (λ b. b < 256) (map (λ j. byte_at m j) (range_with_len i len)) 0
-    (λ k within.
-    let k' : k < len = omega (arith, within, length-map-range_with_len (λ j. byte_at m j) i len) in
-    subst (λ b. b < 256) (sym (get_or-map-range_with_len (λ j. byte_at m j) i len k (i + k) 0 k' refl)) (byte_fits m is (i + k)))
+    let from = 16 * payload_start (slot_of layout s) in
+    bytes_at_agree (without_headers layout m) m from n
+    (λ k within. laws.byte_seen layout m (from + k) (not_header layout s ((from + k) / 16) order in_s (omega arith) (omega arith)))
 
 -- ---- an access that succeeds under another tag than 0 touches no header
 
@@ -211,26 +173,20 @@ in_access place base len j region from to = (j - (place - base), omega arith, om
 
 module _ {h : Heap} {p : Parts} (k : IsKept h p) (address len : ℕ) (tagged : logical_tag address ≢ 0)
     (none : access_fault p.memory address len ≡ None) where
-  no_header : (j : ℕ) → byte_of (place_of address) ≤ j → j < byte_of (place_of address) + len → is_header h.layout (j / 16) ≡ false
+  no_header : (j : ℕ) → byte_of (place_of address) ≤ j → j < byte_of (place_of address) + len → is_header_granule h.layout (j / 16) ≡ false
   no_header j from to =
-      let mapped = mapped_of p.memory address len none in
-      let first =
-      (and_parts (nat_lt address (2 ^ 60) && nat_le region_start (place_of address))
-      (nat_le (place_of address + len) (region_start + 16 * length p.memory)) mapped).0 in
-      let region =
-      leb-true region_start (place_of address) (and_parts (nat_lt address (2 ^ 60)) (nat_le region_start (place_of address)) first).1 in
-      let k' = in_access (place_of address) region_start len j region from to in
+      let mapped = IsMapped-from (length p.memory) address len (mapped_of p.memory address len none) in
+      let k' = in_access (place_of address) region_start len j mapped.from from to in
       laws.spared h address len (j / 16) k.sound tagged
       (ap (λ m. access_fault m address len) (sym k.seen) ∙ laws.accesses_seen h.layout p.memory address len ∙ none)
       (k'.0, k'.1, record { from = k'.2; to = k'.3 })
 
   -- so it reads what is seen
   pub load_seen : loaded p.memory address len ≡ loaded h.memory address len
-  unfolding bytes_at
   load_seen =
-      map_same (byte_at p.memory) (byte_at (without_headers h.layout p.memory)) (byte_of (place_of address)) len
-      (λ j from to. ap (λ (granule : Granule). slice_index granule.bytes (j % 16))
-      (sym (laws.granules_seen h.layout p.memory (j / 16) (no_header j from to))))
+      let from = byte_of (place_of address) in
+      bytes_at_agree p.memory (without_headers h.layout p.memory) from len
+      (λ k within. sym (laws.byte_seen h.layout p.memory (from + k) (no_header (from + k) (omega arith) (omega arith))))
       ∙ ap (λ m. loaded m address len) k.seen
 
 -- and leaves all headers where it writes
@@ -245,7 +201,7 @@ access_outside {h} {p} k address bytes some tagged none r in_r =
             let at : max (byte_of (place_of address)) (16 * start) / 16 ≡ start = omega arith in
             let not =
             no_header k address (length bytes) tagged none (max (byte_of (place_of address)) (16 * start)) (omega arith) (omega arith) in
-            absurd (false≢true (sym not ∙ ap (is_header h.layout) at ∙ start_is_header h.layout r in_r))
+            absurd (false≢true (sym not ∙ ap (is_header_granule h.layout) at ∙ start_is_header h.layout r in_r))
       ]
     ]
   where

@@ -9,13 +9,12 @@ use Rattle.machine_theory.specs.Seed.{next_seed}
 use Rattle.class_table.specs.Layout.{block_bytes}
 use Rattle.heap_theory.specs.QueueAndLists.{HasMark}
 use Rattle.heap_theory.specs.Calls.{freed, next_tag, parity_exclude}
-use Rattle.heap_theory.specs.Lookups.{is_dead}
 use Rattle.heap_theory.specs.Header.{Header, FitsWords, with_header, size_of}
 use Rattle.heap_theory.specs.Header.Standing.{Quarantined, Freed}
 use Rattle.heap_theory.specs.Region.{region_of, header_in, next_in}
 use Rattle.heap_theory.specs.Sound.{IsSoundHeap}
 use Rattle.class_table.specs.Sizes.{chunk_granules}
-use Rattle.heap_theory.specs.State.{State, Heap, slot_in, state_at, is_fresh, last_tag, chunk_of, payload_start, without_headers, IsSlot}
+use Rattle.heap_theory.specs.State.{State, Heap, slot_in, state_at, is_fresh, last_tag, chunk_granules_of, payload_start, without_headers, IsSlot, is_dead}
 use Rattle.heap_theory.specs.State.State.{Live, Dead}
 use Rattle.heap_theory.proofs.Marks.{not_marked}
 use Rattle.heap_theory.proofs.SeenMemory.{length-without_headers}
@@ -25,7 +24,8 @@ use Rattle.tagged_heap.proofs.TheoryLemmas as laws
 use Rattle.tagged_heap.specs.Chunks.{HasRoom, retired_header, tag_for}
 use Rattle.tagged_heap.specs.Representation.{standing_from, header_from, IsRewritten, Parts, IsKept}
 use Rattle.tagged_heap.specs.HeapAtRest.{shown_heap, IsAtRest}
-use Rattle.tagged_heap.proofs.Changed.{with_link, listed_same, state_here, headers_changed, counters_changed}
+use Rattle.heap_theory.proofs.ChangedSlot.{state_here}
+use Rattle.tagged_heap.proofs.Changed.{with_link, listed_same, headers_changed, counters_changed}
 use Rattle.tagged_heap.proofs.RewrittenHeaders.{link_set, then_tagged, written_header}
 use Rattle.tagged_heap.proofs.Kept.{class_most, size_most, header_fits, region_is, within_states, bytes_from, queue_slot, list_slot, has_room, agree_at_rest, shown_is}
 
@@ -38,7 +38,7 @@ module _ {h : Heap} {frees : ℕ} {p : Parts} {counters : List ℕ} (held : IsAt
 
   pub retire_room : HasRoom h.layout p.memory s (header_in (region_of h.layout p.memory) s).size
   retire_room =
-      let room = subst (λ x. chunk_of x < (slot_in h s).class) live (held.kept.sound.tagged s in_range).room in
+      let room = subst (λ x. chunk_granules_of x < (slot_in h s).class) live (held.kept.sound.tagged s in_range).room in
       subst (HasRoom h.layout p.memory s) (sym header_size)
       (has_room held.kept s n in_range (size_most n _ room (class_most h s held.kept.sound in_range)) room)
 

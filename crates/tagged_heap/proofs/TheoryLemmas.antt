@@ -12,12 +12,12 @@ pub use Rattle.heap_theory.proofs.QueueAndLists.{agree_first, agree_taken as fro
 pub use Rattle.heap_theory.proofs.Releasing.{release as releases}
 pub use Rattle.heap_theory.proofs.Held.{holds_quarantined as queue_holds, holds_released as lists_hold, one_list_has, queue_or_list as queue_apart}
 -- headers
-pub use Rattle.heap_theory.proofs.HeaderWords.{class_number-is as class_number_is, header_for-fits as header_fits}
+pub use Rattle.heap_theory.proofs.HeaderWords.{class_number-is as class_number_is, class_number-few as class_number_few, header_for-fits as header_fits}
 pub use Rattle.heap_theory.proofs.Linked.{IsLinked-same as links_stay, IsLinked-ends as last_ends, IsLinked-one as one_list, IsLinked-once as each_once}
 -- what is seen of a memory
-pub use Rattle.heap_theory.proofs.SeenMemory.{without_headers-new as new_seen, access_fault-without_headers as accesses_seen, granule_at-without_headers as granules_seen}
+pub use Rattle.heap_theory.proofs.SeenMemory.{without_headers-new as new_seen, access_fault-without_headers as accesses_seen, byte_at-without_headers as byte_seen}
 pub use Rattle.heap_theory.proofs.SeenMemory.{headers_spared as spared}
 -- memory
 pub use Rattle.machine_theory.proofs.ChangedMemories.{IsMemory-written as memory_written}
 -- sizes and layouts
-pub use Rattle.class_table.proofs.LawLemmas.{legal_slots_are_in_order as in_order, slots_of_a_class as slots_of_class, slots_of_classes_are_all as all_slots, one_slot_covers as covers, number_gives_class as class_by_number}
+pub use Rattle.class_table.proofs.LawLemmas.{legal_slots_are_in_order as in_order, slots_have_at_most_1024_granules as classes_small, slots_of_classes_are_all as all_slots, one_slot_covers as covers, number_gives_class as class_by_number}

@@ -7,8 +7,7 @@ use Rattle.class_table.specs.Tables.{class_number_for}
 use Rattle.class_table.specs.declared.table.TheConstants.{MOST_CLASSES}
 use Rattle.heap_theory.specs.declared.refusal.NullCause.{NullCause}
 use Rattle.heap_theory.specs.declared.refusal.NullCause.TheVariants.{Large, NoClass, Exhausted}
-use Rattle.heap_theory.specs.Region.{region_of, next_in}
-use Rattle.chunk_header.specs.Links.{SetsLink}
+use Rattle.class_lists.specs.Lists.{TakesFirst}
 
 -- why a request of n bytes has no class
 abbrev pub IsCauseFor : List ℕ → ℕ → NullCause → Type 0
@@ -28,12 +27,10 @@ pub record HasClass (layout : Partition) (memory : List Granule) (fronts counter
   pub region : length memory ≡ layout.granules
   pub memory_is : IsMemory memory
 
--- The first slot of the class's list is taken off it.
+-- The first slot of the class's list is taken off it, and no counter changes.
 pub record TakesFront (layout : Partition) (memory new : List Granule) (fronts fronts' counters counters' : List ℕ)
     (number s : ℕ) : Type 0 where
-  pub front : slice_index fronts number ≡ s + 1
-  pub link : SetsLink layout memory new s 0
-  pub fronts_are : fronts' ≡ slice_set fronts number (next_in (region_of layout memory) s)
+  pub taken : TakesFirst layout memory new fronts fronts' number s
   pub counters_are : counters' ≡ counters
 
 -- The list is empty, and the class's next fresh slot is taken.

@@ -1,5 +1,6 @@
 -- What a heap is set up with.
-use Rattle.std.specs.Prelude.{◌≢◌, ◌≤◌}
+use Rattle.std.specs.Prelude.{◌≢◌, ℕ, ◌≤◌, List}
+use Rattle.class_table.specs.Layout.{Partition}
 use Rattle.class_table.specs.declared.layout.TheConstants.{FEWEST_GRANULES, MOST_GRANULES}
 use Rattle.tagged_heap.specs.declared.heap.Config.{Config}
 use Rattle.tagged_heap.specs.declared.heap.TheConstants.Config.{MOST_QUARANTINE}
@@ -9,3 +10,7 @@ pub record IsConfig (config : Config) : Type 0 where
   pub granules : (FEWEST_GRANULES ≤ config.granules) × (config.granules ≤ MOST_GRANULES)
   pub seed : config.seed ≢ 0
   pub quarantine : config.quarantine ≤ MOST_QUARANTINE
+
+-- The layout that it gets for a table: the table's classes over as many granules.
+abbrev pub layout_for : Config → List ℕ → Partition
+layout_for config table = record { classes = table; granules = config.granules }

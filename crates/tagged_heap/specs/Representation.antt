@@ -4,12 +4,11 @@ use Rattle.std.specs.Prelude.{◌≡◌, ◌≢◌, ℕ, ◌+◌, ◌<◌, ◌�
 use Rattle.machine_theory.specs.Memory.{Granule, IsMemory}
 use Rattle.class_table.specs.Layout.{Partition, slot_count, first_slot}
 use Rattle.heap_theory.specs.QueueAndLists.{AgreeWithMarksFrom}
-use Rattle.heap_theory.specs.Lookups.{is_dead, mark_of}
 use Rattle.heap_theory.specs.Header.{Standing, Header, standing_where, header_with}
 use Rattle.heap_theory.specs.Links.{IsLinked, list_of}
 use Rattle.heap_theory.specs.Region.{Region, region_of, header_in, next_in}
 use Rattle.heap_theory.specs.Sound.{IsSoundHeap}
-use Rattle.heap_theory.specs.State.{State, Heap, slot_in, state_at, is_fresh, without_headers, IsSlot}
+use Rattle.heap_theory.specs.State.{State, Heap, slot_in, state_at, is_fresh, without_headers, IsSlot, is_dead, mark_of}
 use Rattle.quarantine_core.specs.Queue.{Queue, AreQueued}
 
 -- A memory in which the header of one slot is another, and which is seen as this one.

@@ -7,7 +7,7 @@ ghost use Rattle.heap_theory.specs.Sound.{IsSoundHeap};
 ghost use Rattle.heap_theory.specs.State.{pointer_to, slot_in, IsSlot};
 ghost use Rattle.tagged_heap.specs.ClassSlots.{IsCauseFor};
 ghost use Rattle.std.specs.Result.{result_map_both};
-ghost use Rattle.std.specs.Prelude.{◌≡◌, ◌↔◌, ◌*◌, ◌<◌, ◌≤◌, length, replicate, IfErr, IfOk, OnErr};
+ghost use Rattle.std.specs.Prelude.{◌≡◌, ◌*◌, ◌<◌, ◌≤◌, length, replicate, IfErr, IfOk, OnErr};
 
 use crate::bytes::zero;
 use crate::heap::Heap;

@@ -1,5 +1,5 @@
 //! The bytes of payloads.
-ghost use Rattle.machine_theory.specs.Memory.{bytes_at, written, IsMemory};
+ghost use Rattle.machine_theory.specs.Memory.{bytes_at, written};
 ghost use Rattle.std.specs.Prelude.{◌≡◌, ◌⊎◌, ◌+◌, ◌*◌, ◌≤◌, length, replicate};
 
 use granule_memory::Memory;

@@ -7,7 +7,7 @@ ghost use Rattle.heap_theory.specs.OwnPointers.{IsNullOrOwn};
 ghost use Rattle.heap_theory.specs.Sound.{IsSoundHeap};
 ghost use Rattle.heap_theory.specs.State.{without_headers, Heap as TheHeap};
 ghost use Rattle.machine_theory.specs.Memory.{IsMemory};
-ghost use Rattle.std.specs.Prelude.{◌≡◌, ◌≢◌, ◌↔◌, ◌+◌, ◌^◌, ◌<◌, ◌≤◌, length, slice_index, slice_set, IfErr, IfOk, Ok, OnErr, OnOk, ℕ};
+ghost use Rattle.std.specs.Prelude.{◌≡◌, ◌≢◌, ◌↔◌, ◌+◌, ◌^◌, ◌<◌, ◌≤◌, length, slice_index, slice_set, IfErr, IfOk, Ok, OnErr, OnOk};
 ghost use Rattle.tagged_heap.specs.Chunks.{IsChunk};
 ghost use Rattle.tagged_heap.specs.ClassSlots.{HasFront};
 ghost use Rattle.tagged_heap.specs.Representation.{IsKept, IsRewritten, SomeIsKept};

@@ -2,7 +2,7 @@ ghost use Rattle.class_table.specs.Sizes.{largest_counted};
 ghost use Rattle.heap_theory.specs.State.{first_heap};
 ghost use Rattle.class_table.specs.Tables.{loss_of_size};
 ghost use Rattle.machine_theory.specs.Instructions.{addg, subg};
-ghost use Rattle.tagged_heap.specs.Config.{IsConfig};
+ghost use Rattle.tagged_heap.specs.Config.{IsConfig, layout_for};
 ghost use Rattle.std.specs.Prelude.{◌≡◌, ◌≤◌, IfOk};
 
 use crate::new_heap::{first_slots, write_fresh_headers};
@@ -72,8 +72,7 @@ impl Heap {
     pub fn new(alloc: Global, table: &ClassTable, config: Config) -> Result<Heap, AllocError>
         requires { IsConfig config }
         ensures state { IfOk result (λ heap.
-            heap.state
-            ≡ first_heap (record { classes = table.now; granules = config.granules }) config.seed config.quarantine) }
+            heap.state ≡ first_heap (layout_for config table.now) config.seed config.quarantine) }
         ensures frees { IfOk result (λ heap. heap.frees ≡ 0) }
     {
         let layout = Layout::new(table, config.granules);

@@ -4,7 +4,7 @@ ghost use Rattle.heap_theory.specs.State.{without_headers};
 ghost use Rattle.heap_theory.specs.State.State.{Fresh};
 ghost use Rattle.machine_theory.specs.Memory.{IsMemory};
 ghost use Rattle.std.specs.List.{range_with_len};
-ghost use Rattle.std.specs.Prelude.{◌≡◌, ◌+◌, ◌<◌, ◌≤◌, ℕ, length, map, slice_index, slice_set, IfNone, IfSome};
+ghost use Rattle.std.specs.Prelude.{◌≡◌, ◌<◌, ℕ, length, map};
 ghost use Rattle.tagged_heap.specs.Representation.{header_from};
 ghost use Rattle.heap_theory.specs.Region.{region_of, header_in};
 

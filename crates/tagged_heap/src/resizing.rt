@@ -1,7 +1,7 @@
 //! The call that resizes a chunk.
 ghost use Rattle.class_table.specs.Sizes.{largest_counted, chunk_granules};
-ghost use Rattle.heap_theory.specs.Calls.{given_out, is_class_of, moved, payload_bytes, realloc_step, resized, with_payload};
-ghost use Rattle.heap_theory.specs.Lookups.{class_for_request, slot_for_request};
+ghost use Rattle.heap_theory.specs.Calls.{given_out, moved, payload_bytes, realloc_step, resized, stays_in_class, with_payload};
+ghost use Rattle.heap_theory.specs.Lookups.{slot_for_request};
 ghost use Rattle.heap_theory.specs.OwnPointers.{IsNotRefused, IsNullOrOwn};
 ghost use Rattle.heap_theory.specs.State.{pointer_to, slot_in, IsSlot};
 ghost use Rattle.std.specs.Prelude.{◌≡◌, ◌↔◌, ◌+◌, ◌*◌, ◌^◌, ◌<◌, ◌≤◌, ◌≢◌, IfErr, IfOk, IsTrue, OnErr, ℕ};
@@ -69,7 +69,7 @@ impl Heap {
     // Whether n bytes are of the class that a chunk's slot has.
     fn stays_in_class(&self, chunk: Chunk, n: u32) -> bool
         requires { IsChunk self.now.state chunk }
-        ensures test { result ≡ is_class_of (slot_in self.now.state chunk.slot) (class_for_request self.now.state n) }
+        ensures test { result ≡ stays_in_class self.now.state (record { slot = chunk.slot; size = chunk.size }) n }
         ensures size { IsTrue result → n ≤ largest_counted }
         ensures room { IsTrue result → chunk_granules n < (slot_in self.now.state chunk.slot).class }
     {

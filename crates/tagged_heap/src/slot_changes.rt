@@ -1,15 +1,13 @@
 //! The changes of one slot's chunk: it is given out, resized and taken back, with its header and its tags.
-ghost use Rattle.class_table.specs.Layout.{end_of, slot_count, slot_of};
-ghost use Rattle.heap_theory.specs.Calls.{chunk_tagged, parity_exclude};
-ghost use Rattle.heap_theory.specs.Header.{header_at, with_header};
-ghost use Rattle.heap_theory.specs.Header.Standing.{Live, Quarantined};
+ghost use Rattle.class_table.specs.Layout.{slot_of};
+ghost use Rattle.heap_theory.specs.Calls.{chunk_tagged};
+ghost use Rattle.heap_theory.specs.Header.{with_header};
 ghost use Rattle.class_table.specs.Sizes.{chunk_granules};
 ghost use Rattle.heap_theory.specs.State.{payload_place, payload_start};
 ghost use Rattle.machine_theory.specs.Address.{with_tag};
-ghost use Rattle.machine_theory.specs.Instructions.{drawn_tag};
 ghost use Rattle.machine_theory.specs.Memory.{tagged, IsMemory};
 ghost use Rattle.machine_theory.specs.Seed.{next_seed};
-ghost use Rattle.std.specs.Prelude.{◌≡◌, ◌+◌, ◌^◌, ◌<◌, ◌≤◌, bit_or, length};
+ghost use Rattle.std.specs.Prelude.{◌≡◌};
 ghost use Rattle.tagged_heap.specs.Chunks.{HasRoom, given_header, retired_header, tag_for};
 ghost use Rattle.heap_theory.specs.Region.{region_of, header_in};
 

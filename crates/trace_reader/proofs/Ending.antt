@@ -7,7 +7,8 @@ use Rattle.trace_reader.specs.declared.fault.TraceError.{TraceError}
 use Rattle.trace_reader.specs.declared.fault.TraceError.TheVariants.{Line}
 use Rattle.trace_reader.specs.declared.fault.TraceFault.{TraceFault}
 use Rattle.trace_reader.specs.declared.fault.TraceFault.TheVariants.{LineTooLong}
-use Rattle.trace_reader.specs.Reached.{HasReached, IsFrontOf, answer_of}
+use Rattle.line_text.specs.Prefixes.{IsPrefix}
+use Rattle.trace_reader.specs.Reached.{HasReached, answer_of}
 use Rattle.trace_reader.specs.Reading.{Cut, State, Reading, added, cut, fed, fed_in, finished, finished_in, going_on, is_open, judged_in, judgement_in, line_ended, reading_of_cut, state_after, whole_reading, with_judged, is_finished}
 use Rattle.trace_reader.specs.Reading.State.{Open, Failed, Finished}
 use Rattle.trace_reader.specs.declared.status.Status.{Status}
@@ -15,9 +16,10 @@ use Rattle.trace_reader.specs.declared.status.Status.TheVariants.{Failed as HasF
 use Rattle.trace_reader.specs.Status.{state_of}
 use Rattle.trace_reader.specs.TraceLine.{event_of_line}
 use Rattle.trace_reader.specs.TraceText.{Trace, no_lines, trace_from, with_line}
+use Rattle.line_text.proofs.LawLemmas.{equal_is_prefix, prefix_of_prefix}
 use Rattle.trace_reader.proofs.Cutting.{cut-ended}
 use Rattle.trace_reader.proofs.Feeding.{fed-append}
-use Rattle.trace_reader.proofs.Reaching.{IsFrontOf-fed, IsFrontOf-finished, IsFrontOf-is, IsFrontOf-trans, came, fed_at-line, fields, is_open_at, open_at}
+use Rattle.trace_reader.proofs.Reaching.{IsPrefix-fed, IsPrefix-finished, came, fed_at-line, fields, is_open_at, open_at}
 use Rattle.trace_reader.proofs.Traces.{event_of_line-long, trace_from-one}
 
 abbrev Answer : Type 0
@@ -192,7 +194,7 @@ unfinished_after old new piece (Err error) unfinished reached =
 -- ---- where an error ends a call
 
 pub failed_on_the_way : (old mid new : Reading) (error : TraceError) (piece line after : List ℕ) → is_open mid ≡ true → IsLine line
-    → fed old piece ≡ fed mid (line ++ 10 ∷ after) → IsFrontOf old.events mid.events →
+    → fed old piece ≡ fed mid (line ++ 10 ∷ after) → IsPrefix old.events mid.events →
     HasReached mid (line_ended mid line) new (Err error) → HasReached old (fed old piece) new (Err error)
 failed_on_the_way old mid new error piece line after open_now is_line same kept reached =
     let rest : fed old piece ≡ fed (line_ended mid line) after = same ∙ fed-after mid line after open_now is_line in
@@ -201,27 +203,27 @@ failed_on_the_way old mid new error piece line after open_now is_line same kept 
       reading =
           λ other. sym (rest ∙ ap (λ (r : Reading). fed r after) (sym (reached.reading other))
           ∙ fed-failed new error after (failed_at new error reached.answer));
-      kept = IsFrontOf-trans old.events mid.events new.events kept reached.kept;
-      front = IsFrontOf-trans new.events (line_ended mid line).events (fed old piece).events reached.front
-          (IsFrontOf-trans (line_ended mid line).events (fed (line_ended mid line) after).events (fed old piece).events
-          (IsFrontOf-fed (line_ended mid line) after) (IsFrontOf-is _ _ (sym (ap (λ (r : Reading). r.events) rest))));
+      kept = prefix_of_prefix old.events mid.events new.events kept reached.kept;
+      prefix = prefix_of_prefix new.events (line_ended mid line).events (fed old piece).events reached.prefix
+          (prefix_of_prefix (line_ended mid line).events (fed (line_ended mid line) after).events (fed old piece).events
+          (IsPrefix-fed (line_ended mid line) after) (equal_is_prefix _ _ (sym (ap (λ (r : Reading). r.events) rest))));
     }
 
 -- ---- from one reading to another
 
-pub IsFrontOf-ended : (r : Reading) (line : List ℕ) → IsFrontOf r.events (line_ended r line).events
+pub IsPrefix-ended : (r : Reading) (line : List ℕ) → IsPrefix r.events (line_ended r line).events
 unfolding with_judged
-IsFrontOf-ended r line = ((judged_in r.state (judgement_in r.state line)).events, refl)
+IsPrefix-ended r line = record { after = (judged_in r.state (judgement_in r.state line)).events; is = refl }
 
-pub reached_from : (old mid wanted wanted' new : Reading) (result : Answer) → wanted ≡ wanted' → IsFrontOf old.events mid.events →
+pub reached_from : (old mid wanted wanted' new : Reading) (result : Answer) → wanted ≡ wanted' → IsPrefix old.events mid.events →
     HasReached mid wanted new result → HasReached old wanted' new result
 reached_from old mid wanted wanted' new result same kept reached =
     record {
       answer = reached.answer;
       reading = λ other. reached.reading other ∙ same;
-      kept = IsFrontOf-trans old.events mid.events new.events kept reached.kept;
-      front =
-          IsFrontOf-trans new.events wanted.events wanted'.events reached.front (IsFrontOf-is _ _ (ap (λ (r : Reading). r.events) same));
+      kept = prefix_of_prefix old.events mid.events new.events kept reached.kept;
+      prefix =
+          prefix_of_prefix new.events wanted.events wanted'.events reached.prefix (equal_is_prefix _ _ (ap (λ (r : Reading). r.events) same));
     }
 
 pub reached_ok : (old wanted new : Reading) → HasReached old wanted new (Ok tt) → new ≡ wanted
@@ -297,9 +299,9 @@ failed_at_end events lines rest new error some reached =
           λ other. let is = reached.reading other in
           is ∙ sym (finished-fault events lines rest error some (reached.answer ∙ ap (λ (r : Reading). answer_of r.state) is));
       kept = reached.kept;
-      front =
-          IsFrontOf-trans new.events (line_ended old []).events (finished old).events reached.front
-          (IsFrontOf-is _ _ (sym (finished-events events lines rest some)));
+      prefix =
+          prefix_of_prefix new.events (line_ended old []).events (finished old).events reached.prefix
+          (equal_is_prefix _ _ (sym (finished-events events lines rest some)));
     }
 
 -- an unfinished line that is not empty
@@ -328,7 +330,7 @@ finish_line old mid events lines rest status events' is open_now some reached sa
     ∙ ap (λ (es : List Event). at es Finished)
     (sym (same ∙ ap (λ (r : Reading). r.events) (now ∙ ap (λ (r : Reading). line_ended r []) s.1))) in
     came old (finished old) (at events' Finished) (Ok tt) (sym ends) (ap (λ (r : Reading). answer_of r.state) (sym ends))
-    (IsFrontOf-finished old)
+    (IsPrefix-finished old)
 
 pub finish_empty : (old : Reading) (events : List Event) (lines : ℕ) (rest : List ℕ) (status : Status) (events' : List Event)
     → fields events lines rest status ≡ old → is_open old ≡ true → length rest ≡ 0 → events' ≡ old.events →
@@ -339,7 +341,7 @@ finish_empty old events lines rest status events' is open_now none same =
     ap finished s.1 ∙ finished-empty events lines rest none
     ∙ ap (λ (es : List Event). at es Finished) (sym (same ∙ ap (λ (r : Reading). r.events) s.1)) in
     came old (finished old) (at events' Finished) (Ok tt) (sym ends) (ap (λ (r : Reading). answer_of r.state) (sym ends))
-    (IsFrontOf-finished old)
+    (IsPrefix-finished old)
 
 pub finished_after : (old new : Reading) (error : TraceError) → HasReached old (finished old) new (Err error) → is_finished new ≡ false
 finished_after old new error reached = ap (λ (s : State). is_finished (at [] s)) (failed_at new error reached.answer)

@@ -5,7 +5,7 @@ use Rattle.trace_reader.proofs.Feeding.{fed-added, fed-append, finished-added}
 use Rattle.trace_reader.proofs.LineRanges.{few_events_of}
 use Rattle.trace_reader.proofs.Pieces.{few_in_pieces, in_pieces}
 pub use Rattle.trace_reader.proofs.Pieces.{whole_text as one_piece_is_the_text}
-use Rattle.trace_reader.proofs.Reaching.{IsFrontOf-fed, IsFrontOf-finished}
+use Rattle.trace_reader.proofs.Reaching.{IsPrefix-fed, IsPrefix-finished}
 use Rattle.trace_reader.proofs.TraceSpelling.{events_in_range, fault_is_after, one_trace, spelled-trace_of, trace_of-spelled}
 
 pub text_is_its_cut : TextIsItsCut
@@ -18,10 +18,10 @@ pub pieces_are_the_text : PiecesAreTheText
 pieces_are_the_text = in_pieces
 
 pub fed_adds_events : FedAddsEvents
-fed_adds_events = IsFrontOf-fed
+fed_adds_events = IsPrefix-fed
 
 pub finished_adds_events : FinishedAddsEvents
-finished_adds_events = IsFrontOf-finished
+finished_adds_events = IsPrefix-finished
 
 pub pieces_have_few_events : PiecesHaveFewEvents
 pieces_have_few_events = few_in_pieces

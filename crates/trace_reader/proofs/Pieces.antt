@@ -12,7 +12,7 @@ use Rattle.trace_reader.specs.Reading.State.{Open, Failed}
 use Rattle.trace_reader.proofs.Cutting.{going_on-nil, last_lines, lines-cut}
 use Rattle.trace_reader.proofs.Feeding.{fed-append}
 use Rattle.trace_reader.proofs.LineRanges.{few_events_of}
-use Rattle.trace_reader.proofs.Reaching.{IsFrontOf-finished}
+use Rattle.trace_reader.proofs.Reaching.{IsPrefix-finished}
 use Rattle.trace_reader.proofs.Traces.{followed, followed_by, trace_from-append, trace_from-long, trace_from-none, trace_from-one}
 
 fed_all-fed : (r : Reading) (a : List ℕ) (pieces : List (List ℕ)) → fed_all (fed r a) pieces ≡ fed r (a ++ concat pieces)
@@ -69,6 +69,6 @@ in_pieces pieces = ap finished (fed_all-concat pieces) ∙ whole_text (concat pi
 pub few_in_pieces : (pieces : List (List ℕ)) → length (fed_all nothing_read pieces).events ≤ 1000000
 few_in_pieces pieces =
     let all = fed_all nothing_read pieces in
-    let more = IsFrontOf-finished all in
+    let more = IsPrefix-finished all in
     let same : (finished all).events ≡ (trace_of (concat pieces)).events = ap (λ (r : Reading). r.events) (in_pieces pieces) in
-    omega (arith, few_events_of (concat pieces), ap length (sym more.1 ∙ same), length-append all.events more.0)
+    omega (arith, few_events_of (concat pieces), ap length (sym more.is ∙ same), length-append all.events more.after)

@@ -3,6 +3,8 @@ use Rattle.std.proofs.Common.{◌≡◌, ℕ, suc, ◌+◌, ◌<◌, ◌≤◌, 
 use Rattle.std.proofs.lemmas.Bool.{lt-ltb}
 use Rattle.std.proofs.lemmas.Bool.Decides.{nat_tests}
 use Rattle.line_text.specs.Lines.{IsLine}
+use Rattle.line_text.specs.Prefixes.{IsPrefix}
+use Rattle.line_text.proofs.LawLemmas.{equal_is_prefix}
 use Rattle.heap_theory.specs.declared.event.Event.{Event}
 use Rattle.trace_reader.specs.declared.fault.TraceError.{TraceError}
 use Rattle.trace_reader.specs.declared.fault.TraceError.TheVariants.{OutOfMemory, Line}
@@ -11,7 +13,7 @@ use Rattle.trace_reader.specs.declared.fault.TraceFault.TheVariants.{LineTooLong
 use Rattle.trace_reader.specs.declared.status.Status.{Status}
 use Rattle.trace_reader.specs.declared.status.Status.TheVariants.{Open as IsOpen, Failed as HasFailed, Finished as HasFinished}
 use Rattle.heap_theory.specs.Ranges.{IsInRange}
-use Rattle.trace_reader.specs.Reached.{HasReached, IsFrontOf, answer_of}
+use Rattle.trace_reader.specs.Reached.{HasReached, answer_of}
 use Rattle.trace_reader.specs.Reading.{Cut, Reading, added, fed, fed_in, finished, finished_in, going_on, is_open, is_open_state, judgement_in, reading_of_cut, with_judged, IsJudgementIn, unfinished_state}
 use Rattle.trace_reader.specs.Reading.State.{Open, Failed}
 use Rattle.trace_reader.specs.Status.{state_of}
@@ -22,47 +24,37 @@ use Rattle.trace_reader.proofs.Traces.{trace_from-none}
 abbrev Answer : Type 0
 Answer = Result (Unit {0}) TraceError
 
--- ---- fronts
+-- ---- every step only adds events
 
-pub IsFrontOf-self : (events : List Event) → IsFrontOf events events
-IsFrontOf-self events = ([], sym (append-nil events))
-
-pub IsFrontOf-is : (a b : List Event) → a ≡ b → IsFrontOf a b
-IsFrontOf-is a b is = ([], sym is ∙ sym (append-nil a))
-
-pub IsFrontOf-trans : (a b c : List Event) → IsFrontOf a b → IsFrontOf b c → IsFrontOf a c
-IsFrontOf-trans a b c ab bc = (ab.0 ++ bc.0, bc.1 ∙ ap (λ (es : List Event). es ++ bc.0) ab.1 ∙ append_assoc a ab.0 bc.0)
-
--- every step only adds events
-pub IsFrontOf-fed : (r : Reading) (piece : List ℕ) → IsFrontOf r.events (fed r piece).events
+pub IsPrefix-fed : (r : Reading) (piece : List ℕ) → IsPrefix r.events (fed r piece).events
 unfolding fed
-IsFrontOf-fed r piece = ((fed_in r.state piece).events, refl)
+IsPrefix-fed r piece = record { after = (fed_in r.state piece).events; is = refl }
 
-pub IsFrontOf-finished : (r : Reading) → IsFrontOf r.events (finished r).events
+pub IsPrefix-finished : (r : Reading) → IsPrefix r.events (finished r).events
 unfolding finished
-IsFrontOf-finished r = ((finished_in r.state).events, refl)
+IsPrefix-finished r = record { after = (finished_in r.state).events; is = refl }
 
 -- ---- where a call ends
 
 pub came : (old wanted new : Reading) (result : Answer) → new ≡ wanted → result ≡ answer_of wanted.state →
-    IsFrontOf old.events wanted.events → HasReached old wanted new result
+    IsPrefix old.events wanted.events → HasReached old wanted new result
 came old wanted new result is answer kept =
     record {
       answer = answer ∙ sym (ap (λ (r : Reading). answer_of r.state) is);
       reading = λ other. is;
-      kept = subst (λ (r : Reading). IsFrontOf old.events r.events) (sym is) kept;
-      front = IsFrontOf-is new.events wanted.events (ap (λ (r : Reading). r.events) is);
+      kept = subst (λ (r : Reading). IsPrefix old.events r.events) (sym is) kept;
+      prefix = equal_is_prefix new.events wanted.events (ap (λ (r : Reading). r.events) is);
     }
 
 pub ran_out : (old wanted new : Reading) (result : Answer) → new ≡ record { events = old.events; state = Failed OutOfMemory } →
-    result ≡ Err OutOfMemory → IsFrontOf old.events wanted.events → HasReached old wanted new result
+    result ≡ Err OutOfMemory → IsPrefix old.events wanted.events → HasReached old wanted new result
 ran_out old wanted new result is answer kept =
     let same : new.events ≡ old.events = ap (λ (r : Reading). r.events) is in
     record {
       answer = answer ∙ sym (ap (λ (r : Reading). answer_of r.state) is);
       reading = λ other. absurd (other answer);
-      kept = IsFrontOf-is old.events new.events (sym same);
-      front = subst (λ (es : List Event). IsFrontOf es wanted.events) (sym same) kept;
+      kept = equal_is_prefix old.events new.events (sym same);
+      prefix = subst (λ (es : List Event). IsPrefix es wanted.events) (sym same) kept;
     }
 
 -- ---- the fields of an open reader
@@ -94,7 +86,7 @@ unfolding with_judged
 judged_event old events lines rest status event events' rest' is open_now more none =
     let s = is_open_at old events lines rest status is open_now in
     rw s.1
-    (came (open_at events lines rest) _ _ _ (rw (s.0, more, none, add-one lines) refl) refl (event ∷ [], refl))
+    (came (open_at events lines rest) _ _ _ (rw (s.0, more, none, add-one lines) refl) refl (record { after = event ∷ []; is = refl }))
 
 pub judged_memory : (old new : Reading) (events : List Event) (lines : ℕ) (rest : List ℕ) (status : Status) (event : Event)
     (result : Answer)
@@ -104,7 +96,7 @@ pub judged_memory : (old new : Reading) (events : List Event) (lines : ℕ) (res
 unfolding with_judged
 judged_memory old new events lines rest status event result is open_now failed answer =
     let s = is_open_at old events lines rest status is open_now in
-    rw s.1 (ran_out (open_at events lines rest) _ new result failed answer (event ∷ [], refl))
+    rw s.1 (ran_out (open_at events lines rest) _ new result failed answer (record { after = event ∷ []; is = refl }))
 
 pub judged_fault : (old new : Reading) (events : List Event) (lines : ℕ) (rest : List ℕ) (status : Status) (fault : TraceFault)
     (result : Answer)
@@ -116,7 +108,7 @@ judged_fault old new events lines rest status fault result is open_now failed an
     let s = is_open_at old events lines rest status is open_now in
     rw s.1
     (came (open_at events lines rest) _ new result (failed ∙ rw (s.1, append-nil events, add-one lines) refl)
-    (answer ∙ rw (add-one lines) refl) ([], refl))
+    (answer ∙ rw (add-one lines) refl) (record { after = []; is = refl }))
 
 pub judgement : (old : Reading) (events : List Event) (lines : ℕ) (rest : List ℕ) (status : Status) (end line : List ℕ)
     → fields events lines rest status ≡ old → is_open old ≡ true → line ≡ rest ++ end →

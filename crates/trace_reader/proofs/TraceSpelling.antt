@@ -1,14 +1,14 @@
 -- A trace's text is read as its events, and no other text is.
-use Rattle.std.proofs.Common.{◌≡◌, ℕ, suc, ◌+◌, ◌<◌, ◌≤◌, List, [], ◌∷◌, length, map, Option, Some, None, Result, Ok, Err, IfOk, refl, sym, ap, subst, ◌∙◌, arith, ◌⊎◌, inl, inr}
+use Rattle.std.proofs.Common.{◌≡◌, ℕ, suc, ◌+◌, ◌<◌, ◌≤◌, List, [], ◌∷◌, length, map, Option, Some, None, Result, Ok, Err, IfOk, refl, sym, ap, subst, ◌∙◌, arith}
 use Rattle.std.specs.Prelude.{All}
 use Rattle.std.proofs.lemmas.List.Elements.{All-nil, All-cons, All-head, All-tail}
 use Rattle.line_text.proofs.LawLemmas.{full_lines_are_read, text_is_its_lines}
-use Rattle.line_text.specs.Lines.{lines, text_of, ended, IsFullLine}
+use Rattle.line_text.specs.Lines.{IsTextOf, lines, IsFullLine}
 use Rattle.heap_theory.specs.declared.event.Event.{Event}
 use Rattle.trace_reader.specs.declared.fault.TraceFault.{TraceFault}
 use Rattle.heap_theory.specs.Ranges.{IsInRange}
 use Rattle.trace_reader.specs.TraceLine.{event_line, event_of_line}
-use Rattle.trace_reader.specs.TraceText.{SpellsTrace, Trace, no_lines, trace_from, trace_of, trace_text, with_line}
+use Rattle.trace_reader.specs.TraceText.{SpellsTrace, Trace, no_lines, trace_from, trace_of, with_line}
 use Rattle.trace_reader.proofs.EventLines.{event_line-is_line, event_line-some, event_of_line-spelled}
 use Rattle.trace_reader.proofs.LineRanges.{IfOk-event_of_line, few_events}
 use Rattle.trace_reader.proofs.SpelledLines.{spelled_line}
@@ -69,16 +69,11 @@ spelled_lines number (line ∷ ls) events is =
 pub spelled-trace_of : (text : List ℕ) (events : List Event) → trace_of text ≡ whole events → SpellsTrace text events
 spelled-trace_of text events is =
     let s = spelled_lines 1 (lines text) events is in
-    record { few = few events s.few; ranges = s.ranges; spelled = turned (text_is_its_lines text) s.spelled }
+    record { few = few events s.few; ranges = s.ranges; spelled = subst (IsTextOf text) s.spelled (text_is_its_lines text) }
   where
     few : (events : List Event) → (0 < length events → 1 + length events ≤ 1000001) → length events ≤ 1000000
     few [] more = omega arith
     few (e ∷ es) more = omega (arith, more (omega arith))
-
-    turned : (text_of (lines text) ≡ text) ⊎ (text_of (lines text) ≡ ended text) → lines text ≡ map event_line events →
-        (text ≡ trace_text events) ⊎ (ended text ≡ trace_text events)
-    turned (inl e) same = inl (sym e ∙ ap text_of same)
-    turned (inr e) same = inr (sym e ∙ ap text_of same)
 
 -- ---- from events to lines
 

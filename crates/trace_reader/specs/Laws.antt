@@ -6,7 +6,7 @@ use Rattle.heap_theory.specs.declared.event.Event.{Event}
 use Rattle.trace_reader.specs.declared.fault.TraceFault.{TraceFault}
 use Rattle.heap_theory.specs.Ranges.{IsInRange}
 use Rattle.trace_reader.specs.Reading.{Reading, cut, added, fed, fed_all, finished, nothing_read, whole_reading}
-use Rattle.trace_reader.specs.Reached.{IsFrontOf}
+use Rattle.line_text.specs.Prefixes.{IsPrefix}
 use Rattle.trace_reader.specs.TraceLine.{most_events}
 use Rattle.trace_reader.specs.TraceText.{SpellsTrace, Trace, trace_of}
 
@@ -55,10 +55,10 @@ PiecesAreTheText = (pieces : List (List ℕ)) → finished (fed_all nothing_read
 
 -- What is read only adds events,
 abbrev pub FedAddsEvents : Type 0
-FedAddsEvents = (reading : Reading) (piece : List ℕ) → IsFrontOf reading.events (fed reading piece).events
+FedAddsEvents = (reading : Reading) (piece : List ℕ) → IsPrefix reading.events (fed reading piece).events
 
 abbrev pub FinishedAddsEvents : Type 0
-FinishedAddsEvents = (reading : Reading) → IsFrontOf reading.events (finished reading).events
+FinishedAddsEvents = (reading : Reading) → IsPrefix reading.events (finished reading).events
 
 -- and they are never too many.
 abbrev pub PiecesHaveFewEvents : Type 0

@@ -1,6 +1,6 @@
 -- The result of a call that reads, and the reader after it.
-use Rattle.std.specs.Prelude.{◌≡◌, ◌≢◌, List, ◌++◌, Result, Ok, Err}
-use Rattle.heap_theory.specs.declared.event.Event.{Event}
+use Rattle.std.specs.Prelude.{◌≡◌, ◌≢◌, Result, Ok, Err}
+use Rattle.line_text.specs.Prefixes.{IsPrefix}
 use Rattle.trace_reader.specs.declared.fault.TraceError.{TraceError}
 use Rattle.trace_reader.specs.declared.fault.TraceError.TheVariants.{OutOfMemory}
 use Rattle.trace_reader.specs.Reading.{State, Reading}
@@ -12,13 +12,9 @@ answer_of (Open lines rest) = Ok tt
 answer_of (Failed error) = Err error
 answer_of Finished = Ok tt
 
--- `front` is a prefix of `events`.
-abbrev pub IsFrontOf : List Event → List Event → Type 0
-IsFrontOf front events = (more : List Event) × (events ≡ front ++ more)
-
 -- A call that should turn the reading `old` into `wanted` turned it into `new`. These two differ only if memory ran out.
 pub record HasReached (old wanted new : Reading) (result : Result (Unit {0}) TraceError) : Type 0 where
   pub answer : result ≡ answer_of new.state
   pub reading : result ≢ Err OutOfMemory → new ≡ wanted
-  pub kept : IsFrontOf old.events new.events
-  pub front : IsFrontOf new.events wanted.events
+  pub kept : IsPrefix old.events new.events
+  pub prefix : IsPrefix new.events wanted.events

@@ -1,6 +1,6 @@
 -- A trace's text: a line for each event.
-use Rattle.std.specs.Prelude.{◌≡◌, ◌≤◌, ℕ, suc, ◌⊎◌, List, [], ◌∷◌, length, map, Option, Some, None, Result, Ok, Err, All}
-use Rattle.line_text.specs.Lines.{lines, text_of, ended}
+use Rattle.std.specs.Prelude.{◌≡◌, ◌≤◌, ℕ, suc, List, [], ◌∷◌, length, map, Option, Some, None, Result, Ok, Err, All}
+use Rattle.line_text.specs.Lines.{IsTextOf, lines, text_of}
 use Rattle.heap_theory.specs.declared.event.Event.{Event}
 use Rattle.trace_reader.specs.declared.fault.TraceFault.{TraceFault}
 use Rattle.heap_theory.specs.Ranges.{IsInRange}
@@ -16,7 +16,7 @@ trace_text events = text_of (map event_line events)
 pub record SpellsTrace (text : List ℕ) (events : List Event) : Type 0 where
   pub few : length events ≤ most_events
   pub ranges : All IsInRange events
-  pub spelled : (text ≡ trace_text events) ⊎ (ended text ≡ trace_text events)
+  pub spelled : IsTextOf text (map event_line events)
 
 -- ---- reading
 

@@ -1,5 +1,6 @@
-//! The event that a line spells.
-ghost use Rattle.std.specs.Prelude.{◌≡◌, ◌<◌, ◌≤◌, ◌^◌, ℕ, Result, Ok, Err, IfOk, List, map};
+//! The event that a line spells, found word by word. `one_pass` reads the words of the same events in one pass: a change of an event's
+//! words must be made in both files and in `specs/TraceLine.antt`.
+ghost use Rattle.std.specs.Prelude.{◌≡◌, ◌≤◌, ℕ, IfOk, map};
 ghost use Rattle.heap_theory.specs.declared.event.Event.{Event as EventView};
 ghost use Rattle.heap_theory.specs.Ranges.{IsInRange};
 ghost use Rattle.line_text.specs.Lines.{words};

@@ -1,5 +1,6 @@
 //! The event of a line that spells one, read in one pass over its bytes. `line` judges every other line word by word, which is slower and
-//! finds each fault.
+//! finds each fault. A change of an event's words must be made in both files and in `specs/TraceLine.antt`; an event that is missing here
+//! is read by `line`.
 ghost use Rattle.std.specs.Prelude.{◌≡◌, ◌≤◌, [], ℕ, IfSome, Ok};
 ghost use Rattle.heap_theory.specs.declared.event.Event.{Event as EventView};
 ghost use Rattle.line_text.specs.Lines.{words};
@@ -10,7 +11,7 @@ use crate::words::{FARTHEST, byte_in, offset_in};
 use heap_theory::Event;
 use line_text::{Words, words_in};
 
-// the event that a line spells; `None` if it spells none
+// The event that a line spells. `None` leaves the line to `line`, which finds an event or a fault.
 pub(crate) fn spelled_event(line: &[u8]) -> Option<Event>
     ensures { IfSome result (λ event. event_of_words (words line.now) ≡ Ok event) }
 {

@@ -1,10 +1,9 @@
-ghost use Rattle.std.specs.Prelude.{◌≡◌, ◌≢◌, ◌≤◌, ◌++◌, ◌∷◌, [], List, drop, length, slice_get, false, true, All, Err, IfSome, OnOk, Result, is_ok};
+ghost use Rattle.std.specs.Prelude.{◌≡◌, ◌≢◌, ◌≤◌, [], drop, length, slice_get, false, true, All, Err, IfSome, OnOk, is_ok};
 ghost use Rattle.line_text.specs.Lines.{IsLine};
-ghost use Rattle.heap_theory.specs.declared.event.Event.{Event as EventView};
 ghost use Rattle.trace_reader.specs.declared.fault.TraceError.TheVariants.{OutOfMemory};
-ghost use Rattle.trace_reader.specs.declared.fault.TraceFault.{TraceFault as Fault};
 ghost use Rattle.heap_theory.specs.Ranges.{IsInRange};
-ghost use Rattle.trace_reader.specs.Reached.{HasReached, IsFrontOf, answer_of};
+ghost use Rattle.line_text.specs.Prefixes.{IsPrefix};
+ghost use Rattle.trace_reader.specs.Reached.{HasReached, answer_of};
 ghost use Rattle.trace_reader.specs.Reading.State.{Failed};
 ghost use Rattle.trace_reader.specs.Reading.{fed, finished, is_finished, nothing_read, IsJudgementIn, is_open, line_ended, with_judged};
 
@@ -70,8 +69,8 @@ impl TraceReader {
         ensures answer { result ≡ answer_of self.new.state }
         ensures failed { (error : TraceError) → self.old.state ≡ Failed error → self.new ≡ self.old }
         ensures reading { result ≢ Err OutOfMemory → self.new ≡ fed self.old piece.now }
-        ensures kept { IsFrontOf self.old.events self.new.events }
-        ensures front { IsFrontOf self.new.events (fed self.old piece.now).events }
+        ensures kept { IsPrefix self.old.events self.new.events }
+        ensures prefix { IsPrefix self.new.events (fed self.old piece.now).events }
         ensures unfinished { is_finished self.new ≡ false }
     {
         if let Status::Failed(error) = self.status {
@@ -92,8 +91,8 @@ impl TraceReader {
         ensures answer { result ≡ answer_of self.new.state }
         ensures failed { (error : TraceError) → self.old.state ≡ Failed error → self.new ≡ self.old }
         ensures reading { result ≢ Err OutOfMemory → self.new ≡ finished self.old }
-        ensures kept { IsFrontOf self.old.events self.new.events }
-        ensures front { IsFrontOf self.new.events (finished self.old).events }
+        ensures kept { IsPrefix self.old.events self.new.events }
+        ensures prefix { IsPrefix self.new.events (finished self.old).events }
         ensures finished { is_finished self.new ≡ is_ok result }
         ensures few { OnOk result (length self.new.events ≤ MOST_EVENTS) }
     {

@@ -1,5 +1,5 @@
 //! The words of a line, and what each spells as a number of a range.
-ghost use Rattle.std.specs.Prelude.{◌≡◌, ◌<◌, ◌≤◌, ◌^◌, [], false, Err, IfOk, IsTrue, ℤ, nat_abs, map};
+ghost use Rattle.std.specs.Prelude.{◌≡◌, ◌≤◌, [], false, Err, IfOk, IsTrue, map};
 ghost use Rattle.std.specs.List.{list_any};
 ghost use Rattle.line_text.specs.Lines.{words};
 ghost use Rattle.trace_reader.specs.declared.fault.TraceFault.TheVariants.{BadWord};

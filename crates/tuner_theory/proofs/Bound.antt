@@ -24,7 +24,7 @@ module _ (cost : ℕ → ℕ → ℕ) (d limit : ℕ) (potential : ℕ → ℕ �
   last-class : (i : ℕ) → 1 ≤ limit → i ≤ d → potential 1 i ≤ cost i d
   last-class i one le =
       elim (cases_lt i d) [
-        | inl inside ↦ valid.last_class i one inside
+        | inl inside ↦ valid.last_class one i inside
         | inr past ↦ (let end : i ≡ d = omega arith in omega (arith, ap (potential 1) end, valid.at_end 1))
       ]
 

@@ -8,7 +8,8 @@ use Rattle.tuner_theory.specs.Best.{IsCandidate}
 use Rattle.tuner_theory.specs.Potentials.{AreValidPotentials}
 use Rattle.tuner_theory.specs.Rests.{counts_above, counts_above_from}
 use Rattle.tuner_theory.specs.Spans.{need_at, places, rounded_need, span_waste}
-use Rattle.tuner_theory.specs.Waste.{IsCounted, sum_below, waste_at, waste_of}
+use Rattle.tuner_theory.specs.Profiles.{IsCounted}
+use Rattle.tuner_theory.specs.Waste.{sum_below, waste_at, waste_of}
 use Rattle.tuner_theory.proofs.Bound.{bound}
 use Rattle.tuner_theory.proofs.Needs.{Reaches, need_at-from, needs_ascend}
 use Rattle.tuner_theory.proofs.Rounding.{rounded-positive}

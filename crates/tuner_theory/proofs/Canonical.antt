@@ -4,13 +4,15 @@ use Rattle.std.specs.Bool.{⊤}
 use Rattle.std.specs.Prelude.{All}
 use Rattle.std.proofs.lemmas.Bool.{cases_lt, cond_both, ltb-true}
 use Rattle.std.proofs.lemmas.List.{get_or_default}
+use Rattle.std.proofs.lemmas.Option.{same_Some}
 use Rattle.class_table.specs.Tables.{class_for}
 use Rattle.class_table.proofs.LawLemmas.{AreClassesAbove, class_above, classes_of_legal_table, legal_table_of_classes}
 use Rattle.tuner_theory.specs.Best.{IsBest, IsCandidate, IsCanonical, IsLexicographicallyAtMost, IsUsed}
 use Rattle.tuner_theory.specs.Tuned.{AreTunedRows, tuned_table}
 use Rattle.tuner_theory.specs.Rows.{AreLeastRows, table_of_ends}
 use Rattle.tuner_theory.specs.Spans.{need_at, places, rounded_need, span_waste}
-use Rattle.tuner_theory.specs.Waste.{IsCounted, waste_of}
+use Rattle.tuner_theory.specs.Profiles.{IsCounted}
+use Rattle.tuner_theory.specs.Waste.{waste_of}
 use Rattle.tuner_theory.proofs.Bound.{bound}
 use Rattle.tuner_theory.proofs.BoundRests.{potentials-bound}
 use Rattle.tuner_theory.proofs.LeastRows.{ends-later, rows-valid}
@@ -32,9 +34,6 @@ abbrev IsUsedAt : List ℕ → ℕ → ℕ → List ℕ → ℕ → Type 0
 IsUsedAt counts step low classes k =
     (n : ℕ) × IsCounted counts n × (low < rounded_need step n) × (class_for classes n ≡ Some (slice_index classes k))
 
-some-same : {a b : ℕ} → Some a ≡ Some b → a ≡ b
-some-same e = cc
-
 module _ (step : ℕ) (pos : 0 < step) where
   -- the class of a request is not below its need
   class_for-above : (low n class : ℕ) (classes : List ℕ) → 1 ≤ low → AreClassesAbove step low classes → class_for classes n ≡ Some class
@@ -42,7 +41,7 @@ module _ (step : ℕ) (pos : 0 < step) where
   class_for-above low n class [] one above e = absurd cc
   class_for-above low n class (c ∷ cs) one above e =
       elim (cases_lt c (rounded_need step n)) [
-        | inr le ↦ (let same : c ≡ class = some-same (sym (class_for-first step pos n c cs le) ∙ e) in omega arith)
+        | inr le ↦ (let same : c ≡ class = same_Some _ _ (sym (class_for-first step pos n c cs le) ∙ e) in omega arith)
         | inl lt ↦ class_for-above c n class cs (omega (arith, above.0)) above.3
             (sym (class_for-later step pos n c cs (omega (arith, above.0)) above.2 lt) ∙ e)
       ]
@@ -58,7 +57,7 @@ module _ (counts : List ℕ) (step : ℕ) (pos : 0 < step) where
             let u = used (suc k) (omega arith) in
             elim (cases_lt c (rounded_need step u.0)) [
               | inl over ↦ (u.0, u.1, over, sym (class_for-later step pos u.0 c cs (omega (arith, above.0)) above.2 over) ∙ u.3)
-              | inr le ↦ absurd (let same : c ≡ slice_index cs k = some-same (sym (class_for-first step pos u.0 c cs le) ∙ u.3) in
+              | inr le ↦ absurd (let same : c ≡ slice_index cs k = same_Some _ _ (sym (class_for-first step pos u.0 c cs le) ∙ u.3) in
                   omega (arith, same, class_above step c k cs above.3 (omega arith)))
             ]),
       )

@@ -64,7 +64,7 @@ pub optimal_is_best : OptimalIsBest
 optimal_is_best = optimal-best
 
 pub ends_are_later : EndsAreLater
-ends_are_later cost d limit rows ends k i least = ends-later cost d limit rows ends least k i
+ends_are_later = ends-later
 
 pub least_rows_are_valid : LeastRowsAreValid
 least_rows_are_valid = rows-valid

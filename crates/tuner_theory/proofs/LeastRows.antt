@@ -2,7 +2,7 @@
 use Rattle.std.proofs.Common.{◌≡◌, ℕ, zero, suc, ◌+◌, ◌<◌, ◌≤◌, arith, ap, inl, inr}
 use Rattle.std.proofs.lemmas.Bool.{cases_lt}
 use Rattle.tuner_theory.specs.Potentials.{AreValidPotentials}
-use Rattle.tuner_theory.specs.Rows.{AreLeastRows, IsLeastEnd}
+use Rattle.tuner_theory.specs.Rows.{AreLaterEnds, AreLeastRows, IsLeastEnd}
 use Rattle.tuner_theory.specs.Spans.{IsCrossing}
 
 pub ends-ascend : (cost : ℕ → ℕ → ℕ) (before : ℕ → ℕ) (d i j e f : ℕ) → IsCrossing cost d → i ≤ j
@@ -19,7 +19,7 @@ ends-ascend cost before d i j e f crossing ij le lf =
     ]
 
 module _ (cost : ℕ → ℕ → ℕ) (d limit : ℕ) (rows ends : ℕ → ℕ → ℕ) (least : AreLeastRows cost d limit rows ends) where
-  pub ends-later : (k i : ℕ) → 1 ≤ k → k ≤ limit → i < d → (i < ends k i) × (ends k i ≤ d)
+  pub ends-later : AreLaterEnds d limit ends
   ends-later zero i one le lt = absurd (omega arith)
   ends-later (suc zero) i one le lt = let row = least.first_row i (omega arith) lt in (omega (arith, row.1), omega (arith, row.1))
   ends-later (suc (suc k)) i one le lt = let row = least.later_row (suc k) i (omega arith) (omega arith) lt in (row.0.after, row.0.within)
@@ -48,7 +48,7 @@ module _ (cost : ℕ → ℕ → ℕ) (d limit : ℕ) (rows ends : ℕ → ℕ �
 
   pub rows-valid : AreValidPotentials cost d limit rows
   rows-valid = record {
-    last_class = λ i one lt. omega (arith, (least.first_row i one lt).0);
+    last_class = λ one i lt. omega (arith, (least.first_row i one lt).0);
     stage_drop = stage-drop;
     edge = edge-least;
     at_end = least.at_end;

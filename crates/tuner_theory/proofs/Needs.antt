@@ -1,10 +1,12 @@
 -- The distinct needs: they ascend, each is the need of a counted size, and each counted size has its need among them.
-use Rattle.std.proofs.Common.{◌≡◌, ℕ, zero, suc, ◌%◌, ◌<◌, ◌≤◌, List, [], ◌∷◌, length, slice_index, eqb, ltb, arith, refl, sym, subst, ap, ◌∙◌, inl, inr, ◌⊎◌}
+use Rattle.std.proofs.Common.{◌≡◌, ℕ, zero, suc, ◌+◌, ◌%◌, ◌<◌, ◌≤◌, List, [], ◌∷◌, length, slice_index, eqb, ltb, arith, refl, sym, subst, ap, ◌∙◌, inl, inr, ◌⊎◌}
 use Rattle.std.specs.Bool.{⊤}
 use Rattle.std.proofs.lemmas.Bool.{cond_both, eqb-true, eqb-false, ltb-true, cases_lt, lt-ltb}
 use Rattle.tuner_theory.specs.Spans.{with_need, needs_below, distinct_needs, places, need_at, rounded_need}
 use Rattle.class_table.specs.Steps.{IsStep}
-use Rattle.tuner_theory.specs.Waste.{IsCounted}
+use Rattle.class_table.specs.Sizes.{largest_counted}
+use Rattle.class_table.specs.declared.sizes.TheConstants.{LARGEST_CLASS, MOST_NEEDS, SMALLEST_CLASS}
+use Rattle.tuner_theory.specs.Profiles.{IsCounted}
 use Rattle.tuner_theory.proofs.Rounding.{rounded-mono, rounded-multiple, rounded-positive, rounded-small, step-positive}
 
 -- ---- lists that ascend
@@ -152,8 +154,8 @@ need_at-has counts step n counted =
     let b = needs-has counts step (length counts) n counted.0 counted.1 in (suc b.0, omega arith, b.1.0, b.1.1)
 
 -- the need of a place: between a counted size and the largest class
-pub place-class : (counts : List ℕ) (step i : ℕ) → IsStep step → length counts ≤ 16369 → 0 < i → i ≤ places counts step
-    → (2 ≤ need_at counts step i) × (need_at counts step i ≤ 1024) × (need_at counts step i % step ≡ 0)
+pub place-class : (counts : List ℕ) (step i : ℕ) → IsStep step → length counts ≤ largest_counted + 1 → 0 < i → i ≤ places counts step
+    → (SMALLEST_CLASS ≤ need_at counts step i) × (need_at counts step i ≤ LARGEST_CLASS) × (need_at counts step i % step ≡ 0)
 place-class counts step i is_step small pos le =
     let at = need_at-from counts step i pos le in
     let multiple = rounded-multiple step (step-positive step is_step) at.0 in (
@@ -169,10 +171,10 @@ need_at-large counts step zero pos le =
 need_at-large counts step (suc i) pos le =
     omega (arith, need_at-large counts step i pos (omega arith), needs_ascend counts step pos (suc i) (suc (suc i)) (omega arith) le)
 
-pub few-places : (counts : List ℕ) (step : ℕ) → IsStep step → length counts ≤ 16369 → places counts step ≤ 1023
+pub few-places : (counts : List ℕ) (step : ℕ) → IsStep step → length counts ≤ largest_counted + 1 → places counts step ≤ MOST_NEEDS
 few-places counts step is_step small = few (places counts step) (omega arith)
   where
-    few : (d : ℕ) → d ≤ places counts step → d ≤ 1023
+    few : (d : ℕ) → d ≤ places counts step → d ≤ MOST_NEEDS
     few zero le = omega arith
     few (suc d) le =
         omega (

@@ -1,9 +1,11 @@
 -- The numbers of least rows are the least rests.
-use Rattle.std.proofs.Common.{ℕ, zero, suc, ◌<◌, ◌≤◌, max, List, length, arith, ◌∙◌}
+use Rattle.std.proofs.Common.{ℕ, zero, suc, ◌+◌, ◌<◌, ◌≤◌, max, List, length, arith, ◌∙◌}
 use Rattle.tuner_theory.specs.Rests.{IsRest}
 use Rattle.tuner_theory.specs.Rows.{AreLeastRows, table_of_ends}
 use Rattle.tuner_theory.specs.Spans.{need_at, places, rounded_need, span_waste}
+use Rattle.class_table.specs.Sizes.{largest_counted}
 use Rattle.class_table.specs.Steps.{IsStep}
+use Rattle.class_table.specs.declared.table.TheConstants.{MOST_CLASSES}
 use Rattle.class_table.proofs.LawLemmas.{legal_table_of_classes}
 use Rattle.tuner_theory.proofs.BoundRests.{counted-above, reach-low, rests-bound, waste-above}
 use Rattle.tuner_theory.proofs.LeastRows.{rows-valid}
@@ -11,8 +13,8 @@ use Rattle.tuner_theory.proofs.Needs.{Reaches}
 use Rattle.tuner_theory.proofs.Rounding.{rounded-positive, step-positive}
 use Rattle.tuner_theory.proofs.TunedTable.{IsTableFor, table-tuned}
 
-module _ (counts : List ℕ) (step : ℕ) (is_step : IsStep step) (small : length counts ≤ 16369) (limit : ℕ) (few : limit ≤ 32)
-    (rows ends : ℕ → ℕ → ℕ)
+module _ (counts : List ℕ) (step : ℕ) (is_step : IsStep step) (small : length counts ≤ largest_counted + 1)
+    (limit : ℕ) (few : limit ≤ MOST_CLASSES) (rows ends : ℕ → ℕ → ℕ)
     (least : AreLeastRows (span_waste counts step) (places counts step) limit rows ends) where
   rest-at : (k i : ℕ) → suc k ≤ limit → i < places counts step → IsRest counts step (suc k) i (rows (suc k) i)
   rest-at k i le lt = record {

@@ -2,9 +2,10 @@
 use Rattle.std.proofs.Common.{◌≡◌, ℕ, ◌+◌, ◌-◌, ◌*◌, ◌/◌, ◌%◌, ◌<◌, ◌≤◌, ◌⊎◌, ◌||◌, arith, refl, inl, inr, subst, sym, eqb}
 use Rattle.std.proofs.lemmas.Bool.{or_cases, eqb-true}
 use Rattle.std.proofs.Math.Nat.{mul-le-mul_right, lt-mul-div-succ, div-lt_iff_lt-mul, div-add-mod, mul_comm, mul-mod_left}
-use Rattle.class_table.specs.Sizes.{need_of}
+use Rattle.class_table.specs.Sizes.{largest_counted, need_of}
 use Rattle.tuner_theory.specs.Spans.{rounded_need}
 use Rattle.class_table.specs.Steps.{IsLeastMultiple, IsStep, round_up}
+use Rattle.class_table.specs.declared.sizes.TheConstants.{LARGEST_CLASS, SMALLEST_CLASS}
 
 -- ---- steps
 
@@ -37,8 +38,8 @@ at_each_step P one two four eight step h =
 pub step-positive : (step : ℕ) → IsStep step → 0 < step
 step-positive = at_each_step (λ step. 0 < step) (omega arith) (omega arith) (omega arith) (omega arith)
 
-largest-multiple : (step : ℕ) → IsStep step → 1024 % step ≡ 0
-largest-multiple = at_each_step (λ step. 1024 % step ≡ 0) refl refl refl refl
+largest-multiple : (step : ℕ) → IsStep step → LARGEST_CLASS % step ≡ 0
+largest-multiple = at_each_step (λ step. LARGEST_CLASS % step ≡ 0) refl refl refl refl
 
 -- ---- rounding
 
@@ -60,19 +61,19 @@ rounding-least step need pos = record {
   least = λ other multiple le. round_up-least need step other pos multiple le;
 }
 
-pub rounding-fits : (step need : ℕ) → IsStep step → need ≤ 1024 → round_up need step ≤ 1024
-rounding-fits step need is_step le = round_up-least need step 1024 (step-positive step is_step) (largest-multiple step is_step) le
+pub rounding-fits : (step need : ℕ) → IsStep step → need ≤ LARGEST_CLASS → round_up need step ≤ LARGEST_CLASS
+rounding-fits step need is_step le = round_up-least need step LARGEST_CLASS (step-positive step is_step) (largest-multiple step is_step) le
 
 -- ---- rounded needs
 
 need-mono : (m n : ℕ) → m ≤ n → need_of m ≤ need_of n
 need-mono m n le = omega arith
 
-need-positive : (n : ℕ) → 2 ≤ need_of n
+need-positive : (n : ℕ) → SMALLEST_CLASS ≤ need_of n
 need-positive n = omega arith
 
-need-small : (n : ℕ) → n < 16369 → need_of n ≤ 1024
-need-small n lt = omega arith
+need-small : (n : ℕ) → n ≤ largest_counted → need_of n ≤ LARGEST_CLASS
+need-small n le = omega arith
 
 need-fits : (n class : ℕ) → need_of n ≤ class → n ≤ 16 * class - 16
 need-fits n class le = omega arith
@@ -80,8 +81,8 @@ need-fits n class le = omega arith
 fits-need : (n class : ℕ) → 2 ≤ class → n ≤ 16 * class - 16 → need_of n ≤ class
 fits-need n class two le = omega arith
 
-pub rounded-small : (step n : ℕ) → IsStep step → n < 16369 → rounded_need step n ≤ 1024
-rounded-small step n is_step lt = rounding-fits step (need_of n) is_step (need-small n lt)
+pub rounded-small : (step n : ℕ) → IsStep step → n ≤ largest_counted → rounded_need step n ≤ LARGEST_CLASS
+rounded-small step n is_step le = rounding-fits step (need_of n) is_step (need-small n le)
 
 module _ (step : ℕ) (pos : 0 < step) where
   pub rounded-multiple : (n : ℕ) → rounded_need step n % step ≡ 0
@@ -92,7 +93,7 @@ module _ (step : ℕ) (pos : 0 < step) where
       let later = rounding-least step (need_of n) pos in
       round_up-least (need_of m) step (rounded_need step n) pos later.multiple (omega (arith, need-mono m n le, later.above))
 
-  pub rounded-positive : (n : ℕ) → 2 ≤ rounded_need step n
+  pub rounded-positive : (n : ℕ) → SMALLEST_CLASS ≤ rounded_need step n
   rounded-positive n = omega (arith, round_up-above (need_of n) step pos, need-positive n)
 
   -- a class that is not below the rounded need serves,

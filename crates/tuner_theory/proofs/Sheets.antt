@@ -45,7 +45,7 @@ optimal-best counts sheet legal meets = record {
   where
     valid : AreValidPotentials (span_waste counts sheet.step) (places counts sheet.step) sheet.limit (number_at sheet.rows)
     valid = record {
-      last_class = λ i one lt. meets LastClass i lt;
+      last_class = λ one. meets LastClass;
       stage_drop = meets StageDrop;
       edge = meets Edge;
       at_end = rows-end sheet.rows sheet.limit (places counts sheet.step) (meets Shape);
@@ -75,7 +75,7 @@ tuned-optimal counts step limit rows ends tuned shape = meets
     meets NotServing = canonical.0.best.candidate.serving
     meets WasteWrong = refl
     meets Shape = shape
-    meets LastClass = λ i lt. valid.last_class i tuned.some lt
+    meets LastClass = valid.last_class tuned.some
     meets StageDrop = valid.stage_drop
     meets Edge = valid.edge
     meets NotTight = sym canonical.1

@@ -7,7 +7,8 @@ use Rattle.std.proofs.Math.Nat.{mul-le-mul_right}
 use Rattle.class_table.specs.Sizes.{loss_of}
 use Rattle.class_table.specs.Tables.{class_for}
 use Rattle.tuner_theory.specs.Spans.{need_at, places, rounded_need, span_waste, waste_between}
-use Rattle.tuner_theory.specs.Waste.{IsCounted, sum_below, waste_at, waste_of}
+use Rattle.tuner_theory.specs.Profiles.{IsCounted}
+use Rattle.tuner_theory.specs.Waste.{sum_below, waste_at, waste_of}
 use Rattle.tuner_theory.proofs.Needs.{Reaches, need_at-from, reach-covers}
 use Rattle.tuner_theory.proofs.Rounding.{fits-rounded, rounded-fits, rounded-positive}
 use Rattle.tuner_theory.proofs.Spans.{loss-mono}

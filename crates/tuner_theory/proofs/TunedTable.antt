@@ -3,7 +3,7 @@ use Rattle.std.proofs.Common.{◌≡◌, ℕ, zero, suc, ◌+◌, ◌*◌, ◌<�
 use Rattle.std.specs.Prelude.{IsSome}
 use Rattle.std.proofs.lemmas.Bool.{cases_lt, cond_both, ltb-true, ltb-false}
 use Rattle.std.proofs.lemmas.Bool.Decides.{nat_tests}
-use Rattle.class_table.specs.Sizes.{loss_of}
+use Rattle.class_table.specs.Sizes.{largest_counted, loss_of}
 use Rattle.tuner_theory.specs.Rows.{AreLeastRows, table_of_ends}
 use Rattle.tuner_theory.specs.Spans.{need_at, places, rounded_need, span_waste, waste_between}
 use Rattle.class_table.specs.Steps.{IsStep}
@@ -53,7 +53,7 @@ module _ (counts : List ℕ) (step : ℕ) (pos : 0 < step) where
   }
 
   -- a class in front, for the places from i up to j
-  table-cons : (k low i j rest waste : ℕ) (classes : List ℕ) → IsStep step → length counts ≤ 16369 → 1 ≤ low
+  table-cons : (k low i j rest waste : ℕ) (classes : List ℕ) → IsStep step → length counts ≤ largest_counted + 1 → 1 ≤ low
       → Reaches counts step low (places counts step) i → i < j → j ≤ places counts step
       → IsTableFor counts step k (need_at counts step j) rest classes → waste ≡ span_waste counts step i j + rest
       → IsTableFor counts step (suc k) low waste (need_at counts step j ∷ classes)
@@ -73,7 +73,8 @@ module _ (counts : List ℕ) (step : ℕ) (pos : 0 < step) where
         ];
       }
 
-module _ (counts : List ℕ) (step : ℕ) (is_step : IsStep step) (small : length counts ≤ 16369) (limit : ℕ) (rows ends : ℕ → ℕ → ℕ)
+module _ (counts : List ℕ) (step : ℕ) (is_step : IsStep step) (small : length counts ≤ largest_counted + 1)
+    (limit : ℕ) (rows ends : ℕ → ℕ → ℕ)
     (least : AreLeastRows (span_waste counts step) (places counts step) limit rows ends) where
   -- no class more, where low reaches all places already
   none-left : (k i low : ℕ) → Reaches counts step low (places counts step) i → places counts step ≤ i →

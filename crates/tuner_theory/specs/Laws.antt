@@ -4,12 +4,13 @@ use Rattle.class_table.specs.Tables.{IsLegalTable}
 use Rattle.tuner_theory.specs.Best.{IsBest, IsCandidate, IsCanonical}
 use Rattle.tuner_theory.specs.Potentials.{AreValidPotentials}
 use Rattle.tuner_theory.specs.Rests.{IsRest, counts_above}
-use Rattle.tuner_theory.specs.Rows.{AreLeastRows, HasShape, IsLeastEnd, number_at}
+use Rattle.tuner_theory.specs.Rows.{AreLaterEnds, AreLeastRows, HasShape, IsLeastEnd, number_at}
 use Rattle.tuner_theory.specs.Sheets.{IsVerdict, Sheet}
 use Rattle.tuner_theory.specs.Spans.{IsCrossing, bytes_up_to, counted_up_to, need_at, places, rounded_need, span_waste, waste_between}
 use Rattle.class_table.specs.Steps.{IsLeastMultiple, IsStep, round_up}
 use Rattle.tuner_theory.specs.Tuned.{AreTunedRows, tuned_table}
-use Rattle.tuner_theory.specs.Waste.{AreCounts, IsCounted, waste_of}
+use Rattle.tuner_theory.specs.Profiles.{AreCounts, IsCounted}
+use Rattle.tuner_theory.specs.Waste.{waste_of}
 use Rattle.tuner_theory.specs.declared.verdict.Verdict.{Verdict}
 use Rattle.tuner_theory.specs.declared.verdict.Verdict.TheVariants.{Optimal}
 use Rattle.class_table.specs.declared.sizes.TheConstants.{GRANULE_BYTES, LARGEST_CLASS, MOST_NEEDS, SMALLEST_CLASS}
@@ -87,7 +88,7 @@ SumsGiveWaste =
     - (bytes_up_to counts step high - bytes_up_to counts step low)
 
 -- No subtraction there goes below 0,
-pub record IsWasteOfSums (high counted_low counted_high bytes_low bytes_high : ℕ) : Type 0 where
+pub record HasNoUnderflow (high counted_low counted_high bytes_low bytes_high : ℕ) : Type 0 where
   pub counted : counted_low ≤ counted_high
   pub bytes : bytes_low ≤ bytes_high
   pub held : bytes_high - bytes_low ≤ GRANULE_BYTES * (high - 1) * (counted_high - counted_low)
@@ -95,7 +96,7 @@ pub record IsWasteOfSums (high counted_low counted_high bytes_low bytes_high : �
 abbrev pub SumsAscend : Type 0
 SumsAscend =
     (counts : List ℕ) (step low high : ℕ) → IsStep step → low ≤ high
-    → IsWasteOfSums high (counted_up_to counts step low) (counted_up_to counts step high)
+    → HasNoUnderflow high (counted_up_to counts step low) (counted_up_to counts step high)
     (bytes_up_to counts step low) (bytes_up_to counts step high)
 
 -- and the sums fit 64 bits.
@@ -136,8 +137,7 @@ OneVerdict = (counts : List ℕ) (sheet : Sheet) (v w : Verdict) → IsVerdict c
 -- The end of a place comes after it.
 abbrev pub EndsAreLater : Type 0
 EndsAreLater =
-    (cost : ℕ → ℕ → ℕ) (d limit : ℕ) (rows ends : ℕ → ℕ → ℕ) (k i : ℕ) → AreLeastRows cost d limit rows ends
-    → 1 ≤ k → k ≤ limit → i < d → (i < ends k i) × (ends k i ≤ d)
+    (cost : ℕ → ℕ → ℕ) (d limit : ℕ) (rows ends : ℕ → ℕ → ℕ) → AreLeastRows cost d limit rows ends → AreLaterEnds d limit ends
 
 -- If spans cross, a later place has no earlier least end, whatever the row before.
 abbrev pub EndsAscend : Type 0

@@ -1,6 +1,7 @@
 pub mod Best
 pub mod Laws
 pub mod Potentials
+pub mod Profiles
 pub mod Rests
 pub mod Rows
 pub mod Sheets

@@ -26,7 +26,11 @@ pub record AreLeastRows (cost : ℕ → ℕ → ℕ) (d limit : ℕ) (rows ends 
       → IsLeastEnd (λ j. cost i j + rows k j) i d (ends (suc k) i)
       × (rows (suc k) i ≡ cost i (ends (suc k) i) + rows k (ends (suc k) i))
 
--- The same of rows and ends as lists.
+-- Each end of `limit` rows over d places is after its place.
+abbrev pub AreLaterEnds : ℕ → ℕ → (ℕ → ℕ → ℕ) → Type 0
+AreLaterEnds d limit ends = (k i : ℕ) → 1 ≤ k → k ≤ limit → i < d → (i < ends k i) × (ends k i ≤ d)
+
+-- Least rows and their ends as lists.
 pub record IsFilled (cost : ℕ → ℕ → ℕ) (d limit : ℕ) (rows ends : List (List ℕ)) : Type 0 where
   pub rows_shape : HasShape rows limit d
   pub ends_shape : HasShape ends limit d

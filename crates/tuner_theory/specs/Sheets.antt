@@ -1,6 +1,7 @@
 -- Sheets, what has to hold of one, and the verdict on it.
-use Rattle.std.specs.Prelude.{◌≡◌, ℕ, suc, ◌+◌, ◌<◌, ◌≤◌, List, length}
+use Rattle.std.specs.Prelude.{◌≡◌, ℕ, ◌<◌, ◌≤◌, List, length}
 use Rattle.class_table.specs.Tables.{FitsStep}
+use Rattle.tuner_theory.specs.Potentials.{KeepsEdges, KeepsLastClass, KeepsStageDrops}
 use Rattle.tuner_theory.specs.Rows.{HasShape, number_at}
 use Rattle.tuner_theory.specs.Spans.{places, span_waste}
 use Rattle.class_table.specs.Steps.{IsStep}
@@ -25,12 +26,9 @@ Meets counts s OverLimit = length s.table ≤ s.limit
 Meets counts s NotServing = Serves counts s.table
 Meets counts s WasteWrong = s.waste ≡ waste_of counts s.table
 Meets counts s Shape = HasShape s.rows s.limit (places counts s.step)
-Meets counts s LastClass = (i : ℕ) → i < places counts s.step → number_at s.rows 1 i ≤ span_waste counts s.step i (places counts s.step)
-Meets counts s StageDrop =
-    (k i : ℕ) → 1 ≤ k → k < s.limit → i < places counts s.step → number_at s.rows (suc k) i ≤ number_at s.rows k i
-Meets counts s Edge =
-    (k i j : ℕ) → 1 ≤ k → k < s.limit → i < j → j ≤ places counts s.step
-    → number_at s.rows (suc k) i ≤ span_waste counts s.step i j + number_at s.rows k j
+Meets counts s LastClass = KeepsLastClass (span_waste counts s.step) (places counts s.step) (number_at s.rows)
+Meets counts s StageDrop = KeepsStageDrops (places counts s.step) s.limit (number_at s.rows)
+Meets counts s Edge = KeepsEdges (span_waste counts s.step) (places counts s.step) s.limit (number_at s.rows)
 Meets counts s NotTight = number_at s.rows s.limit 0 ≡ s.waste
 
 -- The code of a refusal. What has the lesser code is looked at first.
@@ -45,8 +43,11 @@ code_of StageDrop = 45
 code_of Edge = 46
 code_of NotTight = 47
 
+-- The sheet meets all that is looked at before this.
+abbrev pub MeetsBefore : List ℕ → Sheet → Refusal → Type 0
+MeetsBefore counts s refusal = (earlier : Refusal) → code_of earlier < code_of refusal → Meets counts s earlier
+
 -- The verdict: a sheet that meets all is optimal; another is refused by the least code of what it does not meet.
 abbrev pub IsVerdict : List ℕ → Sheet → Verdict → Type 0
 IsVerdict counts s Optimal = (refusal : Refusal) → Meets counts s refusal
-IsVerdict counts s (Refused refusal) =
-    ((earlier : Refusal) → code_of earlier < code_of refusal → Meets counts s earlier) × (Meets counts s refusal → ⊥)
+IsVerdict counts s (Refused refusal) = MeetsBefore counts s refusal × (Meets counts s refusal → ⊥)

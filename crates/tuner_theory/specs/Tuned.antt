@@ -3,7 +3,7 @@ use Rattle.std.specs.Prelude.{ℕ, ◌≤◌, List}
 use Rattle.tuner_theory.specs.Rows.{AreLeastRows, table_of_ends}
 use Rattle.tuner_theory.specs.Spans.{need_at, places, span_waste}
 use Rattle.class_table.specs.Steps.{IsStep}
-use Rattle.tuner_theory.specs.Waste.{AreCounts}
+use Rattle.tuner_theory.specs.Profiles.{AreCounts}
 use Rattle.class_table.specs.declared.table.TheConstants.{MOST_CLASSES}
 
 -- Least rows over the span wastes of a profile, for 1 to 32 classes.

@@ -31,7 +31,8 @@ ghost use Rattle.tuner_theory.specs.Laws.{
   TunedTableIsCanonical,
   TunedTableWastes,
 };
-ghost use Rattle.tuner_theory.specs.Waste.{AreCounts, waste_of};
+ghost use Rattle.tuner_theory.specs.Profiles.{AreCounts};
+ghost use Rattle.tuner_theory.specs.Waste.{waste_of};
 
 /// The waste of a legal table fits 64 bits, for any profile.
 pub fn law_waste_fits()

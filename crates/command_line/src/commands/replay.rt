@@ -1,8 +1,9 @@
 //! `replay`.
-ghost use Rattle.std.specs.Prelude.{IfOk, MatchResult, codes};
+ghost use Rattle.std.specs.Prelude.{IfOk, MatchResult};
 ghost use Rattle.clap.specs.Words.{found_of, rows_of};
 ghost use Rattle.command_line.specs.Calls.{Names};
 ghost use Rattle.command_line.specs.AcceptedWords.{HasWords, replay_words};
+ghost use Rattle.command_line.specs.Spellings.{replay_name};
 ghost use Rattle.command_line.specs.declared.call.Call.TheVariants.{Replay as ReplayCall};
 
 use crate::commands::shared_help::{About, about, described, help_text};
@@ -73,8 +74,8 @@ impl Replay {
     /// The options that clap found. `BadOption` if a number is outside its range, but clap refuses it before.
     pub fn of_options(options: &ArgMatches<'_>) -> Result<Replay, OptionFault>
         ensures { MatchResult result
-            (λ o. Names (codes "replay") (rows_of (found_of options.now)) (ReplayCall o))
-            (λ _. (o : Replay) → Names (codes "replay") (rows_of (found_of options.now)) (ReplayCall o) → ⊥) }
+            (λ o. Names replay_name (rows_of (found_of options.now)) (ReplayCall o))
+            (λ _. (o : Replay) → Names replay_name (rows_of (found_of options.now)) (ReplayCall o) → ⊥) }
     {
         Ok(Replay {
             config: config_of(options)?,

@@ -1,8 +1,9 @@
 //! `run`.
-ghost use Rattle.std.specs.Prelude.{IfOk, MatchResult, codes};
+ghost use Rattle.std.specs.Prelude.{IfOk, MatchResult};
 ghost use Rattle.clap.specs.Words.{found_of, rows_of};
 ghost use Rattle.command_line.specs.Calls.{Names};
 ghost use Rattle.command_line.specs.AcceptedWords.{HasWords, run_words};
+ghost use Rattle.command_line.specs.Spellings.{run_name};
 ghost use Rattle.command_line.specs.declared.call.Call.TheVariants.{Run as RunCall};
 
 use crate::commands::shared_help::{About, described, help_text};
@@ -84,8 +85,8 @@ impl Run {
     /// refuses it before.
     pub fn of_options(options: &ArgMatches<'_>) -> Result<Run, OptionFault>
         ensures { MatchResult result
-            (λ o. Names (codes "run") (rows_of (found_of options.now)) (RunCall o))
-            (λ _. (o : Run) → Names (codes "run") (rows_of (found_of options.now)) (RunCall o) → ⊥) }
+            (λ o. Names run_name (rows_of (found_of options.now)) (RunCall o))
+            (λ _. (o : Run) → Names run_name (rows_of (found_of options.now)) (RunCall o) → ⊥) }
     {
         Ok(Run {
             limit: limit_of(options)?,

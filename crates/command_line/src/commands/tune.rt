@@ -1,8 +1,9 @@
 //! `tune`.
-ghost use Rattle.std.specs.Prelude.{IfOk, MatchResult, codes};
+ghost use Rattle.std.specs.Prelude.{IfOk, MatchResult};
 ghost use Rattle.clap.specs.Words.{found_of, rows_of};
 ghost use Rattle.command_line.specs.Calls.{Names};
 ghost use Rattle.command_line.specs.AcceptedWords.{HasWords, tune_words};
+ghost use Rattle.command_line.specs.Spellings.{tune_name};
 ghost use Rattle.command_line.specs.declared.call.Call.TheVariants.{Tune as TuneCall};
 
 use crate::commands::shared_help::{About, about, described, help_text};
@@ -74,8 +75,8 @@ impl Tune {
     /// refuses it before.
     pub fn of_options(options: &ArgMatches<'_>) -> Result<Tune, OptionFault>
         ensures { MatchResult result
-            (λ o. Names (codes "tune") (rows_of (found_of options.now)) (TuneCall o))
-            (λ _. (o : Tune) → Names (codes "tune") (rows_of (found_of options.now)) (TuneCall o) → ⊥) }
+            (λ o. Names tune_name (rows_of (found_of options.now)) (TuneCall o))
+            (λ _. (o : Tune) → Names tune_name (rows_of (found_of options.now)) (TuneCall o) → ⊥) }
     {
         Ok(Tune {
             limit: limit_of(options)?,

@@ -57,6 +57,27 @@ fn a_link_is_set_alone(rt: HostRuntime) -> Result<(), Fail> {
     Ok(())
 }
 
+// 16 slots of two granules, then 10 of three, and two granules of slack
+#[test]
+fn slots_cover_their_granules(rt: HostRuntime) -> Result<(), Fail> {
+    let table = ClassTable::from_classes(&[2, 3])?;
+    let layout = Layout::new(&table, 64);
+    for (granule, slot) in [
+        (0, Some(0)),
+        (1, Some(0)),
+        (31, Some(15)),
+        (32, Some(16)),
+        (61, Some(25)),
+        (62, None),
+        (63, None),
+        (64, None),
+        (u32::MAX, None),
+    ] {
+        assert_eq!(rt; layout.slot_at(granule), slot, "granule {granule}");
+    }
+    Ok(())
+}
+
 // the slot freed last is given out first
 #[test]
 fn the_last_in_is_the_first_out(rt: HostRuntime) -> Result<(), Fail> {

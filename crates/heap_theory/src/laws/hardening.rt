@@ -10,11 +10,12 @@ ghost use Rattle.heap_theory.specs.Hardening.{
   NullOrTagged,
   ReuseIsDelayed,
 };
-ghost use Rattle.heap_theory.specs.Laws.{AfterEveryRun, AtEveryEvent, OwnPointerNamesChunk};
+ghost use Rattle.heap_theory.specs.Laws.{AfterEveryRun, AtEveryEvent};
 ghost use Rattle.heap_theory.specs.OwnPointers.{
   FreeAcceptsOwnPointers,
   LiveVariablesAreAccepted,
   OwnPointerFreesChunk,
+  OwnPointerNamesChunk,
   OwnPointersAreGiven,
   OwnPointersStay,
   ReallocAcceptsOwnPointers,

@@ -17,8 +17,8 @@ pub fn law_granules()
     ensures one { (g k place : ℕ) → Holds g place → Holds k place → g ≡ k }
 {}
 
-/// An address near the region keeps its tag and its highest four bits when it is moved by at most 2 ^ 20 bytes. Null is not near the
-/// region.
+/// An address that is moved by at most 2 ^ 20 bytes to a place near the region keeps its tag. If its bits 63 to 60 were 0, they stay 0.
+/// Null is moved to no such place.
 pub fn law_moved()
     ensures tag { (address : ℕ) (offset : ℤ) (i : ℕ) → nat_abs offset ≤ 2 ^ 20 → i < LONGEST_ACCESS →
         region_start ≤ place_of (moved_by address offset) + i → place_of (moved_by address offset) < 2 ^ 37 →

@@ -2,7 +2,7 @@ ghost use Rattle.machine_theory.specs.Instructions.{drawn_tag};
 ghost use Rattle.machine_theory.specs.Tags.{choose_tag, is_excluded, next_allowed};
 ghost use Rattle.std.specs.Prelude.{◌≡◌, ◌≢◌, ◌+◌, ◌%◌, ◌<◌, ◌^◌, IsFalse, IsTrue, bit_or, ℕ};
 
-/// A chosen tag is never an excluded one, unless all sixteen are excluded.
+/// A chosen tag is never an excluded one, unless all sixteen are excluded; then it is 0.
 pub fn law_choose_tag()
     ensures allowed { (tag offset exclude other : ℕ) → tag < 16 → other < 16 → IsFalse (is_excluded exclude other) →
         IsFalse (is_excluded exclude (choose_tag tag offset exclude)) }

@@ -26,14 +26,14 @@ pub next_row-requires-clause-room : goal.next_row-requires-clause-room
 next_row-requires-clause-room g c =
     rw c.loop-k.invariant.only_counts.same_places
     (room-left (g.C.CostSource.call_count c.args.costs.now) _ c.loop-k.k _ c.requires.room (omega arith) c.requires.places
-    c.loop-k.invariant.counted)
+    c.loop-k.invariant.bounded)
 
 pub loop-k-init : goal.loop-k-init
 loop-k-init g c = record {
   filled = rw (c.in_ok-push.ensures.rows, c.in_ok-push.ensures.ends, c.new.ensures.items, c.new-2.ensures.items)
       (filled-first _ _ _ _ c.in_ok-first.ensures.first.costs_length c.in_ok-first.ensures.first.ends_length
       c.in_ok-first.ensures.first.costs c.in_ok-first.ensures.first.ends);
-  counted = omega (arith, c.first_row.ensures.counted);
+  bounded = omega (arith, c.first_row.ensures.bounded);
   exact =
       let one = calls-first (number_at (lists_of c.push.new.self.ends.items)) (g.C.CostSource.place_count c.args.costs.now) in
       omega (arith, c.in_ok-first.ensures.exact);
@@ -43,7 +43,7 @@ loop-k-init g c = record {
 pub returns-in_err-push-2-clause-bounded : goal.returns-in_err-push-2-clause-bounded
 returns-in_err-push-2-clause-bounded g c =
     calls-more (g.C.CostSource.call_count c.args.costs.now) (g.C.CostSource.call_count c.loop-k.costs) _ c.loop-k.k c.args.limit _
-    c.loop-k.invariant.counted (rw c.loop-k.invariant.only_counts.same_places at c.in_ok-next.ensures.counted) (omega arith)
+    c.loop-k.invariant.bounded (rw c.loop-k.invariant.only_counts.same_places at c.in_ok-next.ensures.bounded) (omega arith)
 
 pub loop-k-preserved : goal.loop-k-preserved
 loop-k-preserved g c =
@@ -59,8 +59,8 @@ loop-k-preserved g c =
       filled = rw add-one (filled-pushed _ d c.loop-k.k _ _ _ _ _ _ c.deref.result.now (omega arith) f
           (c.in_ok-next.ensures.next.costs_length ∙ same.same_places) (c.in_ok-next.ensures.next.ends_length ∙ same.same_places)
           row within c.in_ok-push-2.ensures.rows c.in_ok-push-2.ensures.ends);
-      counted = calls-more (g.C.CostSource.call_count c.args.costs.now) (g.C.CostSource.call_count c.loop-k.costs) _
-          c.loop-k.k (c.loop-k.k + 1) d c.loop-k.invariant.counted (rw same.same_places at c.in_ok-next.ensures.counted) (omega arith);
+      bounded = calls-more (g.C.CostSource.call_count c.args.costs.now) (g.C.CostSource.call_count c.loop-k.costs) _
+          c.loop-k.k (c.loop-k.k + 1) d c.loop-k.invariant.bounded (rw same.same_places at c.in_ok-next.ensures.bounded) (omega arith);
       exact = rw add-one (calls-pushed _ _ _ d c.loop-k.k (g.C.CostSource.call_count c.args.costs.now)
           (g.C.CostSource.call_count c.loop-k.costs) _ (omega arith) f.ends_shape.row_count
           c.in_ok-push-2.ensures.ends c.loop-k.invariant.exact

@@ -9,7 +9,7 @@ abbrev pub invariant-loop-k : goal.invariant-loop-k
 invariant-loop-k g l = record {
   filled : IsFilled (g.C.CostSource.cost l.fn.costs) (g.C.CostSource.place_count l.fn.costs) l.k
       (lists_of l.filled.rows.items) (lists_of l.filled.ends.items);
-  counted : g.C.CostSource.call_count l.costs
+  bounded : g.C.CostSource.call_count l.costs
       ≤ g.C.CostSource.call_count l.fn.costs + most_calls l.k (g.C.CostSource.place_count l.fn.costs);
   exact : g.C.CostSource.call_count l.costs
       ≡ g.C.CostSource.call_count l.fn.costs

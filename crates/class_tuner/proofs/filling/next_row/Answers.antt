@@ -6,11 +6,11 @@ use Rattle.class_tuner.proofs.Tried.{tried-none}
 use Rattle.class_tuner.proofs.filling.next_row.Goals as goal
 use Rattle.class_tuner.proofs.filling.next_row.Goals.{then-places-gt0, else-places-gt0}
 
-pub returns-clause-counted : goal.returns-clause-counted
-returns-clause-counted g c =
+pub returns-clause-bounded : goal.returns-clause-bounded
+returns-clause-bounded g c =
     let d = c.places-places.result in
     elim c.if-places-gt0.branch [
-      | then-places-gt0 w ↦ (let digits = below-bits d in let calls = w.fill_part.ensures.calls.counted (bits d) (omega arith) in
+      | then-places-gt0 w ↦ (let digits = below-bits d in let calls = w.fill_part.ensures.calls.bounded (bits d) (omega arith) in
           grind (arith, c.places-places.ensures, w.costs-is))
       | else-places-gt0 w ↦ grind (arith, w.costs-is)
     ]

@@ -6,10 +6,10 @@ use Rattle.class_tuner.proofs.Halves.{between-left, between-right, count-halves,
 use Rattle.class_tuner.proofs.Tried.{tried-none, tried-part}
 use Rattle.class_tuner.proofs.halving.+fill_part.Goals as goal
 
-pub least_end-cost-requires-clause-ends : goal.least_end-cost-requires-clause-ends
-least_end-cost-requires-clause-ends g t c = λ e least.
+pub least_end-cost-requires-clause-between : goal.least_end-cost-requires-clause-between
+least_end-cost-requires-clause-between g t c = λ e least.
     let part = c.args.part in
-    let inside = c.requires.between (part.start + (part.end - part.start) / 2) e (omega arith) (omega arith) least in
+    let inside = c.requires.between (part.start + (part.end - part.start) / 2) (omega arith) (omega arith) e least in
     (omega (arith, least.after, inside.0), inside.1)
 
 pub fill_part-requires : goal.fill_part-requires
@@ -44,13 +44,13 @@ fill_part-requires-then-part g t c κs within =
     search (rules, between)
 
 pub returns-then-part-eq1-clause-calls : goal.returns-then-part-eq1-clause-calls
-returns-then-part-eq1-clause-calls g t c = record { counted = counted; exact = exact; most = omega arith }
+returns-then-part-eq1-clause-calls g t c = record { bounded = bounded; exact = exact; most = omega arith }
   where
-    counted : (b : ℕ) → c.args.part.end - c.args.part.start < 2 ^ b
+    bounded : (b : ℕ) → c.args.part.end - c.args.part.start < 2 ^ b
         → g.C.CostSource.call_count c.least_end-cost.new.costs
         ≤ g.C.CostSource.call_count c.args.costs.now + (c.args.window.high - c.args.window.low) * b + (c.args.part.end - c.args.part.start)
-    counted zero lt = absurd (omega arith)
-    counted (suc b) lt = omega (arith, c.least_end-cost.ensures.counted)
+    bounded zero lt = absurd (omega arith)
+    bounded (suc b) lt = omega (arith, c.least_end-cost.ensures.counted)
 
     exact : (b : ℕ) → c.args.part.end - c.args.part.start < 2 ^ b
         → let middle : ℕ = c.args.part.start + (c.args.part.end - c.args.part.start) / 2 in
@@ -72,13 +72,13 @@ returns-then-part-eq1-clause-calls g t c = record { counted = counted; exact = e
         (omega (arith, tried-none ends b (middle + 1) part.end end c.args.window.high (omega arith)))
 
 pub returns-else-part-eq1-clause-calls : goal.returns-else-part-eq1-clause-calls
-returns-else-part-eq1-clause-calls g t c = record { counted = counted; exact = exact; most = omega arith }
+returns-else-part-eq1-clause-calls g t c = record { bounded = bounded; exact = exact; most = omega arith }
   where
-    counted : (b : ℕ) → c.args.part.end - c.args.part.start < 2 ^ b
+    bounded : (b : ℕ) → c.args.part.end - c.args.part.start < 2 ^ b
         → g.C.CostSource.call_count c.fill_part-then-part.new.costs
         ≤ g.C.CostSource.call_count c.args.costs.now + (c.args.window.high - c.args.window.low) * b + (c.args.part.end - c.args.part.start)
-    counted zero lt = absurd (omega arith)
-    counted (suc b) lt =
+    bounded zero lt = absurd (omega arith)
+    bounded (suc b) lt =
         let part = c.args.part in
         let half = half-digits (part.end - part.start) b lt in
         let end = c.least_end-cost.result.1 in
@@ -87,8 +87,8 @@ returns-else-part-eq1-clause-calls g t c = record { counted = counted; exact = e
         count-halves (part.end - part.start) (c.args.window.high - c.args.window.low) (end - c.args.window.low) (c.args.window.high - end)
         (middle - part.start) (part.end - (middle + 1)) b (g.C.CostSource.call_count c.args.costs.now)
         (c.args.window.high - c.max-first.result + 1) _ _ (omega arith) (omega arith) (omega arith)
-        (omega (arith, c.fill_part.ensures.calls.counted b (omega arith), c.least_end-cost.ensures.counted))
-        (c.fill_part-then-part.ensures.calls.counted b (omega arith))
+        (omega (arith, c.fill_part.ensures.calls.bounded b (omega arith), c.least_end-cost.ensures.counted))
+        (c.fill_part-then-part.ensures.calls.bounded b (omega arith))
 
     exact : (b : ℕ) → c.args.part.end - c.args.part.start < 2 ^ b
         → g.C.CostSource.call_count c.fill_part-then-part.new.costs
@@ -110,7 +110,7 @@ returns-else-part-eq1-clause-calls g t c = record { counted = counted; exact = e
 
 pub returns-else-part-clause-calls : goal.returns-else-part-clause-calls
 returns-else-part-clause-calls g t c = record {
-  counted = λ b lt. omega arith;
+  bounded = λ b lt. omega arith;
   exact = λ b lt.
       let part = c.args.part in
       omega (arith, tried-none (slice_index c.args.ends.now) b part.start part.end c.args.window.low c.args.window.high (omega arith));

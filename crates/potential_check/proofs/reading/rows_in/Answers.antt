@@ -1,5 +1,6 @@
 use Rattle.std.proofs.Common.{◌≡◌, ◌<◌, [], ◌∷◌, add-one, ◌++◌, refl, sym, ◌∙◌, length, arith, ap, length-append}
 use Rattle.std.proofs.lemmas.List.{length-map, map-append}
+use Rattle.class_table.specs.declared.table.TheConstants.{MOST_CLASSES}
 use Rattle.potential_check.specs.Lists.{lists_of}
 use Rattle.potential_check.proofs.LeadingLines.{drop-line, rows_of-row}
 use Rattle.potential_check.proofs.RowLines.{named_row, rows_from-full, rows_from-no_row, rows_from-more, rows_from-end}
@@ -10,7 +11,7 @@ returns-then-len-eq-MOST_ROWS-clause-rows c =
     let next = c.in-Some.ensures.some in
     let row = named_row next.line _ next.named in
     let len : c.len.result ≡ length (lists_of c.loop-words.rows.items) = rw length-map (omega arith) in
-    let full : length (lists_of c.loop-words.rows.items) ≡ 32 = omega arith in
+    let full : length (lists_of c.loop-words.rows.items) ≡ MOST_CLASSES = omega arith in
     rw len (rows_from-full _ _ _ _ _ _ c.loop-words.invariant.rows (rows_of-row _ _ _ next.first row.0) full)
 
 pub returns-in_default-2-clause-rows : goal.returns-in_default-2-clause-rows
@@ -18,7 +19,7 @@ returns-in_default-2-clause-rows c =
     let next = c.in-Some.ensures.some in
     let row = named_row next.line _ next.named in
     let len : c.len.result ≡ length (lists_of c.loop-words.rows.items) = rw length-map (omega arith) in
-    let room : length (lists_of c.loop-words.rows.items) < 32 = omega (arith, c.loop-words.invariant.rows.few) in
+    let room : length (lists_of c.loop-words.rows.items) < MOST_CLASSES = omega (arith, c.loop-words.invariant.rows.few) in
     rw len (rows_from-no_row _ _ _ _ _ _ c.loop-words.invariant.rows (rows_of-row _ _ _ next.first row.0) room
     (row.1 ∙ rw c.in_default-2.is at (sym c.in_ok-row.ensures)))
 
@@ -27,7 +28,7 @@ loop-words-preserved c =
     let next = c.in-Some.ensures.some in
     let row = named_row next.line _ next.named in
     let len : c.len.result ≡ length (lists_of c.loop-words.rows.items) = rw length-map (omega arith) in
-    let room : length (lists_of c.loop-words.rows.items) < 32 = omega (arith, c.loop-words.invariant.rows.few) in
+    let room : length (lists_of c.loop-words.rows.items) < MOST_CLASSES = omega (arith, c.loop-words.invariant.rows.few) in
     let pushed : c.push.new.self.items ≡ c.loop-words.rows.items ++ c.in-Some-2.row ∷ [] =
     c.push.ensures.items ∙ rw (← c.in_ok-map_err.ensures.variant) refl in
     record {

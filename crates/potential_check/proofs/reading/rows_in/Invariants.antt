@@ -1,5 +1,6 @@
 use Rattle.std.proofs.Common.{◌≡◌, ◌+◌, ◌-◌, length, drop}
 use Rattle.std.specs.List.{take_while}
+use Rattle.class_table.specs.declared.table.TheConstants.{MOST_CLASSES}
 use Rattle.potential_check.specs.Leading.{is_row_line}
 use Rattle.potential_check.specs.Lists.{lists_of}
 use Rattle.potential_check.proofs.RowLines.{RowsSoFar}
@@ -13,4 +14,4 @@ invariant-loop-words l = record {
 }
 
 abbrev pub decreases-loop-words : goal.decreases-loop-words
-decreases-loop-words l = 33 - length l.rows.items
+decreases-loop-words l = MOST_CLASSES + 1 - length l.rows.items

@@ -3,7 +3,7 @@ use Rattle.std.proofs.lemmas.Grind.{common_steps}
 use Rattle.std.proofs.lemmas.List.{take-append-drop}
 use Rattle.std.proofs.lemmas.List.Concat.{flat_map-append}
 use Rattle.potential_check.specs.Spaced.{spaced}
-use Rattle.profile_count.proofs.LawLemmas.{goes_on-through}
+use Rattle.line_text.proofs.LawLemmas.{prefix_of_prefix}
 use Rattle.potential_check.proofs.Appended.{named_line-spaced}
 use Rattle.potential_check.proofs.writing.append_line.Goals as goal
 
@@ -15,7 +15,7 @@ spaced-none [] none = refl
 spaced-none (n ∷ rest) none = absurd (omega arith)
 
 pub returns-in_err-append_spaced-clause-kept : goal.returns-in_err-append_spaced-clause-kept
-returns-in_err-append_spaced-clause-kept c = goes_on-through _ _ _ c.loop-rest.invariant.kept c.append_spaced.ensures.kept
+returns-in_err-append_spaced-clause-kept c = prefix_of_prefix _ _ _ c.loop-rest.invariant.kept c.append_spaced.ensures.kept
 
 pub loop-rest-preserved : goal.loop-rest-preserved
 loop-rest-preserved c =
@@ -28,7 +28,7 @@ loop-rest-preserved c =
     record {
       written = rw c.in_ok-append_spaced.ensures.written
           (append_assoc text (spaced next) (spaced later) ∙ (ap (λ (more : List ℕ). text ++ more) parts ∙ c.loop-rest.invariant.written));
-      kept = goes_on-through _ _ _ c.loop-rest.invariant.kept c.append_spaced.ensures.kept;
+      kept = prefix_of_prefix _ _ _ c.loop-rest.invariant.kept c.append_spaced.ensures.kept;
     }
 
 pub returns-clause-written : goal.returns-clause-written

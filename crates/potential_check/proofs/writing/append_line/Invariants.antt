@@ -1,12 +1,12 @@
 use Rattle.std.proofs.Common.{◌≡◌, ◌++◌, length}
-use Rattle.profile_count.specs.Appended.{GoesOn}
+use Rattle.line_text.specs.Prefixes.{IsPrefix}
 use Rattle.potential_check.specs.Spaced.{spaced}
 use Rattle.potential_check.proofs.writing.append_line.Given as goal
 
 abbrev pub invariant-loop-rest : goal.invariant-loop-rest
 invariant-loop-rest l = record {
   written : l.text.items ++ spaced l.rest ≡ (l.fn.text.items ++ l.name) ++ spaced l.numbers;
-  kept : GoesOn l.fn.text.items l.text.items;
+  kept : IsPrefix l.fn.text.items l.text.items;
 }
 
 abbrev pub decreases-loop-rest : goal.decreases-loop-rest

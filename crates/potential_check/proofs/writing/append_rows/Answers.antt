@@ -1,6 +1,6 @@
 use Rattle.std.proofs.Common.{codes, map, take, append_assoc}
 use Rattle.line_text.specs.Lines.{text_of}
-use Rattle.potential_check.specs.SheetText.{named_line}
+use Rattle.class_table.specs.NamedLines.{named_line}
 use Rattle.potential_check.proofs.Appended.{rows_text-more}
 use Rattle.potential_check.proofs.writing.append_rows.Goals as goal
 

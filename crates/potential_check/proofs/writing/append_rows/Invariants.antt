@@ -1,6 +1,6 @@
 use Rattle.std.proofs.Common.{◌≡◌, ◌++◌, codes, map, take}
 use Rattle.line_text.specs.Lines.{text_of}
-use Rattle.potential_check.specs.SheetText.{named_line}
+use Rattle.class_table.specs.NamedLines.{named_line}
 use Rattle.potential_check.proofs.writing.append_rows.Given as goal
 
 abbrev pub invariant-loop-index : goal.invariant-loop-index

@@ -2,7 +2,7 @@ use Rattle.std.proofs.Common.{◌≡◌, ◌+◌, ◌<◌, ◌≤◌, ◌++◌, 
 use Rattle.std.specs.Fmt.{decimal}
 use Rattle.line_text.specs.Lines.{ended}
 use Rattle.profile_count.specs.ProfileText.{size_line}
-use Rattle.profile_count.proofs.LawLemmas.{goes_on-through}
+use Rattle.line_text.proofs.LawLemmas.{prefix_of_prefix}
 use Rattle.profile_count.proofs.SizeLines.{text_from, text_from-counted, text_from-end, text_from-zero}
 use Rattle.profile_count.proofs.writing.append_sizes.Goals as goal
 use Rattle.profile_count.proofs.writing.append_sizes.Goals.{then-count-gt0+in_ok-append_line, else-count-gt0}
@@ -25,7 +25,7 @@ loop-size-preserved c =
                 c.loop-size.invariant.rest
                 ∙ rw (counted, appended)
                 (sym (append_assoc before (ended (size_line size (get_or counts size 0))) (text_from counts (size + 1))));
-            kept = rw w.text-is (goes_on-through _ _ _ c.loop-size.invariant.kept w.in_ok-append_line.ensures.kept);
+            kept = rw w.text-is (prefix_of_prefix _ _ _ c.loop-size.invariant.kept w.in_ok-append_line.ensures.kept);
           }
       | else-count-gt0 w ↦
           let none : get_or counts size 0 ≡ 0 = omega (arith, c.count-count.ensures.count, w.if-count-gt0.false) in

@@ -1,8 +1,8 @@
 use Rattle.std.proofs.Common.{◌≡◌, ℕ, ◌+◌, ◌*◌, length, replicate, refl, sym, ap, ◌∙◌, arith}
 use Rattle.std.proofs.lemmas.List.{length-replicate}
 use Rattle.machine_theory.specs.Memory.{written}
-use Rattle.machine_theory.proofs.ChangeLaws.{written-append}
-use Rattle.tagged_heap.proofs.BytesInParts.{written-none, zeros_more}
+use Rattle.machine_theory.proofs.ChangeLaws.{written-append, written-none}
+use Rattle.tagged_heap.proofs.BytesInParts.{zeros_more}
 use Rattle.tagged_heap.proofs.bytes.zero.Goals as goal
 
 pub loop-done-init : goal.loop-done-init

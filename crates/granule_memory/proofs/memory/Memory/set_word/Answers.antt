@@ -6,24 +6,24 @@ use Rattle.granule_memory.proofs.memory.Memory.set_word.Goals as goal
 use Rattle.granule_memory.proofs.memory.Memory.set_word.Goals.{After-set_word}
 
 -- the word lies in the memory
-inside : (c : After-set_word) → c.place_of.result + 8 * c.args.i + 8 ≤ 16 * length c.args.self.now
-inside c = omega (arith, c.place_of.ensures, c.requires.granule, c.requires.place)
+inside : (c : After-set_word) → c.start_of_granule.result + 8 * c.args.i + 8 ≤ 16 * length c.args.self.now
+inside c = omega (arith, c.start_of_granule.ensures, c.requires.granule, c.requires.place)
 
 pub invariant_of-self : goal.invariant_of-self
 invariant_of-self c =
-    written_fits _ _ _ c.args.self.now c.self.invariant c.self.view_is (c.place_of.result + 8 * c.args.i) (to_le_bytes w64 c.args.w)
+    written_fits _ _ _ c.args.self.now c.self.invariant c.self.view_is (c.start_of_granule.result + 8 * c.args.i) (to_le_bytes w64 c.args.w)
     c.set_word.ensures.bytes (inside c) (bytes_below 0 8 c.args.w)
 
 pub returns-clause-word : goal.returns-clause-word
 returns-clause-word c =
     let counted = granules_counted c.self.inside.region c.self.inside.granules in
-    rw (← c.place_of.ensures) (word_is c.set_word.new.self c.self.inside.granules (c.place_of.result + 8 * c.args.i)
+    rw (← c.start_of_granule.ensures) (word_is c.set_word.new.self c.self.inside.granules (c.start_of_granule.result + 8 * c.args.i)
     (invariant_of-self c).long (omega (arith, inside c, counted, ap length c.self.view_is)) ∙ c.set_word.ensures.word)
 
 pub returns-clause-others : goal.returns-clause-others
 returns-clause-others c =
-    rw (← c.place_of.ensures) (written_keeps _ _ _ c.args.self.now c.self.invariant c.self.view_is
-    (c.place_of.result + 8 * c.args.i) (to_le_bytes w64 c.args.w) c.set_word.ensures.bytes (inside c))
+    rw (← c.start_of_granule.ensures) (written_keeps _ _ _ c.args.self.now c.self.invariant c.self.view_is
+    (c.start_of_granule.result + 8 * c.args.i) (to_le_bytes w64 c.args.w) c.set_word.ensures.bytes (inside c))
 
 pub returns-clause-memory : goal.returns-clause-memory
 returns-clause-memory c = granules_fit _ _ (invariant_of-self c)

@@ -1,6 +1,7 @@
 use Rattle.std.proofs.Common.{◌≡◌, [], ◌∷◌, ◌++◌, subst, ⊎_elim, arith, rules}
 use Rattle.std.specs.Prelude.{Contains}
-use Rattle.heap_theory.proofs.ListSearch.{Contains-cases, Contains-last_cases}
+use Rattle.std.proofs.lemmas.List.Elements.{Contains-push_cases}
+use Rattle.heap_theory.proofs.ListSearch.{Contains-cases}
 use Rattle.quarantine_core.proofs.LawLemmas.{one_queue_is_shown}
 use Rattle.heap_tests.proofs.Queues.{was_in}
 use Rattle.heap_tests.proofs.tests.slots.quarantine_releases_past_its_limit.Goals as goal
@@ -36,9 +37,9 @@ put-requires-3 g c = record {
       was_in c.put-2.new.self c.next_out-2.new.self layout c.put-2.new.memory c.next_out-2.new.memory c.next_out-2.result twice.same
       twice.oldest
       (left ++ 1 ∷ []) queue (c.put-2.ensures.queued left once.linked.1) is 2 there in
-      ⊎_elim (λ same. omega (arith, same))
-      (λ before. ⊎_elim (λ same. omega (arith, same)) (λ none. omega (arith, none.1)) (Contains-cases 0 [] 2 (early before)))
-      (Contains-last_cases left 1 2 late);
+      ⊎_elim (λ before. ⊎_elim (λ same. omega (arith, same)) (λ none. omega (arith, none.1)) (Contains-cases 0 [] 2 (early before)))
+      (λ same. omega (arith, same))
+      (Contains-push_cases left 1 2 late);
   next = search rules;
   bytes = search rules;
 }

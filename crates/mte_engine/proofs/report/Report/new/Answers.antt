@@ -1,6 +1,6 @@
 use Rattle.std.proofs.Common.{◌++◌, arith, ap, ◌∙◌, List, ℕ}
 use Rattle.replay_core.specs.ReplayState.{Stored}
-use Rattle.mte_engine.specs.Replay.{layout_for}
+use Rattle.tagged_heap.specs.Config.{layout_for}
 use Rattle.mte_engine.specs.ReportFrom.{report_from}
 use Rattle.mte_engine.proofs.Reporting.{first_events, whole_report}
 use Rattle.mte_engine.proofs.report.Report.new.Goals as goal

@@ -2,14 +2,14 @@ use Rattle.std.proofs.lemmas.Bool.{both_ways}
 use Rattle.potential_check.proofs.RowConditions.{optimal, refused-last}
 use Rattle.potential_check.proofs.sheet_on_spans.SheetOnSpans.refusal.Goals as goal
 
-pub returns-then-not-is_tight-clause-refused : goal.returns-then-not-is_tight-clause-refused
-returns-then-not-is_tight-clause-refused c =
+pub returns-then-not-bound_is_waste-clause-refused : goal.returns-then-not-bound_is_waste-clause-refused
+returns-then-not-bound_is_waste-clause-refused c =
     refused-last c.args.self.now.counts c.args.self.now.sheet c.requires
     (c.has_shape.ensures.0 c.if-not-has_shape.false)
     (c.meets_last_class.ensures.0 c.if-not-meets_last_class.false)
     (c.meets_stage_drop.ensures.0 c.if-not-meets_stage_drop.false)
     (c.meets_edge.ensures.0 c.if-not-meets_edge.false)
-    (λ tight. both_ways c.is_tight.result c.if-not-is_tight.true (c.is_tight.ensures.1 tight))
+    (λ tight. both_ways c.bound_is_waste.result c.if-not-bound_is_waste.true (c.bound_is_waste.ensures.1 tight))
 
 pub returns-clause-none : goal.returns-clause-none
 returns-clause-none c =
@@ -18,4 +18,4 @@ returns-clause-none c =
     (c.meets_last_class.ensures.0 c.if-not-meets_last_class.false)
     (c.meets_stage_drop.ensures.0 c.if-not-meets_stage_drop.false)
     (c.meets_edge.ensures.0 c.if-not-meets_edge.false)
-    (c.is_tight.ensures.0 c.if-not-is_tight.false)
+    (c.bound_is_waste.ensures.0 c.if-not-bound_is_waste.false)

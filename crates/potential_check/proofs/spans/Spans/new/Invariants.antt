@@ -1,7 +1,7 @@
 use Rattle.std.proofs.Common.{◌<◌}
 use Rattle.potential_check.proofs.SpansBuilt.{IsBuilt}
 use Rattle.potential_check.proofs.spans.Spans.new.Given as goal
-use Rattle.tuner_theory.specs.Waste.{AreCounts}
+use Rattle.tuner_theory.specs.Profiles.{AreCounts}
 
 abbrev pub invariant-loop-n : goal.invariant-loop-n
 invariant-loop-n l = record {

@@ -18,16 +18,16 @@ facts c =
     (span_sums c.args.self.now c.requests_up_to-requests.ensures.valid c.args.i c.args.j c.requires.order c.requires.within)
 
 pub overflow_sub-result : goal.overflow_sub-result
-overflow_sub-result c = (facts c).counted
+overflow_sub-result c = (facts c).no_underflow.counted
 
 pub overflow_sub-result-2 : goal.overflow_sub-result-2
-overflow_sub-result-2 c = (facts c).bytes
+overflow_sub-result-2 c = (facts c).no_underflow.bytes
 
 pub overflow_mul-result : goal.overflow_mul-result
 overflow_mul-result c = rw (c.from.ensures, c.from-2.ensures) (omega (arith, (facts c).fits))
 
 pub overflow_sub-result-3 : goal.overflow_sub-result-3
-overflow_sub-result-3 c = rw (c.from.ensures, c.from-2.ensures) (facts c).held
+overflow_sub-result-3 c = rw (c.from.ensures, c.from-2.ensures) (facts c).no_underflow.held
 
 pub returns-clause-waste : goal.returns-clause-waste
 returns-clause-waste c = rw (c.from.ensures, c.from-2.ensures) (facts c).waste_is

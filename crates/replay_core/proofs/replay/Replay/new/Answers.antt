@@ -4,8 +4,9 @@ use Rattle.class_table.specs.Tables.{IsLegalTable}
 use Rattle.heap_theory.specs.Replay.{first_replay}
 use Rattle.heap_theory.specs.State.{Heap, first_heap}
 use Rattle.heap_theory.specs.Totals.{no_totals}
+use Rattle.tagged_heap.specs.Config.{layout_for}
 use Rattle.replay_core.specs.ReplayState.{first_stored}
-use Rattle.replay_core.proofs.StoredMore.{stored_of-none}
+use Rattle.replay_core.proofs.StoredMore.{stored_of_none}
 use Rattle.replay_core.proofs.replay.Replay.new.Goals as goal
 
 pub returns : goal.returns
@@ -19,7 +20,7 @@ pub invariant_of-result : goal.invariant_of-result
 unfolding first_heap
 invariant_of-result c = record {
   reached = record {
-    layout = record { classes = c.args.table.now; granules = c.args.config.granules };
+    layout = layout_for c.args.config c.args.table.now;
     seed = c.args.config.seed;
     quarantine = c.args.config.quarantine;
     events = [];
@@ -28,7 +29,7 @@ invariant_of-result c = record {
       least = c.requires.granules.0;
       most = c.requires.granules.1;
     };
-    stored_is = returns c ∙ sym (stored_of-none _ _ _);
+    stored_is = returns c ∙ sym (stored_of_none _ _ _);
   };
   bounded = record {
     events = omega arith;

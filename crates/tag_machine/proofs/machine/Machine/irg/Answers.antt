@@ -4,8 +4,8 @@ use Rattle.tag_machine.proofs.machine.Machine.irg.Goals as goal
 pub invariant_of-self : goal.invariant_of-self
 invariant_of-self c =
     let register = c.self.invariant in
-    rw c.next_seed-self-inside.ensures (
-      next_seed-some _ register.0 register.1,
-      next_seed-below _ register.1,
-      c.choose_tag-self-inside.ensures.below,
-    )
+    rw c.next_seed-self-inside.ensures (record {
+      seed_some = next_seed-some _ register.seed_some register.seed_fits;
+      seed_fits = next_seed-below _ register.seed_fits;
+      tag_fits = c.choose_tag-self-inside.ensures.below;
+    })

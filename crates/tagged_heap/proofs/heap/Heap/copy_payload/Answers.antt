@@ -1,12 +1,12 @@
 use Rattle.std.proofs.Common.{◌*◌, List, ℕ, length, sym, ap, ◌∙◌, inl, inr, arith}
 use Rattle.std.proofs.lemmas.Bool.{cases_order}
 use Rattle.machine_theory.specs.Memory.{bytes_at}
-use Rattle.machine_theory.proofs.ByteLaws.{length-bytes_at}
+use Rattle.machine_theory.proofs.ByteLaws.{bytes_at-below, length-bytes_at}
 use Rattle.class_table.specs.Layout.{slot_of}
 use Rattle.heap_theory.specs.Calls.{with_payload}
 use Rattle.heap_theory.specs.State.{payload_start}
 use Rattle.tagged_heap.specs.HeapFields.{state_of}
-use Rattle.tagged_heap.proofs.PayloadWritten.{HasPayload, payload_within, payload_seen, bytes_fit, payload_kept, payload_shown}
+use Rattle.tagged_heap.proofs.PayloadWritten.{HasPayload, payload_within, payload_seen, payload_kept, payload_shown}
 use Rattle.tagged_heap.proofs.heap.Heap.copy_payload.Goals as goal
 use Rattle.tagged_heap.proofs.heap.Heap.copy_payload.Goals.{After-self-1}
 
@@ -69,7 +69,7 @@ payload c =
     record {
       in_range = rw (← c.self.view_is) at c.requires.to;
       room = omega (arith, length-bytes_at c.self.inside.machine.memory source c.args.count, room);
-      fit = bytes_fit c.self.inside.machine.memory c.self.invariant.kept.memory_is _ c.args.count;
+      fit = bytes_at-below c.self.inside.machine.memory _ c.args.count c.self.invariant.kept.memory_is;
       written_is = rw (← c.memory_mut-memory.ensures.value, ← to, ← from) c.copy.ensures;
     }
 

@@ -2,7 +2,7 @@
 use Rattle.std.proofs.Common.{◌≡◌, refl, sym, ap, arith}
 use Rattle.heap_theory.specs.Calls.{moved}
 use Rattle.class_table.specs.Sizes.{chunk_granules}
-use Rattle.heap_theory.specs.State.{chunk_of, state_at}
+use Rattle.heap_theory.specs.State.{chunk_granules_of, state_at}
 use Rattle.machine_theory.proofs.LawLemmas.{bytes_under_tags}
 use Rattle.tagged_heap.proofs.TheoryLemmas as laws
 use Rattle.tagged_heap.proofs.CallSteps.{payload_given, live_apart, chunk_stays, chunk_written, same_slot}
@@ -16,8 +16,8 @@ copy_payload-requires-clause-apart c =
 pub copy_payload-requires-clause-source : goal.copy_payload-requires-clause-source
 copy_payload-requires-clause-source c =
     let room = (c.allocate.ensures.sound.tagged _ c.requires.live.slot).room in
-    let live : chunk_of (state_at c.args.self.now.state c.args.chunk.slot) ≡ chunk_granules c.args.chunk.size =
-    ap chunk_of c.requires.live.live.1 in
+    let live : chunk_granules_of (state_at c.args.self.now.state c.args.chunk.slot) ≡ chunk_granules c.args.chunk.size =
+    ap chunk_granules_of c.requires.live.live.1 in
     rw (c.in_ok-given.ensures.given, same_slot) (omega (arith, room, live, c.min.ensures))
 
 pub copy_payload-requires-clause-target : goal.copy_payload-requires-clause-target

@@ -1,9 +1,10 @@
 use Rattle.std.proofs.Common.{◌∙◌, sym, ap, Err, rules}
 use Rattle.std.proofs.lemmas.Result.{err_from_is_err_and}
+use Rattle.line_text.proofs.LawLemmas.{prefix_of_prefix}
 use Rattle.trace_reader.specs.Reached.{answer_of}
 use Rattle.trace_reader.specs.Reading.{Reading, fed, line_ended}
 use Rattle.trace_reader.proofs.Ending.{failed_on_the_way, fed-after, fed-failed, is_open-ended, reached_ok, state_failed, unchanged_if_failed, unfinished_after}
-use Rattle.trace_reader.proofs.Reaching.{IsFrontOf-fed, IsFrontOf-trans, came}
+use Rattle.trace_reader.proofs.Reaching.{IsPrefix-fed, came}
 use Rattle.trace_reader.proofs.reader.TraceReader.feed.Goals as goal
 
 pub returns-in-Failed-clause-reading : goal.returns-in-Failed-clause-reading
@@ -12,8 +13,8 @@ returns-in-Failed-clause-reading c =
     λ other. sym (fed-failed c.args.self.now c.in-Failed.error c.args.piece.now
     (state_failed c.args.self.now i.events.items i.lines i.rest.items i.status c.in-Failed.error c.self.view_is c.in-Failed.is))
 
-pub returns-in-Failed-clause-front : goal.returns-in-Failed-clause-front
-returns-in-Failed-clause-front c = IsFrontOf-fed c.args.self.now c.args.piece.now
+pub returns-in-Failed-clause-prefix : goal.returns-in-Failed-clause-prefix
+returns-in-Failed-clause-prefix c = IsPrefix-fed c.args.self.now c.args.piece.now
 
 pub returns-in_err-end_line : goal.returns-in_err-end_line
 returns-in_err-end_line c =
@@ -45,7 +46,7 @@ loop-line-preserved c =
           c.loop-line.invariant.rest ∙ ap (fed mid) c.in-Some.ensures.cut
           ∙ fed-after mid line after c.loop-line.invariant.still_open c.in-Some.ensures.line
           ∙ ap (λ (r : Reading). fed r after) (sym now);
-      kept = IsFrontOf-trans old.events mid.events c.end_line.new.self.events c.loop-line.invariant.kept reached.kept;
+      kept = prefix_of_prefix old.events mid.events c.end_line.new.self.events c.loop-line.invariant.kept reached.kept;
     }
 
 pub returns : goal.returns
@@ -54,7 +55,7 @@ returns c =
     let now = c.keep.ensures.reading ∙ sym c.loop-line.invariant.rest in
     let r =
     came old (fed old c.args.piece.now) c.keep.new.self c.keep.result now
-    (c.keep.ensures.answer ∙ ap (λ (r : Reading). answer_of r.state) now) (IsFrontOf-fed old c.args.piece.now) in
+    (c.keep.ensures.answer ∙ ap (λ (r : Reading). answer_of r.state) now) (IsPrefix-fed old c.args.piece.now) in
     let failed = unchanged_if_failed old c.keep.new.self (search rules) in
     let unfinished = unfinished_after old c.keep.new.self c.args.piece.now c.keep.result c.requires r in
     search (r, failed, unfinished)

@@ -1,5 +1,5 @@
 use Rattle.std.proofs.Common.{◌≡◌, length, true}
-use Rattle.trace_reader.specs.Reached.{IsFrontOf}
+use Rattle.line_text.specs.Prefixes.{IsPrefix}
 use Rattle.trace_reader.specs.Reading.{fed, is_open}
 use Rattle.trace_reader.proofs.reader.TraceReader.feed.Given as goal
 
@@ -7,7 +7,7 @@ abbrev pub invariant-loop-line : goal.invariant-loop-line
 invariant-loop-line l = record {
   still_open : is_open l.self ≡ true;
   rest : fed l.fn.self l.piece ≡ fed l.self l.text;
-  kept : IsFrontOf l.fn.self.events l.self.events;
+  kept : IsPrefix l.fn.self.events l.self.events;
 }
 
 abbrev pub decreases-loop-line : goal.decreases-loop-line

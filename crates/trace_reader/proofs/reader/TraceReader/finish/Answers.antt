@@ -5,7 +5,7 @@ use Rattle.trace_reader.specs.Reading.{Reading, finished, is_open}
 use Rattle.trace_reader.specs.Reading.State.{Finished}
 use Rattle.trace_reader.specs.TraceLine.{most_events}
 use Rattle.trace_reader.proofs.Ending.{finish_empty, finish_failed, finish_line, finished-failed, finished_after, not_empty, state_failed, unchanged_if_failed}
-use Rattle.trace_reader.proofs.Reaching.{IsFrontOf-finished}
+use Rattle.trace_reader.proofs.Reaching.{IsPrefix-finished}
 use Rattle.trace_reader.proofs.reader.TraceReader.finish.Goals as goal
 use Rattle.trace_reader.proofs.reader.TraceReader.finish.Goals.{then-not-is_empty+in_ok-judge_rest, else-not-is_empty}
 
@@ -15,8 +15,8 @@ returns-in-Failed-clause-reading c =
     λ other. sym (finished-failed c.args.self.now c.in-Failed.error
     (state_failed c.args.self.now i.events.items i.lines i.rest.items i.status c.in-Failed.error c.self.view_is c.in-Failed.is))
 
-pub returns-in-Failed-clause-front : goal.returns-in-Failed-clause-front
-returns-in-Failed-clause-front c = IsFrontOf-finished c.args.self.now
+pub returns-in-Failed-clause-prefix : goal.returns-in-Failed-clause-prefix
+returns-in-Failed-clause-prefix c = IsPrefix-finished c.args.self.now
 
 pub returns-in_err-judge_rest : goal.returns-in_err-judge_rest
 returns-in_err-judge_rest c =

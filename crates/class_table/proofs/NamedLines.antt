@@ -1,29 +1,42 @@
--- The line of a name and numbers: it is read as these numbers, and no other line is.
-use Rattle.std.proofs.Common.{◌≡◌, ℕ, ◌<◌, ◌^◌, Bool, true, false, List, [], ◌∷◌, length, map, Option, Some, None, refl, sym, ap, ◌∙◌, arith, length-append}
+-- The line of a name and numbers is read as these numbers, and no other line is.
+use Rattle.std.proofs.Common.{◌≡◌, ℕ, ◌<◌, ◌^◌, Bool, true, false, not, ◌&&◌, List, [], ◌∷◌, length, map, Option, Some, None, refl, sym, ap, ◌∙◌, arith, length-append}
+use Rattle.std.specs.List.{list_all}
 use Rattle.std.specs.Prelude.{All, option_and_then}
 use Rattle.std.specs.Fmt.{decimal}
 use Rattle.std.specs.Str.{bytes_eq}
-use Rattle.std.proofs.lemmas.List.Elements.{All-nil, All-cons, All-head, All-tail}
+use Rattle.std.proofs.lemmas.Bool.{and_parts, not-true}
+use Rattle.std.proofs.lemmas.List.Elements.{All-nil, All-cons, All-head, All-tail, All-weaker}
+use Rattle.std.proofs.lemmas.List.Sums.{AllPass-from_list_all}
+use Rattle.std.proofs.lemmas.Option.{same_Some}
 use Rattle.std.proofs.lemmas.Slice.Eq.{bytes_eq-Decides}
-use Rattle.class_table.specs.ClassLine.{numbers_of}
-use Rattle.line_text.specs.Lines.{words, line_of, IsLine, IsWord}
+use Rattle.line_text.specs.Lines.{words, line_of, IsFullLine, IsLine, IsWord, is_newline, is_space}
 use Rattle.line_text.specs.Numbers.{number_of}
 use Rattle.line_text.proofs.LawLemmas.{text_laws as laws}
-use Rattle.potential_check.specs.SheetText.{named_line, number_in, number_of_words, only_one, passing, words_after}
-use Rattle.potential_check.proofs.RowNumbers.{passing-some}
+use Rattle.class_table.specs.NamedLines.{named_line, numbers_in, numbers_of, words_after}
 
 abbrev pub AreSmall : List ℕ → Type 0
 AreSmall ns = All (λ n. n < 2 ^ 64) ns
 
--- The numbers of a line of this name and numbers.
-abbrev pub numbers_in : List ℕ → List ℕ → Option (List ℕ)
-numbers_in name line = option_and_then numbers_of (words_after name (words line))
+-- ---- names
 
 -- What can be a line's name.
 pub record IsName (name : List ℕ) : Type 0 where
   pub line : IsLine name
   pub word : IsWord name
   pub some : 0 < length name
+
+-- A byte that a name may have: no newline and no space.
+abbrev pub is_plain : ℕ → Bool
+is_plain b = not (is_newline b) && not (is_space b)
+
+pub plain_name : (name : List ℕ) → list_all is_plain name ≡ true → 0 < length name → IsName name
+plain_name name plain some =
+    let all = AllPass-from_list_all is_plain name plain in
+    record {
+      line = All-weaker (λ b. is_plain b ≡ true) (λ b. is_newline b ≡ false) (λ b e. not-true (is_newline b) (and_parts _ _ e).0) name all;
+      word = All-weaker (λ b. is_plain b ≡ true) (λ b. is_space b ≡ false) (λ b e. not-true (is_space b) (and_parts _ _ e).1) name all;
+      some = some;
+    }
 
 -- ---- from numbers to the line
 
@@ -51,9 +64,12 @@ named_line-is_line name ns is_name small =
     laws.makes_line (name ∷ map decimal ns) (All-cons IsLine name (map decimal ns) is_name.line (decimals-lines ns small))
 
 -- not an empty one,
-pub named_line-some : (name ns : List ℕ) → IsName name → 0 < length (named_line name ns)
+named_line-some : (name ns : List ℕ) → IsName name → 0 < length (named_line name ns)
 named_line-some name [] is_name = is_name.some
 named_line-some name (n ∷ ns) is_name = omega (arith, length-append name (32 ∷ line_of (map decimal (n ∷ ns))))
+
+pub named_line-full : (name ns : List ℕ) → IsName name → AreSmall ns → IsFullLine (named_line name ns)
+named_line-full name ns is_name small = (named_line-is_line name ns is_name small, named_line-some name ns is_name)
 
 -- and these are its words,
 pub words-named_line : (name ns : List ℕ) → IsName name → AreSmall ns → words (named_line name ns) ≡ name ∷ map decimal ns
@@ -66,26 +82,7 @@ numbers_in-named_line name ns is_name small =
     let same : bytes_eq name name ≡ true = (bytes_eq-Decides name name).1 refl in
     rw (words-named_line name ns is_name small, same) (numbers_of-decimals ns small)
 
--- The number of a line, by the line's numbers
-pub number_in-numbers : (name : List ℕ) (test : ℕ → Bool) (line : List ℕ) →
-    number_in name test line ≡ passing test (option_and_then only_one (numbers_in name line))
-number_in-numbers name test line = go (words_after name (words line))
-  where
-    go : (after : Option (List (List ℕ))) →
-        option_and_then (number_of_words test) after ≡ passing test (option_and_then only_one (option_and_then numbers_of after))
-    go None = refl
-    go (Some ws) = refl
-
-pub number_in-named_line : (name : List ℕ) (test : ℕ → Bool) (n : ℕ) → IsName name → n < 2 ^ 64 → test n ≡ true →
-    number_in name test (named_line name (n ∷ [])) ≡ Some n
-number_in-named_line name test n is_name small passes =
-    number_in-numbers name test (named_line name (n ∷ []))
-    ∙ rw (numbers_in-named_line name (n ∷ []) is_name (All-cons (λ n. n < 2 ^ 64) n [] small (All-nil (λ n. n < 2 ^ 64))), passes) refl
-
 -- ---- from a line to its numbers
-
-same_some : (ms ns : List ℕ) → Some ms ≡ Some ns → ms ≡ ns
-same_some ms ns e = cc
 
 -- a first word that is a number, and others that are
 first_number : (w : List ℕ) (ws : List (List ℕ)) (ns : List ℕ) → numbers_of (w ∷ ws) ≡ Some ns
@@ -97,7 +94,7 @@ first_number w ws ns e = go (number_of w) refl (numbers_of ws) refl
         → (n : ℕ) × (others : List ℕ) × (number_of w ≡ Some n) × (numbers_of ws ≡ Some others) × (ns ≡ n ∷ others)
     go None f p g = let none = rw f at e in absurd cc
     go (Some n) f None g = let none = rw (f, g) at e in absurd cc
-    go (Some n) f (Some others) g = let is = rw (f, g) at e in (n, others, f, g, sym (same_some (n ∷ others) ns is))
+    go (Some n) f (Some others) g = let is = rw (f, g) at e in (n, others, f, g, sym (same_Some (n ∷ others) ns is))
 
 decimals_more : (w : List ℕ) (ws : List (List ℕ)) (n : ℕ) (others ns : List ℕ) → w ≡ decimal n → ws ≡ map decimal others → ns ≡ n ∷ others →
     w ∷ ws ≡ map decimal ns
@@ -106,7 +103,7 @@ decimals_more w ws n others ns word after is = rw (is, word, after) refl
 -- words that are read as these numbers
 decimals-numbers_of : (ws : List (List ℕ)) (ns : List ℕ) → numbers_of ws ≡ Some ns → AreSmall ns → ws ≡ map decimal ns
 unfolding numbers_of
-decimals-numbers_of [] ns e small = rw (← same_some [] ns e) refl
+decimals-numbers_of [] ns e small = rw (← same_Some [] ns e) refl
 decimals-numbers_of (w ∷ ws) ns e small =
     let first = first_number w ws ns e in
     let n = first.0 in
@@ -130,18 +127,3 @@ line-numbers_in name line ns e small = sym (laws.line line) ∙ ap line_of (go (
             let name_is : w ≡ name = (bytes_eq-Decides w name).0 f in
             let after : ws ≡ map decimal ns = decimals-numbers_of ws ns (rw f at e) small in
             rw (name_is, after) refl
-
--- a single number
-one_number : (o : Option (List ℕ)) (n : ℕ) → option_and_then only_one o ≡ Some n → o ≡ Some (n ∷ [])
-one_number None n e = absurd cc
-one_number (Some []) n e = absurd cc
-one_number (Some (m ∷ k ∷ ns)) n e = absurd cc
-one_number (Some (m ∷ [])) n e = let same : m ≡ n = cc in rw same refl
-
-pub line-number_in : (name : List ℕ) (test : ℕ → Bool) (line : List ℕ) (n : ℕ) → number_in name test line ≡ Some n →
-    ((m : ℕ) → test m ≡ true → m < 2 ^ 64)
-    → (line ≡ named_line name (n ∷ [])) × (test n ≡ true)
-line-number_in name test line n e small =
-    let passed = passing-some test (option_and_then only_one (numbers_in name line)) n (sym (number_in-numbers name test line) ∙ e) in
-    let one = one_number (numbers_in name line) n passed.0 in
-    (line-numbers_in name line (n ∷ []) one (All-cons (λ n. n < 2 ^ 64) n [] (small n passed.1) (All-nil (λ n. n < 2 ^ 64))), passed.1)

@@ -1,0 +1,26 @@
+-- Profiles: what was counted of the requests of a program.
+use Rattle.std.specs.Prelude.{◌≡◌, ℕ, ◌+◌, ◌<◌, ◌≤◌, List, length, slice_index, All}
+use Rattle.class_table.specs.Sizes.{largest_counted}
+use Rattle.tuner_theory.specs.declared.most_counted.TheConstants.{MOST_COUNTED}
+
+-- What was counted: how often each size was requested, by its index from 0 bytes on, and how often a size past the last one.
+pub record Profile : Type 0 where
+  pub counts : List ℕ
+  pub large : ℕ
+
+-- The greatest count.
+abbrev pub most_counted : ℕ
+most_counted = MOST_COUNTED
+
+-- Counts as a profile keeps them: of each size up to 16,368 bytes.
+pub record AreCounts (counts : List ℕ) : Type 0 where
+  pub sizes : length counts ≡ largest_counted + 1
+  pub in_range : All (λ count. count ≤ most_counted) counts
+
+pub record IsProfile (profile : Profile) : Type 0 where
+  pub counts : AreCounts profile.counts
+  pub large : profile.large ≤ most_counted
+
+-- Requests of n bytes were counted.
+abbrev pub IsCounted : List ℕ → ℕ → Type 0
+IsCounted counts n = (n < length counts) × (0 < slice_index counts n)
