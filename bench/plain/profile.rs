@@ -5,7 +5,7 @@ use crate::text::{push_number, Scanner};
 /// The largest size that any class serves, in bytes.
 pub const LARGEST: usize = 16_368;
 
-const MOST_COUNTED: u64 = 1_000_000_000;
+const GREATEST_COUNT: u64 = 1_000_000_000;
 
 pub struct Profile {
     /// How often each size was requested.
@@ -66,7 +66,7 @@ impl Profile {
 
 // the count at the end of a line
 fn read_count(text: &mut Scanner) -> Option<u32> {
-    let count = text.number_to(MOST_COUNTED)?;
+    let count = text.number_to(GREATEST_COUNT)?;
     text.end_line()?;
     (count > 0).then_some(count as u32)
 }

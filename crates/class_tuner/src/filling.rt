@@ -11,7 +11,7 @@ use class_table::{MOST_CLASSES, MOST_NEEDS};
 use std::alloc::{AllocError, Global};
 
 /// Rows of least costs, with their ends. Row k, counted from 1, has at each place the least cost of serving all places above it with at
-/// most k spans. The end is the least place to which the first of these spans may go.
+/// most k spans. The end is where the first of these spans goes; of several ends that give the least cost it is the least.
 #[derive(Debug, Drop)]
 pub struct Filled {
     /// One row of costs for each number of spans. A row has a number for each of the places 0 to D - 1, where D is the number of places.

@@ -1,4 +1,4 @@
-//! The commands: the words and the help of each, beside the call of its engine.
+//! The commands: the words, the help and the options of each. `Call::run` runs their engines.
 pub mod check;
 pub mod profile;
 pub mod replay;

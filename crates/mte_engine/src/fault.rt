@@ -36,6 +36,7 @@ impl fmt::Display for InputFault {
         match self {
             InputFault::TooLong => f.write_str("80 InputTooLong"),
             InputFault::Table(fault) => write!(f, "{fault} line 1"),
+            // `SheetError::Line` shows the same text
             InputFault::BadSheet(line) => write!(f, "48 BadSheet line {line}"),
             InputFault::Profile(line, fault) => write!(f, "{fault} line {line}"),
             InputFault::Trace(line, fault) => write!(f, "{fault} line {line}"),

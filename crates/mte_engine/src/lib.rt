@@ -1,7 +1,8 @@
 //! The engines of the tool, each from a source of bytes to a sink of bytes: `score`, `tune` and `check` over profiles, `profile`, `replay`
 //! and `run` over traces. A program gives an engine any `ByteSource` and `ByteSink`; this crate has a pair over memory and one over the
 //! readers and writers of std. Where source and sink know their bytes, the contracts say what an engine writes, and what it has written
-//! when a write fails. In every case they say which fault comes, and that the sink is unchanged unless a write failed.
+//! when a write fails. In every case they say when a failed read and a failed write are reported, and that after every fault but that of a
+//! write the sink is unchanged.
 #![tactic(auto)]
 
 mod byte_streams;

@@ -3,7 +3,7 @@ ghost use Rattle.std.specs.Prelude.{◌≡◌, ◌++◌, ◌+◌, ◌<◌, ◌�
 ghost use Rattle.heap_theory.specs.Losses.{requested_sizes};
 ghost use Rattle.profile_count.specs.Requests.{profile_of_sizes};
 ghost use Rattle.trace_reader.specs.TraceLine.{most_events};
-ghost use Rattle.tuner_theory.specs.Profiles.{most_counted};
+ghost use Rattle.tuner_theory.specs.Profiles.{greatest_count};
 ghost use Rattle.mte_engine.specs.Traces.{profile_of_events};
 
 use profile_count::Profile;
@@ -39,7 +39,7 @@ pub fn count_all(alloc: Global, events: &VecDeque<Event>) -> Result<Profile, All
 // Counts what an event requests.
 #[tactic(auto, using(profile_count::proofs::LawLemmas::one_more_is_counted, profile_count::proofs::LawLemmas::counts_are_few))]
 fn count(profile: &mut Profile, event: &Event)
-    ensures { (sizes : List ℕ) → length sizes < most_counted → profile.old ≡ profile_of_sizes sizes →
+    ensures { (sizes : List ℕ) → length sizes < greatest_count → profile.old ≡ profile_of_sizes sizes →
         profile.new ≡ profile_of_sizes (sizes ++ requested_sizes (event.now ∷ [])) }
 {
     if let Some(n) = request_size(event) {

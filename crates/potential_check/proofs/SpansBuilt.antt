@@ -10,7 +10,7 @@ use Rattle.tuner_theory.specs.Spans.{needs_below, rounded_need, with_need}
 use Rattle.tuner_theory.proofs.LawLemmas.{rounding_is_least}
 use Rattle.tuner_theory.proofs.Sums.{sum_below-more, sum_below-none, sum_bounded, sum_same}
 use Rattle.class_table.specs.Steps.{IsStep}
-use Rattle.tuner_theory.specs.Profiles.{AreCounts, most_counted}
+use Rattle.tuner_theory.specs.Profiles.{AreCounts, greatest_count}
 use Rattle.tuner_theory.specs.Waste.{sum_below}
 
 -- ---- sums
@@ -293,18 +293,18 @@ built-end counts step n total total_bytes needs counted bytes is_step are end b 
 
 pub built-small : (counts : List ℕ) (step n total total_bytes : ℕ) (needs counted bytes : List ℕ) → AreCounts counts
     → n ≤ largest_counted + 1 → IsBuilt counts step n needs counted bytes total total_bytes
-    → (total ≤ n * most_counted) × (total_bytes ≤ n * (most_counted * largest_counted))
+    → (total ≤ n * greatest_count) × (total_bytes ≤ n * (greatest_count * largest_counted))
 built-small counts step n total total_bytes needs counted bytes are le b = (
   omega (
     arith,
     b.counted_are.total_is,
-    sum_bounded (slice_index counts) n most_counted (λ k lt. are.in_range k 0 (omega (arith, are.sizes))),
+    sum_bounded (slice_index counts) n greatest_count (λ k lt. are.in_range k 0 (omega (arith, are.sizes))),
   ),
   omega (
     arith,
     b.bytes_are.total_is,
-    sum_bounded (λ k. slice_index counts k * k) n (most_counted * largest_counted) (λ k lt.
-        let small : slice_index counts k ≤ most_counted = are.in_range k 0 (omega (arith, are.sizes)) in
+    sum_bounded (λ k. slice_index counts k * k) n (greatest_count * largest_counted) (λ k lt.
+        let small : slice_index counts k ≤ greatest_count = are.in_range k 0 (omega (arith, are.sizes)) in
         let within : k ≤ largest_counted = omega arith in
         mul-le-mul small within),
   ),

@@ -1,6 +1,6 @@
 //! Rows whose numbers are each as large as their edges allow, as a tuner writes them. Their ends ascend from place to place. So one walk
-//! down the places and the ends covers all edges: it computes some two bounds for each place and each end, where the halving computes ten
-//! for each place.
+//! down the places and the ends covers all edges. It computes at most one bound for each place and two for each end, so three for each
+//! place, where the halving computes some ten.
 ghost use Rattle.std.specs.Prelude.{◌≡◌, ◌↔◌, ℕ, ◌<◌, ◌≤◌, length, slice_index, IfNone, IfSome, IsTrue};
 ghost use Rattle.class_table.specs.Steps.{IsStep};
 ghost use Rattle.potential_check.specs.RowConditions.{AreTight, EdgesHold, HasTightEnd, IsTightEnd, edge_bound};

@@ -3,7 +3,7 @@ use Rattle.std.proofs.Common.{◌≡◌, ◌≢◌, ℕ, ◌+◌, ◌≤◌, Lis
 use Rattle.std.proofs.lemmas.List.{get_or-set_other, length-set}
 use Rattle.std.proofs.lemmas.List.Elements.{All-set}
 use Rattle.class_table.specs.Sizes.{largest_counted}
-use Rattle.tuner_theory.specs.Profiles.{AreCounts, most_counted}
+use Rattle.tuner_theory.specs.Profiles.{AreCounts, greatest_count}
 use Rattle.profile_count.specs.Counts.{nothing_counted, zeros}
 use Rattle.profile_count.specs.ProfileText.{Reading, IsNext, with_entry}
 use Rattle.profile_count.specs.declared.entry.Entry.TheVariants.{Size}
@@ -36,7 +36,7 @@ is_open-size_read reading size count is_open next =
     record {
       counts = record {
         sizes = length-set reading.profile.counts size count ∙ is_open.counts.sizes;
-        in_range = All-set (λ count. count ≤ most_counted) reading.profile.counts size count next.4 is_open.counts.in_range;
+        in_range = All-set (λ count. count ≤ greatest_count) reading.profile.counts size count next.4 is_open.counts.in_range;
       };
       large = is_open.large;
       none = λ k from. other_count reading.profile.counts size count k (λ same. omega arith) ∙ is_open.none k (omega (arith, next.1));

@@ -8,7 +8,7 @@ use Rattle.std.proofs.lemmas.Slice.Eq.{bytes_eq-Decides}
 use Rattle.class_table.specs.Sizes.{largest_counted}
 use Rattle.line_text.specs.Lines.{words, line_of, IsLine, IsWord}
 use Rattle.line_text.specs.Numbers.{number_of}
-use Rattle.tuner_theory.specs.Profiles.{most_counted}
+use Rattle.tuner_theory.specs.Profiles.{greatest_count}
 use Rattle.line_text.proofs.LawLemmas.{text_laws as laws}
 use Rattle.class_table.proofs.LawLemmas.{IsName, plain_name}
 use Rattle.profile_count.specs.ProfileText.{IsNext, entry_of, counted, size_entry, numbers_entry, large_entry}
@@ -47,11 +47,11 @@ entry_of-words next (Size size count) is =
       le-ltb largest_counted size is.2,
       le-ltb size next is.1,
       le-leb 1 count is.3,
-      le-leb count most_counted is.4,
+      le-leb count greatest_count is.4,
     ) refl
 entry_of-words next (Large count) is =
     let small : count < 2 ^ 64 = omega (arith, is.2) in
-    rw (laws.read count small, le-leb 1 count is.1, le-leb count most_counted is.2) refl
+    rw (laws.read count small, le-leb 1 count is.1, le-leb count greatest_count is.2) refl
 
 large_is_a_name : IsName (codes "large")
 large_is_a_name = plain_name (codes "large") refl (omega arith)
@@ -95,16 +95,16 @@ record IsRead (next : ℕ) (first second : List ℕ) (entry : Entry) : Type 0 wh
 
 -- a count that is taken is in range
 counted_parts : (entry : ℕ → Entry) (count : ℕ) (read : Entry) → counted entry count ≡ Ok read →
-    (entry count ≡ read) × (1 ≤ count) × (count ≤ most_counted)
-counted_parts entry count read e = go (leb 1 count) refl (leb count most_counted) refl
+    (entry count ≡ read) × (1 ≤ count) × (count ≤ greatest_count)
+counted_parts entry count read e = go (leb 1 count) refl (leb count greatest_count) refl
   where
-    go : (some : Bool) → leb 1 count ≡ some → (few : Bool) → leb count most_counted ≡ few →
-        (entry count ≡ read) × (1 ≤ count) × (count ≤ most_counted)
+    go : (some : Bool) → leb 1 count ≡ some → (few : Bool) → leb count greatest_count ≡ few →
+        (entry count ≡ read) × (1 ≤ count) × (count ≤ greatest_count)
     go false f few g = let none = rw f at e in absurd cc
     go true f false g = let none = rw (f, g) at e in absurd cc
     go true f true g =
         let is : entry count ≡ read = (let h = rw (f, g) at e in cc) in
-        (is, leb-true 1 count f, leb-true count most_counted g)
+        (is, leb-true 1 count f, leb-true count greatest_count g)
 
 -- two numbers in range
 size_read : (next : ℕ) (first second : List ℕ) (size count : ℕ) (entry : Entry) → number_of first ≡ Some size →

@@ -8,7 +8,7 @@ use Rattle.std.proofs.lemmas.List.Filters.{sum_by-filter_both}
 use Rattle.std.proofs.lemmas.List.Sums.{count_by-le-length, get_or-le-sum_by, sum_by-cons}
 use Rattle.class_table.specs.Sizes.{counted_of, largest_counted, loss_of}
 use Rattle.class_table.specs.Tables.{class_for, loss_of_size, ServesSizes, rounding_loss}
-use Rattle.tuner_theory.specs.Profiles.{IsProfile, most_counted}
+use Rattle.tuner_theory.specs.Profiles.{IsProfile, greatest_count}
 use Rattle.tuner_theory.specs.Waste.{Serves, sum_below, waste_at, waste_of}
 use Rattle.tuner_theory.proofs.Sums.{sum_none, sum_same, sum_split}
 use Rattle.profile_count.specs.Requests.{profile_of_sizes, requests_below, requests_of}
@@ -145,11 +145,11 @@ few-requests_below n most sizes few = All-from_get_or (λ count. count ≤ most)
     omega (arith, counted, count_by-le-length (λ size. eqb size k) sizes))
 
 -- No count of few requests is too high for a profile.
-pub profile_of_sizes-is_profile : (sizes : List ℕ) → length sizes ≤ most_counted → IsProfile (profile_of_sizes sizes)
+pub profile_of_sizes-is_profile : (sizes : List ℕ) → length sizes ≤ greatest_count → IsProfile (profile_of_sizes sizes)
 profile_of_sizes-is_profile sizes few = record {
   counts = record {
     sizes = length-requests_below (largest_counted + 1) sizes;
-    in_range = few-requests_below (largest_counted + 1) most_counted sizes few;
+    in_range = few-requests_below (largest_counted + 1) greatest_count sizes few;
   };
   large = omega (arith, count_by-le-length (λ size. ltb largest_counted size) sizes);
 }

@@ -8,7 +8,7 @@ use Rattle.std.proofs.lemmas.List.{get_or-set_same}
 use Rattle.std.proofs.lemmas.List.Elements.{All-nil, All-cons, All-head, All-tail, All-append}
 use Rattle.class_table.specs.Sizes.{largest_counted}
 use Rattle.line_text.specs.Lines.{IsFullLine, lines}
-use Rattle.tuner_theory.specs.Profiles.{Profile, IsProfile, most_counted}
+use Rattle.tuner_theory.specs.Profiles.{Profile, IsProfile, greatest_count}
 use Rattle.line_text.proofs.LawLemmas.{text_laws as laws}
 use Rattle.profile_count.specs.ProfileText.{Reading, SpellsProfile, IsNext, size_lines, large_lines, profile_lines, with_entry, profile_from, profile_of}
 use Rattle.profile_count.specs.declared.entry.Entry.{Entry}
@@ -47,7 +47,7 @@ profile_from-entry_line number reading entry ls none next =
     (rw none (sym (entry_of-line reading.next entry next)))
 
 -- the `large` line is read last, where there is one
-profile_from-large_lines : (number : ℕ) (reading : Reading) (large : ℕ) → reading.profile.large ≡ 0 → large ≤ most_counted
+profile_from-large_lines : (number : ℕ) (reading : Reading) (large : ℕ) → reading.profile.large ≡ 0 → large ≤ greatest_count
     → profile_from number reading (large_lines large) ≡ Ok (record { counts = reading.profile.counts; large = large })
 profile_from-large_lines number reading zero none small = rw (← none) (no_line number reading [] refl)
 profile_from-large_lines number reading (suc n) none small =
@@ -75,7 +75,7 @@ profile_from-size_lines (zero ∷ counts) size number reading p is_open is_profi
     (one_more reading.profile.counts p.counts size same here) first.2
 profile_from-size_lines (suc n ∷ counts) size number reading p is_open is_profile next same parts =
     let first = drop_parts p.counts counts size (suc n) parts in
-    let small : suc n ≤ most_counted = rw first.1 at (is_profile.counts.in_range size 0 first.0) in
+    let small : suc n ≤ greatest_count = rw first.1 at (is_profile.counts.in_range size 0 first.0) in
     let may_come : IsNext reading.next 0 (Size size (suc n)) =
     (refl, next, omega (arith, first.0, is_profile.counts.sizes), omega arith, small) in
     let within : size < length reading.profile.counts = omega (arith, first.0, is_open.counts.sizes, is_profile.counts.sizes) in
@@ -96,21 +96,21 @@ profile_from-size_lines (suc n ∷ counts) size number reading p is_open is_prof
 full_line : (entry : Entry) → IsNext 0 0 entry → IsFullLine (entry_line entry)
 full_line entry next = (entry_line-is_line 0 entry next, entry_line-some entry)
 
-size_lines-full : (counts : List ℕ) (size : ℕ) → size + length counts ≤ largest_counted + 1 → All (λ count. count ≤ most_counted) counts →
+size_lines-full : (counts : List ℕ) (size : ℕ) → size + length counts ≤ largest_counted + 1 → All (λ count. count ≤ greatest_count) counts →
     All IsFullLine (size_lines size counts)
 unfolding size_lines
 size_lines-full [] size few small = All-nil IsFullLine
 size_lines-full (zero ∷ counts) size few small =
-    size_lines-full counts (suc size) (omega arith) (All-tail (λ count. count ≤ most_counted) 0 counts small)
+    size_lines-full counts (suc size) (omega arith) (All-tail (λ count. count ≤ greatest_count) 0 counts small)
 size_lines-full (suc n ∷ counts) size few small =
     let line =
     full_line (Size size (suc n))
-    (refl, omega arith, omega arith, omega arith, All-head (λ count. count ≤ most_counted) (suc n) counts small) in
-    let others = size_lines-full counts (suc size) (omega arith) (All-tail (λ count. count ≤ most_counted) (suc n) counts small) in
+    (refl, omega arith, omega arith, omega arith, All-head (λ count. count ≤ greatest_count) (suc n) counts small) in
+    let others = size_lines-full counts (suc size) (omega arith) (All-tail (λ count. count ≤ greatest_count) (suc n) counts small) in
     rw (ne_eqb (suc n) 0 (λ e. omega arith))
     (All-cons IsFullLine (entry_line (Size size (suc n))) (size_lines (suc size) counts) line others)
 
-large_lines-full : (large : ℕ) → large ≤ most_counted → All IsFullLine (large_lines large)
+large_lines-full : (large : ℕ) → large ≤ greatest_count → All IsFullLine (large_lines large)
 large_lines-full zero small = All-nil IsFullLine
 large_lines-full (suc n) small =
     rw (ne_eqb (suc n) 0 (λ e. omega arith))

@@ -4,13 +4,13 @@ use Rattle.std.proofs.Math.Nat.{mul-le-mul}
 use Rattle.std.proofs.lemmas.Bool.{cases_lt}
 use Rattle.class_table.specs.Sizes.{largest_counted, loss_of}
 use Rattle.class_table.specs.Tables.{class_for}
-use Rattle.tuner_theory.specs.Profiles.{most_counted}
+use Rattle.tuner_theory.specs.Profiles.{greatest_count}
 use Rattle.tuner_theory.specs.Waste.{sum_below, waste_at}
 use Rattle.tuner_theory.proofs.Sums.{sum_below-more}
 
 -- the losses of one size are small
-pub small_term : (count loss : ℕ) → count ≤ most_counted → loss ≤ largest_counted → count * loss ≤ largest_counted * most_counted
-small_term count loss few small = omega (arith, mul-le-mul {n₂ = most_counted} {m₂ = largest_counted} few small)
+pub small_term : (count loss : ℕ) → count ≤ greatest_count → loss ≤ largest_counted → count * loss ≤ largest_counted * greatest_count
+small_term count loss few small = omega (arith, mul-le-mul {n₂ = greatest_count} {m₂ = largest_counted} few small)
 
 -- from where on nothing is lost, the sum stays
 pub sum_below-rest : (f : ℕ → ℕ) (from end : ℕ) → from ≤ end → ((n : ℕ) → from ≤ n → f n ≡ 0) → sum_below f end ≡ sum_below f from

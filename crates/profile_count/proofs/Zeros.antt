@@ -5,7 +5,7 @@ use Rattle.std.proofs.lemmas.List.{length-replicate, get_or-replicate, get_or_pa
 use Rattle.std.proofs.lemmas.List.Elements.{All-from_get_or}
 use Rattle.class_table.specs.Sizes.{largest_counted}
 use Rattle.profile_count.specs.Counts.{zeros}
-use Rattle.tuner_theory.specs.Profiles.{AreCounts, most_counted}
+use Rattle.tuner_theory.specs.Profiles.{AreCounts, greatest_count}
 
 length-zeros : (n : ℕ) → length (zeros n) ≡ n
 unfolding zeros
@@ -24,6 +24,6 @@ counts-zeros items are =
     let sizes : length items ≡ largest_counted + 1 = ap length are ∙ length-zeros (largest_counted + 1) in
     record {
       sizes = sizes;
-      in_range = All-from_get_or (λ count. count ≤ most_counted) items 0
+      in_range = All-from_get_or (λ count. count ≤ greatest_count) items 0
           (λ k within. rw (are, get_or-zeros) (omega arith));
     }

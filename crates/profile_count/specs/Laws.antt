@@ -2,7 +2,7 @@
 use Rattle.std.specs.Prelude.{◌≡◌, ◌↔◌, ◌≤◌, ◌-◌, List, [], ◌∷◌, ◌++◌, length, take, ℕ, Ok, Err}
 use Rattle.line_text.specs.FirstFault.{IsFirstFault}
 use Rattle.line_text.specs.Lines.{lines, text_of}
-use Rattle.tuner_theory.specs.Profiles.{IsProfile, Profile, most_counted}
+use Rattle.tuner_theory.specs.Profiles.{IsProfile, Profile, greatest_count}
 use Rattle.profile_count.specs.Counts.{count_for, nothing_counted, with_one_more}
 use Rattle.profile_count.specs.ProfileText.{SpellsProfile, profile_of}
 use Rattle.profile_count.specs.Requests.{CountsRequests, profile_of_sizes, with_more}
@@ -44,7 +44,7 @@ ProfileCountsRequests = (sizes : List ℕ) → CountsRequests (profile_of_sizes 
 
 -- The profile of at most 1,000,000,000 requests is one that a `Profile` may hold.
 abbrev pub ProfileOfSizesIsOne : Type 0
-ProfileOfSizesIsOne = (sizes : List ℕ) → length sizes ≤ most_counted → IsProfile (profile_of_sizes sizes)
+ProfileOfSizesIsOne = (sizes : List ℕ) → length sizes ≤ greatest_count → IsProfile (profile_of_sizes sizes)
 
 -- Requests that are added one by one to the empty profile give their profile.
 abbrev pub AddedRequestsAreCounted : Type 0

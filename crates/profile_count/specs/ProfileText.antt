@@ -6,7 +6,7 @@ use Rattle.class_table.specs.NamedLines.{named_line}
 use Rattle.class_table.specs.Sizes.{largest_counted}
 use Rattle.line_text.specs.Lines.{IsTextOf, lines, words, line_of, text_of}
 use Rattle.line_text.specs.Numbers.{number_of}
-use Rattle.tuner_theory.specs.Profiles.{Profile, IsProfile, most_counted}
+use Rattle.tuner_theory.specs.Profiles.{Profile, IsProfile, greatest_count}
 use Rattle.profile_count.specs.Counts.{nothing_counted, with_count, with_large}
 use Rattle.profile_count.specs.declared.entry.Entry.{Entry}
 use Rattle.profile_count.specs.declared.entry.Entry.TheVariants.{Size, Large}
@@ -47,7 +47,7 @@ pub record Reading : Type 0 where
   pub next : ℕ
 
 abbrev pub is_count : ℕ → Bool
-is_count count = nat_le 1 count && nat_le count most_counted
+is_count count = nat_le 1 count && nat_le count greatest_count
 
 -- An entry with this count, where there is one and it is in range.
 abbrev pub counted : (ℕ → Entry) → ℕ → Result Entry ProfileFault
@@ -79,8 +79,8 @@ entry_of next large other = Err BadLine
 
 -- What holds of an entry that may come: it is in range, its size not below `next`, and no `large` line came before it.
 abbrev pub IsNext : ℕ → ℕ → Entry → Type 0
-IsNext next large (Size size count) = (large ≡ 0) × (next ≤ size) × (size ≤ largest_counted) × (1 ≤ count) × (count ≤ most_counted)
-IsNext next large (Large count) = (large ≡ 0) × (1 ≤ count) × (count ≤ most_counted)
+IsNext next large (Size size count) = (large ≡ 0) × (next ≤ size) × (size ≤ largest_counted) × (1 ≤ count) × (count ≤ greatest_count)
+IsNext next large (Large count) = (large ≡ 0) × (1 ≤ count) × (count ≤ greatest_count)
 
 abbrev pub with_entry : Reading → Entry → Reading
 with_entry reading (Size size count) = record { profile = with_count reading.profile size count; next = suc size }

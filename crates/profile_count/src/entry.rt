@@ -7,7 +7,7 @@ ghost use Rattle.profile_count.specs.ProfileText.{IsNext, entry_of, is_count, la
 use crate::fault::ProfileFault;
 use class_table::LARGEST_COUNTED;
 use line_text::{Lines, capped_number_in, words_in};
-use tuner_theory::MOST_COUNTED;
+use tuner_theory::GREATEST_COUNT;
 
 // the first word of the line of large requests
 pub(crate) const LARGE: &[u8] = b"large";
@@ -123,5 +123,5 @@ fn size_entry(next: u32, size: u64, count: u64) -> Result<Entry, ProfileFault>
 fn is_count(count: u64) -> bool
     ensures { result ≡ is_count count }
 {
-    (1..=u64::from(MOST_COUNTED)).contains(&count)
+    (1..=u64::from(GREATEST_COUNT)).contains(&count)
 }

@@ -12,4 +12,4 @@ mod writing;
 
 pub use fault::{CountFull, ProfileError, ProfileFault};
 pub use profile::Profile;
-pub use tuner_theory::MOST_COUNTED;
+pub use tuner_theory::GREATEST_COUNT;

@@ -9,7 +9,7 @@ use crate::table_losses::{first_unserved, table_losses};
 use class_table::{ClassTable, LARGEST_COUNTED};
 use std::alloc::{AllocError, Global};
 use std::marker::Model;
-use tuner_theory::MOST_COUNTED;
+use tuner_theory::GREATEST_COUNT;
 
 // a count for each size up to the largest that is counted
 const SIZES: usize = LARGEST_COUNTED as usize + 1;
@@ -61,7 +61,7 @@ impl Profile {
     /// The error is that its count is 1,000,000,000 already. The profile is then unchanged.
     pub fn add(&mut self, n: u32) -> Result<(), CountFull>
         ensures added { OnOk result (self.new ≡ with_one_more self.old n) }
-        ensures full { IsErr result ↔ (count_for self.old n ≡ MOST_COUNTED) }
+        ensures full { IsErr result ↔ (count_for self.old n ≡ GREATEST_COUNT) }
         ensures kept { OnErr result (self.new ≡ self.old) }
     {
         if n > LARGEST_COUNTED {
@@ -75,7 +75,7 @@ impl Profile {
     // Sets the count of a size.
     pub(crate) fn set_count(&mut self, n: u32, count: u32)
         requires size { n ≤ LARGEST_COUNTED }
-        requires count { count ≤ MOST_COUNTED }
+        requires count { count ≤ GREATEST_COUNT }
         ensures { self.new ≡ with_count self.old n count }
     {
         self.counts[n as usize] = count;
@@ -83,7 +83,7 @@ impl Profile {
 
     // Sets the count of the large requests.
     pub(crate) fn set_large(&mut self, count: u32)
-        requires { count ≤ MOST_COUNTED }
+        requires { count ≤ GREATEST_COUNT }
         ensures { self.new ≡ with_large self.old count }
     {
         self.large = count;
@@ -112,12 +112,12 @@ impl Profile {
 
 // a count that is higher by 1, unless this is the greatest count
 fn one_more(count: u32) -> Result<u32, CountFull>
-    requires { count ≤ MOST_COUNTED }
+    requires { count ≤ GREATEST_COUNT }
     ensures more { IfOk result (λ more. more ≡ count + 1) }
-    ensures small { IfOk result (λ more. more ≤ MOST_COUNTED) }
-    ensures full { IsErr result ↔ (count ≡ MOST_COUNTED) }
+    ensures small { IfOk result (λ more. more ≤ GREATEST_COUNT) }
+    ensures full { IsErr result ↔ (count ≡ GREATEST_COUNT) }
 {
-    if count == MOST_COUNTED {
+    if count == GREATEST_COUNT {
         return Err(CountFull);
     }
     Ok(count + 1)

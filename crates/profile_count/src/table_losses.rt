@@ -6,7 +6,7 @@ ghost use Rattle.tuner_theory.specs.Profiles.{AreCounts};
 ghost use Rattle.tuner_theory.specs.Waste.{sum_below, waste_of};
 
 use class_table::{ClassTable, GRANULE_BYTES, LARGEST_CLASS, LARGEST_COUNTED, SMALLEST_CLASS};
-use tuner_theory::MOST_COUNTED;
+use tuner_theory::GREATEST_COUNT;
 
 // the least counted size that has no class
 pub(crate) fn first_unserved(counts: &[u32], table: &ClassTable) -> Option<u16>
@@ -46,7 +46,7 @@ fn losses_between(from: u32, end: u32, counts: &[u32]) -> u64
     ensures sum { (f : ℕ → ℕ)
         → ((n : ℕ) → from ≤ n → n < end → f n ≡ slice_index counts.now n * (end - 1 - n))
         → sum_below f end ≡ sum_below f from + result }
-    ensures small { result ≤ LARGEST_COUNTED * MOST_COUNTED * (end - from) }
+    ensures small { result ≤ LARGEST_COUNTED * GREATEST_COUNT * (end - from) }
 {
     let mut total = 0;
     for n in from..end {

@@ -41,7 +41,7 @@ pub(crate) fn write_fresh_headers(memory: &mut Memory, layout: &Layout)
     }
 }
 
-/// The first slot of each class: the counters of a heap in which all slots are fresh.
+/// The first slot of each class. These are the counters of a new heap: the next fresh slot of each class.
 pub(crate) fn first_slots(layout: &Layout) -> ArrayVec<u32, MOST_CLASSES>
     ensures { result.items ≡ map (first_slot layout.now) (range_with_len 0 (length layout.now.classes)) }
 {

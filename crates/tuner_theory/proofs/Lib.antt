@@ -6,6 +6,7 @@ pub mod ExampleProfiles
 pub mod ExampleSheets
 pub mod LeastRows
 pub mod Needs
+pub mod RefusalCodes
 pub mod Rests
 pub mod Rounding
 pub mod Sheets

@@ -9,7 +9,7 @@ use Rattle.tuner_theory.specs.Laws.{HasNoUnderflow}
 use Rattle.tuner_theory.specs.Spans.{bytes_up_to, counted_up_to, need_at, places, rounded_need, span_waste, waste_between}
 use Rattle.class_table.specs.Steps.{IsStep}
 use Rattle.class_table.specs.declared.sizes.TheConstants.{LARGEST_CLASS}
-use Rattle.tuner_theory.specs.Profiles.{AreCounts, most_counted}
+use Rattle.tuner_theory.specs.Profiles.{AreCounts, greatest_count}
 use Rattle.tuner_theory.specs.Waste.{sum_below}
 use Rattle.tuner_theory.proofs.Needs.{need_at-mono, place-class}
 use Rattle.tuner_theory.proofs.Rounding.{rounded-fits, step-positive}
@@ -106,7 +106,7 @@ module _ (counts : List ℕ) (step : ℕ) (pos : 0 < step) (low high : ℕ) (le 
 
 -- ---- how large they are
 
-pub count-small : (counts : List ℕ) (n : ℕ) → AreCounts counts → slice_index counts n ≤ most_counted
+pub count-small : (counts : List ℕ) (n : ℕ) → AreCounts counts → slice_index counts n ≤ greatest_count
 count-small counts n are =
     elim (cases_lt n (length counts)) [ inl within ↦ are.in_range n 0 within | inr past ↦ omega (arith, get_or_past counts n 0 past) ]
 
@@ -120,8 +120,8 @@ up_to-bounded counts step high bound f each =
 pub sums-fit : (counts : List ℕ) (step high : ℕ) → AreCounts counts
     → (counted_up_to counts step high < 2 ^ 44) × (bytes_up_to counts step high < 2 ^ 58)
 sums-fit counts step high are =
-    let counted = up_to-bounded counts step high most_counted (slice_index counts) (λ n lt. count-small counts n are) in
-    let bytes = up_to-bounded counts step high (most_counted * largest_counted) (λ n. slice_index counts n * n)
+    let counted = up_to-bounded counts step high greatest_count (slice_index counts) (λ n lt. count-small counts n are) in
+    let bytes = up_to-bounded counts step high (greatest_count * largest_counted) (λ n. slice_index counts n * n)
     (λ n lt. let within : n ≤ largest_counted = omega (arith, are.sizes) in mul-le-mul (count-small counts n are) within) in
     (omega (arith, counted, are.sizes), omega (arith, bytes, are.sizes))
 
@@ -129,14 +129,14 @@ pub spans-fit : (counts : List ℕ) (step i j : ℕ) → IsStep step → AreCoun
     span_waste counts step i j < 2 ^ 58
 spans-fit counts step i j is_step are lt le =
     let class = place-class counts step j is_step (omega (arith, are.sizes)) (omega arith) le in
-    let each = sum_bounded _ (length counts) (most_counted * largest_counted) (λ n within. at_one n class.1) in
+    let each = sum_bounded _ (length counts) (greatest_count * largest_counted) (λ n within. at_one n class.1) in
     omega (arith, each, are.sizes)
   where
     at_one : (n : ℕ) → need_at counts step j ≤ LARGEST_CLASS
         → cond (ltb (need_at counts step i) (rounded_need step n) && leb (rounded_need step n) (need_at counts step j))
         (slice_index counts n * loss_of n (need_at counts step j)) 0
-        ≤ most_counted * largest_counted
+        ≤ greatest_count * largest_counted
     at_one n small =
         let loss : loss_of n (need_at counts step j) ≤ largest_counted = omega arith in
-        cond_both _ (slice_index counts n * loss_of n (need_at counts step j)) 0 (λ v. v ≤ most_counted * largest_counted)
+        cond_both _ (slice_index counts n * loss_of n (need_at counts step j)) 0 (λ v. v ≤ greatest_count * largest_counted)
         (λ e. mul-le-mul (count-small counts n are) loss) (λ e. omega arith)

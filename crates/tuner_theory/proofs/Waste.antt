@@ -5,7 +5,7 @@ use Rattle.class_table.specs.Sizes.{largest_counted, loss_of}
 use Rattle.class_table.specs.Tables.{IsLegalTable, class_for}
 use Rattle.class_table.specs.declared.sizes.TheConstants.{LARGEST_CLASS}
 use Rattle.class_table.proofs.LawLemmas.{first_is_least}
-use Rattle.tuner_theory.specs.Profiles.{AreCounts, most_counted}
+use Rattle.tuner_theory.specs.Profiles.{AreCounts, greatest_count}
 use Rattle.tuner_theory.specs.Waste.{waste_at, waste_of}
 use Rattle.tuner_theory.proofs.Sums.{sum_bounded}
 
@@ -21,7 +21,7 @@ class_small step n classes legal None found = omega arith
 class_small step n classes legal (Some class) found = found_small step n class classes legal found
 
 waste_small : (step n : ℕ) (counts classes : List ℕ) → AreCounts counts → IsLegalTable step classes → n < length counts
-    → waste_at counts classes n ≤ most_counted * largest_counted
+    → waste_at counts classes n ≤ greatest_count * largest_counted
 waste_small step n counts classes are_counts legal within =
     let class = class_small step n classes legal (class_for classes n) refl in
     let loss : loss_of n (unwrap_or (class_for classes n) 0) ≤ largest_counted = omega arith in
@@ -29,6 +29,6 @@ waste_small step n counts classes are_counts legal within =
 
 pub waste-fits : (step : ℕ) (counts classes : List ℕ) → AreCounts counts → IsLegalTable step classes → waste_of counts classes < 2 ^ 58
 waste-fits step counts classes are_counts legal =
-    let small = sum_bounded (waste_at counts classes) (length counts) (most_counted * largest_counted)
+    let small = sum_bounded (waste_at counts classes) (length counts) (greatest_count * largest_counted)
     (λ n within. waste_small step n counts classes are_counts legal within) in
     omega (arith, small, are_counts.sizes)

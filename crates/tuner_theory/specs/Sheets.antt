@@ -31,7 +31,7 @@ Meets counts s StageDrop = KeepsStageDrops (places counts s.step) s.limit (numbe
 Meets counts s Edge = KeepsEdges (span_waste counts s.step) (places counts s.step) s.limit (number_at s.rows)
 Meets counts s NotTight = number_at s.rows s.limit 0 ≡ s.waste
 
--- The code of a refusal. What has the lesser code is looked at first.
+-- The code of a refusal. What has the lesser code is looked at first. The text of a refusal begins with it (`code-shown`).
 abbrev pub code_of : Refusal → ℕ
 code_of OffStep = 39
 code_of OverLimit = 40

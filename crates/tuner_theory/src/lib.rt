@@ -2,9 +2,9 @@
 //! and the rows from which a best table is read off. Definitions, and laws that are contracts of functions that do nothing.
 #![tactic(auto)]
 
+mod greatest_count;
 pub mod laws;
-mod most_counted;
 mod verdict;
 
-pub use most_counted::MOST_COUNTED;
+pub use greatest_count::GREATEST_COUNT;
 pub use verdict::{Refusal, Verdict};

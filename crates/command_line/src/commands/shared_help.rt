@@ -74,8 +74,8 @@ macro_rules! help_text {
   HH      the byte that is stored, two hexadecimal digits
   U6, U4  granules, 0 to 63, and tags, 0 to 15, by which a pointer is moved
 
-A line has at most 80 bytes, and there are at most 1000000 events. docs/HEAP.md in the repository
-has the meaning of each event. "] $($rest)*)
+A line has at most 80 bytes, and there are at most 1000000 events. docs/FORMATS.md has the meaning
+of each event. "] $($rest)*)
     };
     (@[$($done:tt)*] step_refusals $($rest:tt)*) => {
         help_text!(@[$($done)*

@@ -19,7 +19,7 @@ pub fn law_states()
     ensures { AfterEveryRun IsSoundRun }
 {}
 
-/// What is stored of a run determines the rest. One more event is one more step, one more answer and one more report line.
+/// What is stored of a run is a replay of its events: the times and the generations have no part in it. One more event is one more step, one more answer and one more report line.
 pub fn law_run()
     ensures stored { StoredPartIsAReplay }
     ensures step { OneStepMore }

@@ -1,7 +1,7 @@
 //! Sizes, tables of classes and profiles.
 use super::support::same;
 use class_table::{ClassTable, TableError, loss, need, serves};
-use profile_count::{CountFull, MOST_COUNTED, Profile};
+use profile_count::{CountFull, GREATEST_COUNT, Profile};
 use std::test::Fail;
 
 #[test]
@@ -121,8 +121,8 @@ fn a_full_count_stays(rt: HostRuntime) -> Result<(), Fail> {
     for n in [16, 16_369, u32::MAX] {
         same(&rt, &profile.add(n), &Err(CountFull), &n);
     }
-    same(&rt, &profile.count(16), &MOST_COUNTED, &"the count of 16");
-    same(&rt, &profile.large(), &MOST_COUNTED, &"large requests");
+    same(&rt, &profile.count(16), &GREATEST_COUNT, &"the count of 16");
+    same(&rt, &profile.large(), &GREATEST_COUNT, &"large requests");
     same(&rt, &profile.add(15), &Ok(()), &"the last of 15");
     same(&rt, &profile.add(15), &Err(CountFull), &"one more of 15");
     same(&rt, &profile.count(15), &1_000_000_000, &"the count of 15");

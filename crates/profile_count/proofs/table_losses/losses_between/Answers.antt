@@ -1,6 +1,6 @@
 use Rattle.std.proofs.Common.{◌≡◌, ◌-◌, ◌*◌, ◌<◌, ◌≤◌, length, slice_index, sym, ap, ◌∙◌, arith, add-one}
 use Rattle.class_table.specs.Sizes.{largest_counted}
-use Rattle.tuner_theory.specs.Profiles.{most_counted}
+use Rattle.tuner_theory.specs.Profiles.{greatest_count}
 use Rattle.tuner_theory.proofs.Sums.{sum_below-more}
 use Rattle.profile_count.proofs.Waste.{small_term}
 use Rattle.profile_count.proofs.table_losses.losses_between.Goals as goal
@@ -10,7 +10,7 @@ loop-n-preserved c =
     let counts = c.args.counts.now in
     let n = c.loop-n.n in
     let within : n < length counts = omega (arith, c.requires.counts.sizes, c.requires.end) in
-    let count : c.from.result ≤ most_counted = omega (arith, c.from.ensures, c.requires.counts.in_range n 0 within) in
+    let count : c.from.result ≤ greatest_count = omega (arith, c.from.ensures, c.requires.counts.in_range n 0 within) in
     let loss : c.from-in-loop-n.result ≤ largest_counted = omega (arith, c.from-in-loop-n.ensures, c.requires.end) in
     let term : c.from.result * c.from-in-loop-n.result ≡ slice_index counts n * (c.args.end - 1 - n) =
     ap (λ z. z * c.from-in-loop-n.result) c.from.ensures ∙ ap (λ z. slice_index counts n * z) c.from-in-loop-n.ensures in

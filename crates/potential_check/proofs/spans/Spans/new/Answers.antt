@@ -2,7 +2,7 @@ use Rattle.std.proofs.Common.{◌≡◌, ℕ, ◌≤◌, List, slice_index, add-
 use Rattle.std.proofs.lemmas.Bool.{both_ways}
 use Rattle.std.proofs.Math.Nat.{mul-le-mul}
 use Rattle.class_table.specs.Sizes.{largest_counted}
-use Rattle.tuner_theory.specs.Profiles.{most_counted}
+use Rattle.tuner_theory.specs.Profiles.{greatest_count}
 use Rattle.potential_check.specs.Spanned.{last_need}
 use Rattle.tuner_theory.specs.Spans.{rounded_need}
 use Rattle.potential_check.proofs.SpansBuilt.{HasPlace, built-add, built-end, built-none, built-skip, built-small, place-new, place-same}
@@ -28,7 +28,7 @@ overflow_add-total_bytes c =
     let small = built-small c.args.profile.now.counts c.args.step c.loop-n.n c.loop-n.total c.loop-n.total_bytes
     c.loop-n.needs.items c.loop-n.counted.items c.loop-n.bytes.items c.count.ensures.profile.counts (omega arith)
     c.loop-n.invariant.built in
-    let count : c.from-count.result ≤ most_counted =
+    let count : c.from-count.result ≤ greatest_count =
     omega (arith, c.count.ensures.profile.counts.in_range c.loop-n.n 0 (omega (arith, c.count.ensures.profile.counts.sizes))) in
     let n : c.from.result ≤ largest_counted = omega arith in
     omega (arith, small.1, mul-le-mul count n)
