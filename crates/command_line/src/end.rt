@@ -22,8 +22,8 @@ pub enum End {
     Shown,
     /// It refused its words.
     Refused,
-    /// A command ended like this. `Err(OutOfMemory)` and `Err(WriteFault)` also stand for want of memory while the words are read, and for
-    /// help that could not be written.
+    /// A command ended with this result. Without a command, `Err(OutOfMemory)` reports that memory ran out while the words were read, and
+    /// `Err(WriteFault)` that help could not be written.
     Ended(Result<Status, ToolFault>),
 }
 
