@@ -6,6 +6,7 @@ use Rattle.std.proofs.lemmas.List.Elements.{All-take, All-weaker}
 use Rattle.std.proofs.lemmas.List.Sums.{sum_by-le, sum_by_more, sum_by-take-le}
 use Rattle.std.proofs.lemmas.Nat.{mul-le, div-add-mod'}
 use Rattle.class_table.specs.Layout.{Partition, IsPartition, share_of, slots_of, slot_count, first_slot}
+use Rattle.class_table.specs.Sizes.{IsBlockSize}
 use Rattle.class_table.proofs.Slots.{length-slots_of_classes}
 
 pub first_slot-suc : (layout : Partition) (number : ℕ) → number < length layout.classes →
@@ -38,7 +39,7 @@ first_slot-few layout number is =
     let share = share_of layout in
     let count = length layout.classes in
     let each : All (λ class. share / class ≤ share / 2) layout.classes =
-    All-weaker (λ class. (2 ≤ class) × (class ≤ 1024)) (λ class. share / class ≤ share / 2) (λ class range. halved share class range.0)
+    All-weaker IsBlockSize (λ class. share / class ≤ share / 2) (λ class range. halved share class range.0)
     layout.classes is.table.in_range in
     let sum : first_slot layout number ≤ length (take number layout.classes) * (share / 2) =
     sum_by-le (λ class. share / class) (share / 2) (take number layout.classes)

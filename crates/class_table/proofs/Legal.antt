@@ -4,6 +4,7 @@ use Rattle.std.specs.List.{All, AllPairs}
 use Rattle.std.proofs.lemmas.List.Kept.{AllPairs-from_increasing}
 use Rattle.std.proofs.lemmas.Bool.{lt-leb, le-ltb, or_from, or_parts, ltb-false, leb-false}
 use Rattle.class_table.specs.Faults.{fault_from, is_out_of_range}
+use Rattle.class_table.specs.Sizes.{IsBlockSize}
 use Rattle.class_table.specs.Tables.{FitsStep, IsLegalTable}
 
 -- Each class is above the one before it, the first above low, none above 1024, and each a multiple of the step. Where low is 1 or more,
@@ -48,7 +49,7 @@ no_classes_are_legal = legal-from_classes 1 1 [] (omega arith) (omega arith) tt
 
 classes_from : (step low : ℕ) (classes : List ℕ) → ((k : ℕ) → k < length classes → low < get_or classes k 0) →
     AllPairs (λ one other. one < other) classes
-    → All (λ class. (2 ≤ class) × (class ≤ 1024)) classes → FitsStep step classes → AreClassesAbove step low classes
+    → All IsBlockSize classes → FitsStep step classes → AreClassesAbove step low classes
 classes_from step low [] first up range fits = tt
 classes_from step low (class ∷ classes) first up range fits = (
   first 0 (omega arith),

@@ -9,6 +9,7 @@ use Rattle.std.proofs.lemmas.List.FromFn.{length-map-range_with_len, get_or-map-
 use Rattle.std.proofs.lemmas.List.Sums.{sum_by-cons}
 use Rattle.std.proofs.lemmas.Nat.{div-add-mod'}
 use Rattle.class_table.specs.Layout.{Partition, Slot, no_slot, end_of, share_of, slots_of_class, slots_of_classes, slots_of, slot_count, slot_of, first_slot, AreInOrder}
+use Rattle.class_table.specs.Sizes.{IsBlockSize}
 use Rattle.class_table.specs.Tables.{IsLegalTable}
 
 -- ---- in address order
@@ -55,13 +56,13 @@ spread_class first share class wide =
     (spread_to (first + class * 0) (first + class * (0 + share / class)) (first + share) (slots_of_class first share class) (omega arith)
     row)
 
-spread_classes : (first share : ℕ) (classes : List ℕ) → All (λ class. (2 ≤ class) × (class ≤ 1024)) classes →
+spread_classes : (first share : ℕ) (classes : List ℕ) → All IsBlockSize classes →
     IsSpread first (first + share * length classes) (slots_of_classes first share classes)
 unfolding slots_of_classes
 spread_classes first share [] in_range = omega arith
 spread_classes first share (class ∷ classes) in_range =
     let rest : IsSpread (first + share) (first + share + share * length classes) (slots_of_classes (first + share) share classes) =
-    spread_classes (first + share) share classes (All-tail (λ class. (2 ≤ class) × (class ≤ 1024)) class classes in_range) in
+    spread_classes (first + share) share classes (All-tail IsBlockSize class classes in_range) in
     let to : first + share + share * length classes ≡ first + share * length (class ∷ classes) = omega arith in
     spread_append first (first + share) (first + share * length (class ∷ classes)) (slots_of_class first share class)
     (slots_of_classes (first + share) share classes)
@@ -225,5 +226,5 @@ class_of_slot layout s within =
 pub slot_is_small : (step : ℕ) (layout : Partition) (s : ℕ) → IsLegalTable step layout.classes → s < slot_count layout →
     (slot_of layout s).class ≤ 1024
 slot_is_small step layout s table within =
-    (All-contains (λ class. (2 ≤ class) × (class ≤ 1024)) layout.classes (slot_of layout s).class table.in_range
+    (All-contains IsBlockSize layout.classes (slot_of layout s).class table.in_range
     (class_of_slot layout s within)).1

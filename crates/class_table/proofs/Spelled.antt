@@ -8,6 +8,7 @@ use Rattle.line_text.proofs.LawLemmas.{text_laws as laws}
 use Rattle.class_table.specs.ClassLine.{SpellsTable, class_line, table_of_numbers, table_of_lines, table_of_line, table_of}
 use Rattle.class_table.specs.Faults.{fault_from, table_of_classes}
 use Rattle.class_table.specs.NamedLines.{numbers_in}
+use Rattle.class_table.specs.Sizes.{IsBlockSize}
 use Rattle.class_table.specs.Tables.{IsLegalTable}
 use Rattle.class_table.specs.declared.fault.TableError.{TableError}
 use Rattle.class_table.proofs.Legal.{classes-from_no_fault, legal-from_classes, classes-from_legal, no_fault-from_classes}
@@ -39,7 +40,7 @@ classes_is_a_name = plain_name (codes "classes") refl (omega arith)
 
 pub classes_are_small : (table : List ℕ) → IsLegalTable 1 table → AreSmall table
 classes_are_small table legal =
-    All-weaker (λ class. (2 ≤ class) × (class ≤ 1024)) (λ n. n < 2 ^ 64) (λ class within. omega (arith, within.1)) table legal.in_range
+    All-weaker IsBlockSize (λ n. n < 2 ^ 64) (λ class within. omega (arith, within.1)) table legal.in_range
 
 pub class_line_is_full : (table : List ℕ) → IsLegalTable 1 table → IsFullLine (class_line table)
 class_line_is_full table legal = named_line-full (codes "classes") table classes_is_a_name (classes_are_small table legal)

@@ -1,11 +1,15 @@
 -- Requests and classes. A request is a number of bytes; a class is a block size in granules of 16 bytes, one of them for the block's
 -- header.
-use Rattle.std.specs.Prelude.{ℕ, ◌+◌, ◌-◌, ◌*◌, ◌/◌, Bool, nat_le, max, List, filter}
-use Rattle.class_table.specs.declared.sizes.TheConstants.{GRANULE_BYTES, LARGEST_COUNTED}
+use Rattle.std.specs.Prelude.{ℕ, ◌+◌, ◌-◌, ◌*◌, ◌/◌, ◌≤◌, Bool, nat_le, max, List, filter}
+use Rattle.class_table.specs.declared.sizes.TheConstants.{GRANULE_BYTES, LARGEST_CLASS, LARGEST_COUNTED, SMALLEST_CLASS}
 
 -- the bytes of a granule
 abbrev pub granule_bytes : ℕ
 granule_bytes = GRANULE_BYTES
+
+-- A size that a block may have, in granules.
+abbrev pub IsBlockSize : ℕ → Type 0
+IsBlockSize granules = (SMALLEST_CLASS ≤ granules) × (granules ≤ LARGEST_CLASS)
 
 -- the largest request that is counted, in bytes: what the largest class serves
 abbrev pub largest_counted : ℕ

@@ -2,8 +2,7 @@
 use Rattle.std.specs.Prelude.{◌≡◌, ℕ, ◌%◌, ◌≤◌, List, length, find, position, sum_by, Option, IsSome, IsTrue, All, Contains}
 use Rattle.std.specs.Option.{option_map_or}
 use Rattle.std.specs.List.Sorted.{IsStrictlyIncreasing}
-use Rattle.class_table.specs.Sizes.{loss_of, serves}
-use Rattle.class_table.specs.declared.sizes.TheConstants.{SMALLEST_CLASS, LARGEST_CLASS}
+use Rattle.class_table.specs.Sizes.{IsBlockSize, loss_of, serves}
 use Rattle.class_table.specs.declared.table.TheConstants.{MOST_CLASSES}
 
 -- Each class is a multiple of the step.
@@ -13,7 +12,7 @@ FitsStep step classes = All (λ class. class % step ≡ 0) classes
 -- A legal table, for blocks that come in multiples of a step: at most 32 classes from 2 to 1024 granules, strictly ascending.
 pub record IsLegalTable (step : ℕ) (classes : List ℕ) : Type 0 where
   pub few : length classes ≤ MOST_CLASSES
-  pub in_range : All (λ class. (SMALLEST_CLASS ≤ class) × (class ≤ LARGEST_CLASS)) classes
+  pub in_range : All IsBlockSize classes
   pub ascending : IsStrictlyIncreasing classes
   pub fitting : FitsStep step classes
 

@@ -72,7 +72,7 @@ fn append(line: &mut ArrayVec<u8, LINE_BYTES>, bytes: &[u8])
     let _ = line.try_extend_from_slice(bytes);
 }
 
-// appends a space and the number of each class to a line's words
+// appends a space and the digits of each class to the name that the line begins with
 fn append_classes(line: &mut ArrayVec<u8, LINE_BYTES>, classes: &[u16])
     requires legal { IsLegalTable 1 classes.now }
     requires name { line.old.items ≡ codes "classes" }

@@ -1,9 +1,10 @@
 ghost use Rattle.std.specs.Prelude.{◌≡◌, ◌+◌, ◌/◌, ◌<◌, ◌≤◌, length, slice_get, slice_index, slice_index_or, ℕ, IfNone, IfSome, None, Some};
+ghost use Rattle.class_table.specs.Sizes.{IsBlockSize};
 ghost use Rattle.class_table.specs.Layout.{IsClassOf, IsPartition, block_bytes, first_slot, share_of, slot_count, slot_of, slot_over};
 ghost use Rattle.class_table.specs.Tables.{class_number_for, loss_of_size};
 ghost use Rattle.std.specs.List.Sorted.{IsNonDecreasingBy};
 
-use crate::sizes::{GRANULE_BYTES, LARGEST_CLASS, LARGEST_COUNTED, SMALLEST_CLASS, payload_bytes};
+use crate::sizes::{GRANULE_BYTES, LARGEST_COUNTED, SMALLEST_CLASS, payload_bytes};
 use crate::table::{ClassTable, MOST_CLASSES};
 use arrayvec::ArrayVec;
 use std::marker::Model;
@@ -96,7 +97,7 @@ impl Layout {
     pub fn class(&self, number: usize) -> u32
         requires { number < length self.now.classes }
         ensures class { result ≡ slice_index self.now.classes number }
-        ensures in_range { (SMALLEST_CLASS ≤ result) × (result ≤ LARGEST_CLASS) }
+        ensures in_range { IsBlockSize result }
     {
         self.classes[number]
     }
@@ -149,7 +150,7 @@ impl Layout {
         ensures start { result.start ≡ (slot_of self.now slot).start }
         ensures class { result.class ≡ (slot_of self.now slot).class }
         ensures inside { result.start + result.class ≤ self.now.granules }
-        ensures in_range { (SMALLEST_CLASS ≤ result.class) × (result.class ≤ LARGEST_CLASS) }
+        ensures in_range { IsBlockSize result.class }
     {
         self.slot_of_class(self.class_of(slot), slot)
     }
@@ -160,7 +161,7 @@ impl Layout {
         ensures start { result.start ≡ (slot_of self.now slot).start }
         ensures class { result.class ≡ (slot_of self.now slot).class }
         ensures inside { result.start + result.class ≤ self.now.granules }
-        ensures in_range { (SMALLEST_CLASS ≤ result.class) × (result.class ≤ LARGEST_CLASS) }
+        ensures in_range { IsBlockSize result.class }
     {
         let place = slot - self.first_slot(number);
         let class = self.class(number);

@@ -1,6 +1,6 @@
 ghost use Rattle.std.specs.Prelude.{◌≡◌, ◌↔◌, ◌-◌, ◌*◌, ◌^◌, ◌<◌, ◌≤◌, IsTrue};
 ghost use Rattle.class_table.specs.Steps.{IsStep, round_up};
-ghost use Rattle.class_table.specs.Sizes.{need_of, loss_of, serves};
+ghost use Rattle.class_table.specs.Sizes.{IsBlockSize, need_of, loss_of, serves};
 
 /// The bytes of a granule. A heap is proved only if the machine's granule has as many.
 pub const GRANULE_BYTES: u32 = 16;
@@ -21,7 +21,7 @@ pub const MOST_NEEDS: usize = (LARGEST_CLASS - SMALLEST_CLASS + 1) as usize;
 pub fn need(n: u32) -> u32
     requires { n ≤ LARGEST_COUNTED }
     ensures need { result ≡ need_of n }
-    ensures in_range { (SMALLEST_CLASS ≤ result) × (result ≤ LARGEST_CLASS) }
+    ensures in_range { IsBlockSize result }
 {
     1 + n.div_ceil(GRANULE_BYTES).max(1)
 }
@@ -58,7 +58,7 @@ pub fn is_step(step: u8) -> bool
 
 /// A need in granules (2 to 1024), rounded up to a multiple of the step (`is_step`). It is at most 1024 too.
 pub fn round_up(need: u32, step: u8) -> u32
-    requires need { (SMALLEST_CLASS ≤ need) × (need ≤ LARGEST_CLASS) }
+    requires need { IsBlockSize need }
     requires step { IsStep step }
     ensures rounded { result ≡ round_up need step }
     ensures in_range { (need ≤ result) × (result ≤ LARGEST_CLASS) }

@@ -1,5 +1,5 @@
 ghost use Rattle.std.specs.Prelude.{◌≡◌, ◌↔◌, ◌<◌, ◌≤◌, List, ℕ, [], length, slice_index, slice_get, Some, IsFalse, IsTrue, IfSome, IfNone, IfOk, All};
-ghost use Rattle.class_table.specs.Sizes.{serves};
+ghost use Rattle.class_table.specs.Sizes.{IsBlockSize, serves};
 ghost use Rattle.class_table.specs.Faults.{Gives, fault_from, is_out_of_range, table_of_classes};
 ghost use Rattle.class_table.specs.Tables.{FitsStep, IsLegalTable, IsLeastServing, class_number_for};
 ghost use Rattle.class_table.specs.Steps.{IsStep};
@@ -71,7 +71,7 @@ impl ClassTable {
     pub fn class(&self, number: usize) -> u16
         requires { number < length self.now }
         ensures class { slice_get self.now number ≡ Some result }
-        ensures in_range { (SMALLEST_CLASS ≤ result) × (result ≤ LARGEST_CLASS) }
+        ensures in_range { IsBlockSize result }
     {
         self.classes[number]
     }

@@ -1,12 +1,11 @@
 -- Where two lists have the same bytes, their granules have the same tags and bytes.
 use Rattle.std.specs.Prelude.{slice_range, slice_index, ◌⊎◌}
 use Rattle.std.specs.Int.{w64, from_le_bytes}
-use Rattle.std.specs.List.{range_with_len}
-use Rattle.std.proofs.Common.{◌≡◌, ℕ, ◌+◌, ◌*◌, ◌/◌, ◌%◌, ◌<◌, ◌≤◌, List, map, length, refl, sym, ap, subst, ◌∙◌, arith, inl, inr, ⊎_elim}
+use Rattle.std.proofs.Common.{◌≡◌, ℕ, ◌+◌, ◌*◌, ◌/◌, ◌%◌, ◌<◌, ◌≤◌, List, length, sym, ap, subst, ◌∙◌, arith, inl, inr, ⊎_elim}
 use Rattle.std.proofs.lemmas.Bool.{cases_lt}
 use Rattle.std.proofs.lemmas.Grind.{same_number_lists}
-use Rattle.std.proofs.lemmas.List.FromFn.{get_or-map-range_with_len, length-map-range_with_len}
-use Rattle.machine_theory.specs.Memory.{Granule, no_granule, granule_at, tag_at, byte_at, bytes_at, word_at}
+use Rattle.machine_theory.specs.Memory.{Granule, no_granule, granule_at, tag_at, byte_at, word_at}
+use Rattle.machine_theory.proofs.ByteLaws.{bytes_at_agree}
 use Rattle.granule_memory.specs.BytesOfGranules.{granules_of}
 use Rattle.granule_memory.specs.Changes.{ChangesOnlyBytes, ChangesOnlyTags}
 use Rattle.granule_memory.proofs.Granules.{granules_counted, granule_is, granule_past, tag_is, byte_is, slice_range_byte, slice_range_long}
@@ -37,13 +36,8 @@ module _ (xs ys : List ℕ) (count : ℕ) (long : length xs ≡ 17 * count) (sam
       (cases_lt k (16 * count))
 
   same_word : (k : ℕ) → ((j : ℕ) → j < 8 → byte_at new (k + j) ≡ byte_at old (k + j)) → word_at new k ≡ word_at old k
-  unfolding word_at bytes_at
-  same_word k same =
-      ap (from_le_bytes w64) (same_number_lists (map (byte_at new) (range_with_len k 8)) (map (byte_at old) (range_with_len k 8))
-      (length-map-range_with_len (byte_at new) k 8 ∙ sym (length-map-range_with_len (byte_at old) k 8))
-      (λ j h. let within : j < 8 = subst (λ (n : ℕ). j < n) (length-map-range_with_len (byte_at new) k 8) h in
-      get_or-map-range_with_len (byte_at new) k 8 j (k + j) 0 within refl ∙ same j within
-      ∙ sym (get_or-map-range_with_len (byte_at old) k 8 j (k + j) 0 within refl)))
+  unfolding word_at
+  same_word k same = ap (from_le_bytes w64) (bytes_at_agree new old k 8 same)
 
   same_bytes : (g : ℕ) → ((j : ℕ) → j < 16 → g < count → SameAt (16 * g + j)) → (granule_at new g).bytes ≡ (granule_at old g).bytes
   same_bytes g same = ⊎_elim

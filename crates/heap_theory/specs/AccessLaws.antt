@@ -1,6 +1,6 @@
 -- When each result of an access comes, exactly.
-use Rattle.std.specs.Prelude.{◌≡◌, ◌≢◌, ◌↔◌, ℕ, ◌<◌, ℤ, List, ◌∷◌, ◌++◌, length, replicate, slice_get, Some, IsTrue}
-use Rattle.machine_theory.specs.Access.{IsMapped, IsTagFault, loaded, stored}
+use Rattle.std.specs.Prelude.{◌≡◌, ◌≢◌, ◌↔◌, ◌⊎◌, ℕ, ◌<◌, ℤ, List, ◌∷◌, ◌++◌, length, replicate, slice_get, Some, IsFalse, IsTrue}
+use Rattle.machine_theory.specs.Access.{IsMapped, IsTagFault, is_mapped, loaded, stored}
 use Rattle.machine_theory.specs.Address.{logical_tag, moved_by, Touches}
 use Rattle.machine_theory.specs.Memory.{tag_at}
 use Rattle.heap_theory.specs.declared.event.Event.{Event}
@@ -10,6 +10,11 @@ use Rattle.heap_theory.specs.GranuleKinds.{place_kind}
 use Rattle.heap_theory.specs.Replay.{Replay, Answer, variable, heap_after, answer_of, answers, replay_of, is_tag_fault}
 use Rattle.heap_theory.specs.Replay.Answer.{Silent, Loaded, NotMapped, TagFault}
 use Rattle.heap_theory.specs.State.{Heap}
+
+-- The address has a tag other than 0, or the access of `len` bytes is not mapped. If such an access succeeds, it touches no header, since
+-- headers have tag 0.
+abbrev pub IsTaggedOrUnmapped : Heap → ℕ → ℕ → Type 0
+IsTaggedOrUnmapped heap address len = (logical_tag address ≢ 0) ⊎ IsFalse (is_mapped (length heap.memory) address len)
 
 -- The result of an access of `len` bytes at an address: unmapped, a tag fault, or `done` if it succeeds.
 pub record IsAnswerTo (heap : Heap) (address len : ℕ) (done answer : Answer) : Type 0 where

@@ -5,6 +5,7 @@ use Rattle.std.specs.List.{flat_map}
 use Rattle.line_text.specs.Hexadecimal.{hex}
 use Rattle.line_text.specs.Lines.{line_of, ended, text_of}
 use Rattle.class_table.specs.Layout.{Partition}
+use Rattle.class_table.specs.NamedLines.{named_line}
 use Rattle.heap_theory.specs.declared.event.Event.{Event}
 use Rattle.heap_theory.specs.declared.refusal.FreeError.{FreeError}
 use Rattle.heap_theory.specs.declared.refusal.FreeError.TheVariants.{Misplaced, NotLive, WrongTag}
@@ -59,7 +60,7 @@ report_lines number [] = []
 report_lines number (answer ∷ rest) = report_line number answer ++ report_lines (number + 1) rest
 
 abbrev pub total_line : List ℕ → ℕ → List ℕ
-total_line name total = line_of (name ∷ decimal total ∷ [])
+total_line name total = named_line name (total ∷ [])
 
 -- The lines of totals.
 unfoldable pub totals_text : Totals → List ℕ

@@ -16,7 +16,7 @@ pub next_seed-below : (seed : ℕ) → seed < 2 ^ 16 → next_seed seed < 2 ^ 16
 unfolding next_seed
 next_seed-below seed fits = omega (arith, next_offset-below seed)
 
--- a register from 16 on keeps a set bit, and one below 16 draws an offset other than 0
+-- The seed never becomes 0: if it is 16 or more, a set bit stays in it; if it is 1 to 15, the offset that is drawn is not 0.
 pub next_seed-some : (seed : ℕ) → 0 < seed → seed < 2 ^ 16 → 0 < next_seed seed
 unfolding next_seed next_offset
 next_seed-some seed some fits = elim (cases_lt seed 16) [
@@ -126,7 +126,7 @@ next_offset-Begins seed x b =
     λ i. next_bit-Begins seed x 0 (omega arith) b i + 2 * next_bit-Begins seed x 1 (omega arith) b i + 4 * next_bit-Begins seed x 2
     (omega arith) b i + 8 * next_bit-Begins seed x 3 (omega arith) b i
 
--- the register once one bit is drawn begins the sequence from its bit 1 on
+-- after one bit is drawn, the register begins the sequence from bit 1 on
 shifted-Begins : (seed : ℕ) (x : ℕ → ℕ) → seed < 2 ^ 16 → Begins seed x → Begins (shifted seed) (λ n. x (1 + n))
 shifted-Begins seed x fits b = record {
   own = λ n h. elim (cases_lt n 15) [
@@ -141,7 +141,7 @@ shifted-Begins seed x fits b = record {
     after : (k n : ℕ) → 1 + n + k ≡ 1 + (n + k)
     after k n = omega arith
 
--- the register that IRG leaves begins it from its bit 4 on
+-- after IRG has drawn four bits, the register begins the sequence from bit 4 on
 next_seed-Begins : (seed : ℕ) (x : ℕ → ℕ) → seed < 2 ^ 16 → Begins seed x → Begins (next_seed seed) (λ n. x (4 + n))
 next_seed-Begins seed x fits b =
     let one = shifted-Begins seed x fits b in

@@ -8,7 +8,7 @@ pub record Machine : Type 0 where
   pub tag : ℕ  -- RGSR_EL1.TAG, the tag that IRG chose last
 
 -- what its register always is
-pub record IsRegister (machine : Machine) : Type 0 where
-  pub seed_some : 0 < machine.seed
-  pub seed_fits : machine.seed < 2 ^ 16
-  pub tag_fits : machine.tag < 16
+pub record IsRegister (seed tag : ℕ) : Type 0 where
+  pub seed_some : 0 < seed
+  pub seed_fits : seed < 2 ^ 16
+  pub tag_fits : tag < 16

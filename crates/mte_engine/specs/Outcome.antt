@@ -1,8 +1,8 @@
 -- What an engine writes for an input, and how a call of it ends.
-use Rattle.std.specs.Prelude.{◌≡◌, ◌↔◌, ◌<◌, ◌^◌, ℕ, List, ◌++◌, length, Option, Some, None, Result, Ok, Err, IfOk, nat_lt, MatchBool, ⊤}
+use Rattle.std.specs.Prelude.{◌≡◌, ◌↔◌, ◌<◌, ℕ, List, ◌++◌, length, Option, Some, None, Result, Ok, Err, IfOk, nat_lt, MatchBool, ⊤}
 use Rattle.std.specs.Io.KnownBytes.{Appends, IsAtEnd}
 use Rattle.mte_engine.specs.Transfer.{IsReadFewTimes, most_input}
-use Rattle.mte_engine.specs.Streams.{SinkState, SourceState}
+use Rattle.mte_engine.specs.Streams.{HaveFewFailed, SinkState, SourceState}
 use Rattle.mte_engine.specs.declared.engine.Status.{Status}
 use Rattle.mte_engine.specs.declared.fault.AnswerError.{AnswerError}
 use Rattle.mte_engine.specs.declared.fault.AnswerError.TheVariants.{OutOfMemory as NoMemoryToAnswer, Input as Refused}
@@ -75,8 +75,8 @@ IsQuiet before after (Err WriteFault) = ⊤
 
 -- An engine may be called: fewer than 2^63 calls of the source and of the sink have failed.
 pub record IsReady (source : SourceState) (sink : SinkState) : Type 0 where
-  pub reading : source.failed < 2 ^ 63
-  pub writing : sink.failed < 2 ^ 63
+  pub reading : HaveFewFailed source.failed
+  pub writing : HaveFewFailed sink.failed
 
 -- What a call of an engine with these answers does, from a source to a sink.
 pub record Runs (answers : List ℕ → Result Answer InputFault → Type 0) (source source' : SourceState) {W : Type 0} (state : W → SinkState)

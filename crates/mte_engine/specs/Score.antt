@@ -1,9 +1,9 @@
 -- The answers of `score`: the waste of a table on a profile, or the least counted size that the table doesn't serve.
 use Rattle.std.specs.Prelude.{◌≡◌, ℕ, List, [], ◌∷◌, codes, Option, Some, None, Result, Ok, Err}
-use Rattle.std.specs.Fmt.{decimal}
 use Rattle.line_text.specs.FirstFault.{◌>>=◌}
-use Rattle.line_text.specs.Lines.{lines, line_of, ended}
+use Rattle.line_text.specs.Lines.{lines, ended}
 use Rattle.class_table.specs.ClassLine.{table_of_line}
+use Rattle.class_table.specs.NamedLines.{named_line}
 use Rattle.class_table.specs.declared.fault.TableError.TheVariants.{BadLine}
 use Rattle.profile_count.specs.Counts.{unserved_of}
 use Rattle.profile_count.specs.ProfileText.{profile_of_lines}
@@ -17,8 +17,8 @@ use Rattle.mte_engine.specs.declared.fault.InputFault.TheVariants.{Table}
 
 -- `waste W`, or `not serving N` with the status of a no, where N is the least counted size without a class.
 abbrev pub score_text : Option ℕ → ℕ → Answer
-score_text None waste = record { text = ended (line_of (codes "waste" ∷ decimal waste ∷ [])); status = Done }
-score_text (Some size) waste = record { text = ended (line_of (codes "not" ∷ codes "serving" ∷ decimal size ∷ [])); status = No }
+score_text None waste = record { text = ended (named_line (codes "waste") (waste ∷ [])); status = Done }
+score_text (Some size) waste = record { text = ended (named_line (codes "not serving") (size ∷ [])); status = No }
 
 abbrev pub scored : List ℕ → Counted → Answer
 scored table profile = score_text (unserved_of profile.counts table) (waste_of profile.counts table)

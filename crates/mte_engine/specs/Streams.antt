@@ -1,5 +1,5 @@
 -- What a source and a sink show of themselves, and which of their calls count as failed.
-use Rattle.std.specs.Prelude.{ℕ, zero, suc, List, Option, Result, Ok, Err}
+use Rattle.std.specs.Prelude.{ℕ, zero, suc, ◌<◌, ◌^◌, List, Option, Result, Ok, Err}
 
 pub record SourceState : Type 0 where
   pub remaining : Option (List ℕ)  -- the bytes that are still to come, where they are known
@@ -9,6 +9,10 @@ pub record SourceState : Type 0 where
 pub record SinkState : Type 0 where
   pub taken : Option (List ℕ)  -- the bytes taken so far, where they are known
   pub failed : ℕ  -- how many writes failed
+
+-- So few calls have failed that the failure of one more can be counted.
+abbrev pub HaveFewFailed : ℕ → Type 0
+HaveFewFailed failed = failed < 2 ^ 63
 
 -- How many failed reads a read adds.
 abbrev pub failed_reads : {E : Type 0} → Result ℕ E → ℕ

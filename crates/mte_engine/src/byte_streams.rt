@@ -1,7 +1,7 @@
 //! Sources and sinks of bytes.
 ghost use Rattle.std.specs.Prelude.{◌≡◌, ◌+◌, ◌^◌, ◌<◌, ◌≤◌, length, IfOk};
 ghost use Rattle.std.specs.Io.KnownBytes.{ReadConsumes, WriteAppends};
-ghost use Rattle.mte_engine.specs.Streams.{SinkState, SourceState, failed_reads, failed_writes};
+ghost use Rattle.mte_engine.specs.Streams.{HaveFewFailed, SinkState, SourceState, failed_reads, failed_writes};
 
 /// A read or a write that failed.
 #[derive(Debug, Clone, Copy, PartialEq, Eq)]
@@ -18,7 +18,7 @@ pub trait ByteSource {
 
     /// Fills the first bytes of `buf`, and returns how many: 0 at the end. A failed read gives no bytes.
     fn read(&mut self, buf: &mut [u8]) -> Result<usize, Failure>
-        requires { (state self.old).failed < 2 ^ 63 }
+        requires { HaveFewFailed (state self.old).failed }
         ensures bound { IfOk result (λ n. n ≤ length buf.new) }
         ensures bytes { ReadConsumes (state self.old).remaining (state self.new).remaining result buf.new }
         ensures failed { (state self.new).failed ≡ (state self.old).failed + failed_reads result }
@@ -37,7 +37,7 @@ pub trait ByteSink {
     /// Takes the first bytes of `bytes`, and returns how many. A failed write takes none. A write that takes none of at least one byte has
     /// failed.
     fn write(&mut self, bytes: &[u8]) -> Result<usize, Failure>
-        requires { (state self.old).failed < 2 ^ 63 }
+        requires { HaveFewFailed (state self.old).failed }
         ensures bound { IfOk result (λ n. n ≤ length bytes.now) }
         ensures bytes { WriteAppends (state self.old).taken (state self.new).taken result bytes.now }
         ensures failed { (state self.new).failed ≡ (state self.old).failed + failed_writes result (length bytes.now) };

@@ -1,5 +1,6 @@
 //! The two loops of an engine: reading a whole input, and writing a whole text.
-ghost use Rattle.std.specs.Prelude.{◌≡◌, ◌^◌, ◌<◌, [], IfOk, vec_len};
+ghost use Rattle.std.specs.Prelude.{◌≡◌, [], IfOk, vec_len};
+ghost use Rattle.mte_engine.specs.Streams.{HaveFewFailed};
 ghost use Rattle.mte_engine.specs.Transfer.{HasRead, HasWritten, IsReadFewTimes};
 
 use crate::byte_streams::{ByteSink, ByteSource, Failure};
@@ -21,7 +22,7 @@ pub fn read_all<R: ByteSource, I: Input>(
     source: &mut R,
     input: &mut I,
 ) -> Result<(), ReadError>
-    requires source { (R.state source.old).failed < 2 ^ 63 }
+    requires source { HaveFewFailed (R.state source.old).failed }
     requires input { I.has_taken input.old [] }
     ensures read { HasRead (I.has_taken input.new) (R.state source.old) (R.state source.new) result }
     ensures few { IsReadFewTimes (R.state source.old) (R.state source.new) }
@@ -54,7 +55,7 @@ fn new_piece(alloc: Global) -> Result<Vec<u8>, AllocError>
 
 /// Writes all pieces of the output. It takes no memory.
 pub fn write_all<O: Output, W: ByteSink>(output: &mut O, sink: &mut W) -> Result<(), Failure>
-    requires { (W.state sink.old).failed < 2 ^ 63 }
+    requires { HaveFewFailed (W.state sink.old).failed }
     ensures { HasWritten (O.rest output.old) (W.state sink.old) (W.state sink.new) result }
 {
     while !output.piece().is_empty() {

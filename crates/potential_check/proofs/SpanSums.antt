@@ -2,8 +2,8 @@
 use Rattle.std.proofs.Common.{◌≡◌, ℕ, zero, suc, ◌-◌, ◌*◌, ◌^◌, ◌<◌, ◌≤◌, List, get_or, arith, ap, sym, ◌∙◌}
 use Rattle.std.proofs.lemmas.List.{get_or_default}
 use Rattle.std.proofs.Math.Nat.{mul-le-mul}
-use Rattle.class_table.specs.Sizes.{largest_counted}
-use Rattle.class_table.specs.declared.sizes.TheConstants.{GRANULE_BYTES, LARGEST_CLASS, SMALLEST_CLASS}
+use Rattle.class_table.specs.Sizes.{IsBlockSize, largest_counted}
+use Rattle.class_table.specs.declared.sizes.TheConstants.{GRANULE_BYTES}
 use Rattle.tuner_theory.proofs.LawLemmas.{place_is_class, places_ascend, sums_ascend, sums_fit, sums_give_waste}
 use Rattle.potential_check.specs.Spanned.{HoldsSums, IsSpanned, Spanned}
 use Rattle.tuner_theory.specs.Laws.{HasNoUnderflow}
@@ -11,7 +11,7 @@ use Rattle.tuner_theory.specs.Spans.{bytes_up_to, counted_up_to, distinct_needs,
 
 -- the need that is kept for a place is a class
 pub need-class : (counts : List ℕ) (step place need : ℕ) (needs counted bytes : List ℕ) → HoldsSums counts step needs counted bytes
-    → 0 < place → place ≤ places counts step → need ≡ get_or needs (place - 1) need → (SMALLEST_CLASS ≤ need) × (need ≤ LARGEST_CLASS)
+    → 0 < place → place ≤ places counts step → need ≡ get_or needs (place - 1) need → IsBlockSize need
 need-class counts step zero need needs counted bytes held some le e = absurd (omega arith)
 need-class counts step (suc i) need needs counted bytes held some le e =
     let front : suc i - 1 ≡ i = omega arith in
@@ -19,7 +19,7 @@ need-class counts step (suc i) need needs counted bytes held some le e =
     let is : need ≡ need_at counts step (suc i) =
     e ∙ (ap (λ k. get_or needs k need) front
     ∙ (ap (λ (xs : List ℕ). get_or xs i need) held.needs_are ∙ get_or_default (distinct_needs counts step) i need 0 le)) in
-    (omega (arith, at.0, is), omega (arith, at.1, is))
+    (omega (arith, at.0.0, is), omega (arith, at.0.1, is))
 
 -- the waste by the need at the span's end and the sums up to its two ends, each step of it a number of 64 bits
 pub record HasSpanSums (waste need counted_low counted_high bytes_low bytes_high : ℕ) : Type 0 where
@@ -35,7 +35,7 @@ span_sums s spanned i j lt le =
     let low = need_at s.counts s.step i in
     let high = need_at s.counts s.step j in
     let up : low ≤ high = omega (arith, places_ascend s.counts s.step i j spanned.is_step lt le) in
-    let small = (place_is_class s.counts s.step j spanned.is_step spanned.are_counts (omega arith) le).1 in
+    let small = (place_is_class s.counts s.step j spanned.is_step spanned.are_counts (omega arith) le).0.1 in
     let payload : GRANULE_BYTES * (high - 1) ≤ largest_counted = omega (arith, small) in
     let requests : counted_up_to s.counts s.step high - counted_up_to s.counts s.step low ≤ 2 ^ 44 =
     omega (arith, (sums_fit s.counts s.step high spanned.are_counts).0) in

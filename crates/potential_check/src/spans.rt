@@ -1,11 +1,10 @@
 ghost use Rattle.std.specs.Prelude.{◌≡◌, ◌↔◌, ◌<◌, ◌≤◌, ◌^◌, IfOk, IsTrue};
 ghost use Rattle.potential_check.specs.Spanned.{IsSpanned, last_need};
 ghost use Rattle.tuner_theory.specs.Spans.{bytes_up_to, counted_up_to, need_at, places, rounded_need, span_waste};
+ghost use Rattle.class_table.specs.Sizes.{IsBlockSize};
 ghost use Rattle.class_table.specs.Steps.{IsStep};
 
-use class_table::{
-    GRANULE_BYTES, LARGEST_CLASS, LARGEST_COUNTED, MOST_NEEDS, SMALLEST_CLASS, need, round_up,
-};
+use class_table::{GRANULE_BYTES, LARGEST_COUNTED, MOST_NEEDS, need, round_up};
 use profile_count::Profile;
 use std::alloc::{AllocError, Global};
 use std::marker::Model;
@@ -92,7 +91,7 @@ impl<'a> Spans<'a> {
         requires some { 0 < place }
         requires within { place ≤ places self.now.counts self.now.step }
         ensures need { result ≡ need_at self.now.counts self.now.step place }
-        ensures in_range { (SMALLEST_CLASS ≤ result) × (result ≤ LARGEST_CLASS) }
+        ensures in_range { IsBlockSize result }
     {
         self.needs[place - 1]
     }

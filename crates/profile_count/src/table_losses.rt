@@ -1,11 +1,12 @@
 //! Walks over the counts of all sizes, a class at a time: as classes ascend, each serves the sizes from where the one before it ends.
 ghost use Rattle.std.specs.Prelude.{◌≡◌, ◌<◌, ◌≤◌, ◌+◌, ◌-◌, ◌*◌, ◌^◌, ℕ, None, IsSome, length, slice_index};
+ghost use Rattle.class_table.specs.Sizes.{IsBlockSize};
 ghost use Rattle.class_table.specs.Tables.{class_for};
 ghost use Rattle.profile_count.specs.Counts.{unserved_of};
 ghost use Rattle.tuner_theory.specs.Profiles.{AreCounts};
 ghost use Rattle.tuner_theory.specs.Waste.{sum_below, waste_of};
 
-use class_table::{ClassTable, GRANULE_BYTES, LARGEST_CLASS, LARGEST_COUNTED, SMALLEST_CLASS};
+use class_table::{ClassTable, GRANULE_BYTES, LARGEST_COUNTED};
 use tuner_theory::GREATEST_COUNT;
 
 // the least counted size that has no class
@@ -68,7 +69,7 @@ fn table_end(table: &ClassTable) -> u32
 
 // the first size that a class does not serve
 fn class_end(class: u16) -> u32
-    requires { (SMALLEST_CLASS ≤ class) × (class ≤ LARGEST_CLASS) }
+    requires { IsBlockSize class }
     ensures { result ≡ GRANULE_BYTES * class - (GRANULE_BYTES - 1) }
 {
     GRANULE_BYTES * u32::from(class) - GRANULE_BYTES + 1

@@ -1,15 +1,14 @@
 -- Accesses through a variable.
+use Rattle.std.proofs.Common.{◌≡◌, ◌≢◌, ℕ, ◌≤◌, Bool, true, false, refl, sym, ◌∙◌, subst, inl, inr, arith}
 use Rattle.std.specs.Int.{w32, cast_signed, cast_unsigned}
+use Rattle.std.specs.Prelude.{ℤ, nat_abs, List, length, replicate, Option, Some, None, Ok}
 use Rattle.std.proofs.lemmas.Int.{to_z-of_z, fits_signed_from_abs}
-use Rattle.std.specs.Prelude.{List, length, replicate, Option, Some, None, Ok}
 use Rattle.machine_theory.specs.declared.fault.Fault.{Fault}
-use Rattle.machine_theory.specs.Access.{access_fault, ok_unless, stored}
+use Rattle.machine_theory.specs.Access.{IsMapped, access_fault, is_mapped, ok_unless, stored}
+use Rattle.machine_theory.specs.Address.{logical_tag, moved_by}
+use Rattle.heap_theory.specs.AccessLaws.{IsTaggedOrUnmapped}
 use Rattle.heap_theory.specs.Hardening.{IsNullOrTagged}
 use Rattle.heap_theory.specs.Replay.{store_with, store_step}
-use Rattle.std.proofs.Common.{◌≡◌, ◌≢◌, ◌⊎◌, ℕ, ◌≤◌, Bool, true, false, length, refl, sym, ◌∙◌, subst, inl, inr, arith}
-use Rattle.std.specs.Prelude.{ℤ, nat_abs, IsFalse}
-use Rattle.machine_theory.specs.Access.{IsMapped, is_mapped}
-use Rattle.machine_theory.specs.Address.{logical_tag, moved_by}
 use Rattle.heap_theory.specs.Sound.{IsSoundHeap}
 use Rattle.heap_theory.specs.State.{Heap}
 use Rattle.replay_core.proofs.TheoryLemmas as laws
@@ -28,12 +27,10 @@ module _ (heap : Heap) (sound : IsSoundHeap heap) (a : ℕ) (off : ℤ) (len : �
       tagged (sym (laws.moved_tag a off 0 (omega arith) (omega arith) (omega (arith, mapped.from))
       (omega (arith, mapped.to, sound.long, sound.partition.most))) ∙ same)
 
-  pub tagged_or_not_mapped : IsNullOrTagged a →
-      (logical_tag (moved_by a off) ≢ 0) ⊎ IsFalse (is_mapped (length heap.memory) (moved_by a off) len)
+  pub tagged_or_not_mapped : IsNullOrTagged a → IsTaggedOrUnmapped heap (moved_by a off) len
   tagged_or_not_mapped null_or_tagged = by_test (is_mapped (length heap.memory) (moved_by a off) len) refl
     where
-      by_test : (b : Bool) → is_mapped (length heap.memory) (moved_by a off) len ≡ b →
-          (logical_tag (moved_by a off) ≢ 0) ⊎ IsFalse (is_mapped (length heap.memory) (moved_by a off) len)
+      by_test : (b : Bool) → is_mapped (length heap.memory) (moved_by a off) len ≡ b → IsTaggedOrUnmapped heap (moved_by a off) len
       by_test true is = inl (mapped_is_tagged ((laws.mapped (length heap.memory) (moved_by a off) len).0 is) null_or_tagged)
       by_test false is = inr is
 

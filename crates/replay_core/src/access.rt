@@ -1,9 +1,9 @@
 //! Loads and stores through a variable.
+ghost use Rattle.heap_theory.specs.AccessLaws.{IsTaggedOrUnmapped};
 ghost use Rattle.heap_theory.specs.Replay.{fault_answer, load_answer, store_answer, store_step};
-ghost use Rattle.machine_theory.specs.Access.{is_mapped};
-ghost use Rattle.machine_theory.specs.Address.{logical_tag, moved_by};
+ghost use Rattle.machine_theory.specs.Address.{moved_by};
 ghost use Rattle.replay_core.specs.TheoryValues.{FitsBuffer, shown};
-ghost use Rattle.std.specs.Prelude.{◌≡◌, ◌≢◌, ◌⊎◌, ◌≤◌, IsFalse, List, length, replicate, ℕ};
+ghost use Rattle.std.specs.Prelude.{◌≡◌, ◌≤◌, List, replicate, ℕ};
 
 use crate::answer::Answer;
 use heap_theory::Event;
@@ -23,7 +23,7 @@ pub(crate) fn moved_by(address: u64, off: i32) -> u64
 // Loads `len` bytes into the first bytes of `bytes`. The address must have a tag other than 0, or the access must not be mapped.
 pub(crate) fn load(heap: &Heap, address: u64, len: u8, bytes: &mut [u8; LONGEST_ACCESS]) -> Answer
     requires len { (1 ≤ len) × (len ≤ LONGEST_ACCESS) }
-    requires tagged { (logical_tag address ≢ 0) ⊎ IsFalse (is_mapped (length heap.now.state.memory) address len) }
+    requires tagged { IsTaggedOrUnmapped heap.now.state address len }
     ensures answer { shown bytes.new result ≡ load_answer heap.now.state address len }
     ensures filled { FitsBuffer result }
 {
@@ -37,7 +37,7 @@ pub(crate) fn load(heap: &Heap, address: u64, len: u8, bytes: &mut [u8; LONGEST_
 #[tactic(auto, unfolding(heap_theory::specs::Replay::store_step))]
 pub(crate) fn store(heap: &mut Heap, address: u64, len: u8, byte: u8) -> Answer
     requires len { (1 ≤ len) × (len ≤ LONGEST_ACCESS) }
-    requires tagged { (logical_tag address ≢ 0) ⊎ IsFalse (is_mapped (length heap.old.state.memory) address len) }
+    requires tagged { IsTaggedOrUnmapped heap.old.state address len }
     ensures answer { (bytes : List ℕ) → shown bytes result ≡ store_answer heap.old.state address len }
     ensures filled { FitsBuffer result }
     ensures state { heap.new.state ≡ store_step heap.old.state address (replicate len byte) }

@@ -33,7 +33,7 @@ impl Model for Machine {
 
     ghost view = { λ m. record { memory = m.memory; seed = m.seed; tag = m.tag } };
 
-    ghost invariant = { λ m. IsRegister (record { memory = m.memory; seed = m.seed; tag = m.tag }) };
+    ghost invariant = { λ m. IsRegister m.seed m.tag };
 }
 
 impl Machine {
@@ -182,7 +182,7 @@ impl Machine {
     pub fn rgsr(&self) -> (u8, u16)
         ensures tag { result.0 ≡ self.now.tag }
         ensures seed { result.1 ≡ self.now.seed }
-        ensures register { IsRegister self.now }
+        ensures register { IsRegister self.now.seed self.now.tag }
     {
         (self.tag, self.seed)
     }

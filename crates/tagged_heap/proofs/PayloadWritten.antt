@@ -10,6 +10,7 @@ use Rattle.machine_theory.specs.Memory.{Granule, bytes_at, written}
 use Rattle.machine_theory.proofs.AccessLaws.{IsMapped-from}
 use Rattle.machine_theory.proofs.ByteLaws.{bytes_at_agree}
 use Rattle.class_table.specs.Layout.{Partition, AreInOrder, end_of, slot_count, slot_of}
+use Rattle.heap_theory.specs.AccessLaws.{IsTaggedOrUnmapped}
 use Rattle.heap_theory.specs.Calls.{with_payload}
 use Rattle.heap_theory.specs.Region.{Region, region_of, header_in, headers_of, next_in}
 use Rattle.heap_theory.specs.State.{Heap, state_at, payload_start, is_header_granule, without_headers}
@@ -157,8 +158,7 @@ mapped_of memory address len none = elim (cases_Bool (is_mapped (length memory) 
       in cc
 ]
 
-pub tagged_access : {h : Heap} {p : Parts} (k : IsKept h p) (address len : ℕ) →
-    (logical_tag address ≢ 0) ⊎ (is_mapped (length h.memory) address len ≡ false) →
+pub tagged_access : {h : Heap} {p : Parts} (k : IsKept h p) (address len : ℕ) → IsTaggedOrUnmapped h address len →
     access_fault p.memory address len ≡ None → logical_tag address ≢ 0
 tagged_access {h} {p} k address len either none = elim either [
   | inl tagged ↦ tagged

@@ -1,10 +1,10 @@
 //! The calls that read and write the region, and that look at it.
+ghost use Rattle.heap_theory.specs.AccessLaws.{IsTaggedOrUnmapped};
 ghost use Rattle.heap_theory.specs.HeapInMemory.{HeaderWordsStay, IsKeptIn};
 ghost use Rattle.heap_theory.specs.GranuleKinds.{place_kind};
 ghost use Rattle.heap_theory.specs.Region.{region_of};
 ghost use Rattle.machine_theory.specs.Access.{IsMapped, access_fault, is_mapped, loaded, ok_unless, stored};
-ghost use Rattle.machine_theory.specs.Address.{logical_tag};
-ghost use Rattle.std.specs.Prelude.{◌≡◌, ◌≢◌, ◌↔◌, ◌⊎◌, ◌≤◌, IsFalse, IsTrue, OnErr, OnOk, length};
+ghost use Rattle.std.specs.Prelude.{◌≡◌, ◌↔◌, ◌≤◌, IsTrue, OnErr, OnOk, length};
 
 use crate::heap::Heap;
 use crate::read_header::header;
@@ -24,8 +24,7 @@ impl Heap {
     #[tactic(auto, using(crate::proofs::TheoryLemmas::accesses_seen))]
     pub fn load(&self, address: u64, buf: &mut [u8]) -> Result<(), Fault>
         requires len { (1 ≤ length buf.old) × (length buf.old ≤ LONGEST_ACCESS) }
-        requires tagged { (logical_tag address ≢ 0)
-            ⊎ IsFalse (is_mapped (length self.now.state.memory) address (length buf.old)) }
+        requires tagged { IsTaggedOrUnmapped self.now.state address (length buf.old) }
         ensures answer { result ≡ ok_unless (access_fault self.now.state.memory address (length buf.old)) }
         ensures ok { OnOk result (buf.new ≡ loaded self.now.state.memory address (length buf.old)) }
         ensures err { OnErr result (buf.new ≡ buf.old) }
@@ -41,8 +40,7 @@ impl Heap {
     #[tactic(auto, using(crate::proofs::TheoryLemmas::accesses_seen))]
     pub fn store(&mut self, address: u64, bytes: &[u8]) -> Result<(), Fault>
         requires len { (1 ≤ length bytes.now) × (length bytes.now ≤ LONGEST_ACCESS) }
-        requires tagged { (logical_tag address ≢ 0)
-            ⊎ IsFalse (is_mapped (length self.old.state.memory) address (length bytes.now)) }
+        requires tagged { IsTaggedOrUnmapped self.old.state address (length bytes.now) }
         ensures answer { result ≡ ok_unless (access_fault self.old.state.memory address (length bytes.now)) }
         ensures ok { OnOk result (self.new ≡ record self.old {
           state = record self.old.state { memory = stored self.old.state.memory address bytes.now };

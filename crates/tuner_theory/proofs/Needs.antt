@@ -4,8 +4,8 @@ use Rattle.std.specs.Bool.{⊤}
 use Rattle.std.proofs.lemmas.Bool.{cond_both, eqb-true, eqb-false, ltb-true, cases_lt, lt-ltb}
 use Rattle.tuner_theory.specs.Spans.{with_need, needs_below, distinct_needs, places, need_at, rounded_need}
 use Rattle.class_table.specs.Steps.{IsStep}
-use Rattle.class_table.specs.Sizes.{largest_counted}
-use Rattle.class_table.specs.declared.sizes.TheConstants.{LARGEST_CLASS, MOST_NEEDS, SMALLEST_CLASS}
+use Rattle.class_table.specs.Sizes.{IsBlockSize, largest_counted}
+use Rattle.class_table.specs.declared.sizes.TheConstants.{MOST_NEEDS}
 use Rattle.tuner_theory.specs.Profiles.{IsCounted}
 use Rattle.tuner_theory.proofs.Rounding.{rounded-mono, rounded-multiple, rounded-positive, rounded-small, step-positive}
 
@@ -155,12 +155,14 @@ need_at-has counts step n counted =
 
 -- the need of a place: between a counted size and the largest class
 pub place-class : (counts : List ℕ) (step i : ℕ) → IsStep step → length counts ≤ largest_counted + 1 → 0 < i → i ≤ places counts step
-    → (SMALLEST_CLASS ≤ need_at counts step i) × (need_at counts step i ≤ LARGEST_CLASS) × (need_at counts step i % step ≡ 0)
+    → IsBlockSize (need_at counts step i) × (need_at counts step i % step ≡ 0)
 place-class counts step i is_step small pos le =
     let at = need_at-from counts step i pos le in
     let multiple = rounded-multiple step (step-positive step is_step) at.0 in (
-      omega (arith, at.2, rounded-positive step (step-positive step is_step) at.0),
-      omega (arith, at.2, rounded-small step at.0 is_step (omega (arith, at.1.0))),
+      (
+        omega (arith, at.2, rounded-positive step (step-positive step is_step) at.0),
+        omega (arith, at.2, rounded-small step at.0 is_step (omega (arith, at.1.0))),
+      ),
       subst (λ (need : ℕ). need % step ≡ 0) at.2 multiple,
     )
 
@@ -180,7 +182,7 @@ few-places counts step is_step small = few (places counts step) (omega arith)
         omega (
           arith,
           need_at-large counts step d (step-positive step is_step) le,
-          (place-class counts step (suc d) is_step small (omega arith) le).1,
+          (place-class counts step (suc d) is_step small (omega arith) le).0.1,
         )
 
 -- ---- how far a number reaches

@@ -129,7 +129,7 @@ pub spans-fit : (counts : List ℕ) (step i j : ℕ) → IsStep step → AreCoun
     span_waste counts step i j < 2 ^ 58
 spans-fit counts step i j is_step are lt le =
     let class = place-class counts step j is_step (omega (arith, are.sizes)) (omega arith) le in
-    let each = sum_bounded _ (length counts) (greatest_count * largest_counted) (λ n within. at_one n class.1) in
+    let each = sum_bounded _ (length counts) (greatest_count * largest_counted) (λ n within. at_one n class.0.1) in
     omega (arith, each, are.sizes)
   where
     at_one : (n : ℕ) → need_at counts step j ≤ LARGEST_CLASS

@@ -62,13 +62,13 @@ module _ (counts : List ℕ) (step : ℕ) (pos : 0 < step) where
       let class = place-class counts step j is_step small (omega arith) le in
       let over = next-above low i j r lt le in
       record {
-        above = (over, class.1, class.2, table.above);
+        above = (over, class.0.1, class.1, table.above);
         few = omega (arith, table.few);
         wasted =
-            omega (arith, waste_above-cons counts step pos low c classes one over class.2, table.wasted, span-same low i j r le, whole);
+            omega (arith, waste_above-cons counts step pos low c classes one over class.1, table.wasted, span-same low i j r le, whole);
         served = λ n counted above. elim (cases_lt c (rounded_need step n)) [
           | inr first ↦ subst (λ (class : Option ℕ). IsSome class) (sym (class_for-first step pos n c classes first)) refl
-          | inl later ↦ subst (λ (class : Option ℕ). IsSome class) (sym (class_for-later step pos n c classes class.0 class.2 later))
+          | inl later ↦ subst (λ (class : Option ℕ). IsSome class) (sym (class_for-later step pos n c classes class.0.0 class.1 later))
               (table.served n counted later)
         ];
       }
@@ -106,7 +106,7 @@ module _ (counts : List ℕ) (step : ℕ) (is_step : IsStep step) (small : lengt
       let j = ends (suc (suc k)) i in
       let class = place-class counts step j is_step small (omega (arith, row.0.after)) row.0.within in
       let later =
-      table-tuned k j (need_at counts step j) (omega arith) (omega (arith, class.0)) (reach-at counts step pos j row.0.within) in
+      table-tuned k j (need_at counts step j) (omega arith) (omega (arith, class.0.0)) (reach-at counts step pos j row.0.within) in
       table-cons counts step pos (suc k) low i j (rows (suc k) j) (rows (suc (suc k)) i) _ is_step small one r row.0.after row.0.within
       later row.1)
       (λ e. none-left (suc (suc k)) i low r (ltb-false i d e))

@@ -7,13 +7,14 @@ use Rattle.tuner_theory.specs.Rests.{IsRest, counts_above}
 use Rattle.tuner_theory.specs.Rows.{AreLaterEnds, AreLeastRows, HasShape, IsLeastEnd, number_at}
 use Rattle.tuner_theory.specs.Sheets.{IsVerdict, Sheet}
 use Rattle.tuner_theory.specs.Spans.{IsCrossing, bytes_up_to, counted_up_to, need_at, places, rounded_need, span_waste, waste_between}
+use Rattle.class_table.specs.Sizes.{IsBlockSize}
 use Rattle.class_table.specs.Steps.{IsLeastMultiple, IsStep, round_up}
 use Rattle.tuner_theory.specs.Tuned.{AreTunedRows, tuned_table}
 use Rattle.tuner_theory.specs.Profiles.{AreCounts, IsCounted}
 use Rattle.tuner_theory.specs.Waste.{waste_of}
 use Rattle.tuner_theory.specs.declared.verdict.Verdict.{Verdict}
 use Rattle.tuner_theory.specs.declared.verdict.Verdict.TheVariants.{Optimal}
-use Rattle.class_table.specs.declared.sizes.TheConstants.{GRANULE_BYTES, LARGEST_CLASS, MOST_NEEDS, SMALLEST_CLASS}
+use Rattle.class_table.specs.declared.sizes.TheConstants.{GRANULE_BYTES, LARGEST_CLASS, MOST_NEEDS}
 
 -- ---- rounding
 
@@ -44,11 +45,11 @@ CountedHasPlace =
     (counts : List ℕ) (step n : ℕ) → IsCounted counts n
     → (i : ℕ) × (0 < i) × (i ≤ places counts step) × (need_at counts step i ≡ rounded_need step n)
 
--- A need at a place is a class, and a multiple of the step.
+-- A need at a place is a block's size, and a multiple of the step.
 abbrev pub PlaceIsClass : Type 0
 PlaceIsClass =
     (counts : List ℕ) (step i : ℕ) → IsStep step → AreCounts counts → 0 < i → i ≤ places counts step
-    → (SMALLEST_CLASS ≤ need_at counts step i) × (need_at counts step i ≤ LARGEST_CLASS) × (need_at counts step i % step ≡ 0)
+    → IsBlockSize (need_at counts step i) × (need_at counts step i % step ≡ 0)
 
 -- There are at most as many places as classes.
 abbrev pub FewPlaces : Type 0

@@ -1,7 +1,7 @@
-use Rattle.std.proofs.Common.{◌≢◌, ◌⊎◌, length, ap, subst, sym, ◌∙◌}
-use Rattle.std.specs.Prelude.{IsFalse, slice_index}
-use Rattle.machine_theory.specs.Access.{is_mapped}
-use Rattle.machine_theory.specs.Address.{logical_tag, moved_by}
+use Rattle.std.proofs.Common.{ap, subst, sym, ◌∙◌}
+use Rattle.std.specs.Prelude.{slice_index}
+use Rattle.machine_theory.specs.Address.{moved_by}
+use Rattle.heap_theory.specs.AccessLaws.{IsTaggedOrUnmapped}
 use Rattle.heap_theory.specs.Ranges.{IsInRange}
 use Rattle.replay_core.proofs.Accesses.{near_offset, tagged_or_not_mapped}
 use Rattle.replay_core.proofs.perform.perform.Goals as goal
@@ -9,7 +9,7 @@ use Rattle.replay_core.proofs.perform.perform.Goals as goal
 pub load-requires-clause-tagged : goal.load-requires-clause-tagged
 load-requires-clause-tagged c =
     let range = subst IsInRange c.in-Load.is c.requires.in_range in
-    subst (λ a. (logical_tag a ≢ 0) ⊎ IsFalse (is_mapped (length c.args.heap.now.state.memory) a c.in-Load.len))
+    subst (λ a. IsTaggedOrUnmapped c.args.heap.now.state a c.in-Load.len)
     (sym (c.moved_by.ensures ∙ ap (moved_by (slice_index c.args.variables.now c.from-in-Load.result)) (near_offset c.in-Load.off range.1)))
     (tagged_or_not_mapped c.args.heap.now.state c.requires.sound _ c.in-Load.off c.in-Load.len range.1 range.2
     (c.requires.variables.tagged c.from-in-Load.result))
@@ -17,7 +17,7 @@ load-requires-clause-tagged c =
 pub store-requires-clause-tagged : goal.store-requires-clause-tagged
 store-requires-clause-tagged c =
     let range = subst IsInRange c.in-Store.is c.requires.in_range in
-    subst (λ a. (logical_tag a ≢ 0) ⊎ IsFalse (is_mapped (length c.args.heap.now.state.memory) a c.in-Store.len))
+    subst (λ a. IsTaggedOrUnmapped c.args.heap.now.state a c.in-Store.len)
     (sym (c.moved_by-in-Store.ensures
     ∙ ap (moved_by (slice_index c.args.variables.now c.from-in-Store.result)) (near_offset c.in-Store.off range.0.1)))
     (tagged_or_not_mapped c.args.heap.now.state c.requires.sound _ c.in-Store.off c.in-Store.len range.0.1 range.0.2
