@@ -8,6 +8,7 @@ mod checks;
 mod draws;
 mod machine;
 mod set_bits;
+mod tag_choice;
 
 pub use addresses::{logical_tag, place_of, with_tag};
 pub use machine::Machine;

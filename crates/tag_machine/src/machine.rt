@@ -6,7 +6,8 @@ ghost use Rattle.std.specs.Prelude.{◌≡◌, ◌≢◌, ◌↔◌, ◌≤◌, 
 
 use crate::addresses::{aligned, byte_of, granule_of, logical_tag, with_tag};
 use crate::checks::{check_access, check_tag_store, is_mapped};
-use crate::draws::{choose_tag, next_offset, next_seed};
+use crate::draws::{next_offset, next_seed};
+use crate::tag_choice::choose_tag;
 use granule_memory::Memory;
 use machine_theory::{FARTHEST_MOVE, Fault, GRANULE_BYTES, LARGEST_TAG_STEP, LONGEST_ACCESS};
 use std::marker::Model;
