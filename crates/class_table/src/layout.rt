@@ -9,7 +9,7 @@ use crate::table::{ClassTable, MOST_CLASSES};
 use arrayvec::ArrayVec;
 use std::marker::Model;
 
-/// The fewest granules of a region. A heap is proved only if the machine has the same bounds.
+/// The fewest granules of a region. `tagged_heap` is proved only if `machine_theory` has the same bounds.
 pub const FEWEST_GRANULES: u32 = 64;
 
 /// The most granules of a region.

@@ -2,7 +2,7 @@ ghost use Rattle.std.specs.Prelude.{◌≡◌, ◌↔◌, ◌-◌, ◌*◌, ◌^
 ghost use Rattle.class_table.specs.Steps.{IsStep, round_up};
 ghost use Rattle.class_table.specs.Sizes.{IsBlockSize, need_of, loss_of, serves};
 
-/// The bytes of a granule. A heap is proved only if the machine's granule has as many.
+/// The bytes of a granule. `tagged_heap` is proved only if `machine_theory` has the same number.
 pub const GRANULE_BYTES: u32 = 16;
 
 /// The smallest class, in granules: a header and one granule of payload.

@@ -1,4 +1,4 @@
--- What calls leave of a source of costs.
+-- What calls change of a source of costs: its count of calls, and nothing else.
 use Rattle.std.specs.Prelude.{◌≡◌}
 use Rattle.class_tuner.specs.declared.cost_source.CostSource.{Ghosts}
 

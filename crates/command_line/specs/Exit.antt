@@ -28,7 +28,8 @@ is_shown DisplayHelp = true
 is_shown DisplayVersion = true
 is_shown kind = false
 
--- How the program may end if it runs no command: it shows the help that was asked for, or can't write it, or refuses the words.
+-- How the program may end if it runs no command: it shows the help that was asked for, or can't write it; it refuses the words; or memory
+-- ran out.
 abbrev pub IsRefusedEnd : Refusal → End → Type 0
 IsRefusedEnd NoMemory end = end ≡ Ended (Err OutOfMemory)
 IsRefusedEnd (Options fault) end = end ≡ Refused

@@ -153,7 +153,7 @@ impl Memory {
     }
 
     /// Fills `to` with the bytes from byte `i` of the memory on; granule g begins at byte 16 g.
-    /// It serves loads: any number of granules is one copy. It checks no tag; the caller has checked them.
+    /// It serves loads, and a `realloc` that moves a chunk: any number of granules is one copy. It checks no tag; a load does that first.
     #[tactic(auto, using(crate::proofs::Granules::granules_counted, crate::proofs::Granules::bytes_are))]
     pub fn read_bytes(&self, i: usize, to: &mut [u8])
         requires { i + length to.old ≤ GRANULE_BYTES * length self.now }
@@ -163,7 +163,7 @@ impl Memory {
     }
 
     /// Copies `bytes` to the bytes from byte `i` of the memory on; granule g begins at byte 16 g. No tag changes.
-    /// It serves stores: any number of granules is one copy. It checks no tag; the caller has checked them.
+    /// It serves stores, and a `realloc` that moves a chunk: any number of granules is one copy. It checks no tag; a store does that first.
     #[tactic(auto, using(crate::proofs::Granules::granules_counted, crate::proofs::Writes::written_is, crate::proofs::Writes::written_reads))]
     pub fn write_bytes(&mut self, i: usize, bytes: &[u8])
         requires { i + length bytes.now ≤ GRANULE_BYTES * length self.old }

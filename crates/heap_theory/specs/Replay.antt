@@ -1,4 +1,4 @@
--- The run of a trace over 1,024 variables: what each event does, and its result.
+-- The replay of a trace over 1,024 variables: what each event does, and its result.
 use Rattle.std.specs.Prelude.{ℕ, ◌+◌, Bool, true, false, ◌||◌, IsTrue, List, [], ◌∷◌, length, replicate, fold, slice_set, slice_index, Option, Some, None, Result, Ok, Err}
 use Rattle.std.specs.Result.{result_unwrap_or}
 use Rattle.machine_theory.specs.declared.fault.Fault.{Fault}

@@ -1,5 +1,5 @@
--- The run with what nothing stores: how often each slot was given out, and of which giving-out each variable has its address. No answer
--- depends on these: what is stored determines each answer, and what is stored after it.
+-- A run: a replay, and beside it two facts that no code stores: how often each slot was given out, and at which of these times each
+-- variable got its address. No answer depends on them: what is stored determines each answer, and what is stored after it.
 use Rattle.std.specs.Prelude.{ℕ, ◌+◌, suc, ◌==◌, if◌then◌else◌, List, replicate, fold, slice_set, slice_index, slice_index_or, Option, Some, None}
 use Rattle.std.specs.Result.{result_ok}
 use Rattle.class_table.specs.Layout.{Partition, slot_count}

@@ -8,7 +8,7 @@ use Rattle.std.specs.List.{range_with_len}
 abbrev pub is_excluded : ℕ → ℕ → Bool
 is_excluded exclude tag = bit_at exclude tag == 1
 
--- the sixteen tags in cyclic order from the one after `tag`, which is the last
+-- the sixteen tags in cyclic order: from the one after `tag` on, and `tag` itself last
 abbrev pub tags_after : ℕ → List ℕ
 tags_after tag = map (λ k. (tag + k) % 16) (range_with_len 1 16)
 

@@ -85,10 +85,10 @@ pub record Runs (answers : List ℕ → Result Answer InputFault → Type 0) (so
   -- a failed read is reported exactly where one failed, and so is a failed write
   pub read_fault : (result ≡ Err ReadFault) ↔ (source.failed < source'.failed)
   pub write_fault : (result ≡ Err WriteFault) ↔ ((state sink).failed < (state sink').failed)
-  -- what was written is the answer to the bytes that were read, and all of them were read
+  -- what was written is the answer to the bytes that were to come; an engine that finishes has read all of them
   pub answer : ReportsFor answers source.remaining (state sink).taken (state sink').taken result
   pub consumed : IfOk result (λ _. IsAtEnd source'.remaining)
-  -- nothing was written before a fault other than that of a write
+  -- after a fault other than that of a write the sink is as it was
   pub quiet : IsQuiet sink sink' result
   -- how often the source is read is bounded
   pub few_reads : IsReadFewTimes source source'

@@ -24,7 +24,7 @@ pub fn count_out(reader: &mut TraceReader, profile: &mut Profile)
     }
 }
 
-/// The profile of what these events request. There must be few enough of them for any count.
+/// The profile of what these events request. There must be at most 1,000,000 of them, so that no count gets full.
 pub fn count_all(alloc: Global, events: &VecDeque<Event>) -> Result<Profile, AllocError>
     requires { length events.now.items ≤ most_events }
     ensures { IfOk result (λ profile. profile ≡ profile_of_events events.now.items) }

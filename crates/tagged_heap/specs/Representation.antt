@@ -11,7 +11,7 @@ use Rattle.heap_theory.specs.Sound.{IsSoundHeap}
 use Rattle.heap_theory.specs.State.{State, Heap, slot_in, state_at, is_fresh, without_headers, IsSlot, is_dead, mark_of}
 use Rattle.quarantine_core.specs.Queue.{Queue, AreQueued}
 
--- A memory in which the header of one slot is another, and which is seen as this one.
+-- `new` is `old` with `header` as the header of slot s. The other headers are the same, and without header bytes `new` is `seen`.
 pub record IsRewritten (layout : Partition) (old new : List Granule) (s : ℕ) (header : Header) (seen : List Granule)
     : Type 0 where
   pub own : header_in (region_of layout new) s ≡ header

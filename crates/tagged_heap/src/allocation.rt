@@ -100,7 +100,7 @@ impl Heap {
         })
     }
 
-    // Sets all bytes of the chunk granules for n bytes in a slot that was given out to 0.
+    // Sets to 0 all bytes of the chunk granules for n bytes, in a slot that was given out.
     fn zero_chunk(&mut self, given: Given, n: u32)
         requires slot { IsSlot self.old.state given.slot }
         requires start { given.start ≡ (slot_in self.old.state given.slot).start }

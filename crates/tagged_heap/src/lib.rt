@@ -1,5 +1,6 @@
 //! The heap, hardened with memory tags, after the Primary and the Quarantine of LLVM's Scudo: `malloc`, `calloc`, `free` and `realloc` over
-//! one region of tagged memory. Headers, class lists and quarantine are words inside the region; no call after `Heap::new` takes memory.
+//! one region of tagged memory. The headers, and the links of the class lists and of the quarantine, are words inside the region; no call
+//! after `Heap::new` takes memory.
 //!
 //! Its rules stand in docs/HEAP.md and, as definitions, in `heap_theory`.
 #![tactic(auto)]

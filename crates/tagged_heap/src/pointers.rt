@@ -7,7 +7,7 @@ ghost use Rattle.std.specs.Prelude.{◌≡◌, ◌+◌, ◌*◌, ◌^◌, ◌<�
 use class_table::Layout;
 use tag_machine::{GRANULE_BYTES, REGION_START, place_of, with_tag};
 
-/// The address of the payload of a slot, which begins at this granule, under this tag.
+/// The address, under this tag, of the payload of the slot whose header is granule `start`.
 pub(crate) fn payload_address(start: u32, tag: u8) -> u64
     requires tag { tag < 16 }
     ensures { result ≡ with_tag (region_start + GRANULE_BYTES * (start + 1)) tag }

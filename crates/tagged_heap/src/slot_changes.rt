@@ -79,8 +79,7 @@ pub(crate) fn resize(machine: &mut Machine, layout: &Layout, slot: u32, place: S
     tag_chunk(machine, place, n, before.tag);
 }
 
-/// Takes back the chunk of a live slot, which begins at granule `start`, with this mark: draws a tag, writes the header and tags the
-/// chunk.
+/// Takes back the chunk of a live slot, whose header is granule `start`: draws a tag, writes the header with this mark, and tags the chunk.
 pub(crate) fn retire(machine: &mut Machine, layout: &Layout, slot: u32, start: u32, mark: u64)
     requires room { let before = header_in (region_of layout.now machine.old.memory) slot in
         HasRoom layout.now machine.old.memory slot before.size }

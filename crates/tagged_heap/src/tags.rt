@@ -19,7 +19,7 @@ pub(crate) fn chunk_granules(n: u32) -> u32
     need(n) - 1
 }
 
-/// The tags that a slot of this number may not take, where `last` is its present or last tag: those of the other parity, and `last`.
+/// The tags that the slot of this number may not take: 0, those of the number's own parity, and `last`, its present or last tag.
 pub(crate) fn exclude(slot: u32, last: u8) -> u16
     requires { last < 16 }
     ensures { result ≡ bit_or (parity_exclude slot) (2 ^ last) }

@@ -53,7 +53,7 @@ PiecesAreJoined = (reading : Reading) (a b : List ℕ) → fed (fed reading a) b
 abbrev pub PiecesAreTheText : Type 0
 PiecesAreTheText = (pieces : List (List ℕ)) → finished (fed_all nothing_read pieces) ≡ whole_reading (trace_of (concat pieces))
 
--- What is read only adds events,
+-- Reading only adds events,
 abbrev pub FedAddsEvents : Type 0
 FedAddsEvents = (reading : Reading) (piece : List ℕ) → IsPrefix reading.events (fed reading piece).events
 

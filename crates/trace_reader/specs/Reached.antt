@@ -6,7 +6,7 @@ use Rattle.trace_reader.specs.declared.fault.TraceError.TheVariants.{OutOfMemory
 use Rattle.trace_reader.specs.Reading.{State, Reading}
 use Rattle.trace_reader.specs.Reading.State.{Open, Failed, Finished}
 
--- What a call answers that leaves this state: its error if the reading has failed.
+-- What a call answers if this is the state after it: the error, if the reading has failed.
 abbrev pub answer_of : State → Result (Unit {0}) TraceError
 answer_of (Open lines rest) = Ok tt
 answer_of (Failed error) = Err error

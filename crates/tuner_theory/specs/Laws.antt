@@ -51,7 +51,7 @@ PlaceIsClass =
     (counts : List ℕ) (step i : ℕ) → IsStep step → AreCounts counts → 0 < i → i ≤ places counts step
     → IsBlockSize (need_at counts step i) × (need_at counts step i % step ≡ 0)
 
--- There are at most as many places as classes.
+-- There are at most as many places as block sizes.
 abbrev pub FewPlaces : Type 0
 FewPlaces = (counts : List ℕ) (step : ℕ) → IsStep step → AreCounts counts → places counts step ≤ MOST_NEEDS
 
@@ -123,7 +123,7 @@ PotentialsBoundRests =
     → AreValidPotentials (span_waste counts step) (places counts step) limit potential → k ≤ limit → i ≤ places counts step
     → IsCandidate (counts_above counts step i) step k classes → potential k i ≤ waste_of (counts_above counts step i) classes
 
--- A sheet that meets all that is looked at has a best table, whoever wrote it.
+-- A sheet that meets all conditions, and whose table is legal, has a best table, whoever wrote it.
 abbrev pub OptimalIsBest : Type 0
 OptimalIsBest =
     (counts : List ℕ) (sheet : Sheet) → IsLegalTable 1 sheet.table → IsVerdict counts sheet Optimal

@@ -2,15 +2,15 @@
 -- place i. `cost i j` is what one class for the places above i up to j wastes.
 use Rattle.std.specs.Prelude.{◌≡◌, ℕ, suc, ◌+◌, ◌<◌, ◌≤◌}
 
--- Row 1: one class serves all of the d places above i.
+-- Row 1: no number is above what one class for all places above i, up to d, wastes.
 abbrev pub KeepsLastClass : (ℕ → ℕ → ℕ) → ℕ → (ℕ → ℕ → ℕ) → Type 0
 KeepsLastClass cost d potential = (i : ℕ) → i < d → potential 1 i ≤ cost i d
 
--- A later row, up to row `limit`: one class more may serve none of the places above i.
+-- A later row, up to row `limit`: no number is above the number at its place in the row before.
 abbrev pub KeepsStageDrops : ℕ → ℕ → (ℕ → ℕ → ℕ) → Type 0
 KeepsStageDrops d limit potential = (k i : ℕ) → 1 ≤ k → k < limit → i < d → potential (suc k) i ≤ potential k i
 
--- One class more may serve those up to j, and the other classes the rest.
+-- Nor is it above what one class for the places above i up to j wastes, plus the number of the row before at j.
 abbrev pub KeepsEdges : (ℕ → ℕ → ℕ) → ℕ → ℕ → (ℕ → ℕ → ℕ) → Type 0
 KeepsEdges cost d limit potential =
     (k i j : ℕ) → 1 ≤ k → k < limit → i < j → j ≤ d → potential (suc k) i ≤ cost i j + potential k j

@@ -1,4 +1,5 @@
--- The rows of a tuner: the least costs of serving all places with at most k classes, filled row by row, and the table that they give.
+-- The rows of a tuner: row k has, for each place, the least cost of serving the places above it with at most k classes. They are filled row
+-- by row, and give the table.
 use Rattle.std.specs.Prelude.{◌≡◌, ℕ, zero, suc, ◌+◌, ◌-◌, ◌<◌, ◌≤◌, nat_lt, if◌then◌else◌, List, [], ◌∷◌, length, slice_index, slice_index_or, All}
 
 -- The number in row k, counted from 1, at place i; 0 past the row's end.

@@ -43,7 +43,7 @@ code_of StageDrop = 45
 code_of Edge = 46
 code_of NotTight = 47
 
--- The sheet meets all that is looked at before this.
+-- The sheet meets all conditions before this one.
 abbrev pub MeetsBefore : List ℕ → Sheet → Refusal → Type 0
 MeetsBefore counts s refusal = (earlier : Refusal) → code_of earlier < code_of refusal → Meets counts s earlier
 

@@ -81,7 +81,7 @@ pub fn law_potentials_bound()
     ensures everywhere { PotentialsBoundRests }
 {}
 
-/// A sheet that passes all tests of a checker has a best table, whoever wrote it.
+/// A sheet that meets all conditions, and whose table is legal, has a best table, whoever wrote it.
 pub fn law_optimal_is_best()
     ensures { OptimalIsBest }
 {}

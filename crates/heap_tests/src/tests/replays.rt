@@ -1,4 +1,5 @@
-//! The replay: each public call once. `engines/replay_texts.rt` has worked traces with their reports.
+//! The replay: each public call once. `crates/engine_tests/src/tests/engines/replay_texts.rt` has worked traces
+//! with their reports.
 use crate::tests::support::same;
 use arrayvec::ArrayVec;
 use class_table::ClassTable;
