@@ -1,5 +1,5 @@
 pub mod LawLemmas
-pub mod Sources
+pub mod SourceChanges
 pub mod CallCounts
 pub mod Halves
 pub mod LeastEnds

@@ -1,6 +1,6 @@
 pub mod CallCounts
 pub mod Filling
 pub mod Laws
-pub mod Sources
+pub mod SourceChanges
 pub mod Tuned
 pub mod Windows

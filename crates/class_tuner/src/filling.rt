@@ -1,7 +1,7 @@
 ghost use Rattle.std.specs.Prelude.{◌≡◌, ◌+◌, ◌-◌, ◌*◌, ◌^◌, ◌<◌, ◌≤◌, [], ◌∷◌, ◌++◌, slice_index, IfOk, OnOk};
 ghost use Rattle.class_tuner.specs.CallCounts.{bits, calls_of, most_calls, tried_in_row};
 ghost use Rattle.class_tuner.specs.Filling.{IsFirstRow, IsNextRow, IsSmallRow};
-ghost use Rattle.class_tuner.specs.Sources.{OnlyCounts};
+ghost use Rattle.class_tuner.specs.SourceChanges.{OnlyCounts};
 ghost use Rattle.potential_check.specs.Lists.{lists_of};
 ghost use Rattle.tuner_theory.specs.Rows.{IsFilled, number_at};
 

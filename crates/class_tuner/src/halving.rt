@@ -3,7 +3,7 @@
 ghost use Rattle.std.specs.Prelude.{◌≡◌, ◌+◌, ◌-◌, ◌*◌, ◌^◌, ◌≤◌};
 ghost use Rattle.class_tuner.specs.CallCounts.{AreCallsForPart};
 ghost use Rattle.class_tuner.specs.Filling.{AreEndsBetween, IsEndBetween, IsFilledWithin, IsLeastAt, IsPart, IsSmallRow, KeepsOutside};
-ghost use Rattle.class_tuner.specs.Sources.{OnlyCounts};
+ghost use Rattle.class_tuner.specs.SourceChanges.{OnlyCounts};
 ghost use Rattle.class_tuner.specs.Windows.{IsWindowAfter};
 
 use crate::cost_source::CostSource;

@@ -1,4 +1,4 @@
-pub mod Bounds
+pub mod TotalsBounds
 pub mod ReplayFields
 pub mod TheoryValues
 pub mod ReplayState

@@ -1,7 +1,7 @@
 -- The fields of a replay, and what a contract sees of them.
 use Rattle.std.specs.Prelude.{◌≡◌, ◌≤◌, length}
 use Rattle.class_table.specs.Tables.{IsLegalTable}
-use Rattle.replay_core.specs.Bounds.{AreBounded}
+use Rattle.replay_core.specs.TotalsBounds.{AreBounded}
 use Rattle.replay_core.specs.declared.replay.Replay.TheInside.{Inside}
 use Rattle.replay_core.specs.TheoryValues.{over, totals_in}
 use Rattle.replay_core.specs.ReplayState.{Stored, IsStored}

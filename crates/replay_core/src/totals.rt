@@ -3,7 +3,7 @@ ghost use Rattle.class_table.specs.Tables.{IsLegalTable};
 ghost use Rattle.heap_theory.specs.Report.{total_line, totals_text};
 ghost use Rattle.heap_theory.specs.Totals.{totals_after, with_answer, with_request};
 ghost use Rattle.line_text.specs.Lines.{ended};
-ghost use Rattle.replay_core.specs.Bounds.{AreBounded};
+ghost use Rattle.replay_core.specs.TotalsBounds.{AreBounded};
 ghost use Rattle.replay_core.specs.TheoryValues.{shown, totals_in};
 ghost use Rattle.std.specs.Prelude.{◌≡◌, ◌++◌, ◌+◌, ◌*◌, ◌^◌, ◌<◌, ◌≤◌, List, length, ℕ};
 

@@ -11,8 +11,8 @@ use Rattle.std.proofs.lemmas.Bool.{cases_Bool, cases_eq, cases_lt, cond-true, co
 use Rattle.std.proofs.lemmas.Nat.{mod_below, zero_from_ones}
 use Rattle.std.proofs.lemmas.Nat.Bits.{bit_at_or, bit_at_not, bit_at-zero, bit_at-lt, bit_at_above, bit_at_cat_low, bit_at_cat_high}
 use Rattle.machine_theory.specs.Tags.{is_excluded, allowed_after, choose_tag}
-use Rattle.tag_machine.specs.SetBits.{set_bits}
-use Rattle.tag_machine.proofs.SetBits.{filter_places, set_bits-places, length-set_bits}
+use Rattle.tag_machine.specs.MaskBits.{set_bits}
+use Rattle.tag_machine.proofs.MaskBits.{filter_places, set_bits-places, length-set_bits}
 use Rattle.tag_machine.proofs.DrawnTags.{bit_at_shr}
 
 -- a number of sixteen bits that is shifted to the left: no bit below s, and then its own

@@ -1,3 +1,3 @@
-pub mod SetBits
+pub mod MaskBits
 pub mod DrawnTags
 pub mod Choice

@@ -1,2 +1,2 @@
-pub mod SetBits
+pub mod MaskBits
 pub mod Lending

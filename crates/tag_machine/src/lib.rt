@@ -7,7 +7,7 @@ mod addresses;
 mod checks;
 mod draws;
 mod machine;
-mod set_bits;
+mod mask_bits;
 mod tag_choice;
 
 pub use addresses::{logical_tag, place_of, with_tag};

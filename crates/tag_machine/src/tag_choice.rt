@@ -1,9 +1,9 @@
 //! The choice of a tag among those that a mask does not exclude.
 ghost use Rattle.machine_theory.specs.Tags.{allowed_after, choose_tag, is_excluded};
 ghost use Rattle.std.specs.Prelude.{◌≡◌, ◌+◌, ◌%◌, ◌<◌, map};
-ghost use Rattle.tag_machine.specs.SetBits.{set_bits};
+ghost use Rattle.tag_machine.specs.MaskBits.{set_bits};
 
-use crate::set_bits::nth_set_bit;
+use crate::mask_bits::nth_set_bit;
 
 /// Whether the mask excludes the tag.
 fn is_excluded(exclude: u16, tag: u8) -> bool

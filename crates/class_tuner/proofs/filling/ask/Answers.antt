@@ -1,5 +1,5 @@
 use Rattle.std.proofs.Common.{ap, ◌∙◌}
-use Rattle.class_tuner.proofs.Sources.{kept-at}
+use Rattle.class_tuner.proofs.SourceChanges.{kept-at}
 use Rattle.class_tuner.proofs.filling.ask.Goals as goal
 
 pub returns-clause-counted : goal.returns-clause-counted

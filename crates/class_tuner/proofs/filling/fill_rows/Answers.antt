@@ -2,7 +2,7 @@ use Rattle.std.proofs.Common.{[], ◌≡◌, ℕ, ◌+◌, ◌-◌, ◌^◌, add
 use Rattle.class_tuner.specs.Filling.{IsFilledWithin}
 use Rattle.potential_check.specs.Lists.{lists_of}
 use Rattle.tuner_theory.specs.Rows.{IsFilled, number_at}
-use Rattle.class_tuner.proofs.Sources.{OnlyCounts-more}
+use Rattle.class_tuner.proofs.SourceChanges.{OnlyCounts-more}
 use Rattle.class_tuner.proofs.CallCounts.{calls-more, room-left}
 use Rattle.class_tuner.proofs.Rows.{filled-first, filled-pushed, filled-small, row-read}
 use Rattle.class_tuner.proofs.Tried.{calls-first, calls-pushed}

@@ -1,5 +1,5 @@
 use Rattle.std.proofs.Common.{◌≡◌, ℕ, ◌+◌, ◌<◌, length, slice_index}
-use Rattle.class_tuner.specs.Sources.{OnlyCounts}
+use Rattle.class_tuner.specs.SourceChanges.{OnlyCounts}
 use Rattle.class_tuner.proofs.filling.first_row.Given as goal
 
 abbrev pub invariant-loop-i : goal.invariant-loop-i

@@ -8,7 +8,7 @@ use Rattle.std.specs.List.{filter, range_with_len}
 use Rattle.std.proofs.lemmas.Bool.{cases_eq}
 use Rattle.std.proofs.lemmas.Nat.{ones_cat, and_block}
 use Rattle.std.proofs.lemmas.Nat.Bits.{bit_at-suc, bit_at_lowest}
-use Rattle.tag_machine.specs.SetBits.{set_bits}
+use Rattle.tag_machine.specs.MaskBits.{set_bits}
 
 -- the places, counted from k on, of the set bits among the lowest w
 pub places : ℕ → ℕ → ℕ → List ℕ

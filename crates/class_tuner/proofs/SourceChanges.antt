@@ -1,6 +1,6 @@
 -- A source that is asked again and again.
 use Rattle.std.proofs.Common.{◌≡◌, ℕ, ap, sym, ◌∙◌}
-use Rattle.class_tuner.specs.Sources.{OnlyCounts}
+use Rattle.class_tuner.specs.SourceChanges.{OnlyCounts}
 use Rattle.class_tuner.specs.declared.cost_source.CostSource.{Ghosts}
 
 module _ {S : Type 0} (source : Ghosts S) where

@@ -2,9 +2,9 @@ use Rattle.std.proofs.Common.{◌≡◌, ℕ, ◌<◌, ◌∙◌, sym, ap, lengt
 use Rattle.std.proofs.lemmas.List.{get_or-drop, drop-drop}
 use Rattle.std.proofs.lemmas.Nat.Bits.{bit_at-trailing_zeros}
 use Rattle.std.specs.Int.{w16}
-use Rattle.tag_machine.specs.SetBits.{set_bits}
-use Rattle.tag_machine.proofs.SetBits.{set_bits_some, set_bits_cleared, first_set_bit}
-use Rattle.tag_machine.proofs.set_bits.nth_set_bit.Goals as goal
+use Rattle.tag_machine.specs.MaskBits.{set_bits}
+use Rattle.tag_machine.proofs.MaskBits.{set_bits_some, set_bits_cleared, first_set_bit}
+use Rattle.tag_machine.proofs.mask_bits.nth_set_bit.Goals as goal
 
 -- as long as set bits are left, the number is not 0
 left_some : (bits left i : ℕ) → set_bits left ≡ drop i (set_bits bits) → i < length (set_bits bits) → 0 < left

@@ -1,6 +1,6 @@
 //! The set bits of a mask.
 ghost use Rattle.std.specs.Prelude.{◌≡◌, ◌<◌, length, slice_index};
-ghost use Rattle.tag_machine.specs.SetBits.{set_bits};
+ghost use Rattle.tag_machine.specs.MaskBits.{set_bits};
 
 /// The place of the set bit that has `skipped` set bits below it.
 pub(crate) fn nth_set_bit(bits: u16, skipped: u32) -> u8
