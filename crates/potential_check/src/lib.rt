@@ -2,6 +2,7 @@
 #![tactic(auto)]
 
 mod checker;
+mod edge_walk;
 mod fault;
 pub mod laws;
 mod leading_sheet;
@@ -12,7 +13,6 @@ mod sheet;
 mod sheet_line;
 mod sheet_on_spans;
 mod spans;
-mod tight_rows;
 mod writing;
 
 pub use checker::check;

@@ -6,9 +6,9 @@ ghost use Rattle.class_table.specs.Steps.{IsStep};
 ghost use Rattle.potential_check.specs.RowConditions.{EdgesHold, EdgesHoldWithin, LastClassHolds, StageDropHolds, edge_bound};
 ghost use Rattle.tuner_theory.specs.Spans.{places};
 
+use crate::edge_walk::is_tight_row;
 use crate::rows::number_in_row;
 use crate::spans::Spans;
-use crate::tight_rows::is_tight_row;
 use std::cmp::Ordering;
 use std::ops::Range;
 

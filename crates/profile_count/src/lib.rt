@@ -2,12 +2,12 @@
 //! table wastes on one.
 #![tactic(auto)]
 
-mod counts_by_class;
 mod entry;
 mod fault;
 pub mod laws;
 mod profile;
 mod reading;
+mod table_on_counts;
 mod writing;
 
 pub use fault::{CountFull, ProfileError, ProfileFault};

@@ -5,7 +5,7 @@ ghost use Rattle.machine_theory.specs.Instructions.{addg, subg};
 ghost use Rattle.tagged_heap.specs.Config.{IsConfig, layout_for};
 ghost use Rattle.std.specs.Prelude.{◌≡◌, ◌≤◌, IfOk};
 
-use crate::new_heap::{first_slots, write_fresh_headers};
+use crate::fresh_slots::{first_slots, write_fresh_headers};
 use arrayvec::ArrayVec;
 use class_lists::ClassLists;
 use class_table::{ClassTable, Layout, MOST_CLASSES};

@@ -1,6 +1,6 @@
 use Rattle.std.proofs.Common.{ℕ, ◌+◌, ◌<◌, ◌≤◌, slice_index}
 use Rattle.potential_check.specs.RowConditions.{edge_bound}
-use Rattle.potential_check.proofs.tight_rows.tight_end.Given as goal
+use Rattle.potential_check.proofs.edge_walk.tight_end.Given as goal
 
 abbrev pub invariant-loop-end : goal.invariant-loop-end
 invariant-loop-end l = record {

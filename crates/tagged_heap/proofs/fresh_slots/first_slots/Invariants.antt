@@ -1,7 +1,7 @@
 use Rattle.std.proofs.Common.{◌≡◌, map}
 use Rattle.std.specs.List.{range_with_len}
 use Rattle.class_table.specs.Layout.{first_slot}
-use Rattle.tagged_heap.proofs.new_heap.first_slots.Given as goal
+use Rattle.tagged_heap.proofs.fresh_slots.first_slots.Given as goal
 
 abbrev pub invariant-loop-number : goal.invariant-loop-number
 invariant-loop-number l = l.counters.items ≡ map (first_slot l.layout) (range_with_len 0 l.number)

@@ -1,7 +1,7 @@
 use Rattle.std.proofs.Common.{◌≡◌, ◌-◌, ◌<◌, length, arith, inl, inr}
 use Rattle.std.proofs.lemmas.Bool.{cases_lt}
 use Rattle.potential_check.proofs.TightEnds.{walked-all, walked-end, walked-more}
-use Rattle.potential_check.proofs.tight_rows.is_tight_row.Goals as goal
+use Rattle.potential_check.proofs.edge_walk.is_tight_row.Goals as goal
 
 pub returns-in-None : goal.returns-in-None
 returns-in-None c = (

@@ -11,7 +11,7 @@ use Rattle.tagged_heap.proofs.NewHeap.{class_is_number}
 use Rattle.tagged_heap.proofs.RewrittenHeaders.{header_written}
 use Rattle.tagged_heap.proofs.Shares.{in_share}
 use Rattle.tagged_heap.proofs.TheoryLemmas as laws
-use Rattle.tagged_heap.proofs.new_heap.write_fresh_headers.Goals as goal
+use Rattle.tagged_heap.proofs.fresh_slots.write_fresh_headers.Goals as goal
 
 abbrev fresh_header : ℕ → Header
 fresh_header class = record { standing = NeverGiven; size = 0; tag = 0; class = class; next = 0; mark = 0 }

@@ -5,7 +5,7 @@ use Rattle.heap_theory.specs.State.{without_headers}
 use Rattle.heap_theory.specs.State.State.{Fresh}
 use Rattle.tagged_heap.specs.Representation.{header_from}
 use Rattle.heap_theory.specs.Region.{region_of, header_in}
-use Rattle.tagged_heap.proofs.new_heap.write_fresh_headers.Given as goal
+use Rattle.tagged_heap.proofs.fresh_slots.write_fresh_headers.Given as goal
 
 abbrev pub invariant-loop-number : goal.invariant-loop-number
 invariant-loop-number l = record {

@@ -2,7 +2,7 @@ use Rattle.std.proofs.Common.{◌≡◌, [], ◌∷◌, ◌++◌, length, map, a
 use Rattle.std.specs.List.{range_with_len}
 use Rattle.std.proofs.lemmas.List.FromFn.{length-map-range_with_len, map-range_with_len_more}
 use Rattle.class_table.specs.Layout.{first_slot}
-use Rattle.tagged_heap.proofs.new_heap.first_slots.Goals as goal
+use Rattle.tagged_heap.proofs.fresh_slots.first_slots.Goals as goal
 
 pub push-requires : goal.push-requires
 push-requires c =
