@@ -49,7 +49,8 @@ static void change(size_t size, long by) {
   pthread_mutex_unlock(&lock);
 }
 
-// A live block has 8 bytes more than requested. Its last 8 usable bytes are a word: MARK in the upper 16 bits, its counted size in the others.
+// A live block has 8 bytes more than requested. Its last 8 usable bytes are a word: MARK in the upper 16 bits, its counted size in the
+// others.
 static const unsigned long MARK = 0x5AFEUL << 48;
 
 static size_t usable(void *block) {
