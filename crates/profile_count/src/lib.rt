@@ -7,7 +7,7 @@ mod fault;
 pub mod laws;
 mod profile;
 mod reading;
-mod table_on_counts;
+mod waste_and_unserved;
 mod writing;
 
 pub use fault::{CountFull, ProfileError, ProfileFault};

@@ -5,7 +5,7 @@ ghost use Rattle.tuner_theory.specs.Waste.{Serves, waste_of};
 ghost use Rattle.profile_count.specs.Counts.{count_for, nothing_counted, unserved_of, with_count, with_large, with_one_more, zeros};
 
 use crate::fault::CountFull;
-use crate::table_on_counts::{first_unserved, table_losses};
+use crate::waste_and_unserved::{first_unserved, table_losses};
 use class_table::{ClassTable, LARGEST_COUNTED};
 use std::alloc::{AllocError, Global};
 use std::marker::Model;

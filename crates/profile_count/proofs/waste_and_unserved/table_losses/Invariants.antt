@@ -3,7 +3,7 @@ use Rattle.std.specs.List.{position_or_len}
 use Rattle.class_table.specs.Sizes.{largest_counted, serves}
 use Rattle.tuner_theory.specs.Profiles.{greatest_count}
 use Rattle.tuner_theory.specs.Waste.{sum_below, waste_at}
-use Rattle.profile_count.proofs.table_on_counts.table_losses.Given as goal
+use Rattle.profile_count.proofs.waste_and_unserved.table_losses.Given as goal
 
 abbrev pub invariant-loop-number : goal.invariant-loop-number
 invariant-loop-number l = record {

@@ -1,6 +1,6 @@
 use Rattle.std.proofs.Common.{◌∙◌, sym, arith}
 use Rattle.profile_count.proofs.Unserved.{unserved_here, not_counted_here, none_after, skips_served}
-use Rattle.profile_count.proofs.table_on_counts.first_unserved.Goals as goal
+use Rattle.profile_count.proofs.waste_and_unserved.first_unserved.Goals as goal
 
 pub loop-n-init : goal.loop-n-init
 loop-n-init c = skips_served c.args.counts.now c.args.table.now c.table_end-n.result c.table_end-n.ensures.served

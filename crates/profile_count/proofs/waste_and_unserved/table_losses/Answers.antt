@@ -3,7 +3,7 @@ use Rattle.tuner_theory.specs.Waste.{waste_at}
 use Rattle.tuner_theory.proofs.Sums.{sum_below-none}
 use Rattle.profile_count.proofs.FirstServing.{class_at, ends_ascend, next_class, next_ready, none_left, some_end}
 use Rattle.profile_count.proofs.Waste.{sum_below-rest, waste_in_class, waste_in_none}
-use Rattle.profile_count.proofs.table_on_counts.table_losses.Goals as goal
+use Rattle.profile_count.proofs.waste_and_unserved.table_losses.Goals as goal
 
 pub loop-number-init : goal.loop-number-init
 loop-number-init c =

@@ -2,7 +2,7 @@ use Rattle.std.proofs.Common.{◌≡◌, ℕ, ◌+◌, ◌-◌, ◌*◌, ◌<◌
 use Rattle.class_table.specs.Sizes.{largest_counted}
 use Rattle.tuner_theory.specs.Profiles.{greatest_count}
 use Rattle.tuner_theory.specs.Waste.{sum_below}
-use Rattle.profile_count.proofs.table_on_counts.losses_between.Given as goal
+use Rattle.profile_count.proofs.waste_and_unserved.losses_between.Given as goal
 
 abbrev pub invariant-loop-n : goal.invariant-loop-n
 invariant-loop-n l = record {

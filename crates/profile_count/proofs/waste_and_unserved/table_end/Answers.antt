@@ -1,6 +1,6 @@
 use Rattle.std.proofs.Common.{arith, refl}
 use Rattle.profile_count.proofs.FirstServing.{class_at, next_served, past_last}
-use Rattle.profile_count.proofs.table_on_counts.table_end.Goals as goal
+use Rattle.profile_count.proofs.waste_and_unserved.table_end.Goals as goal
 
 pub returns-then-is_empty-clause-others : goal.returns-then-is_empty-clause-others
 returns-then-is_empty-clause-others c = λ n le. rw (c.is_empty.ensures.0 c.if-is_empty.true) refl

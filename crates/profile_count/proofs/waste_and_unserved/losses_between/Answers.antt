@@ -3,7 +3,7 @@ use Rattle.class_table.specs.Sizes.{largest_counted}
 use Rattle.tuner_theory.specs.Profiles.{greatest_count}
 use Rattle.tuner_theory.proofs.Sums.{sum_below-more}
 use Rattle.profile_count.proofs.Waste.{small_term}
-use Rattle.profile_count.proofs.table_on_counts.losses_between.Goals as goal
+use Rattle.profile_count.proofs.waste_and_unserved.losses_between.Goals as goal
 
 pub loop-n-preserved : goal.loop-n-preserved
 loop-n-preserved c =
