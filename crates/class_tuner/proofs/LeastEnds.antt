@@ -1,48 +1,54 @@
 -- The least end in a window, and the least end of a place.
 use Rattle.std.proofs.Common.{◌≡◌, ℕ, zero, suc, ◌+◌, ◌-◌, ◌<◌, ◌≤◌, arith, ap, subst, inl, inr}
 use Rattle.std.proofs.lemmas.Bool.{cases_lt, cases_order}
-use Rattle.class_tuner.specs.Windows.{IsLeastWithin}
-use Rattle.tuner_theory.specs.Rows.{IsLeastEnd}
+use Rattle.tuner_theory.specs.Rows.{IsLeastEnd, IsLeastWithin}
 
--- ---- there is a least end
+-- a window has one first least end
+pub one-least : (f : ℕ → ℕ) (low high a b : ℕ) → IsLeastWithin f low high a → IsLeastWithin f low high b → a ≡ b
+one-least f low high a b of_a of_b =
+    elim (cases_order a b) [
+      | inl same ↦ same
+      | inr (inl lt) ↦ absurd (omega (arith, of_b.first a of_a.from lt, of_a.least b of_b.from of_b.to))
+      | inr (inr gt) ↦ absurd (omega (arith, of_a.first b of_b.from gt, of_b.least a of_a.from of_a.to))
+    ]
 
 same-cost : (f : ℕ → ℕ) (i j : ℕ) → i ≡ j → f i ≡ f j
 same-cost f i j e = ap f e
 
--- the first least one of the ends after i, up to n places later
-least-end : (f : ℕ → ℕ) (i n : ℕ) → (j : ℕ) × IsLeastEnd f i (suc (i + n)) j
-least-end f i zero = (
-  suc i,
+-- the first least one of the ends from low to n places later
+least-within : (f : ℕ → ℕ) (low n : ℕ) → (j : ℕ) × IsLeastWithin f low (low + n) j
+least-within f low zero = (
+  low,
   record {
-    after = omega arith;
-    within = omega arith;
-    least = λ m lt le. omega (arith, same-cost f m (suc i) (omega arith));
-    first = λ m lt before. absurd (omega arith);
+    from = omega arith;
+    to = omega arith;
+    least = λ m after le. omega (arith, same-cost f m low (omega arith));
+    first = λ m after before. absurd (omega arith);
   },
 )
-least-end f i (suc n) =
-    let b = least-end f i n in
-    elim (cases_lt (f (suc (i + suc n))) (f b.0)) [
+least-within f low (suc n) =
+    let b = least-within f low n in
+    elim (cases_lt (f (low + suc n)) (f b.0)) [
       | inl better ↦ (
-        suc (i + suc n),
+        low + suc n,
         record {
-          after = omega arith;
-          within = omega arith;
-          least = λ m lt le. elim (cases_lt m (suc (i + suc n))) [
-            | inl inside ↦ omega (arith, b.1.least m lt (omega arith))
-            | inr end ↦ omega (arith, same-cost f m (suc (i + suc n)) (omega arith))
+          from = omega arith;
+          to = omega arith;
+          least = λ m after le. elim (cases_lt m (low + suc n)) [
+            | inl inside ↦ omega (arith, b.1.least m after (omega arith))
+            | inr end ↦ omega (arith, same-cost f m (low + suc n) (omega arith))
           ];
-          first = λ m lt before. omega (arith, b.1.least m lt (omega arith));
+          first = λ m after before. omega (arith, b.1.least m after (omega arith));
         },
       )
       | inr worse ↦ (
         b.0,
         record {
-          after = b.1.after;
-          within = omega (arith, b.1.within);
-          least = λ m lt le. elim (cases_lt m (suc (i + suc n))) [
-            | inl inside ↦ b.1.least m lt (omega arith)
-            | inr end ↦ omega (arith, same-cost f m (suc (i + suc n)) (omega arith))
+          from = b.1.from;
+          to = omega (arith, b.1.to);
+          least = λ m after le. elim (cases_lt m (low + suc n)) [
+            | inl inside ↦ b.1.least m after (omega arith)
+            | inr end ↦ omega (arith, same-cost f m (low + suc n) (omega arith))
           ];
           first = b.1.first;
         },
@@ -53,16 +59,14 @@ least-end f i (suc n) =
 pub least_end-of_window : (f : ℕ → ℕ) (place d low high end : ℕ) → place < low → high ≤ d → IsLeastWithin f low high end
     → ((e : ℕ) → IsLeastEnd f place d e → (low ≤ e) × (e ≤ high)) → IsLeastEnd f place d end
 least_end-of_window f place d low high end after within s window =
-    let whole : suc (place + (d - suc place)) ≡ d = omega (arith, s.from, s.to) in
-    let found = least-end f place (d - suc place) in
-    let is_least : IsLeastEnd f place d found.0 = subst (λ (n : ℕ). IsLeastEnd f place n found.0) whole found.1 in
+    let whole : suc place + (d - suc place) ≡ d = omega (arith, s.from, s.to) in
+    let found = least-within f (suc place) (d - suc place) in
+    let is_least : IsLeastEnd f place d found.0 = subst (λ (n : ℕ). IsLeastWithin f (suc place) n found.0) whole found.1 in
     let inside = window found.0 is_least in
-    subst (IsLeastEnd f place d) (same found.0 is_least inside.0 inside.1) is_least
-  where
-    same : (e : ℕ) → IsLeastEnd f place d e → low ≤ e → e ≤ high → e ≡ end
-    same e l le he =
-        elim (cases_order e end) [
-          | inl h ↦ h
-          | inr (inl lt) ↦ absurd (omega (arith, s.first e le lt, l.least end (omega (arith, s.from)) (omega (arith, s.to))))
-          | inr (inr gt) ↦ absurd (omega (arith, l.first end (omega (arith, s.from)) gt, s.least e le he))
-        ]
+    let in_window : IsLeastWithin f low high found.0 = record {
+      from = inside.0;
+      to = inside.1;
+      least = λ j from to. is_least.least j (omega arith) (omega arith);
+      first = λ j from before. is_least.first j (omega arith) before;
+    } in
+    subst (IsLeastEnd f place d) (one-least f low high found.0 end in_window s) is_least

@@ -1,24 +1,16 @@
 -- How often the span wastes are asked for is one number: filled rows have one list of least ends each.
-use Rattle.std.proofs.Common.{◌≡◌, ℕ, zero, suc, ◌+◌, ◌<◌, ◌≤◌, arith, sym, ◌∙◌, inl, inr}
-use Rattle.std.proofs.lemmas.Bool.{cases_order}
+use Rattle.std.proofs.Common.{◌≡◌, ℕ, zero, suc, ◌+◌, ◌<◌, ◌≤◌, arith, sym, ◌∙◌}
 use Rattle.class_tuner.specs.Laws.{OneCount}
+use Rattle.class_tuner.proofs.LeastEnds.{one-least}
 use Rattle.class_tuner.proofs.Tried.{calls-same}
-use Rattle.tuner_theory.specs.Rows.{AreLeastRows, IsLeastEnd, number_at}
-
-one-end : (f : ℕ → ℕ) (i d a b : ℕ) → IsLeastEnd f i d a → IsLeastEnd f i d b → a ≡ b
-one-end f i d a b of_a of_b =
-    elim (cases_order a b) [
-      | inl same ↦ same
-      | inr (inl lt) ↦ absurd (omega (arith, of_b.first a of_a.after lt, of_a.least b of_b.after of_b.within))
-      | inr (inr gt) ↦ absurd (omega (arith, of_a.first b of_b.after gt, of_b.least a of_a.after of_a.within))
-    ]
+use Rattle.tuner_theory.specs.Rows.{AreLeastRows, number_at}
 
 ends-same : (cost : ℕ → ℕ → ℕ) (d limit : ℕ) (rows a b : ℕ → ℕ → ℕ) → AreLeastRows cost d limit rows a → AreLeastRows cost d limit rows b
     → (k i : ℕ) → 1 ≤ k → k ≤ limit → i < d → a k i ≡ b k i
 ends-same cost d limit rows a b of_a of_b zero i one le lt = absurd (omega arith)
 ends-same cost d limit rows a b of_a of_b (suc zero) i one le lt = (of_a.first_row i le lt).1 ∙ sym (of_b.first_row i le lt).1
 ends-same cost d limit rows a b of_a of_b (suc (suc k)) i one le lt =
-    one-end (λ j. cost i j + rows (suc k) j) i d _ _ (of_a.later_row (suc k) i (omega arith) (omega arith) lt).0
+    one-least (λ j. cost i j + rows (suc k) j) (suc i) d _ _ (of_a.later_row (suc k) i (omega arith) (omega arith) lt).0
     (of_b.later_row (suc k) i (omega arith) (omega arith) lt).0
 
 pub one-count : OneCount

@@ -45,8 +45,8 @@ least-same : (cost : ℕ → ℕ → ℕ) (d : ℕ) (before before' : ℕ → �
 least-same cost d before before' i number number' end end' same same_number same_end l =
     rw (same_number, same_end) (record {
       least = record {
-        after = l.least.after;
-        within = l.least.within;
+        from = l.least.from;
+        to = l.least.to;
         least = λ m lt le. omega (arith, same end, same m, l.least.least m lt le);
         first = λ m lt lt_end. omega (arith, same end, same m, l.least.first m lt lt_end);
       };

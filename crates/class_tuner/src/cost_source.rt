@@ -1,6 +1,7 @@
 ghost use Rattle.std.specs.Prelude.{◌≡◌, ℕ, ◌+◌, ◌-◌, ◌^◌, ◌<◌, ◌≤◌, length, slice_index};
 ghost use Rattle.class_tuner.specs.Filling.{end_cost};
-ghost use Rattle.class_tuner.specs.Windows.{IsLeastWithin, IsWindowAfter};
+ghost use Rattle.class_tuner.specs.Windows.{IsWindowAfter};
+ghost use Rattle.tuner_theory.specs.Rows.{IsLeastWithin};
 ghost use Rattle.tuner_theory.specs.Spans.{IsCrossing};
 
 use potential_check::number_in_row;

@@ -158,7 +158,7 @@ module _ (counts : List ℕ) (step : ℕ) (pos : 0 < step) (limit : ℕ) (rows e
       let all = waste_above-cons counts step pos low c cs one above.0 above.2 in
       elim (cases_lt (need_at counts step end) c) [
         | inl lt ↦ inl lt
-        | inr ge ↦ (let no_later : j.0 ≤ end = (reach-at counts step pos end row.0.within).last j.0 j.1.within
+        | inr ge ↦ (let no_later : j.0 ≤ end = (reach-at counts step pos end row.0.to).last j.0 j.1.within
             (omega (arith, j.1.reached)) in
             elim (cases_lt j.0 end) [
               | inl before ↦ absurd (omega (arith, row.0.first j.0 far before, row.1, rest, first, all, wasted))

@@ -12,9 +12,9 @@ ends-ascend cost before d i j e f crossing ij le lf =
       | inr not ↦ not
       | inl back ↦ absurd (omega (
         arith,
-        le.first f (omega (arith, lf.after)) back,
-        lf.least e (omega (arith, lf.after)) le.within,
-        crossing i j f e ij lf.after (omega arith) le.within,
+        le.first f (omega (arith, lf.from)) back,
+        lf.least e (omega (arith, lf.from)) le.to,
+        crossing i j f e ij lf.from (omega arith) le.to,
       ))
     ]
 
@@ -22,7 +22,7 @@ module _ (cost : ℕ → ℕ → ℕ) (d limit : ℕ) (rows ends : ℕ → ℕ �
   pub ends-later : AreLaterEnds d limit ends
   ends-later zero i one le lt = absurd (omega arith)
   ends-later (suc zero) i one le lt = let row = least.first_row i (omega arith) lt in (omega (arith, row.1), omega (arith, row.1))
-  ends-later (suc (suc k)) i one le lt = let row = least.later_row (suc k) i (omega arith) (omega arith) lt in (row.0.after, row.0.within)
+  ends-later (suc (suc k)) i one le lt = let row = least.later_row (suc k) i (omega arith) (omega arith) lt in (row.0.from, row.0.to)
 
   edge-least : (k i j : ℕ) → 1 ≤ k → k < limit → i < j → j ≤ d → rows (suc k) i ≤ cost i j + rows k j
   edge-least k i j one few lt le =
@@ -35,10 +35,10 @@ module _ (cost : ℕ → ℕ → ℕ) (d limit : ℕ) (rows ends : ℕ → ℕ �
   drop-least (suc k) i few lt =
       let row = least.later_row (suc k) i (omega arith) (omega arith) lt in
       let e = ends (suc (suc k)) i in
-      let edge = edge-least (suc (suc k)) i e (omega arith) few row.0.after row.0.within in
+      let edge = edge-least (suc (suc k)) i e (omega arith) few row.0.from row.0.to in
       elim (cases_lt e d) [
         | inl inside ↦ omega (arith, row.1, edge, drop-least k e (omega arith) inside)
-        | inr past ↦ (let end : e ≡ d = omega (arith, row.0.within) in
+        | inr past ↦ (let end : e ≡ d = omega (arith, row.0.to) in
             omega (arith, row.1, edge, ap (rows (suc (suc k))) end, least.at_end (suc (suc k))))
       ]
 

@@ -104,9 +104,9 @@ module _ (counts : List ℕ) (step : ℕ) (is_step : IsStep step) (small : lengt
       (λ e. let lt = ltb-true i d e in
       let row = least.later_row (suc k) i (omega arith) (omega arith) lt in
       let j = ends (suc (suc k)) i in
-      let class = place-class counts step j is_step small (omega (arith, row.0.after)) row.0.within in
+      let class = place-class counts step j is_step small (omega (arith, row.0.from)) row.0.to in
       let later =
-      table-tuned k j (need_at counts step j) (omega arith) (omega (arith, class.0.0)) (reach-at counts step pos j row.0.within) in
-      table-cons counts step pos (suc k) low i j (rows (suc k) j) (rows (suc (suc k)) i) _ is_step small one r row.0.after row.0.within
+      table-tuned k j (need_at counts step j) (omega arith) (omega (arith, class.0.0)) (reach-at counts step pos j row.0.to) in
+      table-cons counts step pos (suc k) low i j (rows (suc k) j) (rows (suc (suc k)) i) _ is_step small one r row.0.from row.0.to
       later row.1)
       (λ e. none-left (suc (suc k)) i low r (ltb-false i d e))

@@ -11,12 +11,16 @@ pub record HasShape (rows : List (List ℕ)) (limit d : ℕ) : Type 0 where
   pub row_count : length rows ≡ limit
   pub row_lengths : All (λ row. length row ≡ d) rows
 
--- j is the first of the ends after i, up to d, at which the cost is least.
-pub record IsLeastEnd (cost : ℕ → ℕ) (i d j : ℕ) : Type 0 where
-  pub after : i < j
-  pub within : j ≤ d
-  pub least : (m : ℕ) → i < m → m ≤ d → cost j ≤ cost m
-  pub first : (m : ℕ) → i < m → m < j → cost j < cost m
+-- Of the ends from low to high, `end` is the first at which the cost is least.
+pub record IsLeastWithin (cost : ℕ → ℕ) (low high end : ℕ) : Type 0 where
+  pub from : low ≤ end
+  pub to : end ≤ high
+  pub least : (j : ℕ) → low ≤ j → j ≤ high → cost end ≤ cost j
+  pub first : (j : ℕ) → low ≤ j → j < end → cost end < cost j
+
+-- Of the ends after place i, up to d, `end` is the first at which the cost is least.
+abbrev pub IsLeastEnd : (ℕ → ℕ) → ℕ → ℕ → ℕ → Type 0
+IsLeastEnd cost i d end = IsLeastWithin cost (suc i) d end
 
 -- Rows of least costs with their least ends, over d places, where `cost i j` is what one class for the places above i up to j costs: row 1
 -- has one class up to the last place. A later row has the best first class, and after the end of that class the row before.

@@ -1,6 +1,14 @@
 //! What the tests share.
+use replay_core::Config;
 use std::fmt::Debug;
 use std::process::Abort;
+
+/// A heap of 64 granules with the seed 1 and no quarantine.
+pub const HEAP: Config = Config {
+    granules: 64,
+    seed: 1,
+    quarantine: 0,
+};
 
 /// Fails if the two values differ, with a message that has both and names the case. The proof of a test costs a second for each
 /// `assert_eq!` in its body, and next to nothing for a call of this function.

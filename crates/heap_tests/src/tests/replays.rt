@@ -1,10 +1,10 @@
 //! The replay: each public call once. `crates/engine_tests/src/tests/engines/replay_texts.rt` has worked traces
 //! with their reports.
-use crate::tests::support::same;
+use crate::tests::support::{config, same};
 use arrayvec::ArrayVec;
 use class_table::ClassTable;
 use replay_core::Event::{Addg, Free, Load, Malloc, Store, Subg};
-use replay_core::{Config, Event, Replay, is_in_range};
+use replay_core::{Event, Replay, is_in_range};
 use std::process::Abort;
 use std::test::Fail;
 
@@ -15,13 +15,7 @@ fn replay(
     quarantine: u32,
 ) -> Result<Replay, Fail> {
     let table = ClassTable::from_classes(classes)?;
-    assert!(rt; quarantine <= 4_194_304);
-    let config = Config {
-        granules: 64,
-        seed: 1,
-        quarantine,
-    };
-    Ok(Replay::new(rt.alloc(), &table, config)?)
+    Ok(Replay::new(rt.alloc(), &table, config(rt, quarantine))?)
 }
 
 // the line of a step, which is written over an old one

@@ -10,7 +10,7 @@ pub least_end-cost-requires-clause-between : goal.least_end-cost-requires-clause
 least_end-cost-requires-clause-between g t c = λ e least.
     let part = c.args.part in
     let inside = c.requires.between (part.start + (part.end - part.start) / 2) (omega arith) (omega arith) e least in
-    (omega (arith, least.after, inside.0), inside.1)
+    (omega (arith, least.from, inside.0), inside.1)
 
 pub fill_part-requires : goal.fill_part-requires
 fill_part-requires g t c κs within =

@@ -4,7 +4,7 @@ ghost use Rattle.tagged_heap.specs.Config.{IsConfig};
 
 use super::support::ended;
 use crate::tests::streams::{sink, source};
-use crate::tests::support::same;
+use crate::tests::support::{HEAP, same};
 use mte_engine::{
     ByteSink, ByteSource, Status, ToolFault, check, profile, replay, run, score, tune,
 };
@@ -75,11 +75,7 @@ fn config(rt: &impl Abort, quarantine: u32) -> Config
     ensures { IsConfig result }
 {
     assert!(rt; quarantine <= 4_194_304);
-    Config {
-        granules: 64,
-        seed: 1,
-        quarantine,
-    }
+    Config { quarantine, ..HEAP }
 }
 
 /// Calls the engine on a text: this is written for it, and it ends so.

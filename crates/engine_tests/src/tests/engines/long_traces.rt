@@ -1,17 +1,10 @@
 //! Traces of a million events, and inputs of the most bytes.
 use super::support::{Repeated, ended};
 use crate::tests::streams::{sink, source};
-use crate::tests::support::same;
+use crate::tests::support::{HEAP, same};
 use mte_engine::{MOST_INPUT, profile, replay, run};
-use replay_core::Config;
 use std::alloc::{AllocError, Global};
 use std::test::Fail;
-
-const HEAP: Config = Config {
-    granules: 64,
-    seed: 1,
-    quarantine: 0,
-};
 
 const LONG_LINE: &[u8] =
     b"aaaaaaaaaaaaaaaaaaaaaaaaaaaaaaaaaaaaaaaaaaaaaaaaaaaaaaaaaaaaaaaaaaaaaaaaaaaaaaaaa";

@@ -1,7 +1,7 @@
 //! With ample memory nothing is refused: at each limit and step, at sizes about each power of two, at each number of rows, at each line.
 use super::support::profile as worked_profile;
 use crate::tests::streams::{sink, source};
-use crate::tests::support::same;
+use crate::tests::support::{HEAP, same};
 use class_table::ClassTable;
 use class_tuner::tune;
 use granule_memory::Memory;
@@ -47,11 +47,7 @@ fn sizes_about_each_power_of_two(rt: HostRuntime) -> Result<(), Fail> {
         same(&rt, &region.len(), &(granules as usize), &granules);
         let memory = Memory::new(rt.alloc(), granules)?;
         same(&rt, &memory.granules(), &granules, &granules);
-        let config = Config {
-            granules,
-            seed: 1,
-            quarantine: 0,
-        };
+        let config = Config { granules, ..HEAP };
         let replay = Replay::new(rt.alloc(), &table, config)?;
         same(&rt, &replay.steps(), &0, &granules);
     }
@@ -91,11 +87,6 @@ fn a_trace_of_a_million_lines(rt: HostRuntime) -> Result<(), Fail> {
 // Inputs of as many lines, or bytes, as each power of two, of one fewer and of one more.
 #[test]
 fn engines_about_each_power_of_two(rt: HostRuntime) -> Result<(), Fail> {
-    let config = Config {
-        granules: 64,
-        seed: 1,
-        quarantine: 0,
-    };
     let mut power: usize = 1;
     for _digits in 0..20 {
         for lines in [power.saturating_sub(1), power, power.saturating_add(1)] {
@@ -107,7 +98,7 @@ fn engines_about_each_power_of_two(rt: HostRuntime) -> Result<(), Fail> {
             );
             let mut to = sink(rt.alloc())?;
             assert!(rt;
-                run(rt.alloc(), 1, 1, config, &mut source(&text), &mut to).is_ok(),
+                run(rt.alloc(), 1, 1, HEAP, &mut source(&text), &mut to).is_ok(),
                 "run of {lines} lines"
             );
             let mut to = sink(rt.alloc())?;

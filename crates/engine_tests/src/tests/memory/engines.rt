@@ -1,17 +1,10 @@
 //! The six engines: where a growth is refused, the sink is as it was.
 use super::support::{PROFILE, SHEET, refused_twice};
 use crate::tests::streams::{sink, source};
-use crate::tests::support::same;
+use crate::tests::support::{HEAP, same};
 use mte_engine::{MemorySink, Status, ToolFault, check, profile, replay, run, score, tune};
-use replay_core::Config;
 use std::process::Abort;
 use std::test::Fail;
-
-const CONFIG: Config = Config {
-    granules: 64,
-    seed: 1,
-    quarantine: 0,
-};
 
 const TRACE: &str = "malloc 1 16\nstore 1 16 1 aa\nmalloc 2 0\n";
 
@@ -75,7 +68,7 @@ fn replaying(rt: HostRuntime) -> Result<(), Fail> {
     input.push_str(TRACE)?;
     for _attempt in 0..2 {
         let mut to = sink(rt.alloc())?;
-        let end = replay(rt.alloc(), CONFIG, &mut source(input.as_bytes()), &mut to);
+        let end = replay(rt.alloc(), HEAP, &mut source(input.as_bytes()), &mut to);
         if answered(&rt, end, &to, REPORT) {
             return Ok(());
         }
@@ -93,7 +86,7 @@ fn running(rt: HostRuntime) -> Result<(), Fail> {
             rt.alloc(),
             1,
             1,
-            CONFIG,
+            HEAP,
             &mut source(TRACE.as_bytes()),
             &mut to,
         );

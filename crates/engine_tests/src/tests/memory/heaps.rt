@@ -1,18 +1,12 @@
 //! The region, its granules, the heap and the replay.
 use super::support::refused_twice;
-use crate::tests::support::same;
+use crate::tests::support::{HEAP, same};
 use class_table::ClassTable;
 use granule_memory::Memory;
 use raw_region::RawRegion;
-use replay_core::{Config, Replay};
+use replay_core::Replay;
 use std::test::Fail;
 use tagged_heap::Heap;
-
-const CONFIG: Config = Config {
-    granules: 64,
-    seed: 1,
-    quarantine: 0,
-};
 
 #[test]
 fn a_region(rt: HostRuntime) -> Result<(), Fail> {
@@ -40,7 +34,7 @@ fn a_memory(rt: HostRuntime) -> Result<(), Fail> {
 fn a_heap(rt: HostRuntime) -> Result<(), Fail> {
     let table = ClassTable::from_classes(&[2, 4])?;
     for _attempt in 0..2 {
-        if let Ok(mut heap) = Heap::new(rt.alloc(), &table, CONFIG) {
+        if let Ok(mut heap) = Heap::new(rt.alloc(), &table, HEAP) {
             assert!(rt; heap.malloc(16).is_ok());
             return Ok(());
         }
@@ -52,7 +46,7 @@ fn a_heap(rt: HostRuntime) -> Result<(), Fail> {
 fn a_replay(rt: HostRuntime) -> Result<(), Fail> {
     let table = ClassTable::from_classes(&[2, 4])?;
     for _attempt in 0..2 {
-        if let Ok(replay) = Replay::new(rt.alloc(), &table, CONFIG) {
+        if let Ok(replay) = Replay::new(rt.alloc(), &table, HEAP) {
             same(&rt, &replay.steps(), &0, &"steps");
             return Ok(());
         }

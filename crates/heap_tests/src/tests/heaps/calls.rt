@@ -1,10 +1,11 @@
 //! A trace is a table of calls with what they answer; its pointers stand in eight variables, of which the first is null.
+use crate::tests::support::config;
 use chunk_header::{Header, is_header, read};
 use class_table::ClassTable;
 use std::process::Abort;
 use std::test::Fail;
 use tag_machine::Fault;
-use tagged_heap::{Config, FreeError, Heap, NullCause, PlaceKind, ReallocError};
+use tagged_heap::{FreeError, Heap, NullCause, PlaceKind, ReallocError};
 
 /// A variable.
 pub type Variable = usize;
@@ -83,13 +84,7 @@ pub fn play(
     steps: &[Step],
 ) -> Result<(), Fail> {
     let table = ClassTable::from_classes(classes)?;
-    assert!(rt; quarantine <= 4_194_304);
-    let config = Config {
-        granules: 64,
-        seed: 1,
-        quarantine,
-    };
-    let mut heap = Heap::new(rt.alloc(), &table, config)?;
+    let mut heap = Heap::new(rt.alloc(), &table, config(rt, quarantine))?;
     let mut pointers = [0; 8];
     for (number, step) in steps.iter().enumerate() {
         let holds = holds(rt, &mut heap, &mut pointers, *step);

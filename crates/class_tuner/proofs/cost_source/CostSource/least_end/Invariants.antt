@@ -1,6 +1,6 @@
 use Rattle.std.proofs.Common.{◌≡◌, ◌+◌, ◌≤◌}
 use Rattle.class_tuner.specs.Filling.{end_cost}
-use Rattle.class_tuner.specs.Windows.{IsLeastWithin}
+use Rattle.tuner_theory.specs.Rows.{IsLeastWithin}
 use Rattle.class_tuner.proofs.cost_source.CostSource.least_end.Given as goal
 
 abbrev pub invariant-loop-j : goal.invariant-loop-j
