@@ -15,7 +15,7 @@ pub fn same<T: PartialEq + Debug, C: Debug>(rt: &impl Abort, given: &T, wanted: 
 pub fn config(rt: &impl Abort, quarantine: u32) -> Config
     ensures { IsConfig result }
 {
-    assert!(rt; quarantine <= 4_194_304);
+    assert!(rt; quarantine <= Config::MOST_QUARANTINE);
     Config {
         granules: 64,
         seed: 1,

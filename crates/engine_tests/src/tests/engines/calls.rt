@@ -74,7 +74,7 @@ pub fn call_on<R: ByteSource, W: ByteSink>(
 fn config(rt: &impl Abort, quarantine: u32) -> Config
     ensures { IsConfig result }
 {
-    assert!(rt; quarantine <= 4_194_304);
+    assert!(rt; quarantine <= Config::MOST_QUARANTINE);
     Config { quarantine, ..HEAP }
 }
 
