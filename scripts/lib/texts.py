@@ -1,0 +1,314 @@
+"""What the Python scripts share: profiles, class lines and sheets in, standard output, the program mte_tool, and how a script ends.
+
+A script finds this module from its own real path, so that a link to it works, and leaves no compiled file beside it:
+
+    sys.dont_write_bytecode = True
+    sys.path.insert(0, os.path.join(os.path.dirname(os.path.realpath(__file__)), "lib"))
+    import texts
+
+    def merge(words): ..                     # raises texts.Refused(2, "what is wrong, and how to mend it")
+    texts.main("merge_profiles", merge)
+
+docs/FORMATS.md says what the texts are. Files are read as bytes, since they may hold anything; no message shows a byte that is no text.
+"""
+
+import functools
+import os
+import re
+import subprocess
+import sys
+from collections import defaultdict, namedtuple
+
+SCRIPTS = os.path.dirname(os.path.dirname(os.path.realpath(__file__)))
+EXAMPLES = os.path.join(os.path.dirname(SCRIPTS), "examples")
+BUILT = os.path.join(os.path.dirname(SCRIPTS), "crates/mte_tool/out/mte_tool")
+
+LARGEST_SIZE = 16_368  # the largest request that a class serves, in bytes; a larger one is `large`
+MOST_COUNT = 1_000_000_000  # the most that a line of a profile counts
+MOST_CLASSES = 32
+LARGEST_CLASS = 1024  # in granules
+
+PIECE = 1 << 20
+MOST_DIGITS = 4_000  # of a number; Python itself converts 4,300
+
+COUNTED = re.compile(rb"[ \t]*(0*[0-9]{1,%d}|large)[ \t]+(0*[0-9]{1,%d})[ \t]*" % (MOST_DIGITS, MOST_DIGITS))
+EVENT_WORDS = (b"malloc", b"calloc", b"realloc", b"free", b"load", b"store", b"addg", b"subg")
+SHEET_WORDS = (b"classes", b"limit", b"step", b"waste", b"row")
+
+Sheet = namedtuple("Sheet", "classes limit step waste rows")
+
+
+class Refused(Exception):
+    """Ends a script with this status and this line on standard error: 2 refuses words or input, 3 is a failure."""
+
+    def __init__(self, status, text):
+        super().__init__(text)
+        self.status = status
+        self.text = text
+
+
+def main(name, function):
+    """Ends the process with what function(words) returns as the status, None for 0, or as it is refused."""
+    try:
+        if sys.stdout is None:
+            raise Refused(3, "standard output is closed")
+        status = function(sys.argv[1:]) or 0
+    except Refused as refused:
+        say(name, refused.text)
+        status = refused.status
+    except KeyboardInterrupt:
+        status = 130
+    sys.exit(status)
+
+
+def say(name, text):
+    """A line on standard error. A name of a file may have any character: those that move the cursor are shown escaped."""
+    if sys.stderr is not None:
+        shown = "".join(c if c.isprintable() else c.encode("unicode_escape").decode() for c in text.replace("\t", " "))
+        try:
+            print(f"{name}: {shown}", file=sys.stderr, flush=True)
+        except OSError:
+            pass  # there is nowhere left to say it
+
+
+def write(text):
+    """Writes a text, or bytes, to standard output at once."""
+    left = memoryview(os.fsencode(text))
+    try:
+        while left:
+            left = left[os.write(1, left) :]
+    except OSError as error:
+        raise Refused(3, f"standard output can't be written: {error.strerror}") from None
+
+
+def opened(path):
+    """A file that is open for reading as bytes, not buffered; standard input for `-`."""
+    try:
+        if path != "-":
+            return open(path, "rb", buffering=0)
+        if sys.stdin is None:
+            raise Refused(2, "standard input is closed")
+        return open(0, "rb", buffering=0, closefd=False)
+    except OSError as error:
+        raise Refused(2, f"{named(path)} can't be read: {error.strerror}") from None
+
+
+def named(path):
+    return "standard input" if path == "-" else path
+
+
+def read(path, most=None):
+    """The bytes of a file, or of `-`, or the first so many of them."""
+    with opened(path) as file:
+        data = bytearray()
+        while most is None or len(data) < most:
+            piece = next_piece(file, path)
+            if not piece:
+                break
+            data += piece
+    return bytes(data[:most])
+
+
+def next_piece(file, path):
+    try:
+        return file.read(PIECE)
+    except OSError as error:
+        raise Refused(2, f"{named(path)} can't be read: {error.strerror}") from None
+
+
+def read_profile(path):
+    """What a profile counts: the count of each size from 0 to 16,368, and of `large`.
+
+    A line is a size and a count, or `large` and a count, in any order and however often; a size above 16,368 is large. Counts may be
+    0, and are summed exactly."""
+    sums = {}
+    add_profile(sums, path)
+    return sums
+
+
+def add_profile(sums, path):
+    """Adds the counts of a profile to these."""
+    counts = defaultdict(int)  # by the words of sizes, as they come
+    line = 1
+    with opened(path) as file:
+        for piece in whole_lines(file, path):
+            try:
+                add_lines(counts, piece)
+            except ValueError:
+                refuse_line(piece, line, path)
+            line += piece.count(b"\n")
+    for word, count in counts.items():
+        size = "large" if word == b"large" or int(word) > LARGEST_SIZE else int(word)
+        sums[size] = sums.get(size, 0) + count
+
+
+def whole_lines(file, path):
+    """The bytes of a file in pieces of whole lines; the last line may lack its newline."""
+    rest = b""
+    while True:
+        piece = next_piece(file, path)
+        if not piece:
+            break
+        end = piece.rfind(b"\n") + 1
+        if end:
+            yield rest + piece[:end]
+            rest = piece[end:]
+        else:
+            rest += piece
+            if len(rest) > PIECE:
+                raise fault(rest, None, path)
+    if rest:
+        yield rest
+
+
+def add_lines(counts, piece):
+    """Adds the counts of some whole lines, or raises ValueError where one is faulty."""
+    words = piece.split()
+    sizes, numbers = words[::2], words[1::2]
+    lines = piece.count(b"\n")
+    # Most lines are a size, a space and a count. Where all are, this is seen at once, and else line by line.
+    frame = piece.translate(None, b"0123456789").replace(b"large", b"")
+    plain = frame == b" \n" * lines and len(words) == 2 * lines and b"".join(numbers).isdigit()
+    if b"large" in piece:
+        plain = plain and piece.count(b"large") == sizes.count(b"large")
+    if not plain or len(max(words, key=len)) > MOST_DIGITS:
+        matches = [COUNTED.fullmatch(line) for line in lines_of(piece)]
+        if not all(matches):
+            raise ValueError
+        sizes, numbers = [match[1] for match in matches], [match[2] for match in matches]
+    for size, number in zip(sizes, map(int, numbers)):
+        counts[size] += number
+
+
+def lines_of(text):
+    """The lines of a text; the last may lack its newline."""
+    lines = text.split(b"\n")
+    return lines if lines[-1] else lines[:-1]
+
+
+def refuse_line(piece, line, path):
+    """Refuses the first faulty line of a piece that begins at this line."""
+    for text in lines_of(piece):
+        if not COUNTED.fullmatch(text):
+            raise fault(text, line, path)
+        line += 1
+    raise AssertionError("no line is faulty")
+
+
+def fault(text, line, path):
+    """What is wrong with a line that is not SIZE COUNT."""
+    name, first = named(path), text.split(b" ")[0]
+    if wrong := encoding(text, line):
+        return Refused(2, f"{name}: {wrong}")
+    where = f"{name}: line {line}" if line else name
+    if first in EVENT_WORDS:
+        return Refused(2, f"{where} is of a trace, and not SIZE COUNT: `mte_tool profile` makes the profile of a trace")
+    if first in SHEET_WORDS:
+        return Refused(2, f"{where} is of a sheet or a class line, and not SIZE COUNT: give the profile that it was made for")
+    return Refused(2, f"{where} is not SIZE COUNT: {shown(text)}")
+
+
+def encoding(text, line=1):
+    """What is wrong with the bytes of a line themselves, if something is; each has its own remedy."""
+    if line == 1 and text.startswith((b"\xff\xfe", b"\xfe\xff")):
+        return "the text is UTF-16: make it UTF-8 by `iconv -f UTF-16 -t UTF-8`"
+    if line == 1 and text.startswith(b"\xef\xbb\xbf"):
+        return r"the text begins with a byte order mark (BOM): remove it by `sed '1s/^\xef\xbb\xbf//'`"
+    if text.endswith(b"\r") and not binary(text[:-1]):
+        return rf"line {line} ends with a carriage return, as on Windows (CRLF): remove them by `sed 's/\r$//'`"
+    if binary(text):
+        return f"line {line} has bytes that are no text: the file is binary" if line else "it is binary, and no text"
+    return None
+
+
+def binary(text):
+    return bool(re.search(rb"[^\t\x20-\x7e\x80-\xff]", text)) or not utf_8(text)
+
+
+def utf_8(text):
+    try:
+        return text.decode() is not None
+    except UnicodeDecodeError:
+        return False
+
+
+def shown(text):
+    """The begin of a line for a message."""
+    words = text.decode(errors="replace")
+    return words if len(words) <= 60 else words[:60] + ".."
+
+
+def class_line(path):
+    """The classes of the first line of a file, which may be a sheet, in granules."""
+    text = read(path, 1 << 16)
+    return parse_class_line(text.split(b"\n")[0] if text else None, named(path))
+
+
+def parse_class_line(text, name="the class line"):
+    """The classes of a line `classes C1 C2 ..`, in granules. None stands for a missing line."""
+    if text is None:
+        raise Refused(2, f"{name}: there is no line, so no class line")
+    text = os.fsencode(text)
+    if wrong := encoding(text):
+        raise Refused(2, f"{name}: {wrong}")
+    if not re.fullmatch(rb"classes( (0|[1-9][0-9]*))*", text):
+        raise Refused(2, f"{name}: line 1 is no class line: {shown(text)}")
+    words = text.split()[1:]
+    if len(words) > MOST_CLASSES:
+        raise Refused(2, f"{name}: {len(words)} classes are more than {MOST_CLASSES}")
+    below = 1
+    for word in words:
+        if len(word) > 4 or not below < int(word) <= LARGEST_CLASS:
+            raise Refused(2, f"{name}: the classes do not ascend from 2 to {LARGEST_CLASS}: {shown(word)}")
+        below = int(word)
+    return [int(word) for word in words]
+
+
+def parse_sheet(text, name="the sheet"):
+    """A sheet as its parts. It has the form of a sheet; only `mte_tool check` says whether it is right."""
+    lines = lines_of(os.fsencode(text))
+    classes = parse_class_line(lines[0] if lines else None, name)
+    numbers = {b"step": 1}
+    rows = []
+    for at, line in enumerate(lines[1:], 2):
+        word, *values = line.split(b" ")
+        if not all(re.fullmatch(rb"0|[1-9][0-9]{0,19}", value) for value in values):
+            raise Refused(2, f"{name}: {encoding(line, at) or f'line {at} is no line of a sheet: {shown(line)}'}")
+        if word == b"row":
+            rows.append([int(value) for value in values])
+        elif word in (b"limit", b"step", b"waste") and len(values) == 1 and not rows:
+            numbers[word] = int(values[0])
+        else:
+            raise Refused(2, f"{name}: line {at} is no line of a sheet: {shown(line)}")
+    if b"limit" not in numbers or b"waste" not in numbers:
+        raise Refused(2, f"{name}: it is no whole sheet: a line `limit` or `waste` is missing")
+    return Sheet(classes, numbers[b"limit"], numbers[b"step"], numbers[b"waste"], rows)
+
+
+def unproved():
+    """What to say where MTE_TOOL names another program than the proved one, else None."""
+    other = os.environ.get("MTE_TOOL")
+    return f"MTE_TOOL names another program, {other}: nothing is proved of what it answers" if other else None
+
+
+@functools.lru_cache(maxsize=None)
+def program():
+    """The path of the program: $MTE_TOOL, or the proved one, built first where that has to be."""
+    other = os.environ.get("MTE_TOOL")
+    if other:
+        say("mte_tool", unproved())
+        return os.path.abspath(other)
+    launcher = os.path.join(SCRIPTS, "mte_tool")
+    # the launcher says on standard error how far its build is
+    if subprocess.run([launcher, "--version"], stdin=subprocess.DEVNULL, stdout=subprocess.DEVNULL).returncode != 0:
+        raise Refused(3, "the program mte_tool could not run")
+    return BUILT
+
+
+def mte_tool(words, given=b""):
+    """Runs the program over these bytes: its status, its output, and its standard error as text."""
+    try:
+        done = subprocess.run([program(), *words], input=given, stdout=subprocess.PIPE, stderr=subprocess.PIPE)
+    except OSError as error:
+        raise Refused(3, f"{program()} can't be run: {error.strerror}") from None
+    return done.returncode, done.stdout, done.stderr.decode(errors="replace").strip()
