@@ -13,4 +13,5 @@ mod tuning;
 pub use cost_source::CostSource;
 pub use costs::Costs;
 pub use filling::{Filled, fill_rows};
+pub use read_off::tuned_table;
 pub use tuning::{Tuned, tune};

@@ -9,10 +9,10 @@ use arrayvec::ArrayVec;
 use class_table::{ClassTable, MOST_CLASSES};
 use potential_check::Spans;
 
-// The table that the ends give. Start at place 0 in row `limit`. The need at that place's end is a class. Go on from that end in the row
-// before, until the last place is an end.
+/// The table that the ends give. Start at place 0 in row `limit`. The need at that place's end is a class. Go on from that end in the row
+/// before, until the last place is an end.
 #[tactic(auto, using(class_table::proofs::LawLemmas::legal_is_faultless))]
-pub(crate) fn tuned_table(spans: &Spans<'_>, ends: &[Vec<usize>], limit: u8) -> ClassTable
+pub fn tuned_table(spans: &Spans<'_>, ends: &[Vec<usize>], limit: u8) -> ClassTable
     requires few { limit ≤ MOST_CLASSES }
     requires later { AreLaterEnds (places spans.now.counts spans.now.step) limit (number_at (lists_of ends.now)) }
     requires legal { IsLegalTable 1

@@ -14,7 +14,7 @@ use Rattle.tuner_theory.proofs.Bound.{bound}
 use Rattle.tuner_theory.proofs.Needs.{Reaches, need_at-from, needs_ascend}
 use Rattle.tuner_theory.proofs.Rounding.{rounded-positive}
 use Rattle.tuner_theory.proofs.Sums.{sum_same}
-use Rattle.tuner_theory.proofs.Tables.{ServesAbove, class_for-later, waste_above}
+use Rattle.tuner_theory.proofs.Tables.{ServesAbove, class_for-later, waste-cost, waste_above, waste_above-costs}
 
 -- ---- the counts above a need
 
@@ -30,13 +30,6 @@ index-above m zero (count ∷ counts) step low =
 index-above m (suc n) (count ∷ counts) step low =
     let next : suc m + n ≡ m + suc n = omega arith in
     index-above (suc m) n counts step low ∙ ap (λ k. cond (leb (rounded_need step k) low) 0 (slice_index counts n)) next
-
-all-above : (step : ℕ) → 0 < step → (m : ℕ) (counts : List ℕ) → counts_above_from m counts step 0 ≡ counts
-all-above step pos m [] = refl
-all-above step pos m (count ∷ counts) =
-    let above : 0 < rounded_need step m = omega (arith, rounded-positive step pos m) in
-    let here : cond (leb (rounded_need step m) 0) 0 count ≡ count = cond-false _ _ _ (lt-leb (rounded_need step m) 0 above) in
-    rw (here, all-above step pos (suc m) counts) refl
 
 kept : (x low v w : ℕ) → w ≡ cond (leb x low) 0 v → 0 < w → (low < x) × (0 < v)
 kept x low v w e some =
@@ -149,12 +142,7 @@ module _ (counts : List ℕ) (step : ℕ) (pos : 0 < step) (limit : ℕ) (potent
         arith,
         waste-above counts step pos i classes,
         dropped.wasted,
-        bound counts step pos limit potential valid dropped.table k low i (omega arith) (reach-low counts step pos i within) dropped.above
-            (omega (arith, dropped.few, candidate.few)) le dropped.served,
+        waste_above-costs counts step pos low dropped.table (omega arith) dropped.above,
+        bound counts step pos _ (waste-cost counts step) limit potential valid dropped.table k low i (omega arith)
+            (reach-low counts step pos i within) dropped.above (omega (arith, dropped.few, candidate.few)) le dropped.served,
       )
-
-  -- above place 0 are all requests
-  pub potentials-bound : (classes : List ℕ) → IsCandidate counts step limit classes → potential limit 0 ≤ waste_of counts classes
-  potentials-bound classes candidate =
-      let all : counts_above counts step 0 ≡ counts = all-above step pos 0 counts in
-      rw all at (rests-bound limit 0 classes (omega arith) (omega arith) (rw all candidate))

@@ -7,18 +7,19 @@ use Rattle.std.proofs.lemmas.List.{get_or_default}
 use Rattle.std.proofs.lemmas.Option.{same_Some}
 use Rattle.class_table.specs.Tables.{class_for}
 use Rattle.class_table.proofs.LawLemmas.{AreClassesAbove, class_above, classes_of_legal_table, legal_table_of_classes}
-use Rattle.tuner_theory.specs.Best.{IsBest, IsCandidate, IsCanonical, IsLexicographicallyAtMost, IsUsed}
-use Rattle.tuner_theory.specs.Tuned.{AreTunedRows, tuned_table}
+use Rattle.tuner_theory.specs.Best.{IsBestBy, IsCandidate, IsCanonical, IsCanonicalBy, IsLexicographicallyAtMost, IsUsed}
+use Rattle.tuner_theory.specs.Intervals.{IsIntervalCost, IsSumOfIntervals, cost_above, span_cost}
+use Rattle.tuner_theory.specs.Tuned.{AreRowsBy, AreTunedRows, tuned_table}
 use Rattle.tuner_theory.specs.Rows.{AreLeastRows, table_of_ends}
-use Rattle.tuner_theory.specs.Spans.{need_at, places, rounded_need, span_waste}
+use Rattle.tuner_theory.specs.Spans.{need_at, places, rounded_need}
 use Rattle.tuner_theory.specs.Profiles.{IsCounted}
 use Rattle.tuner_theory.specs.Waste.{waste_of}
-use Rattle.tuner_theory.proofs.Bound.{bound}
-use Rattle.tuner_theory.proofs.BoundRests.{potentials-bound}
+use Rattle.tuner_theory.proofs.Bound.{bound, potentials-bound_by}
+use Rattle.tuner_theory.proofs.Intervals.{span-least}
 use Rattle.tuner_theory.proofs.LeastRows.{ends-later, rows-valid}
 use Rattle.tuner_theory.proofs.Needs.{Reaches, need_at-from, needs_ascend, reach, reach-at, reach-covers, reach-one}
 use Rattle.tuner_theory.proofs.Rounding.{rounded-positive, step-positive}
-use Rattle.tuner_theory.proofs.Tables.{ServesAbove, ServesAbove-later, class_for-first, class_for-later, nothing-left, span-least, waste_above, waste_above-all, waste_above-cons}
+use Rattle.tuner_theory.proofs.Tables.{ServesAbove, ServesAbove-later, class_for-first, class_for-later, nothing-left, waste-sum}
 use Rattle.tuner_theory.proofs.TunedTable.{IsTableFor, next-above, table-tuned}
 
 -- ---- used classes
@@ -107,8 +108,8 @@ order-antisymmetric (x ∷ xs) (y ∷ ys) (inl h) (inr g) = absurd (omega (arith
 order-antisymmetric (x ∷ xs) (y ∷ ys) (inr h) (inl g) = absurd (omega (arith, h.0))
 order-antisymmetric (x ∷ xs) (y ∷ ys) (inr h) (inr g) = let later = order-antisymmetric xs ys h.1 g.1 in let first = h.0 in cc
 
-module _ (counts : List ℕ) (step : ℕ) (pos : 0 < step) (limit : ℕ) (rows ends : ℕ → ℕ → ℕ)
-    (least : AreLeastRows (span_waste counts step) (places counts step) limit rows ends) where
+module _ (counts : List ℕ) (step : ℕ) (pos : 0 < step) (between : ℕ → ℕ → ℕ) (cost : IsIntervalCost counts step between) (limit : ℕ)
+    (rows ends : ℕ → ℕ → ℕ) (least : AreLeastRows (span_cost between counts step) (places counts step) limit rows ends) where
   -- each class that is read off is the need of a counted request
   tuned-used : (k i low : ℕ) → k ≤ limit → Reaches counts step low (places counts step) i
       → AreUsedAbove counts step low (table_of_ends (need_at counts step) ends (places counts step) k i)
@@ -123,17 +124,17 @@ module _ (counts : List ℕ) (step : ℕ) (pos : 0 < step) (limit : ℕ) (rows e
       ))
       (λ e. tt)
 
-  -- the table that is read off comes before each used table that wastes no more
+  -- the table that is read off comes before each used table that costs no more
   tuned-first : (k i low : ℕ) (classes : List ℕ) → 1 ≤ low → k ≤ limit → Reaches counts step low (places counts step) i
       → AreClassesAbove step low classes → length classes ≤ k → ServesAbove counts step low classes → AreUsedAbove counts step low classes
-      → waste_above counts step low classes ≤ rows k i
+      → cost_above between low classes ≤ rows k i
       → IsLexicographicallyAtMost (table_of_ends (need_at counts step) ends (places counts step) k i) classes
-  tuned-first zero i low classes one le r above few served used wasted = tt
-  tuned-first (suc k) i low [] one le r above few served used wasted =
+  tuned-first zero i low classes one le r above few served used costs = tt
+  tuned-first (suc k) i low [] one le r above few served used costs =
       cond_both (ltb i (places counts step)) _ _ (λ table. IsLexicographicallyAtMost table [])
       (λ e. absurd (omega (arith, ltb-true i (places counts step) e, nothing-left counts step pos low i [] (omega arith) r served)))
       (λ e. tt)
-  tuned-first (suc zero) i low (c ∷ cs) one le r above few served used wasted =
+  tuned-first (suc zero) i low (c ∷ cs) one le r above few served used costs =
       let d = places counts step in
       cond_both (ltb i d) _ _ (λ table. IsLexicographicallyAtMost table (c ∷ cs))
       (λ e. let j = reach counts step c d in
@@ -143,7 +144,7 @@ module _ (counts : List ℕ) (step : ℕ) (pos : 0 < step) (limit : ℕ) (rows e
       let same : need_at counts step (ends 1 i) ≡ need_at counts step j.0 = ap (need_at counts step) (row.1 ∙ sym all) in
       elim (cases_lt (need_at counts step (ends 1 i)) c) [ inl lt ↦ inl lt | inr ge ↦ inr (omega (arith, j.1.reached), tt) ])
       (λ e. tt)
-  tuned-first (suc (suc k)) i low (c ∷ cs) one le r above few served used wasted =
+  tuned-first (suc (suc k)) i low (c ∷ cs) one le r above few served used costs =
       let d = places counts step in
       cond_both (ltb i d) _ _ (λ table. IsLexicographicallyAtMost table (c ∷ cs))
       (λ e. let j = reach counts step c d in
@@ -151,23 +152,22 @@ module _ (counts : List ℕ) (step : ℕ) (pos : 0 < step) (limit : ℕ) (rows e
       let later = ServesAbove-later counts step pos low c cs one above.0 above.2 served in
       let row = least.later_row (suc k) i (omega arith) (omega arith) (ltb-true i d e) in
       let end = ends (suc (suc k)) i in
-      let rest : rows (suc k) j.0 ≤ waste_above counts step c cs =
-      bound counts step pos limit rows (rows-valid _ _ _ rows ends least) cs (suc k) c j.0 (omega (arith, above.0)) j.1 above.3
+      let rest : rows (suc k) j.0 ≤ cost_above between c cs =
+      bound counts step pos between cost limit rows (rows-valid _ _ _ rows ends least) cs (suc k) c j.0 (omega (arith, above.0)) j.1 above.3
       (omega arith) (omega arith) later in
-      let first = span-least counts step pos low c i j.0 r j.1 in
-      let all = waste_above-cons counts step pos low c cs one above.0 above.2 in
+      let first = span-least counts step pos between cost low c i j.0 r j.1 in
       elim (cases_lt (need_at counts step end) c) [
         | inl lt ↦ inl lt
         | inr ge ↦ (let no_later : j.0 ≤ end = (reach-at counts step pos end row.0.to).last j.0 j.1.within
             (omega (arith, j.1.reached)) in
             elim (cases_lt j.0 end) [
-              | inl before ↦ absurd (omega (arith, row.0.first j.0 far before, row.1, rest, first, all, wasted))
+              | inl before ↦ absurd (omega (arith, row.0.first j.0 far before, row.1, rest, first, costs))
               | inr not ↦ (let same : j.0 ≡ end = omega arith in
                   let r' : Reaches counts step c d end = subst (Reaches counts step c d) same j.1 in
                   inr (
                     omega (arith, r'.reached),
                     tuned-first (suc k) end c cs (omega (arith, above.0)) (omega arith) r' above.3 (omega arith) later used.1
-                        (omega (arith, row.1, all, wasted, span-least counts step pos low c i end r r')),
+                        (omega (arith, row.1, costs, span-least counts step pos between cost low c i end r r')),
                   ))
             ])
       ])
@@ -175,11 +175,12 @@ module _ (counts : List ℕ) (step : ℕ) (pos : 0 < step) (limit : ℕ) (rows e
 
 -- ---- the table from the last row and place 0
 
-pub tuned-canonical : (counts : List ℕ) (step limit : ℕ) (rows ends : ℕ → ℕ → ℕ) → AreTunedRows counts step limit rows ends
-    → IsCanonical counts step limit (tuned_table counts step limit ends)
-    × (waste_of counts (tuned_table counts step limit ends) ≡ rows limit 0)
-tuned-canonical counts step zero rows ends tuned = absurd (omega (arith, tuned.some))
-tuned-canonical counts step (suc k) rows ends tuned = (record { best = best; used = used; least = least }, wasted)
+pub rows-canonical : (cost : List ℕ → ℕ) (between : ℕ → ℕ → ℕ) (counts : List ℕ) (step limit : ℕ) (rows ends : ℕ → ℕ → ℕ)
+    → IsSumOfIntervals cost between counts step → AreRowsBy between counts step limit rows ends
+    → IsCanonicalBy cost counts step limit (tuned_table counts step limit ends)
+    × (cost (tuned_table counts step limit ends) ≡ rows limit 0)
+rows-canonical cost between counts step zero rows ends sums tuned = absurd (omega (arith, tuned.some))
+rows-canonical cost between counts step (suc k) rows ends sums tuned = (record { best = best; used = used; least = least }, costs)
   where
     pos : 0 < step
     pos = step-positive step tuned.is_step
@@ -187,13 +188,10 @@ tuned-canonical counts step (suc k) rows ends tuned = (record { best = best; use
     table : List ℕ
     table = tuned_table counts step (suc k) ends
 
-    is : IsTableFor counts step (suc k) 1 (rows (suc k) 0) table
+    is : IsTableFor between counts step (suc k) 1 (rows (suc k) 0) table
     is =
-        table-tuned counts step tuned.is_step (omega (arith, tuned.are_counts.sizes)) (suc k) rows ends tuned.least k 0 1 (omega arith)
-        (omega arith) (reach-one counts step pos)
-
-    wasted : waste_of counts table ≡ rows (suc k) 0
-    wasted = omega (arith, waste_above-all counts step pos table, is.wasted)
+        table-tuned counts step tuned.is_step (omega (arith, tuned.are_counts.sizes)) between sums.interval (suc k) rows ends tuned.least
+        k 0 1 (omega arith) (omega arith) (reach-one counts step pos)
 
     candidate : IsCandidate counts step (suc k) table
     candidate = record {
@@ -202,26 +200,37 @@ tuned-canonical counts step (suc k) rows ends tuned = (record { best = best; use
       serving = λ n counted. is.served n counted (omega (arith, rounded-positive step pos n));
     }
 
-    best : IsBest counts step (suc k) table
+    costs : cost table ≡ rows (suc k) 0
+    costs = omega (arith, sums.sum table candidate.legal, is.costs)
+
+    best : IsBestBy cost counts step (suc k) table
     best = record {
       candidate = candidate;
       least =
           λ other question. omega (
             arith,
-            wasted,
-            potentials-bound counts step pos (suc k) rows (rows-valid _ _ _ rows ends tuned.least) other question,
+            costs,
+            potentials-bound_by cost between counts step (suc k) rows other pos sums (rows-valid _ _ _ rows ends tuned.least) question,
           );
     }
 
     used : All (IsUsed counts table) table
     used =
         all-from_used counts step pos table is.above
-        (tuned-used counts step pos (suc k) rows ends tuned.least (suc k) 0 1 (omega arith) (reach-one counts step pos))
+        (tuned-used counts step pos between sums.interval (suc k) rows ends tuned.least (suc k) 0 1 (omega arith)
+        (reach-one counts step pos))
 
-    least : (other : List ℕ) → IsBest counts step (suc k) other → All (IsUsed counts other) other → IsLexicographicallyAtMost table other
+    least : (other : List ℕ) → IsBestBy cost counts step (suc k) other → All (IsUsed counts other) other →
+        IsLexicographicallyAtMost table other
     least other best_too used_too =
         let above = classes_of_legal_table step other best_too.candidate.legal in
-        tuned-first counts step pos (suc k) rows ends tuned.least (suc k) 0 1 other (omega arith) (omega arith) (reach-one counts step pos)
-        above best_too.candidate.few (λ n counted over. best_too.candidate.serving n counted)
+        tuned-first counts step pos between sums.interval (suc k) rows ends tuned.least (suc k) 0 1 other (omega arith) (omega arith)
+        (reach-one counts step pos) above best_too.candidate.few (λ n counted over. best_too.candidate.serving n counted)
         (used-from_all counts step pos other above used_too)
-        (omega (arith, waste_above-all counts step pos other, wasted, best_too.least table candidate))
+        (omega (arith, sums.sum other best_too.candidate.legal, costs, best_too.least table candidate))
+
+pub tuned-canonical : (counts : List ℕ) (step limit : ℕ) (rows ends : ℕ → ℕ → ℕ) → AreTunedRows counts step limit rows ends
+    → IsCanonical counts step limit (tuned_table counts step limit ends)
+    × (waste_of counts (tuned_table counts step limit ends) ≡ rows limit 0)
+tuned-canonical counts step limit rows ends tuned =
+    rows-canonical _ _ counts step limit rows ends (waste-sum counts step (step-positive step tuned.is_step)) tuned

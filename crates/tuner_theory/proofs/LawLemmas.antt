@@ -1,13 +1,16 @@
 -- The laws as lemmas, for the proofs of the crates above.
 use Rattle.std.proofs.Common.{arith}
 use Rattle.tuner_theory.specs.Laws.{CountedHasPlace, EndsAreLater, EndsAscend, FewPlaces, LeastRowsAreValid, NeedsCross, NothingBetween, OneCanonical, OneRest, OptimalIsBest, PlaceIsClass, PlaceIsCounted, PlacesAscend, PlacesCross, PotentialsBound, PotentialsBoundRests, RoundingFits, RoundingIsLeast, SpansFit, SumsAscend, SumsFit, SumsGiveWaste, TunedRowsAreRests, TunedSheetIsOptimal, TunedTableIsCanonical, TunedTableWastes}
-use Rattle.tuner_theory.proofs.BoundRests.{potentials-bound, rests-bound}
+use Rattle.tuner_theory.specs.Spans.{waste_between}
+use Rattle.tuner_theory.proofs.Bound.{potentials-bound_by}
+use Rattle.tuner_theory.proofs.BoundRests.{rests-bound}
 use Rattle.tuner_theory.proofs.Canonical.{order-antisymmetric, tuned-canonical}
 use Rattle.tuner_theory.proofs.LeastRows.{ends-ascend, ends-later, rows-valid}
 use Rattle.tuner_theory.proofs.Needs.{few-places, need_at-from, need_at-has, needs_ascend, place-class}
 use Rattle.tuner_theory.proofs.Rests.{rows-rests}
 use Rattle.tuner_theory.proofs.Rounding.{rounding-fits, rounding-least, step-positive}
-use Rattle.tuner_theory.proofs.Sheets.{optimal-best, tuned-optimal}
+use Rattle.tuner_theory.proofs.Sheets.{optimal-best_by, rows-optimal_by}
+use Rattle.tuner_theory.proofs.Tables.{waste-sum}
 use Rattle.tuner_theory.proofs.Spans.{needs-cross, nothing-between, places-cross, spans-fit, sums-ascend, sums-fit, sums-waste}
 
 pub rounding_is_least : RoundingIsLeast
@@ -54,14 +57,15 @@ sums_fit = sums-fit
 
 pub potentials_bound : PotentialsBound
 potentials_bound counts step limit potential classes is_step valid =
-    potentials-bound counts step (step-positive step is_step) limit potential valid classes
+    let pos = step-positive step is_step in
+    potentials-bound_by _ _ counts step limit potential classes pos (waste-sum counts step pos) valid
 
 pub potentials_bound_rests : PotentialsBoundRests
 potentials_bound_rests counts step limit potential k i classes is_step valid =
     rests-bound counts step (step-positive step is_step) limit potential valid k i classes
 
 pub optimal_is_best : OptimalIsBest
-optimal_is_best = optimal-best
+optimal_is_best counts sheet legal meets = optimal-best_by _ (waste_between counts) counts sheet (waste-sum counts) legal meets
 
 pub ends_are_later : EndsAreLater
 ends_are_later = ends-later
@@ -87,7 +91,9 @@ pub tuned_table_wastes : TunedTableWastes
 tuned_table_wastes counts step limit rows ends tuned = (tuned-canonical counts step limit rows ends tuned).1
 
 pub tuned_sheet_is_optimal : TunedSheetIsOptimal
-tuned_sheet_is_optimal = tuned-optimal
+tuned_sheet_is_optimal counts step limit rows ends tuned shape =
+    let pos = step-positive step tuned.is_step in
+    rows-optimal_by _ (waste_between counts) counts step limit rows ends (waste-sum counts step pos) tuned shape
 
 pub one_canonical : OneCanonical
 one_canonical counts step limit a b of_a of_b =

@@ -4,6 +4,9 @@ pub mod BoundRests
 pub mod Canonical
 pub mod ExampleProfiles
 pub mod ExampleSheets
+pub mod Footprint
+pub mod FootprintLawLemmas
+pub mod Intervals
 pub mod LeastRows
 pub mod Needs
 pub mod RefusalCodes

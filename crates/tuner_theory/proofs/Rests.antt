@@ -1,8 +1,9 @@
 -- The numbers of least rows are the least rests.
-use Rattle.std.proofs.Common.{ℕ, zero, suc, ◌+◌, ◌<◌, ◌≤◌, max, List, length, arith, ◌∙◌}
-use Rattle.tuner_theory.specs.Rests.{IsRest}
+use Rattle.std.proofs.Common.{◌≡◌, ℕ, zero, suc, ◌+◌, ◌<◌, ◌≤◌, max, List, length, arith}
+use Rattle.tuner_theory.specs.Rests.{IsRest, counts_above}
 use Rattle.tuner_theory.specs.Rows.{AreLeastRows, table_of_ends}
-use Rattle.tuner_theory.specs.Spans.{need_at, places, rounded_need, span_waste}
+use Rattle.tuner_theory.specs.Spans.{need_at, places, rounded_need, span_waste, waste_between}
+use Rattle.tuner_theory.specs.Waste.{waste_of}
 use Rattle.class_table.specs.Sizes.{largest_counted}
 use Rattle.class_table.specs.Steps.{IsStep}
 use Rattle.class_table.specs.declared.table.TheConstants.{MOST_CLASSES}
@@ -11,6 +12,7 @@ use Rattle.tuner_theory.proofs.BoundRests.{counted-above, reach-low, rests-bound
 use Rattle.tuner_theory.proofs.LeastRows.{rows-valid}
 use Rattle.tuner_theory.proofs.Needs.{Reaches}
 use Rattle.tuner_theory.proofs.Rounding.{rounded-positive, step-positive}
+use Rattle.tuner_theory.proofs.Tables.{waste-cost, waste_above-costs}
 use Rattle.tuner_theory.proofs.TunedTable.{IsTableFor, table-tuned}
 
 module _ (counts : List ℕ) (step : ℕ) (is_step : IsStep step) (small : length counts ≤ largest_counted + 1)
@@ -28,12 +30,11 @@ module _ (counts : List ℕ) (step : ℕ) (is_step : IsStep step) (small : lengt
       least = λ other candidate.
           omega (
             arith,
-            waste-above counts step pos i table,
-            is.wasted,
+            wasted,
             rests-bound counts step pos limit rows (rows-valid _ _ _ rows ends least) (suc k) i other le (omega arith) candidate,
           );
     };
-    wasted = waste-above counts step pos i table ∙ is.wasted;
+    wasted = wasted;
   }
     where
       pos : 0 < step
@@ -48,8 +49,12 @@ module _ (counts : List ℕ) (step : ℕ) (is_step : IsStep step) (small : lengt
       table : List ℕ
       table = table_of_ends (need_at counts step) ends (places counts step) (suc k) i
 
-      is : IsTableFor counts step (suc k) low (rows (suc k) i) table
-      is = table-tuned counts step is_step small limit rows ends least k i low le (omega arith) r
+      is : IsTableFor (waste_between counts step) counts step (suc k) low (rows (suc k) i) table
+      is = table-tuned counts step is_step small _ (waste-cost counts step) limit rows ends least k i low le (omega arith) r
+
+      wasted : waste_of (counts_above counts step i) table ≡ rows (suc k) i
+      wasted =
+          omega (arith, waste-above counts step pos i table, waste_above-costs counts step pos low table (omega arith) is.above, is.costs)
 
       over : (n : ℕ) → need_at counts step i < rounded_need step n → low < rounded_need step n
       over n h = omega (arith, rounded-positive step pos n)

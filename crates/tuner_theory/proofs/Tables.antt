@@ -6,10 +6,12 @@ use Rattle.std.proofs.lemmas.Bool.Decides.{nat_tests}
 use Rattle.std.proofs.Math.Nat.{mul-le-mul_right}
 use Rattle.class_table.specs.Sizes.{loss_of}
 use Rattle.class_table.specs.Tables.{class_for}
-use Rattle.tuner_theory.specs.Spans.{need_at, places, rounded_need, span_waste, waste_between}
+use Rattle.class_table.proofs.LawLemmas.{AreClassesAbove, classes_of_legal_table}
+use Rattle.tuner_theory.specs.Intervals.{IsIntervalCost, IsSumOfIntervals, cost_above}
+use Rattle.tuner_theory.specs.Spans.{need_at, places, rounded_need, waste_between}
 use Rattle.tuner_theory.specs.Profiles.{IsCounted}
 use Rattle.tuner_theory.specs.Waste.{sum_below, waste_at, waste_of}
-use Rattle.tuner_theory.proofs.Needs.{Reaches, need_at-from, reach-covers}
+use Rattle.tuner_theory.proofs.Needs.{Reaches, need_at-from}
 use Rattle.tuner_theory.proofs.Rounding.{fits-rounded, rounded-fits, rounded-positive}
 use Rattle.tuner_theory.proofs.Spans.{loss-mono}
 use Rattle.tuner_theory.proofs.Sums.{sum_at_most, sum_none, sum_same, sum_split}
@@ -53,15 +55,6 @@ first-or-later : (x low c k n : ℕ) (rest : Option ℕ) → low < c → (x ≤ 
     ≡ cond (ltb low x && leb x c) (k * loss_of n c) 0 + cond (ltb c x) (k * loss_of n (unwrap_or rest 0)) 0
 first-or-later x low c k n rest lt fits back = grind (arith, nat_tests)
 
--- spans that are no longer, and a class that is no larger, waste no more
-span-at_one : (x low c a b k u v : ℕ) → (x ≤ low → x ≤ a) → b ≤ c → k * u ≤ k * v
-    → cond (ltb a x && leb x b) (k * u) 0 ≤ cond (ltb low x && leb x c) (k * v) 0
-span-at_one x low c a b k u v covers bc uv = grind (arith, nat_tests)
-
-span-at_none : (x a b k u r : ℕ) → k ≤ 0 → cond (ltb a x && leb x b) (k * u) 0 ≤ r
-span-at_none x a b k u r none =
-    cond_both (ltb a x && leb x b) (k * u) 0 (λ v. v ≤ r) (λ e. omega (arith, mul-le-mul_right u none)) (λ e. omega arith)
-
 module _ (counts : List ℕ) (step : ℕ) (pos : 0 < step) where
   -- every need is above 1
   pub waste_above-all : (classes : List ℕ) → waste_of counts classes ≡ waste_above counts step 1 classes
@@ -82,17 +75,12 @@ module _ (counts : List ℕ) (step : ℕ) (pos : 0 < step) where
       subst (λ (class : Option ℕ). IsSome class) (class_for-later step pos n c cs (omega arith) multiple above)
       (served n counted (omega arith))
 
-  -- a class c after low wastes at least what the span of the places between them does
-  pub span-least : (low c i j : ℕ) → Reaches counts step low (places counts step) i → Reaches counts step c (places counts step) j
-      → span_waste counts step i j ≤ waste_between counts step low c
-  span-least low c i j ri rj =
-      sum_at_most _ _ (length counts) (λ n lt.
-      elim (cases_lt 0 (slice_index counts n)) [
-        | inl some ↦ span-at_one (rounded_need step n) low c _ _ (slice_index counts n) _ _
-            (reach-covers counts step pos low i n ri (lt, some)) rj.reached
-            (loss-mono (slice_index counts n) n _ c rj.reached)
-        | inr none ↦ span-at_none (rounded_need step n) _ _ (slice_index counts n) _ _ none
-      ])
+  -- so a table wastes what its classes do, one after the other
+  pub waste_above-costs : (low : ℕ) (classes : List ℕ) → 1 ≤ low → AreClassesAbove step low classes
+      → waste_above counts step low classes ≡ cost_above (waste_between counts step) low classes
+  waste_above-costs low [] one above = waste_above-none counts step low
+  waste_above-costs low (c ∷ cs) one above =
+      omega (arith, waste_above-cons low c cs one above.0 above.2, waste_above-costs c cs (omega (arith, above.0)) above.3)
 
   -- where no class is left and all are served, all places are reached
   pub nothing-left : (low i : ℕ) (classes : List ℕ) → length classes ≤ 0
@@ -107,3 +95,31 @@ module _ (counts : List ℕ) (step : ℕ) (pos : 0 < step) where
               | inr below ↦ omega (arith, r.within, r.last (places counts step) (omega arith) below)
             ])
       ]
+
+-- ---- the waste as a cost of intervals
+
+-- at one request, of need x: intervals that have it both, and a class that is no larger
+pub cost-at_one : (x a b low high u v : ℕ) → b ≤ high → (a < x → x ≤ b → low < x) → u ≤ v
+    → cond (ltb a x && leb x b) u 0 ≤ cond (ltb low x && leb x high) v 0
+cost-at_one x a b low high u v bh has uv = grind (arith, nat_tests)
+
+pub waste-cost : (counts : List ℕ) (step : ℕ) → IsIntervalCost counts step (waste_between counts step)
+waste-cost counts step a b low high bh has =
+    sum_at_most _ _ (length counts) (λ n lt.
+    elim (cases_lt 0 (slice_index counts n)) [
+      | inl some ↦ cost-at_one (rounded_need step n) a b low high _ _ bh (has n (lt, some)) (loss-mono (slice_index counts n) n b high bh)
+      | inr none ↦ cond_both (ltb a (rounded_need step n) && leb (rounded_need step n) b) _ _
+          (λ v. v ≤ cond (ltb low (rounded_need step n) && leb (rounded_need step n) high) (slice_index counts n * loss_of n high) 0)
+          (λ e. omega (arith, mul-le-mul_right (loss_of n b) none)) (λ e. omega arith)
+    ])
+
+pub waste-sum : (counts : List ℕ) (step : ℕ) → 0 < step → IsSumOfIntervals (waste_of counts) (waste_between counts step) counts step
+waste-sum counts step pos = record {
+  interval = waste-cost counts step;
+  sum = λ classes legal.
+      omega (
+        arith,
+        waste_above-all counts step pos classes,
+        waste_above-costs counts step pos 1 classes (omega arith) (classes_of_legal_table step classes legal),
+      );
+}

@@ -10,10 +10,14 @@ pub record IsCandidate (counts : List ℕ) (step limit : ℕ) (classes : List �
   pub few : length classes ≤ limit
   pub serving : Serves counts classes
 
--- A best table: no table in question wastes less.
-pub record IsBest (counts : List ℕ) (step limit : ℕ) (classes : List ℕ) : Type 0 where
+-- A best table by a cost of tables: no table in question costs less.
+pub record IsBestBy (cost : List ℕ → ℕ) (counts : List ℕ) (step limit : ℕ) (classes : List ℕ) : Type 0 where
   pub candidate : IsCandidate counts step limit classes
-  pub least : (other : List ℕ) → IsCandidate counts step limit other → waste_of counts classes ≤ waste_of counts other
+  pub least : (other : List ℕ) → IsCandidate counts step limit other → cost classes ≤ cost other
+
+-- A best table: no table in question wastes less.
+abbrev pub IsBest : List ℕ → ℕ → ℕ → List ℕ → Type 0
+IsBest counts step limit classes = IsBestBy (waste_of counts) counts step limit classes
 
 -- Requests of some size were counted, and this is their class.
 abbrev pub IsUsed : List ℕ → List ℕ → ℕ → Type 0
@@ -25,8 +29,13 @@ IsLexicographicallyAtMost [] ys = ⊤
 IsLexicographicallyAtMost (x ∷ xs) [] = ⊥
 IsLexicographicallyAtMost (x ∷ xs) (y ∷ ys) = (x < y) ⊎ ((x ≡ y) × IsLexicographicallyAtMost xs ys)
 
--- The canonical table: of the best tables whose every class is used, the lexicographically least.
-pub record IsCanonical (counts : List ℕ) (step limit : ℕ) (classes : List ℕ) : Type 0 where
-  pub best : IsBest counts step limit classes
+-- The canonical table by a cost: of the best tables whose every class is used, the lexicographically least.
+pub record IsCanonicalBy (cost : List ℕ → ℕ) (counts : List ℕ) (step limit : ℕ) (classes : List ℕ) : Type 0 where
+  pub best : IsBestBy cost counts step limit classes
   pub used : All (IsUsed counts classes) classes
-  pub least : (other : List ℕ) → IsBest counts step limit other → All (IsUsed counts other) other → IsLexicographicallyAtMost classes other
+  pub least : (other : List ℕ) → IsBestBy cost counts step limit other → All (IsUsed counts other) other
+      → IsLexicographicallyAtMost classes other
+
+-- The canonical table by the waste.
+abbrev pub IsCanonical : List ℕ → ℕ → ℕ → List ℕ → Type 0
+IsCanonical counts step limit classes = IsCanonicalBy (waste_of counts) counts step limit classes

@@ -1,4 +1,9 @@
 pub mod Best
+pub mod Fits
+pub mod Footprint
+pub mod FootprintLaws
+pub mod Histories
+pub mod Intervals
 pub mod Laws
 pub mod Potentials
 pub mod Profiles

@@ -3,7 +3,8 @@ ghost use Rattle.tuner_theory.specs.RefusalText.{shown_refusal};
 
 use std::fmt;
 
-/// Why a sheet is refused: the first of these that holds, in this order. Each is shown as its code and name.
+/// Why a sheet is refused: the first of these that holds, in this order. Each is shown as its code and name. A fit is refused by the same
+/// conditions, with its footprint in place of the waste.
 #[derive(Debug, Clone, Copy, PartialEq, Eq)]
 pub enum Refusal {
     /// The step is not 1, 2, 4 or 8, or a class of the table is no multiple of it.
@@ -44,11 +45,11 @@ impl fmt::Display for Refusal {
     }
 }
 
-/// What a checker says of a sheet.
+/// What a checker says of a sheet, or of a fit.
 #[derive(Debug, Clone, Copy, PartialEq, Eq)]
 pub enum Verdict {
-    /// Nothing is refused: the table is a best one for the profile, the limit and the step.
+    /// Nothing is refused: for the limit and the step, the table of a sheet wastes least, and the table of a fit has the least footprint.
     Optimal,
-    /// The sheet is refused, and shows nothing.
+    /// It is refused, and shows nothing.
     Refused(Refusal),
 }

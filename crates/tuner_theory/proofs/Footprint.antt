@@ -1,0 +1,173 @@
+-- The footprint is the sum of the intervals of its classes.
+use Rattle.std.proofs.Common.{◌≡◌, ℕ, zero, suc, ◌+◌, ◌*◌, ◌%◌, ◌<◌, ◌≤◌, ◌&&◌, Bool, true, false, List, [], ◌∷◌, length, slice_index, get_or, cond, ltb, leb, eqb, Option, arith, refl, ap, ◌∙◌, inl, inr}
+use Rattle.std.specs.Option.{option_map_or}
+use Rattle.std.specs.Prelude.{All, sum_by}
+use Rattle.std.proofs.lemmas.Bool.{cases_lt, cond_both}
+use Rattle.std.proofs.lemmas.Bool.Decides.{nat_tests}
+use Rattle.std.proofs.lemmas.List.FromFn.{get_or-map-range_with_len, length-map-range_with_len}
+use Rattle.std.proofs.lemmas.List.Sums.{sum_by-cons}
+use Rattle.std.proofs.Math.Nat.{mul-le-mul}
+use Rattle.class_table.specs.Sizes.{largest_counted}
+use Rattle.class_table.proofs.LawLemmas.{AreClassesAbove, classes_of_legal_table}
+use Rattle.tuner_theory.specs.Footprint.{blocks_between, footprint_between, footprint_of, is_class_of}
+use Rattle.tuner_theory.specs.Histories.{AreSnapshots, most, peaks}
+use Rattle.tuner_theory.specs.Intervals.{IsIntervalCost, IsSumOfIntervals, cost_above}
+use Rattle.tuner_theory.specs.Profiles.{IsCounted}
+use Rattle.tuner_theory.specs.Spans.{rounded_need}
+use Rattle.tuner_theory.specs.Waste.{sum_below}
+use Rattle.tuner_theory.proofs.Rounding.{rounded-positive}
+use Rattle.tuner_theory.proofs.Sums.{sum_at_most, sum_same}
+use Rattle.tuner_theory.proofs.Tables.{class_for-first, class_for-later, cost-at_one}
+
+-- ---- the most over snapshots
+
+pub most-mono : (f g : List ℕ → ℕ) (snapshots : List (List ℕ)) → All (λ s. f s ≤ g s) snapshots → most f snapshots ≤ most g snapshots
+most-mono f g [] each = omega arith
+most-mono f g (s ∷ ss) each = omega (arith, each 0 [] (omega arith), most-mono f g ss (λ k d lt. each (suc k) d (omega arith)))
+
+pub most-same : (f g : List ℕ → ℕ) (snapshots : List (List ℕ)) → ((s : List ℕ) → f s ≡ g s) → most f snapshots ≡ most g snapshots
+most-same f g [] each = refl
+most-same f g (s ∷ ss) each = omega (arith, each s, most-same f g ss each)
+
+pub most-above : (f : List ℕ → ℕ) (snapshots : List (List ℕ)) → All (λ s. f s ≤ most f snapshots) snapshots
+most-above f [] k d lt = absurd (omega arith)
+most-above f (s ∷ ss) zero d lt = omega arith
+most-above f (s ∷ ss) (suc k) d lt = omega (arith, most-above f ss k d (omega arith))
+
+pub peak-at : (snapshots : List (List ℕ)) (n d : ℕ) → n ≤ largest_counted
+    → get_or (peaks snapshots) n d ≡ most (λ s. slice_index s n) snapshots
+unfolding peaks
+peak-at snapshots n d le =
+    get_or-map-range_with_len (λ m. most (λ s. slice_index s m) snapshots) 0 (largest_counted + 1) n n d (omega arith) (omega arith)
+
+pub peaks-length : (snapshots : List (List ℕ)) → length (peaks snapshots) ≡ largest_counted + 1
+unfolding peaks
+peaks-length snapshots = length-map-range_with_len (λ m. most (λ s. slice_index s m) snapshots) 0 (largest_counted + 1)
+
+module _ (snapshots : List (List ℕ)) (are : AreSnapshots snapshots) where
+  -- a size of which a block is live at a snapshot is counted
+  pub counted-at : (k n : ℕ) (d : List ℕ) → k < length snapshots → n < length (get_or snapshots k d)
+      → 0 < slice_index (get_or snapshots k d) n → IsCounted (peaks snapshots) n
+  counted-at k n d lt within some =
+      let small : n ≤ largest_counted = omega (arith, (are.counts k d lt).sizes) in (
+        omega (arith, peaks-length snapshots),
+        omega (arith, peak-at snapshots n 0 small, most-above (λ s. slice_index s n) snapshots k d lt),
+      )
+
+  -- what is taken from an interval is a cost of intervals
+  pub footprint-cost : (step : ℕ) → IsIntervalCost (peaks snapshots) step (footprint_between snapshots step)
+  footprint-cost step a b low high bh has =
+      let sizes : 16 * b ≤ 16 * high = omega arith in
+      mul-le-mul sizes (most-mono _ _ snapshots (λ k d lt.
+      sum_at_most _ _ (length (get_or snapshots k d)) (λ n within.
+      elim (cases_lt 0 (slice_index (get_or snapshots k d) n)) [
+        | inl some ↦ cost-at_one (rounded_need step n) a b low high _ _ bh (has n (counted-at k n d lt within some)) (omega arith)
+        | inr none ↦ cond_both (ltb a (rounded_need step n) && leb (rounded_need step n) b) _ _
+            (λ v. v ≤ cond (ltb low (rounded_need step n) && leb (rounded_need step n) high) (slice_index (get_or snapshots k d) n) 0)
+            (λ e. omega arith) (λ e. omega arith)
+      ])))
+
+-- ---- the blocks of each class
+
+-- of the blocks whose rounded need is above low, those whose class is this one
+abbrev blocks_above : ℕ → ℕ → List ℕ → ℕ → List ℕ → ℕ
+blocks_above step low classes class s =
+    sum_below (λ n. cond (ltb low (rounded_need step n)) (cond (is_class_of classes class n) (slice_index s n) 0) 0) (length s)
+
+abbrev footprint_above : List (List ℕ) → ℕ → ℕ → List ℕ → ℕ → ℕ
+footprint_above snapshots step low classes class = 16 * class * most (blocks_above step low classes class) snapshots
+
+at-first : (x low c v : ℕ) (b : Bool) → (x ≤ c → b ≡ true) → (c < x → b ≡ false)
+    → cond (ltb low x) (cond b v 0) 0 ≡ cond (ltb low x && leb x c) v 0
+at-first x low c v b le lt = grind (arith, nat_tests)
+
+at-later : (x low c v : ℕ) (b later : Bool) → low < c → (x ≤ c → b ≡ false) → (c < x → b ≡ later)
+    → cond (ltb low x) (cond b v 0) 0 ≡ cond (ltb c x) (cond later v 0) 0
+at-later x low c v b later lc le lt = grind (arith, nat_tests)
+
+same-number : (c : ℕ) → eqb c c ≡ true
+same-number c = grind (arith, nat_tests)
+
+other-number : (c d : ℕ) → c < d → eqb c d ≡ false
+other-number c d lt = grind (arith, nat_tests)
+
+above-number : (c d : ℕ) → d < c → eqb c d ≡ false
+above-number c d lt = grind (arith, nat_tests)
+
+module _ (step : ℕ) (pos : 0 < step) where
+  first-is : (c class n : ℕ) (cs : List ℕ) → rounded_need step n ≤ c → is_class_of (c ∷ cs) class n ≡ eqb c class
+  first-is c class n cs le = ap (λ (o : Option ℕ). option_map_or (λ its. eqb its class) o false) (class_for-first step pos n c cs le)
+
+  later-is : (c class n : ℕ) (cs : List ℕ) → 2 ≤ c → c % step ≡ 0 → c < rounded_need step n
+      → is_class_of (c ∷ cs) class n ≡ is_class_of cs class n
+  later-is c class n cs two multiple lt =
+      ap (λ (o : Option ℕ). option_map_or (λ its. eqb its class) o false) (class_for-later step pos n c cs two multiple lt)
+
+  -- no size has a class that is not among the classes above low
+  no-class : (low class n : ℕ) (classes : List ℕ) → 1 ≤ low → class ≤ low → AreClassesAbove step low classes
+      → is_class_of classes class n ≡ false
+  no-class low class n [] one le above = refl
+  no-class low class n (c ∷ cs) one le above =
+      elim (cases_lt c (rounded_need step n)) [
+        | inr first ↦ first-is c class n cs first ∙ above-number c class (omega (arith, above.0))
+        | inl later ↦ later-is c class n cs (omega (arith, above.0)) above.2 later
+            ∙ no-class c class n cs (omega (arith, above.0)) (omega (arith, above.0)) above.3
+      ]
+
+  module _ (low c : ℕ) (cs : List ℕ) (one : 1 ≤ low) (above : AreClassesAbove step low (c ∷ cs)) where
+    blocks-first : (s : List ℕ) → blocks_above step low (c ∷ cs) c s ≡ blocks_between step low c s
+    blocks-first s =
+        sum_same _ _ (length s)
+        (λ n within. at-first (rounded_need step n) low c (slice_index s n) _ (λ le. first-is c c n cs le ∙ same-number c)
+        (λ lt. later-is c c n cs (omega (arith, above.0)) above.2 lt ∙ no-class c c n cs (omega (arith, above.0)) (omega arith) above.3))
+
+    blocks-later : (class : ℕ) → c < class → (s : List ℕ) → blocks_above step low (c ∷ cs) class s ≡ blocks_above step c cs class s
+    blocks-later class over s =
+        sum_same _ _ (length s)
+        (λ n within. at-later (rounded_need step n) low c (slice_index s n) _ _ above.0
+        (λ le. first-is c class n cs le ∙ other-number c class over) (λ lt. later-is c class n cs (omega (arith, above.0)) above.2 lt))
+
+  -- what holds of each class above c
+  sum-later : (f g : ℕ → ℕ) (c low : ℕ) (classes : List ℕ) → ((class : ℕ) → c < class → f class ≡ g class) → c ≤ low
+      → AreClassesAbove step low classes → sum_by f classes ≡ sum_by g classes
+  sum-later f g c low [] each le above = refl
+  sum-later f g c low (d ∷ ds) each le above =
+      omega (
+        arith,
+        sum_by-cons f d ds,
+        sum_by-cons g d ds,
+        each d (omega (arith, above.0)),
+        sum-later f g c d ds each (omega (arith, above.0)) above.3,
+      )
+
+  pub footprint-above : (snapshots : List (List ℕ)) (low : ℕ) (classes : List ℕ) → 1 ≤ low → AreClassesAbove step low classes
+      → sum_by (footprint_above snapshots step low classes) classes ≡ cost_above (footprint_between snapshots step) low classes
+  footprint-above snapshots low [] one above = refl
+  footprint-above snapshots low (c ∷ cs) one above =
+      omega (
+        arith,
+        sum_by-cons (footprint_above snapshots step low (c ∷ cs)) c cs,
+        ap (λ m. 16 * c * m) (most-same _ _ snapshots (blocks-first low c cs one above)),
+        sum-later (footprint_above snapshots step low (c ∷ cs)) (footprint_above snapshots step c cs) c c cs
+            (λ class over. ap (λ m. 16 * class * m) (most-same _ _ snapshots (blocks-later low c cs one above class over))) (omega arith)
+            above.3,
+        footprint-above snapshots c cs (omega (arith, above.0)) above.3,
+      )
+
+  -- every need is above 1
+  pub footprint-all : (snapshots : List (List ℕ)) (classes : List ℕ) → AreClassesAbove step 1 classes
+      → footprint_of snapshots classes ≡ sum_by (footprint_above snapshots step 1 classes) classes
+  footprint-all snapshots classes above =
+      sum-later _ _ 1 1 classes (λ class over. ap (λ m. 16 * class * m) (most-same _ _ snapshots (λ s.
+      sum_same _ _ (length s) (λ n within. needed (rounded_need step n) _ (rounded-positive step pos n))))) (omega arith) above
+    where
+      needed : (x v : ℕ) → 2 ≤ x → v ≡ cond (ltb 1 x) v 0
+      needed x v two = grind (arith, nat_tests)
+
+pub footprint-sum : (snapshots : List (List ℕ)) (step : ℕ) → 0 < step → AreSnapshots snapshots
+    → IsSumOfIntervals (footprint_of snapshots) (footprint_between snapshots step) (peaks snapshots) step
+footprint-sum snapshots step pos are = record {
+  interval = footprint-cost snapshots are step;
+  sum = λ classes legal. let above = classes_of_legal_table step classes legal in
+      footprint-all step pos snapshots classes above ∙ footprint-above step pos snapshots 1 classes (omega arith) above;
+}

@@ -1,0 +1,294 @@
+-- The laws of the footprint as lemmas, for the proofs of the crates above.
+use Rattle.std.proofs.Common.{◌≡◌, ℕ, zero, suc, ◌+◌, ◌*◌, ◌<◌, ◌≤◌, ◌&&◌, Bool, true, false, List, [], ◌∷◌, length, slice_index, get_or, cond, ltb, leb, arith, refl, ap, sym, subst, ◌∙◌, inl, inr}
+use Rattle.std.specs.List.{AllZip}
+use Rattle.std.specs.Prelude.{All, sum_by}
+use Rattle.std.proofs.lemmas.Bool.{cases_lt, cond-false, cond-true, false≢true, le-leb, le-ltb, lt-ltb}
+use Rattle.std.proofs.lemmas.Bool.Decides.{nat_tests}
+use Rattle.std.proofs.lemmas.List.{ext_get_or}
+use Rattle.std.proofs.lemmas.List.Sums.{sum_by-cons, sum_by-le}
+use Rattle.std.proofs.Math.Nat.{le-max_right, mul-le-mul, mul-le-mul_left, mul-le-mul_right}
+use Rattle.class_table.specs.Sizes.{largest_counted, loss_of}
+use Rattle.class_table.specs.declared.sizes.TheConstants.{LARGEST_CLASS}
+use Rattle.class_table.proofs.LawLemmas.{AreClassesAbove, classes_of_legal_table}
+use Rattle.tuner_theory.specs.Best.{IsCandidate, IsCanonicalBy}
+use Rattle.tuner_theory.specs.Fits.{sheet_of_fit}
+use Rattle.tuner_theory.specs.Footprint.{blocks, blocks_between, footprint_between, footprint_of, is_class_of}
+use Rattle.tuner_theory.specs.FootprintLaws.{CountsMore, FittedFitIsOptimal, FittedIsTuned, FittedTableIsCanonical, FittedTableTakes, FootprintFits, FootprintIsSum, OneFitted, OneSnapshot, OptimalFitIsLeast, PeaksAreCounts, PotentialsBoundCosts, SnapshotMore, SpanFootprintsFit}
+use Rattle.tuner_theory.specs.Histories.{most, peaks}
+use Rattle.tuner_theory.specs.Intervals.{cost_above}
+use Rattle.tuner_theory.specs.Profiles.{AreCounts, greatest_count}
+use Rattle.tuner_theory.specs.Spans.{need_at, rounded_need, waste_between}
+use Rattle.tuner_theory.specs.Waste.{sum_below, waste_of}
+use Rattle.tuner_theory.proofs.Bound.{potentials-bound_by}
+use Rattle.tuner_theory.proofs.Canonical.{order-antisymmetric, rows-canonical}
+use Rattle.tuner_theory.proofs.Footprint.{footprint-above, footprint-all, footprint-sum, peak-at, peaks-length}
+use Rattle.tuner_theory.proofs.Needs.{place-class}
+use Rattle.tuner_theory.proofs.Rounding.{rounded-fits, rounded-positive, step-positive}
+use Rattle.tuner_theory.proofs.Sheets.{optimal-best_by, rows-optimal_by}
+use Rattle.tuner_theory.proofs.Spans.{count-small}
+use Rattle.tuner_theory.proofs.Sums.{sum_at_most, sum_balance, sum_bounded, sum_none, sum_same, sum_split}
+use Rattle.tuner_theory.proofs.Tables.{ServesAbove, ServesAbove-later, waste-sum}
+
+pub potentials_bound_costs : PotentialsBoundCosts
+potentials_bound_costs cost between counts step limit potential classes is_step sums valid =
+    potentials-bound_by cost between counts step limit potential classes (step-positive step is_step) sums valid
+
+pub footprint_is_sum : FootprintIsSum
+footprint_is_sum snapshots step is_step are = footprint-sum snapshots step (step-positive step is_step) are
+
+pub optimal_fit_is_least : OptimalFitIsLeast
+optimal_fit_is_least snapshots fit are legal meets =
+    optimal-best_by _ (footprint_between snapshots) (peaks snapshots) (sheet_of_fit fit) (λ step pos. footprint-sum snapshots step pos are)
+    legal meets
+
+pub fitted_table_is_canonical : FittedTableIsCanonical
+fitted_table_is_canonical snapshots step limit rows ends are fitted =
+    (rows-canonical _ _ (peaks snapshots) step limit rows ends (footprint_is_sum snapshots step fitted.is_step are) fitted).0
+
+pub fitted_table_takes : FittedTableTakes
+fitted_table_takes snapshots step limit rows ends are fitted =
+    (rows-canonical _ _ (peaks snapshots) step limit rows ends (footprint_is_sum snapshots step fitted.is_step are) fitted).1
+
+pub fitted_fit_is_optimal : FittedFitIsOptimal
+fitted_fit_is_optimal snapshots step limit rows ends are fitted shape =
+    rows-optimal_by _ (footprint_between snapshots) (peaks snapshots) step limit rows ends
+    (footprint_is_sum snapshots step fitted.is_step are) fitted shape
+
+pub one_fitted : OneFitted
+one_fitted snapshots step limit a b of_a of_b =
+    order-antisymmetric a b (of_a.least b of_b.best of_b.used) (of_b.least a of_a.best of_a.used)
+
+-- ---- how large numbers are
+
+most-bounded : (f : List ℕ → ℕ) (bound : ℕ) (snapshots : List (List ℕ)) → All (λ s. f s ≤ bound) snapshots → most f snapshots ≤ bound
+most-bounded f bound [] each = omega arith
+most-bounded f bound (s ∷ ss) each =
+    omega (arith, each 0 [] (omega arith), most-bounded f bound ss (λ k d lt. each (suc k) d (omega arith)))
+
+masked-bounded : (b : Bool) (v bound : ℕ) → v ≤ bound → cond b v 0 ≤ bound
+masked-bounded true v bound le = le
+masked-bounded false v bound le = omega arith
+
+pub peaks_are_counts : PeaksAreCounts
+peaks_are_counts snapshots are = record {
+  sizes = peaks-length snapshots;
+  in_range = λ n d lt.
+      omega (
+        arith,
+        peak-at snapshots n d (omega (arith, lt, peaks-length snapshots)),
+        most-bounded (λ s. slice_index s n) greatest_count snapshots (λ k e within. count-small _ n (are.counts k e within)),
+      );
+}
+
+pub span_footprints_fit : SpanFootprintsFit
+span_footprints_fit snapshots step i j is_step are lt le =
+    let class = place-class (peaks snapshots) step j is_step (omega (arith, peaks-length snapshots)) (omega arith) le in
+    let counted = most-bounded (blocks_between step (need_at (peaks snapshots) step i) (need_at (peaks snapshots) step j))
+    ((largest_counted + 1) * greatest_count) snapshots (λ k d within. at (get_or snapshots k d) (are.counts k d within)) in
+    let size : 16 * need_at (peaks snapshots) step j ≤ 16 * LARGEST_CLASS = omega (arith, class.0.1) in
+    omega (arith, mul-le-mul size counted)
+  where
+    masked : (x low high v : ℕ) → v ≤ greatest_count → cond (ltb low x && leb x high) v 0 ≤ greatest_count
+    masked x low high v le = masked-bounded (ltb low x && leb x high) v greatest_count le
+
+    at : (s : List ℕ) → AreCounts s
+        → blocks_between step (need_at (peaks snapshots) step i) (need_at (peaks snapshots) step j) s
+        ≤ (largest_counted + 1) * greatest_count
+    at s counts =
+        omega (
+          arith,
+          counts.sizes,
+          sum_bounded _ (length s) greatest_count
+              (λ n within. masked (rounded_need step n) (need_at (peaks snapshots) step i) (need_at (peaks snapshots) step j) _
+              (count-small s n counts)),
+        )
+
+pub footprint_fits : FootprintFits
+footprint_fits snapshots step classes are legal =
+    omega (arith, sum_by-le (λ class. 16 * class * most (blocks classes class) snapshots) _ classes each, legal.few)
+  where
+    at : (class : ℕ) (s : List ℕ) → AreCounts s → blocks classes class s ≤ (largest_counted + 1) * greatest_count
+    at class s counts =
+        omega (
+          arith,
+          counts.sizes,
+          sum_bounded _ (length s) greatest_count
+              (λ n within. masked-bounded (is_class_of classes class n) _ greatest_count (count-small s n counts)),
+        )
+
+    each : All (λ class. 16 * class * most (blocks classes class) snapshots ≤ 16 * LARGEST_CLASS * ((largest_counted + 1) * greatest_count))
+        classes
+    each k d lt =
+        let class = get_or classes k d in
+        let size : 16 * class ≤ 16 * LARGEST_CLASS = omega (arith, (legal.in_range k d lt).1) in
+        let counted = most-bounded (blocks classes class) ((largest_counted + 1) * greatest_count) snapshots
+        (λ t e within. at class (get_or snapshots t e) (are.counts t e within)) in
+        mul-le-mul size counted
+
+-- ---- one snapshot
+
+-- at one request, of need x, that loses u in a class of k bytes: what it holds is what it loses, what it requests, and its header
+held-at_one : (x low high k v n u : ℕ) → (x ≤ high → u + (n + 16) ≡ k)
+    → cond (ltb low x && leb x high) (v * u) 0 + cond (ltb low x && leb x high) (v * (n + 16)) 0 + k * 0
+    ≡ k * cond (ltb low x && leb x high) v 0 + 0
+held-at_one x low high k v n u whole =
+    elim (cases_lt high x) [
+      | inl above ↦ grind (arith, nat_tests)
+      | inr fits ↦ (let e : v * (u + (n + 16)) ≡ v * k = ap (λ z. v * z) (whole fits) in
+          elim (cases_lt low x) [
+            | inl over ↦ simp (lt-ltb low x over, le-leb x high fits) (omega (arith, e))
+            | inr under ↦ simp (le-ltb low x under, le-leb x high fits) (omega arith)
+          ])
+    ]
+
+module _ (counts : List ℕ) (step : ℕ) (pos : 0 < step) where
+  -- what the requests ask for whose need is above low and at most high, with their headers
+  abbrev asked_between : ℕ → ℕ → ℕ
+  asked_between low high =
+      sum_below (λ n. cond (ltb low (rounded_need step n) && leb (rounded_need step n) high) (slice_index counts n * (n + 16)) 0)
+      (length counts)
+
+  abbrev asked_above : ℕ → ℕ
+  asked_above low = sum_below (λ n. cond (ltb low (rounded_need step n)) (slice_index counts n * (n + 16)) 0) (length counts)
+
+  held-between : (low c : ℕ) → 2 ≤ c
+      → footprint_between (counts ∷ []) step low c ≡ waste_between counts step low c + asked_between low c
+  held-between low c two =
+      let balance = sum_balance _ _ (λ n. 0) _ (λ n. 0) (16 * c) (length counts)
+      (λ n within. held-at_one (rounded_need step n) low c (16 * c) (slice_index counts n) n (loss_of n c)
+      (λ fits. omega (arith, rounded-fits step pos n c fits))) in
+      let alone : most (blocks_between step low c) (counts ∷ []) ≡ blocks_between step low c counts = omega arith in
+      omega (
+        arith,
+        balance,
+        ap (λ m. 16 * c * m) alone,
+        ap (λ m. 16 * c * m) (sum_none (λ n. 0) (length counts) (λ n within. refl)),
+        sum_none (λ n. 0) (length counts) (λ n within. refl),
+      )
+
+  asked-split : (low c : ℕ) → low < c → asked_above low ≡ asked_between low c + asked_above c
+  asked-split low c lt = sum_split _ _ _ (length counts) (λ n within. split (rounded_need step n) _)
+    where
+      split : (x v : ℕ) → cond (ltb low x) v 0 ≡ cond (ltb low x && leb x c) v 0 + cond (ltb c x) v 0
+      split x v = grind (arith, nat_tests)
+
+  asked-none : (low : ℕ) → ServesAbove counts step low [] → asked_above low ≡ 0
+  asked-none low served =
+      sum_none _ (length counts) (λ n within.
+      elim (cases_lt low (rounded_need step n)) [
+        | inr under ↦ cond-false _ _ _ (le-ltb low (rounded_need step n) under)
+        | inl over ↦ elim (cases_lt 0 (slice_index counts n)) [
+          | inl some ↦ absurd (false≢true (served n (within, some) over))
+          | inr none ↦ cond-true _ _ _ (lt-ltb low (rounded_need step n) over) ∙ nothing _ (n + 16) none
+        ]
+      ])
+    where
+      nothing : (v w : ℕ) → v ≤ 0 → v * w ≡ 0
+      nothing v w le = omega (arith, mul-le-mul_right w le)
+
+  held-above : (low : ℕ) (classes : List ℕ) → 1 ≤ low → AreClassesAbove step low classes → ServesAbove counts step low classes
+      → cost_above (footprint_between (counts ∷ []) step) low classes
+      ≡ cost_above (waste_between counts step) low classes + asked_above low
+  held-above low [] one above served = omega (arith, asked-none low served)
+  held-above low (c ∷ cs) one above served =
+      omega (
+        arith,
+        held-between low c (omega (arith, above.0)),
+        asked-split low c above.0,
+        held-above c cs (omega (arith, above.0)) above.3 (ServesAbove-later counts step pos low c cs one above.0 above.2 served),
+      )
+
+pub one_snapshot : OneSnapshot
+one_snapshot counts classes step is_step legal serves =
+    let pos = step-positive step is_step in
+    let above = classes_of_legal_table step classes legal in
+    omega (
+      arith,
+      footprint-all step pos (counts ∷ []) classes above,
+      footprint-above step pos (counts ∷ []) 1 classes (omega arith) above,
+      held-above counts step pos 1 classes (omega arith) above (λ n counted over. serves n counted),
+      (waste-sum counts step pos).sum classes legal,
+      sum_same (λ n. cond (ltb 1 (rounded_need step n)) (slice_index counts n * (n + 16)) 0) (λ n. slice_index counts n * (n + 16))
+          (length counts) (λ n within. cond-true _ _ _ (lt-ltb 1 (rounded_need step n) (rounded-positive step pos n))),
+    )
+
+peaks-one : (counts : List ℕ) → AreCounts counts → peaks (counts ∷ []) ≡ counts
+peaks-one counts are =
+    ext_get_or 0 (peaks (counts ∷ [])) counts (peaks-length (counts ∷ []) ∙ sym are.sizes)
+    (λ n lt. omega (arith, peak-at (counts ∷ []) n 0 (omega (arith, lt, peaks-length (counts ∷ [])))))
+
+-- a cost that is greater by the same for each table in question has the same canonical table
+canonical-greater : (cost greater : List ℕ → ℕ) (counts : List ℕ) (step limit more : ℕ) (classes : List ℕ)
+    → ((table : List ℕ) → IsCandidate counts step limit table → greater table ≡ cost table + more)
+    → IsCanonicalBy greater counts step limit classes → IsCanonicalBy cost counts step limit classes
+canonical-greater cost greater counts step limit more classes by canonical = record {
+  best = record {
+    candidate = canonical.best.candidate;
+    least = λ other candidate.
+        omega (
+          arith,
+          canonical.best.least other candidate,
+          by classes canonical.best.candidate,
+          by other candidate,
+        );
+  };
+  used = canonical.used;
+  least = λ other best used. canonical.least other
+      (record {
+        candidate = best.candidate;
+        least = λ table candidate. omega (arith, best.least table candidate, by other best.candidate, by table candidate);
+      })
+      used;
+}
+
+pub fitted_is_tuned : FittedIsTuned
+fitted_is_tuned counts classes step limit is_step are fitted =
+    canonical-greater (waste_of counts) (footprint_of (counts ∷ [])) counts step limit
+    (sum_below (λ n. slice_index counts n * (n + 16)) (length counts)) classes
+    (λ table candidate. one_snapshot counts table step is_step candidate.legal candidate.serving)
+    (subst (λ (its : List ℕ). IsCanonicalBy (footprint_of (counts ∷ [])) its step limit classes) (peaks-one counts are) fitted)
+
+-- ---- larger histories
+
+sum-more : (f g : ℕ → ℕ) (classes : List ℕ) → ((class : ℕ) → f class ≤ g class) → sum_by f classes ≤ sum_by g classes
+sum-more f g [] each = omega arith
+sum-more f g (c ∷ cs) each = omega (arith, sum_by-cons f c cs, sum_by-cons g c cs, each c, sum-more f g cs each)
+
+pub snapshot_more : SnapshotMore
+snapshot_more snapshot snapshots classes =
+    sum-more _ _ classes (λ class. mul-le-mul_left (16 * class) (le-max_right (blocks classes class snapshot) _))
+
+counts-more : (f m : List ℕ) → AllZip (λ a b. a ≤ b) f m → (length f ≡ length m) × ((n : ℕ) → slice_index f n ≤ slice_index m n)
+counts-more [] [] each = (refl, λ n. omega arith)
+counts-more [] (y ∷ ys) each = absurd each
+counts-more (x ∷ xs) [] each = absurd each
+counts-more (x ∷ xs) (y ∷ ys) each = let later = counts-more xs ys each.1 in (omega (arith, later.0), go later.1)
+  where
+    go : ((n : ℕ) → slice_index xs n ≤ slice_index ys n) → (n : ℕ) → slice_index (x ∷ xs) n ≤ slice_index (y ∷ ys) n
+    go later zero = each.0
+    go later (suc n) = later n
+
+blocks-more : (classes : List ℕ) (class : ℕ) (f m : List ℕ) → AllZip (λ a b. a ≤ b) f m → blocks classes class f ≤ blocks classes class m
+blocks-more classes class f m each =
+    let more = counts-more f m each in
+    omega (
+      arith,
+      sum_at_most _ _ (length f) (λ n within. masked (is_class_of classes class n) _ _ (more.1 n)),
+      ap (sum_below (λ n. cond (is_class_of classes class n) (slice_index m n) 0)) more.0,
+    )
+  where
+    masked : (b : Bool) (v w : ℕ) → v ≤ w → cond b v 0 ≤ cond b w 0
+    masked true v w le = le
+    masked false v w le = omega arith
+
+most-more : (classes : List ℕ) (class : ℕ) (fewer more : List (List ℕ)) → AllZip (λ f m. AllZip (λ a b. a ≤ b) f m) fewer more
+    → most (blocks classes class) fewer ≤ most (blocks classes class) more
+most-more classes class [] [] each = omega arith
+most-more classes class [] (m ∷ ms) each = absurd each
+most-more classes class (f ∷ fs) [] each = absurd each
+most-more classes class (f ∷ fs) (m ∷ ms) each =
+    omega (arith, blocks-more classes class f m each.0, most-more classes class fs ms each.1)
+
+pub counts_more : CountsMore
+counts_more fewer more classes each =
+    sum-more _ _ classes (λ class. mul-le-mul_left (16 * class) (most-more classes class fewer more each))
