@@ -13,6 +13,7 @@ docs/FORMATS.md says what the texts are. Files are read as bytes, since they may
 """
 
 import functools
+import io
 import os
 import re
 import subprocess
@@ -31,6 +32,8 @@ LARGEST_CLASS = 1024  # in granules
 PIECE = 1 << 20
 MOST_DIGITS = 4_000  # of a number; Python itself converts 4,300
 
+DIGITS = b"0123456789"
+LARGE = b"%d" % (LARGEST_SIZE + 1)
 COUNTED = re.compile(rb"[ \t]*(0*[0-9]{1,%d}|large)[ \t]+(0*[0-9]{1,%d})[ \t]*" % (MOST_DIGITS, MOST_DIGITS))
 EVENT_WORDS = (b"malloc", b"calloc", b"realloc", b"free", b"load", b"store", b"addg", b"subg")
 SHEET_WORDS = (b"classes", b"limit", b"step", b"waste", b"row")
@@ -121,29 +124,30 @@ def read_profile(path):
 
     A line is a size and a count, or `large` and a count, in any order and however often; a size above 16,368 is large. Counts may be
     0, and are summed exactly."""
-    sums = {}
-    add_profile(sums, path)
-    return sums
-
-
-def add_profile(sums, path):
-    """Adds the counts of a profile to these."""
-    counts = defaultdict(int)  # by the words of sizes, as they come
-    line = 1
     with opened(path) as file:
-        for piece in whole_lines(file, path):
-            try:
-                add_lines(counts, piece)
-            except ValueError:
-                refuse_line(piece, line, path)
-            line += piece.count(b"\n")
-    for word, count in counts.items():
-        size = "large" if word == b"large" or int(word) > LARGEST_SIZE else int(word)
-        sums[size] = sums.get(size, 0) + count
+        return counts_of(file, path)
+
+
+def parse_profile(data, name):
+    """The same of bytes that were read from a file of this name."""
+    return counts_of(io.BytesIO(data), name)
+
+
+def counts_of(file, path):
+    counts = defaultdict(int)
+    line = 1
+    for piece in whole_lines(file, path):
+        if not add_lines(counts, piece):
+            refuse_line(piece, line, path)
+        line += piece.count(b"\n")
+    large = [size for size in counts if size > LARGEST_SIZE]
+    if large:
+        counts["large"] = sum(counts.pop(size) for size in large)
+    return dict(counts)
 
 
 def whole_lines(file, path):
-    """The bytes of a file in pieces of whole lines; the last line may lack its newline."""
+    """The bytes of a file in pieces of whole lines. The last line is given the newline that it may lack."""
     rest = b""
     while True:
         piece = next_piece(file, path)
@@ -158,26 +162,27 @@ def whole_lines(file, path):
             if len(rest) > PIECE:
                 raise fault(rest, None, path)
     if rest:
-        yield rest
+        yield rest + b"\n"
 
 
 def add_lines(counts, piece):
-    """Adds the counts of some whole lines, or raises ValueError where one is faulty."""
-    words = piece.split()
-    sizes, numbers = words[::2], words[1::2]
-    lines = piece.count(b"\n")
-    # Most lines are a size, a space and a count. Where all are, this is seen at once, and else line by line.
-    frame = piece.translate(None, b"0123456789").replace(b"large", b"")
-    plain = frame == b" \n" * lines and len(words) == 2 * lines and b"".join(numbers).isdigit()
+    """Adds the counts of some whole lines, or says False where one is faulty. `large` is counted at the first size that is."""
     if b"large" in piece:
-        plain = plain and piece.count(b"large") == sizes.count(b"large")
-    if not plain or len(max(words, key=len)) > MOST_DIGITS:
+        if piece.count(b"large") == piece.count(b"\nlarge ") + piece.startswith(b"large "):
+            piece = piece.replace(b"large", LARGE)
+    lines = piece.count(b"\n")
+    words = piece.split()
+    # Most lines are a size, a space and a count. Where all are, this is seen at once, and else line by line.
+    if piece.translate(None, DIGITS) == b" \n" * lines and len(words) == 2 * lines and len(max(words, key=len)) <= MOST_DIGITS:
+        sizes, numbers = words[::2], words[1::2]
+    else:
         matches = [COUNTED.fullmatch(line) for line in lines_of(piece)]
         if not all(matches):
-            raise ValueError
-        sizes, numbers = [match[1] for match in matches], [match[2] for match in matches]
-    for size, number in zip(sizes, map(int, numbers)):
+            return False
+        sizes, numbers = [match[1].replace(b"large", LARGE) for match in matches], [match[2] for match in matches]
+    for size, number in zip(map(int, sizes), map(int, numbers)):
         counts[size] += number
+    return True
 
 
 def lines_of(text):
