@@ -1,0 +1,148 @@
+"""What a profile, the sheet of its best table and other tables come to: the figures that tune_program and report show.
+
+The program itself scores, checks and tunes; here is only what its outputs mean for memory."""
+
+import os
+
+import texts
+
+GRANULE = 16  # bytes; a block begins with a header of one granule
+NOTHING = "no bytes are counted in requests of at most 16,368 bytes: there is nothing to tune"
+OTHERS = [("Scudo's default", "scudo.classes"), ("Scudo's for Android", "scudo_android.classes")]
+
+
+def profile_text(profile):
+    """A profile as FORMATS.md has it."""
+    lines = sorted((size, count) for size, count in profile.items() if size != "large" and count)
+    if profile.get("large"):
+        lines.append(("large", profile["large"]))
+    return "".join(f"{size} {count}\n" for size, count in lines)
+
+
+def with_largest(profile):
+    """The profile with a request that class 1024 alone serves, so that its best table has this class. It adds no waste."""
+    return profile if profile.get(texts.LARGEST_SIZE) else {**profile, texts.LARGEST_SIZE: 1}
+
+
+def class_text(classes):
+    return " ".join(["classes", *map(str, classes)])
+
+
+def run(words, given):
+    """The output of the program, and its status, 0 or 1: a verdict. Any other ends the script."""
+    status, out, error = texts.mte_tool(words, given.encode())
+    if status not in (0, 1):
+        raise texts.Refused(2 if status == 2 else 3, f"`mte_tool {' '.join(words)}` failed: {error or f'its status is {status}'}")
+    return status, out.decode("ascii", "replace").strip()
+
+
+class Table:
+    """A class table with its score: its waste, or the least counted size that it does not serve."""
+
+    def __init__(self, name, classes, profile):
+        self.name = name
+        self.classes = classes
+        status, answer = run(["score"], class_text(classes) + "\n" + profile_text(profile))
+        number = int(answer.split()[-1])
+        self.waste, self.unserved = (number, None) if status == 0 else (None, number)
+
+
+class Figures:
+    """The figures of a profile, a sheet of it as text, and other tables as [(name, classes)]."""
+
+    def __init__(self, profile, sheet, others):
+        self.counts = {size: profile[size] for size in sorted(profile.keys() - {"large"}) if profile[size]}
+        self.large = profile.get("large", 0)
+        self.requests = sum(self.counts.values())
+        self.bytes = sum(size * count for size, count in self.counts.items())
+        if not self.bytes:
+            raise texts.Refused(3, NOTHING)
+        self.sheet = texts.parse_sheet(sheet)
+        self.best = Table("the best table", self.sheet.classes, profile)
+        if self.best.waste is None:
+            unserved = f"the sheet's table does not serve {self.best.unserved} bytes, which the profile counts"
+            raise texts.Refused(2, f"{unserved}: is it the sheet of another profile?")
+        self.tuned, self.verdict = self.checked(profile, sheet)
+        self.others = [Table(name, classes, profile) for name, classes in others]
+        _, tuned = run(["tune", "--limit", "32", "--step", str(self.sheet.step)], profile_text(self.tuned))
+        self.least = [row[0] for row in texts.parse_sheet(tuned).rows]  # the least waste of 1, 2, .. classes
+
+    @staticmethod
+    def checked(profile, sheet):
+        """The profile that the sheet is of, which may be the one with class 1024 forced, and what `check` says."""
+        _, verdict = run(["check"], sheet + profile_text(profile))
+        if verdict != "optimal":
+            forced = with_largest(profile)
+            if run(["check"], sheet + profile_text(forced))[1] == "optimal":
+                return forced, "optimal"
+        return profile, verdict
+
+    @property
+    def forced(self):
+        """Whether the sheet is of the profile with class 1024 forced."""
+        return self.tuned.get(texts.LARGEST_SIZE) != self.counts.get(texts.LARGEST_SIZE)
+
+    @property
+    def optimal(self):
+        return self.verdict == "optimal"
+
+    def blocks(self, table):
+        """The bytes of the blocks that the counted requests take: headers, requests and waste."""
+        return GRANULE * self.requests + self.bytes + table.waste
+
+    def saving(self, table):
+        """By how many bytes the blocks of the best table are less."""
+        return table.waste - self.best.waste
+
+    def classes(self):
+        """For each class of the best table: its block in bytes, the least and the greatest size it serves, requests, bytes lost."""
+        below = -1
+        for granules in self.best.classes:
+            most = GRANULE * granules - GRANULE
+            served = {size: count for size, count in self.counts.items() if below < size <= most}
+            yield GRANULE * granules, below + 1, most, sum(served.values()), sum((most - size) * count for size, count in served.items())
+            below = most
+
+    def proof(self):
+        """What is known of the best table, in a sentence or two."""
+        classes = f"at most {self.sheet.limit} class{'es' if self.sheet.limit > 1 else ''}"
+        if self.sheet.step > 1:
+            classes += f", each a multiple of {GRANULE * self.sheet.step} bytes,"
+        if not self.optimal:
+            return f"`check` says `{self.verdict}`: this sheet does not show that its table is a best one for this profile."
+        if texts.unproved():
+            return f"Nothing is proved: MTE_TOOL names another program. It found no table of {classes} that loses less."
+        return f"Proved: `check` says `optimal`, so no table of {classes} that serves these requests loses less."
+
+
+def other_tables(paths):
+    """Scudo's tables and those of the files, each with a name."""
+    named = [(name, os.path.join(texts.EXAMPLES, file)) for name, file in OTHERS]
+    named += [(without_ending(path, ".classes"), path) for path in paths]
+    return [(name, texts.class_line(path)) for name, path in named]
+
+
+def without_ending(path, ending):
+    """The name of a file, without its folder and this ending."""
+    name = os.path.basename(path)
+    return name[: -len(ending)] if name.endswith(ending) and name != ending else name
+
+
+def number(value):
+    return f"{value:,}"
+
+
+def percent(part, whole):
+    return f"{100 * part / whole:.1f}%"
+
+
+def kibibytes(count):
+    return f"{count / 1024:,.{1 if abs(count) < 102_400 else 0}f} KiB"
+
+
+def byte_text(value):
+    """So many bytes, in the unit that suits."""
+    for unit, size in (("GiB", 1 << 30), ("MiB", 1 << 20), ("KiB", 1 << 10)):
+        if value >= size:
+            return f"{value / size:.3g} {unit}" if value < 999.5 * size else f"{value / size:,.0f} {unit}"
+    return f"{value:.3g} bytes"
