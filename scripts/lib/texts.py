@@ -27,6 +27,7 @@ BUILT = os.path.join(os.path.dirname(SCRIPTS), "crates/mte_tool/out/mte_tool")
 LARGEST_SIZE = 16_368  # the largest request that a class serves, in bytes; a larger one is `large`
 MOST_COUNT = 1_000_000_000  # the most that a line of a profile counts
 MOST_CLASSES = 32
+MOST_INPUT = 67_108_864  # the most bytes that the program reads
 LARGEST_CLASS = 1024  # in granules
 
 PIECE = 1 << 20
@@ -239,14 +240,14 @@ def utf_8(text):
 
 def shown(text):
     """The begin of a line for a message."""
-    words = text.decode(errors="replace")
+    words = text[:1000].decode(errors="replace")
     return words if len(words) <= 60 else words[:60] + ".."
 
 
 def class_line(path):
     """The classes of the first line of a file, which may be a sheet, in granules."""
-    text = read(path, 1 << 16)
-    return parse_class_line(text.split(b"\n")[0] if text else None, named(path))
+    text = read(path, MOST_INPUT)  # and not the first line alone: what writes the rest would fail
+    return parse_class_line(text.split(b"\n", 1)[0] if text else None, named(path))
 
 
 def parse_class_line(text, name="the class line"):
@@ -256,6 +257,10 @@ def parse_class_line(text, name="the class line"):
     text = os.fsencode(text)
     if wrong := encoding(text):
         raise Refused(2, f"{name}: {wrong}")
+    if text.split(b" ", 1)[0] in EVENT_WORDS:
+        raise Refused(2, f"{name}: line 1 is of a trace, and no class line: `mte_tool run` makes the sheet of a trace")
+    if COUNTED.fullmatch(text):
+        raise Refused(2, f"{name}: line 1 is of a profile, and no class line: `mte_tool tune` makes the sheet of a profile")
     if not re.fullmatch(rb"classes( (0|[1-9][0-9]*))*", text):
         raise Refused(2, f"{name}: line 1 is no class line: {shown(text)}")
     words = text.split()[1:]
