@@ -1,24 +1,11 @@
 -- Sheets that are tuned for one profile, step and limit are the same.
-use Rattle.std.proofs.Common.{◌≡◌, ℕ, suc, ◌-◌, ◌<◌, ◌≤◌, List, [], length, arith, refl, sym, ◌∙◌}
-use Rattle.std.specs.Prelude.{slice_index_or}
-use Rattle.std.proofs.lemmas.List.{ext_get_or}
+use Rattle.std.proofs.Common.{◌≡◌, ℕ, List, refl, sym, ◌∙◌}
 use Rattle.class_tuner.specs.Laws.{OneSheet}
 use Rattle.tuner_theory.specs.Sheets.{Sheet}
-use Rattle.tuner_theory.specs.Rows.{HasShape, number_at}
+use Rattle.tuner_theory.specs.Rows.{number_at}
 use Rattle.tuner_theory.specs.Waste.{waste_of}
 use Rattle.tuner_theory.proofs.LawLemmas.{one_canonical, one_rest}
-
-rows-same : (a b : List (List ℕ)) (limit d : ℕ) → HasShape a limit d → HasShape b limit d
-    → ((k i : ℕ) → 1 ≤ k → k ≤ limit → i < d → number_at a k i ≡ number_at b k i) → a ≡ b
-rows-same a b limit d of_a of_b each =
-    ext_get_or [] a b (of_a.row_count ∙ sym of_b.row_count) (λ k lt.
-    let in_b : k < length b = omega (arith, of_a.row_count, of_b.row_count) in
-    let len_a = of_a.row_lengths k [] lt in
-    let len_b = of_b.row_lengths k [] in_b in
-    ext_get_or 0 (slice_index_or a k []) (slice_index_or b k []) (len_a ∙ sym len_b)
-    (λ i inside.
-    let front : suc k - 1 ≡ k = omega arith in
-    rw front at (each (suc k) i (omega arith) (omega (arith, of_a.row_count)) (omega (arith, len_a)))))
+use Rattle.tuner_theory.proofs.RowLists.{rows-same}
 
 fields-same : (table table' : List ℕ) (limit limit' step step' waste waste' : ℕ) (rows rows' : List (List ℕ))
     → table ≡ table' → limit ≡ limit' → step ≡ step' → waste ≡ waste' → rows ≡ rows'

@@ -1,6 +1,6 @@
 -- The laws as lemmas, for the proofs of the crates above.
 use Rattle.std.proofs.Common.{arith}
-use Rattle.tuner_theory.specs.Laws.{CountedHasPlace, EndsAreLater, EndsAscend, FewPlaces, LeastRowsAreValid, NeedsCross, NothingBetween, OneCanonical, OneRest, OptimalIsBest, PlaceIsClass, PlaceIsCounted, PlacesAscend, PlacesCross, PotentialsBound, PotentialsBoundRests, RoundingFits, RoundingIsLeast, SpansFit, SumsAscend, SumsFit, SumsGiveWaste, TunedRowsAreRests, TunedSheetIsOptimal, TunedTableIsCanonical, TunedTableWastes}
+use Rattle.tuner_theory.specs.Laws.{CountedHasPlace, EndsAreLater, EndsAscend, FewPlaces, LeastRowsAreValid, NeedsCross, NothingBetween, OneCanonical, OneLeastRows, OneRest, OptimalIsBest, PlaceIsClass, PlaceIsCounted, PlacesAscend, PlacesCross, PotentialsBound, PotentialsBoundRests, RoundingFits, RoundingIsLeast, SpansFit, SumsAscend, SumsFit, SumsGiveWaste, TunedRowsAreRests, TunedSheetIsOptimal, TunedTableIsCanonical, TunedTableWastes}
 use Rattle.tuner_theory.specs.Spans.{waste_between}
 use Rattle.tuner_theory.proofs.Bound.{potentials-bound_by}
 use Rattle.tuner_theory.proofs.BoundRests.{rests-bound}
@@ -8,6 +8,7 @@ use Rattle.tuner_theory.proofs.Canonical.{order-antisymmetric, tuned-canonical}
 use Rattle.tuner_theory.proofs.LeastRows.{ends-ascend, ends-later, rows-valid}
 use Rattle.tuner_theory.proofs.Needs.{few-places, need_at-from, need_at-has, needs_ascend, place-class}
 use Rattle.tuner_theory.proofs.Rests.{rows-rests}
+use Rattle.tuner_theory.proofs.RowLists.{one-least_rows}
 use Rattle.tuner_theory.proofs.Rounding.{rounding-fits, rounding-least, step-positive}
 use Rattle.tuner_theory.proofs.Sheets.{optimal-best_by, rows-optimal_by}
 use Rattle.tuner_theory.proofs.Tables.{waste-sum}
@@ -72,6 +73,9 @@ ends_are_later = ends-later
 
 pub least_rows_are_valid : LeastRowsAreValid
 least_rows_are_valid = rows-valid
+
+pub one_least_rows : OneLeastRows
+one_least_rows = one-least_rows
 
 pub ends_ascend : EndsAscend
 ends_ascend = ends-ascend

@@ -1,4 +1,5 @@
--- Least rows: their ends are after their places, and ascend where spans cross; their numbers are valid potentials.
+-- Least rows: their ends are after their places, and ascend where spans cross; their numbers are valid potentials, and there is one row of
+-- them for each number of classes.
 use Rattle.std.proofs.Common.{◌≡◌, ℕ, zero, suc, ◌+◌, ◌<◌, ◌≤◌, arith, ap, inl, inr}
 use Rattle.std.proofs.lemmas.Bool.{cases_lt}
 use Rattle.tuner_theory.specs.Potentials.{AreValidPotentials}
@@ -53,3 +54,30 @@ module _ (cost : ℕ → ℕ → ℕ) (d limit : ℕ) (rows ends : ℕ → ℕ �
     edge = edge-least;
     at_end = least.at_end;
   }
+
+module _ (cost : ℕ → ℕ → ℕ) (d limit : ℕ) (rows ends rows' ends' : ℕ → ℕ → ℕ) (least : AreLeastRows cost d limit rows ends)
+    (least' : AreLeastRows cost d limit rows' ends') where
+  same-at : (k i : ℕ) → (i < d → rows k i ≡ rows' k i) → i ≤ d → rows k i ≡ rows' k i
+  same-at k i same within =
+      elim (cases_lt i d) [
+        | inl before ↦ same before
+        | inr not ↦ (let end : i ≡ d = omega arith in
+            omega (arith, ap (rows k) end, ap (rows' k) end, least.at_end k, least'.at_end k))
+      ]
+
+  pub rows-one : (k i : ℕ) → k < limit → i ≤ d → rows (suc k) i ≡ rows' (suc k) i
+  rows-one zero i few within =
+      same-at 1 i (λ before. omega (arith, (least.first_row i (omega arith) before).0, (least'.first_row i (omega arith) before).0)) within
+  rows-one (suc k) i few within =
+      same-at (suc (suc k)) i (λ before.
+      let row = least.later_row (suc k) i (omega arith) few before in
+      let row' = least'.later_row (suc k) i (omega arith) few before in
+      omega (
+        arith,
+        row.1,
+        row'.1,
+        row.0.least (ends' (suc (suc k)) i) row'.0.from row'.0.to,
+        row'.0.least (ends (suc (suc k)) i) row.0.from row.0.to,
+        rows-one k (ends (suc (suc k)) i) (omega arith) row.0.to,
+        rows-one k (ends' (suc (suc k)) i) (omega arith) row'.0.to,
+      )) within

@@ -11,6 +11,7 @@ pub mod LeastRows
 pub mod Needs
 pub mod RefusalCodes
 pub mod Rests
+pub mod RowLists
 pub mod Rounding
 pub mod Sheets
 pub mod Spans

@@ -151,6 +151,12 @@ abbrev pub LeastRowsAreValid : Type 0
 LeastRowsAreValid =
     (cost : ℕ → ℕ → ℕ) (d limit : ℕ) (rows ends : ℕ → ℕ → ℕ) → AreLeastRows cost d limit rows ends → AreValidPotentials cost d limit rows
 
+-- There is one list of least rows, whatever their ends.
+abbrev pub OneLeastRows : Type 0
+OneLeastRows =
+    (cost : ℕ → ℕ → ℕ) (d limit : ℕ) (a b : List (List ℕ)) (ends_a ends_b : ℕ → ℕ → ℕ) → HasShape a limit d → HasShape b limit d
+    → AreLeastRows cost d limit (number_at a) ends_a → AreLeastRows cost d limit (number_at b) ends_b → a ≡ b
+
 -- Over the spans of a profile their numbers are the least rests,
 abbrev pub TunedRowsAreRests : Type 0
 TunedRowsAreRests =

@@ -11,6 +11,7 @@ ghost use Rattle.tuner_theory.specs.Laws.{
   NeedsCross,
   NothingBetween,
   OneCanonical,
+  OneLeastRows,
   OneRest,
   OneVerdict,
   OptimalIsBest,
@@ -91,10 +92,11 @@ pub fn law_one_verdict()
     ensures { OneVerdict }
 {}
 
-/// The ends of least rows come after their places, and their numbers are valid potentials.
+/// The ends of least rows come after their places, and their numbers are valid potentials. There is one list of least rows.
 pub fn law_least_rows()
     ensures ends { EndsAreLater }
     ensures valid { LeastRowsAreValid }
+    ensures one { OneLeastRows }
 {}
 
 /// Where spans cross, a later place has no earlier least end.

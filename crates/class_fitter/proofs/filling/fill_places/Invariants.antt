@@ -1,0 +1,18 @@
+use Rattle.std.proofs.Common.{◌≡◌, ◌+◌, ◌-◌, length}
+use Rattle.class_fitter.specs.PlaceByPlace.{AreLeastRowsFrom, AreRowsSoFar}
+use Rattle.footprint_check.specs.CallCounts.{span_count}
+use Rattle.potential_check.specs.Lists.{lists_of}
+use Rattle.tuner_theory.specs.Rows.{number_at}
+use Rattle.class_fitter.proofs.filling.fill_places.Given as goal
+
+abbrev pub invariant-loop : goal.invariant-loop
+invariant-loop g l = record { so_far : AreRowsSoFar l.places l.counter (lists_of l.rows.items) (lists_of l.ends.items) }
+
+abbrev pub invariant-loop-i : goal.invariant-loop-i
+invariant-loop-i g l = record {
+  so_far : AreRowsSoFar l.places l.limit (lists_of l.rows.items) (lists_of l.ends.items);
+  from_length : length l.from.items ≡ l.places + 1;
+  least : AreLeastRowsFrom (g.C.SpanCosts.cost l.fn.costs) l.places l.limit l.i (number_at (lists_of l.rows.items))
+      (number_at (lists_of l.ends.items));
+  counted : l.costs ≡ g.C.SpanCosts.after_calls l.fn.costs (span_count (l.places - l.i));
+}

@@ -1,0 +1,8 @@
+//! The fitter: for a history, a limit and a step, the class table of least footprint with its certificate. Splitting a class can cost
+//! more, so the rows are filled place by place, from the last place on, over all ends.
+#![tactic(auto)]
+
+mod filling;
+mod place;
+
+pub use filling::fill_places;

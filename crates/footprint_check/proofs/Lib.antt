@@ -1,0 +1,6 @@
+pub mod LawLemmas
+pub mod CallCounts
+pub mod RowConditions
+pub mod Snapshots
+pub mod UpTo
+pub mod Vectors

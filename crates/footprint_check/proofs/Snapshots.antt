@@ -1,0 +1,143 @@
+-- Sums up to places, and the most blocks of intervals.
+use Rattle.std.proofs.Common.{◌≡◌, ℕ, zero, suc, ◌+◌, ◌-◌, ◌*◌, ◌^◌, ◌<◌, ◌≤◌, ◌&&◌, max, List, [], ◌∷◌, length, slice_index, slice_index_or, slice_set, cond, ltb, leb, arith, refl, ap, subst, ◌∙◌, inl, inr}
+use Rattle.std.specs.Prelude.{take}
+use Rattle.std.proofs.lemmas.Bool.{cases_lt}
+use Rattle.std.proofs.lemmas.List.{get_or-set_other, get_or-set_same, length-set}
+use Rattle.std.proofs.Math.Nat.{mul_comm}
+use Rattle.std.proofs.lemmas.Bool.Decides.{nat_tests}
+use Rattle.footprint_check.specs.SnapshotSums.{AreMostBlocks, AreScaled, HoldsHistory, IsRaised}
+use Rattle.tuner_theory.specs.Footprint.{blocks_between, footprint_between, span_footprint}
+use Rattle.tuner_theory.specs.Histories.{most}
+use Rattle.tuner_theory.specs.Spans.{counted_up_to, need_at, places, rounded_need}
+use Rattle.tuner_theory.proofs.FootprintLawLemmas.{span_footprints_fit}
+use Rattle.tuner_theory.proofs.LawLemmas.{places_ascend}
+use Rattle.tuner_theory.proofs.Sums.{sum_split}
+
+-- ---- blocks between by two sums
+
+module _ (step low high : ℕ) (s : List ℕ) (le : low ≤ high) where
+  blocks-more : counted_up_to s step high ≡ counted_up_to s step low + blocks_between step low high s
+  blocks-more = sum_split _ _ _ (length s) (λ n within. at (rounded_need step n) (slice_index s n))
+    where
+      at : (x v : ℕ) → cond (leb x high) v 0 ≡ cond (leb x low) v 0 + cond (ltb low x && leb x high) v 0
+      at x v = grind (arith, nat_tests)
+
+  pub blocks-ascend : counted_up_to s step low ≤ counted_up_to s step high
+  blocks-ascend = omega (arith, blocks-more)
+
+  pub blocks-sums : counted_up_to s step high - counted_up_to s step low ≡ blocks_between step low high s
+  blocks-sums = omega (arith, blocks-more)
+
+-- ---- the most of the first snapshots
+
+pub most-take : (f : List ℕ → ℕ) (xs : List (List ℕ)) (t : ℕ) → t < length xs
+    → most f (take (suc t) xs) ≡ max (most f (take t xs)) (f (slice_index_or xs t []))
+most-take f [] t lt = absurd (omega arith)
+most-take f (x ∷ xs) zero lt = omega arith
+most-take f (x ∷ xs) (suc t) lt = omega (arith, most-take f xs t (omega arith))
+
+pub take-all : (xs : List (List ℕ)) (t : ℕ) → t ≡ length xs → take t xs ≡ xs
+take-all [] zero e = refl
+take-all [] (suc t) e = refl
+take-all (x ∷ xs) zero e = absurd (omega arith)
+take-all (x ∷ xs) (suc t) e = ap (λ rest. x ∷ rest) (take-all xs t (omega arith))
+
+module _ (snapshots : List (List ℕ)) (counts : List ℕ) (step : ℕ) (sums : List (List ℕ)) (holds : HoldsHistory snapshots counts step sums) where
+  pub small-spans : (i j : ℕ) → i < j → j ≤ places counts step → span_footprint snapshots step i j ≤ 2 ^ 60
+  small-spans i j lt le =
+      omega (
+        arith,
+        span_footprints_fit snapshots step i j holds.is_step holds.are lt
+            (subst (λ (c : List ℕ). j ≤ places c step) holds.counts_are le),
+      )
+
+  needs-up : (i j : ℕ) → i < j → j ≤ places counts step → need_at counts step i ≤ need_at counts step j
+  needs-up i j lt le = omega (arith, places_ascend counts step i j holds.is_step lt le)
+
+  -- the sums of a snapshot ascend
+  pub sums-size : (t : ℕ) → t < length snapshots → length (slice_index_or sums t []) ≡ places counts step + 1
+  sums-size t lt = (holds.sums_are.each t lt).size
+
+  pub sums-ascend : (t i j : ℕ) → t < length snapshots → i < j → j < places counts step + 1
+      → slice_index (slice_index_or sums t []) i ≤ slice_index (slice_index_or sums t []) j
+  sums-ascend t i j lt ij le =
+      let are = holds.sums_are.each t lt in
+      omega (
+        arith,
+        are.sums_are i (omega arith),
+        are.sums_are j (omega arith),
+        blocks-ascend step (need_at counts step i) (need_at counts step j) (slice_index_or snapshots t [])
+            (needs-up i j ij (omega arith)),
+      )
+
+  -- one snapshot more
+  pub most-raised : (i t : ℕ) (row old new : List ℕ) → t < length snapshots → row ≡ slice_index_or sums t []
+      → AreMostBlocks snapshots counts step i t old → IsRaised row i (length row) old new
+      → AreMostBlocks snapshots counts step i (t + 1) new
+  most-raised i t row old new lt is before raised = record {
+    size = raised.size ∙ before.size;
+    numbers_are = λ j ij le.
+        let are = holds.sums_are.each t lt in
+        let next : t + 1 ≡ suc t = omega arith in
+        let f = blocks_between step (need_at counts step i) (need_at counts step j) in
+        let all : length row ≡ places counts step + 1 = ap length is ∙ are.size in
+        omega (
+          arith,
+          raised.raised j ij (omega (arith, all)),
+          before.numbers_are j ij le,
+          ap (λ (r : List ℕ). slice_index r i) is,
+          ap (λ (r : List ℕ). slice_index r j) is,
+          are.sums_are i (omega arith),
+          are.sums_are j le,
+          blocks-sums step (need_at counts step i) (need_at counts step j) (slice_index_or snapshots t []) (needs-up i j ij le),
+          most-take f snapshots t lt,
+          ap (λ m. most f (take m snapshots)) next,
+        );
+  }
+
+  pub most-all : (i t : ℕ) (numbers : List ℕ) → t ≡ length snapshots → AreMostBlocks snapshots counts step i t numbers
+      → AreScaled snapshots counts step i (i + 1) numbers
+  most-all i t numbers all are = record {
+    size = are.size;
+    scaled = λ j ij lt. absurd (omega arith);
+    others = λ j ij from le. are.numbers_are j ij le
+        ∙ ap (most (blocks_between step (need_at counts step i) (need_at counts step j))) (take-all snapshots t all);
+  }
+
+  -- what the spans take
+  pub scaled-all : (i : ℕ) (numbers : List ℕ) → AreScaled snapshots counts step i (places counts step + 1) numbers → (j : ℕ) → i < j
+      → j ≤ places counts step → slice_index numbers j ≡ span_footprint snapshots step i j
+  scaled-all i numbers are j ij le =
+      are.scaled j ij (omega arith)
+      ∙ ap (λ (c : List ℕ). footprint_between snapshots step (need_at c step i) (need_at c step j)) holds.counts_are
+
+  span-product : (i j w : ℕ) (numbers : List ℕ) → AreScaled snapshots counts step i j numbers → i < j → j ≤ places counts step
+      → w ≡ slice_index numbers j * (16 * need_at counts step j)
+      → w ≡ footprint_between snapshots step (need_at counts step i) (need_at counts step j)
+  span-product i j w numbers are ij le product =
+      product ∙ ap (λ n. n * (16 * need_at counts step j)) (are.others j ij (omega arith) le)
+      ∙ mul_comm (most (blocks_between step (need_at counts step i) (need_at counts step j)) snapshots) (16 * need_at counts step j)
+
+  pub span-fits : (i j w : ℕ) (numbers : List ℕ) → AreScaled snapshots counts step i j numbers → i < j → j ≤ places counts step
+      → w ≡ slice_index numbers j * (16 * need_at counts step j) → w ≤ 2 ^ 60
+  span-fits i j w numbers are ij le product =
+      omega (
+        arith,
+        span-product i j w numbers are ij le product,
+        ap (λ (c : List ℕ). footprint_between snapshots step (need_at c step i) (need_at c step j)) holds.counts_are,
+        small-spans i j ij le,
+      )
+
+  -- one place more
+  pub scaled-more : (i j w : ℕ) (numbers : List ℕ) → AreScaled snapshots counts step i j numbers → i < j → j ≤ places counts step
+      → w ≡ slice_index numbers j * (16 * need_at counts step j) → AreScaled snapshots counts step i (j + 1) (slice_set numbers j w)
+  scaled-more i j w numbers are ij le product = record {
+    size = length-set numbers j w ∙ are.size;
+    scaled = λ k ik lt. elim (cases_lt k j) [
+      | inl before ↦ get_or-set_other numbers j k w 0 (λ e. omega (arith, e)) ∙ are.scaled k ik before
+      | inr not ↦ (let here : k ≡ j = omega arith in
+          rw here (get_or-set_same numbers j w 0 (omega (arith, are.size)) ∙ span-product i j w numbers are ij le product))
+    ];
+    others = λ k ik from within.
+        get_or-set_other numbers j k w 0 (λ e. omega (arith, e)) ∙ are.others k ik (omega arith) within;
+  }

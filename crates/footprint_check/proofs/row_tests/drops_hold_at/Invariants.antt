@@ -1,0 +1,5 @@
+use Rattle.footprint_check.specs.RowConditions.{DropsHoldAt}
+use Rattle.footprint_check.proofs.row_tests.drops_hold_at.Given as goal
+
+abbrev pub invariant-loop-k : goal.invariant-loop-k
+invariant-loop-k l = record { drops : DropsHoldAt l.rows l.i l.k }

@@ -1,0 +1,4 @@
+pub mod CallCounts
+pub mod Laws
+pub mod RowConditions
+pub mod SnapshotSums
