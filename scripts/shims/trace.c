@@ -1,32 +1,48 @@
 // Writes what a program does with its allocator as a trace. A library for LD_PRELOAD and glibc; scripts/trace_program builds and uses it.
 //
-// TRACE=FILE       the trace: whole lines, and then bytes 0. The file is mapped, so a killed program leaves its trace too. The first process
-//                  that makes the file is traced, and no other: neither its forks nor what they run.
-// TRACE_ONLY=NAME  only a process whose program has this name makes the file.
-#define _GNU_SOURCE
-#include <errno.h>
-#include <fcntl.h>
-#include <pthread.h>
-#include <stdio.h>
-#include <stdlib.h>
-#include <string.h>
-#include <sys/mman.h>
-#include <unistd.h>
+// TRACE=FILE       a page of notes (recorder.h), and the trace: whole lines. The file is mapped, so a killed program leaves its trace too.
+//                  The first process is traced, and no other: neither its forks nor what they run. Where it runs another program in its
+//                  own place, the trace begins anew.
+// TRACE_ONLY=NAME  only a process whose program has this name is traced.
+// TRACE_FIRST=N    the trace has at most N events.
+#include "recorder.h"
 
-enum { VARIABLES = 1023, SHARED = 1023, EVENTS = 1000000, LINE = 32, MOST = 2147483647, REACH = 1048576 };
-extern void *__libc_malloc(size_t), *__libc_calloc(size_t, size_t), *__libc_realloc(void *, size_t), *__libc_memalign(size_t, size_t);
-extern void __libc_free(void *);
+enum { VARIABLES = 1023, SHARED = 1023, EVENTS = 1000000, LINE = 32, MOST = 2147483647, REACH = 1048576, LEAST_ROOM = 65536 };
+static const uint64_t FORM = 0x3145434152544C;
 
-static char *text;                   // where the next line goes; null while nothing is traced
-static int events, started;
-static void start(void);
-static void *variables[VARIABLES];   // the live pointer of each variable, or null
+static char *text, *end;                 // where the next line goes, and the end of the room; null while nothing is traced
+static size_t most;                      // the events that the trace may have
+static int is_other;                     // whether another process is the one that is traced
+static void *variables[VARIABLES];       // the live pointer of each variable, or null
+static void *freed[VARIABLES];           // the pointer that each variable had at its last free
+static size_t freed_at[VARIABLES], sizes[VARIABLES];
 static pthread_mutex_t lock = PTHREAD_MUTEX_INITIALIZER;
 
-#define LINE_OF(...) (events++, text += snprintf(text, LINE, __VA_ARGS__))
+// The live blocks that have no variable: a table by address, in which a freed one's place stays taken. No more are put in than there are
+// events, and the blocks from before the trace.
+enum { PLACES = 1 << 21 };
+static char gone;
+static void **table;
 
-// an event has at most two others beside it
-static int is_tracing(void) { return text && events <= EVENTS - 3; }
+static void **place_of(void *pointer) {
+  static void *unknown;
+  if (!table) table = mmap(NULL, PLACES * sizeof *table, PROT_READ | PROT_WRITE, MAP_PRIVATE | MAP_ANONYMOUS | MAP_NORESERVE, -1, 0);
+  if (table == MAP_FAILED) return unknown = &gone, &unknown;
+  size_t i = (uintptr_t)pointer / 16 * 0x9E3779B97F4A7C15ULL >> 43;
+  while (table[i] && table[i] != pointer) i = (i + 1) % PLACES;
+  return &table[i];
+}
+
+static int is_tracing(void) { return text && here->recorded && !notes->ended; }
+
+// Whether there is room for an event, with the two that it may have beside it; else the trace ends here.
+static int has_room(void) {
+  if (notes->events + 3 > most) notes->ended = 1;
+  else if (end - text < 3 * LINE) notes->ended = 2;
+  return !notes->ended;
+}
+
+#define LINE_OF(...) (text += snprintf(text, LINE, __VA_ARGS__), notes->events++, notes->length = text - (char *)notes - PAGE)
 
 // the variable that holds the pointer; for a null pointer the lowest one that holds none; SHARED if there is none
 static int variable_of(void *pointer) {
@@ -35,106 +51,198 @@ static int variable_of(void *pointer) {
   return i;
 }
 
+static void hold(int variable, void *pointer, size_t size) {
+  if (variable < VARIABLES) variables[variable] = pointer, sizes[variable] = size;
+  else if (pointer) *place_of(pointer) = pointer;
+}
+
 // the request is made; the first byte and the last one are stored to
 static void request(const char *name, int variable, void *pointer, size_t size) {
-  if (!is_tracing()) return;
+  if (!has_room()) return;
+  hold(variable, pointer, size);
   if (size > MOST) size = MOST;
-  if (variable < VARIABLES) variables[variable] = pointer;
   LINE_OF("%s %d %zu\n", name, variable, size);
   if (size > 0) LINE_OF("store %d 0 1 a5\n", variable);
   if (size > 1 && size - 1 <= REACH) LINE_OF("store %d %zu 1 5a\n", variable, size - 1);
 }
 
-static void *fresh(const char *name, void *pointer, size_t size) {
-  if (!started) start();
-  if (!text) return pointer;
-  int error = errno;
-  pthread_mutex_lock(&lock);
-  request(name, pointer ? variable_of(NULL) : SHARED, pointer, size);
-  pthread_mutex_unlock(&lock);
-  errno = error;
+static void new_block(const char *name, void *pointer, size_t size) {
+  int variable = pointer ? variable_of(NULL) : SHARED;
+  if (pointer && has_room()) ++*(variable < VARIABLES ? &notes->variables : &notes->shared);
+  request(name, variable, pointer, size);
+}
+
+// A block from before the trace. Any other process is not traced.
+static void *untraced(void *pointer) {
+  if (!started && pointer) *place_of(pointer) = pointer;
+  if (is_other || (text && !here->recorded)) note_other();
   return pointer;
 }
 
-void *malloc(size_t size) { return fresh("malloc", __libc_malloc(size), size); }
+// after the call that gets a block
+static void *fresh(const char *name, void *pointer, size_t size) {
+  int error = errno;
+  if (!is_tracing()) {
+    untraced(pointer);
+  } else {
+    pthread_mutex_lock(&lock);
+    new_block(name, pointer, size);
+    pthread_mutex_unlock(&lock);
+  }
+  errno = error;
+  inside--;
+  return pointer;
+}
+
+// The free, or with `size` the realloc, of a pointer that no live block has. Where a variable had it until its own free, the event is once
+// more of that one. Else it is of the block next to it, from a granule within: variable 1023 is moved there. The heap refuses both.
+static void wrong(void *pointer, const size_t *size) {
+  if (!has_room()) return;
+  notes->wrong++;
+  int found = SHARED, near = SHARED;
+  for (int i = 0; i < VARIABLES; i++) {
+    if (!variables[i] && freed[i] == pointer && (found == SHARED || freed_at[i] > freed_at[found])) found = i;
+    if (variables[i] && variables[i] < pointer && (near == SHARED || variables[i] > variables[near])) near = i;
+  }
+  if (found == SHARED) {
+    size_t granules = 1;
+    if (near < SHARED && (char *)pointer < (char *)variables[near] + sizes[near]) granules = ((char *)pointer - (char *)variables[near]) / 16;
+    LINE_OF("addg 1023 %d %zu 0\n", near, granules < 1 ? 1 : granules > 63 ? 63 : granules);
+  }
+  if (size) LINE_OF("realloc %d %zu\n", found, *size > MOST ? MOST : *size);
+  else LINE_OF("free %d\n", found);
+}
+
+static void lose(void *pointer) {
+  if (!is_tracing()) {
+    if (!started && pointer) *place_of(pointer) = &gone;
+    return;
+  }
+  pthread_mutex_lock(&lock);
+  int variable = variable_of(pointer);
+  void **place = variable == SHARED ? place_of(pointer) : NULL;
+  if (!place && has_room()) {
+    LINE_OF("load %d 0 1\n", variable);
+    LINE_OF("free %d\n", variable);
+    variables[variable] = NULL, freed[variable] = pointer, freed_at[variable] = notes->events;
+  } else if (place) {
+    if (*place) *place = &gone;
+    else wrong(pointer, NULL);
+  }
+  pthread_mutex_unlock(&lock);
+}
+
+static void *own_malloc(size_t size) {
+  if (!is_own()) return next.malloc(size);
+  inside++;
+  return fresh("malloc", next.malloc(size), size);
+}
+void *malloc(size_t size) __attribute__((alias("own_malloc")));
 
 void *calloc(size_t number, size_t each) {
+  if (!is_own()) return next.calloc(number, each);
   size_t size;
   if (__builtin_mul_overflow(number, each, &size)) size = MOST;
-  return fresh("calloc", __libc_calloc(number, each), size);
+  inside++;
+  return fresh("calloc", next.calloc(number, each), size);
 }
 
 void free(void *pointer) {
-  int error = errno;
-  if (text && pointer) {
-    pthread_mutex_lock(&lock);
-    int variable = variable_of(pointer);
-    if (variable < VARIABLES && is_tracing()) {
-      LINE_OF("load %d 0 1\n", variable);
-      LINE_OF("free %d\n", variable);
-      variables[variable] = NULL;
-    }
-    pthread_mutex_unlock(&lock);
-  }
-  __libc_free(pointer);
+  int error = errno, own = is_own();
+  inside++;
+  if (own && pointer) lose(pointer);
+  next.free(pointer);
+  inside--;
   errno = error;
 }
 
 // while the block moves, its variable holds no pointer of the program and is not free either
-void *realloc(void *pointer, size_t size) {
+static void *resized(void *pointer, size_t size) {
   static char moving;
-  if (!pointer) return malloc(size);
-  if (!size) return free(pointer), NULL;
-  if (!text) return __libc_realloc(pointer, size);
+  if (!is_tracing()) {
+    void *moved = next.realloc(pointer, size);
+    if (moved) lose(pointer);
+    return untraced(moved);
+  }
   pthread_mutex_lock(&lock);
   int variable = variable_of(pointer);
-  if (variable < VARIABLES) variables[variable] = &moving;
+  void **place = variable == SHARED ? place_of(pointer) : NULL;
+  if (!place) variables[variable] = &moving;
+  else if (*place) *place = &gone;
+  else wrong(pointer, &size), place = NULL;
   pthread_mutex_unlock(&lock);
-  void *moved = __libc_realloc(pointer, size);
+  void *moved = next.realloc(pointer, size);
   int error = errno;
   pthread_mutex_lock(&lock);
   if (variable < VARIABLES) variables[variable] = moved ? moved : pointer;
+  else if (place && !moved) *place = pointer;
   if (moved && variable < VARIABLES) request("realloc", variable, moved, size);
-  else request("malloc", moved ? variable_of(NULL) : SHARED, moved, size);
+  else if (moved || place || variable < VARIABLES) new_block("malloc", moved, size);
   pthread_mutex_unlock(&lock);
   errno = error;
   return moved;
 }
 
+void *realloc(void *pointer, size_t size) {
+  if (!is_own()) return next.realloc(pointer, size);
+  inside++;
+  if (!pointer) return fresh("malloc", next.realloc(NULL, size), size);
+  void *moved;
+  if (size) {
+    moved = resized(pointer, size);
+  } else {  // a free; another allocator than glibc's may give a block for it
+    lose(pointer);
+    moved = next.realloc(pointer, 0);
+    if (moved) return fresh("malloc", moved, 0);
+  }
+  inside--;
+  return moved;
+}
+
 // an aligned request is traced as the bytes that an allocator with 16-byte granules sets aside for it
-void *memalign(size_t alignment, size_t size) {
+static size_t aligned(size_t alignment, size_t size) {
   size_t all = size;
   if (alignment > 16 && __builtin_add_overflow(size, alignment - 16, &all)) all = MOST;
-  return fresh("malloc", __libc_memalign(alignment, size), all);
+  return all;
 }
 
-void *aligned_alloc(size_t alignment, size_t size) { return memalign(alignment, size); }
+#define ALIGNED(call, alignment, size) \
+  if (!is_own()) return next.call; \
+  inside++; \
+  return fresh("malloc", next.call, aligned(alignment, size));
+
+void *memalign(size_t alignment, size_t size) { ALIGNED(memalign(alignment, size), alignment, size) }
+
+void *aligned_alloc(size_t alignment, size_t size) { ALIGNED(aligned_alloc(alignment, size), alignment, size) }
+
+void *valloc(size_t size) { ALIGNED(valloc(size), getpagesize(), size) }
+
+void *pvalloc(size_t size) {
+  size_t page = getpagesize(), all = size <= -page ? (size + page - 1) / page * page : size;
+  ALIGNED(pvalloc(size), page, all)
+}
 
 int posix_memalign(void **result, size_t alignment, size_t size) {
-  if (alignment % sizeof(void *) || !alignment || alignment & (alignment - 1)) return EINVAL;
-  int error = errno;
-  void *pointer = memalign(alignment, size);
-  errno = error;
-  if (!pointer) return ENOMEM;
-  *result = pointer;
-  return 0;
+  if (!is_own()) return next.posix_memalign(result, alignment, size);
+  inside++;
+  int refused = next.posix_memalign(result, alignment, size);
+  if (refused == EINVAL) inside--;
+  else fresh("malloc", refused ? NULL : *result, aligned(alignment, size));
+  return refused;
 }
 
-static void leave(void) { text = NULL; }  // in a forked child
-
-// At the first request after libc has its environment: constructors of other libraries come before this one's would.
-static void start(void) {
-  if (!environ) return;
-  started = 1;
-  const char *file = getenv("TRACE"), *only = getenv("TRACE_ONLY");
-  if (!file || (only && strcmp(only, program_invocation_short_name))) return;
-  int opened = open(file, O_RDWR | O_CREAT | O_EXCL | O_CLOEXEC, 0666);
-  if (opened < 0) return;
-  char *mapped = MAP_FAILED;
-  size_t room = (size_t)EVENTS * LINE;
-  if (!ftruncate(opened, room)) mapped = mmap(0, room, PROT_READ | PROT_WRITE, MAP_SHARED, opened, 0);
-  close(opened);
-  if (mapped == MAP_FAILED) return;
-  pthread_atfork(NULL, NULL, leave);
-  text = mapped;
+static void begin(void) {
+  const char *only = getenv("TRACE_ONLY"), *first = getenv("TRACE_FIRST");
+  if (only && strcmp(only, program_invocation_short_name)) return;
+  size_t room;
+  notes = map_file("TRACE", FORM, LEAST_ROOM, (size_t)EVENTS * LINE, &room);
+  if (!notes) return;
+  examine(0);
+  if (untouched) return;
+  is_other = !is_the_one();
+  record_here(!is_other);
+  if (is_other) return;
+  most = first ? strtoul(first, NULL, 10) : EVENTS;
+  notes->length = notes->events = notes->variables = notes->shared = notes->wrong = notes->ended = 0;
+  text = (char *)notes + PAGE, end = text + room;
 }

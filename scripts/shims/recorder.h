@@ -1,0 +1,244 @@
+// What the two recording libraries share: sizes.c counts requests, trace.c writes a trace.
+//
+// Neither has blocks of its own. Each call goes on to the function that it would have reached without the library, so that a program with
+// another allocator gets and frees that allocator's blocks alone. A process is left untouched where its own allocator can't be followed:
+// the calls then pass through, and the notes name the file that has the allocator.
+//
+// Nothing here may end the program: a file that can't be made or is too small is told on standard error, and not written to.
+#ifndef RECORDER_H
+#define RECORDER_H
+#ifndef _GNU_SOURCE
+#define _GNU_SOURCE
+#endif
+#include <dlfcn.h>
+#include <elf.h>
+#include <errno.h>
+#include <fcntl.h>
+#include <limits.h>
+#include <link.h>
+#include <pthread.h>
+#include <signal.h>
+#include <stddef.h>
+#include <stdint.h>
+#include <stdio.h>
+#include <stdlib.h>
+#include <string.h>
+#include <sys/mman.h>
+#include <sys/resource.h>
+#include <sys/stat.h>
+#include <unistd.h>
+
+// The first page of the file. The scripts read it: scripts/shims/recording.
+enum { PAGE = 4096, NAME = 1024 };
+struct notes {
+  uint64_t form;            // which library's file it is
+  uint64_t process;         // the process that is counted, where it is one alone
+  uint64_t others;          // how many other processes made requests, which are not recorded,
+  uint64_t other_requests;  // and how many requests
+  uint64_t untouched;       // how many processes have an allocator that can't be followed
+  uint64_t foreign;         // how many have another one than glibc's that is followed
+  uint64_t most;            // sizes.c: the bytes live at the peak
+  uint64_t length;          // trace.c: of the text,
+  uint64_t events;          // and its events
+  uint64_t variables;       // blocks with a variable of their own
+  uint64_t shared;          // blocks without
+  uint64_t wrong;           // frees of what is no live block
+  uint64_t ended;           // why the trace ended: 1 that many events are the most, 2 there is no more room in the file
+  char allocator[NAME] __attribute__((aligned(NAME)));  // the file that has the allocator of the last process that has another one
+};
+_Static_assert(sizeof(struct notes) <= PAGE, "the notes are one page");
+
+extern void *__libc_malloc(size_t), *__libc_calloc(size_t, size_t), *__libc_realloc(void *, size_t);
+extern void __libc_free(void *);
+
+// The functions that the calls go on to. The four of glibc serve only what finding them requests itself.
+static struct {
+  void *(*malloc)(size_t), *(*calloc)(size_t, size_t), *(*realloc)(void *, size_t);
+  void (*free)(void *);
+  void *(*memalign)(size_t, size_t), *(*aligned_alloc)(size_t, size_t), *(*valloc)(size_t), *(*pvalloc)(size_t);
+  int (*posix_memalign)(void **, size_t, size_t);
+  size_t (*usable)(void *);
+} next = {.malloc = __libc_malloc, .calloc = __libc_calloc, .realloc = __libc_realloc, .free = __libc_free};
+
+static struct notes *notes;
+static int started, untouched;  // whether the process is left untouched
+
+// Whether this process itself is recorded is on a page that a forked child sees empty, however it is forked.
+static struct { int recorded, noted; } nowhere, *here = &nowhere;
+
+// An allocator may call another of its own functions by its public name: that is no request of the program.
+static __thread int inside __attribute__((tls_model("initial-exec")));
+
+static const char *file_of(void *function) {
+  Dl_info info;
+  return dladdr(function, &info) && info.dli_fname && *info.dli_fname ? info.dli_fname : program_invocation_name;
+}
+
+static int is_same(void *one, void *other) { return !strcmp(file_of(one), file_of(other)); }
+
+// Other calls of an allocator that get or free blocks. Whoever makes them is not seen, so neither are his requests.
+static int is_other_call(const char *name) {
+  static const char *const prefixes[] = {"_Zn", "_Zd", "je_", "tc_", "mi_", "smallocx", "free_"};
+  static const char *const names[] = {"mallocx", "rallocx", "xallocx", "dallocx", "sdallocx", "cfree"};
+  for (size_t i = 0; i < sizeof prefixes / sizeof *prefixes; i++)
+    if (!strncmp(name, prefixes[i], strlen(prefixes[i]))) return 1;
+  for (size_t i = 0; i < sizeof names / sizeof *names; i++)
+    if (!strcmp(name, names[i])) return 1;
+  return 0;
+}
+
+// whether an object that is loaded, other than the allocator's own, calls the allocator in a way that is not seen
+static int calls_otherwise(struct dl_phdr_info *object, size_t size, void *allocator) {
+  (void)size;
+  const ElfW(Dyn) *dynamic = NULL;
+  for (int i = 0; i < object->dlpi_phnum; i++)
+    if (object->dlpi_phdr[i].p_type == PT_DYNAMIC) dynamic = (const void *)(object->dlpi_addr + object->dlpi_phdr[i].p_vaddr);
+  if (!dynamic || !strcmp(object->dlpi_name, "linux-vdso.so.1") || !strcmp(object->dlpi_name, file_of(allocator))) return 0;
+  const ElfW(Sym) *symbols = NULL;
+  const char *strings = NULL;
+  const ElfW(Rela) *bound[2] = {NULL, NULL};  // the relocations name the symbols that the object uses
+  size_t bytes[2] = {0, 0};
+  for (; dynamic->d_tag != DT_NULL; dynamic++) {
+    const void *at = (const void *)(dynamic->d_un.d_ptr < object->dlpi_addr ? object->dlpi_addr + dynamic->d_un.d_ptr : dynamic->d_un.d_ptr);
+    if (dynamic->d_tag == DT_SYMTAB) symbols = at;
+    if (dynamic->d_tag == DT_STRTAB) strings = at;
+    if (dynamic->d_tag == DT_RELA) bound[0] = at;
+    if (dynamic->d_tag == DT_RELASZ) bytes[0] = dynamic->d_un.d_val;
+    if (dynamic->d_tag == DT_JMPREL) bound[1] = at;
+    if (dynamic->d_tag == DT_PLTRELSZ) bytes[1] = dynamic->d_un.d_val;
+  }
+  for (int k = 0; symbols && strings && k < 2; k++)
+    for (size_t i = 0; bound[k] && i < bytes[k] / sizeof(ElfW(Rela)); i++) {
+      const ElfW(Sym) *symbol = symbols + ELF64_R_SYM(bound[k][i].r_info);
+      if (symbol->st_shndx != SHN_UNDEF || !is_other_call(strings + symbol->st_name)) continue;
+      void *reached = dlsym(RTLD_NEXT, strings + symbol->st_name);
+      if (reached && is_same(reached, allocator)) return 1;
+    }
+  return 0;
+}
+
+#define FIND(function, name) (next.function = (__typeof__(next.function))dlsym(RTLD_NEXT, name))
+
+static void find_next(void) {
+  if (next.usable) return;
+  FIND(usable, "malloc_usable_size"), FIND(posix_memalign, "posix_memalign"), FIND(aligned_alloc, "aligned_alloc");
+  FIND(memalign, "memalign"), FIND(valloc, "valloc"), FIND(pvalloc, "pvalloc");
+  FIND(calloc, "calloc"), FIND(realloc, "realloc"), FIND(free, "free"), FIND(malloc, "malloc");
+}
+
+static void begin(void);  // the library's own start
+
+// At the first request after libc has its environment: constructors of other libraries come before this one's.
+__attribute__((constructor)) static void start(void) {
+  if (started || inside) return;
+  int error = errno;
+  inside++;
+  find_next();
+  if (environ) started = 1, begin();
+  inside--;
+  errno = error;
+}
+
+// whether a call is the program's own, and its process one that is not left untouched
+static int is_own(void) {
+  if (!started) start();
+  return !inside && !untouched;
+}
+
+static void *own_malloc(size_t);                         // the library's
+static void *(*volatile bound_malloc)(size_t) = malloc;  // the one that the program reaches: of two, the loader takes the first
+
+// Decides whether the allocator can be followed, and notes another one than glibc's. `usable` says whether its malloc_usable_size is needed.
+static void examine(int usable) {
+  void *allocator = (void *)bound_malloc;
+  if (bound_malloc != own_malloc) {
+    untouched = 1;
+  } else {
+    void *libc = dlsym(RTLD_NEXT, "gnu_get_libc_version");
+    allocator = (void *)next.malloc;
+    if (libc && is_same(libc, allocator)) return;
+    untouched = !is_same(allocator, (void *)next.free) || !is_same(allocator, (void *)next.realloc) ||
+                !is_same(allocator, (void *)next.calloc) || (usable && !is_same(allocator, (void *)next.usable)) ||
+                dl_iterate_phdr(calls_otherwise, allocator);
+  }
+  char path[PATH_MAX];
+  snprintf(notes->allocator, NAME, "%s", realpath(file_of(allocator), path) ? path : file_of(allocator));
+  __atomic_fetch_add(untouched ? &notes->untouched : &notes->foreign, 1, __ATOMIC_RELAXED);
+}
+
+static void say(const char *variable, const char *file, const char *what, int error) {
+  char line[PATH_MAX + 256];
+  int length = snprintf(line, sizeof line, "%s=%s: %s%s%s; nothing is recorded\n", variable, file, what, error ? ": " : "", error ? strerror(error) : "");
+  if (length >= (int)sizeof line) length = sizeof line - 1;
+  if (write(STDERR_FILENO, line, length) < 0) return;
+}
+
+// Maps the file of an environment variable: a page of notes, and then at most `most` bytes but at least `least`, all of them with a place on
+// the disk: a write to a page that gets none would end the program. Null where that can't be. With RECORDING_QUIET there is no word where the
+// file's folder is gone: a script made it for its own run, and the program runs on.
+static void *map_file(const char *variable, uint64_t form, size_t least, size_t most, size_t *room) {
+  char *file = getenv(variable);
+  if (!file || !*file) return NULL;
+  int opened = open(file, O_RDWR | O_CREAT | O_CLOEXEC | O_NOFOLLOW | O_NONBLOCK | O_NOCTTY, 0666);
+  const char *wrong = NULL;
+  int error = 0;
+  void *mapped = MAP_FAILED;
+  struct stat status;
+  if (opened < 0) {
+    if (errno == ENOENT && getenv("RECORDING_QUIET")) return NULL;
+    wrong = "the file can't be made or opened", error = errno;
+  } else if (fstat(opened, &status) || !S_ISREG(status.st_mode)) {
+    wrong = "it is no file";
+  } else if (status.st_size >= (off_t)(PAGE + least)) {
+    most = status.st_size - PAGE;
+  } else if (status.st_size) {
+    wrong = "it is another file, and stays as it is";
+  } else {
+    struct rlimit limit;
+    if (getrlimit(RLIMIT_FSIZE, &limit)) limit.rlim_cur = RLIM_INFINITY;
+    for (;; most = most / 2 > least ? most / 2 : least) {
+      // above the limit a signal would end the program
+      do error = limit.rlim_cur < PAGE + most ? EFBIG : posix_fallocate(opened, 0, PAGE + most);
+      while (error == EINTR);
+      if (!error || most <= least) break;
+    }
+    if (error) wrong = ftruncate(opened, 0) ? "there is no room for it, and it can't be emptied" : "there is no room for it";
+  }
+  if (!wrong) mapped = mmap(NULL, PAGE + most, PROT_READ | PROT_WRITE, MAP_SHARED, opened, 0);
+  if (!wrong && mapped == MAP_FAILED) wrong = "it can't be mapped", error = errno;
+  if (opened >= 0) close(opened);
+  uint64_t none = 0;
+  if (!wrong && !__atomic_compare_exchange_n(&((struct notes *)mapped)->form, &none, form, 0, __ATOMIC_SEQ_CST, __ATOMIC_SEQ_CST) && none != form) {
+    munmap(mapped, PAGE + most);
+    wrong = "it is another file, and stays as it is";
+  }
+  if (wrong) {
+    say(variable, file, wrong, error);
+    *file = 0;  // the processes that this one starts don't say it again
+    return NULL;
+  }
+  *room = most;
+  return mapped;
+}
+
+// whether the process is the one that is recorded, where it is one alone: the first that comes, also after it ran another program
+static int is_the_one(void) {
+  uint64_t none = 0, process = getpid();
+  return __atomic_compare_exchange_n(&notes->process, &none, process, 0, __ATOMIC_SEQ_CST, __ATOMIC_SEQ_CST) || none == process;
+}
+
+static void leave(void) { here->recorded = here->noted = 0; }  // in a forked child
+
+static void record_here(int recorded) {
+  void *page = mmap(NULL, PAGE, PROT_READ | PROT_WRITE, MAP_PRIVATE | MAP_ANONYMOUS, -1, 0);
+  if (page != MAP_FAILED) here = page;
+  if (page == MAP_FAILED || madvise(page, PAGE, MADV_WIPEONFORK)) pthread_atfork(NULL, NULL, leave);
+  here->recorded = recorded;
+}
+
+// a request of a process that is not recorded
+static void note_other(void) {
+  if (!here->noted) here->noted = 1, __atomic_fetch_add(&notes->others, 1, __ATOMIC_RELAXED);
+  __atomic_fetch_add(&notes->other_requests, 1, __ATOMIC_RELAXED);
+}
+#endif
