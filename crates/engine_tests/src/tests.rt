@@ -1,3 +1,4 @@
+mod codes;
 mod engines;
 mod memory;
 mod streams;

@@ -64,8 +64,13 @@ const TWO_SIZES: &[u8] = b"16 3\n40 1\n";
 
 const THREE_SIZES: &[u8] = b"16 1\n32 1\n48 1\n";
 
+// one request of no bytes; one of the largest counted size, and a larger one
+const NO_BYTES: &[u8] = b"0 1\n";
+
+const LARGEST: &[u8] = b"16368 1\nlarge 1\n";
+
 // profiles with a limit and a step each
-const CASES: [(&[u8], u8, u8); 8] = [
+const CASES: [(&[u8], u8, u8); 10] = [
     (TWO_SIZES, 1, 1),
     (TWO_SIZES, 2, 1),
     (TWO_SIZES, 32, 1),
@@ -73,6 +78,8 @@ const CASES: [(&[u8], u8, u8); 8] = [
     (THREE_SIZES, 2, 1),
     (THREE_SIZES, 2, 2),
     (THREE_SIZES, 1, 8),
+    (NO_BYTES, 1, 1),
+    (LARGEST, 1, 1),
     (b"", 1, 1),
 ];
 

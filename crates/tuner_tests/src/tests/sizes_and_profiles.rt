@@ -114,6 +114,17 @@ fn added_requests_are_written(rt: HostRuntime) -> Result<(), Fail> {
     Ok(())
 }
 
+// a profile whose counts are the greatest ones is written as it was read
+#[test]
+fn full_counts_are_written(rt: HostRuntime) -> Result<(), Fail> {
+    let text = b"0 1000000000\n16368 1000000000\nlarge 1000000000\n";
+    let profile = Profile::read(rt.alloc(), text).ok().ok_or("a profile")?;
+    let mut written = Vec::new(rt.alloc());
+    profile.write(&mut written)?;
+    same(&rt, &written.as_slice(), &text.as_slice(), &"the text");
+    Ok(())
+}
+
 #[test]
 fn a_full_count_stays(rt: HostRuntime) -> Result<(), Fail> {
     let text = b"15 999999999\n16 1000000000\nlarge 1000000000\n";

@@ -2,7 +2,7 @@
 use super::support::{Repeated, ended};
 use crate::tests::streams::{sink, source};
 use crate::tests::support::{HEAP, same};
-use mte_engine::{MOST_INPUT, profile, replay, run};
+use mte_engine::{profile, replay, run};
 use std::alloc::{AllocError, Global};
 use std::test::Fail;
 
@@ -56,12 +56,12 @@ fn a_run_of_a_million_events(rt: HostRuntime) -> Result<(), Fail> {
 fn the_most_input_and_one_byte_more(rt: HostRuntime) -> Result<(), Fail> {
     let cases = [
         (
-            Some(MOST_INPUT),
+            Some(67_108_864),
             "error 23 BadLine line 1",
             "error 73 LineTooLong line 1",
         ),
         (
-            Some(MOST_INPUT + 1),
+            Some(67_108_865),
             "error 80 InputTooLong",
             "error 80 InputTooLong",
         ),

@@ -3,7 +3,7 @@ use super::calls::{Call, call_on};
 use super::support::{Repeated, ended};
 use crate::tests::streams::{sink, source};
 use crate::tests::support::same;
-use mte_engine::{ByteSink, ByteSource, MOST_INPUT, StreamSink, StreamSource, score};
+use mte_engine::{ByteSink, ByteSource, StreamSink, StreamSource, score};
 use std::io::{ErrorKind, Read, Write};
 use std::process::Abort;
 use std::test::Fail;
@@ -16,7 +16,7 @@ struct Case(Call, &'static str, &'static str);
 
 const SHEET: &str = "classes 2 4\nlimit 2\nwaste 8\nrow 104 8\nrow 8 8\n16 3\n40 1\n";
 
-const CASES: [Case; 6] = [
+const CASES: [Case; 7] = [
     Case(Call::Score, "classes 4\n16 3\n40 1\n", "waste 104\n"),
     Case(
         Call::Tune { limit: 2, step: 1 },
@@ -36,14 +36,22 @@ const CASES: [Case; 6] = [
          refused frees 0\nloss 0\n",
     ),
     Case(
+        Call::Replay { quarantine: 64 },
+        "classes 2 4\nmalloc 1 16\nstore 1 16 1 aa\nmalloc 2 0\nload 1 32 1\nfree 1\nload 1 0 1\n",
+        "2 fault tag granule 2 memory 0 pointer 1 in header\n4 fault tag granule 3 memory 2 pointer 1 in other\n\
+         6 fault tag granule 1 memory 3 pointer 1 in dead\nevents 6\nrequests 2\nnull large 0\nnull no-class 0\nnull exhausted 0\n\
+         faults tag 3\nfaults unmapped 0\nrefused frees 0\nloss 16\n",
+    ),
+    Case(
         Call::Run {
             limit: 2,
             step: 1,
             quarantine: 64,
         },
-        "malloc 1 16\nstore 1 16 1 aa\nmalloc 2 0\n",
-        "classes 2\nlimit 2\nwaste 16\nrow 16\nrow 16\n2 fault tag granule 2 memory 0 pointer 1 in header\nevents 3\nrequests 2\n\
-         null large 0\nnull no-class 0\nnull exhausted 0\nfaults tag 1\nfaults unmapped 0\nrefused frees 0\nloss 16\n",
+        "malloc 1 16\nstore 1 16 1 aa\nmalloc 2 0\nload 1 32 1\nfree 1\nload 1 0 1\n",
+        "classes 2\nlimit 2\nwaste 16\nrow 16\nrow 16\n2 fault tag granule 2 memory 0 pointer 1 in header\n\
+         4 fault tag granule 3 memory 2 pointer 1 in other\n6 fault tag granule 1 memory 3 pointer 1 in dead\nevents 6\nrequests 2\n\
+         null large 0\nnull no-class 0\nnull exhausted 0\nfaults tag 3\nfaults unmapped 0\nrefused frees 0\nloss 16\n",
     ),
 ];
 
@@ -145,19 +153,47 @@ fn each_write_fails_in_turn(rt: HostRuntime) -> Result<(), Fail> {
     Ok(())
 }
 
+// a writer of std that takes a byte at each of its first calls, and then none
+#[derive(Drop)]
+struct Filling {
+    text: Vec<u8>,
+    room: usize,
+}
+
+impl Write for Filling {
+    fn write(&mut self, buf: &[u8]) -> std::io::Result<usize> {
+        if self.text.len() >= self.room || buf.is_empty() {
+            return Ok(0);
+        }
+        match self.text.push(buf[0]) {
+            Ok(()) => Ok(1),
+            Err(_) => Err(ErrorKind::OutOfMemory.into()),
+        }
+    }
+
+    fn flush(&mut self) -> std::io::Result<()> {
+        Ok(())
+    }
+}
+
+// The write after so many bytes, of a byte each, takes none.
 #[test]
 fn a_write_that_takes_nothing_fails(rt: HostRuntime) -> Result<(), Fail> {
-    for Case(call, input, _) in CASES {
-        let streams = Streams { write: 0, ..WHOLE };
-        ends(
-            &rt,
-            call,
-            input,
-            streams,
-            "error 82 WriteFault",
-            (0, 1),
-            b"",
-        )?;
+    for Case(call, input, written) in CASES {
+        for room in 0..written.len() {
+            let mut filling = Filling {
+                text: Vec::new(rt.alloc()),
+                room,
+            };
+            let mut to = StreamSink::new(&mut filling);
+            let end = call_on(&rt, call, &mut source(input.as_bytes()), &mut to);
+            let failures = to.failures();
+            let ends = ended(rt.alloc(), end)?;
+            same(&rt, &ends.as_str(), &"error 82 WriteFault", &(call, room));
+            same(&rt, &failures, &1, &(call, room));
+            let before = &written.as_bytes()[..room];
+            same(&rt, &filling.text.as_slice(), &before, &(call, room));
+        }
     }
     Ok(())
 }
@@ -203,10 +239,11 @@ fn a_source_that_never_ends(rt: HostRuntime) -> Result<(), Fail> {
 #[test]
 fn the_most_input_and_one_byte_more(rt: HostRuntime) -> Result<(), Fail> {
     let cases = [
-        (Some(MOST_INPUT), usize::MAX, "error 23 BadLine line 1"),
-        (Some(MOST_INPUT), 1, "error 23 BadLine line 1"),
-        (Some(MOST_INPUT + 1), usize::MAX, "error 80 InputTooLong"),
-        (Some(MOST_INPUT + 1), 1, "error 80 InputTooLong"),
+        (Some(67_108_864), usize::MAX, "error 23 BadLine line 1"),
+        (Some(67_108_864), 1, "error 23 BadLine line 1"),
+        (Some(67_108_865), usize::MAX, "error 80 InputTooLong"),
+        (Some(67_108_865), 1, "error 80 InputTooLong"),
+        (None, 1, "error 80 InputTooLong"),
     ];
     for (left, most, wanted) in cases {
         let mut from = Repeated {

@@ -7,6 +7,14 @@ use chunk_header::{Header, State};
 use std::test::Fail;
 use tagged_heap::FreeError;
 
+// the first class of two, without a quarantine
+const FIRST_OF_TWO_CLASSES: &[Step] = &[
+    Malloc(1, 16),
+    FirstWord(65_601),
+    Free(1, Ok(())),
+    FirstWord(65_603),
+];
+
 const RELEASED: &[Step] = &[
     Malloc(1, 16),
     Pointer(1, pointer!(1, 1)),
@@ -103,6 +111,13 @@ fn reuse(rt: HostRuntime) -> Result<(), Fail> {
         &[2],
         64,
         RELEASED,
+    )?;
+    play(
+        &rt,
+        "first of two classes",
+        &[2, 4],
+        0,
+        FIRST_OF_TWO_CLASSES,
     )?;
     play(&rt, "freed last is given first", &[2], 0, LAST_FIRST)?;
     play(
