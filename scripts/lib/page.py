@@ -1,9 +1,9 @@
 """The page report.html: it has no script, and takes nothing from elsewhere. All text from outside is escaped."""
 
-import html
 import math
 
 from figures import GRANULE, byte_text, class_text, kibibytes, number, percent
+from pictures import Picture, escape, shown
 
 STYLE = """
 :root { color-scheme: light dark; --back: #ffffff; --text: #1f2328; --soft: #59636e; --line: #d1d9e0; --shade: #f6f8fa;
@@ -130,10 +130,6 @@ serves.</figcaption></figure>
 """
 
 
-def escape(text):
-    return html.escape(str(text))
-
-
 def with_code(text):
     """Escaped; words between backquotes are code."""
     parts = escape(text).split("`")
@@ -189,52 +185,6 @@ def class_row(figures, block, least, most, requests, lost):
     cells += f"<td>{percent(lost, whole) if whole else '–'}</td>"
     form = "" if requests else ' class="empty"'
     return f'<tr data-block="{block}"{form}>{cells}</tr>'
-
-
-class Picture:
-    """An SVG with a left and a lower axis. It takes its colors from the page."""
-
-    def __init__(self, kind, width, height, below, title):
-        self.kind = kind
-        self.width = width
-        self.height = height
-        self.left, self.right, self.top, self.bottom = 62, width - 20, 26, height - below
-        self.middle = (self.left + self.right) // 2
-        self.parts = []
-        self.text(0, 12, title)
-
-    def text(self, x, y, words, anchor="start"):
-        self.parts.append(f'<text x="{shown(x)}" y="{shown(y)}" text-anchor="{anchor}">{escape(words)}</text>')
-
-    def y(self, value, top):
-        return self.bottom - (self.bottom - self.top) * value / top
-
-    def levels(self, top, most, words):
-        """The grid of round values from 0 to TOP."""
-        for value in round_values(top, most):
-            y = shown(self.y(value, top))
-            self.parts.append(f'<path class="grid" d="M{self.left} {y}H{self.right}"/>')
-            self.text(self.left - 6, self.y(value, top) + 4, words(value), "end")
-
-    def tick(self, x, words):
-        self.parts.append(f'<path class="axis" d="M{shown(x)} {self.bottom}v4"/>')
-        self.text(x, self.bottom + 17, words, "middle")
-
-    def svg(self, name):
-        axis = f'<path class="axis" d="M{self.left} {self.bottom}H{self.right}"/>'
-        box = f'viewBox="0 0 {self.width} {self.height}"'
-        return f'<svg class="{self.kind}" {box} role="img" aria-label="{escape(name)}">{"".join(self.parts)}{axis}</svg>'
-
-
-def shown(value):
-    return f"{value:.1f}".removesuffix(".0")
-
-
-def round_values(top, most):
-    """The multiples of a round step from 0 to TOP, at most so many above 0."""
-    step = 10 ** math.floor(math.log10(top / most))
-    step *= next(factor for factor in (1, 2, 5, 10) if top <= most * step * factor * (1 + 1e-9))
-    return [step * at for at in range(int(top / step + 1e-9) + 1)]
 
 
 MARKS = [
