@@ -9,8 +9,8 @@ use class_table::LARGEST_COUNTED;
 use line_text::{Lines, capped_number_in, words_in};
 use tuner_theory::GREATEST_COUNT;
 
-// the first word of the line of large requests
-pub(crate) const LARGE: &[u8] = b"large";
+/// The first word of the line of large requests.
+pub const LARGE: &[u8] = b"large";
 
 /// What a line of a profile counts.
 #[derive(Debug, Clone, Copy, PartialEq, Eq)]
@@ -59,8 +59,8 @@ pub(crate) fn entry_in(next: u32, large: u32, line: &[u8]) -> Result<Entry, Prof
     numbers_entry(next, first, count)
 }
 
-// the words of a line, if there are two
-fn two_words(line: &[u8]) -> Option<(&[u8], &[u8])>
+/// The words of a line. `None` if they are not two.
+pub fn two_words(line: &[u8]) -> Option<(&[u8], &[u8])>
     ensures two { IfSome result (λ pair. words line.now ≡ pair.0.now ∷ pair.1.now ∷ []) }
     ensures other { IfNone result ((a b : List ℕ) → words line.now ≢ a ∷ b ∷ []) }
 {

@@ -10,6 +10,8 @@ mod reading;
 mod waste_and_unserved;
 mod writing;
 
+pub use entry::{LARGE, two_words};
 pub use fault::{CountFull, ProfileError, ProfileFault};
 pub use profile::Profile;
 pub use tuner_theory::GREATEST_COUNT;
+pub use waste_and_unserved::class_end;

@@ -72,8 +72,8 @@ impl Profile {
         Ok(())
     }
 
-    // Sets the count of a size.
-    pub(crate) fn set_count(&mut self, n: u32, count: u32)
+    /// Sets the count of a size of `n` bytes (0 to 16,368) to 0 to 1,000,000,000.
+    pub fn set_count(&mut self, n: u32, count: u32)
         requires size { n ≤ LARGEST_COUNTED }
         requires count { count ≤ GREATEST_COUNT }
         ensures { self.new ≡ with_count self.old n count }

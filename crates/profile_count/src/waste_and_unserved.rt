@@ -67,8 +67,8 @@ fn table_end(table: &ClassTable) -> u32
     class_end(table.class(table.len() - 1))
 }
 
-// the first size that a class does not serve
-fn class_end(class: u16) -> u32
+/// The first size in bytes that a class (in granules) does not serve.
+pub fn class_end(class: u16) -> u32
     requires { IsBlockSize class }
     ensures { result ≡ GRANULE_BYTES * class - (GRANULE_BYTES - 1) }
 {

@@ -1,0 +1,165 @@
+-- What a table takes, a class at a time: each class serves the sizes from where the one before it ends.
+use Rattle.std.proofs.Common.{◌≡◌, ℕ, zero, suc, ◌+◌, ◌-◌, ◌*◌, ◌<◌, ◌≤◌, ◌&&◌, Bool, true, false, List, [], ◌∷◌, length, get_or, drop, cond, leb, ltb, refl, sym, ap, ◌∙◌, arith, inl, inr, add-one}
+use Rattle.std.specs.Prelude.{All, slice_index}
+use Rattle.std.proofs.Math.Nat.{mul-le-mul}
+use Rattle.std.proofs.Math.Seq.{drop-cons}
+use Rattle.std.proofs.lemmas.Bool.{cases_lt, le-leb, le-ltb, lt-leb, lt-ltb}
+use Rattle.std.proofs.lemmas.List.{drop_all}
+use Rattle.std.proofs.lemmas.List.Elements.{All-head, All-tail}
+use Rattle.class_table.specs.Sizes.{largest_counted}
+use Rattle.class_table.specs.Tables.{IsLegalTable}
+use Rattle.class_table.specs.declared.sizes.TheConstants.{LARGEST_CLASS}
+use Rattle.profile_count.proofs.Waste.{sum_below-rest}
+use Rattle.tuner_theory.specs.Footprint.{blocks_between, footprint_between, footprint_of}
+use Rattle.tuner_theory.specs.Histories.{AreSnapshots, most}
+use Rattle.tuner_theory.specs.Intervals.{cost_above}
+use Rattle.tuner_theory.specs.Profiles.{AreCounts, greatest_count}
+use Rattle.tuner_theory.specs.Spans.{rounded_need}
+use Rattle.tuner_theory.specs.Waste.{sum_below}
+use Rattle.tuner_theory.proofs.Footprint.{footprint-sum}
+use Rattle.tuner_theory.proofs.Rounding.{fits-rounded, rounded-fits, rounded-positive}
+use Rattle.tuner_theory.proofs.Sums.{sum_below-more, sum_none}
+use Rattle.history_count.specs.Histories.{blocks_from}
+
+-- ---- where the sizes that need more granules begin
+
+-- The sizes from this one on need more granules than that.
+pub record IsCut (low from : ℕ) : Type 0 where
+  pub below : (n : ℕ) → n < from → rounded_need 1 n ≤ low
+  pub above : (n : ℕ) → from ≤ n → low < rounded_need 1 n
+
+pub cut-none : IsCut 1 0
+cut-none = record { below = λ n lt. absurd (omega arith); above = λ n le. rounded-positive 1 (omega arith) n }
+
+pub cut-class : (class : ℕ) → 2 ≤ class → IsCut class (16 * class - 15)
+cut-class class two = record {
+  below = λ n lt. fits-rounded 1 (omega arith) n class two (omega arith) (omega arith);
+  above = λ n le. elim (cases_lt class (rounded_need 1 n)) [
+    | inl lt ↦ lt
+    | inr not ↦ absurd (omega (arith, rounded-fits 1 (omega arith) n class not))
+  ];
+}
+
+pub cut-order : (low high from end : ℕ) → IsCut low from → IsCut high end → low ≤ high → from ≤ end
+cut-order low high from end is also le =
+    elim (cases_lt end from) [
+      | inl lt ↦ absurd (omega (arith, is.below end lt, also.above end (omega arith)))
+      | inr not ↦ not
+    ]
+
+-- ---- the blocks of an interval
+
+-- a sum over a window
+window : (f g : ℕ → ℕ) (from end : ℕ) → from ≤ end → ((n : ℕ) → n < from → f n ≡ 0) → ((n : ℕ) → from ≤ n → n < end → f n ≡ g n)
+    → sum_below g from + sum_below f end ≡ sum_below g end
+window f g from zero le none same =
+    let start : from ≡ 0 = omega arith in
+    omega (arith, ap (sum_below g) start, sum_none f 0 (λ n lt. absurd (omega arith)))
+window f g from (suc end) le none same =
+    elim (cases_lt end from) [
+      | inl all ↦ (let whole : from ≡ suc end = omega arith in
+          omega (arith, ap (sum_below g) whole, sum_none f (suc end) (λ n lt. none n (omega arith))))
+      | inr more ↦ omega (
+        arith,
+        sum_below-more f end,
+        sum_below-more g end,
+        same end more (omega arith),
+        window f g from end more none (λ n from lt. same n from (omega arith)),
+      )
+    ]
+
+and_left-false : (a b : Bool) → b ≡ false → (a && b) ≡ false
+and_left-false true b e = e
+and_left-false false b e = refl
+
+blocks-cut : (low high from end : ℕ) (s : List ℕ) → IsCut low from → IsCut high end → from ≤ end → end ≤ length s
+    → blocks_between 1 low high s ≡ blocks_from from end s
+blocks-cut low high from end s is also le within =
+    let f = λ (n : ℕ). cond (ltb low (rounded_need 1 n) && leb (rounded_need 1 n) high) (slice_index s n) 0 in
+    omega (
+      arith,
+      sum_below-rest f end (length s) within (λ n le. past n (also.above n le)),
+      window f (slice_index s) from end le (λ n lt. before n (is.below n lt)) (λ n from lt. inside n (is.above n from) (also.below n lt)),
+    )
+  where
+    past : (n : ℕ) → high < rounded_need 1 n → cond (ltb low (rounded_need 1 n) && leb (rounded_need 1 n) high) (slice_index s n) 0 ≡ 0
+    past n lt = rw (and_left-false (ltb low (rounded_need 1 n)) (leb (rounded_need 1 n) high) (lt-leb (rounded_need 1 n) high lt)) refl
+
+    before : (n : ℕ) → rounded_need 1 n ≤ low → cond (ltb low (rounded_need 1 n) && leb (rounded_need 1 n) high) (slice_index s n) 0 ≡ 0
+    before n le = rw (le-ltb low (rounded_need 1 n) le) refl
+
+    inside : (n : ℕ) → low < rounded_need 1 n → rounded_need 1 n ≤ high
+        → cond (ltb low (rounded_need 1 n) && leb (rounded_need 1 n) high) (slice_index s n) 0 ≡ slice_index s n
+    inside n lt le = rw (lt-ltb low (rounded_need 1 n) lt, le-leb (rounded_need 1 n) high le) refl
+
+most-same : (f g : List ℕ → ℕ) (snapshots : List (List ℕ)) → All AreCounts snapshots → ((s : List ℕ) → AreCounts s → f s ≡ g s)
+    → most f snapshots ≡ most g snapshots
+most-same f g [] are each = refl
+most-same f g (s ∷ ss) are each =
+    omega (arith, each s (All-head AreCounts s ss are), most-same f g ss (All-tail AreCounts s ss are) each)
+
+-- ---- class by class
+
+pub record TakenSoFar (snapshots : List (List ℕ)) (table : List ℕ) (number from total : ℕ) : Type 0 where
+  pub low : ℕ
+  pub cut : IsCut low from
+  pub summed : footprint_of snapshots table ≡ total + cost_above (footprint_between snapshots 1) low (drop number table)
+  pub small : total ≤ 16 * LARGEST_CLASS * greatest_count * from
+  pub inside : from ≤ largest_counted + 1
+  pub before : number < length table → low < get_or table number 0
+
+module _ (snapshots : List (List ℕ)) (table : List ℕ) (are : AreSnapshots snapshots) (legal : IsLegalTable 1 table) where
+  pub taken-none : TakenSoFar snapshots table 0 0 0
+  taken-none = record {
+    low = 1;
+    cut = cut-none;
+    summed = omega (arith, (footprint-sum snapshots 1 (omega arith) are).sum table legal);
+    small = omega arith;
+    inside = omega arith;
+    before = λ within. omega (arith, (legal.in_range 0 0 within).0);
+  }
+
+  module _ (number from total class : ℕ) (so_far : TakenSoFar snapshots table number from total) (within : number < length table)
+      (is : get_or table number 0 ≡ class) where
+    wide : 2 ≤ class
+    wide = omega (arith, is, (legal.in_range number 0 within).0)
+
+    narrow : class ≤ LARGEST_CLASS
+    narrow = omega (arith, is, (legal.in_range number 0 within).1)
+
+    pub taken-order : from ≤ 16 * class - 15
+    taken-order = cut-order so_far.low class from (16 * class - 15) so_far.cut (cut-class class wide) (omega (arith, is, so_far.before within))
+
+    pub taken-end : 16 * class - 15 ≤ largest_counted + 1
+    taken-end = omega (arith, narrow)
+
+    pub taken-small : (bytes blocks : ℕ) → bytes ≤ 16 * class → blocks ≤ greatest_count * (16 * class - 15 - from)
+        → total + bytes * blocks ≤ 16 * LARGEST_CLASS * greatest_count * (16 * class - 15)
+    taken-small bytes blocks few less =
+        let wide_bytes : bytes ≤ 16 * LARGEST_CLASS = omega (arith, few, narrow) in
+        let product = mul-le-mul {n₂ = 16 * LARGEST_CLASS} {m₂ = greatest_count * (16 * class - 15 - from)} wide_bytes less in
+        omega (arith, so_far.small, product, taken-order)
+
+    pub taken-more : (bytes blocks : ℕ) → bytes ≡ 16 * class → blocks ≡ most (blocks_from from (16 * class - 15)) snapshots
+        → blocks ≤ greatest_count * (16 * class - 15 - from)
+        → TakenSoFar snapshots table (number + 1) (16 * class - 15) (total + bytes * blocks)
+    taken-more bytes blocks of_class are_most less = record {
+      low = class;
+      cut = cut-class class wide;
+      summed =
+          let parts : drop number table ≡ class ∷ drop (number + 1) table = rw (add-one, drop-cons table number 0 within, is) refl in
+          let same : most (blocks_between 1 so_far.low class) snapshots ≡ blocks =
+          most-same _ _ snapshots are.counts (λ s counts. blocks-cut so_far.low class from (16 * class - 15) s so_far.cut (cut-class class wide)
+          taken-order (omega (arith, counts.sizes, taken-end))) ∙ sym are_most in
+          let first : footprint_between snapshots 1 so_far.low class ≡ bytes * blocks =
+          ap (λ m. 16 * class * m) same ∙ ap (λ b. b * blocks) (sym of_class) in
+          omega (arith, so_far.summed, ap (cost_above (footprint_between snapshots 1) so_far.low) parts, first);
+      small = taken-small bytes blocks (omega (arith, of_class)) less;
+      inside = taken-end;
+      before = λ more. omega (arith, is, legal.ascending number more);
+    }
+
+  pub taken-all : (number from total : ℕ) → TakenSoFar snapshots table number from total → length table ≤ number
+      → total ≡ footprint_of snapshots table
+  taken-all number from total so_far all =
+      omega (arith, so_far.summed, ap (cost_above (footprint_between snapshots 1) so_far.low) (drop_all number table all))

@@ -1,0 +1,132 @@
+-- The counts of one size in all snapshots, and what is left where they are set.
+use Rattle.std.proofs.Common.{◌≡◌, ◌≢◌, ℕ, zero, suc, ◌+◌, ◌<◌, ◌≤◌, List, [], ◌∷◌, length, get_or, set, take, refl, sym, ap, ◌∙◌, arith}
+use Rattle.std.specs.Prelude.{All, Vec, slice_index_or, slice_set}
+use Rattle.std.specs.Vec.{with_item}
+use Rattle.std.specs.declared.alloc.Global.{Global}
+use Rattle.std.proofs.lemmas.Grind.{same_number_lists}
+use Rattle.std.proofs.lemmas.List.{get_or-map, get_or-set_other, get_or-set_same, length-set, map-set}
+use Rattle.std.proofs.lemmas.List.Elements.{All-cons, All-head, All-nil, All-set, All-tail}
+use Rattle.class_table.specs.Sizes.{largest_counted}
+use Rattle.tuner_theory.specs.Profiles.{AreCounts, greatest_count}
+use Rattle.history_count.specs.Histories.{counts_of, lists_of, with_counts}
+
+pub lists-length : (vectors : List (Vec ℕ Global)) → length (lists_of vectors) ≡ length vectors
+lists-length [] = refl
+lists-length (v ∷ vs) = ap suc (lists-length vs)
+
+-- one count of one snapshot
+pub set-lists : (rows : List (Vec ℕ Global)) (k place x : ℕ) (d : Vec ℕ Global) → k < length rows
+    → lists_of (slice_set rows k (with_item (slice_index_or rows k d) place x))
+    ≡ slice_set (lists_of rows) k (slice_set (slice_index_or (lists_of rows) k []) place x)
+set-lists rows k place x d lt =
+    map-set (λ (v : Vec ℕ Global). v.items) rows k (with_item (slice_index_or rows k d) place x)
+    ∙ ap (λ (row : List ℕ). slice_set (lists_of rows) k (slice_set row place x))
+    (sym (get_or-map (λ (v : Vec ℕ Global). v.items) rows k d [] lt))
+
+-- a snapshot that was read
+pub row-read_at : (rows : List (Vec ℕ Global)) (k : ℕ) (v : Vec ℕ Global) (row : List ℕ) → k < length (lists_of rows)
+    → v ≡ slice_index_or rows k v → row ≡ v.items → row ≡ slice_index_or (lists_of rows) k []
+row-read_at rows k v row lt at is =
+    let inside : k < length rows = omega (arith, lt, lists-length rows) in
+    is ∙ ap (λ (v : Vec ℕ Global). v.items) at ∙ sym (get_or-map (λ (v : Vec ℕ Global). v.items) rows k v [] inside)
+
+-- ---- the snapshots with other counts of one size
+
+pub with_counts-length : (snapshots : List (List ℕ)) (n : ℕ) (counts : List ℕ) → length (with_counts snapshots n counts) ≡ length snapshots
+unfolding with_counts
+with_counts-length [] n counts = refl
+with_counts-length (s ∷ ss) n [] = refl
+with_counts-length (s ∷ ss) n (c ∷ cs) = ap suc (with_counts-length ss n cs)
+
+pub with_counts-none : (snapshots : List (List ℕ)) (n : ℕ) → with_counts snapshots n [] ≡ snapshots
+unfolding with_counts
+with_counts-none [] n = refl
+with_counts-none (s ∷ ss) n = refl
+
+-- the snapshot from which on none is changed
+pub with_counts-ahead : (snapshots : List (List ℕ)) (n t : ℕ) (counts : List ℕ)
+    → get_or (with_counts snapshots n (take t counts)) t [] ≡ get_or snapshots t []
+unfolding with_counts
+with_counts-ahead [] n t counts = refl
+with_counts-ahead (s ∷ ss) n zero counts = ap (λ (l : List (List ℕ)). get_or l 0 []) (with_counts-none (s ∷ ss) n)
+with_counts-ahead (s ∷ ss) n (suc t) [] = refl
+with_counts-ahead (s ∷ ss) n (suc t) (c ∷ cs) = with_counts-ahead ss n t cs
+
+more_set : (snapshots : List (List ℕ)) (n t : ℕ) (counts : List ℕ) → t < length counts → length counts ≤ length snapshots
+    → set (with_counts snapshots n (take t counts)) t (set (get_or (with_counts snapshots n (take t counts)) t []) n (get_or counts t 0))
+    ≡ with_counts snapshots n (take (suc t) counts)
+unfolding with_counts
+more_set snapshots n t [] lt le = absurd (omega arith)
+more_set [] n t (c ∷ cs) lt le = absurd (omega arith)
+more_set (s ∷ ss) n zero (c ∷ cs) lt le = ap (λ (l : List (List ℕ)). set s n c ∷ l) (sym (with_counts-none ss n))
+more_set (s ∷ ss) n (suc t) (c ∷ cs) lt le = ap (λ (l : List (List ℕ)). set s n c ∷ l) (more_set ss n t cs (omega arith) (omega arith))
+
+-- one snapshot more
+pub with_counts-more : (snapshots : List (List ℕ)) (n t : ℕ) (counts : List ℕ) → t < length counts → length counts ≤ length snapshots
+    → set (with_counts snapshots n (take t counts)) t (set (get_or (with_counts snapshots n (take t counts)) t []) n (get_or counts t 0))
+    ≡ with_counts snapshots n (take (t + 1) counts)
+with_counts-more snapshots n t counts lt le = let next : t + 1 ≡ suc t = omega arith in rw next (more_set snapshots n t counts lt le)
+
+-- they are snapshots where the counts are in range
+pub with_counts-counts : (snapshots : List (List ℕ)) (n : ℕ) (counts : List ℕ) → All AreCounts snapshots
+    → All (λ count. count ≤ greatest_count) counts → All AreCounts (with_counts snapshots n counts)
+unfolding with_counts
+with_counts-counts [] n counts are small = All-nil AreCounts
+with_counts-counts (s ∷ ss) n [] are small = are
+with_counts-counts (s ∷ ss) n (c ∷ cs) are small =
+    let first : AreCounts s = All-head AreCounts s ss are in
+    All-cons AreCounts (set s n c) (with_counts ss n cs)
+    (record {
+      sizes = length-set s n c ∙ first.sizes;
+      in_range = All-set (λ count. count ≤ greatest_count) s n c (All-head (λ count. count ≤ greatest_count) c cs small) first.in_range;
+    })
+    (with_counts-counts ss n cs (All-tail AreCounts s ss are) (All-tail (λ count. count ≤ greatest_count) c cs small))
+
+-- ---- the counts of one size
+
+pub counts_of-length : (snapshots : List (List ℕ)) (n : ℕ) → length (counts_of snapshots n) ≡ length snapshots
+counts_of-length [] n = refl
+counts_of-length (s ∷ ss) n = ap suc (counts_of-length ss n)
+
+-- those of the size are set,
+pub counts_of-same : (snapshots : List (List ℕ)) (n : ℕ) (counts : List ℕ) → All AreCounts snapshots → n ≤ largest_counted
+    → length counts ≡ length snapshots → counts_of (with_counts snapshots n counts) n ≡ counts
+unfolding with_counts
+counts_of-same [] n [] are small size = refl
+counts_of-same [] n (c ∷ cs) are small size = absurd (omega arith)
+counts_of-same (s ∷ ss) n [] are small size = absurd (omega arith)
+counts_of-same (s ∷ ss) n (c ∷ cs) are small size =
+    let first : AreCounts s = All-head AreCounts s ss are in
+    rw (get_or-set_same s n c 0 (omega (arith, first.sizes)), counts_of-same ss n cs (All-tail AreCounts s ss are) small (omega arith)) refl
+
+-- and no others.
+pub counts_of-other : (snapshots : List (List ℕ)) (n k : ℕ) (counts : List ℕ) → k ≢ n
+    → counts_of (with_counts snapshots n counts) k ≡ counts_of snapshots k
+unfolding with_counts
+counts_of-other [] n k counts other = refl
+counts_of-other (s ∷ ss) n k [] other = refl
+counts_of-other (s ∷ ss) n k (c ∷ cs) other =
+    rw (get_or-set_other s n k c 0 other, counts_of-other ss n k cs other) refl
+
+-- Snapshots with the same counts of each size are the same.
+cons_head : {A : Type 0} (a b : A) (x y : List A) → a ∷ x ≡ b ∷ y → a ≡ b
+cons_head a b x y e = cc
+
+cons_tail : {A : Type 0} (a b : A) (x y : List A) → a ∷ x ≡ b ∷ y → x ≡ y
+cons_tail a b x y e = cc
+
+pub same_snapshots : (one other : List (List ℕ)) → length one ≡ length other → All AreCounts one → All AreCounts other
+    → ((n : ℕ) → n ≤ largest_counted → counts_of one n ≡ counts_of other n) → one ≡ other
+same_snapshots [] [] size are also each = refl
+same_snapshots [] (t ∷ ts) size are also each = absurd (omega arith)
+same_snapshots (s ∷ ss) [] size are also each = absurd (omega arith)
+same_snapshots (s ∷ ss) (t ∷ ts) size are also each =
+    let first : AreCounts s = All-head AreCounts s ss are in
+    let first_too : AreCounts t = All-head AreCounts t ts also in
+    let same : s ≡ t =
+    same_number_lists s t (first.sizes ∙ sym first_too.sizes)
+    (λ n lt. cons_head _ _ _ _ (each n (omega (arith, first.sizes)))) in
+    let rest : ss ≡ ts =
+    same_snapshots ss ts (omega arith) (All-tail AreCounts s ss are) (All-tail AreCounts t ts also)
+    (λ n le. cons_tail _ _ _ _ (each n le)) in
+    rw (same, rest) refl

@@ -1,0 +1,123 @@
+-- The entry of a line by the numbers that were read of it.
+use Rattle.std.proofs.Common.{◌≡◌, ℕ, ◌≤◌, Bool, true, false, ◌&&◌, List, [], ◌∷◌, length, map, Option, Some, None, Ok, Err, leb, ltb, eqb, refl, sym, ap, ◌∙◌, arith, ne_eqb}
+use Rattle.std.specs.Prelude.{All}
+use Rattle.std.proofs.lemmas.Bool.{eq-eqb, eqb-true, le-leb, leb-true}
+use Rattle.std.proofs.lemmas.List.Elements.{All-cons, All-head, All-nil, All-tail}
+use Rattle.std.proofs.lemmas.Bool.Decides.{nat_tests}
+use Rattle.profile_count.specs.declared.fault.ProfileFault.TheVariants.{CountOutOfRange, NotAscending}
+use Rattle.tuner_theory.specs.Profiles.{greatest_count}
+use Rattle.history_count.specs.HistoryText.{Entry, are_few, are_in_range, entry_with, entry_with_numbers, is_in_order, is_some_counted}
+use Rattle.history_count.specs.LineView.{Fills, capped}
+use Rattle.history_count.specs.declared.fault.HistoryFault.{HistoryFault}
+use Rattle.history_count.specs.declared.fault.HistoryFault.TheVariants.{Counted}
+use Rattle.history_count.specs.declared.line.Subject.{Subject}
+
+-- ---- numbers as 32 bits hold them
+
+capped_few : (n : ℕ) → leb (capped n) greatest_count ≡ leb n greatest_count
+capped_few n = grind (arith, nat_tests)
+
+capped_some : (n : ℕ) → ltb 0 (capped n) ≡ ltb 0 n
+capped_some n = grind (arith, nat_tests)
+
+capped_same : (n : ℕ) → leb n greatest_count ≡ true → capped n ≡ n
+capped_same n few = grind (arith, nat_tests)
+
+few-capped : (numbers : List ℕ) → are_few (map capped numbers) ≡ are_few numbers
+few-capped [] = refl
+few-capped (n ∷ ns) = rw (capped_few n, few-capped ns) refl
+
+some-capped : (numbers : List ℕ) → is_some_counted (map capped numbers) ≡ is_some_counted numbers
+some-capped [] = refl
+some-capped (n ∷ ns) = rw (capped_some n, some-capped ns) refl
+
+in_range-capped : (numbers : List ℕ) → are_in_range (map capped numbers) ≡ are_in_range numbers
+in_range-capped numbers = rw (few-capped numbers, some-capped numbers) refl
+
+and_parts : (a b : Bool) → (a && b) ≡ true → (a ≡ true) × (b ≡ true)
+and_parts true b e = (refl, e)
+and_parts false b e = absurd cc
+
+few-same : (numbers : List ℕ) → are_few numbers ≡ true → map capped numbers ≡ numbers
+few-same [] few = refl
+few-same (n ∷ ns) few =
+    let parts = and_parts (leb n greatest_count) (are_few ns) few in
+    rw (capped_same n parts.0, few-same ns parts.1) refl
+
+-- ---- the entry
+
+-- What was filled in are the numbers.
+pub record IsFilled (o : Option (List ℕ)) (count : ℕ) (filled : List ℕ) : Type 0 where
+  pub numbers : List ℕ
+  pub read : o ≡ Some numbers
+  pub size : length numbers ≡ count
+  pub is : filled ≡ map capped numbers
+
+pub filled-ok : (u : Unit {0}) (o : Option (List ℕ)) (count : ℕ) (filled : List ℕ) → Fills (Ok u) filled count o → IsFilled o count filled
+filled-ok u None count filled fills = absurd fills
+filled-ok u (Some numbers) count filled fills = record { numbers = numbers; read = refl; size = fills.0; is = fills.1 }
+
+pub entry-unfilled : (fault : HistoryFault) (o : Option (List ℕ)) (count next : ℕ) (subject : Subject) (filled : List ℕ)
+    → Fills {A = Unit {0}} (Err fault) filled count o → entry_with_numbers count next (Some subject) o ≡ Err fault
+entry-unfilled fault None count next subject filled fills = ap Err (sym fills)
+entry-unfilled fault (Some numbers) count next subject filled fills = rw (ne_eqb (length numbers) count fills.1) (ap Err (sym fills.0))
+
+module _ (o : Option (List ℕ)) (count next : ℕ) (subject : Subject) (filled : List ℕ) (is : IsFilled o count filled) where
+  in_range : are_in_range filled ≡ are_in_range is.numbers
+  in_range = ap are_in_range is.is ∙ in_range-capped is.numbers
+
+  pub entry-not_ascending : is_in_order next subject ≡ false
+      → entry_with_numbers count next (Some subject) o ≡ Err (Counted NotAscending)
+  entry-not_ascending order = rw (is.read, eq-eqb (length is.numbers) count is.size, order) refl
+
+  pub entry-out_of_range : is_in_order next subject ≡ true → are_in_range filled ≡ false
+      → entry_with_numbers count next (Some subject) o ≡ Err (Counted CountOutOfRange)
+  entry-out_of_range order range =
+      rw (is.read, eq-eqb (length is.numbers) count is.size, order, sym in_range ∙ range) refl
+
+  pub entry-filled : is_in_order next subject ≡ true → are_in_range filled ≡ true
+      → entry_with_numbers count next (Some subject) o ≡ Ok (record { subject = subject; counts = filled })
+  entry-filled order range =
+      let good : are_in_range is.numbers ≡ true = sym in_range ∙ range in
+      let same : is.numbers ≡ filled = sym (is.is ∙ few-same is.numbers (and_parts _ _ good).0) in
+      rw (is.read, eq-eqb (length is.numbers) count is.size, order, good)
+      (ap (λ (numbers : List ℕ). Ok (record { subject = subject; counts = numbers })) same)
+
+-- ---- counts in range
+
+pub few-all : (counts : List ℕ) → are_few counts ≡ true → All (λ count. count ≤ greatest_count) counts
+few-all [] few = All-nil (λ count. count ≤ greatest_count)
+few-all (n ∷ ns) few =
+    let parts = and_parts (leb n greatest_count) (are_few ns) few in
+    All-cons (λ count. count ≤ greatest_count) n ns (leb-true n greatest_count parts.0) (few-all ns parts.1)
+
+pub few-from_all : (counts : List ℕ) → All (λ count. count ≤ greatest_count) counts → are_few counts ≡ true
+few-from_all [] small = refl
+few-from_all (n ∷ ns) small =
+    rw (
+      le-leb n greatest_count (All-head (λ count. count ≤ greatest_count) n ns small),
+      few-from_all ns (All-tail (λ count. count ≤ greatest_count) n ns small),
+    ) refl
+
+-- What is read as an entry has counts in range, one for each snapshot, and its size is in order.
+pub record IsGood (count next : ℕ) (entry : Entry) : Type 0 where
+  pub size : length entry.counts ≡ count
+  pub order : is_in_order next entry.subject ≡ true
+  pub few : All (λ count. count ≤ greatest_count) entry.counts
+  pub some : is_some_counted entry.counts ≡ true
+
+pub entry_with-good : (count next : ℕ) (subject : Subject) (counts : List ℕ) (entry : Entry)
+    → entry_with count next subject counts ≡ Ok entry → (record { subject = subject; counts = counts } ≡ entry) × IsGood count next entry
+entry_with-good count next subject counts entry e =
+    go (eqb (length counts) count) refl (is_in_order next subject) refl (are_in_range counts) refl
+  where
+    go : (a : Bool) → eqb (length counts) count ≡ a → (b : Bool) → is_in_order next subject ≡ b → (d : Bool) → are_in_range counts ≡ d
+        → (record { subject = subject; counts = counts } ≡ entry) × IsGood count next entry
+    go false f b g d h = let none = rw f at e in absurd cc
+    go true f false g d h = let none = rw (f, g) at e in absurd cc
+    go true f true g false h = let none = rw (f, g, h) at e in absurd cc
+    go true f true g true h =
+        let read : Entry = record { subject = subject; counts = counts } in
+        let is : read ≡ entry = (let same = rw (f, g, h) at e in cc) in
+        let parts = and_parts (are_few counts) (is_some_counted counts) h in
+        (is, rw (← is) (record { size = eqb-true (length counts) count f; order = g; few = few-all counts parts.0; some = parts.1 }))

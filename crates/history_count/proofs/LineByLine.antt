@@ -1,0 +1,48 @@
+-- Reading a history line by line.
+use Rattle.std.proofs.Common.{◌≡◌, ℕ, ◌+◌, List, [], ◌∷◌, length, Some, None, Ok, Err, refl, sym, ap, ◌∙◌, add-one}
+use Rattle.line_text.specs.Lines.{lines, words}
+use Rattle.history_count.specs.Histories.{History}
+use Rattle.history_count.specs.HistoryText.{Entry, Reading, entry_of, first_reading, history_from, history_of, next_entry, snapshots_of, with_entry}
+use Rattle.history_count.specs.declared.fault.HistoryFault.{HistoryFault}
+use Rattle.history_count.specs.declared.fault.HistoryFault.TheVariants.{BadSnapshots}
+use Rattle.history_count.specs.declared.line.Subject.{Subject}
+
+-- ---- the first line
+
+pub no_first_line : (text : List ℕ) → lines text ≡ [] → history_of text ≡ Err (1, BadSnapshots)
+no_first_line text none = rw none refl
+
+pub first_line_faulty : (text line : List ℕ) (rest : List (List ℕ)) → lines text ≡ line ∷ rest → None ≡ snapshots_of (words line)
+    → history_of text ≡ Err (1, BadSnapshots)
+first_line_faulty text line rest parts is = rw (parts, ← is) refl
+
+pub first_line_read : (text line : List ℕ) (rest : List (List ℕ)) (count : ℕ) → lines text ≡ line ∷ rest
+    → Some count ≡ snapshots_of (words line) → history_of text ≡ history_from 2 (first_reading count) rest
+first_line_read text line rest count parts is = rw (parts, ← is) refl
+
+-- ---- a later line
+
+pub line_read : (number : ℕ) (r : Reading) (rest new : List (List ℕ)) (line : List ℕ) (entry : Entry) → rest ≡ line ∷ new
+    → next_entry r line ≡ Ok entry → history_from number r rest ≡ history_from (number + 1) (with_entry r entry) new
+unfolding history_from
+line_read number r rest new line entry parts is = rw (parts, is, add-one) refl
+
+pub line_faulty : (number : ℕ) (r : Reading) (rest new : List (List ℕ)) (line : List ℕ) (fault : HistoryFault) → rest ≡ line ∷ new
+    → next_entry r line ≡ Err fault → history_from number r rest ≡ Err (number, fault)
+unfolding history_from
+line_faulty number r rest new line fault parts is = rw (parts, is) refl
+
+pub no_line : (number : ℕ) (r : Reading) (rest : List (List ℕ)) → rest ≡ [] → history_from number r rest ≡ Ok r.history
+unfolding history_from
+no_line number r rest none = rw none refl
+
+pub same_history : (h : History) (snapshots : List (List ℕ)) (large : List ℕ) → h.snapshots ≡ snapshots → h.large ≡ large
+    → h ≡ record { snapshots = snapshots; large = large }
+same_history h snapshots large is large_is = rw (← is, ← large_is) refl
+
+-- The entry that was read of a line, where there are as many places for its counts as snapshots.
+pub entry_read : (r : Reading) (line : List ℕ) (places : ℕ) (given subject : Subject) (counts : List ℕ)
+    → places ≡ length r.history.snapshots → entry_of places r.next r.is_ended (words line) ≡ Ok (record { subject = given; counts = counts })
+    → given ≡ subject → next_entry r line ≡ Ok (record { subject = subject; counts = counts })
+entry_read r line places given subject counts size read is =
+    ap (λ n. entry_of n r.next r.is_ended (words line)) (sym size) ∙ read ∙ ap (λ (s : Subject). Ok (record { subject = s; counts = counts })) is

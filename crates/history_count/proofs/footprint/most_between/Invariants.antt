@@ -1,0 +1,11 @@
+use Rattle.std.proofs.Common.{◌≡◌, ◌-◌, ◌*◌, ◌≤◌, max, drop}
+use Rattle.tuner_theory.specs.Histories.{most}
+use Rattle.tuner_theory.specs.Profiles.{greatest_count}
+use Rattle.history_count.specs.Histories.{blocks_from, lists_of}
+use Rattle.history_count.proofs.footprint.most_between.Given as goal
+
+abbrev pub invariant-loop-t : goal.invariant-loop-t
+invariant-loop-t l = record {
+  rest : max l.most (most (blocks_from l.from l.end) (drop l.t (lists_of l.snapshots))) ≡ most (blocks_from l.from l.end) (lists_of l.snapshots);
+  small : l.most ≤ greatest_count * (l.end - l.from);
+}

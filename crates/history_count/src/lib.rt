@@ -1,0 +1,13 @@
+//! Histories: how many blocks of each size were live at each of some snapshots. They are read from a text; and what a class table takes of
+//! memory over one.
+#![tactic(auto)]
+
+mod fault;
+mod footprint;
+mod history;
+mod line;
+mod reading;
+
+pub use fault::{HistoryError, HistoryFault};
+pub use history::History;
+pub use tuner_theory::MOST_SNAPSHOTS;

@@ -1,0 +1,166 @@
+//! What a line of a history says.
+ghost use Rattle.std.specs.Prelude.{◌≡◌, ◌≤◌, ℕ, length, Option, IfSome};
+ghost use Rattle.std.specs.Option.{option_map};
+ghost use Rattle.class_table.specs.NamedLines.{numbers_of};
+ghost use Rattle.line_text.specs.Lines.{words};
+ghost use Rattle.line_text.specs.Numbers.{classified};
+ghost use Rattle.history_count.specs.HistoryText.{are_few, are_in_range, entry_of, entry_with_numbers, is_in_order, is_some_counted, snapshots_of, subject_of};
+ghost use Rattle.history_count.specs.LineView.{Fills, GivesEntry, capped};
+
+use crate::fault::HistoryFault;
+use class_table::LARGEST_COUNTED;
+use line_text::{Number, Words, capped_number_in, number_in, words_in};
+use profile_count::{LARGE, ProfileFault, two_words};
+use tuner_theory::{GREATEST_COUNT, MOST_SNAPSHOTS};
+
+// the first word of the first line
+const SNAPSHOTS: &[u8] = b"snapshots";
+
+// the most snapshots, as a number that was read
+const MOST: u64 = MOST_SNAPSHOTS as u64;
+
+/// What the counts of a line are of.
+#[derive(Debug, Clone, Copy, PartialEq, Eq)]
+pub(crate) enum Subject {
+    /// Blocks of this size, in bytes.
+    Size(u32),
+    /// Blocks of sizes above 16,368 bytes.
+    Large,
+}
+
+// how many snapshots there are, by the first line
+pub(crate) fn snapshots_in(line: &[u8]) -> Option<usize>
+    ensures count { result ≡ snapshots_of (words line.now) }
+    ensures in_range { IfSome result (λ count. (1 ≤ count) × (count ≤ MOST_SNAPSHOTS)) }
+{
+    let (first, count) = two_words(line)?;
+    if first != SNAPSHOTS {
+        return None;
+    }
+    match number_in(count) {
+        Number::Value(count @ 1..=MOST) => Some(count as usize),
+        _ => None,
+    }
+}
+
+// What a later line counts. Its counts are then in `counts`, which has a place for each snapshot. `next` is the least size that may come,
+// and `is_ended` says whether the `large` line came.
+pub(crate) fn entry_in(
+    next: u32,
+    is_ended: bool,
+    line: &[u8],
+    counts: &mut [u32],
+) -> Result<Subject, HistoryFault>
+    ensures { GivesEntry result counts.new (entry_of (length counts.old) next is_ended (words line.now)) }
+{
+    let mut words = words_in(line);
+    let Some(first) = words.next() else {
+        return Err(HistoryFault::Counted(ProfileFault::BadLine));
+    };
+    if is_ended {
+        return Err(HistoryFault::Counted(ProfileFault::BadLine));
+    }
+    entry_after(next, subject_in(first), words, counts)
+}
+
+// what a line counts, by its first word
+fn subject_in(first: &[u8]) -> Option<Subject>
+    ensures { result ≡ subject_of first.now }
+{
+    if first == LARGE {
+        return Some(Subject::Large);
+    }
+    let size = capped_number_in(first, u32::MAX)?;
+    if size > LARGEST_COUNTED {
+        return None;
+    }
+    Some(Subject::Size(size))
+}
+
+// the entry of a line by its first word and the words after it
+fn entry_after(
+    next: u32,
+    subject: Option<Subject>,
+    words: Words<'_>,
+    counts: &mut [u32],
+) -> Result<Subject, HistoryFault>
+    ensures { GivesEntry result counts.new (entry_with_numbers (length counts.old) next subject (numbers_of words.entry)) }
+{
+    let Some(subject) = subject else {
+        return Err(HistoryFault::Counted(ProfileFault::BadLine));
+    };
+    fill(words, counts)?;
+    if !is_in_order(next, subject) {
+        return Err(HistoryFault::Counted(ProfileFault::NotAscending));
+    }
+    if !are_in_range(counts) {
+        return Err(HistoryFault::Counted(ProfileFault::CountOutOfRange));
+    }
+    Ok(subject)
+}
+
+// Reads the words as numbers, as many as there are places for them. A larger number stands as the largest that a place holds.
+fn fill(mut words: Words<'_>, counts: &mut [u32]) -> Result<(), HistoryFault>
+    ensures { Fills result counts.new (length counts.old) (numbers_of words.entry) }
+{
+    let places = counts.len();
+    let mut place = 0;
+    let mut is_too_long = false;
+    while let Some(read) = words.next_as_number() {
+        let Some(number) = capped(read) else {
+            return Err(HistoryFault::Counted(ProfileFault::BadLine));
+        };
+        if place == places {
+            is_too_long = true;
+            continue;
+        }
+        counts[place] = number;
+        place += 1;
+    }
+    if is_too_long || place < places {
+        return Err(HistoryFault::WrongLength);
+    }
+    Ok(())
+}
+
+// the number that was read, as 32 bits hold it; `None` if there is none
+fn capped(read: Number) -> Option<u32>
+    ensures { (spelled : Option ℕ) → read ≡ classified spelled → result ≡ option_map capped spelled }
+{
+    match read {
+        Number::NoNumber => None,
+        Number::TooLarge => Some(u32::MAX),
+        Number::Value(number) => Some(number.min(u64::from(u32::MAX)) as u32),
+    }
+}
+
+// whether the size is not below the next one
+fn is_in_order(next: u32, subject: Subject) -> bool
+    ensures { result ≡ is_in_order next subject }
+{
+    match subject {
+        Subject::Size(size) => next <= size,
+        Subject::Large => true,
+    }
+}
+
+// whether a line may have these counts
+fn are_in_range(counts: &[u32]) -> bool
+    ensures { result ≡ are_in_range counts.now }
+{
+    are_few(counts) && is_some_counted(counts)
+}
+
+// whether no count is too great
+fn are_few(counts: &[u32]) -> bool
+    ensures { result ≡ are_few counts.now }
+{
+    counts.iter().all(|count| *count <= GREATEST_COUNT)
+}
+
+// whether some count is not 0
+fn is_some_counted(counts: &[u32]) -> bool
+    ensures { result ≡ is_some_counted counts.now }
+{
+    counts.iter().any(|count| 0 < *count)
+}
