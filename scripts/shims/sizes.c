@@ -175,11 +175,14 @@ int posix_memalign(void **result, size_t alignment, size_t size) {
   return refused;
 }
 
+// A live block has no room beyond its request. So a program that fills a block to its end before it requests more, such as redis, requests
+// what it needs, and not what its present allocator's classes leave it.
 size_t malloc_usable_size(void *block) {
   size_t size;
   if (!is_own()) return next.usable(block);
   inside++;
-  size_t all = usable(block) - (live && size_of(block, &size) ? 8 : 0);
+  size_t all = usable(block);
+  if (live && size_of(block, &size)) all = size < all - 8 ? size : all - 8;
   inside--;
   return all;
 }
