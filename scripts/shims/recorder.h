@@ -71,7 +71,8 @@ static __thread int inside __attribute__((tls_model("initial-exec")));
 
 static const char *file_of(void *function) {
   Dl_info info;
-  return dladdr(function, &info) && info.dli_fname && *info.dli_fname ? info.dli_fname : program_invocation_name;
+  int known = dladdr(function, &info) && info.dli_fname && *info.dli_fname;
+  return known && strcmp(info.dli_fname, program_invocation_name) ? info.dli_fname : "/proc/self/exe";
 }
 
 static int is_same(void *one, void *other) { return !strcmp(file_of(one), file_of(other)); }
@@ -145,17 +146,27 @@ static int is_own(void) {
   return !inside && !untouched;
 }
 
-static void *own_malloc(size_t);                         // the library's
-static void *(*volatile bound_malloc)(size_t) = malloc;  // the one that the program reaches: of two, the loader takes the first
+static volatile int reached;  // whether a call came to the library's malloc while it may not record
+
+// Whether the program's malloc is the library's: of two, the loader takes the first. A program at a fixed place may have a stub of its own,
+// which leads to the one that it lacks; where that is tells a call.
+static int is_reached(void *bound) {
+  Dl_info info;
+  const ElfW(Sym) *symbol = NULL;
+  if (is_same(bound, (void *)start)) return 1;
+  if (!dladdr1(bound, &info, (void **)&symbol, RTLD_DL_SYMENT) || !symbol || symbol->st_shndx != SHN_UNDEF) return 0;
+  reached = 0;
+  void *block = ((void *(*)(size_t))bound)(1);
+  if (reached) next.free(block);
+  return reached;
+}
 
 // Decides whether the allocator can be followed, and notes another one than glibc's. `usable` says whether its malloc_usable_size is needed.
 static void examine(int usable) {
-  void *allocator = (void *)bound_malloc;
-  if (bound_malloc != own_malloc) {
-    untouched = 1;
+  void *libc = dlsym(RTLD_NEXT, "gnu_get_libc_version"), *bound = dlsym(RTLD_DEFAULT, "malloc"), *allocator = (void *)next.malloc;
+  if (!is_reached(bound)) {
+    untouched = 1, allocator = bound;
   } else {
-    void *libc = dlsym(RTLD_NEXT, "gnu_get_libc_version");
-    allocator = (void *)next.malloc;
     if (libc && is_same(libc, allocator)) return;
     untouched = !is_same(allocator, (void *)next.free) || !is_same(allocator, (void *)next.realloc) ||
                 !is_same(allocator, (void *)next.calloc) || (usable && !is_same(allocator, (void *)next.usable)) ||

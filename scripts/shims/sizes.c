@@ -71,15 +71,14 @@ static void go(void *block) {
 
 static int is_small(size_t size) { return size < 1UL << 46; }  // no larger request can succeed
 
-static void *own_malloc(size_t size) {
-  if (!is_own()) return next.malloc(size);
+void *malloc(size_t size) {
+  if (!is_own()) return reached = 1, next.malloc(size);
   inside++;
   request(size);
   void *block = live && is_small(size) ? come(next.malloc(size + 8), size) : next.malloc(size);
   inside--;
   return block;
 }
-void *malloc(size_t size) __attribute__((alias("own_malloc")));
 
 void *calloc(size_t number, size_t each) {
   if (!is_own()) return next.calloc(number, each);

@@ -132,12 +132,11 @@ static void lose(void *pointer) {
   pthread_mutex_unlock(&lock);
 }
 
-static void *own_malloc(size_t size) {
-  if (!is_own()) return next.malloc(size);
+void *malloc(size_t size) {
+  if (!is_own()) return reached = 1, next.malloc(size);
   inside++;
   return fresh("malloc", next.malloc(size), size);
 }
-void *malloc(size_t size) __attribute__((alias("own_malloc")));
 
 void *calloc(size_t number, size_t each) {
   if (!is_own()) return next.calloc(number, each);
