@@ -13,3 +13,8 @@ shown_refusal LastClass = codes "44 LastClass"
 shown_refusal StageDrop = codes "45 StageDrop"
 shown_refusal Edge = codes "46 Edge"
 shown_refusal NotTight = codes "47 NotTight"
+
+-- A refusal of a fit has the same text, but for the cost that is wrong.
+abbrev pub shown_fit_refusal : Refusal → List ℕ
+shown_fit_refusal WasteWrong = codes "49 FootprintWrong"
+shown_fit_refusal refusal = shown_refusal refusal

@@ -11,4 +11,4 @@ mod verdict;
 
 pub use greatest_count::GREATEST_COUNT;
 pub use most_snapshots::MOST_SNAPSHOTS;
-pub use verdict::{Refusal, Verdict};
+pub use verdict::{FitRefusal, Refusal, Verdict};

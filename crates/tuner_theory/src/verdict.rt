@@ -1,5 +1,5 @@
 ghost use Rattle.std.specs.Prelude.{Some};
-ghost use Rattle.tuner_theory.specs.RefusalText.{shown_refusal};
+ghost use Rattle.tuner_theory.specs.RefusalText.{shown_fit_refusal, shown_refusal};
 
 use std::fmt;
 
@@ -42,6 +42,21 @@ impl fmt::Display for Refusal {
             Refusal::Edge => "46 Edge",
             Refusal::NotTight => "47 NotTight",
         })
+    }
+}
+
+/// Why a fit is refused. `WasteWrong` is that its footprint is not its table's, shown as `49 FootprintWrong`; the others are a sheet's.
+#[derive(Debug, Clone, Copy, PartialEq, Eq)]
+pub struct FitRefusal(pub Refusal);
+
+impl fmt::Display for FitRefusal {
+    ghost output = { λ fit. Some (shown_fit_refusal fit.0) };
+
+    fn fmt<W: fmt::Write>(&self, f: &mut fmt::Formatter<W>) -> fmt::Result {
+        match self.0 {
+            Refusal::WasteWrong => f.write_str("49 FootprintWrong"),
+            refusal => write!(f, "{refusal}"),
+        }
     }
 }
 
