@@ -5,8 +5,8 @@ use Rattle.std.specs.Prelude.{All}
 use Rattle.std.proofs.lemmas.List.Elements.{All-nil, All-cons, All-head, All-tail}
 use Rattle.line_text.specs.FirstFault.{◌>>=◌}
 use Rattle.line_text.specs.Lines.{IsLine}
-use Rattle.potential_check.specs.SheetText.{is_named, line_at, row_in, rows_from, step_at, step_in, waste_number}
-use Rattle.potential_check.proofs.LeadingLines.{waste_number-written}
+use Rattle.potential_check.specs.SheetText.{cost_number, is_named, line_at, row_in, rows_from, step_at, step_in}
+use Rattle.potential_check.proofs.LeadingLines.{cost_number-written}
 
 abbrev pub Lines : Type 0
 Lines = List (List ℕ)
@@ -213,7 +213,7 @@ module _ {B C : Type 0} (more : ℕ × Lines → Result B ℕ) (last : B → Res
   unnamed n l ls (o ∷ os) e t = rw ((same_first l o ls (take n os) t).0, e) refl
 
   pub reports-step : (line : List ℕ) (step : ℕ) → IsLine line → is_named (codes "step") line ≡ true → step_in line ≡ Some step
-      → ((s : ℕ) → Reports (waste_number s) (λ ls. more (s, ls) >>= last)) → Reports 3 step_then
+      → ((s : ℕ) → Reports (cost_number s) (λ ls. more (s, ls) >>= last)) → Reports 3 step_then
   reports-step line step is_line named read after = record { some = default; fault = fault }
     where
       default : Sound step_then
@@ -272,6 +272,6 @@ module _ {B C : Type 0} (more : ℕ × Lines → Result B ℕ) (last : B → Res
               line_read fault None g =
                   stops_here 3 at step_then l ls default (let is = rw g at fault in cc) (λ os. rw (f, g) (rw g at fault))
               line_read fault (Some s) g =
-                  let four = waste_number-written l s g in
+                  let four = cost_number-written l s g in
                   reads_on 3 at step_then l ls (λ ls. more (s, ls) >>= last) (All-head IsLine l ls all) (λ os. rw (f, g) refl)
                   (rw four at (after s).fault ls at (All-tail IsLine l ls all) (rw g at fault))

@@ -2,7 +2,8 @@
 use Rattle.std.proofs.Common.{◌≡◌, ℕ, List, Option, Some, None, Result, Ok, Err, Bor, refl, MatchOption}
 use Rattle.std.specs.Iterator.{YieldsFirstBy}
 use Rattle.std.specs.Option.{ok_or}
-use Rattle.potential_check.specs.SheetText.{Gives, head_of_lines, limit_in, line_at, step_at, table_in, waste_in, waste_number}
+use Rattle.potential_check.specs.SheetText.{Gives, cost_in, cost_number, head_of_lines, limit_in, line_at, step_at, table_in}
+use Rattle.potential_check.specs.declared.cost.Cost.{Cost}
 use Rattle.potential_check.specs.declared.fault.SheetError.{SheetError}
 use Rattle.potential_check.specs.declared.fault.SheetError.TheVariants.{Line}
 
@@ -44,29 +45,29 @@ fault_given view result y e read number whole is same given none fault =
 
 -- ---- one line after the other
 
-module _ (ls : List (List ℕ)) where
-  pub no_table : line_at 1 table_in ls ≡ Err 1 → head_of_lines ls ≡ Err 1
+module _ (cost : Cost) (ls : List (List ℕ)) where
+  pub no_table : line_at 1 table_in ls ≡ Err 1 → head_of_lines cost ls ≡ Err 1
   unfolding head_of_lines
   no_table none = rw none refl
 
   module _ (table : List ℕ) (after_table : List (List ℕ)) (is_table : line_at 1 table_in ls ≡ Ok (table, after_table)) where
-    pub no_limit : line_at 2 limit_in after_table ≡ Err 2 → head_of_lines ls ≡ Err 2
+    pub no_limit : line_at 2 limit_in after_table ≡ Err 2 → head_of_lines cost ls ≡ Err 2
     unfolding head_of_lines
     no_limit none = rw (is_table, none) refl
 
     module _ (limit : ℕ) (after_limit : List (List ℕ)) (is_limit : line_at 2 limit_in after_table ≡ Ok (limit, after_limit)) where
-      pub no_step : step_at after_limit ≡ None → head_of_lines ls ≡ Err 3
+      pub no_step : step_at after_limit ≡ None → head_of_lines cost ls ≡ Err 3
       unfolding head_of_lines
       no_step none = rw (is_table, is_limit, none) refl
 
       module _ (step : ℕ) (after_step : List (List ℕ)) (is_step : step_at after_limit ≡ Some (step, after_step)) where
-        pub no_waste : line_at (waste_number step) waste_in after_step ≡ Err (waste_number step) →
-            head_of_lines ls ≡ Err (waste_number step)
+        pub no_cost : line_at (cost_number step) (cost_in cost) after_step ≡ Err (cost_number step) →
+            head_of_lines cost ls ≡ Err (cost_number step)
         unfolding head_of_lines
-        no_waste none = rw (is_table, is_limit, is_step, none) refl
+        no_cost none = rw (is_table, is_limit, is_step, none) refl
 
-        module _ (waste : ℕ) (after_waste : List (List ℕ))
-            (is_waste : line_at (waste_number step) waste_in after_step ≡ Ok (waste, after_waste)) where
-          pub all_read : head_of_lines ls ≡ Ok (record { table = table; limit = limit; step = step; waste = waste }, after_waste)
+        module _ (stated : ℕ) (after_cost : List (List ℕ))
+            (is_cost : line_at (cost_number step) (cost_in cost) after_step ≡ Ok (stated, after_cost)) where
+          pub all_read : head_of_lines cost ls ≡ Ok (record { table = table; limit = limit; step = step; cost = stated }, after_cost)
           unfolding head_of_lines
-          all_read = rw (is_table, is_limit, is_step, is_waste) refl
+          all_read = rw (is_table, is_limit, is_step, is_cost) refl

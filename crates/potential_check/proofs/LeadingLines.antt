@@ -1,27 +1,28 @@
--- Lines that are read as a sheet in front of others, and what is read where there are no others.
+-- Lines that are read as a sheet or a fit in front of others, and what is read where there are no others.
 use Rattle.std.proofs.Common.{◌≡◌, ℕ, zero, suc, ◌+◌, ◌≤◌, add-one, add-zero, Bool, true, false, List, [], ◌∷◌, length, drop, Option, Some, None, Result, Ok, Err, inl, inr, ne_eqb, refl, sym, ap, ◌∙◌, arith, codes}
 use Rattle.std.specs.List.{take_while}
 use Rattle.std.proofs.lemmas.Bool.{cases_eq}
 use Rattle.std.proofs.lemmas.List.Sums.{take_while-cons}
 use Rattle.line_text.specs.FirstFault.{◌>>=◌}
 use Rattle.line_text.specs.Lines.{lines, words}
-use Rattle.potential_check.specs.Leading.{GivesLeading, IsLeading, is_row_line, leading_lines, lines_after}
+use Rattle.potential_check.specs.Leading.{GivesLeadingBy, IsLeadingOf, is_row_line, leading_lines, lines_after}
 use Rattle.class_table.specs.declared.table.TheConstants.{MOST_CLASSES}
 use Rattle.potential_check.specs.SheetText.{
   Gives,
+  cost_in,
+  cost_number,
   head_line_count,
   head_of_lines,
   is_named,
   limit_in,
+  read_by,
   row_in,
   rows_from,
-  sheet_of_lines,
   step_in,
   table_in,
-  waste_in,
-  waste_number,
   with_rows,
 }
+use Rattle.potential_check.specs.declared.cost.Cost.{Cost}
 use Rattle.class_table.specs.NamedLines.{words_after}
 use Rattle.potential_check.proofs.SheetLines.{line-step_in}
 use Rattle.potential_check.specs.declared.fault.SheetError.{SheetError}
@@ -129,61 +130,61 @@ rows_from-length (line ∷ ls) number (suc most) rows e =
 -- ---- the head
 
 -- The head of the sheet's lines is the head of all lines, and the rows are after it.
-pub record HeadIsFound (ls : List (List ℕ)) (head : Head) (after : List (List ℕ)) : Type 0 where
-  pub leading : head_of_lines (leading_lines ls) ≡ Ok (head, rows_of after)
-  pub size : length (leading_lines ls) ≡ waste_number head.step + length (rows_of after)
+pub record HeadIsFound (cost : Cost) (ls : List (List ℕ)) (head : Head) (after : List (List ℕ)) : Type 0 where
+  pub leading : head_of_lines cost (leading_lines ls) ≡ Ok (head, rows_of after)
+  pub size : length (leading_lines ls) ≡ cost_number head.step + length (rows_of after)
   pub rest : lines_after ls ≡ rest_of after
 
-data Heading (ls : List (List ℕ)) : Type 0 where
-  Faulty : (number : ℕ) → head_of_lines ls ≡ Err number → head_of_lines (leading_lines ls) ≡ Err number → Heading ls
-  Found : (head : Head) (after : List (List ℕ)) → head_of_lines ls ≡ Ok (head, after) → HeadIsFound ls head after → Heading ls
+data Heading (cost : Cost) (ls : List (List ℕ)) : Type 0 where
+  Faulty : (number : ℕ) → head_of_lines cost ls ≡ Err number → head_of_lines cost (leading_lines ls) ≡ Err number → Heading cost ls
+  Found : (head : Head) (after : List (List ℕ)) → head_of_lines cost ls ≡ Ok (head, after) → HeadIsFound cost ls head after → Heading cost ls
 
--- a step that is written is not 1, so the waste comes after its line
-pub waste_number-written : (line : List ℕ) (step : ℕ) → step_in line ≡ Some step → waste_number step ≡ head_line_count true
-waste_number-written line step e = elim (cases_eq step 1) [
+-- a step that is written is not 1, so the cost comes after its line
+pub cost_number-written : (line : List ℕ) (step : ℕ) → step_in line ≡ Some step → cost_number step ≡ head_line_count true
+cost_number-written line step e = elim (cases_eq step 1) [
   | inl one ↦ absurd ((line-step_in line step e).2 one)
   | inr other ↦ rw (ne_eqb step 1 other) refl
 ]
 
-module _ (a b c : List ℕ) (xs : List (List ℕ)) where
+module _ (cost : Cost) (a b c : List ℕ) (xs : List (List ℕ)) where
   -- without a step line
-  three : is_named (codes "step") c ≡ false → Heading (a ∷ b ∷ c ∷ xs)
+  three : is_named (codes "step") c ≡ false → Heading cost (a ∷ b ∷ c ∷ xs)
   unfolding head_of_lines leading_lines lines_after
-  three e = go (table_in a) refl (limit_in b) refl (waste_in c) refl
+  three e = go (table_in a) refl (limit_in b) refl (cost_in cost c) refl
     where
-      go : (table : Option (List ℕ)) → table_in a ≡ table → (limit : Option ℕ) → limit_in b ≡ limit → (waste : Option ℕ) →
-          waste_in c ≡ waste → Heading (a ∷ b ∷ c ∷ xs)
-      go None is_table limit is_limit waste is_waste = Faulty 1 (rw is_table refl) (rw (e, is_table) refl)
-      go (Some table) is_table None is_limit waste is_waste = Faulty 2 (rw (is_table, is_limit) refl) (rw (e, is_table, is_limit) refl)
-      go (Some table) is_table (Some limit) is_limit None is_waste =
-          Faulty 3 (rw (is_table, is_limit, e, is_waste) refl) (rw (e, is_table, is_limit, e, is_waste) refl)
-      go (Some table) is_table (Some limit) is_limit (Some waste) is_waste =
-          Found (record { table = table; limit = limit; step = 1; waste = waste }) xs (rw (is_table, is_limit, e, is_waste) refl)
-          (record { leading = rw (e, is_table, is_limit, e, is_waste) refl; size = rw e (omega arith); rest = rw e refl })
+      go : (table : Option (List ℕ)) → table_in a ≡ table → (limit : Option ℕ) → limit_in b ≡ limit → (stated : Option ℕ) →
+          cost_in cost c ≡ stated → Heading cost (a ∷ b ∷ c ∷ xs)
+      go None is_table limit is_limit stated is_cost = Faulty 1 (rw is_table refl) (rw (e, is_table) refl)
+      go (Some table) is_table None is_limit stated is_cost = Faulty 2 (rw (is_table, is_limit) refl) (rw (e, is_table, is_limit) refl)
+      go (Some table) is_table (Some limit) is_limit None is_cost =
+          Faulty 3 (rw (is_table, is_limit, e, is_cost) refl) (rw (e, is_table, is_limit, e, is_cost) refl)
+      go (Some table) is_table (Some limit) is_limit (Some stated) is_cost =
+          Found (record { table = table; limit = limit; step = 1; cost = stated }) xs (rw (is_table, is_limit, e, is_cost) refl)
+          (record { leading = rw (e, is_table, is_limit, e, is_cost) refl; size = rw e (omega arith); rest = rw e refl })
 
-module _ (a b c d : List ℕ) (xs : List (List ℕ)) where
+module _ (cost : Cost) (a b c d : List ℕ) (xs : List (List ℕ)) where
   -- with one
-  four : is_named (codes "step") c ≡ true → Heading (a ∷ b ∷ c ∷ d ∷ xs)
+  four : is_named (codes "step") c ≡ true → Heading cost (a ∷ b ∷ c ∷ d ∷ xs)
   unfolding head_of_lines leading_lines lines_after
-  four e = go (table_in a) refl (limit_in b) refl (step_in c) refl (waste_in d) refl
+  four e = go (table_in a) refl (limit_in b) refl (step_in c) refl (cost_in cost d) refl
     where
       go : (table : Option (List ℕ)) → table_in a ≡ table → (limit : Option ℕ) → limit_in b ≡ limit → (step : Option ℕ) → step_in c ≡ step →
-          (waste : Option ℕ) → waste_in d ≡ waste
-          → Heading (a ∷ b ∷ c ∷ d ∷ xs)
-      go None is_table limit is_limit step is_step waste is_waste = Faulty 1 (rw is_table refl) (rw (e, is_table) refl)
-      go (Some table) is_table None is_limit step is_step waste is_waste =
+          (stated : Option ℕ) → cost_in cost d ≡ stated
+          → Heading cost (a ∷ b ∷ c ∷ d ∷ xs)
+      go None is_table limit is_limit step is_step stated is_cost = Faulty 1 (rw is_table refl) (rw (e, is_table) refl)
+      go (Some table) is_table None is_limit step is_step stated is_cost =
           Faulty 2 (rw (is_table, is_limit) refl) (rw (e, is_table, is_limit) refl)
-      go (Some table) is_table (Some limit) is_limit None is_step waste is_waste =
+      go (Some table) is_table (Some limit) is_limit None is_step stated is_cost =
           Faulty 3 (rw (is_table, is_limit, e, is_step) refl) (rw (e, is_table, is_limit, e, is_step) refl)
-      go (Some table) is_table (Some limit) is_limit (Some step) is_step None is_waste =
-          Faulty (waste_number step) (rw (is_table, is_limit, e, is_step, is_waste) refl)
-          (rw (e, is_table, is_limit, e, is_step, is_waste) refl)
-      go (Some table) is_table (Some limit) is_limit (Some step) is_step (Some waste) is_waste =
-          Found (record { table = table; limit = limit; step = step; waste = waste }) xs
-          (rw (is_table, is_limit, e, is_step, is_waste) refl)
+      go (Some table) is_table (Some limit) is_limit (Some step) is_step None is_cost =
+          Faulty (cost_number step) (rw (is_table, is_limit, e, is_step, is_cost) refl)
+          (rw (e, is_table, is_limit, e, is_step, is_cost) refl)
+      go (Some table) is_table (Some limit) is_limit (Some step) is_step (Some stated) is_cost =
+          Found (record { table = table; limit = limit; step = step; cost = stated }) xs
+          (rw (is_table, is_limit, e, is_step, is_cost) refl)
           (record {
-            leading = rw (e, is_table, is_limit, e, is_step, is_waste) refl;
-            size = rw (e, waste_number-written c step is_step) (omega arith);
+            leading = rw (e, is_table, is_limit, e, is_step, is_cost) refl;
+            size = rw (e, cost_number-written c step is_step) (omega arith);
             rest = rw e refl;
           })
 
@@ -213,56 +214,56 @@ two_lines a b = go (is_named (codes "step") []) refl
     go false e = rw e refl
     go true e = rw e refl
 
-same_fault : (ls : List (List ℕ)) (number : ℕ) → leading_lines ls ≡ ls → head_of_lines ls ≡ Err number → Heading ls
-same_fault ls number all e = Faulty number e (ap head_of_lines all ∙ e)
+same_fault : (cost : Cost) (ls : List (List ℕ)) (number : ℕ) → leading_lines ls ≡ ls → head_of_lines cost ls ≡ Err number → Heading cost ls
+same_fault cost ls number all e = Faulty number e (ap (head_of_lines cost) all ∙ e)
 
-short_heading : (a b : List ℕ) → Heading (a ∷ b ∷ [])
+short_heading : (cost : Cost) (a b : List ℕ) → Heading cost (a ∷ b ∷ [])
 unfolding head_of_lines
-short_heading a b = go (table_in a) refl (limit_in b) refl
+short_heading cost a b = go (table_in a) refl (limit_in b) refl
   where
-    go : (table : Option (List ℕ)) → table_in a ≡ table → (limit : Option ℕ) → limit_in b ≡ limit → Heading (a ∷ b ∷ [])
-    go None is_table limit is_limit = same_fault (a ∷ b ∷ []) 1 (two_lines a b) (rw is_table refl)
-    go (Some table) is_table None is_limit = same_fault (a ∷ b ∷ []) 2 (two_lines a b) (rw (is_table, is_limit) refl)
-    go (Some table) is_table (Some limit) is_limit = same_fault (a ∷ b ∷ []) 3 (two_lines a b) (rw (is_table, is_limit) refl)
+    go : (table : Option (List ℕ)) → table_in a ≡ table → (limit : Option ℕ) → limit_in b ≡ limit → Heading cost (a ∷ b ∷ [])
+    go None is_table limit is_limit = same_fault cost (a ∷ b ∷ []) 1 (two_lines a b) (rw is_table refl)
+    go (Some table) is_table None is_limit = same_fault cost (a ∷ b ∷ []) 2 (two_lines a b) (rw (is_table, is_limit) refl)
+    go (Some table) is_table (Some limit) is_limit = same_fault cost (a ∷ b ∷ []) 3 (two_lines a b) (rw (is_table, is_limit) refl)
 
 -- where the step's line is the last
-cut_heading : (a b c : List ℕ) → is_named (codes "step") c ≡ true → Heading (a ∷ b ∷ c ∷ [])
+cut_heading : (cost : Cost) (a b c : List ℕ) → is_named (codes "step") c ≡ true → Heading cost (a ∷ b ∷ c ∷ [])
 unfolding head_of_lines leading_lines
-cut_heading a b c e = go (table_in a) refl (limit_in b) refl (step_in c) refl
+cut_heading cost a b c e = go (table_in a) refl (limit_in b) refl (step_in c) refl
   where
     all : leading_lines (a ∷ b ∷ c ∷ []) ≡ a ∷ b ∷ c ∷ []
     all = rw e refl
 
     go : (table : Option (List ℕ)) → table_in a ≡ table → (limit : Option ℕ) → limit_in b ≡ limit → (step : Option ℕ) → step_in c ≡ step →
-        Heading (a ∷ b ∷ c ∷ [])
-    go None is_table limit is_limit step is_step = same_fault (a ∷ b ∷ c ∷ []) 1 all (rw is_table refl)
-    go (Some table) is_table None is_limit step is_step = same_fault (a ∷ b ∷ c ∷ []) 2 all (rw (is_table, is_limit) refl)
+        Heading cost (a ∷ b ∷ c ∷ [])
+    go None is_table limit is_limit step is_step = same_fault cost (a ∷ b ∷ c ∷ []) 1 all (rw is_table refl)
+    go (Some table) is_table None is_limit step is_step = same_fault cost (a ∷ b ∷ c ∷ []) 2 all (rw (is_table, is_limit) refl)
     go (Some table) is_table (Some limit) is_limit None is_step =
-        same_fault (a ∷ b ∷ c ∷ []) 3 all (rw (is_table, is_limit, e, is_step) refl)
+        same_fault cost (a ∷ b ∷ c ∷ []) 3 all (rw (is_table, is_limit, e, is_step) refl)
     go (Some table) is_table (Some limit) is_limit (Some step) is_step =
-        same_fault (a ∷ b ∷ c ∷ []) (waste_number step) all (rw (is_table, is_limit, e, is_step) refl)
+        same_fault cost (a ∷ b ∷ c ∷ []) (cost_number step) all (rw (is_table, is_limit, e, is_step) refl)
 
-heading : (ls : List (List ℕ)) → Heading ls
+heading : (cost : Cost) (ls : List (List ℕ)) → Heading cost ls
 unfolding head_of_lines
-heading [] = same_fault [] 1 no_lines refl
-heading (a ∷ []) = go (table_in a) refl
+heading cost [] = same_fault cost [] 1 no_lines refl
+heading cost (a ∷ []) = go (table_in a) refl
   where
-    go : (table : Option (List ℕ)) → table_in a ≡ table → Heading (a ∷ [])
-    go None is_table = same_fault (a ∷ []) 1 (one_line a) (rw is_table refl)
-    go (Some table) is_table = same_fault (a ∷ []) 2 (one_line a) (rw is_table refl)
-heading (a ∷ b ∷ []) = short_heading a b
-heading (a ∷ b ∷ c ∷ []) = go (is_named (codes "step") c) refl
+    go : (table : Option (List ℕ)) → table_in a ≡ table → Heading cost (a ∷ [])
+    go None is_table = same_fault cost (a ∷ []) 1 (one_line a) (rw is_table refl)
+    go (Some table) is_table = same_fault cost (a ∷ []) 2 (one_line a) (rw is_table refl)
+heading cost (a ∷ b ∷ []) = short_heading cost a b
+heading cost (a ∷ b ∷ c ∷ []) = go (is_named (codes "step") c) refl
   where
-    go : (named : Bool) → is_named (codes "step") c ≡ named → Heading (a ∷ b ∷ c ∷ [])
-    go false e = three a b c [] e
-    go true e = cut_heading a b c e
-heading (a ∷ b ∷ c ∷ d ∷ xs) = go (is_named (codes "step") c) refl
+    go : (named : Bool) → is_named (codes "step") c ≡ named → Heading cost (a ∷ b ∷ c ∷ [])
+    go false e = three cost a b c [] e
+    go true e = cut_heading cost a b c e
+heading cost (a ∷ b ∷ c ∷ d ∷ xs) = go (is_named (codes "step") c) refl
   where
-    go : (named : Bool) → is_named (codes "step") c ≡ named → Heading (a ∷ b ∷ c ∷ d ∷ xs)
-    go false e = three a b c (d ∷ xs) e
-    go true e = four a b c d xs e
+    go : (named : Bool) → is_named (codes "step") c ≡ named → Heading cost (a ∷ b ∷ c ∷ d ∷ xs)
+    go false e = three cost a b c (d ∷ xs) e
+    go true e = four cost a b c d xs e
 
--- ---- the sheet
+-- ---- all that is read
 
 abbrev head_fault : ℕ → Result (Head × List (List ℕ)) ℕ
 head_fault number = Err number
@@ -272,52 +273,52 @@ same_head h g xs ys e =
     let same : ◌≡◌ {A = Head × List (List ℕ)} (h, xs) (g, ys) = cc in
     (ap (λ (p : Head × List (List ℕ)). p.0) same, ap (λ (p : Head × List (List ℕ)). p.1) same)
 
-pub leading-faulty : (ls : List (List ℕ)) (number : ℕ) → head_of_lines ls ≡ head_fault number →
-    sheet_of_lines (leading_lines ls) ≡ Err number
-unfolding sheet_of_lines
-leading-faulty ls number e = elim (heading ls) [
+pub leading-faulty : (cost : Cost) (ls : List (List ℕ)) (number : ℕ) → head_of_lines cost ls ≡ head_fault number →
+    read_by cost (leading_lines ls) ≡ Err number
+unfolding read_by
+leading-faulty cost ls number e = elim (heading cost ls) [
   | Faulty k all leading ↦
       let same : k ≡ number = cc in
       rw (leading, same) refl
   | Found head after all found ↦ absurd cc
 ]
 
-pub head-is_found : (ls : List (List ℕ)) (head : Head) (after : List (List ℕ)) → head_of_lines ls ≡ head_and head after →
-    HeadIsFound ls head after
-head-is_found ls head after e = elim (heading ls) [
+pub head-is_found : (cost : Cost) (ls : List (List ℕ)) (head : Head) (after : List (List ℕ)) → head_of_lines cost ls ≡ head_and head after →
+    HeadIsFound cost ls head after
+head-is_found cost ls head after e = elim (heading cost ls) [
   | Faulty k all leading ↦ absurd cc
   | Found h b all found ↦
       let same = same_head h head b after (sym all ∙ e) in
       rw (← same.0, ← same.1) found
 ]
 
-module _ (ls : List (List ℕ)) (head : Head) (after : List (List ℕ)) (found : HeadIsFound ls head after) where
-  pub leading-read : (rows : List (List ℕ)) → rows_from (waste_number head.step + 1) MOST_CLASSES (rows_of after) ≡ Ok rows →
-      sheet_of_lines (leading_lines ls) ≡ Ok (with_rows head rows)
-  unfolding sheet_of_lines
-  leading-read rows e = rw (found.leading, ← add-one (waste_number head.step), e) refl
+module _ (cost : Cost) (ls : List (List ℕ)) (head : Head) (after : List (List ℕ)) (found : HeadIsFound cost ls head after) where
+  pub leading-read : (rows : List (List ℕ)) → rows_from (cost_number head.step + 1) MOST_CLASSES (rows_of after) ≡ Ok rows →
+      read_by cost (leading_lines ls) ≡ Ok (with_rows head rows)
+  unfolding read_by
+  leading-read rows e = rw (found.leading, ← add-one (cost_number head.step), e) refl
 
-  pub leading-row_fault : (number : ℕ) → rows_from (waste_number head.step + 1) MOST_CLASSES (rows_of after) ≡ Err number →
-      sheet_of_lines (leading_lines ls) ≡ Err number
-  unfolding sheet_of_lines
-  leading-row_fault number e = rw (found.leading, ← add-one (waste_number head.step), e) refl
+  pub leading-row_fault : (number : ℕ) → rows_from (cost_number head.step + 1) MOST_CLASSES (rows_of after) ≡ Err number →
+      read_by cost (leading_lines ls) ≡ Err number
+  unfolding read_by
+  leading-row_fault number e = rw (found.leading, ← add-one (cost_number head.step), e) refl
 
 -- ---- faults
 
-pub head_fault_given : {A : Type 0} (view : A → Head × List (List ℕ)) (ls : List (List ℕ)) (result : Result LeadingSheet SheetError)
+pub head_fault_given : {A : Type 0} (cost : Cost) (view : A → Head × List (List ℕ)) (ls : List (List ℕ)) (result : Result LeadingSheet SheetError)
     (y e : SheetError) → result ≡ Err y → y ≡ e
-    → Gives view (Err e) (head_of_lines ls) → GivesLeading ls result
-head_fault_given view ls result y OutOfMemory is same given = rw (is, same) tt
-head_fault_given view ls result y (Line number) is same given = rw (is, same) (leading-faulty ls number given)
+    → Gives view (Err e) (head_of_lines cost ls) → GivesLeadingBy cost ls result
+head_fault_given cost view ls result y OutOfMemory is same given = rw (is, same) tt
+head_fault_given cost view ls result y (Line number) is same given = rw (is, same) (leading-faulty cost ls number given)
 
-pub row_fault_given : (ls : List (List ℕ)) (head : Head) (after : List (List ℕ)) (result : Result LeadingSheet SheetError)
-    (y e : SheetError) → HeadIsFound ls head after
+pub row_fault_given : (cost : Cost) (ls : List (List ℕ)) (head : Head) (after : List (List ℕ)) (result : Result LeadingSheet SheetError)
+    (y e : SheetError) → HeadIsFound cost ls head after
     → result ≡ Err y → y ≡ e
-    → Gives (λ (rows : List (List ℕ)). rows) (Err e) (rows_from (waste_number head.step + 1) MOST_CLASSES (rows_of after)) →
-    GivesLeading ls result
-row_fault_given ls head after result y OutOfMemory found is same given = rw (is, same) tt
-row_fault_given ls head after result y (Line number) found is same given =
-    rw (is, same) (leading-row_fault ls head after found number given)
+    → Gives (λ (rows : List (List ℕ)). rows) (Err e) (rows_from (cost_number head.step + 1) MOST_CLASSES (rows_of after)) →
+    GivesLeadingBy cost ls result
+row_fault_given cost ls head after result y OutOfMemory found is same given = rw (is, same) tt
+row_fault_given cost ls head after result y (Line number) found is same given =
+    rw (is, same) (leading-row_fault cost ls head after found number given)
 
 -- ---- all lines
 
@@ -328,15 +329,15 @@ unless_line (line ∷ ls) size (Ok s) = Err (size + 1)
 unless_line (line ∷ ls) size (Err number) = Err number
 
 -- What is read of all lines is the sheet in front of them, where it is all of them.
-pub sheet_of_all : (ls : List (List ℕ)) →
-    sheet_of_lines ls ≡ unless_line (lines_after ls) (length (leading_lines ls)) (sheet_of_lines (leading_lines ls))
-unfolding sheet_of_lines
-sheet_of_all ls = elim (heading ls) [
+pub all_by_leading : (cost : Cost) (ls : List (List ℕ)) →
+    read_by cost ls ≡ unless_line (lines_after ls) (length (leading_lines ls)) (read_by cost (leading_lines ls))
+unfolding read_by
+all_by_leading cost ls = elim (heading cost ls) [
   | Faulty k all leading ↦ rw (all, leading) (either (lines_after ls) k)
   | Found head after all found ↦
-      rw (all, found.leading, found.rest, found.size, rows_from-all after (suc (waste_number head.step)) MOST_CLASSES)
-      (more head (rest_of after) (length (rows_of after)) (rows_from (suc (waste_number head.step)) MOST_CLASSES (rows_of after))
-      (λ rows e. (rows_from-length (rows_of after) (suc (waste_number head.step)) MOST_CLASSES rows e).0))
+      rw (all, found.leading, found.rest, found.size, rows_from-all after (suc (cost_number head.step)) MOST_CLASSES)
+      (more head (rest_of after) (length (rows_of after)) (rows_from (suc (cost_number head.step)) MOST_CLASSES (rows_of after))
+      (λ rows e. (rows_from-length (rows_of after) (suc (cost_number head.step)) MOST_CLASSES rows e).0))
 ]
   where
     either : (rest : List (List ℕ)) (k : ℕ) → Err k ≡ unless_line rest (length (leading_lines ls)) (Err k)
@@ -345,30 +346,28 @@ sheet_of_all ls = elim (heading ls) [
 
     more : (head : Head) (rest : List (List ℕ)) (size : ℕ) (read : Result (List (List ℕ)) ℕ) →
         ((rows : List (List ℕ)) → read ≡ Ok rows → length rows ≡ size)
-        → (unless_more rest (suc (waste_number head.step)) read >>= λ rows. Ok (with_rows head rows))
-        ≡ unless_line rest (waste_number head.step + size) (read >>= λ rows. Ok (with_rows head rows))
+        → (unless_more rest (suc (cost_number head.step)) read >>= λ rows. Ok (with_rows head rows))
+        ≡ unless_line rest (cost_number head.step + size) (read >>= λ rows. Ok (with_rows head rows))
     more head [] size read long = refl
     more head (line ∷ rest) size (Ok rows) long = ap Err (omega (arith, long rows refl))
     more head (line ∷ rest) size (Err number) long = refl
 
-pub all_fault_given : (ls : List (List ℕ)) (result : Result Held SheetError) (y e : SheetError) → result ≡ Err y → y ≡ e →
-    GivesLeading ls (Err e) → Gives sheet_of result (sheet_of_lines ls)
-all_fault_given ls result y OutOfMemory is same given = rw (is, same) tt
-all_fault_given ls result y (Line number) is same given = rw (is, same) (sheet_of_all ls ∙ rw given (either (lines_after ls)))
+pub all_fault_given : (cost : Cost) (ls : List (List ℕ)) (result : Result Held SheetError) (y e : SheetError) → result ≡ Err y → y ≡ e →
+    GivesLeadingBy cost ls (Err e) → Gives sheet_of result (read_by cost ls)
+all_fault_given cost ls result y OutOfMemory is same given = rw (is, same) tt
+all_fault_given cost ls result y (Line number) is same given = rw (is, same) (all_by_leading cost ls ∙ rw given (either (lines_after ls)))
   where
     either : (rest : List (List ℕ)) → unless_line rest (length (leading_lines ls)) (Err number) ≡ Err number
     either [] = refl
     either (line ∷ rest) = refl
 
-pub all_read : (ls : List (List ℕ)) (leading : LeadingSheet) → IsLeading ls leading → lines leading.rest.now ≡ [] →
-    sheet_of_lines ls ≡ Ok (sheet_of leading.sheet)
-all_read ls leading is none =
-    let rest : lines_after ls ≡ [] = sym is.after ∙ none in
-    sheet_of_all ls ∙ rw (rest, is.sheet) refl
+module _ (cost : Cost) (ls : List (List ℕ)) (s : Sheet) (count : ℕ) (after : List ℕ) (is : IsLeadingOf (read_by cost) ls s count after) where
+  pub all_read : lines after ≡ [] → read_by cost ls ≡ Ok s
+  all_read none =
+      let rest : lines_after ls ≡ [] = sym is.after ∙ none in
+      all_by_leading cost ls ∙ rw (rest, is.read) refl
 
-pub line_after : (ls new : List (List ℕ)) (line : List ℕ) (leading : LeadingSheet) → IsLeading ls leading →
-    lines leading.rest.now ≡ line ∷ new
-    → sheet_of_lines ls ≡ Err (leading.lines + 1)
-line_after ls new line leading is some =
-    let rest : lines_after ls ≡ line ∷ new = sym is.after ∙ some in
-    sheet_of_all ls ∙ rw (rest, is.sheet, is.size) refl
+  pub line_after : (new : List (List ℕ)) (line : List ℕ) → lines after ≡ line ∷ new → read_by cost ls ≡ Err (count + 1)
+  line_after new line some =
+      let rest : lines_after ls ≡ line ∷ new = sym is.after ∙ some in
+      all_by_leading cost ls ∙ rw (rest, is.read, is.size) refl

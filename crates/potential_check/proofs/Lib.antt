@@ -2,6 +2,7 @@ pub mod Appended
 pub mod SpansBuilt
 pub mod EdgeHalves
 pub mod FaultyReadings
+pub mod FitLaws
 pub mod HeadLines
 pub mod LawLemmas
 pub mod LeadingLines

@@ -1,4 +1,4 @@
--- What is read as a sheet is its text, line by line.
+-- What is read as a sheet or a fit is its text, line by line.
 use Rattle.std.proofs.Common.{◌≡◌, ℕ, zero, suc, ◌≤◌, Bool, true, false, List, [], ◌∷◌, ◌++◌, length, map, Option, Some, None, Result, Ok, Err, refl, subst, ap, ◌∙◌, arith, codes, ne_eqb}
 use Rattle.std.specs.Option.{ok_or}
 use Rattle.std.specs.Prelude.{All}
@@ -12,27 +12,27 @@ use Rattle.class_table.specs.declared.table.TheConstants.{MOST_CLASSES}
 use Rattle.potential_check.specs.SheetText.{
   IsRow,
   IsWithinLimits,
-  SpellsSheet,
+  SpellsBy,
+  cost_in,
+  cost_number,
   head_of_lines,
   is_named,
-  line_at,
   limit_in,
+  line_at,
+  lines_by,
+  read_by,
   row_in,
   rows_from,
-  sheet_in,
-  sheet_lines,
-  sheet_of_lines,
   step_at,
   step_in,
   step_lines,
   table_in,
-  waste_in,
-  waste_number,
   with_rows,
 }
+use Rattle.potential_check.specs.declared.cost.Cost.{Cost}
 use Rattle.class_table.specs.NamedLines.{named_line}
 use Rattle.potential_check.specs.declared.reading.Head.{Head}
-use Rattle.potential_check.proofs.SheetLines.{line-limit_in, line-row_in, line-step_in, line-table_in, line-waste_in}
+use Rattle.potential_check.proofs.SheetLines.{line-cost_in, line-limit_in, line-row_in, line-step_in, line-table_in}
 use Rattle.tuner_theory.specs.Sheets.{Sheet}
 
 -- ---- what a step of the reading gave
@@ -68,7 +68,7 @@ was_read {A = A} number reading (line ∷ ls) after x e = go (reading line) refl
         let parts = ok_pair_parts y x ls after (rw f at e) in
         record { line = line; first = rw parts.1 refl; read = f ∙ ap Some parts.0 }
 
--- ---- the lines of a sheet
+-- ---- the lines
 
 -- a step that was read, and whose line is there where it is not 1
 step_read : (ls after : List (List ℕ)) (step : ℕ) → step_at ls ≡ Some (step, after) → (ls ≡ step_lines step ++ after) × IsStep step
@@ -121,23 +121,23 @@ same_sheet : (s t : Sheet) → as_read s ≡ as_read t → s ≡ t
 same_sheet s t e = cc
 
 -- all that was read
-whole_read : (ls after_table after_limit after_step after_waste : List (List ℕ)) (s : Sheet) →
+whole_read : (cost : Cost) (ls after_table after_limit after_step after_cost : List (List ℕ)) (s : Sheet) →
     line_at 1 table_in ls ≡ Ok (s.table, after_table)
     → line_at 2 limit_in after_table ≡ Ok (s.limit, after_limit) → step_at after_limit ≡ Some (s.step, after_step)
-    → line_at (waste_number s.step) waste_in after_step ≡ Ok (s.waste, after_waste) →
-    rows_from (suc (waste_number s.step)) MOST_CLASSES after_waste ≡ Ok s.rows
-    → (ls ≡ sheet_lines s) × IsWithinLimits s
-whole_read ls after_table after_limit after_step after_waste s is_table is_limit is_step is_waste is_rows =
+    → line_at (cost_number s.step) (cost_in cost) after_step ≡ Ok (s.waste, after_cost) →
+    rows_from (suc (cost_number s.step)) MOST_CLASSES after_cost ≡ Ok s.rows
+    → (ls ≡ lines_by cost s) × IsWithinLimits s
+whole_read cost ls after_table after_limit after_step after_cost s is_table is_limit is_step is_cost is_rows =
     let first = was_read 1 table_in ls after_table s.table is_table in
     let table = line-table_in first.line s.table first.read in
     let second = was_read 2 limit_in after_table after_limit s.limit is_limit in
     let limit = line-limit_in second.line s.limit second.read in
     let step = step_read after_limit after_step s.step is_step in
-    let next = was_read (waste_number s.step) waste_in after_step after_waste s.waste is_waste in
-    let waste = line-waste_in next.line s.waste next.read in
-    let rows = rows_read after_waste (suc (waste_number s.step)) MOST_CLASSES s.rows is_rows in (
-      rw (first.first, table.0, second.first, limit.0, step.0, next.first, waste.0, rows.0) refl,
-      record { table = table.1; limit = (limit.1, limit.2); step = step.1; waste = waste.1; few = rows.1; rows = rows.2 },
+    let next = was_read (cost_number s.step) (cost_in cost) after_step after_cost s.waste is_cost in
+    let stated = line-cost_in cost next.line s.waste next.read in
+    let rows = rows_read after_cost (suc (cost_number s.step)) MOST_CLASSES s.rows is_rows in (
+      rw (first.first, table.0, second.first, limit.0, step.0, next.first, stated.0, rows.0) refl,
+      record { table = table.1; limit = (limit.1, limit.2); step = step.1; waste = stated.1; few = rows.1; rows = rows.2 },
     )
 
 step_was_read : (o : Option (ℕ × List (List ℕ))) (x : ℕ × List (List ℕ)) → ok_or {E = ℕ} o 3 ≡ Ok x → o ≡ Some x
@@ -145,27 +145,28 @@ step_was_read None x e = absurd cc
 step_was_read (Some y) x e = let same : y ≡ x = cc in ap Some same
 
 -- the lines in front of the rows
-record HeadParts (ls after : List (List ℕ)) (head : Head) : Type 0 where
+record HeadParts (cost : Cost) (ls after : List (List ℕ)) (head : Head) : Type 0 where
   after_table : List (List ℕ)
   after_limit : List (List ℕ)
   after_step : List (List ℕ)
   table : line_at 1 table_in ls ≡ Ok (head.table, after_table)
   limit : line_at 2 limit_in after_table ≡ Ok (head.limit, after_limit)
   step : step_at after_limit ≡ Some (head.step, after_step)
-  waste : line_at (waste_number head.step) waste_in after_step ≡ Ok (head.waste, after)
+  stated : line_at (cost_number head.step) (cost_in cost) after_step ≡ Ok (head.cost, after)
 
 abbrev pub head_and : Head → List (List ℕ) → Result (Head × List (List ℕ)) ℕ
 head_and head after = Ok (head, after)
 
-head_read : (ls after : List (List ℕ)) (head : Head) → head_of_lines ls ≡ head_and head after → HeadParts ls after head
+head_read : (cost : Cost) (ls after : List (List ℕ)) (head : Head) → head_of_lines cost ls ≡ head_and head after
+    → HeadParts cost ls after head
 unfolding head_of_lines
-head_read ls after head e =
+head_read cost ls after head e =
     went_on (line_at 1 table_in ls) _ (head, after) e (λ table is_table e.
     went_on (line_at 2 limit_in table.1) _ (head, after) e (λ limit is_limit e.
     went_on (ok_or (step_at limit.1) 3) _ (head, after) e (λ step is_step e.
-    went_on (line_at (waste_number step.0) waste_in step.1) _ (head, after) e (λ waste is_waste e.
-    let read : Head = record { table = table.0; limit = limit.0; step = step.0; waste = waste.0 } in
-    let parts = ok_pair_parts read head waste.1 after e in
+    went_on (line_at (cost_number step.0) (cost_in cost) step.1) _ (head, after) e (λ stated is_cost e.
+    let read : Head = record { table = table.0; limit = limit.0; step = step.0; cost = stated.0 } in
+    let parts = ok_pair_parts read head stated.1 after e in
     rw (← parts.0, ← parts.1)
     (record {
       after_table = table.1;
@@ -174,23 +175,23 @@ head_read ls after head e =
       table = is_table;
       limit = is_limit;
       step = step_was_read (step_at limit.1) step is_step;
-      waste = is_waste;
+      stated = is_cost;
     })))))
 
--- Lines that are read as a sheet are its lines, and it is within the limits.
-lines_read : (ls : List (List ℕ)) (s : Sheet) → sheet_of_lines ls ≡ Ok s → (ls ≡ sheet_lines s) × IsWithinLimits s
-unfolding sheet_of_lines
-lines_read ls s e =
-    went_on (head_of_lines ls) _ s e (λ head is_head e.
-    went_on (rows_from (suc (waste_number head.0.step)) MOST_CLASSES head.1) _ s e (λ rows is_rows e.
-    let parts = head_read ls head.1 head.0 is_head in
+-- Lines of which something is read are its lines, and it is within the limits.
+lines_read : (cost : Cost) (ls : List (List ℕ)) (s : Sheet) → read_by cost ls ≡ Ok s → (ls ≡ lines_by cost s) × IsWithinLimits s
+unfolding read_by
+lines_read cost ls s e =
+    went_on (head_of_lines cost ls) _ s e (λ head is_head e.
+    went_on (rows_from (suc (cost_number head.0.step)) MOST_CLASSES head.1) _ s e (λ rows is_rows e.
+    let parts = head_read cost ls head.1 head.0 is_head in
     let read =
-    whole_read ls parts.after_table parts.after_limit parts.after_step head.1 (with_rows head.0 rows) parts.table parts.limit
-    parts.step parts.waste is_rows in
-    subst (λ (t : Sheet). (ls ≡ sheet_lines t) × IsWithinLimits t) (same_sheet (with_rows head.0 rows) s e) read))
+    whole_read cost ls parts.after_table parts.after_limit parts.after_step head.1 (with_rows head.0 rows) parts.table parts.limit
+    parts.step parts.stated is_rows in
+    subst (λ (t : Sheet). (ls ≡ lines_by cost t) × IsWithinLimits t) (same_sheet (with_rows head.0 rows) s e) read))
 
--- What is read as a sheet is its text, and the sheet is within the limits.
-pub spelled-sheet_in : (text : List ℕ) (s : Sheet) → sheet_in text ≡ Ok s → SpellsSheet text s
-spelled-sheet_in text s e =
-    let read = lines_read (lines text) s e in
+-- What is read is spelled by the text, and is within the limits.
+pub spelled-read : (cost : Cost) (text : List ℕ) (s : Sheet) → read_by cost (lines text) ≡ Ok s → SpellsBy cost text s
+spelled-read cost text s e =
+    let read = lines_read cost (lines text) s e in
     record { limits = read.1; spelled = subst (IsTextOf text) read.0 (laws.text text) }

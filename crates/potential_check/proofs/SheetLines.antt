@@ -1,5 +1,5 @@
--- Each line of a sheet: it is read as what it spells, and no other line is.
-use Rattle.std.proofs.Common.{◌≡◌, ◌≢◌, ℕ, ◌<◌, ◌≤◌, ◌^◌, true, List, [], ◌∷◌, length, Option, Some, None, Result, Ok, Err, refl, ap, sym, ◌∙◌, arith, codes, leb}
+-- Each line of a sheet or a fit: it is read as what it spells, and no other line is.
+use Rattle.std.proofs.Common.{◌≡◌, ◌≢◌, ℕ, ◌<◌, ◌≤◌, ◌^◌, true, false, List, [], ◌∷◌, length, Option, Some, None, Result, Ok, Err, refl, ap, sym, ◌∙◌, arith, codes, leb}
 use Rattle.std.specs.List.{list_all}
 use Rattle.std.specs.Prelude.{option_and_then}
 use Rattle.std.proofs.lemmas.Bool.{and_from, and_parts, leb-true, le-leb, lt-ltb, ltb-true}
@@ -13,26 +13,32 @@ use Rattle.class_table.specs.declared.fault.TableError.{TableError}
 use Rattle.class_table.specs.declared.sizes.TheConstants.{MOST_NEEDS}
 use Rattle.class_table.specs.declared.table.TheConstants.{MOST_CLASSES}
 use Rattle.line_text.specs.Lines.{words}
-use Rattle.class_table.proofs.LawLemmas.{AreSmall, IsName, line_of_read_numbers, named_numbers_are_read, plain_name, read_line_is_spelled, table_line_is_read}
+use Rattle.class_table.proofs.LawLemmas.{AreSmall, IsName, line_of_read_numbers, named_numbers_are_read, plain_name, read_line_is_spelled, table_line_is_read, words_of_named_line}
 use Rattle.class_table.specs.NamedLines.{named_line, numbers_in, numbers_of, words_after}
-use Rattle.potential_check.specs.SheetText.{IsRow, fits, is_limit, is_row, is_written_step, limit_in, passing, row_in, row_of_words, step_in, table_in, waste_in}
+use Rattle.potential_check.specs.SheetText.{IsRow, cost_in, fits, is_limit, is_named, is_row, is_written_step, limit_in, passing, row_in, row_of_words, step_in, table_in, word_of}
+use Rattle.potential_check.specs.declared.cost.Cost.{Cost}
+use Rattle.potential_check.specs.declared.cost.Cost.TheVariants.{Waste, Footprint}
 use Rattle.potential_check.proofs.OneNumber.{line-number_in, number_in-named_line}
 use Rattle.potential_check.proofs.RowNumbers.{passing-some}
 
 -- ---- the names
 
--- the names of a sheet's lines after its table
+-- the names of the lines after the table
 pub record AreNames : Type 0 where
   pub limit : IsName (codes "limit")
   pub step : IsName (codes "step")
-  pub waste : IsName (codes "waste")
+  pub cost : (cost : Cost) → IsName (word_of cost)
   pub row : IsName (codes "row")
+
+cost_name : (cost : Cost) → IsName (word_of cost)
+cost_name Waste = plain_name (codes "waste") refl (omega arith)
+cost_name Footprint = plain_name (codes "footprint") refl (omega arith)
 
 pub names : AreNames
 names = record {
   limit = plain_name (codes "limit") refl (omega arith);
   step = plain_name (codes "step") refl (omega arith);
-  waste = plain_name (codes "waste") refl (omega arith);
+  cost = cost_name;
   row = plain_name (codes "row") refl (omega arith);
 }
 
@@ -82,8 +88,13 @@ step_in-line s is_step other =
     let passes = step_passes s is_step other in
     number_in-named_line (codes "step") is_written_step s names.step (omega (arith, (passed_step s passes).2)) passes
 
-pub waste_in-line : (w : ℕ) → w < 2 ^ 64 → waste_in (named_line (codes "waste") (w ∷ [])) ≡ Some w
-waste_in-line w small = number_in-named_line (codes "waste") fits w names.waste small (lt-ltb w (2 ^ 64) small)
+pub cost_in-line : (cost : Cost) (n : ℕ) → n < 2 ^ 64 → cost_in cost (named_line (word_of cost) (n ∷ [])) ≡ Some n
+cost_in-line cost n small = number_in-named_line (word_of cost) fits n (names.cost cost) small (lt-ltb n (2 ^ 64) small)
+
+-- the line of a cost is no step line
+pub cost-not_step : (cost : Cost) (n : ℕ) → n < 2 ^ 64 → is_named (codes "step") (named_line (word_of cost) (n ∷ [])) ≡ false
+cost-not_step Waste n small = rw (words_of_named_line (codes "waste") (n ∷ []) (names.cost Waste) (one_small n small)) refl
+cost-not_step Footprint n small = rw (words_of_named_line (codes "footprint") (n ∷ []) (names.cost Footprint) (one_small n small)) refl
 
 -- a row, by the line's numbers
 row_in-numbers : (line : List ℕ) → row_in line ≡ passing is_row (numbers_in (codes "row") line)
@@ -115,10 +126,11 @@ line-step_in line s e =
     let step = passed_step s read.1 in
     (read.0, step.0, λ one. omega (arith, step.1))
 
-pub line-waste_in : (line : List ℕ) (w : ℕ) → waste_in line ≡ Some w → (line ≡ named_line (codes "waste") (w ∷ [])) × (w < 2 ^ 64)
-line-waste_in line w e =
-    let read = line-number_in (codes "waste") fits line w e (λ m f. ltb-true m (2 ^ 64) f) in
-    (read.0, ltb-true w (2 ^ 64) read.1)
+pub line-cost_in : (cost : Cost) (line : List ℕ) (n : ℕ) → cost_in cost line ≡ Some n
+    → (line ≡ named_line (word_of cost) (n ∷ [])) × (n < 2 ^ 64)
+line-cost_in cost line n e =
+    let read = line-number_in (word_of cost) fits line n e (λ m f. ltb-true m (2 ^ 64) f) in
+    (read.0, ltb-true n (2 ^ 64) read.1)
 
 pub line-row_in : (line ns : List ℕ) → row_in line ≡ Some ns → (line ≡ named_line (codes "row") ns) × IsRow ns
 line-row_in line ns e =

@@ -1,4 +1,4 @@
--- The text of a sheet is read as that sheet, line by line.
+-- The text of a sheet or a fit is read as that, line by line.
 use Rattle.std.proofs.Common.{◌≡◌, add-one, ℕ, zero, suc, ◌+◌, ◌<◌, ◌≤◌, ◌^◌, List, [], ◌∷◌, ◌++◌, length, map, Option, Some, Ok, refl, ap, ◌∙◌, arith, codes, ne_eqb, inl, inr}
 use Rattle.std.specs.Prelude.{All}
 use Rattle.std.proofs.lemmas.Bool.{cases_eq}
@@ -12,28 +12,29 @@ use Rattle.class_table.specs.declared.table.TheConstants.{MOST_CLASSES}
 use Rattle.potential_check.specs.SheetText.{
   IsRow,
   IsWithinLimits,
-  SpellsSheet,
+  SpellsBy,
+  cost_in,
+  cost_number,
   head_of_lines,
-  line_at,
   limit_in,
+  line_at,
+  lines_by,
+  read_by,
   rows_from,
-  sheet_in,
-  sheet_lines,
-  sheet_of_lines,
   step_at,
   step_lines,
   table_in,
-  waste_in,
-  waste_number,
   with_rows,
+  word_of,
 }
+use Rattle.potential_check.specs.declared.cost.Cost.{Cost}
 use Rattle.class_table.specs.NamedLines.{named_line}
 use Rattle.potential_check.specs.declared.reading.Head.{Head}
 use Rattle.potential_check.proofs.HeadLines.{all_read}
-use Rattle.potential_check.proofs.SheetLines.{limit_in-line, names, one_small, row_in-line, step_in-line, step_small, table_in-line, waste_in-line}
+use Rattle.potential_check.proofs.SheetLines.{cost-not_step, cost_in-line, limit_in-line, names, one_small, row_in-line, step_in-line, step_small, table_in-line}
 use Rattle.tuner_theory.specs.Sheets.{Sheet}
 
--- ---- a sheet's lines are lines, and not empty
+-- ---- the lines are lines, and not empty
 
 rows-full : (rows : List (List ℕ)) → All IsRow rows → All IsFullLine (map (named_line (codes "row")) rows)
 rows-full [] all = All-nil IsFullLine
@@ -51,15 +52,15 @@ step_lines-full step is_step = elim (cases_eq step 1) [
       (named_line_is_full (codes "step") (step ∷ []) names.step (one_small step (step_small step is_step))) (All-nil IsFullLine))
 ]
 
-sheet_lines-full : (s : Sheet) → IsWithinLimits s → All IsFullLine (sheet_lines s)
-sheet_lines-full s within =
+lines-full : (cost : Cost) (s : Sheet) → IsWithinLimits s → All IsFullLine (lines_by cost s)
+lines-full cost s within =
     let table = class_line_is_full s.table within.table in
     let limit = named_line_is_full (codes "limit") (s.limit ∷ []) names.limit (one_small s.limit (omega (arith, within.limit.1))) in
-    let waste = named_line_is_full (codes "waste") (s.waste ∷ []) names.waste (one_small s.waste within.waste) in
+    let stated = named_line_is_full (word_of cost) (s.waste ∷ []) (names.cost cost) (one_small s.waste within.waste) in
     let rows = map (named_line (codes "row")) s.rows in
-    let after = named_line (codes "waste") (s.waste ∷ []) ∷ rows in
-    let from_waste = All-cons IsFullLine (named_line (codes "waste") (s.waste ∷ [])) rows waste (rows-full s.rows within.rows) in
-    let from_step = All-append IsFullLine (step_lines s.step) after (step_lines-full s.step within.step) from_waste in
+    let after = named_line (word_of cost) (s.waste ∷ []) ∷ rows in
+    let from_cost = All-cons IsFullLine (named_line (word_of cost) (s.waste ∷ [])) rows stated (rows-full s.rows within.rows) in
+    let from_step = All-append IsFullLine (step_lines s.step) after (step_lines-full s.step within.step) from_cost in
     let from_limit = All-cons IsFullLine (named_line (codes "limit") (s.limit ∷ [])) (step_lines s.step ++ after) limit from_step in
     All-cons IsFullLine (class_line s.table) (named_line (codes "limit") (s.limit ∷ []) ∷ step_lines s.step ++ after) table from_limit
 
@@ -69,11 +70,10 @@ read_at : {A : Type 0} (number : ℕ) (reading : List ℕ → Option A) (line : 
     line_at number reading (line ∷ ls) ≡ Ok (x, ls)
 read_at number reading line ls x e = rw e refl
 
--- the line of another name is no step line
-step_at-lines : (step waste : ℕ) (ls : List (List ℕ)) → IsStep step → waste < 2 ^ 64
-    → step_at (step_lines step ++ named_line (codes "waste") (waste ∷ []) ∷ ls) ≡ Some (step, named_line (codes "waste") (waste ∷ []) ∷ ls)
-step_at-lines step waste ls is_step small = elim (cases_eq step 1) [
-  | inl one ↦ rw (one, words_of_named_line (codes "waste") (waste ∷ []) names.waste (one_small waste small)) refl
+step_at-lines : (cost : Cost) (step stated : ℕ) (ls : List (List ℕ)) → IsStep step → stated < 2 ^ 64
+    → step_at (step_lines step ++ named_line (word_of cost) (stated ∷ []) ∷ ls) ≡ Some (step, named_line (word_of cost) (stated ∷ []) ∷ ls)
+step_at-lines cost step stated ls is_step small = elim (cases_eq step 1) [
+  | inl one ↦ rw (one, cost-not_step cost stated small) refl
   | inr other ↦
       rw (
         ne_eqb step 1 other,
@@ -92,20 +92,21 @@ rows_from-lines (row ∷ rows) number (suc most) few all =
     refl
 
 -- the rows after a head are read
-read_on : (ls after : List (List ℕ)) (head : Head) (rows : List (List ℕ)) → head_of_lines ls ≡ Ok (head, after)
-    → rows_from (waste_number head.step + 1) MOST_CLASSES after ≡ Ok rows → sheet_of_lines ls ≡ Ok (with_rows head rows)
-unfolding sheet_of_lines
-read_on ls after head rows is_head is_rows = rw (is_head, ← add-one (waste_number head.step), is_rows) refl
+read_on : (cost : Cost) (ls after : List (List ℕ)) (head : Head) (rows : List (List ℕ)) → head_of_lines cost ls ≡ Ok (head, after)
+    → rows_from (cost_number head.step + 1) MOST_CLASSES after ≡ Ok rows → read_by cost ls ≡ Ok (with_rows head rows)
+unfolding read_by
+read_on cost ls after head rows is_head is_rows = rw (is_head, ← add-one (cost_number head.step), is_rows) refl
 
--- The text of a sheet within the limits is read as that sheet.
-pub sheet_in-spelled : (text : List ℕ) (s : Sheet) → SpellsSheet text s → sheet_in text ≡ Ok s
-sheet_in-spelled text s spells =
+-- The text of what is within the limits is read as that.
+pub read-spelled : (cost : Cost) (text : List ℕ) (s : Sheet) → SpellsBy cost text s → read_by cost (lines text) ≡ Ok s
+read-spelled cost text s spells =
     let within = spells.limits in
-    let is : lines text ≡ sheet_lines s = laws.full_lines (sheet_lines s) text (sheet_lines-full s within) spells.spelled in
+    let is : lines text ≡ lines_by cost s = laws.full_lines (lines_by cost s) text (lines-full cost s within) spells.spelled in
     let table = read_at 1 table_in (class_line s.table) _ s.table (table_in-line s.table within.table) in
     let limit = read_at 2 limit_in (named_line (codes "limit") (s.limit ∷ [])) _ s.limit (limit_in-line s.limit within.limit) in
-    let step = step_at-lines s.step s.waste (map (named_line (codes "row")) s.rows) within.step within.waste in
-    let waste =
-    read_at (waste_number s.step) waste_in (named_line (codes "waste") (s.waste ∷ [])) _ s.waste (waste_in-line s.waste within.waste) in
-    let rows = rows_from-lines s.rows (waste_number s.step + 1) MOST_CLASSES within.few within.rows in
-    ap sheet_of_lines is ∙ read_on _ _ _ s.rows (all_read _ _ _ table _ _ limit _ _ step _ _ waste) rows
+    let step = step_at-lines cost s.step s.waste (map (named_line (codes "row")) s.rows) within.step within.waste in
+    let stated =
+    read_at (cost_number s.step) (cost_in cost) (named_line (word_of cost) (s.waste ∷ [])) _ s.waste (cost_in-line cost s.waste within.waste)
+    in
+    let rows = rows_from-lines s.rows (cost_number s.step + 1) MOST_CLASSES within.few within.rows in
+    ap (read_by cost) is ∙ read_on cost _ _ _ s.rows (all_read cost _ _ _ table _ _ limit _ _ step _ _ stated) rows

@@ -1,7 +1,10 @@
+pub mod FitText
+pub mod FitView
 pub mod RowConditions
 pub mod Laws
 pub mod Leading
 pub mod Lists
+pub mod PartsText
 pub mod SheetOnCounts
 pub mod SheetText
 pub mod SheetView

@@ -1,4 +1,5 @@
 -- A sheet's text: a class line, `limit K`, `step S` where the step is not 1, `waste W`, and a line `row ..` for each row.
+-- All but the word `waste` is a fit's text too, so what is below names the cost, and a sheet is the instance of the waste.
 use Rattle.std.specs.Prelude.{◌≡◌, ℕ, zero, suc, ◌<◌, ◌≤◌, ◌^◌, Bool, ◌||◌, ◌&&◌, not, List, [], ◌∷◌, ◌++◌, length, map, All, codes, Option, Some, None, is_some, option_and_then, Result, Ok, Err, nat_lt, nat_le, ◌==◌, if◌then◌else◌}
 use Rattle.std.specs.List.{list_all}
 use Rattle.std.specs.Option.{ok_or, option_map}
@@ -9,6 +10,8 @@ use Rattle.class_table.specs.NamedLines.{named_line, numbers_of, words_after}
 use Rattle.class_table.specs.Steps.{IsStep}
 use Rattle.class_table.specs.Tables.{IsLegalTable}
 use Rattle.line_text.specs.Lines.{IsTextOf, lines, words, text_of}
+use Rattle.potential_check.specs.declared.cost.Cost.{Cost}
+use Rattle.potential_check.specs.declared.cost.Cost.TheVariants.{Waste, Footprint}
 use Rattle.potential_check.specs.declared.fault.SheetError.{SheetError}
 use Rattle.potential_check.specs.declared.fault.SheetError.TheVariants.{OutOfMemory, Line}
 use Rattle.potential_check.specs.declared.reading.Head.{Head}
@@ -18,17 +21,26 @@ use Rattle.class_table.specs.declared.table.TheConstants.{MOST_CLASSES}
 
 -- ---- the spelling
 
+-- The first word of the line that states the cost.
+abbrev pub word_of : Cost → List ℕ
+word_of Waste = codes "waste"
+word_of Footprint = codes "footprint"
+
 -- For step 1 there is no line.
 abbrev pub step_lines : ℕ → List (List ℕ)
 step_lines step = if step == 1 then [] else named_line (codes "step") (step ∷ []) ∷ []
 
-abbrev pub sheet_lines : Sheet → List (List ℕ)
-sheet_lines s =
+-- The lines of a table with its certificate by a cost, which the sheet's waste stands for.
+abbrev pub lines_by : Cost → Sheet → List (List ℕ)
+lines_by cost s =
     class_line s.table ∷ named_line (codes "limit") (s.limit ∷ []) ∷ step_lines s.step
-    ++ named_line (codes "waste") (s.waste ∷ []) ∷ map (named_line (codes "row")) s.rows
+    ++ named_line (word_of cost) (s.waste ∷ []) ∷ map (named_line (codes "row")) s.rows
+
+abbrev pub text_by : Cost → Sheet → List ℕ
+text_by cost s = text_of (lines_by cost s)
 
 abbrev pub sheet_text : Sheet → List ℕ
-sheet_text s = text_of (sheet_lines s)
+sheet_text s = text_by Waste s
 
 -- ---- the limits of the format
 
@@ -44,10 +56,13 @@ pub record IsWithinLimits (s : Sheet) : Type 0 where
   pub few : length s.rows ≤ MOST_CLASSES
   pub rows : All IsRow s.rows
 
--- The text spells this sheet, its last line with its newline or without.
-pub record SpellsSheet (text : List ℕ) (s : Sheet) : Type 0 where
+-- The text spells this sheet by the cost, its last line with its newline or without.
+pub record SpellsBy (cost : Cost) (text : List ℕ) (s : Sheet) : Type 0 where
   pub limits : IsWithinLimits s
-  pub spelled : IsTextOf text (sheet_lines s)
+  pub spelled : IsTextOf text (lines_by cost s)
+
+abbrev pub SpellsSheet : List ℕ → Sheet → Type 0
+SpellsSheet text s = SpellsBy Waste text s
 
 -- ---- reading a line
 
@@ -101,8 +116,8 @@ step_of_words ws = number_of_words is_written_step ws
 abbrev pub step_in : List ℕ → Option ℕ
 step_in line = option_and_then step_of_words (words_after (codes "step") (words line))
 
-abbrev pub waste_in : List ℕ → Option ℕ
-waste_in line = number_in (codes "waste") fits line
+abbrev pub cost_in : Cost → List ℕ → Option ℕ
+cost_in cost line = number_in (word_of cost) fits line
 
 -- The row that the words after a line's name spell.
 abbrev pub row_of_words : List (List ℕ) → Option (List ℕ)
@@ -127,13 +142,13 @@ abbrev pub step_at : List (List ℕ) → Option (ℕ × List (List ℕ))
 step_at [] = Some (1, [])
 step_at (line ∷ ls) = if is_named (codes "step") line then option_map (λ step. (step, ls)) (step_in line) else Some (1, line ∷ ls)
 
--- How many lines come before the rows, the last of which is the waste's: one more where there is a step line.
+-- How many lines come before the rows, the last of which is the cost's: one more where there is a step line.
 abbrev pub head_line_count : Bool → ℕ
 head_line_count has_step = if has_step then 4 else 3
 
--- The number of the waste's line. A step line never says 1.
-abbrev pub waste_number : ℕ → ℕ
-waste_number step = head_line_count (not (step == 1))
+-- The number of the cost's line. A step line never says 1.
+abbrev pub cost_number : ℕ → ℕ
+cost_number step = head_line_count (not (step == 1))
 
 -- The rows of the lines, the first of which has this number. A line after the last one allowed is faulty, whatever it says.
 unfoldable pub rows_from : ℕ → ℕ → List (List ℕ) → Result (List (List ℕ)) ℕ
@@ -145,22 +160,25 @@ rows_from number (suc most) (line ∷ ls) = do
   Ok (row ∷ rows)
 
 -- The head of a sheet, which comes before its rows, and the lines after it.
-unfoldable pub head_of_lines : List (List ℕ) → Result (Head × List (List ℕ)) ℕ
-head_of_lines ls = do
+unfoldable pub head_of_lines : Cost → List (List ℕ) → Result (Head × List (List ℕ)) ℕ
+head_of_lines cost ls = do
   (table, ls) ← line_at 1 table_in ls
   (limit, ls) ← line_at 2 limit_in ls
   (step, ls) ← ok_or (step_at ls) 3
-  (waste, ls) ← line_at (waste_number step) waste_in ls
-  Ok (record { table = table; limit = limit; step = step; waste = waste }, ls)
+  (stated, ls) ← line_at (cost_number step) (cost_in cost) ls
+  Ok (record { table = table; limit = limit; step = step; cost = stated }, ls)
 
 abbrev pub with_rows : Head → List (List ℕ) → Sheet
-with_rows head rows = record { table = head.table; limit = head.limit; step = head.step; waste = head.waste; rows = rows }
+with_rows head rows = record { table = head.table; limit = head.limit; step = head.step; waste = head.cost; rows = rows }
 
-unfoldable pub sheet_of_lines : List (List ℕ) → Result Sheet ℕ
-sheet_of_lines ls = do
-  (head, ls) ← head_of_lines ls
-  rows ← rows_from (suc (waste_number head.step)) MOST_CLASSES ls
+unfoldable pub read_by : Cost → List (List ℕ) → Result Sheet ℕ
+read_by cost ls = do
+  (head, ls) ← head_of_lines cost ls
+  rows ← rows_from (suc (cost_number head.step)) MOST_CLASSES ls
   Ok (with_rows head rows)
+
+abbrev pub sheet_of_lines : List (List ℕ) → Result Sheet ℕ
+sheet_of_lines ls = read_by Waste ls
 
 -- The sheet that a text spells, or the number of its first faulty line.
 abbrev pub sheet_in : List ℕ → Result Sheet ℕ

@@ -1,5 +1,6 @@
-//! What holds for every profile and its spans, and for every sheet's text. Each law is the contract of a function that does nothing.
-ghost use Rattle.potential_check.specs.Laws.{FaultIsFirst, FirstFaultIsReported, SheetIsSpelled, SpelledSheetIsRead};
+//! What holds for every profile and its spans, and for the text of every sheet and every fit. Each law is the contract of a function that
+//! does nothing.
+ghost use Rattle.potential_check.specs.Laws.{FaultIsFirst, FirstFaultIsReported, FirstFitFaultIsReported, FitFaultIsFirst, FitIsSpelled, SheetIsSpelled, SpelledFitIsRead, SpelledSheetIsRead};
 
 pub use tuner_theory::laws::{law_crossing_spans, law_optimal_is_best, law_potentials_bound};
 
@@ -14,4 +15,16 @@ pub fn law_sheet_text()
 pub fn law_sheet_fault()
     ensures first { FaultIsFirst }
     ensures reported { FirstFaultIsReported }
+{}
+
+/// What `law_sheet_text` says, of a fit's text.
+pub fn law_fit_text()
+    ensures read { FitIsSpelled }
+    ensures written { SpelledFitIsRead }
+{}
+
+/// What `law_sheet_fault` says, of a fit's text.
+pub fn law_fit_fault()
+    ensures first { FitFaultIsFirst }
+    ensures reported { FirstFitFaultIsReported }
 {}

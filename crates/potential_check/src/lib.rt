@@ -1,9 +1,12 @@
-//! Certificates: the wastes of the spans of a profile, the sheet that shows a class table to be a best one, and the checker of sheets.
+//! Certificates: the wastes of the spans of a profile, the sheet that shows a class table to be a best one, and the checker of sheets;
+//! and the fit, which is a sheet for a footprint, with its text.
 #![tactic(auto)]
 
 mod checker;
+mod cost;
 mod edge_walk;
 mod fault;
+mod fit;
 pub mod laws;
 mod leading_sheet;
 mod reading;
@@ -16,11 +19,12 @@ mod spans;
 mod writing;
 
 pub use checker::check;
-pub use fault::SheetError;
-pub use leading_sheet::LeadingSheet;
-pub use reading::{read_leading_sheet, read_sheet};
+pub use fault::{FitError, SheetError};
+pub use fit::Fit;
+pub use leading_sheet::{LeadingFit, LeadingSheet};
+pub use reading::{read_fit, read_leading_fit, read_leading_sheet, read_sheet};
 pub use rows::{Rows, number_in_row};
 pub use sheet::Sheet;
 pub use spans::Spans;
 pub use tuner_theory::{Refusal, Verdict};
-pub use writing::write_sheet;
+pub use writing::{write_fit, write_sheet};

@@ -1,17 +1,22 @@
-ghost use Rattle.std.specs.Prelude.{◌≡◌, ◌≤◌, ◌+◌, [], true, length, drop, IfNone, IfOk, IfSome};
+ghost use Rattle.std.specs.Prelude.{◌≡◌, ℕ, ◌≤◌, ◌+◌, [], true, length, drop, IfNone, IfOk, IfSome};
 ghost use Rattle.std.specs.List.{take_while};
-ghost use Rattle.std.specs.Option.{option_map};
+ghost use Rattle.std.specs.Option.{ok_or, option_map};
 ghost use Rattle.line_text.specs.Lines.{lines};
-ghost use Rattle.potential_check.specs.Leading.{GivesLeading, is_row_line};
+ghost use Rattle.potential_check.specs.FitText.{GivesFit, fit_in};
+ghost use Rattle.potential_check.specs.FitView.{fit_of};
+ghost use Rattle.potential_check.specs.Leading.{GivesLeading, GivesLeadingBy, GivesLeadingFit, is_row_line};
 ghost use Rattle.potential_check.specs.SheetView.{sheet_of};
-ghost use Rattle.potential_check.specs.SheetText.{Gives, IsNextNamed, IsWithinLimits, head_line_count, head_of_lines, is_named, rows_from, sheet_in, step_at, waste_number};
+ghost use Rattle.potential_check.specs.SheetText.{Gives, IsNextNamed, IsWithinLimits, cost_in, cost_number, head_line_count, head_of_lines, is_named, line_at, read_by, rows_from, sheet_in, step_at};
+ghost use Rattle.tuner_theory.specs.Fits.{sheet_of_fit};
 
-use crate::fault::SheetError;
-use crate::leading_sheet::LeadingSheet;
+use crate::cost::Cost;
+use crate::fault::{FitError, SheetError};
+use crate::fit::Fit;
+use crate::leading_sheet::{LeadingFit, LeadingSheet};
 use crate::rows::Rows;
 use crate::sheet::Sheet;
 use crate::sheet_line::{
-    ROW, STEP, limit_in, row_of_words, step_of_words, table_in, waste_in, words_after,
+    ROW, STEP, cost_in, limit_in, row_of_words, step_of_words, table_in, words_after,
 };
 use class_table::{ClassTable, MOST_CLASSES};
 use line_text::{Lines, Words, lines_in};
@@ -27,11 +32,16 @@ pub fn read_sheet(alloc: Global, text: &[u8]) -> Result<Sheet, SheetError>
     ensures exact { Gives sheet_of result (sheet_in text.now) }
     ensures within { IfOk result (λ sheet. IsWithinLimits (sheet_of sheet)) }
 {
-    let leading = read_leading_sheet(alloc, text)?;
-    match lines_in(leading.rest).next() {
-        None => Ok(leading.sheet),
-        Some(_line) => Err(SheetError::Line(leading.lines + 1)),
-    }
+    read_by(Cost::Waste, alloc, text)
+}
+
+/// The fit that a text spells, which is a sheet's with the line `footprint F` in place of `waste W`. Errors are those of `read_sheet`.
+pub fn read_fit(alloc: Global, text: &[u8]) -> Result<Fit, FitError>
+    ensures exact { GivesFit result (fit_in text.now) }
+    ensures within { IfOk result (λ fit. IsWithinLimits (sheet_of_fit (fit_of fit))) }
+{
+    let read = read_by(Cost::Footprint, alloc, text)?;
+    Ok(Fit::of_sheet(read))
 }
 
 /// The sheet at the start of a text, and the text after it. Its lines are the first three, or four where the third begins with `step`, and
@@ -39,10 +49,42 @@ pub fn read_sheet(alloc: Global, text: &[u8]) -> Result<Sheet, SheetError>
 pub fn read_leading_sheet(alloc: Global, text: &[u8]) -> Result<LeadingSheet<'_>, SheetError>
     ensures { GivesLeading (lines text.now) result }
 {
+    read_leading(Cost::Waste, alloc, text)
+}
+
+/// The fit at the start of a text, and the text after it. Its lines are those of `read_leading_sheet`. Errors are those of `read_fit` over
+/// these lines.
+pub fn read_leading_fit(alloc: Global, text: &[u8]) -> Result<LeadingFit<'_>, FitError>
+    ensures { GivesLeadingFit (lines text.now) result }
+{
+    let leading = read_leading(Cost::Footprint, alloc, text)?;
+    Ok(LeadingFit {
+        fit: Fit::of_sheet(leading.sheet),
+        lines: leading.lines,
+        rest: leading.rest,
+    })
+}
+
+// what a text spells by this cost, in the places of a sheet
+fn read_by(cost: Cost, alloc: Global, text: &[u8]) -> Result<Sheet, SheetError>
+    ensures exact { Gives sheet_of result (read_by cost (lines text.now)) }
+    ensures within { IfOk result (λ sheet. IsWithinLimits (sheet_of sheet)) }
+{
+    let leading = read_leading(cost, alloc, text)?;
+    match lines_in(leading.rest).next() {
+        None => Ok(leading.sheet),
+        Some(_line) => Err(SheetError::Line(leading.lines + 1)),
+    }
+}
+
+// what the leading lines spell by this cost, in the places of a sheet, and the text after them
+fn read_leading(cost: Cost, alloc: Global, text: &[u8]) -> Result<LeadingSheet<'_>, SheetError>
+    ensures { GivesLeadingBy cost (lines text.now) result }
+{
     let mut lines = lines_in(text);
-    let head = head_in(&mut lines)?;
-    // the waste's line is the last of the head
-    let size = waste_number(head.step);
+    let head = head_in(cost, &mut lines)?;
+    // the cost's line is the last of the head
+    let size = cost_number(head.step);
     let rows = rows_in(alloc, &mut lines, size + 1)?;
     Ok(LeadingSheet {
         lines: size + rows.len() as u64,
@@ -51,38 +93,35 @@ pub fn read_leading_sheet(alloc: Global, text: &[u8]) -> Result<LeadingSheet<'_>
             table: head.table,
             limit: head.limit,
             step: head.step,
-            waste: head.waste,
+            waste: head.cost,
             rows,
         },
     })
 }
 
-// what stands before a sheet's rows
+// what stands before the rows
 #[derive(Drop)]
 struct Head {
     table: ClassTable,
     limit: u8,
     step: u8,
-    waste: u64,
+    cost: u64,
 }
 
 // the head that the next lines spell, from the first line on
-fn head_in(lines: &mut Lines<'_>) -> Result<Head, SheetError>
-    ensures { Gives (λ head. (head, lines.new)) result (head_of_lines lines.old) }
+fn head_in(cost: Cost, lines: &mut Lines<'_>) -> Result<Head, SheetError>
+    ensures { Gives (λ head. (head, lines.new)) result (head_of_lines cost lines.old) }
 {
     let table = lines.next().and_then(table_in).ok_or(SheetError::Line(1))?;
     let limit = lines.next().and_then(limit_in).ok_or(SheetError::Line(2))?;
     let step = step_at(lines).ok_or(SheetError::Line(3))?;
-    let number = waste_number(step);
-    let waste = lines
-        .next()
-        .and_then(waste_in)
-        .ok_or(SheetError::Line(number))?;
+    let number = cost_number(step);
+    let stated = cost_at(cost, lines).ok_or(SheetError::Line(number))?;
     Ok(Head {
         table,
         limit,
         step,
-        waste,
+        cost: stated,
     })
 }
 
@@ -96,9 +135,16 @@ fn step_at(lines: &mut Lines<'_>) -> Option<u8>
     }
 }
 
-// the number of the waste's line: 3, or 4 after a line of the step
-fn waste_number(step: u8) -> u64
-    ensures number { result ≡ waste_number step }
+// the cost that the next line states
+fn cost_at(cost: Cost, lines: &mut Lines<'_>) -> Option<u64>
+    ensures { (number : ℕ) → line_at number (cost_in cost) lines.old ≡ ok_or (option_map (λ n. (n, lines.new)) result) number }
+{
+    cost_in(cost, lines.next()?)
+}
+
+// the number of the cost's line: 3, or 4 after a line of the step
+fn cost_number(step: u8) -> u64
+    ensures number { result ≡ cost_number step }
     ensures small { result ≤ head_line_count true }
 {
     if step == 1 { 3 } else { 4 }

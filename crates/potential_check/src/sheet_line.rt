@@ -1,10 +1,11 @@
-//! What each line of a sheet spells.
+//! What each line of a sheet or a fit spells.
 ghost use Rattle.std.specs.Prelude.{◌≡◌, IfOk};
 ghost use Rattle.std.specs.Option.{option_map};
 ghost use Rattle.line_text.specs.Lines.{words};
 ghost use Rattle.class_table.specs.NamedLines.{words_after};
-ghost use Rattle.potential_check.specs.SheetText.{fits, limit_in, number_of_words, row_of_words, step_of_words, table_in, waste_in};
+ghost use Rattle.potential_check.specs.SheetText.{cost_in, fits, limit_in, number_of_words, row_of_words, step_of_words, table_in};
 
+use crate::cost::Cost;
 use class_table::{ClassTable, MOST_CLASSES, MOST_NEEDS, is_step};
 use line_text::{Number, Words, number_in, words_in};
 use std::alloc::{AllocError, Global};
@@ -12,8 +13,6 @@ use std::alloc::{AllocError, Global};
 pub(crate) const LIMIT: &[u8] = b"limit";
 
 pub(crate) const STEP: &[u8] = b"step";
-
-pub(crate) const WASTE: &[u8] = b"waste";
 
 pub(crate) const ROW: &[u8] = b"row";
 
@@ -46,10 +45,10 @@ pub(crate) fn step_of_words(words: Words<'_>) -> Option<u8>
     }
 }
 
-pub(crate) fn waste_in(line: &[u8]) -> Option<u64>
-    ensures { result ≡ waste_in line.now }
+pub(crate) fn cost_in(cost: Cost, line: &[u8]) -> Option<u64>
+    ensures { result ≡ cost_in cost line.now }
 {
-    only_number(words_after(WASTE, line)?)
+    only_number(words_after(cost.word(), line)?)
 }
 
 // the numbers of a row, which are the words after the name

@@ -2,14 +2,19 @@ ghost use Rattle.std.specs.Prelude.{◌≡◌, ◌≤◌, ◌++◌, length, map,
 ghost use Rattle.line_text.specs.Lines.{ended, text_of};
 ghost use Rattle.class_table.specs.ClassLine.{class_line};
 ghost use Rattle.line_text.specs.Prefixes.{IsPrefix};
+ghost use Rattle.potential_check.specs.FitText.{fit_text};
+ghost use Rattle.potential_check.specs.FitView.{fit_of};
+ghost use Rattle.potential_check.specs.PartsText.{text_of_parts};
 ghost use Rattle.potential_check.specs.SheetView.{sheet_of};
 ghost use Rattle.class_table.specs.NamedLines.{named_line};
 ghost use Rattle.potential_check.specs.SheetText.{sheet_text};
 ghost use Rattle.potential_check.specs.Spaced.{spaced};
 
+use crate::cost::Cost;
+use crate::fit::Fit;
 use crate::rows::Rows;
 use crate::sheet::Sheet;
-use crate::sheet_line::{LIMIT, ROW, STEP, WASTE};
+use crate::sheet_line::{LIMIT, ROW, STEP};
 use arrayvec::ArrayVec;
 use class_table::{ClassTable, LINE_BYTES};
 use itoa::write_digits;
@@ -29,25 +34,72 @@ pub fn write_sheet(sheet: &Sheet, text: &mut Vec<u8>) -> Result<(), AllocError>
     ensures written { OnOk result (text.new.items ≡ text.old.items ++ sheet_text (sheet_of sheet.now)) }
     ensures refused { OnErr result (text.new.items ≡ text.old.items) }
 {
+    write_parts(
+        text,
+        &Parts {
+            cost: Cost::Waste,
+            table: &sheet.table,
+            limit: sheet.limit,
+            step: sheet.step,
+            stated: sheet.waste,
+            rows: &sheet.rows,
+        },
+    )
+}
+
+/// Appends the text of a fit: that of a sheet with the line `footprint F` in place of `waste W`. If memory runs out, `text` is unchanged.
+pub fn write_fit(fit: &Fit, text: &mut Vec<u8>) -> Result<(), AllocError>
+    ensures written { OnOk result (text.new.items ≡ text.old.items ++ fit_text (fit_of fit.now)) }
+    ensures refused { OnErr result (text.new.items ≡ text.old.items) }
+{
+    write_parts(
+        text,
+        &Parts {
+            cost: Cost::Footprint,
+            table: &fit.table,
+            limit: fit.limit,
+            step: fit.step,
+            stated: fit.footprint,
+            rows: &fit.rows,
+        },
+    )
+}
+
+// what is written, a sheet or a fit by its cost
+#[derive(Drop)]
+struct Parts<'a> {
+    cost: Cost,
+    table: &'a ClassTable,
+    limit: u8,
+    step: u8,
+    stated: u64,
+    rows: &'a Rows,
+}
+
+// all of it or nothing
+fn write_parts(text: &mut Vec<u8>, parts: &Parts<'_>) -> Result<(), AllocError>
+    ensures written { OnOk result (text.new.items ≡ text.old.items ++ text_of_parts parts.now) }
+    ensures refused { OnErr result (text.new.items ≡ text.old.items) }
+{
     let before = text.len();
-    let written = append_sheet(text, sheet);
+    let written = append_parts(text, parts);
     if written.is_err() {
         text.truncate(before);
     }
     written
 }
 
-fn append_sheet(text: &mut Vec<u8>, sheet: &Sheet) -> Result<(), AllocError>
-    ensures written { OnOk result (text.new.items ≡ text.old.items ++ sheet_text (sheet_of sheet.now)) }
+fn append_parts(text: &mut Vec<u8>, parts: &Parts<'_>) -> Result<(), AllocError>
+    ensures written { OnOk result (text.new.items ≡ text.old.items ++ text_of_parts parts.now) }
     ensures kept { IsPrefix text.old.items text.new.items }
 {
-    append_table(text, &sheet.table)?;
-    append_line(text, LIMIT, &[u64::from(sheet.limit)])?;
-    if sheet.step != 1 {
-        append_line(text, STEP, &[u64::from(sheet.step)])?;
+    append_table(text, parts.table)?;
+    append_line(text, LIMIT, &[u64::from(parts.limit)])?;
+    if parts.step != 1 {
+        append_line(text, STEP, &[u64::from(parts.step)])?;
     }
-    append_line(text, WASTE, &[sheet.waste])?;
-    append_rows(text, &sheet.rows)
+    append_line(text, parts.cost.word(), &[parts.stated])?;
+    append_rows(text, parts.rows)
 }
 
 fn append_table(text: &mut Vec<u8>, table: &ClassTable) -> Result<(), AllocError>

@@ -1,20 +1,20 @@
 use Rattle.std.proofs.lemmas.Result.{err_from_is_err_and}
-use Rattle.potential_check.specs.SheetText.{limit_in, table_in, waste_in, waste_number}
-use Rattle.potential_check.proofs.HeadLines.{all_read, fault_given, line_at-none, line_at-some, no_limit, no_step, no_table, no_waste}
+use Rattle.potential_check.specs.SheetText.{cost_number, limit_in, table_in}
+use Rattle.potential_check.proofs.HeadLines.{all_read, fault_given, line_at-none, line_at-some, no_cost, no_limit, no_step, no_table}
 use Rattle.potential_check.proofs.reading.head_in.Goals as goal
 
 pub returns-in_err-table : goal.returns-in_err-table
 returns-in_err-table c =
     let error = err_from_is_err_and c.from_residual.result c.from_residual.ensures.1 in
     let none = line_at-none 1 table_in _ _ _ _ c.next.ensures.steps c.and_then.ensures c.in_err-table.ensures.ok_part in
-    fault_given _ _ _ _ _ 1 _ error.1 error.2 c.in_err-table.ensures.value c.in_err-table.ensures.ok_part (no_table _ none)
+    fault_given _ _ _ _ _ 1 _ error.1 error.2 c.in_err-table.ensures.value c.in_err-table.ensures.ok_part (no_table _ _ none)
 
 pub returns-in_err-limit : goal.returns-in_err-limit
 returns-in_err-limit c =
     let error = err_from_is_err_and c.from_residual-in_err-limit.result c.from_residual-in_err-limit.ensures.1 in
     let table = line_at-some 1 table_in _ _ _ _ _ c.next.ensures.steps c.and_then.ensures c.in_ok-table.ensures.ok_part in
     let none = line_at-none 2 limit_in _ _ _ _ c.next-2.ensures.steps c.and_then-2.ensures c.in_err-limit.ensures.ok_part in
-    fault_given _ _ _ _ _ 2 _ error.1 error.2 c.in_err-limit.ensures.value c.in_err-limit.ensures.ok_part (no_limit _ _ _ table none)
+    fault_given _ _ _ _ _ 2 _ error.1 error.2 c.in_err-limit.ensures.value c.in_err-limit.ensures.ok_part (no_limit _ _ _ _ table none)
 
 pub returns-in_err-step : goal.returns-in_err-step
 returns-in_err-step c =
@@ -22,25 +22,25 @@ returns-in_err-step c =
     let table = line_at-some 1 table_in _ _ _ _ _ c.next.ensures.steps c.and_then.ensures c.in_ok-table.ensures.ok_part in
     let limit = line_at-some 2 limit_in _ _ _ _ _ c.next-2.ensures.steps c.and_then-2.ensures c.in_ok-limit.ensures.ok_part in
     let none = rw c.in_err-step.ensures.ok_part at c.step_at.ensures in
-    fault_given _ _ _ _ _ 3 _ error.1 error.2 c.in_err-step.ensures.value c.in_err-step.ensures.ok_part (no_step _ _ _ table _ _ limit none)
+    fault_given _ _ _ _ _ 3 _ error.1 error.2 c.in_err-step.ensures.value c.in_err-step.ensures.ok_part (no_step _ _ _ _ table _ _ limit none)
 
-pub returns-in_err-waste : goal.returns-in_err-waste
-returns-in_err-waste c =
-    let number = waste_number c.in_ok-step.step in
-    let error = err_from_is_err_and c.from_residual-in_err-waste.result c.from_residual-in_err-waste.ensures.1 in
+pub returns-in_err-stated : goal.returns-in_err-stated
+returns-in_err-stated c =
+    let number = cost_number c.in_ok-step.step in
+    let error = err_from_is_err_and c.from_residual-in_err-stated.result c.from_residual-in_err-stated.ensures.1 in
     let table = line_at-some 1 table_in _ _ _ _ _ c.next.ensures.steps c.and_then.ensures c.in_ok-table.ensures.ok_part in
     let limit = line_at-some 2 limit_in _ _ _ _ _ c.next-2.ensures.steps c.and_then-2.ensures c.in_ok-limit.ensures.ok_part in
     let step = rw c.in_ok-step.ensures.ok_part at c.step_at.ensures in
-    let none = line_at-none number waste_in _ _ _ _ c.next-3.ensures.steps c.and_then-3.ensures c.in_err-waste.ensures.ok_part in
-    fault_given _ _ _ _ _ number _ error.1 error.2 (rw c.waste_number-number.ensures.number at c.in_err-waste.ensures.value)
-    c.in_err-waste.ensures.ok_part
-    (no_waste _ _ _ table _ _ limit _ _ step none)
+    let none = rw c.in_err-stated.ensures.ok_part at (c.cost_at.ensures number) in
+    fault_given _ _ _ _ _ number _ error.1 error.2 (rw c.cost_number-number.ensures.number at c.in_err-stated.ensures.value)
+    c.in_err-stated.ensures.ok_part
+    (no_cost _ _ _ _ table _ _ limit _ _ step none)
 
 pub returns : goal.returns
 returns c =
-    let number = waste_number c.in_ok-step.step in
+    let number = cost_number c.in_ok-step.step in
     let table = line_at-some 1 table_in _ _ _ _ _ c.next.ensures.steps c.and_then.ensures c.in_ok-table.ensures.ok_part in
     let limit = line_at-some 2 limit_in _ _ _ _ _ c.next-2.ensures.steps c.and_then-2.ensures c.in_ok-limit.ensures.ok_part in
     let step = rw c.in_ok-step.ensures.ok_part at c.step_at.ensures in
-    let waste = line_at-some number waste_in _ _ _ _ _ c.next-3.ensures.steps c.and_then-3.ensures c.in_ok-waste.ensures.ok_part in
-    all_read _ _ _ table _ _ limit _ _ step _ _ waste
+    let stated = rw c.in_ok-stated.ensures.ok_part at (c.cost_at.ensures number) in
+    all_read _ _ _ _ table _ _ limit _ _ step _ _ stated

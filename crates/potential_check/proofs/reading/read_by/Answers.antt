@@ -1,22 +1,22 @@
 use Rattle.std.proofs.Common.{sym, ◌∙◌, arith}
 use Rattle.std.proofs.lemmas.Result.{err_from_is_err_and}
-use Rattle.potential_check.proofs.LawLemmas.{sheet_is_spelled}
 use Rattle.potential_check.proofs.LeadingLines.{all_fault_given, all_read, line_after}
-use Rattle.potential_check.proofs.reading.read_sheet.Goals as goal
+use Rattle.potential_check.proofs.ReadIsSpelled.{spelled-read}
+use Rattle.potential_check.proofs.reading.read_by.Goals as goal
 
 pub returns-in_err-leading-clause-exact : goal.returns-in_err-leading-clause-exact
 returns-in_err-leading-clause-exact c =
     let error = err_from_is_err_and c.from_residual.result c.from_residual.ensures.1 in
-    all_fault_given _ _ _ _ error.1 error.2 c.in_err-leading.ensures
+    all_fault_given _ _ _ _ _ error.1 error.2 c.in_err-leading.ensures
 
 pub overflow_add-result : goal.overflow_add-result
 overflow_add-result c = omega (arith, c.in_ok-leading.ensures.few)
 
 pub returns-in-None-clause-exact : goal.returns-in-None-clause-exact
-returns-in-None-clause-exact c = all_read _ _ c.in_ok-leading.ensures (sym c.lines_in.ensures ∙ c.in-None.ensures.steps.0)
+returns-in-None-clause-exact c = all_read _ _ _ _ _ c.in_ok-leading.ensures (sym c.lines_in.ensures ∙ c.in-None.ensures.steps.0)
 
 pub returns-in-None-clause-within : goal.returns-in-None-clause-within
-returns-in-None-clause-within c = (sheet_is_spelled c.args.text.now _ (returns-in-None-clause-exact c)).limits
+returns-in-None-clause-within c = (spelled-read _ c.args.text.now _ (returns-in-None-clause-exact c)).limits
 
 pub returns-in-Some-clause-exact : goal.returns-in-Some-clause-exact
-returns-in-Some-clause-exact c = line_after _ _ _ _ c.in_ok-leading.ensures (sym c.lines_in.ensures ∙ c.in-Some.ensures.steps)
+returns-in-Some-clause-exact c = line_after _ _ _ _ _ c.in_ok-leading.ensures _ _ (sym c.lines_in.ensures ∙ c.in-Some.ensures.steps)
