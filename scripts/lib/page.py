@@ -52,10 +52,12 @@ svg text { fill: var(--soft); font: 12px system-ui, -apple-system, "Segoe UI", "
   body { padding: 1rem .75rem 2rem }
   .wide { display: none }
   .narrow { display: block }
-  table { font-size: .8125rem }
-  th, td { padding: .3rem .2rem }
+  table { font-size: .75rem }
+  th, td { padding: .3rem .15rem }
   .share { display: block; min-width: 0 }
   dl { grid-template-columns: 1fr 1fr; gap: .5rem }
+  dl div { padding: .5rem }
+  dd { font-size: 1.0625rem }
 }
 """
 
