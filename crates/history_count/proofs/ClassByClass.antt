@@ -128,7 +128,8 @@ module _ (snapshots : List (List ℕ)) (table : List ℕ) (are : AreSnapshots sn
     narrow = omega (arith, is, (legal.in_range number 0 within).1)
 
     pub taken-order : from ≤ 16 * class - 15
-    taken-order = cut-order so_far.low class from (16 * class - 15) so_far.cut (cut-class class wide) (omega (arith, is, so_far.before within))
+    taken-order =
+        cut-order so_far.low class from (16 * class - 15) so_far.cut (cut-class class wide) (omega (arith, is, so_far.before within))
 
     pub taken-end : 16 * class - 15 ≤ largest_counted + 1
     taken-end = omega (arith, narrow)
@@ -149,7 +150,8 @@ module _ (snapshots : List (List ℕ)) (table : List ℕ) (are : AreSnapshots sn
       summed =
           let parts : drop number table ≡ class ∷ drop (number + 1) table = rw (add-one, drop-cons table number 0 within, is) refl in
           let same : most (blocks_between 1 so_far.low class) snapshots ≡ blocks =
-          most-same _ _ snapshots are.counts (λ s counts. blocks-cut so_far.low class from (16 * class - 15) s so_far.cut (cut-class class wide)
+          most-same _ _ snapshots are.counts
+          (λ s counts. blocks-cut so_far.low class from (16 * class - 15) s so_far.cut (cut-class class wide)
           taken-order (omega (arith, counts.sizes, taken-end))) ∙ sym are_most in
           let first : footprint_between snapshots 1 so_far.low class ≡ bytes * blocks =
           ap (λ m. 16 * class * m) same ∙ ap (λ b. b * blocks) (sym of_class) in

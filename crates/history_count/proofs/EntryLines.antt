@@ -82,7 +82,9 @@ module _ (count next : ℕ) (entry : Entry) (is : IsNext count next entry) where
   entry_of-line =
       let first = first_word entry.subject in
       let ws = words_of_named_line first entry.counts name small in
-      let numbers = sym (numbers_after first (entry_line entry) (map decimal entry.counts) ws) ∙ named_numbers_are_read first entry.counts name small in
+      let numbers =
+      sym (numbers_after first (entry_line entry) (map decimal entry.counts) ws)
+      ∙ named_numbers_are_read first entry.counts name small in
       let few = few-from_all entry.counts is.good.few in
       rw (
         ws,

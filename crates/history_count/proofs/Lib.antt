@@ -3,5 +3,11 @@ pub mod Columns
 pub mod Entries
 pub mod EntryLines
 pub mod Filling
+pub mod FirstFaults
+pub mod LawLemmas
 pub mod LineByLine
+pub mod OpenReadings
 pub mod Peaks
+pub mod ReadIsSpelled
+pub mod SizeLines
+pub mod SpelledIsRead

@@ -42,7 +42,9 @@ same_history h snapshots large is large_is = rw (← is, ← large_is) refl
 
 -- The entry that was read of a line, where there are as many places for its counts as snapshots.
 pub entry_read : (r : Reading) (line : List ℕ) (places : ℕ) (given subject : Subject) (counts : List ℕ)
-    → places ≡ length r.history.snapshots → entry_of places r.next r.is_ended (words line) ≡ Ok (record { subject = given; counts = counts })
+    → places ≡ length r.history.snapshots
+    → entry_of places r.next r.is_ended (words line) ≡ Ok (record { subject = given; counts = counts })
     → given ≡ subject → next_entry r line ≡ Ok (record { subject = subject; counts = counts })
 entry_read r line places given subject counts size read is =
-    ap (λ n. entry_of n r.next r.is_ended (words line)) (sym size) ∙ read ∙ ap (λ (s : Subject). Ok (record { subject = s; counts = counts })) is
+    ap (λ n. entry_of n r.next r.is_ended (words line)) (sym size) ∙ read
+    ∙ ap (λ (s : Subject). Ok (record { subject = s; counts = counts })) is

@@ -1,10 +1,10 @@
 -- The peaks of snapshots, by the counts of each size.
-use Rattle.std.proofs.Common.{◌≡◌, ℕ, zero, suc, ◌+◌, ◌≤◌, List, [], ◌∷◌, ◌++◌, length, get_or, set, refl, sym, ap, ◌∙◌, arith, inl, inr}
+use Rattle.std.proofs.Common.{◌≡◌, ℕ, zero, suc, ◌+◌, ◌≤◌, false, List, [], ◌∷◌, ◌++◌, length, get_or, set, refl, sym, ap, ◌∙◌, arith, inl, inr}
 use Rattle.std.specs.Prelude.{All, replicate, slice_index}
 use Rattle.std.proofs.lemmas.Bool.{cases_eq}
 use Rattle.std.proofs.lemmas.Grind.{same_number_lists}
 use Rattle.std.proofs.lemmas.List.{get_or-set_other, get_or-set_same, length-replicate, length-set, replicate-append-replicate}
-use Rattle.std.proofs.lemmas.List.Elements.{All-cons, All-from_get_or, All-nil}
+use Rattle.std.proofs.lemmas.List.Elements.{All-cons, All-from_get_or, All-head, All-nil, All-tail}
 use Rattle.class_table.specs.Sizes.{largest_counted}
 use Rattle.profile_count.specs.Counts.{nothing_counted as no_requests, with_count, zeros}
 use Rattle.profile_count.proofs.Zeros.{counts-zeros, get_or-zeros}
@@ -12,7 +12,9 @@ use Rattle.tuner_theory.specs.Histories.{most, peaks}
 use Rattle.tuner_theory.specs.Profiles.{AreCounts, Profile, greatest_count}
 use Rattle.tuner_theory.specs.declared.most_snapshots.TheConstants.{MOST_SNAPSHOTS}
 use Rattle.tuner_theory.proofs.Footprint.{peak-at, peaks-length}
+use Rattle.tuner_theory.proofs.Spans.{count-small}
 use Rattle.history_count.specs.Histories.{History, HoldsHistory, counts_of, empty_snapshots, greatest_of, nothing_counted, with_counts}
+use Rattle.history_count.specs.HistoryText.{is_some_counted}
 use Rattle.history_count.proofs.Columns.{counts_of-other, counts_of-same, with_counts-counts, with_counts-length}
 
 most-greatest : (snapshots : List (List ℕ)) (n : ℕ) → most (λ s. slice_index s n) snapshots ≡ greatest_of (counts_of snapshots n)
@@ -44,9 +46,12 @@ greatest-small (c ∷ cs) small = omega (arith, small 0 c (omega arith), greates
 
 -- ---- nothing counted
 
-zeros-length : (n : ℕ) → length (zeros n) ≡ n
+pub zeros-length : (n : ℕ) → length (zeros n) ≡ n
 unfolding zeros
 zeros-length n = length-replicate n 0
+
+pub zeros-small : (n : ℕ) → All (λ count. count ≤ greatest_count) (zeros n)
+zeros-small n = All-from_get_or (λ count. count ≤ greatest_count) (zeros n) 0 (λ k within. rw (get_or-zeros n k) (omega arith))
 
 -- Nothing is counted in any snapshot,
 pub empty-counts : (count : ℕ) → All AreCounts (empty_snapshots count)
@@ -72,12 +77,28 @@ unfolding empty_snapshots
 greatest-empty zero n = refl
 greatest-empty (suc m) n = omega (arith, get_or-zeros (largest_counted + 1) n, greatest-empty m n)
 
+-- no size is counted,
+pub empty-nothing : (count n : ℕ) → is_some_counted (counts_of (empty_snapshots count) n) ≡ false
+unfolding empty_snapshots
+empty-nothing zero n = refl
+empty-nothing (suc m) n = rw get_or-zeros (empty-nothing m n)
+
+-- and all peaks are 0.
 pub peaks-empty : (count : ℕ) → peaks (empty_snapshots count) ≡ zeros (largest_counted + 1)
 peaks-empty count =
     same_number_lists (peaks (empty_snapshots count)) (zeros (largest_counted + 1))
     (peaks-length (empty_snapshots count) ∙ sym (counts-zeros (zeros (largest_counted + 1)) refl).sizes)
     (λ k lt. peak-is (empty_snapshots count) k (omega (arith, peaks-length (empty_snapshots count)))
     ∙ greatest-empty count k ∙ sym (get_or-zeros (largest_counted + 1) k))
+
+-- ---- the counts of one size
+
+pub counts-small : (snapshots : List (List ℕ)) (n : ℕ) → All AreCounts snapshots
+    → All (λ count. count ≤ greatest_count) (counts_of snapshots n)
+counts-small [] n are = All-nil (λ count. count ≤ greatest_count)
+counts-small (s ∷ ss) n are =
+    All-cons (λ count. count ≤ greatest_count) (slice_index s n) (counts_of ss n) (count-small s n (All-head AreCounts s ss are))
+    (counts-small ss n (All-tail AreCounts s ss are))
 
 -- ---- what a history keeps
 
@@ -86,7 +107,7 @@ holds-empty count some few = record {
   is_history = record {
     snapshots = record { some = omega (arith, empty-length count); few = omega (arith, empty-length count); counts = empty-counts count };
     large_size = zeros-length count ∙ sym (empty-length count);
-    large = All-from_get_or (λ count. count ≤ greatest_count) (zeros count) 0 (λ k within. rw (get_or-zeros count k) (omega arith));
+    large = zeros-small count;
   };
   peaks = same_profile _ _ (sym (peaks-empty count));
 }

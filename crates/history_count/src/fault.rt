@@ -14,8 +14,8 @@ pub enum HistoryFault {
     BadSnapshots,
     /// A later line does not have T numbers after its first word.
     WrongLength,
-    /// A fault that a line of a profile can have too. Of a later line, `BadLine`: its first word is neither a number up to 16,368 nor
-    /// `large`, or another word is no number, or it follows the `large` line. `NotAscending`: its size is not above that of the line before.
+    /// A later line has a fault that a line of a profile can have too. `BadLine`: its first word is neither a number up to 16,368 nor
+    /// `large`; or another word is no number; or it follows the `large` line. `NotAscending`: its size is not above the last one.
     /// `CountOutOfRange`: a number is above 1,000,000,000, or all are 0. `BadLine` is tested before `WrongLength`, the others after it.
     Counted(ProfileFault),
 }

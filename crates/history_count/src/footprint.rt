@@ -1,4 +1,5 @@
-//! What a table takes of memory over snapshots, a class at a time: as classes ascend, each serves the sizes from where the one before it ends.
+//! What a table takes of memory over snapshots, a class at a time: as classes ascend, each serves the sizes from the end of the one before
+//! it.
 ghost use Rattle.std.specs.Prelude.{◌≡◌, ◌<◌, ◌≤◌, ◌+◌, ◌-◌, ◌*◌, ◌^◌, ℕ, length, slice_index};
 ghost use Rattle.class_table.specs.Sizes.{IsBlockSize};
 ghost use Rattle.history_count.specs.Histories.{blocks_from, lists_of};

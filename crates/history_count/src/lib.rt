@@ -5,6 +5,7 @@
 mod fault;
 mod footprint;
 mod history;
+pub mod laws;
 mod line;
 mod reading;
 

@@ -28,7 +28,8 @@ loop-t-preserved c =
     c.index-snapshots-t.is c.deref.ensures.value in
     let parts : drop t lists ≡ get_or lists t [] ∷ drop (t + 1) lists = rw (add-one, drop-cons lists t [] inside) refl in
     let here : c.blocks_between.result ≡ blocks (get_or lists t []) = c.blocks_between.ensures.blocks ∙ ap blocks read in
-    let is : c.max-most.result ≡ max c.loop-t.most c.blocks_between.result = c.max-most.ensures ∙ larger c.loop-t.most c.blocks_between.result in
+    let is : c.max-most.result ≡ max c.loop-t.most c.blocks_between.result =
+    c.max-most.ensures ∙ larger c.loop-t.most c.blocks_between.result in
     record {
       rest = omega (arith, c.loop-t.invariant.rest, ap (most blocks) parts, here, is);
       small = omega (arith, c.loop-t.invariant.small, c.blocks_between.ensures.small, is);

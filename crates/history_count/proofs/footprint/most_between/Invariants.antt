@@ -6,6 +6,7 @@ use Rattle.history_count.proofs.footprint.most_between.Given as goal
 
 abbrev pub invariant-loop-t : goal.invariant-loop-t
 invariant-loop-t l = record {
-  rest : max l.most (most (blocks_from l.from l.end) (drop l.t (lists_of l.snapshots))) ≡ most (blocks_from l.from l.end) (lists_of l.snapshots);
+  rest : max l.most (most (blocks_from l.from l.end) (drop l.t (lists_of l.snapshots)))
+      ≡ most (blocks_from l.from l.end) (lists_of l.snapshots);
   small : l.most ≤ greatest_count * (l.end - l.from);
 }

@@ -34,5 +34,6 @@ returns-then-is_too_long c =
 
 pub returns : goal.returns
 returns c =
-    let all = fills-all _ _ _ _ _ _ c.loop-read.invariant (no_next_word _ c.in_default.ensures.number) c.if-is_too_long.false (omega arith) in
+    let all =
+    fills-all _ _ _ _ _ _ c.loop-read.invariant (no_next_word _ c.in_default.ensures.number) c.if-is_too_long.false (omega arith) in
     rw all.1 (all.2, all.3)

@@ -26,7 +26,8 @@ pub set_counts-requires-clause-in_range : goal.set_counts-requires-clause-in_ran
 set_counts-requires-clause-in_range c =
     let r : Reading = record { history = c.lines.history; next = c.lines.next; is_ended = c.lines.is_ended } in
     let counts = c.entry_in.new.counts in
-    let places : length c.deref_mut.result.now ≡ length r.history.snapshots = ap length c.deref_mut.ensures.value ∙ c.lines.invariant.places in
+    let places : length c.deref_mut.result.now ≡ length r.history.snapshots =
+    ap length c.deref_mut.ensures.value ∙ c.lines.invariant.places in
     let is = entry_read r c.in-Some-next.line.now _ _ (Size c.in-Ok-Size.size) counts places c.in-Ok-Size.ensures c.in-Ok-Size.field-0-is in
     let items = with_items_is c.lines.counts counts (omega arith) in
     rw (c.deref.ensures.value ∙ items) (entry_line-read _ _ _ c.in-Some-next.line.now _ is).next_is.good.few
@@ -38,7 +39,8 @@ lines-preserved-in-Ok-Size c =
     let line = c.in-Some-next.line.now in
     let size : ℕ = c.in-Ok-Size.size in
     let entry : Entry = record { subject = Size size; counts = counts } in
-    let places : length c.deref_mut.result.now ≡ length r.history.snapshots = ap length c.deref_mut.ensures.value ∙ c.lines.invariant.places in
+    let places : length c.deref_mut.result.now ≡ length r.history.snapshots =
+    ap length c.deref_mut.ensures.value ∙ c.lines.invariant.places in
     let is : next_entry r line ≡ Ok entry = entry_read r line _ _ (Size size) counts places c.in-Ok-Size.ensures c.in-Ok-Size.field-0-is in
     let read = entry_line-read _ _ _ line entry is in
     let order : r.next ≤ size = leb-true r.next size read.next_is.good.order in
@@ -63,7 +65,8 @@ pub set_large-requires-clause-in_range : goal.set_large-requires-clause-in_range
 set_large-requires-clause-in_range c =
     let r : Reading = record { history = c.lines.history; next = c.lines.next; is_ended = c.lines.is_ended } in
     let counts = c.entry_in.new.counts in
-    let places : length c.deref_mut.result.now ≡ length r.history.snapshots = ap length c.deref_mut.ensures.value ∙ c.lines.invariant.places in
+    let places : length c.deref_mut.result.now ≡ length r.history.snapshots =
+    ap length c.deref_mut.ensures.value ∙ c.lines.invariant.places in
     let is = entry_read r c.in-Some-next.line.now _ _ Large counts places c.in-Ok-Large.ensures c.in-Ok-Large.field-0-is in
     let items = with_items_is c.lines.counts counts (omega arith) in
     rw (c.deref-in-Ok-Large.ensures.value ∙ items) (entry_line-read _ _ _ c.in-Some-next.line.now _ is).next_is.good.few
@@ -74,7 +77,8 @@ lines-preserved c =
     let counts = c.entry_in.new.counts in
     let line = c.in-Some-next.line.now in
     let entry : Entry = record { subject = Large; counts = counts } in
-    let places : length c.deref_mut.result.now ≡ length r.history.snapshots = ap length c.deref_mut.ensures.value ∙ c.lines.invariant.places in
+    let places : length c.deref_mut.result.now ≡ length r.history.snapshots =
+    ap length c.deref_mut.ensures.value ∙ c.lines.invariant.places in
     let is : next_entry r line ≡ Ok entry = entry_read r line _ _ Large counts places c.in-Ok-Large.ensures c.in-Ok-Large.field-0-is in
     let read = entry_line-read _ _ _ line entry is in
     let items = with_items_is c.lines.counts counts (omega arith) in
@@ -83,7 +87,8 @@ lines-preserved c =
     let rest = λ (h : History).
     history_from (c.lines.number + 1 + 1) (record { history = h; next = r.next; is_ended = true }) c.next-in-lines.new.self in
     record {
-      rest = c.lines.invariant.rest ∙ line_read (c.lines.number + 1) r _ _ line entry c.in-Some-next.ensures.steps is ∙ ap rest (sym history);
+      rest = c.lines.invariant.rest ∙ line_read (c.lines.number + 1) r _ _ line entry c.in-Some-next.ensures.steps is
+          ∙ ap rest (sym history);
       places = rw items (read.next_is.good.size ∙ ap length (sym c.set_large.ensures.snapshots));
       sizes = c.lines.invariant.sizes;
       lines = omega (arith, c.lines.invariant.lines_of_sizes read.open_still);
@@ -94,7 +99,8 @@ pub returns-in-Err : goal.returns-in-Err
 returns-in-Err c =
     let r : Reading = record { history = c.lines.history; next = c.lines.next; is_ended = c.lines.is_ended } in
     let line = c.in-Some-next.line.now in
-    let places : length c.deref_mut.result.now ≡ length r.history.snapshots = ap length c.deref_mut.ensures.value ∙ c.lines.invariant.places in
+    let places : length c.deref_mut.result.now ≡ length r.history.snapshots =
+    ap length c.deref_mut.ensures.value ∙ c.lines.invariant.places in
     c.lines.invariant.rest
     ∙ line_faulty (c.lines.number + 1) r _ _ line _ c.in-Some-next.ensures.steps
     (ap (λ n. entry_of n r.next r.is_ended (words line)) (sym places) ∙ c.in-Err.ensures)

@@ -14,7 +14,8 @@ invariant_of-self c =
     let inside = c.self.inside in
     let items = with_items_is inside.snapshots c.write_counts.new.snapshots (omega arith) in
     let is : lists_of c.write_counts.new.snapshots ≡ with_counts (lists_of inside.snapshots.items) c.args.n c.args.counts.now =
-    c.write_counts.ensures ∙ ap (λ (l : List (Vec ℕ Global)). with_counts (lists_of l) c.args.n c.args.counts.now) c.deref_mut.ensures.value in
+    c.write_counts.ensures
+    ∙ ap (λ (l : List (Vec ℕ Global)). with_counts (lists_of l) c.args.n c.args.counts.now) c.deref_mut.ensures.value in
     let before : History = record { snapshots = lists_of inside.snapshots.items; large = inside.large.items } in
     let size : length c.args.counts.now ≡ length before.snapshots =
     c.requires.places ∙ ap (λ (h : History). length h.snapshots) (sym c.self.view_is) in

@@ -1,0 +1,193 @@
+-- From a text that is read as a history to its spelling: line by line, the rest spells what is counted from there on.
+use Rattle.std.proofs.Common.{◌≡◌, ℕ, suc, ◌+◌, ◌-◌, ◌<◌, ◌≤◌, Bool, true, false, List, [], ◌∷◌, ◌++◌, length, Option, Some, None, Result, Ok, Err, codes, leb, refl, subst, sym, ap, ◌∙◌, arith}
+use Rattle.std.specs.Fmt.{decimal}
+use Rattle.std.specs.Str.{bytes_eq}
+use Rattle.std.proofs.lemmas.Bool.{and_parts, leb-true}
+use Rattle.std.proofs.lemmas.Slice.Eq.{bytes_eq-Decides}
+use Rattle.class_table.specs.NamedLines.{named_line}
+use Rattle.class_table.specs.Sizes.{largest_counted}
+use Rattle.line_text.specs.Lines.{IsTextOf, line_of, lines, words}
+use Rattle.line_text.specs.Numbers.{number_of}
+use Rattle.line_text.proofs.LawLemmas.{text_laws as laws}
+use Rattle.tuner_theory.specs.declared.most_snapshots.TheConstants.{MOST_SNAPSHOTS}
+use Rattle.profile_count.specs.Counts.{zeros}
+use Rattle.history_count.specs.Histories.{History, IsHistory, counts_of}
+use Rattle.history_count.specs.HistoryText.{Entry, Reading, SpellsHistory, counts_lines, first_reading, history_after, history_from, history_lines, history_of, history_of_lines, is_snapshot_count, is_some_counted, next_entry, size_lines, snapshot_count, snapshots_line, snapshots_of, with_entry}
+use Rattle.history_count.specs.declared.fault.HistoryFault.{HistoryFault}
+use Rattle.history_count.specs.declared.line.Subject.{Subject}
+use Rattle.history_count.specs.declared.line.Subject.TheVariants.{Large, Size}
+use Rattle.history_count.proofs.Columns.{counts_of-other, counts_of-same, with_counts-length}
+use Rattle.history_count.proofs.EntryLines.{IsNext, entry_line, entry_line-read}
+use Rattle.history_count.proofs.OpenReadings.{IsOpen, is_open-first, is_open-size, size_entry}
+use Rattle.history_count.proofs.Peaks.{empty-length, zeros-length, zeros-small}
+use Rattle.history_count.proofs.SizeLines.{counts_lines-none, counts_lines-some, size_lines-counted, size_lines-none, size_lines-passed, size_lines_from, zeros-none}
+
+-- After a reading, lines spell a history: what it counts from the next size on, and its large blocks. Below that size it counts what was
+-- read.
+record SpellsRest (r : Reading) (ls : List (List ℕ)) (h : History) : Type 0 where
+  is_history : IsHistory h
+  size : length h.snapshots ≡ length r.history.snapshots
+  kept : (k : ℕ) → k < r.next → counts_of h.snapshots k ≡ counts_of r.history.snapshots k
+  spelled : ls ≡ size_lines_from h.snapshots r.next ++ counts_lines (codes "large") h.large
+
+-- ---- one line in front of others that spell the rest
+
+no_size_lines : (r : Reading) → IsOpen r → size_lines_from r.history.snapshots r.next ≡ []
+no_size_lines r is_open = size_lines-none r.history.snapshots r.next (largest_counted + 1 - r.next) is_open.none
+
+-- no line more spells what was read
+spells_rest-nil : (r : Reading) → IsOpen r → SpellsRest r [] r.history
+spells_rest-nil r is_open =
+    let count = length r.history.snapshots in
+    record {
+      is_history = record {
+        snapshots = is_open.snapshots;
+        large_size = ap length is_open.large ∙ zeros-length count;
+        large = rw is_open.large (zeros-small count);
+      };
+      size = refl;
+      kept = λ k below. refl;
+      spelled = rw (no_size_lines r is_open, is_open.large, counts_lines-none (codes "large") (zeros count) (zeros-none count)) refl;
+    }
+
+abbrev large_entry : List ℕ → Entry
+large_entry counts = record { subject = Large; counts = counts }
+
+-- a `large` line alone spells its counts
+spells_rest-large : (r : Reading) (counts : List ℕ) → IsOpen r → IsNext (length r.history.snapshots) r.next (large_entry counts)
+    → SpellsRest r (entry_line (large_entry counts) ∷ []) (with_entry r (large_entry counts)).history
+spells_rest-large r counts is_open next = record {
+  is_history = record { snapshots = is_open.snapshots; large_size = next.good.size; large = next.good.few };
+  size = refl;
+  kept = λ k below. refl;
+  spelled = rw (no_size_lines r is_open, counts_lines-some (codes "large") counts next.good.some) refl;
+}
+
+-- the line of a size spells its counts, and that the sizes before it are not counted
+spells_rest-size : (r : Reading) (size : ℕ) (counts : List ℕ) (ls : List (List ℕ)) (h : History) → IsOpen r
+    → IsNext (length r.history.snapshots) r.next (size_entry size counts) → SpellsRest (with_entry r (size_entry size counts)) ls h
+    → SpellsRest r (entry_line (size_entry size counts) ∷ ls) h
+spells_rest-size r size counts ls h is_open next rest =
+    let before = r.history.snapshots in
+    let order = leb-true r.next size next.good.order in
+    let here : counts_of h.snapshots size ≡ counts =
+    rest.kept size (omega arith) ∙ counts_of-same before size counts is_open.snapshots.counts next.subject next.good.size in
+    let kept = λ (k : ℕ) (below : k < size). rest.kept k (omega arith) ∙ counts_of-other before size k counts (λ e. omega arith) in
+    let passed = size_lines-passed h.snapshots r.next size order (omega (arith, next.subject))
+    (λ k from below. ap is_some_counted (kept k below) ∙ is_open.none k from) in
+    let more : largest_counted + 1 - size ≡ suc (largest_counted + 1 - suc size) = omega (arith, next.subject) in
+    let counted = size_lines-counted h.snapshots size (largest_counted + 1 - suc size) (ap is_some_counted here ∙ next.good.some) in
+    let front : size_lines_from h.snapshots r.next ≡ named_line (decimal size) counts ∷ size_lines_from h.snapshots (suc size) =
+    passed ∙ ap (size_lines h.snapshots size) more ∙ counted
+    ∙ ap (λ ns. named_line (decimal size) ns ∷ size_lines_from h.snapshots (suc size)) here in
+    record {
+      is_history = rest.is_history;
+      size = rest.size ∙ with_counts-length before size counts;
+      kept = λ k below. kept k (omega (arith, order));
+      spelled = rw (front, rest.spelled) refl;
+    }
+
+-- ---- all lines
+
+same_history_read : (a b : History) → (let read : Result History (ℕ × HistoryFault) = Ok a in read) ≡ Ok b → a ≡ b
+same_history_read a b e = cc
+
+-- no line follows a `large` line
+nothing_after_large : (number : ℕ) (r : Reading) (ls : List (List ℕ)) (h : History) → r.is_ended ≡ true → history_from number r ls ≡ Ok h
+    → (ls ≡ []) × (r.history ≡ h)
+unfolding history_from
+nothing_after_large number r [] h ended e = (refl, same_history_read r.history h e)
+nothing_after_large number r (line ∷ ls) h ended e = go (next_entry r line) refl
+  where
+    go : (read : Result Entry HistoryFault) → next_entry r line ≡ read → (line ∷ ls ≡ []) × (r.history ≡ h)
+    go (Err fault) is = let none = rw is at e in absurd cc
+    go (Ok entry) is =
+        let open_still = (entry_line-read (length r.history.snapshots) r.next r.is_ended line entry is).open_still in
+        absurd cc
+
+-- lines that are read as a history spell it
+spells_rest-read : (ls : List (List ℕ)) (number : ℕ) (r : Reading) (h : History) → IsOpen r → history_from number r ls ≡ Ok h
+    → SpellsRest r ls h
+unfolding history_from
+spells_rest-read [] number r h is_open e = rw (← same_history_read r.history h e) (spells_rest-nil r is_open)
+spells_rest-read (line ∷ ls) number r h is_open e = go (spells_rest-read ls) (next_entry r line) refl
+  where
+    go : ((number : ℕ) (r : Reading) (h : History) → IsOpen r → history_from number r ls ≡ Ok h → SpellsRest r ls h)
+        → (read : Result Entry HistoryFault) → next_entry r line ≡ read → SpellsRest r (line ∷ ls) h
+    go others (Err fault) is = let none = rw is at e in absurd cc
+    go others (Ok entry) is = by_subject others entry.subject entry.counts is
+      where
+        by_subject : ((number : ℕ) (r : Reading) (h : History) → IsOpen r → history_from number r ls ≡ Ok h → SpellsRest r ls h)
+            → (subject : Subject) (counts : List ℕ) → next_entry r line ≡ Ok (record { subject = subject; counts = counts })
+            → SpellsRest r (line ∷ ls) h
+        by_subject others (Size size) counts is =
+            let read = entry_line-read (length r.history.snapshots) r.next r.is_ended line (size_entry size counts) is in
+            let after =
+            others (suc number) (with_entry r (size_entry size counts)) h (is_open-size r size counts is_open read.next_is)
+            (rw is at e) in
+            rw read.spelled (spells_rest-size r size counts ls h is_open read.next_is after)
+        by_subject others Large counts is =
+            let read = entry_line-read (length r.history.snapshots) r.next r.is_ended line (large_entry counts) is in
+            let after = nothing_after_large (suc number) (with_entry r (large_entry counts)) ls h refl (rw is at e) in
+            rw (read.spelled, after.0, ← after.1) (spells_rest-large r counts is_open read.next_is)
+
+-- ---- the first line
+
+-- A line that is read as a number of snapshots is its line.
+pub record IsReadCount (line : List ℕ) (count : ℕ) : Type 0 where
+  pub some : 1 ≤ count
+  pub few : count ≤ MOST_SNAPSHOTS
+  pub spelled : line ≡ snapshots_line count
+
+same_count : (a b : ℕ) → Some a ≡ Some b → a ≡ b
+same_count a b e = cc
+
+pub snapshots-read : (line : List ℕ) (count : ℕ) → snapshots_of (words line) ≡ Some count → IsReadCount line count
+snapshots-read line count e = go (words line) refl e
+  where
+    numbered : (first second : List ℕ) → words line ≡ first ∷ second ∷ [] → first ≡ codes "snapshots" → (o : Option ℕ)
+        → number_of second ≡ o → snapshot_count o ≡ Some count → IsReadCount line count
+    numbered first second parts name None f e = absurd cc
+    numbered first second parts name (Some n) f e = tested (is_snapshot_count n) refl
+      where
+        tested : (b : Bool) → is_snapshot_count n ≡ b → IsReadCount line count
+        tested false g = let none = rw g at e in absurd cc
+        tested true g =
+            let same : n ≡ count = same_count n count (rw g at e) in
+            let range = and_parts (leb 1 n) (leb n MOST_SNAPSHOTS) g in
+            let some = leb-true 1 n range.0 in
+            let few = leb-true n MOST_SNAPSHOTS range.1 in
+            let word : second ≡ decimal n = laws.spelled second n (omega (arith, few)) f in
+            rw (← same) (record {
+              some = some;
+              few = few;
+              spelled = sym (laws.line line) ∙ ap line_of parts ∙ rw (name, word) refl;
+            })
+
+    go : (ws : List (List ℕ)) → words line ≡ ws → snapshots_of ws ≡ Some count → IsReadCount line count
+    go [] parts e = absurd cc
+    go (first ∷ []) parts e = absurd cc
+    go (first ∷ second ∷ third ∷ ws) parts e = absurd cc
+    go (first ∷ second ∷ []) parts e = named (bytes_eq first (codes "snapshots")) refl
+      where
+        named : (b : Bool) → bytes_eq first (codes "snapshots") ≡ b → IsReadCount line count
+        named false f = let none = rw f at e in absurd cc
+        named true f = numbered first second parts ((bytes_eq-Decides first (codes "snapshots")).0 f) (number_of second) refl (rw f at e)
+
+-- What is read as a history is its text.
+pub spelled-history_of : (text : List ℕ) (h : History) → history_of text ≡ Ok h → SpellsHistory text h
+spelled-history_of text h e = go (lines text) refl e
+  where
+    after : (line : List ℕ) (ls : List (List ℕ)) → lines text ≡ line ∷ ls → (o : Option ℕ) → snapshots_of (words line) ≡ o
+        → history_after o ls ≡ Ok h → SpellsHistory text h
+    after line ls parts None is e = absurd cc
+    after line ls parts (Some count) is e =
+        let read = snapshots-read line count is in
+        let rest = spells_rest-read ls 2 (first_reading count) h (is_open-first count read.some read.few) e in
+        let size : count ≡ length h.snapshots = omega (arith, rest.size, empty-length count) in
+        let are : lines text ≡ history_lines h = parts ∙ rw (read.spelled, rest.spelled, ← size) refl in
+        record { history = rest.is_history; spelled = subst (IsTextOf text) are (laws.text text) }
+
+    go : (ls : List (List ℕ)) → lines text ≡ ls → history_of_lines ls ≡ Ok h → SpellsHistory text h
+    go [] parts e = absurd cc
+    go (line ∷ ls) parts e = after line ls parts (snapshots_of (words line)) refl e

@@ -1,0 +1,188 @@
+-- From the spelling of a history to the history that is read: size by size, the counts so far are the history's.
+use Rattle.std.proofs.Common.{◌≡◌, ℕ, zero, suc, ◌+◌, ◌<◌, ◌≤◌, ◌^◌, Bool, true, false, List, [], ◌∷◌, ◌++◌, length, Some, Ok, codes, refl, sym, ap, ◌∙◌, arith, inl, inr}
+use Rattle.std.specs.Prelude.{All}
+use Rattle.std.proofs.lemmas.Bool.{cases_eq, le-leb}
+use Rattle.std.proofs.lemmas.List.Elements.{All-append, All-cons, All-nil}
+use Rattle.class_table.specs.Sizes.{largest_counted}
+use Rattle.class_table.proofs.LawLemmas.{named_line_is_full, plain_name, words_of_named_line}
+use Rattle.line_text.specs.Lines.{IsFullLine, lines, words}
+use Rattle.line_text.proofs.LawLemmas.{text_laws as laws}
+use Rattle.tuner_theory.specs.Profiles.{AreCounts}
+use Rattle.tuner_theory.specs.declared.most_snapshots.TheConstants.{MOST_SNAPSHOTS}
+use Rattle.history_count.specs.Histories.{History, IsHistory, counts_of}
+use Rattle.history_count.specs.HistoryText.{Entry, Reading, SpellsHistory, counts_lines, first_reading, history_from, history_lines, history_of, is_some_counted, size_lines, snapshots_line, snapshots_of, with_entry}
+use Rattle.history_count.specs.declared.line.Subject.TheVariants.{Large}
+use Rattle.history_count.proofs.Columns.{counts_of-length, counts_of-other, counts_of-same, same_snapshots, with_counts-length}
+use Rattle.history_count.proofs.EntryLines.{IsNext, entry_line, entry_line-full, entry_of-line}
+use Rattle.history_count.proofs.LineByLine.{first_line_read, line_read, no_line}
+use Rattle.history_count.proofs.OpenReadings.{IsOpen, is_open-first, is_open-size, size_entry}
+use Rattle.history_count.proofs.Peaks.{counts-small, empty-length, zeros-length}
+use Rattle.history_count.proofs.SizeLines.{counts_lines-none, counts_lines-some, same_nothing, size_lines-counted, size_lines-zero, zeros-none}
+
+-- ---- lines are read one by one
+
+-- an entry's line is read, and then the others
+history_from-entry_line : (number : ℕ) (r : Reading) (entry : Entry) (ls : List (List ℕ)) → r.is_ended ≡ false
+    → IsNext (length r.history.snapshots) r.next entry
+    → history_from number r (entry_line entry ∷ ls) ≡ history_from (number + 1) (with_entry r entry) ls
+history_from-entry_line number r entry ls open_still next =
+    line_read number r (entry_line entry ∷ ls) ls (entry_line entry) entry refl
+    (rw open_still (entry_of-line (length r.history.snapshots) r.next entry next))
+
+abbrev large_entry : List ℕ → Entry
+large_entry counts = record { subject = Large; counts = counts }
+
+-- the `large` line is read last, where there is one
+history_from-large_lines : (number : ℕ) (r : Reading) (h : History) → IsOpen r → IsHistory h → r.history.snapshots ≡ h.snapshots
+    → history_from number r (counts_lines (codes "large") h.large) ≡ Ok h
+history_from-large_lines number r h is_open is_history same = go (is_some_counted h.large) refl
+  where
+    go : (counted : Bool) → is_some_counted h.large ≡ counted → history_from number r (counts_lines (codes "large") h.large) ≡ Ok h
+    go false none =
+        let size : length r.history.large ≡ length h.large =
+        ap length is_open.large ∙ zeros-length (length r.history.snapshots) ∙ ap length same ∙ sym is_history.large_size in
+        let nothing : is_some_counted r.history.large ≡ false = rw is_open.large (zeros-none (length r.history.snapshots)) in
+        let large : r.history.large ≡ h.large = same_nothing r.history.large h.large size nothing none in
+        rw (counts_lines-none (codes "large") h.large none)
+        (no_line number r [] refl ∙ ap Ok (rw (same, large) refl))
+    go true some =
+        let next : IsNext (length r.history.snapshots) r.next (large_entry h.large) =
+        record {
+          subject = tt;
+          good = record { size = is_history.large_size ∙ ap length (sym same); order = refl; few = is_history.large; some = some };
+        } in
+        rw (counts_lines-some (codes "large") h.large some)
+        (history_from-entry_line number r (large_entry h.large) [] is_open.open_still next
+        ∙ no_line (number + 1) (with_entry r (large_entry h.large)) [] refl
+        ∙ ap (λ (s : List (List ℕ)). Ok (record { snapshots = s; large = h.large })) same)
+
+-- The lines from a size on are read as the history whose counts of the sizes below were read.
+history_from-size_lines : (more size number : ℕ) (r : Reading) (h : History) → IsOpen r → IsHistory h
+    → length r.history.snapshots ≡ length h.snapshots → size + more ≡ largest_counted + 1 → r.next ≤ size
+    → ((k : ℕ) → k < size → counts_of r.history.snapshots k ≡ counts_of h.snapshots k)
+    → history_from number r (size_lines h.snapshots size more ++ counts_lines (codes "large") h.large) ≡ Ok h
+unfolding size_lines
+history_from-size_lines zero size number r h is_open is_history count all next same =
+    history_from-large_lines number r h is_open is_history
+    (same_snapshots r.history.snapshots h.snapshots count is_open.snapshots.counts is_history.snapshots.counts
+    (λ k small. same k (omega arith)))
+history_from-size_lines (suc more) size number r h is_open is_history count all next same =
+    go (history_from-size_lines more) (is_some_counted (counts_of h.snapshots size)) refl
+  where
+    go : ((size number : ℕ) (r : Reading) (h : History) → IsOpen r → IsHistory h
+        → length r.history.snapshots ≡ length h.snapshots → size + more ≡ largest_counted + 1 → r.next ≤ size
+        → ((k : ℕ) → k < size → counts_of r.history.snapshots k ≡ counts_of h.snapshots k)
+        → history_from number r (size_lines h.snapshots size more ++ counts_lines (codes "large") h.large) ≡ Ok h)
+        → (counted : Bool) → is_some_counted (counts_of h.snapshots size) ≡ counted
+        → history_from number r (size_lines h.snapshots size (suc more) ++ counts_lines (codes "large") h.large) ≡ Ok h
+    go others false none =
+        let lengths : length (counts_of r.history.snapshots size) ≡ length (counts_of h.snapshots size) =
+        counts_of-length r.history.snapshots size ∙ count ∙ sym (counts_of-length h.snapshots size) in
+        let here : counts_of r.history.snapshots size ≡ counts_of h.snapshots size =
+        same_nothing (counts_of r.history.snapshots size) (counts_of h.snapshots size) lengths (is_open.none size next) none in
+        rw (size_lines-zero h.snapshots size more none)
+        (others (suc size) number r h is_open is_history count (omega arith) (omega arith) (λ k below. elim (cases_eq k size) [
+          | inl is ↦ rw is here
+          | inr other ↦ same k (omega arith)
+        ]))
+    go others true some =
+        let counts = counts_of h.snapshots size in
+        let entry = size_entry size counts in
+        let long : length counts ≡ length r.history.snapshots = counts_of-length h.snapshots size ∙ sym count in
+        let small : size ≤ largest_counted = omega arith in
+        let may_come : IsNext (length r.history.snapshots) r.next entry =
+        record {
+          subject = small;
+          good = record {
+            size = long;
+            order = le-leb r.next size next;
+            few = counts-small h.snapshots size is_history.snapshots.counts;
+            some = some;
+          };
+        } in
+        let before = r.history.snapshots in
+        let agree : (k : ℕ) → k < suc size → counts_of (with_entry r entry).history.snapshots k ≡ counts_of h.snapshots k =
+        λ k below. elim (cases_eq k size) [
+          | inl is ↦ rw is (counts_of-same before size counts is_open.snapshots.counts small long)
+          | inr other ↦ counts_of-other before size k counts other ∙ same k (omega arith)
+        ] in
+        rw (size_lines-counted h.snapshots size more some)
+        (history_from-entry_line number r entry (size_lines h.snapshots (suc size) more ++ counts_lines (codes "large") h.large)
+        is_open.open_still may_come
+        ∙ others (suc size) (number + 1) (with_entry r entry) h (is_open-size r size counts is_open may_come) is_history
+        (with_counts-length before size counts ∙ count) (omega arith) (omega arith) agree)
+
+-- ---- the lines of a history are lines, and not empty
+
+size_lines-full : (snapshots : List (List ℕ)) (more size : ℕ) → size + more ≤ largest_counted + 1 → All AreCounts snapshots
+    → All IsFullLine (size_lines snapshots size more)
+unfolding size_lines
+size_lines-full snapshots zero size within are = All-nil IsFullLine
+size_lines-full snapshots (suc more) size within are = go (size_lines-full snapshots more) (is_some_counted (counts_of snapshots size)) refl
+  where
+    go : ((size : ℕ) → size + more ≤ largest_counted + 1 → All AreCounts snapshots → All IsFullLine (size_lines snapshots size more))
+        → (counted : Bool) → is_some_counted (counts_of snapshots size) ≡ counted → All IsFullLine (size_lines snapshots size (suc more))
+    go others false none = rw (size_lines-zero snapshots size more none) (others (suc size) (omega arith) are)
+    go others true some =
+        let counts = counts_of snapshots size in
+        let next : IsNext (length snapshots) 0 (size_entry size counts) =
+        record {
+          subject = omega arith;
+          good = record {
+            size = counts_of-length snapshots size;
+            order = le-leb 0 size (omega arith);
+            few = counts-small snapshots size are;
+            some = some;
+          };
+        } in
+        rw (size_lines-counted snapshots size more some)
+        (All-cons IsFullLine (entry_line (size_entry size counts)) (size_lines snapshots (suc size) more)
+        (entry_line-full (length snapshots) 0 (size_entry size counts) next) (others (suc size) (omega arith) are))
+
+large_lines-full : (h : History) → IsHistory h → All IsFullLine (counts_lines (codes "large") h.large)
+large_lines-full h is = go (is_some_counted h.large) refl
+  where
+    go : (counted : Bool) → is_some_counted h.large ≡ counted → All IsFullLine (counts_lines (codes "large") h.large)
+    go false none = rw (counts_lines-none (codes "large") h.large none) (All-nil IsFullLine)
+    go true some =
+        let next : IsNext (length h.snapshots) 0 (large_entry h.large) =
+        record { subject = tt; good = record { size = is.large_size; order = refl; few = is.large; some = some } } in
+        rw (counts_lines-some (codes "large") h.large some)
+        (All-cons IsFullLine (entry_line (large_entry h.large)) [] (entry_line-full (length h.snapshots) 0 (large_entry h.large) next)
+        (All-nil IsFullLine))
+
+-- ---- the first line
+
+module _ (count : ℕ) (some : 1 ≤ count) (few : count ≤ MOST_SNAPSHOTS) where
+  fits : count < 2 ^ 64
+  fits = omega arith
+
+  small_count : All (λ n. n < 2 ^ 64) (count ∷ [])
+  small_count = All-cons (λ n. n < 2 ^ 64) count [] fits (All-nil (λ n. n < 2 ^ 64))
+
+  pub snapshots_line-full : IsFullLine (snapshots_line count)
+  snapshots_line-full = named_line_is_full (codes "snapshots") (count ∷ []) (plain_name (codes "snapshots") refl (omega arith)) small_count
+
+  pub snapshots_of-line : snapshots_of (words (snapshots_line count)) ≡ Some count
+  snapshots_of-line =
+      rw (
+        words_of_named_line (codes "snapshots") (count ∷ []) (plain_name (codes "snapshots") refl (omega arith)) small_count,
+        laws.read count fits,
+        le-leb 1 count some,
+        le-leb count MOST_SNAPSHOTS few,
+      ) refl
+
+-- The text of a history is read as that history.
+pub history_of-spelled : (text : List ℕ) (h : History) → SpellsHistory text h → history_of text ≡ Ok h
+history_of-spelled text h spells =
+    let is = spells.history in
+    let count = length h.snapshots in
+    let sizes = size_lines-full h.snapshots (largest_counted + 1) 0 (omega arith) is.snapshots.counts in
+    let others = size_lines h.snapshots 0 (largest_counted + 1) ++ counts_lines (codes "large") h.large in
+    let full = All-append IsFullLine (size_lines h.snapshots 0 (largest_counted + 1)) (counts_lines (codes "large") h.large) sizes
+    (large_lines-full h is) in
+    let all = All-cons IsFullLine (snapshots_line count) others (snapshots_line-full count is.snapshots.some is.snapshots.few) full in
+    let are : lines text ≡ history_lines h = laws.full_lines (history_lines h) text all spells.spelled in
+    first_line_read text (snapshots_line count) others count are (sym (snapshots_of-line count is.snapshots.some is.snapshots.few))
+    ∙ history_from-size_lines (largest_counted + 1) 0 2 (first_reading count) h (is_open-first count is.snapshots.some is.snapshots.few) is
+    (empty-length count) refl (omega arith) (λ k below. absurd (omega arith))
