@@ -20,7 +20,7 @@ fn nth_set_bit(mut bits: u16, skipped: u32) -> u8 {
     bits.trailing_zeros() as u8
 }
 
-fn choose_tag(tag: u8, offset: u8, exclude: u16) -> u8 {
+pub fn choose_tag(tag: u8, offset: u8, exclude: u16) -> u8 {
     let allowed = (!exclude).rotate_right(tag as u32 + 1);
     if allowed == 0 {
         return 0;

@@ -1,15 +1,16 @@
-//! The yardstick of `scripts/bench`: what `mte_tool` does, in plain Rust and not proved.
+//! What `mte_tool` does, in plain Rust and not proved: for a machine without the toolchain, and the
+//! yardstick of `scripts/bench`.
 //!
 //! The commands, the formats, the algorithms, the heap and its options are those of `mte_tool`, and
-//! so is each output byte for byte, where the input has no fault; `addg` and `subg` are missing.
-//! Whatever is refused ends with `refused` and status 2. Besides there is `events`, which writes a
-//! million seeded events:
+//! so is each output and each fault byte for byte, but for help and refused words. Besides there is
+//! `events`, which writes a million seeded events:
 //!
 //!     rustc -O --edition 2021 bench/plain/main.rs -o plain
 //!     ./plain events --seed 1 > million.trace
 //!     ./plain run --limit 8 < million.trace
 
 mod checker;
+mod faults;
 mod generator;
 mod heap;
 mod memory;
@@ -23,6 +24,7 @@ mod text;
 mod trace;
 mod tuner;
 
+use faults::{Fault, WRITE_FAULT};
 use generator::Generator;
 use heap::Settings;
 use options::Options;
@@ -42,51 +44,87 @@ const PIECE: usize = 65_536;
 
 const NO: ExitCode = ExitCode::FAILURE;
 
+const HELP: &str = "\
+The commands of mte_tool in plain Rust: the same outputs, and nothing is proved of them.
+
+Usage: plain COMMAND [--NAME N ..] < INPUT
+
+  score    a class line and a profile: how many bytes the table wastes
+  tune     a profile: the best table, as a sheet; --limit K (1 to 32), --step S (1, 2, 4 or 8)
+  check    a sheet and a profile: whether the sheet proves its table a best one
+  profile  a trace: its profile
+  replay   a class line and a trace: the report of the tagged heap; --granules, --seed, --quarantine
+  run      a trace: its best table, and the report with it; the options of tune and of replay
+  events   a million events, from no input; --seed
+
+Exit status: 0 done; 1 the verdict is no; 2 words or input are refused; 3 a read or a write failed.
+docs/FORMATS.md has the formats and the codes of faults, `error CODE NAME line L`.
+";
+
+const HEAP: [&str; 3] = ["--granules", "--seed", "--quarantine"];
+const TUNER: [&str; 2] = ["--limit", "--step"];
+
 fn main() -> ExitCode {
-    let mut words = std::env::args().skip(1);
-    let command = words.next().unwrap_or_default();
-    let options = Options::new(words.collect());
-    let mut out = std::io::stdout().lock();
-    answer(&command, &options, &mut out).unwrap_or_else(|| {
-        eprintln!("refused");
-        ExitCode::from(2)
+    let words: Vec<String> = std::env::args_os()
+        .skip(1)
+        .map(|word| word.to_string_lossy().into_owned())
+        .collect();
+    answer(words, &mut std::io::stdout().lock()).unwrap_or_else(|fault| {
+        eprintln!("{fault}");
+        ExitCode::from(fault.status())
     })
 }
 
-// None where the words or the input are refused, or a write fails
-fn answer(command: &str, options: &Options, out: &mut impl Write) -> Option<ExitCode> {
-    match command {
-        "--version" => out.write_all(b"plain 0.1.0\n").ok()?,
-        "events" => events(options, out)?,
-        "score" => return score(out),
-        "tune" => tune(options, out)?,
-        "check" => return check(out),
-        "profile" => profile(out)?,
-        "replay" => replay(options, out)?,
-        "run" => run(options, out)?,
-        _ => return None,
+fn answer(words: Vec<String>, out: &mut impl Write) -> Result<ExitCode, Fault> {
+    if words.iter().any(|word| word == "--help" || word == "-h") {
+        return written(out, HELP.as_bytes());
     }
-    Some(ExitCode::SUCCESS)
+    let mut words = words.into_iter();
+    let Some(command) = words.next() else {
+        eprint!("{HELP}");
+        return Ok(ExitCode::from(2));
+    };
+    match command.as_str() {
+        "--version" => written(out, b"plain 0.1.0\n"),
+        "events" => events(&Options::new(&["--seed"], words)?, out),
+        "score" => Options::new(&[], words).and_then(|_| score(out)),
+        "tune" => tune(&Options::new(&TUNER, words)?, out),
+        "check" => Options::new(&[], words).and_then(|_| check(out)),
+        "profile" => Options::new(&[], words).and_then(|_| profile(out)),
+        "replay" => replay(&Options::new(&HEAP, words)?, out),
+        "run" => run(&Options::new(&[&TUNER[..], &HEAP].concat(), words)?, out),
+        _ => Err(Fault::Words(format!("there is no command {command:?}"))),
+    }
 }
 
-fn events(options: &Options, out: &mut impl Write) -> Option<()> {
+fn written(out: &mut impl Write, text: &[u8]) -> Result<ExitCode, Fault> {
+    write(out, text)?;
+    Ok(ExitCode::SUCCESS)
+}
+
+fn write(out: &mut impl Write, text: &[u8]) -> Result<(), Fault> {
+    out.write_all(text).map_err(|_| WRITE_FAULT)
+}
+
+fn events(options: &Options, out: &mut impl Write) -> Result<ExitCode, Fault> {
     let mut generator = Generator::new(options.seed()?);
     let mut text = Vec::new();
     for _ in 0..EVENTS {
         generator.next_event().write(&mut text);
         if text.len() >= PIECE {
-            out.write_all(&text).ok()?;
+            write(out, &text)?;
             text.clear();
         }
     }
-    out.write_all(&text).ok()
+    written(out, &text)
 }
 
-fn score(out: &mut impl Write) -> Option<ExitCode> {
+fn score(out: &mut impl Write) -> Result<ExitCode, Fault> {
     let input = read_all()?;
     let mut text = Scanner::new(&input);
-    let classes = read_classes(&mut text)?;
-    let profile = Profile::read(&mut text)?;
+    let read =
+        read_classes(&mut text).and_then(|classes| Some((classes, Profile::read(&mut text)?)));
+    let (classes, profile) = read.ok_or_else(|| faults::in_scored(&input))?;
     let (words, number, status) = match score::waste(&classes, &profile) {
         Ok(waste) => ("waste ", waste, ExitCode::SUCCESS),
         Err(size) => ("not serving ", size as u64, NO),
@@ -94,68 +132,77 @@ fn score(out: &mut impl Write) -> Option<ExitCode> {
     let mut line = words.as_bytes().to_vec();
     push_number(&mut line, number);
     line.push(b'\n');
-    out.write_all(&line).ok()?;
-    Some(status)
+    write(out, &line)?;
+    Ok(status)
 }
 
-fn tune(options: &Options, out: &mut impl Write) -> Option<()> {
+fn tune(options: &Options, out: &mut impl Write) -> Result<ExitCode, Fault> {
     let (limit, step) = (options.limit()?, options.step()?);
     let input = read_all()?;
-    let profile = Profile::read(&mut Scanner::new(&input))?;
+    let profile = Profile::read(&mut Scanner::new(&input));
+    let profile = profile.ok_or_else(|| faults::in_profile(&input))?;
     let mut text = Vec::new();
     tuner::tune(&profile, limit, step).write(&mut text);
-    out.write_all(&text).ok()
+    written(out, &text)
 }
 
-fn check(out: &mut impl Write) -> Option<ExitCode> {
+fn check(out: &mut impl Write) -> Result<ExitCode, Fault> {
     let input = read_all()?;
     let mut text = Scanner::new(&input);
-    let sheet = Sheet::read(&mut text)?;
-    let profile = Profile::read(&mut text)?;
+    let read = Sheet::read(&mut text).and_then(|sheet| Some((sheet, Profile::read(&mut text)?)));
+    let (sheet, profile) = read.ok_or_else(|| faults::in_checked(&input))?;
     match checker::refusal(&profile, &sheet) {
         Some(refusal) => {
-            writeln!(out, "refused {refusal}").ok()?;
-            Some(NO)
+            write(out, format!("refused {refusal}\n").as_bytes())?;
+            Ok(NO)
         }
-        None => {
-            out.write_all(b"optimal\n").ok()?;
-            Some(ExitCode::SUCCESS)
-        }
+        None => written(out, b"optimal\n"),
     }
 }
 
-fn profile(out: &mut impl Write) -> Option<()> {
+fn profile(out: &mut impl Write) -> Result<ExitCode, Fault> {
     let mut profile = Profile::new();
-    each_line(|line| {
+    let mut events = 0;
+    let take = |line: &[u8]| {
         if let Some(n) = Event::read(line)?.request() {
             profile.add(n);
         }
-        Some(())
-    })?;
+        events += 1;
+        (events <= EVENTS).then_some(())
+    };
+    each_line(take, |line, number| faults::in_trace(line, number, 0))?;
     let mut text = Vec::new();
     profile.write(&mut text);
-    out.write_all(&text).ok()
+    written(out, &text)
 }
 
-fn replay(options: &Options, out: &mut impl Write) -> Option<()> {
+fn replay(options: &Options, out: &mut impl Write) -> Result<ExitCode, Fault> {
     let settings = options.heap()?;
     let mut classes = None;
     let mut events = Vec::new();
-    each_line(|line| {
+    let take = |line: &[u8]| {
         match classes {
             None => classes = Some(read_classes(&mut Scanner::new(line))?),
             Some(_) => push_event(line, &mut events)?,
         }
         Some(())
+    };
+    each_line(take, |line, number| match number {
+        1 => faults::in_class_line(Some(line)).expect("a class line that was refused is faulty"),
+        _ => faults::in_trace(line, number, 1),
     })?;
-    write_report(&classes?, &settings, &events, out)
+    let Some(classes) = classes else {
+        return Err(faults::in_scored(b""));
+    };
+    write_report(&classes, &settings, &events, out)
 }
 
-fn run(options: &Options, out: &mut impl Write) -> Option<()> {
-    let (limit, step) = (options.limit()?, options.step()?);
+fn run(options: &Options, out: &mut impl Write) -> Result<ExitCode, Fault> {
     let settings = options.heap()?;
+    let (limit, step) = (options.limit()?, options.step()?);
     let mut events = Vec::new();
-    each_line(|line| push_event(line, &mut events))?;
+    let take = |line: &[u8]| push_event(line, &mut events);
+    each_line(take, |line, number| faults::in_trace(line, number, 0))?;
     let mut profile = Profile::new();
     for n in events.iter().filter_map(Event::request) {
         profile.add(n);
@@ -163,7 +210,7 @@ fn run(options: &Options, out: &mut impl Write) -> Option<()> {
     let sheet = tuner::tune(&profile, limit, step);
     let mut text = Vec::new();
     sheet.write(&mut text);
-    out.write_all(&text).ok()?;
+    write(out, &text)?;
     write_report(&sheet.classes, &settings, &events, out)
 }
 
@@ -177,16 +224,16 @@ fn write_report(
     settings: &Settings,
     events: &[Event],
     out: &mut impl Write,
-) -> Option<()> {
+) -> Result<ExitCode, Fault> {
     let mut replay = Replay::new(classes, settings);
     let mut report = Vec::with_capacity(2 * PIECE);
     for event in events {
         replay.step(event, &mut report);
         if report.len() >= PIECE {
-            out.write_all(&report).ok()?;
+            write(out, &report)?;
             report.clear();
         }
     }
     replay.write_totals(&mut report);
-    out.write_all(&report).ok()
+    written(out, &report)
 }

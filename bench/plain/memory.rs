@@ -3,6 +3,7 @@
 pub const GRANULE: usize = 16;
 pub const REGION_START: u64 = 1 << 36;
 pub const PLACE_MASK: u64 = (1 << 56) - 1;
+pub const TAG_MASK: u64 = 15 << 56;
 
 #[derive(Clone, Copy, PartialEq)]
 pub enum State {

@@ -1,48 +1,74 @@
-//! The options of the command line: `--NAME N` for each, in any order.
+//! The options of the command line: `--NAME N` or `--NAME=N` for each, in any order.
 
+use crate::faults::{Fault, BAD_OPTION};
 use crate::heap::Settings;
 use std::ops::RangeInclusive;
 
 pub struct Options {
-    words: Vec<String>,
+    given: Vec<(String, String)>,
 }
 
 impl Options {
-    pub fn new(words: Vec<String>) -> Options {
-        Options { words }
+    /// The words after the command, which has options of these names.
+    pub fn new(names: &[&str], mut words: impl Iterator<Item = String>) -> Result<Options, Fault> {
+        let mut given: Vec<(String, String)> = Vec::new();
+        while let Some(word) = words.next() {
+            let (name, value) = match word.split_once('=') {
+                Some((name, value)) => (name.to_string(), Some(value.to_string())),
+                None => (word, None),
+            };
+            if !names.contains(&name.as_str()) {
+                return Err(Fault::Words(format!("there is no argument {name:?} here")));
+            }
+            if given.iter().any(|(other, _)| *other == name) {
+                return Err(Fault::Words(format!("{name} is there twice")));
+            }
+            let value = value.or_else(|| words.next()).unwrap_or_default();
+            given.push((name, value));
+        }
+        Ok(Options { given })
     }
 
     /// The most classes of a table.
-    pub fn limit(&self) -> Option<usize> {
-        self.number("--limit", 1..=32, None)
-            .map(|limit| limit as usize)
+    pub fn limit(&self) -> Result<usize, Fault> {
+        Ok(self.number("--limit", 1..=32, None)? as usize)
     }
 
     /// What each class is a multiple of, in granules.
-    pub fn step(&self) -> Option<u32> {
+    pub fn step(&self) -> Result<u32, Fault> {
         let step = self.number("--step", 1..=8, Some(1))?;
-        step.is_power_of_two().then_some(step as u32)
+        if step.is_power_of_two() {
+            Ok(step as u32)
+        } else {
+            Err(BAD_OPTION)
+        }
     }
 
     /// The seed of the events.
-    pub fn seed(&self) -> Option<u64> {
+    pub fn seed(&self) -> Result<u64, Fault> {
         self.number("--seed", 1..=u64::MAX, Some(1))
     }
 
     /// What the heap is made with.
-    pub fn heap(&self) -> Option<Settings> {
-        Some(Settings {
+    pub fn heap(&self) -> Result<Settings, Fault> {
+        Ok(Settings {
             granules: self.number("--granules", 64..=262_144, Some(65_536))? as u32,
             seed: self.number("--seed", 1..=65_535, Some(1))? as u16,
             quarantine: self.number("--quarantine", 0..=4_194_304, Some(65_536))?,
         })
     }
 
-    fn number(&self, name: &str, range: RangeInclusive<u64>, default: Option<u64>) -> Option<u64> {
-        let Some(at) = self.words.iter().position(|word| word == name) else {
-            return default;
-        };
-        let number = self.words.get(at + 1)?.parse().ok()?;
-        range.contains(&number).then_some(number)
+    fn number(
+        &self,
+        name: &str,
+        range: RangeInclusive<u64>,
+        default: Option<u64>,
+    ) -> Result<u64, Fault> {
+        let given = self.given.iter().find(|(other, _)| other == name);
+        let number = given.map_or(default, |(_, value)| value.parse().ok());
+        number.filter(|n| range.contains(n)).ok_or_else(|| {
+            let (least, most) = range.into_inner();
+            Fault::Words(format!("{name} wants a number from {least} to {most}"))
+        })
     }
 }

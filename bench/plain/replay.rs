@@ -1,7 +1,7 @@
 //! `replay`: the events of a trace on a heap, and the report on them.
 
-use crate::heap::{Heap, Reason, Settings, EXHAUSTED, LARGE, NO_CLASS};
-use crate::memory::Fault;
+use crate::heap::{choose_tag, Heap, Reason, Settings, EXHAUSTED, LARGE, NO_CLASS};
+use crate::memory::{logical_tag, Fault, GRANULE, TAG_MASK};
 use crate::text::push_number;
 use crate::trace::{push_hex, Event};
 use std::ops::Range;
@@ -69,7 +69,21 @@ impl Replay {
                 Ok(bytes) => self.heap.memory.region[bytes].fill(byte),
                 Err(fault) => self.fault(fault, report),
             },
+            Event::Addg { v, w, u6, u4 } => {
+                self.variables[v as usize] = self.moved(w, i64::from(u6), u4)
+            }
+            Event::Subg { v, w, u6, u4 } => {
+                self.variables[v as usize] = self.moved(w, -i64::from(u6), u4)
+            }
         }
+    }
+
+    // the address in a variable so many granules further, with its tag so many steps upwards
+    fn moved(&self, w: u16, granules: i64, steps: u8) -> u64 {
+        let p = self.variables[w as usize];
+        let tag = choose_tag(logical_tag(p), steps, 1);
+        let address = p.wrapping_add_signed(GRANULE as i64 * granules);
+        address & !TAG_MASK | u64::from(tag) << 56
     }
 
     /// Appends the totals to the report.

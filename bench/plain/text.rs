@@ -1,53 +1,71 @@
 //! Text in and out: standard input, read by pieces of 65,536 bytes, lines, words and numbers.
 
+use crate::faults::{Fault, INPUT_TOO_LONG, READ_FAULT};
 use std::io::Read;
 
 const PIECE: usize = 65_536;
 
+const LONGEST_INPUT: usize = 67_108_864;
+
 // so many digits always fit 64 bits
 const MOST_DIGITS: usize = 19;
 
-/// All of standard input. None where a read fails.
-pub fn read_all() -> Option<Vec<u8>> {
+/// All of standard input.
+pub fn read_all() -> Result<Vec<u8>, Fault> {
     let mut input = std::io::stdin().lock();
     let mut piece = vec![0; PIECE];
     let mut text = Vec::new();
     loop {
-        match input.read(&mut piece).ok()? {
-            0 => return Some(text),
+        match input.read(&mut piece).map_err(|_| READ_FAULT)? {
+            0 => return Ok(text),
+            n if text.len() + n > LONGEST_INPUT => return Err(INPUT_TOO_LONG),
             n => text.extend_from_slice(&piece[..n]),
         }
     }
 }
 
 /// Calls `take` for each line of standard input, without its newline; the last line may lack it. It
-/// keeps one piece and an unfinished line. None where a read fails, or `take` gives none.
-pub fn each_line(mut take: impl FnMut(&[u8]) -> Option<()>) -> Option<()> {
+/// keeps one piece and an unfinished line. Where `take` gives none, `fault` says what is wrong with
+/// the line of this number; the rest is read nonetheless, since a longer input has another fault.
+pub fn each_line(
+    mut take: impl FnMut(&[u8]) -> Option<()>,
+    fault: impl Fn(&[u8], usize) -> Fault,
+) -> Result<(), Fault> {
     let mut input = std::io::stdin().lock();
     let mut piece = vec![0; PIECE];
     let mut unfinished = Vec::new();
+    let mut found = Ok(());
+    let (mut read, mut lines) = (0, 0);
     loop {
-        let n = input.read(&mut piece).ok()?;
+        let n = input.read(&mut piece).map_err(|_| READ_FAULT)?;
         if n == 0 {
             break;
         }
+        read += n;
+        if read > LONGEST_INPUT {
+            return Err(INPUT_TOO_LONG);
+        }
         let mut text = &piece[..n];
-        while let Some(end) = text.iter().position(|byte| *byte == b'\n') {
+        while found.is_ok() {
+            let Some(end) = text.iter().position(|byte| *byte == b'\n') else {
+                unfinished.extend_from_slice(text);
+                break;
+            };
+            lines += 1;
             if unfinished.is_empty() {
-                take(&text[..end])?;
+                found = take(&text[..end]).ok_or_else(|| fault(&text[..end], lines));
             } else {
                 unfinished.extend_from_slice(&text[..end]);
-                take(&unfinished)?;
+                found = take(&unfinished).ok_or_else(|| fault(&unfinished, lines));
                 unfinished.clear();
             }
             text = &text[end + 1..];
         }
-        unfinished.extend_from_slice(text);
     }
-    if !unfinished.is_empty() {
-        take(&unfinished)?;
+    if found.is_ok() && !unfinished.is_empty() {
+        found = take(&unfinished).ok_or_else(|| fault(&unfinished, lines + 1));
     }
-    Some(())
+    found
 }
 
 /// The words of a line, with a space between each two.

@@ -1,4 +1,4 @@
-//! Events, a line for each. `addg` and `subg` are missing.
+//! Events, a line for each.
 
 use crate::text::{hex_byte, number_in, push_number, words_of};
 
@@ -10,6 +10,8 @@ pub enum Event {
     Free { v: u16 },
     Load { v: u16, off: i32, len: u8 },
     Store { v: u16, off: i32, len: u8, byte: u8 },
+    Addg { v: u16, w: u16, u6: u8, u4: u8 },
+    Subg { v: u16, w: u16, u6: u8, u4: u8 },
 }
 
 const MOST_LINE: usize = 80;
@@ -47,6 +49,14 @@ impl Event {
                 let byte = hex_byte(words.next()?)?;
                 Event::Store { v, off, len, byte }
             }
+            b"addg" => {
+                let (w, u6, u4) = moves(&mut words)?;
+                Event::Addg { v, w, u6, u4 }
+            }
+            b"subg" => {
+                let (w, u6, u4) = moves(&mut words)?;
+                Event::Subg { v, w, u6, u4 }
+            }
             _ => return None,
         };
         words.next().is_none().then_some(event)
@@ -75,6 +85,12 @@ impl Event {
                 text.push(b' ');
                 push_hex(text, &[byte]);
             }
+            Event::Addg { v, w, u6, u4 } => {
+                push_words(text, b"addg", &[v as i64, w as i64, u6 as i64, u4 as i64])
+            }
+            Event::Subg { v, w, u6, u4 } => {
+                push_words(text, b"subg", &[v as i64, w as i64, u6 as i64, u4 as i64])
+            }
         }
         text.push(b'\n');
     }
@@ -91,6 +107,13 @@ fn range<'a>(words: &mut impl Iterator<Item = &'a [u8]>) -> Option<(i32, u8)> {
     };
     let len = number_in(words.next()?, 64).filter(|len| *len > 0)? as u8;
     Some((off, len))
+}
+
+fn moves<'a>(words: &mut impl Iterator<Item = &'a [u8]>) -> Option<(u16, u8, u8)> {
+    let w = number_in(words.next()?, 1023)? as u16;
+    let u6 = number_in(words.next()?, 63)? as u8;
+    let u4 = number_in(words.next()?, 15)? as u8;
+    Some((w, u6, u4))
 }
 
 fn push_words(text: &mut Vec<u8>, name: &[u8], numbers: &[i64]) {

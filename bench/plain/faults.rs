@@ -1,0 +1,246 @@
+//! Faults: their codes and texts, and where an input is faulty.
+//!
+//! The readers of the other files say only that a text is faulty. It is then read here once more,
+//! line by line, for the first faulty line and its code.
+
+use std::fmt::{Display, Formatter, Result as Written};
+
+pub enum Fault {
+    /// Refused words of the command line.
+    Words(String),
+    Plain(u8, &'static str),
+    /// With the number of the faulty line.
+    InLine(u8, &'static str, usize),
+}
+
+pub const INPUT_TOO_LONG: Fault = Fault::Plain(80, "InputTooLong");
+pub const READ_FAULT: Fault = Fault::Plain(81, "ReadFault");
+pub const WRITE_FAULT: Fault = Fault::Plain(82, "WriteFault");
+pub const BAD_OPTION: Fault = Fault::Plain(83, "BadOption");
+
+impl Fault {
+    pub fn status(&self) -> u8 {
+        match self {
+            Fault::Plain(81..=82, _) => 3,
+            _ => 2,
+        }
+    }
+}
+
+impl Display for Fault {
+    fn fmt(&self, out: &mut Formatter) -> Written {
+        match self {
+            Fault::Words(text) => write!(out, "error: {text}; --help says what there is"),
+            Fault::Plain(code, name) => write!(out, "error {code} {name}"),
+            Fault::InLine(code, name, line) => write!(out, "error {code} {name} line {line}"),
+        }
+    }
+}
+
+/// The first fault of a class line and the profile after it.
+pub fn in_scored(text: &[u8]) -> Fault {
+    let lines = lines_of(text);
+    in_class_line(lines.first().copied()).unwrap_or_else(|| in_lines(&lines[1..], 1))
+}
+
+/// The first fault of a profile.
+pub fn in_profile(text: &[u8]) -> Fault {
+    in_lines(&lines_of(text), 0)
+}
+
+/// The first fault of a sheet and the profile after it.
+pub fn in_checked(text: &[u8]) -> Fault {
+    let lines = lines_of(text);
+    match sheet_lines(&lines) {
+        Ok(count) => in_lines(&lines[count..], count),
+        Err(line) => Fault::InLine(48, "BadSheet", line),
+    }
+}
+
+/// The fault of a line of a trace, which begins after so many other lines.
+pub fn in_trace(line: &[u8], number: usize, before: usize) -> Fault {
+    let fault = |code, name| Fault::InLine(code, name, number);
+    if line.len() > 80 {
+        return fault(73, "LineTooLong");
+    }
+    if number - before > 1_000_000 {
+        return fault(74, "TooManyEvents");
+    }
+    let words: Vec<&[u8]> = line.split(|byte| *byte == b' ').collect();
+    let form = FORMS.iter().find(|(name, _)| name.as_bytes() == words[0]);
+    let Some((_, form)) = form.filter(|(_, form)| form.len() == words.len() - 1) else {
+        return fault(70, "BadWord");
+    };
+    if words.iter().any(|word| word.is_empty()) {
+        return fault(70, "BadWord");
+    }
+    let faulty = words[1..].iter().zip(*form).find_map(|(word, kind)| {
+        let Some(magnitude) = kind.magnitude(word) else {
+            return Some((71, "BadNumber"));
+        };
+        (!kind.allows(magnitude)).then_some((72, "OutOfRange"))
+    });
+    let (code, name) = faulty.expect("a line that was refused is faulty");
+    fault(code, name)
+}
+
+/// The fault of a class line, if it has one. None stands for a missing line.
+pub fn in_class_line(line: Option<&[u8]>) -> Option<Fault> {
+    let fault = |code, name| Some(Fault::InLine(code, name, 1));
+    let mut words = line.unwrap_or(b"").split(|byte| *byte == b' ');
+    let named = words.next() == Some(b"classes");
+    let Some(classes) = words.map(number_of).collect::<Option<Vec<_>>>() else {
+        return fault(23, "BadLine");
+    };
+    if !named {
+        return fault(23, "BadLine");
+    }
+    if classes.len() > 32 {
+        return fault(20, "TooMany");
+    }
+    let mut below = 0;
+    for class in classes {
+        if !(2..=1024).contains(&class) {
+            return fault(21, "OutOfRange");
+        }
+        if class <= below {
+            return fault(22, "NotAscending");
+        }
+        below = class;
+    }
+    None
+}
+
+// where the line `large` is among the sizes
+const AFTER_SIZES: u128 = 16_369;
+
+// the first fault of a profile's lines, after so many other lines
+fn in_lines(lines: &[&[u8]], before: usize) -> Fault {
+    let mut next = 0;
+    for (at, line) in lines.iter().enumerate() {
+        let fault = |code, name| Fault::InLine(code, name, before + at + 1);
+        let words: Vec<&[u8]> = line.split(|byte| *byte == b' ').collect();
+        let size = match words[0] {
+            b"large" => Some(AFTER_SIZES),
+            word => number_of(word).filter(|size| *size < AFTER_SIZES),
+        };
+        let count = words.get(1).and_then(|word| number_of(word));
+        let in_place = words.len() == 2 && next <= AFTER_SIZES;
+        let (Some(size), Some(count), true) = (size, count, in_place) else {
+            return fault(30, "BadLine");
+        };
+        if size < next {
+            return fault(31, "NotAscending");
+        }
+        if !(1..=1_000_000_000).contains(&count) {
+            return fault(32, "CountOutOfRange");
+        }
+        next = size + 1;
+    }
+    unreachable!("a profile that was refused is faulty")
+}
+
+// how many lines are the sheet's, or its first faulty line
+fn sheet_lines(lines: &[&[u8]]) -> Result<usize, usize> {
+    let numbers = |line: &[u8], name: &str| {
+        let mut words = line.split(|byte| *byte == b' ');
+        let named = words.next() == Some(name.as_bytes());
+        let numbers: Option<Vec<u128>> = words.map(number_of).collect();
+        numbers.filter(|numbers| named && numbers.iter().all(|n| *n < 1 << 64))
+    };
+    let one = |at: usize, name: &str| match numbers(lines.get(at).copied()?, name)?[..] {
+        [n] => Some(n),
+        _ => None,
+    };
+    let first_is = |at: usize, name: &str| {
+        let line = lines.get(at).copied().unwrap_or(b"");
+        line.split(|byte| *byte == b' ').next() == Some(name.as_bytes())
+    };
+    if in_class_line(lines.first().copied()).is_some() {
+        return Err(1);
+    }
+    one(1, "limit")
+        .filter(|limit| (1..=32).contains(limit))
+        .ok_or(2_usize)?;
+    let mut at = 2;
+    if first_is(at, "step") {
+        one(at, "step")
+            .filter(|step| matches!(step, 2 | 4 | 8))
+            .ok_or(3_usize)?;
+        at = 3;
+    }
+    one(at, "waste").ok_or(at + 1)?;
+    at += 1;
+    let rows = at;
+    while first_is(at, "row") {
+        let row = numbers(lines[at], "row").filter(|row| row.len() <= 1023);
+        row.filter(|_| at - rows < 32).ok_or(at + 1)?;
+        at += 1;
+    }
+    Ok(at)
+}
+
+// what a word of an event has to be: a number up to this, the same with a sign, from 1 on, a byte
+enum Kind {
+    UpTo(u128),
+    Signed(u128),
+    OneUpTo(u128),
+    Byte,
+}
+
+use Kind::{Byte, OneUpTo, Signed, UpTo};
+
+const V: Kind = UpTo(1023);
+const N: Kind = UpTo(2_147_483_647);
+const OFF: Kind = Signed(1_048_576);
+const LEN: Kind = OneUpTo(64);
+
+const FORMS: [(&str, &[Kind]); 8] = [
+    ("malloc", &[V, N]),
+    ("calloc", &[V, N]),
+    ("realloc", &[V, N]),
+    ("free", &[V]),
+    ("load", &[V, OFF, LEN]),
+    ("store", &[V, OFF, LEN, Byte]),
+    ("addg", &[V, V, UpTo(63), UpTo(15)]),
+    ("subg", &[V, V, UpTo(63), UpTo(15)]),
+];
+
+impl Kind {
+    // without its sign; None where the word does not have the spelling
+    fn magnitude(&self, word: &[u8]) -> Option<u128> {
+        match (self, word) {
+            (Signed(_), [b'-', digits @ ..]) => number_of(digits).filter(|n| *n > 0),
+            (Byte, _) => crate::text::hex_byte(word).map(u128::from),
+            _ => number_of(word),
+        }
+    }
+
+    fn allows(&self, n: u128) -> bool {
+        match self {
+            UpTo(most) | Signed(most) => n <= *most,
+            OneUpTo(most) => n >= 1 && n <= *most,
+            Byte => true,
+        }
+    }
+}
+
+// the number that a word spells; one that is out of every range where it has many digits
+fn number_of(word: &[u8]) -> Option<u128> {
+    match word {
+        [b'0'] => Some(0),
+        [b'1'..=b'9', ..] if word.iter().all(u8::is_ascii_digit) => {
+            Some(std::str::from_utf8(word).ok()?.parse().unwrap_or(u128::MAX))
+        }
+        _ => None,
+    }
+}
+
+// the lines of a text; the last may lack its newline
+fn lines_of(text: &[u8]) -> Vec<&[u8]> {
+    let mut lines: Vec<&[u8]> = text.split(|byte| *byte == b'\n').collect();
+    if lines.last() == Some(&&b""[..]) {
+        lines.pop();
+    }
+    lines
+}
