@@ -1,0 +1,11 @@
+// CWE-787, write out of bounds: far after a block, in one of its neighbours.
+// heap: sometimes: store of 1 byte, 80 bytes after a block of 48 bytes
+#include <stdlib.h>
+
+char *blocks[64];
+
+int main(void) {
+  for (int i = 0; i < 64; i++) blocks[i] = malloc(48);
+  blocks[0][48 + 80] = 1;  // WRONG
+  return 0;
+}

@@ -1,0 +1,183 @@
+"""Makes the trace of a log, and says of each event what its report must be.
+
+No wrong event changes the heap of the replay. A wrong access never does. A wrong free that the heap surely refuses stands in the trace as
+it is. One that the heap may accept is asked by a load of the byte that it would free first: the load succeeds exactly where the free would
+be accepted, since both compare the same tags, and the slot is live."""
+
+from array import array
+from collections import namedtuple
+
+from fault_variables import EVENTS, NONE, SHARED, most_events
+from slot_model import IN_PLACE, LAST_GRANULE, Promise
+from texts import LARGEST_SIZE
+
+MOST_REQUEST = 2147483647  # of a trace
+MOST_MOVE = 63
+
+# What became of an error: `asked` has the promise, and the event that asks; `ruled` is refused by a rule, and no event can say it; `large`
+# and `left` are not replayed, for the reason of the promise.
+Verdict = namedtuple("Verdict", "kind promise event is_free")
+
+MISPLACED = "misplaced: free refuses what is not the first byte of a granule"
+NOT_GIVEN = "misplaced: free refuses an address that the heap never gave out"
+LARGE = "the block is larger than the heap serves"
+FORGOTTEN = "its block was freed so long ago that the recorder forgot it"
+NO_VARIABLE = "its block has no variable in the trace"
+NO_SLOT = "its block has no slot in the replay: its class is exhausted"
+NO_EVENT = "the trace has no room for it"
+
+
+class Trace:
+    """lines: the events. expected: of an event that has a line in the report, or may have one: (promise, its words). verdicts: of each
+    error. conflicts: right accesses that the model of the slots does not let succeed."""
+
+    def __init__(self, log, slots, choice, is_asked=True):
+        self.log, self.slots, self.choice = log, slots, choice
+        self.lines, self.expected, self.conflicts, self.verdicts = [], {}, [], []
+        self.is_asked = is_asked  # else no event is made, and there is no limit on them
+        self.left_out = choice.left_out.copy()
+        self.fixed = choice.fixed  # the most events that are still to come beside right accesses
+        self.pointer = {}  # of a block: its pointer, if it has a slot
+        self.holder = array("q", [NONE]) * (SHARED + 1)  # of a variable: the chain that has it
+        for record in zip(log.letters, log.first, log.second, log.third):
+            self._add(chr(record[0]), *record[1:])
+
+    def _add(self, letter, first, second, third):
+        if letter not in "ls" and (letter == "E" or self._variable(first) != NONE):
+            self.fixed -= most_events(self.log, letter, first)
+        is_full = self.is_asked and len(self.lines) > EVENTS - 32
+        if letter == "E":
+            error = self.log.errors[first]
+            self.verdicts.append(Verdict("left", Promise("open", None, NO_EVENT), None, error.is_free()) if is_full else self._wrong(error))
+        elif is_full:
+            self.left_out["records after a million events"] += 1
+        elif letter in "ls":
+            self._right(letter, first, second, third)
+        elif letter in "mc":
+            self._request("malloc" if letter == "m" else "calloc", first, second)
+        elif letter == "r":
+            self._resize(first, second, third)
+        elif first in self.pointer:
+            self._event(f"free {self._variable(first)}")
+            self.slots.free(self.pointer[first][0])
+
+    def _variable(self, block):
+        return self.choice.variable[self.log.chain[block]]
+
+    def _event(self, line, promise=None):
+        """Adds an event; its number, from 1."""
+        if self.is_asked:
+            self.lines.append(line)
+            if promise:
+                self.expected[len(self.lines)] = promise
+        return len(self.lines)
+
+    def _right(self, letter, block, offset, length):
+        variable = self._variable(block)
+        if block not in self.pointer or variable == NONE or self.holder[variable] != self.log.chain[block]:
+            self.left_out["right accesses of blocks that are left out"] += 1
+        elif len(self.lines) + self.fixed > EVENTS - 64:
+            self.left_out["right accesses beyond a million events"] += 1
+        else:
+            self._event(f"load {variable} {offset} {length}" if letter == "l" else f"store {variable} {offset} {length} a5")
+            if self.slots.access(self.pointer[block], offset, length).answer != "accepted":
+                self.conflicts.append(len(self.lines))
+
+    def _request(self, name, block, size):
+        variable = self._variable(block)
+        if variable == NONE:
+            return
+        if variable != SHARED:
+            self.holder[variable] = self.log.chain[block]
+        pointer = self._take(block, size)
+        self._event(f"{name} {variable} {min(size, MOST_REQUEST)}", self._refusal(size, pointer))
+
+    def _take(self, block, size):
+        pointer = self.slots.take(size) if size <= LARGEST_SIZE else None
+        if pointer:
+            self.pointer[block] = pointer
+        else:
+            self.left_out["large blocks" if size > LARGEST_SIZE else "blocks without a slot"] += 1
+        return pointer
+
+    def _refusal(self, size, pointer):
+        if pointer:
+            return None
+        return Promise("refused", "null large" if size > LARGEST_SIZE else "null exhausted", None)
+
+    def _resize(self, old, new, size):
+        variable = self._variable(old)
+        if variable in (NONE, SHARED) or old not in self.pointer:
+            return self._request("malloc", new, size)
+        slot = self.pointer[old][0]
+        if old in self.choice.stale:
+            self._event(f"addg {self.choice.stale[old]} {variable} 0 0")
+            self.holder[self.choice.stale[old]] = NONE
+        if size <= LARGEST_SIZE and self.slots.class_of(size) == slot.class_number:
+            slot.size = size
+            self.pointer[new] = self.pointer[old]
+            return self._event(f"realloc {variable} {size}")
+        pointer = self._take(new, size)
+        self._event(f"realloc {variable} {min(size, MOST_REQUEST)}", self._refusal(size, pointer))
+        if not pointer:  # the heap keeps the old block, and the program does not
+            self._event(f"free {variable}")
+        return self.slots.free(slot)
+
+    def _wrong(self, error):
+        def verdict(kind, promise, event=None):
+            return Verdict(kind, promise if isinstance(promise, Promise) else Promise("open", None, promise), event, error.is_free())
+
+        if error.letter == "n":
+            return verdict("ruled", NOT_GIVEN)
+        if not error.block:
+            return verdict("left", FORGOTTEN)
+        if self.log.size[error.block] > LARGEST_SIZE:
+            return verdict("large", LARGE)
+        variable = self.choice.stale.get(error.block, NONE) if error.state == "resized" else self._variable(error.block)
+        if variable == NONE or error.block not in self.pointer:
+            return verdict("left", NO_VARIABLE if variable == NONE else NO_SLOT)
+        pointer = self.pointer[error.block]
+        if error.is_free():
+            if error.offset % 16:
+                return verdict("ruled", MISPLACED)
+            return verdict("asked", *self._wrong_free(variable, pointer, error.offset // 16))
+        offset, length = error.window(self.log.size[error.block])
+        promise = self.slots.access(pointer, offset, length)
+        if promise.reason == LAST_GRANULE and error.state == "resized":
+            promise = promise._replace(reason=IN_PLACE)
+        word, byte = ("load", "") if error.letter == "L" else ("store", " a5")
+        return verdict("asked", promise, self._event(f"{word} {variable} {offset} {length}{byte}", promise))
+
+    def _wrong_free(self, variable, pointer, granules):
+        promise = self.slots.freeing(pointer, granules)
+        left = abs(granules)
+        while left:
+            step = min(left, MOST_MOVE)
+            self._event(f"{'addg' if granules > 0 else 'subg'} {SHARED} {variable} {step} 0")
+            variable = SHARED
+            left -= step
+        return promise, self._event(f"free {variable}" if promise.answer == "refused" else f"load {variable} 0 1", promise)
+
+
+def differences(trace, report):
+    """The events whose line in the report is not what is promised, as (event, promise, line). The report is a line for each event that
+    has one, loads that succeed left out."""
+    for event, line in report.items():
+        if event not in trace.expected:
+            yield event, Promise("accepted", None, "law_inside"), line
+    for event, promise in trace.expected.items():
+        if not agrees(promise, report.get(event)):
+            yield event, promise, report.get(event)
+
+
+def agrees(promise, line):
+    if promise.answer == "accepted":
+        return line is None
+    if line is None:
+        return promise.answer == "open"
+    if promise.answer == "open" or promise.report is None:
+        return line.startswith("fault ")
+    if isinstance(promise.report, str):
+        return line == promise.report
+    words = line.split(" ")
+    return words[:2] == ["fault", "tag"] and (int(words[3]), words[9]) == promise.report

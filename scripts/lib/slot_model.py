@@ -1,0 +1,138 @@
+"""The slots of the heap of docs/HEAP.md without their tags: which slot each request takes, what each granule is, and what the laws promise
+of an access and of a free. It has no tags, so where the answer hangs on a tag that was drawn, it says that nothing is promised."""
+
+from bisect import bisect_left
+from collections import deque, namedtuple
+
+GRANULE = 16
+
+# What is known of an event before its replay. The answer is `refused` (it is a fault, or the free is refused), `accepted`, or `open`. The
+# report is the line that the report must have, as (granule, kind) for a tag fault, or None where any fault does. The reason is the law
+# that promises it, or why nothing is promised.
+Promise = namedtuple("Promise", "answer report reason")
+
+LAST_GRANULE = "it is inside the last granule of its chunk"
+IN_PLACE = "the block was resized in place, and the old pointer is still its own"
+SAME_PARITY = "it falls in a slot of the same parity that has the same tag"
+REUSED = "it comes after the slot's next user was freed, and the same tag came again"
+
+
+class Slot:
+    __slots__ = ("number", "start", "class_number", "generation", "is_live", "size")
+
+    def __init__(self, number, start, class_number):
+        self.number, self.start, self.class_number = number, start, class_number
+        self.generation, self.is_live, self.size = 0, False, 0
+
+
+class Slots:
+    """A pointer is (slot, generation) as it was given out; a chunk begins one granule after its slot."""
+
+    def __init__(self, table, granules, quarantine):
+        self.table, self.granules, self.limit = table, granules, quarantine
+        self.share = granules // len(table) if table else granules
+        self.numbers = [0]
+        for size in table:
+            self.numbers.append(self.numbers[-1] + self.share // size)
+        self.fresh = [0] * len(table)
+        self.released = [[] for _ in table]
+        self.used = {}
+        self.queue, self.held = deque(), 0
+
+    def class_of(self, size):
+        """The number of the class that serves a request, from 0."""
+        return bisect_left(self.table, 1 + chunk_granules(size))
+
+    def take(self, size):
+        """Gives out a slot for a request: its pointer, or None where the class has none left."""
+        number = self.class_of(size)
+        if self.released[number]:
+            slot = self.released[number].pop()
+        elif self.fresh[number] < self.share // self.table[number]:
+            index = self.fresh[number]
+            self.fresh[number] += 1
+            slot = Slot(self.numbers[number] + index, number * self.share + index * self.table[number], number)
+            self.used[slot.number] = slot
+        else:
+            return None
+        slot.generation += 1
+        slot.is_live, slot.size = True, size
+        return slot, slot.generation
+
+    def free(self, slot):
+        slot.is_live = False
+        self.queue.append(slot)
+        self.held += GRANULE * self.table[slot.class_number]
+        while self.held > self.limit:
+            oldest = self.queue.popleft()
+            self.held -= GRANULE * self.table[oldest.class_number]
+            self.released[oldest.class_number].append(oldest)
+
+    def slot_at(self, granule):
+        """(number of the slot that covers a granule, the granules of the slot before it), or None for slack."""
+        class_number = granule // self.share
+        if not 0 <= class_number < len(self.table):
+            return None
+        index, before = divmod(granule - class_number * self.share, self.table[class_number])
+        return (self.numbers[class_number] + index, before) if index < self.share // self.table[class_number] else None
+
+    def at(self, granule):
+        """(kind, slot) of a granule; the slot is None but for `chunk`, which is of a slot that was ever given out."""
+        place = self.slot_at(granule)
+        if place is None:
+            return "slack", None
+        if place[1] == 0:
+            return "header", None
+        slot = self.used.get(place[0])
+        return ("chunk", slot) if slot and place[1] <= chunk_granules(slot.size) else ("tail", None)
+
+    def access(self, pointer, offset, length):
+        """The promise on an access. The fault names the lowest granule with another tag; a granule below it whose tag may be another one
+        leaves open which granule that is, but not that there is a fault."""
+        begin = GRANULE * (pointer[0].start + 1) + offset
+        if begin < 0 or begin + length > GRANULE * self.granules:
+            return Promise("refused", "fault unmapped", "law_accesses")
+        is_open = None
+        for granule in range(begin // GRANULE, (begin + length - 1) // GRANULE + 1):
+            differs, kind, reason = self.compare(pointer, granule)
+            if differs:
+                return Promise("refused", None if is_open else (granule, kind), reason)
+            if differs is None:
+                is_open = is_open or reason
+        return Promise("open", None, is_open) if is_open else Promise("accepted", None, LAST_GRANULE)
+
+    def compare(self, pointer, granule):
+        """Whether the tag of a granule differs from the pointer's (None where the laws leave it open), the granule's kind, and why."""
+        kind, slot = self.at(granule)
+        if slot is None:
+            return True, kind, "law_bookkeeping"
+        own, generation = pointer
+        kind = "other" if slot.is_live else "dead"
+        if (slot.number - own.number) % 2:
+            return True, kind, "law_neighbours"
+        if slot is not own:
+            return None, kind, SAME_PARITY
+        if slot.generation == generation:
+            return not slot.is_live, kind, "law_freed"
+        if slot.generation == generation + 1 and slot.is_live:
+            return True, kind, "law_freed"
+        return None, kind, REUSED
+
+    def freeing(self, pointer, moved):
+        """The promise on a free of a pointer that was moved by so many granules."""
+        own, generation = pointer
+        place = self.slot_at(own.start + moved)
+        if place is None or place[1] != 0:
+            return Promise("refused", "refused misplaced", "law_own_pointer")
+        slot = self.used.get(place[0])
+        if slot is None or not slot.is_live:
+            return Promise("refused", "refused not-live", "law_own_pointer")
+        if slot is own and slot.generation == generation:
+            return Promise("accepted", None, IN_PLACE)
+        if (slot.number - own.number) % 2 or (slot is own and slot.generation == generation + 1):
+            return Promise("refused", "refused wrong-tag", "law_own_pointer")
+        return Promise("open", None, REUSED if slot is own else SAME_PARITY)
+
+
+def chunk_granules(size):
+    return max(1, -(-size // GRANULE))

@@ -1,0 +1,88 @@
+// The runtime of the programs that scripts/traced_cc builds. It gives out blocks, sees loads and stores, and logs both. scripts/find_faults
+// reads the log.
+//
+//   blocks.c   the allocator: no address is given out twice, so an address has one owner for ever: a block, live or freed, or its gap
+//   hooks.c    what the compiler calls before each load and store
+//   libc.c     functions of libc that load and store, and call no hook
+//   log.c      the log, with its stacks and modules; the start, the end and the forks of a process
+//
+// ACCESSES=FILE       the log; %p in it stands for the number of the process. Without it nothing is logged.
+// ACCESSES_ONLY=NAME  only a process whose program has this name makes a log.
+#pragma once
+#ifndef _GNU_SOURCE
+#define _GNU_SOURCE
+#endif
+#include <pthread.h>
+#include <stddef.h>
+#include <stdint.h>
+
+typedef uintptr_t address;
+#define SHOWN __attribute__((visibility("default")))
+#define NOT_INLINE __attribute__((noinline))
+
+// A terabyte of addresses is set aside, with tables that have an entry for each granule of 16 bytes.
+#define ARENA ((address)1 << 44)
+#define ARENA_SIZE ((address)1 << 40)
+#define OWNERS ((uint32_t *)(ARENA + 2 * ARENA_SIZE))
+#define SHADOW ((unsigned char *)(ARENA + 3 * ARENA_SIZE))
+#define BLOCKS ((struct block *)(ARENA + 4 * ARENA_SIZE))
+#define MOST_BLOCKS ((address)1 << 28)
+enum { GREATEST = 16368 };  // the largest request that the heap of the replay serves
+
+enum state { LIVE = 1, FREED };
+struct block {
+  address start;
+  size_t size;
+  uint32_t state, chunk;
+};
+
+// An entry of SHADOW: how many of the granule's first bytes are a live block's, and whether the log knows a load and a store of them.
+#define BYTES 31
+#define KNOWN(store) (32 << (store))
+
+// where the program calls: the address that the call returns to, and the frame of the function that calls
+struct caller { address pc, *frame; };
+#define CALLER ((struct caller){(address)__builtin_return_address(0), *(address **)__builtin_frame_address(0)})
+
+extern pthread_mutex_t accesses_lock;
+extern __thread int busy __attribute__((tls_model("initial-exec")));  // above 0 where the thread is in the runtime
+
+static inline void enter(void) {
+  busy++;
+  pthread_mutex_lock(&accesses_lock);
+}
+
+static inline void leave(void) {
+  pthread_mutex_unlock(&accesses_lock);
+  busy--;
+}
+
+static inline int is_in_arena(address a) { return a - ARENA < ARENA_SIZE; }
+static inline address round_up(address a, address to) { return (a + to - 1) & -to; }
+
+// blocks.c
+void begin(void);
+uint32_t number_of_blocks(void);
+struct block *owner(address);
+void *request(char kind, size_t size, size_t alignment, struct caller);
+
+// hooks.c
+void touch_slowly(address, size_t, int store, struct caller);
+
+// An access inside one granule of a live block, which the log knows already, needs no more, and none outside the arena does.
+static inline __attribute__((always_inline)) int is_known(address a, size_t size, int store) {
+  if (!is_in_arena(a)) return 1;
+  unsigned entry = SHADOW[(a - ARENA) >> 4];
+  return entry & KNOWN(store) && (a & 15) + size <= (entry & BYTES);
+}
+
+// libc.c: gcc and clang would make a loop over bytes a call of memcpy and memset, which are the program's
+void copy_bytes(void *to, const void *from, size_t);
+void fill_bytes(void *to, int byte, size_t);
+
+// log.c: all but the last of a record's parts is followed by more
+int is_logging(void);
+void put_record(char kind, int count, ...);
+void put_stack(struct caller);
+void put_end(void);
+extern long not_logged;

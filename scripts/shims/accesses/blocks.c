@@ -1,0 +1,232 @@
+// The allocator. Blocks stand apart, and no address is given out twice: 64 bytes are before a block, and as many as it has, up to 2,112,
+// after it. So an address names its block also after the block's free. The memory of freed blocks goes back to the system a mebibyte at a
+// time, once another 64 MiB were freed; then their addresses are owned by nobody.
+#include "accesses.h"
+#include <errno.h>
+#include <stdlib.h>
+#include <sys/mman.h>
+#include <sys/syscall.h>
+#include <unistd.h>
+
+#define CHUNK ((address)1 << 20)
+#define DELAY ((address)64 << 20)
+enum { BEFORE = 64, AFTER = 64, MOST_AFTER = 2048 };
+
+pthread_mutex_t accesses_lock = PTHREAD_MUTEX_INITIALIZER;
+__thread int busy __attribute__((tls_model("initial-exec")));
+static address next = ARENA + CHUNK, freed_bytes;
+static uint32_t last_block;
+
+// chunks without a live block, in the order in which they lost their last
+struct empty { uint32_t first, count; address freed_bytes; };
+static uint32_t *live_in_chunk;
+static struct empty *empties;
+static size_t oldest_empty, next_empty;
+
+static void *reserve(address at, size_t size) {
+  int flags = MAP_PRIVATE | MAP_ANONYMOUS | MAP_NORESERVE | (at ? MAP_FIXED_NOREPLACE : 0);
+  void *mapped = mmap((void *)at, size, PROT_READ | PROT_WRITE, flags, -1, 0);
+  if (mapped == MAP_FAILED || (at && mapped != (void *)at)) {
+    static const char text[] = "traced_cc: no terabyte of addresses: raise `ulimit -v`, and don't set vm.overcommit_memory to 2\n";
+    if (syscall(SYS_write, 2, text, sizeof text - 1)) _exit(3);
+    _exit(3);
+  }
+  madvise(mapped, size, MADV_DONTDUMP);
+  madvise(mapped, size, MADV_NOHUGEPAGE);
+  return mapped;
+}
+
+void begin(void) {
+  if (live_in_chunk) return;
+  reserve(ARENA, ARENA_SIZE);
+  reserve((address)OWNERS, ARENA_SIZE / 16 * sizeof *OWNERS);
+  reserve((address)SHADOW, ARENA_SIZE / 16);
+  reserve((address)BLOCKS, MOST_BLOCKS * sizeof *BLOCKS);
+  empties = reserve(0, ARENA_SIZE / CHUNK * sizeof *empties);
+  live_in_chunk = reserve(0, ARENA_SIZE / CHUNK * sizeof *live_in_chunk);
+}
+
+uint32_t number_of_blocks(void) { return last_block; }
+
+struct block *owner(address a) {
+  uint32_t number = is_in_arena(a) ? OWNERS[(a - ARENA) / 16] : 0;
+  return number ? &BLOCKS[number] : NULL;
+}
+
+static size_t gap_after(size_t size) { return round_up(AFTER + (size < MOST_AFTER ? size : MOST_AFTER), 16); }
+
+static void is_empty(uint32_t chunk, address end) {
+  empties[next_empty++] = (struct empty){chunk, (end - 1 - ARENA) / CHUNK - chunk + 1, freed_bytes};
+}
+
+static void return_memory(void) {
+  int error = errno;
+  while (oldest_empty < next_empty && freed_bytes - empties[oldest_empty].freed_bytes >= DELAY) {
+    struct empty old = empties[oldest_empty++];
+    address at = old.first * CHUNK, size = old.count * CHUNK;
+    madvise((void *)(ARENA + at), size, MADV_DONTNEED);
+    madvise(SHADOW + at / 16, size / 16, MADV_DONTNEED);
+    madvise(OWNERS + at / 16, size / 16 * sizeof *OWNERS, MADV_DONTNEED);
+  }
+  errno = error;
+}
+
+static uint32_t chunk_of(address a) { return (a - ARENA) / CHUNK; }
+
+static struct block *new_block(size_t size, size_t alignment) {
+  begin();
+  if (size > ARENA_SIZE / 16 || alignment > ARENA_SIZE / 16 || last_block + 1 >= MOST_BLOCKS) return NULL;
+  if (alignment < 16) alignment = 16;
+  address most = BEFORE + alignment + round_up(size, 16) + gap_after(size);
+  int is_large = most > CHUNK / 2;
+  // a small block stands in one chunk, a large one has its own
+  if ((is_large || chunk_of(next + most) != chunk_of(next)) && next % CHUNK) {
+    if (!live_in_chunk[chunk_of(next)]) is_empty(chunk_of(next), next);
+    next = round_up(next, CHUNK);
+  }
+  if (next + most + CHUNK > ARENA + ARENA_SIZE) return NULL;
+
+  struct block *block = &BLOCKS[++last_block];
+  address start = round_up(next + BEFORE, alignment), end = start + round_up(size, 16) + gap_after(size);
+  *block = (struct block){start, size, LIVE, chunk_of(next)};
+  live_in_chunk[block->chunk]++;
+  for (address g = (next - ARENA) / 16; g < (end - ARENA) / 16; g++) OWNERS[g] = last_block;
+  unsigned char *entry = SHADOW + (start - ARENA) / 16, known = size <= GREATEST && is_logging() ? 0 : KNOWN(0) | KNOWN(1);
+  fill_bytes(entry, 16 | known, size / 16);
+  if (size % 16) entry[size / 16] = size % 16 | known;
+  next = is_large ? round_up(end, CHUNK) : end;
+  return block;
+}
+
+static void end_block(struct block *block) {
+  fill_bytes(SHADOW + (block->start - ARENA) / 16, 0, round_up(block->size, 16) / 16);
+  block->state = FREED;
+  freed_bytes += block->size + gap_after(block->size);
+  if (!--live_in_chunk[block->chunk] && block->chunk != chunk_of(next))
+    is_empty(block->chunk, block->start + round_up(block->size, 16) + gap_after(block->size));
+  return_memory();
+}
+
+// A request from inside the runtime is libdl's or a handler's of a signal. It is served, and not logged.
+void *request(char kind, size_t size, size_t alignment, struct caller from) {
+  int is_nested = busy, is_held = !is_nested || !pthread_mutex_trylock(&accesses_lock);
+  if (!is_nested) enter();
+  struct block *block = new_block(size, alignment);
+  if (block && !is_nested && is_logging()) {
+    put_record(kind, 2, (long)(block - BLOCKS), (long)size);
+    put_stack(from);
+  }
+  if (!is_nested) leave();
+  else if (is_held) pthread_mutex_unlock(&accesses_lock);
+  if (!block) errno = ENOMEM;
+  return block ? (void *)block->start : NULL;
+}
+
+// the live block that begins at the address; where there is none, the wrong free is logged
+static struct block *block_at(address a, struct caller from) {
+  struct block *block = owner(a);
+  if (block && block->start == a && block->state == LIVE) return block;
+  if (is_logging()) {
+    if (block) put_record('x', 2, (long)(block - BLOCKS), (long)(a - block->start));
+    else put_record(is_in_arena(a) ? 'o' : 'n', 0);
+    put_stack(from);
+  }
+  return NULL;
+}
+
+static void give_back(void *pointer, struct caller from) {
+  if (!pointer || busy) return;
+  enter();
+  struct block *block = block_at((address)pointer, from);
+  if (block) {
+    if (is_logging()) {
+      put_record('f', 1, (long)(block - BLOCKS));
+      put_stack(from);
+    }
+    end_block(block);
+  }
+  leave();
+}
+
+// Each realloc moves the block, so that a stale pointer is seen. One of a wrong pointer is a wrong free and a request.
+static void *resize(void *pointer, size_t size, struct caller from) {
+  if (!pointer) return request('m', size, 16, from);
+  if (!size) return give_back(pointer, from), NULL;
+  enter();
+  struct block *block = block_at((address)pointer, from), *new = new_block(size, 16), *old = owner((address)pointer);
+  if (new) {
+    if (is_logging()) {
+      if (block) put_record('r', 3, (long)(block - BLOCKS), (long)(new - BLOCKS), (long)size);
+      else put_record('m', 2, (long)(new - BLOCKS), (long)size);
+      put_stack(from);
+    }
+    if (old) copy_bytes((void *)new->start, (void *)old->start, old->size < size ? old->size : size);
+    if (block) end_block(block);
+  }
+  leave();
+  if (!new) errno = ENOMEM;
+  return new ? (void *)new->start : NULL;
+}
+
+SHOWN void *malloc(size_t size) { return request('m', size, 16, CALLER); }
+
+SHOWN void *calloc(size_t number, size_t each) {
+  size_t size;
+  if (__builtin_mul_overflow(number, each, &size)) return errno = ENOMEM, NULL;
+  return request('c', size, 16, CALLER);
+}
+
+SHOWN void free(void *pointer) { give_back(pointer, CALLER); }
+SHOWN void *realloc(void *pointer, size_t size) { return resize(pointer, size, CALLER); }
+
+SHOWN void *reallocarray(void *pointer, size_t number, size_t each) {
+  size_t size;
+  if (__builtin_mul_overflow(number, each, &size)) return errno = ENOMEM, NULL;
+  return resize(pointer, size, CALLER);
+}
+
+SHOWN void *memalign(size_t alignment, size_t size) { return request('m', size, alignment, CALLER); }
+SHOWN void *aligned_alloc(size_t alignment, size_t size) { return request('m', size, alignment, CALLER); }
+SHOWN void *valloc(size_t size) { return request('m', size, 4096, CALLER); }
+
+SHOWN int posix_memalign(void **result, size_t alignment, size_t size) {
+  if (alignment % sizeof(void *) || !alignment || alignment & (alignment - 1)) return EINVAL;
+  int error = errno;
+  void *pointer = request('m', size, alignment, CALLER);
+  errno = error;
+  if (!pointer) return ENOMEM;
+  *result = pointer;
+  return 0;
+}
+
+SHOWN size_t malloc_usable_size(void *pointer) {
+  struct block *block = owner((address)pointer);
+  return block && block->start == (address)pointer && block->state == LIVE ? block->size : 0;
+}
+
+// C++: new and delete, by the names that its ABI gives them
+extern void throw_bad_alloc(void) __asm__("_ZSt17__throw_bad_allocv") __attribute__((weak));
+
+static void *new_or_throw(size_t size, size_t alignment, struct caller from) {
+  void *pointer = request('m', size, alignment, from);
+  if (!pointer && throw_bad_alloc) throw_bad_alloc();
+  if (!pointer) abort();
+  return pointer;
+}
+
+SHOWN void *_Znwm(size_t size) { return new_or_throw(size, 16, CALLER); }
+SHOWN void *_Znam(size_t size) { return new_or_throw(size, 16, CALLER); }
+SHOWN void *_ZnwmSt11align_val_t(size_t size, size_t alignment) { return new_or_throw(size, alignment, CALLER); }
+SHOWN void *_ZnamSt11align_val_t(size_t size, size_t alignment) { return new_or_throw(size, alignment, CALLER); }
+SHOWN void *_ZnwmRKSt9nothrow_t(size_t size, void *unused) { return (void)unused, request('m', size, 16, CALLER); }
+SHOWN void *_ZnamRKSt9nothrow_t(size_t size, void *unused) { return (void)unused, request('m', size, 16, CALLER); }
+SHOWN void _ZdlPv(void *pointer) { give_back(pointer, CALLER); }
+SHOWN void _ZdaPv(void *pointer) { give_back(pointer, CALLER); }
+SHOWN void _ZdlPvm(void *pointer, size_t size) { (void)size, give_back(pointer, CALLER); }
+SHOWN void _ZdaPvm(void *pointer, size_t size) { (void)size, give_back(pointer, CALLER); }
+SHOWN void _ZdlPvSt11align_val_t(void *pointer, size_t alignment) { (void)alignment, give_back(pointer, CALLER); }
+SHOWN void _ZdaPvSt11align_val_t(void *pointer, size_t alignment) { (void)alignment, give_back(pointer, CALLER); }
+SHOWN void _ZdlPvmSt11align_val_t(void *pointer, size_t size, size_t alignment) { (void)size, (void)alignment, give_back(pointer, CALLER); }
+SHOWN void _ZdaPvmSt11align_val_t(void *pointer, size_t size, size_t alignment) { (void)size, (void)alignment, give_back(pointer, CALLER); }
+SHOWN void _ZdlPvRKSt9nothrow_t(void *pointer, void *unused) { (void)unused, give_back(pointer, CALLER); }
+SHOWN void _ZdaPvRKSt9nothrow_t(void *pointer, void *unused) { (void)unused, give_back(pointer, CALLER); }

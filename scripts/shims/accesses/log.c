@@ -1,0 +1,235 @@
+// The log, a text with a record in each line. Numbers are decimal, addresses of the program hexadecimal:
+//
+//   m BLOCK SIZE STACK         a malloc; c a calloc; blocks are numbered from 1
+//   r OLD NEW SIZE STACK       a realloc; f BLOCK STACK a free
+//   l BLOCK OFFSET SIZE        a right load; s a right store
+//   L BLOCK OFFSET SIZE STACK  a wrong load; S a wrong store; block 0 stands for a freed one that is forgotten
+//   x BLOCK OFFSET STACK       a wrong free of an address of a block; o STACK of a forgotten one, n STACK of one that was never given out
+//   M LOW HIGH OFFSET PATH     a file that is mapped with code
+//   Z NOT_LOGGED               the end of the program; C where the log could not grow
+//
+// A stack is NUMBER:PC,PC,.. at its first time, the innermost of at most six return addresses first, and later NUMBER.
+// The file is mapped, so that a killed program leaves its log; it ends with bytes 0.
+#include "accesses.h"
+#include <errno.h>
+#include <fcntl.h>
+#include <stdarg.h>
+#include <stdlib.h>
+#include <string.h>
+#include <sys/mman.h>
+#include <sys/resource.h>
+#include <sys/syscall.h>
+#include <unistd.h>
+
+enum { FRAMES = 6, STACKS = 1 << 17, MODULES = 256, MOST_NAME = 1024, MARGIN = 4096 };
+#define PIECE ((size_t)8 << 20)
+#define LOG_SIZE ((size_t)1 << 30)
+
+long not_logged;
+static char *log_start, *log_end;  // up to its end the file has memory
+static char *text;                 // where the next byte goes; null while nothing is logged
+static const char *pattern;
+static char log_name[MOST_NAME];
+static struct module { address low, high; } modules[MODULES];
+static int number_of_modules;
+static __thread address stack_low __attribute__((tls_model("initial-exec"))), stack_high __attribute__((tls_model("initial-exec")));
+
+static void put(char c) { *text++ = c; }
+
+static void put_number(unsigned long value, unsigned base) {
+  char digits[24];
+  int n = 0;
+  do digits[n++] = "0123456789abcdef"[value % base];
+  while (value /= base);
+  while (n) put(digits[--n]);
+}
+
+void put_end(void) { put('\n'); }
+
+// The log grows by its name, since the program may have closed each file that it did not open.
+static int grow(void) {
+  int error = errno, file = -1;
+  struct rlimit limit;
+  size_t size = log_end - log_start;
+  if (size < LOG_SIZE && !getrlimit(RLIMIT_FSIZE, &limit) && limit.rlim_cur >= size + PIECE)
+    file = syscall(SYS_openat, AT_FDCWD, log_name, O_RDWR | O_CLOEXEC);
+  if (file >= 0) {
+    long failed = syscall(SYS_fallocate, file, 0, size, PIECE);
+    if (failed && (errno == EOPNOTSUPP || errno == ENOSYS)) failed = syscall(SYS_ftruncate, file, size + PIECE);
+    if (!failed) log_end += PIECE;
+    syscall(SYS_close, file);
+  }
+  if ((size_t)(log_end - log_start) == size) {
+    if (size) memcpy(text, "C\n", 2);
+    text = NULL;
+  }
+  errno = error;
+  return text != NULL;
+}
+
+int is_logging(void) { return text && (text + MARGIN <= log_end || grow()); }
+
+void put_record(char kind, int count, ...) {
+  va_list numbers;
+  va_start(numbers, count);
+  put(kind);
+  while (count--) {
+    long number = va_arg(numbers, long);
+    put(' ');
+    if (number < 0) put('-');
+    put_number(number < 0 ? -(unsigned long)number : (unsigned long)number, 10);
+  }
+  va_end(numbers);
+}
+
+static char *read_hexadecimal(char *at, address *value) {
+  for (*value = 0; (*at >= '0' && *at <= '9') || (*at >= 'a' && *at <= 'f'); at++)
+    *value = *value * 16 + (*at <= '9' ? *at - '0' : *at - 'a' + 10);
+  return at;
+}
+
+static void read_mapping(char *line, address in_stack) {
+  address low, high, offset;
+  char *mode = read_hexadecimal(read_hexadecimal(line, &low) + 1, &high) + 1;
+  if (in_stack) {
+    if (low <= in_stack && in_stack < high) stack_low = low, stack_high = high;
+    return;
+  }
+  read_hexadecimal(mode + 5, &offset);
+  char *path = strchr(mode, '/');
+  if (mode[2] != 'x' || !path || number_of_modules == MODULES || !is_logging()) return;
+  for (int i = 0; i < number_of_modules; i++)
+    if (modules[i].low == low && modules[i].high == high) return;
+  modules[number_of_modules++] = (struct module){low, high};
+  put('M');
+  for (int i = 0; i < 3; i++) put(' '), put_number(i == 0 ? low : i == 1 ? high : offset, 16);
+  put(' ');
+  while (*path) put(*path++);
+  put('\n');
+}
+
+// the mappings as the kernel says them, not the loader, whose locks others may hold: new modules, or the bounds of the stack
+static void read_mappings(address in_stack) {
+  static char piece[4096], line[MOST_NAME];
+  int error = errno, file = syscall(SYS_openat, AT_FDCWD, "/proc/self/maps", O_RDONLY | O_CLOEXEC);
+  long got, n = 0;
+  while (file >= 0 && (got = syscall(SYS_read, file, piece, sizeof piece)) > 0)
+    for (long i = 0; i < got; i++) {
+      if (piece[i] != '\n' && n < MOST_NAME - 1) line[n++] = piece[i];
+      if (piece[i] != '\n') continue;
+      line[n] = 0, n = 0;
+      read_mapping(line, in_stack);
+    }
+  if (file >= 0) syscall(SYS_close, file);
+  errno = error;
+}
+
+static void find_module(address pc) {
+  static address missed;
+  for (int i = 0; i < number_of_modules; i++)
+    if (modules[i].low <= pc && pc < modules[i].high) return;
+  if (missed == pc) return;
+  missed = pc;
+  read_mappings(0);
+}
+
+// the return addresses on the stack, by its frames
+static int walk(struct caller from, address *pcs) {
+  int n = 0;
+  address below = (address)__builtin_frame_address(0), *frame = from.frame;
+  if (below < stack_low || below >= stack_high) stack_low = stack_high = 0, read_mappings(below);
+  pcs[n++] = from.pc;
+  while (n < FRAMES && (address)frame > below && (address)frame % sizeof *frame == 0 && (address)(frame + 2) <= stack_high) {
+    if (frame[1] < 4096) break;
+    pcs[n++] = frame[1];
+    below = (address)frame;
+    frame = (address *)frame[0];
+  }
+  return n;
+}
+
+void put_stack(struct caller from) {
+  static struct { address hash; uint32_t number; } stacks[STACKS];
+  static uint32_t number_of_stacks;
+  address pcs[FRAMES], hash;
+  int n = walk(from, pcs);
+  hash = n;
+  for (int i = 0; i < n; i++) hash = (hash ^ pcs[i]) * 0x9E3779B97F4A7C15u, hash ^= hash >> 29;
+  uint32_t at = hash % STACKS;
+  while (stacks[at].number && stacks[at].hash != hash) at = (at + 1) % STACKS;
+  int is_new = !stacks[at].number;
+  if (is_new && number_of_stacks < STACKS / 4 * 3) stacks[at].hash = hash, stacks[at].number = ++number_of_stacks;
+  put(' ');
+  put_number(stacks[at].number, 10);
+  for (int i = 0; is_new && i < n; i++) put(i ? ',' : ':'), put_number(pcs[i], 16);
+  put('\n');
+  for (int i = 0; is_new && i < n; i++) find_module(pcs[i]);
+}
+
+// The file of the name is made, and this process alone has it. Where there is a log already, as after a fork, it is copied.
+static void open_log(void) {
+  int is_one_of_many = 0, file;
+  size_t used = text ? text - log_start : 0;
+  char *to = log_name, *old = log_start, *old_end = log_end;
+  for (const char *from = pattern; *from && to < log_name + MOST_NAME - 32; from++)
+    if (from[0] == '%' && from[1] == 'p') {
+      char digits[24];
+      unsigned long process = syscall(SYS_getpid), n = 0;
+      do digits[n++] = '0' + process % 10;
+      while (process /= 10);
+      while (n) *to++ = digits[--n];
+      from++;
+      is_one_of_many = 1;
+    } else *to++ = *from;
+  *to = 0;
+  text = NULL;
+  file = syscall(SYS_openat, AT_FDCWD, log_name, O_RDWR | O_CREAT | O_EXCL | O_CLOEXEC, 0666);
+  for (char again = '2'; file < 0 && is_one_of_many && again <= '9'; again++) {  // the process has run another program before
+    to[0] = '.', to[1] = again, to[2] = 0;
+    file = syscall(SYS_openat, AT_FDCWD, log_name, O_RDWR | O_CREAT | O_EXCL | O_CLOEXEC, 0666);
+  }
+  if (file >= 0) {
+    char *mapped = mmap(NULL, LOG_SIZE, PROT_READ | PROT_WRITE, MAP_SHARED, file, 0);
+    syscall(SYS_close, file);
+    if (mapped != MAP_FAILED) {
+      log_start = log_end = text = mapped;
+      while (text && (size_t)(log_end - log_start) < used + MARGIN) grow();
+      if (text && used) copy_bytes(text, old, used), text += used;
+    }
+  }
+  if (old_end) munmap(old, LOG_SIZE);
+}
+
+static void before_fork(void) { pthread_mutex_lock(&accesses_lock); }
+static void in_parent(void) { pthread_mutex_unlock(&accesses_lock); }
+
+// a child has a log of its own, or none
+static void in_child(void) {
+  pthread_mutex_init(&accesses_lock, NULL);
+  if (!text) return;
+  if (strstr(pattern, "%p")) open_log();
+  else munmap(log_start, LOG_SIZE), text = NULL;
+}
+
+// Requests of constructors that ran before are logged now.
+static __attribute__((constructor(101))) void start(void) {
+  begin();
+  const char *only = getenv("ACCESSES_ONLY");
+  pattern = getenv("ACCESSES");
+  if (!pattern || (only && strcmp(only, program_invocation_short_name))) return;
+  enter();
+  open_log();
+  if (is_logging()) read_mappings(0);
+  for (uint32_t number = 1; number <= number_of_blocks() && is_logging(); number++) {
+    put_record('m', 3, (long)number, (long)BLOCKS[number].size, 0l), put_end();
+    if (BLOCKS[number].state == FREED) put_record('f', 2, (long)number, 0l), put_end();
+  }
+  leave();
+  pthread_atfork(before_fork, in_parent, in_child);
+}
+
+static __attribute__((destructor)) void stop(void) {
+  enter();
+  if (is_logging()) put_record('Z', 1, not_logged), put_end();
+  leave();
+}
