@@ -1,7 +1,7 @@
 //! The code and the name of each error, as a user of the libraries sees it.
 use super::support::same;
 use class_table::TableError;
-use potential_check::SheetError;
+use potential_check::{FitError, SheetError};
 use profile_count::{CountFull, ProfileError, ProfileFault};
 use std::fmt::Display;
 use std::process::Abort;
@@ -96,6 +96,13 @@ fn faults_of_texts(rt: HostRuntime) -> Result<(), Fail> {
         &[
             (SheetError::OutOfMemory, "1 OutOfMemory"),
             (SheetError::Line(4), "48 BadSheet line 4"),
+        ],
+    )?;
+    shown(
+        &rt,
+        &[
+            (FitError::OutOfMemory, "1 OutOfMemory"),
+            (FitError::Line(3), "50 BadFit line 3"),
         ],
     )?;
     shown(
