@@ -16,7 +16,7 @@ pub fn refusal(profile: &Profile, sheet: &Sheet) -> Option<&'static str> {
     }
     match waste(&sheet.classes, profile) {
         Err(_) => Some("41 NotServing"),
-        Ok(waste) if waste != sheet.waste => Some("42 WasteWrong"),
+        Ok(waste) if waste != sheet.cost => Some("42 WasteWrong"),
         Ok(_) => rows_refusal(&Spans::new(profile, sheet.step), sheet),
     }
 }
@@ -37,7 +37,7 @@ fn rows_refusal(spans: &Spans, sheet: &Sheet) -> Option<&'static str> {
     if !pairs().all(|(before, row)| edges_hold(spans, before, row, 0..last, 0..last + 1)) {
         return Some("46 Edge");
     }
-    (rows[sheet.limit - 1][0] != sheet.waste).then_some("47 NotTight")
+    (rows[sheet.limit - 1][0] != sheet.cost).then_some("47 NotTight")
 }
 
 /// Whether no number of a part of a row is more than its edge to any of these ends allows, by

@@ -40,20 +40,40 @@ impl Display for Fault {
 /// The first fault of a class line and the profile after it.
 pub fn in_scored(text: &[u8]) -> Fault {
     let lines = lines_of(text);
-    in_class_line(lines.first().copied()).unwrap_or_else(|| in_lines(&lines[1..], 1))
+    in_class_line(lines.first().copied()).unwrap_or_else(|| in_counts(&lines[1..], 1))
+}
+
+/// The first fault of a class line and the history after it.
+pub fn in_footprint(text: &[u8]) -> Fault {
+    let lines = lines_of(text);
+    in_class_line(lines.first().copied()).unwrap_or_else(|| in_snapshots(&lines[1..], 1))
 }
 
 /// The first fault of a profile.
 pub fn in_profile(text: &[u8]) -> Fault {
-    in_lines(&lines_of(text), 0)
+    in_counts(&lines_of(text), 0)
+}
+
+/// The first fault of a history.
+pub fn in_history(text: &[u8]) -> Fault {
+    in_snapshots(&lines_of(text), 0)
 }
 
 /// The first fault of a sheet and the profile after it.
 pub fn in_checked(text: &[u8]) -> Fault {
     let lines = lines_of(text);
-    match sheet_lines(&lines) {
-        Ok(count) => in_lines(&lines[count..], count),
+    match sheet_lines(&lines, "waste") {
+        Ok(count) => in_counts(&lines[count..], count),
         Err(line) => Fault::InLine(48, "BadSheet", line),
+    }
+}
+
+/// The first fault of a fit and the history after it.
+pub fn in_checked_fit(text: &[u8]) -> Fault {
+    let lines = lines_of(text);
+    match sheet_lines(&lines, "footprint") {
+        Ok(count) => in_snapshots(&lines[count..], count),
+        Err(line) => Fault::InLine(50, "BadFit", line),
     }
 }
 
@@ -115,33 +135,58 @@ pub fn in_class_line(line: Option<&[u8]>) -> Option<Fault> {
 const AFTER_SIZES: u128 = 16_369;
 
 // the first fault of a profile's lines, after so many other lines
-fn in_lines(lines: &[&[u8]], before: usize) -> Fault {
+fn in_counts(lines: &[&[u8]], before: usize) -> Fault {
+    in_lines(lines, before, 1, (30, "BadLine"))
+}
+
+// the first fault of a history's lines
+fn in_snapshots(lines: &[&[u8]], before: usize) -> Fault {
+    let words = |line: &&[u8]| line.strip_prefix(b"snapshots ").and_then(number_of);
+    match lines.first().and_then(words) {
+        Some(snapshots @ 1..=64) => {
+            let wrong_length = (35, "WrongLength");
+            in_lines(&lines[1..], before + 1, snapshots as usize, wrong_length)
+        }
+        _ => Fault::InLine(34, "BadSnapshots", before + 1),
+    }
+}
+
+// the first fault of lines of a size and so many counts
+fn in_lines(
+    lines: &[&[u8]],
+    before: usize,
+    counts: usize,
+    wrong_length: (u8, &'static str),
+) -> Fault {
     let mut next = 0;
     for (at, line) in lines.iter().enumerate() {
         let fault = |code, name| Fault::InLine(code, name, before + at + 1);
-        let words: Vec<&[u8]> = line.split(|byte| *byte == b' ').collect();
-        let size = match words[0] {
-            b"large" => Some(AFTER_SIZES),
-            word => number_of(word).filter(|size| *size < AFTER_SIZES),
+        let mut words = line.split(|byte| *byte == b' ');
+        let size = match words.next() {
+            Some(b"large") => Some(AFTER_SIZES),
+            word => word.and_then(number_of).filter(|size| *size < AFTER_SIZES),
         };
-        let count = words.get(1).and_then(|word| number_of(word));
-        let in_place = words.len() == 2 && next <= AFTER_SIZES;
-        let (Some(size), Some(count), true) = (size, count, in_place) else {
+        let numbers: Option<Vec<u128>> = words.map(number_of).collect();
+        let (Some(size), Some(numbers), true) = (size, numbers, next <= AFTER_SIZES) else {
             return fault(30, "BadLine");
         };
+        if numbers.len() != counts {
+            return fault(wrong_length.0, wrong_length.1);
+        }
         if size < next {
             return fault(31, "NotAscending");
         }
-        if !(1..=1_000_000_000).contains(&count) {
+        let most = numbers.iter().max().unwrap_or(&0);
+        if !(1..=1_000_000_000).contains(most) {
             return fault(32, "CountOutOfRange");
         }
         next = size + 1;
     }
-    unreachable!("a profile that was refused is faulty")
+    unreachable!("a profile or a history that was refused is faulty")
 }
 
-// how many lines are the sheet's, or its first faulty line
-fn sheet_lines(lines: &[&[u8]]) -> Result<usize, usize> {
+// how many lines are the sheet's, or the fit's by the word of its cost, or its first faulty line
+fn sheet_lines(lines: &[&[u8]], cost_word: &str) -> Result<usize, usize> {
     let numbers = |line: &[u8], name: &str| {
         let mut words = line.split(|byte| *byte == b' ');
         let named = words.next() == Some(name.as_bytes());
@@ -169,7 +214,7 @@ fn sheet_lines(lines: &[&[u8]]) -> Result<usize, usize> {
             .ok_or(3_usize)?;
         at = 3;
     }
-    one(at, "waste").ok_or(at + 1)?;
+    one(at, cost_word).ok_or(at + 1)?;
     at += 1;
     let rows = at;
     while first_is(at, "row") {

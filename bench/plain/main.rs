@@ -11,8 +11,11 @@
 
 mod checker;
 mod faults;
+mod fitter;
 mod generator;
 mod heap;
+mod history;
+mod history_spans;
 mod memory;
 mod options;
 mod profile;
@@ -27,11 +30,12 @@ mod tuner;
 use faults::{Fault, WRITE_FAULT};
 use generator::Generator;
 use heap::Settings;
+use history::History;
 use options::Options;
 use profile::Profile;
 use replay::Replay;
 use score::read_classes;
-use sheet::Sheet;
+use sheet::{Sheet, FOOTPRINT, WASTE};
 use std::io::Write;
 use std::process::ExitCode;
 use text::{each_line, push_number, read_all, Scanner};
@@ -49,13 +53,16 @@ The commands of mte_tool in plain Rust: the same outputs, and nothing is proved 
 
 Usage: plain COMMAND [--NAME N ..] < INPUT
 
-  score    a class line and a profile: how many bytes the table wastes
-  tune     a profile: the best table, as a sheet; --limit K (1 to 32), --step S (1, 2, 4 or 8)
-  check    a sheet and a profile: whether the sheet proves its table a best one
-  profile  a trace: its profile
-  replay   a class line and a trace: the report of the tagged heap; --granules, --seed, --quarantine
-  run      a trace: its best table, and the report with it; the options of tune and of replay
-  events   a million events, from no input; --seed
+  score      a class line and a profile: how many bytes the table wastes
+  tune       a profile: the best table, as a sheet; --limit K (1 to 32), --step S (1, 2, 4 or 8)
+  check      a sheet and a profile: whether the sheet proves its table a best one
+  footprint  a class line and a history: how many bytes the table takes at its most
+  fit        a history: the table of least footprint, as a fit; the options of tune
+  check-fit  a fit and a history: whether the fit proves that no table has less footprint
+  profile    a trace: its profile
+  replay     a class line and a trace: the tagged heap's report; --granules, --seed, --quarantine
+  run        a trace: its best table, and the report with it; the options of tune and of replay
+  events     a million events, from no input; --seed
 
 Exit status: 0 done; 1 the verdict is no; 2 words or input are refused; 3 a read or a write failed.
 docs/FORMATS.md has the formats and the codes of faults, `error CODE NAME line L`.
@@ -90,6 +97,9 @@ fn answer(words: Vec<String>, out: &mut impl Write) -> Result<ExitCode, Fault> {
         "score" => Options::new(&[], words).and_then(|_| score(out)),
         "tune" => tune(&Options::new(&TUNER, words)?, out),
         "check" => Options::new(&[], words).and_then(|_| check(out)),
+        "footprint" => Options::new(&[], words).and_then(|_| footprint(out)),
+        "fit" => fit(&Options::new(&TUNER, words)?, out),
+        "check-fit" => Options::new(&[], words).and_then(|_| check_fit(out)),
         "profile" => Options::new(&[], words).and_then(|_| profile(out)),
         "replay" => replay(&Options::new(&HEAP, words)?, out),
         "run" => run(&Options::new(&[&TUNER[..], &HEAP].concat(), words)?, out),
@@ -125,11 +135,30 @@ fn score(out: &mut impl Write) -> Result<ExitCode, Fault> {
     let read =
         read_classes(&mut text).and_then(|classes| Some((classes, Profile::read(&mut text)?)));
     let (classes, profile) = read.ok_or_else(|| faults::in_scored(&input))?;
-    let (words, number, status) = match score::waste(&classes, &profile) {
-        Ok(waste) => ("waste ", waste, ExitCode::SUCCESS),
-        Err(size) => ("not serving ", size as u64, NO),
+    write_cost(WASTE, score::waste(&classes, &profile), out)
+}
+
+fn footprint(out: &mut impl Write) -> Result<ExitCode, Fault> {
+    let input = read_all()?;
+    let mut text = Scanner::new(&input);
+    let read =
+        read_classes(&mut text).and_then(|classes| Some((classes, History::read(&mut text)?)));
+    let (classes, history) = read.ok_or_else(|| faults::in_footprint(&input))?;
+    write_cost(FOOTPRINT, history.footprint(&classes), out)
+}
+
+// the cost of a table with its word, or the least counted size that the table does not serve
+fn write_cost(
+    word: &[u8],
+    cost: Result<u64, usize>,
+    out: &mut impl Write,
+) -> Result<ExitCode, Fault> {
+    let (word, number, status) = match cost {
+        Ok(cost) => (word, cost, ExitCode::SUCCESS),
+        Err(size) => (&b"not serving"[..], size as u64, NO),
     };
-    let mut line = words.as_bytes().to_vec();
+    let mut line = word.to_vec();
+    line.push(b' ');
     push_number(&mut line, number);
     line.push(b'\n');
     write(out, &line)?;
@@ -142,16 +171,40 @@ fn tune(options: &Options, out: &mut impl Write) -> Result<ExitCode, Fault> {
     let profile = Profile::read(&mut Scanner::new(&input));
     let profile = profile.ok_or_else(|| faults::in_profile(&input))?;
     let mut text = Vec::new();
-    tuner::tune(&profile, limit, step).write(&mut text);
+    tuner::tune(&profile, limit, step).write(&mut text, WASTE);
+    written(out, &text)
+}
+
+fn fit(options: &Options, out: &mut impl Write) -> Result<ExitCode, Fault> {
+    let (limit, step) = (options.limit()?, options.step()?);
+    let input = read_all()?;
+    let history = History::read(&mut Scanner::new(&input));
+    let history = history.ok_or_else(|| faults::in_history(&input))?;
+    let mut text = Vec::new();
+    fitter::fit(&history, limit, step).write(&mut text, FOOTPRINT);
     written(out, &text)
 }
 
 fn check(out: &mut impl Write) -> Result<ExitCode, Fault> {
     let input = read_all()?;
     let mut text = Scanner::new(&input);
-    let read = Sheet::read(&mut text).and_then(|sheet| Some((sheet, Profile::read(&mut text)?)));
+    let read =
+        Sheet::read(&mut text, WASTE).and_then(|sheet| Some((sheet, Profile::read(&mut text)?)));
     let (sheet, profile) = read.ok_or_else(|| faults::in_checked(&input))?;
-    match checker::refusal(&profile, &sheet) {
+    write_verdict(checker::refusal(&profile, &sheet), out)
+}
+
+fn check_fit(out: &mut impl Write) -> Result<ExitCode, Fault> {
+    let input = read_all()?;
+    let mut text = Scanner::new(&input);
+    let read =
+        Sheet::read(&mut text, FOOTPRINT).and_then(|fit| Some((fit, History::read(&mut text)?)));
+    let (fit, history) = read.ok_or_else(|| faults::in_checked_fit(&input))?;
+    write_verdict(fitter::refusal(&history, &fit), out)
+}
+
+fn write_verdict(refusal: Option<&str>, out: &mut impl Write) -> Result<ExitCode, Fault> {
+    match refusal {
         Some(refusal) => {
             write(out, format!("refused {refusal}\n").as_bytes())?;
             Ok(NO)
@@ -209,7 +262,7 @@ fn run(options: &Options, out: &mut impl Write) -> Result<ExitCode, Fault> {
     }
     let sheet = tuner::tune(&profile, limit, step);
     let mut text = Vec::new();
-    sheet.write(&mut text);
+    sheet.write(&mut text, WASTE);
     write(out, &text)?;
     write_report(&sheet.classes, &settings, &events, out)
 }

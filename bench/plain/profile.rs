@@ -5,7 +5,8 @@ use crate::text::{push_number, Scanner};
 /// The largest size that any class serves, in bytes.
 pub const LARGEST: usize = 16_368;
 
-const GREATEST_COUNT: u64 = 1_000_000_000;
+/// The most that a size is counted.
+pub const GREATEST_COUNT: u64 = 1_000_000_000;
 
 pub struct Profile {
     /// How often each size was requested.

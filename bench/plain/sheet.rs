@@ -1,19 +1,27 @@
-//! Sheets: a table, and the rows that show that it is a best one.
+//! Sheets: a table, and the rows that show that it is a best one. A fit is one for the footprint.
 
 use crate::score::read_classes;
 use crate::text::{push_number, Scanner};
+
+/// The word of the line that has a sheet's cost.
+pub const WASTE: &[u8] = b"waste";
+
+/// The word of that line in a fit.
+pub const FOOTPRINT: &[u8] = b"footprint";
 
 pub struct Sheet {
     pub classes: Vec<u32>,
     pub limit: usize,
     pub step: u32,
-    pub waste: u64,
+    /// The waste of a sheet, the footprint of a fit.
+    pub cost: u64,
     /// A number for each place but the last, and then a 0 for the last one.
     pub rows: Vec<Vec<u64>>,
 }
 
 impl Sheet {
-    pub fn read(text: &mut Scanner) -> Option<Sheet> {
+    /// Reads a sheet, or a fit where the cost has its word.
+    pub fn read(text: &mut Scanner, cost_word: &[u8]) -> Option<Sheet> {
         let classes = read_classes(text)?;
         text.expect(b"limit ")?;
         let limit = text.number_to(32).filter(|limit| *limit > 0)? as usize;
@@ -23,8 +31,9 @@ impl Sheet {
             step = text.number().filter(|step| matches!(step, 2 | 4 | 8))? as u32;
             text.end_line()?;
         }
-        text.expect(b"waste ")?;
-        let waste = text.number()?;
+        text.expect(cost_word)?;
+        text.expect(b" ")?;
+        let cost = text.number()?;
         text.end_line()?;
         let mut rows = Vec::new();
         while text.skip(b"row") {
@@ -34,12 +43,12 @@ impl Sheet {
             classes,
             limit,
             step,
-            waste,
+            cost,
             rows,
         })
     }
 
-    pub fn write(&self, text: &mut Vec<u8>) {
+    pub fn write(&self, text: &mut Vec<u8>, cost_word: &[u8]) {
         text.extend_from_slice(b"classes");
         for class in &self.classes {
             text.push(b' ');
@@ -49,7 +58,7 @@ impl Sheet {
         if self.step > 1 {
             push_line(text, b"step", &[u64::from(self.step)]);
         }
-        push_line(text, b"waste", &[self.waste]);
+        push_line(text, cost_word, &[self.cost]);
         for row in &self.rows {
             push_line(text, b"row", &row[..row.len() - 1]);
         }

@@ -13,52 +13,57 @@ pub fn tune(profile: &Profile, limit: usize, step: u32) -> Sheet {
         rows.push(Row::after(&spans, &rows[k - 1]));
     }
     Sheet {
-        classes: table(&spans, &rows),
+        classes: table(spans.last(), |place| spans.need(place), &rows),
         limit,
         step,
-        waste: rows[limit - 1].rests[0],
+        cost: rows[limit - 1].rests[0],
         rows: rows.into_iter().map(|row| row.rests).collect(),
     }
 }
 
-// the needs at the least ends, from place 0 and the last row on
-fn table(spans: &Spans, rows: &[Row]) -> Vec<u32> {
+/// The needs at the least ends, from place 0 and the last row on.
+pub fn table(last: usize, need: impl Fn(usize) -> u32, rows: &[Row]) -> Vec<u32> {
     let mut classes = Vec::new();
     let mut place = 0;
     for row in rows.iter().rev() {
-        if place < spans.last() {
+        if place < last {
             place = row.ends[place];
-            classes.push(spans.need(place));
+            classes.push(need(place));
         }
     }
     classes
 }
 
-/// A row: the least waste above each place, 0 for the last one, and the least ends where it is
+/// A row: the least cost above each place, 0 for the last one, and the least ends where it is
 /// reached.
-struct Row {
-    rests: Vec<u64>,
-    ends: Vec<usize>,
+pub struct Row {
+    pub rests: Vec<u64>,
+    pub ends: Vec<usize>,
 }
 
 impl Row {
+    /// A row that is not filled, with the last place as each end.
+    pub fn new(last: usize) -> Row {
+        Row {
+            rests: vec![0; last + 1],
+            ends: vec![last; last],
+        }
+    }
+
     /// The row of one class.
     fn first(spans: &Spans) -> Row {
         let last = spans.last();
-        let wastes = (0..last).map(|i| spans.waste(i, last));
-        Row {
-            rests: wastes.chain([0]).collect(),
-            ends: vec![last; last],
+        let mut row = Row::new(last);
+        for i in 0..last {
+            row.rests[i] = spans.waste(i, last);
         }
+        row
     }
 
     /// The row of one class more.
     fn after(spans: &Spans, before: &Row) -> Row {
         let last = spans.last();
-        let mut row = Row {
-            rests: vec![0; last + 1],
-            ends: vec![last; last],
-        };
+        let mut row = Row::new(last);
         row.fill(spans, &before.rests, 0..last, 1..last + 1);
         row
     }
