@@ -1,2 +1,5 @@
+pub mod LawLemmas
+pub mod Fits
 pub mod Numbers
+pub mod OneFit
 pub mod Places

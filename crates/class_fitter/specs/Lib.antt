@@ -1,1 +1,3 @@
+pub mod Fitted
+pub mod Laws
 pub mod PlaceByPlace

@@ -3,6 +3,9 @@
 #![tactic(auto)]
 
 mod filling;
+mod fitting;
+pub mod laws;
 mod place;
 
 pub use filling::fill_places;
+pub use fitting::{Fitted, fit};

@@ -1,0 +1,26 @@
+-- The result of a fitter.
+use Rattle.std.specs.Prelude.{◌≡◌, ℕ, List}
+use Rattle.potential_check.specs.declared.fit.Fit.{Fit as Written}
+use Rattle.tuner_theory.specs.Fits.{Fit, IsFitVerdict}
+use Rattle.tuner_theory.specs.Footprint.{IsFitted, footprint_of}
+use Rattle.tuner_theory.specs.FootprintLaws.{AreFittedRows}
+use Rattle.tuner_theory.specs.Histories.{peaks}
+use Rattle.tuner_theory.specs.Rows.{HasShape, number_at}
+use Rattle.tuner_theory.specs.Spans.{places}
+use Rattle.tuner_theory.specs.declared.verdict.Verdict.TheVariants.{Optimal}
+
+-- A fit, and how many span footprints were asked for to make it.
+pub record Fitting : Type 0 where
+  pub fit : Written
+  pub evaluations : ℕ
+
+-- The fit of a history for a step and a limit: the fitted table with its footprint, and as its certificate the least rows.
+pub record IsFitOf (snapshots : List (List ℕ)) (step limit : ℕ) (fit : Fit) : Type 0 where
+  pub fitted : IsFitted snapshots step limit fit.table
+  pub for_limit : fit.limit ≡ limit
+  pub for_step : fit.step ≡ step
+  pub takes : fit.footprint ≡ footprint_of snapshots fit.table
+  pub shape : HasShape fit.rows limit (places (peaks snapshots) step)
+  pub ends : ℕ → ℕ → ℕ
+  pub least : AreFittedRows snapshots step limit (number_at fit.rows) ends
+  pub optimal : IsFitVerdict snapshots fit Optimal
