@@ -9,7 +9,7 @@ use Rattle.std.proofs.lemmas.List.Elements.{All-head, All-tail}
 use Rattle.class_table.specs.Sizes.{largest_counted}
 use Rattle.class_table.specs.Tables.{IsLegalTable}
 use Rattle.class_table.specs.declared.sizes.TheConstants.{LARGEST_CLASS}
-use Rattle.profile_count.proofs.Waste.{sum_below-rest}
+use Rattle.profile_count.proofs.LawLemmas.{sum_up_to_the_rest}
 use Rattle.tuner_theory.specs.Footprint.{blocks_between, footprint_between, footprint_of}
 use Rattle.tuner_theory.specs.Histories.{AreSnapshots, most}
 use Rattle.tuner_theory.specs.Intervals.{cost_above}
@@ -78,7 +78,7 @@ blocks-cut low high from end s is also le within =
     let f = λ (n : ℕ). cond (ltb low (rounded_need 1 n) && leb (rounded_need 1 n) high) (slice_index s n) 0 in
     omega (
       arith,
-      sum_below-rest f end (length s) within (λ n le. past n (also.above n le)),
+      sum_up_to_the_rest f end (length s) within (λ n le. past n (also.above n le)),
       window f (slice_index s) from end le (λ n lt. before n (is.below n lt)) (λ n from lt. inside n (is.above n from) (also.below n lt)),
     )
   where

@@ -11,7 +11,7 @@ use Rattle.class_table.proofs.LawLemmas.{AreSmall, IsName, line_of_read_numbers,
 use Rattle.line_text.specs.Lines.{IsFullLine, words}
 use Rattle.line_text.specs.Numbers.{number_of}
 use Rattle.line_text.proofs.LawLemmas.{text_laws as laws}
-use Rattle.profile_count.proofs.EntryLines.{number_is_not_large}
+use Rattle.profile_count.proofs.LawLemmas.{number_is_not_large}
 use Rattle.tuner_theory.specs.Profiles.{greatest_count}
 use Rattle.history_count.specs.HistoryText.{Entry, entry_of, entry_with_numbers, size_of, subject_of}
 use Rattle.history_count.specs.declared.line.Subject.{Subject}

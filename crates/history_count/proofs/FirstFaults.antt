@@ -7,7 +7,7 @@ use Rattle.std.proofs.lemmas.List.Elements.{All-cons, All-nil, All-take}
 use Rattle.line_text.specs.FirstFault.{IsFirstFault}
 use Rattle.line_text.specs.Lines.{IsLine, lines, text_of, words}
 use Rattle.line_text.proofs.LawLemmas.{text_laws as laws}
-use Rattle.profile_count.proofs.LineFaults.{IsLineByLine, fault_at, first_fault-refusal, refusal-first_fault}
+use Rattle.profile_count.proofs.LawLemmas.{IsLineByLine, first_fault_is_a_refusal, refusal_has_its_place, refusal_is_first_fault}
 use Rattle.history_count.specs.Histories.{History}
 use Rattle.history_count.specs.HistoryText.{Entry, Reading, SpellsHistory, first_reading, history_after, history_from, history_of, history_of_lines, next_entry, snapshots_line, snapshots_of, with_entry}
 use Rattle.history_count.specs.Laws.{IsRefusedAt}
@@ -110,11 +110,11 @@ read text h spells = sym (all_lines (lines text)) ∙ history_of-spelled text h 
 
 pub first_fault-refused : (text : List ℕ) (n : ℕ) → IsRefusedAt n text → IsFirstFault SpellsHistory text n
 first_fault-refused text n refused =
-    refusal-first_fault read_from reads SpellsHistory start spelled read text n refused.0 (sym (all_lines (lines text)) ∙ refused.1)
+    refusal_is_first_fault read_from reads SpellsHistory start spelled read text n refused.0 (sym (all_lines (lines text)) ∙ refused.1)
 
 pub refused-first_fault : (text : List ℕ) (n : ℕ) → IsFirstFault SpellsHistory text n → IsRefusedAt n text
 refused-first_fault text n first =
-    let refused = first_fault-refusal read_from reads SpellsHistory start spelled read text n first in
+    let refused = first_fault_is_a_refusal read_from reads SpellsHistory start spelled read text n first in
     (refused.0, all_lines (lines text) ∙ refused.1)
 
 -- ---- a fault after the first line
@@ -155,7 +155,7 @@ within-refused text n refused =
     elim (cases_lt 1 n) [
       | inr first ↦ omega arith
       | inl later ↦ (let is = is_later text n refused.0 later refused.1 in
-          let at = fault_at history_from later_reads is.others 2 (first_reading is.count) n refused.0 is.refused in
+          let at = refusal_has_its_place history_from later_reads is.others 2 (first_reading is.count) n refused.0 is.refused in
           elim (cases_lt at.0 (length is.others)) [
             | inl there ↦ omega (arith, at.1, ap length is.parts)
             | inr past ↦ absurd (read_or_refused at.2.reached.history (n, refused.0)
@@ -171,7 +171,7 @@ pub front-refused : (text : List ℕ) (n : ℕ) → 2 ≤ n → IsRefusedAt n te
     → (h : History) × SpellsHistory (text_of (take (n - 1) (lines text))) h
 front-refused text n later refused =
     let is = is_later text n refused.0 later refused.1 in
-    let at = fault_at history_from later_reads is.others 2 (first_reading is.count) n refused.0 is.refused in
+    let at = refusal_has_its_place history_from later_reads is.others 2 (first_reading is.count) n refused.0 is.refused in
     let k = at.0 in
     let before : n - 1 ≡ suc k = omega (arith, at.1) in
     let front = take (n - 1) (lines text) in

@@ -7,7 +7,7 @@ use Rattle.std.proofs.lemmas.List.{get_or-set_other, get_or-set_same, length-rep
 use Rattle.std.proofs.lemmas.List.Elements.{All-cons, All-from_get_or, All-head, All-nil, All-tail}
 use Rattle.class_table.specs.Sizes.{largest_counted}
 use Rattle.profile_count.specs.Counts.{nothing_counted as no_requests, with_count, zeros}
-use Rattle.profile_count.proofs.Zeros.{counts-zeros, get_or-zeros}
+use Rattle.profile_count.proofs.LawLemmas.{each_is_zero, zeros_are_counts}
 use Rattle.tuner_theory.specs.Histories.{most, peaks}
 use Rattle.tuner_theory.specs.Profiles.{AreCounts, Profile, greatest_count}
 use Rattle.tuner_theory.specs.declared.most_snapshots.TheConstants.{MOST_SNAPSHOTS}
@@ -51,14 +51,14 @@ unfolding zeros
 zeros-length n = length-replicate n 0
 
 pub zeros-small : (n : ℕ) → All (λ count. count ≤ greatest_count) (zeros n)
-zeros-small n = All-from_get_or (λ count. count ≤ greatest_count) (zeros n) 0 (λ k within. rw (get_or-zeros n k) (omega arith))
+zeros-small n = All-from_get_or (λ count. count ≤ greatest_count) (zeros n) 0 (λ k within. rw (each_is_zero n k) (omega arith))
 
 -- Nothing is counted in any snapshot,
 pub empty-counts : (count : ℕ) → All AreCounts (empty_snapshots count)
 unfolding empty_snapshots
 empty-counts zero = All-nil AreCounts
 empty-counts (suc n) = All-cons AreCounts (zeros (largest_counted + 1)) (replicate n (zeros (largest_counted + 1)))
-    (counts-zeros (zeros (largest_counted + 1)) refl) (empty-counts n)
+    (zeros_are_counts (zeros (largest_counted + 1)) refl) (empty-counts n)
 
 pub empty-none : empty_snapshots 0 ≡ []
 unfolding empty_snapshots
@@ -75,21 +75,21 @@ empty-length count = length-replicate count (zeros (largest_counted + 1))
 greatest-empty : (count n : ℕ) → greatest_of (counts_of (empty_snapshots count) n) ≡ 0
 unfolding empty_snapshots
 greatest-empty zero n = refl
-greatest-empty (suc m) n = omega (arith, get_or-zeros (largest_counted + 1) n, greatest-empty m n)
+greatest-empty (suc m) n = omega (arith, each_is_zero (largest_counted + 1) n, greatest-empty m n)
 
 -- no size is counted,
 pub empty-nothing : (count n : ℕ) → is_some_counted (counts_of (empty_snapshots count) n) ≡ false
 unfolding empty_snapshots
 empty-nothing zero n = refl
-empty-nothing (suc m) n = rw get_or-zeros (empty-nothing m n)
+empty-nothing (suc m) n = rw each_is_zero (empty-nothing m n)
 
 -- and all peaks are 0.
 pub peaks-empty : (count : ℕ) → peaks (empty_snapshots count) ≡ zeros (largest_counted + 1)
 peaks-empty count =
     same_number_lists (peaks (empty_snapshots count)) (zeros (largest_counted + 1))
-    (peaks-length (empty_snapshots count) ∙ sym (counts-zeros (zeros (largest_counted + 1)) refl).sizes)
+    (peaks-length (empty_snapshots count) ∙ sym (zeros_are_counts (zeros (largest_counted + 1)) refl).sizes)
     (λ k lt. peak-is (empty_snapshots count) k (omega (arith, peaks-length (empty_snapshots count)))
-    ∙ greatest-empty count k ∙ sym (get_or-zeros (largest_counted + 1) k))
+    ∙ greatest-empty count k ∙ sym (each_is_zero (largest_counted + 1) k))
 
 -- ---- the counts of one size
 

@@ -1,11 +1,15 @@
--- The laws as lemmas, for the proofs of the crates above.
+-- The laws as lemmas, for the proofs of the crates above, and what they need of zeros, of sums, and of texts that are read line by line.
 use Rattle.profile_count.specs.Laws.{AddedRequestsAreCounted, CountsAreFew, FirstFaultIsRefused, LinesBeforeItSpell, OneMoreIsCounted, ProfileCountsRequests, ProfileIsSpelled, ProfileOfSizesIsOne, RefusedLineIsThere, SpelledProfileIsRead}
 use Rattle.profile_count.specs.RequestLosses.{ServesEachRequest, WasteIsTheSumOfLosses}
 use Rattle.profile_count.proofs.CountedRequests.{count_for-le, profile_of_sizes-counts, with_more-nothing_counted, with_one_more-profile_of_sizes}
+pub use Rattle.profile_count.proofs.EntryLines.{number_is_not_large}
 use Rattle.profile_count.proofs.FirstFaults.{first_fault-refused, front-refused, refused-first_fault, within-refused}
+pub use Rattle.profile_count.proofs.LineFaults.{IsLineByLine, fault_at as refusal_has_its_place, first_fault-refusal as first_fault_is_a_refusal, refusal-first_fault as refusal_is_first_fault}
 use Rattle.profile_count.proofs.ReadIsSpelled.{spelled-profile_of}
 use Rattle.profile_count.proofs.RequestLosses.{profile_of_sizes-is_profile, serves-profile_of_sizes, waste_of-profile_of_sizes}
 use Rattle.profile_count.proofs.SpelledIsRead.{profile_of-spelled}
+pub use Rattle.profile_count.proofs.Waste.{sum_below-rest as sum_up_to_the_rest}
+pub use Rattle.profile_count.proofs.Zeros.{counts-zeros as zeros_are_counts, get_or-zeros as each_is_zero}
 
 pub profile_is_spelled : ProfileIsSpelled
 profile_is_spelled = spelled-profile_of

@@ -1,4 +1,5 @@
 mod evaluations;
+mod histories;
 mod lines;
 mod sizes_and_profiles;
 mod support;
