@@ -132,6 +132,10 @@ def number(value):
     return f"{value:,}"
 
 
+def numbered(value, noun):
+    return f"{value:,} {noun}{'' if value == 1 else 's'}"
+
+
 def percent(part, whole):
     return f"{100 * part / whole:.1f}%"
 
@@ -142,7 +146,7 @@ def kibibytes(count):
 
 def byte_text(value):
     """So many bytes, in the unit that suits."""
-    for unit, size in (("GiB", 1 << 30), ("MiB", 1 << 20), ("KiB", 1 << 10)):
+    for unit, size in (("PiB", 1 << 50), ("TiB", 1 << 40), ("GiB", 1 << 30), ("MiB", 1 << 20), ("KiB", 1 << 10)):
         if value >= size:
             return f"{value / size:.3g} {unit}" if value < 999.5 * size else f"{value / size:,.0f} {unit}"
-    return f"{value:.3g} bytes"
+    return f"{value:.3g} byte{'' if value == 1 else 's'}"

@@ -2,7 +2,7 @@
 
 import math
 
-from figures import GRANULE, byte_text, class_text, kibibytes, number, percent
+from figures import GRANULE, byte_text, class_text, kibibytes, number, numbered, percent
 from pictures import Picture, escape, shown
 
 STYLE = """
@@ -31,7 +31,8 @@ table { border-collapse: collapse; width: 100%; font-size: .9375rem; font-varian
 th, td { text-align: right; padding: .3rem .5rem; border-bottom: 1px solid var(--line); white-space: nowrap }
 th { font-weight: 600; vertical-align: bottom; white-space: normal }
 th:first-child { text-align: left }
-tbody th { font-weight: 400; overflow-wrap: anywhere }
+tbody th { font-weight: 400; white-space: nowrap }
+#tables tbody th { min-width: 5rem; overflow-wrap: break-word; white-space: normal }
 .best > * { font-weight: 600 }
 .empty > * { color: var(--soft) }
 .share { display: inline-block; min-width: 4.25em; color: var(--soft); font-weight: 400 }
@@ -69,11 +70,11 @@ FIRST_OCTAVE, OCTAVES = 3, 11  # the sizes from 8 bytes to 16 KiB
 def page(figures, name, counted, warnings, check):
     """The page for a program or a profile of this name. COUNTED says what was counted, CHECK is the command that checks the sheet."""
     best = figures.best
-    lead = f"A table of {len(best.classes)} size classes loses {number(best.waste)} bytes by rounding, "
+    lead = f"A table of {len(best.classes)} size classes loses {numbered(best.waste, 'byte')} by rounding, "
     lead += f"{share(figures, best)} of what was requested."
     default = figures.others[0]
     if default.waste is not None:
-        lead += f" {default.name} loses {number(default.waste)} bytes, {share(figures, default)}."
+        lead += f" {default.name} loses {numbered(default.waste, 'byte')}, {share(figures, default)}."
     forced = " Class 1024 is kept by a request of 16,368 bytes, which adds no waste." if figures.forced else ""
     proved = int(figures.proof().startswith("Proved"))
     return f"""<!DOCTYPE html>
@@ -289,7 +290,7 @@ def histogram(figures, kind, width, height, per_octave):
     for place, (least, most, requests, total) in sorted(groups.items()):
         y = picture.y(total / unit, top)
         form = f'x="{shown(picture.left + place * wide)}" y="{shown(y)}" width="{shown(wide - 0.5)}" height="{shown(picture.bottom - y)}"'
-        title = f"{number(least)} to {number(most)} bytes: {number(requests)} requests, {number(total)} bytes in all"
+        title = f"{number(least)} to {number(most)} bytes: {numbered(requests, 'request')}, {numbered(total, 'byte')} in all"
         picture.parts.append(f'<rect class="bars" {form}><title>{title}</title></rect>')
     for size, words in SIZE_TICKS:
         picture.tick(x(size), words)
