@@ -77,10 +77,12 @@ static const char *file_of(void *function) {
 
 static int is_same(void *one, void *other) { return !strcmp(file_of(one), file_of(other)); }
 
-// Other calls of an allocator that get or free blocks. Whoever makes them is not seen, so neither are his requests.
+// Other calls of an allocator that get or free blocks. Whoever makes them is not seen, so neither are his requests. The last five are of the
+// C library, which calls malloc in them; an allocator may have them too.
 static int is_other_call(const char *name) {
   static const char *const prefixes[] = {"_Zn", "_Zd", "je_", "tc_", "mi_", "smallocx", "free_"};
-  static const char *const names[] = {"mallocx", "rallocx", "xallocx", "dallocx", "sdallocx", "cfree"};
+  static const char *const names[] = {"mallocx", "rallocx", "xallocx", "dallocx", "sdallocx", "cfree",
+                                     "strdup",  "strndup", "realpath", "reallocarray", "reallocf"};
   for (size_t i = 0; i < sizeof prefixes / sizeof *prefixes; i++)
     if (!strncmp(name, prefixes[i], strlen(prefixes[i]))) return 1;
   for (size_t i = 0; i < sizeof names / sizeof *names; i++)
