@@ -2,6 +2,7 @@
 //! then is as its contract says, and the same call answers the next time. `scripts/refuse_memory` refuses each growth in turn.
 mod ample;
 mod engines;
+mod fits;
 mod heaps;
 mod profiles;
 mod sheets;
