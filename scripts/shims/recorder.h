@@ -202,6 +202,8 @@ static void *map_file(const char *variable, uint64_t form, size_t least, size_t 
     wrong = "the file can't be made or opened", error = errno;
   } else if (fstat(opened, &status) || !S_ISREG(status.st_mode)) {
     wrong = "it is no file";
+  } else if (status.st_uid && status.st_uid != geteuid()) {  // who could cut it off, and so end the program
+    wrong = "it is another user's file";
   } else if (status.st_size >= (off_t)(PAGE + least)) {
     most = status.st_size - PAGE;
   } else if (status.st_size) {
