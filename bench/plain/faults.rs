@@ -87,18 +87,18 @@ pub fn in_trace(line: &[u8], number: usize, before: usize) -> Fault {
         return fault(74, "TooManyEvents");
     }
     let words: Vec<&[u8]> = line.split(|byte| *byte == b' ').collect();
-    let form = FORMS.iter().find(|(name, _)| name.as_bytes() == words[0]);
-    let Some((_, form)) = form.filter(|(_, form)| form.len() == words.len() - 1) else {
-        return fault(70, "BadWord");
+    let mut forms = FORMS.iter().filter(|(name, _)| name.as_bytes() == words[0]);
+    let form = match forms.next() {
+        Some((_, form)) if form.len() == words.len() - 1 => form,
+        _ => return fault(70, "BadWord"),
     };
     if words.iter().any(|word| word.is_empty()) {
         return fault(70, "BadWord");
     }
-    let faulty = words[1..].iter().zip(*form).find_map(|(word, kind)| {
-        let Some(magnitude) = kind.magnitude(word) else {
-            return Some((71, "BadNumber"));
-        };
-        (!kind.allows(magnitude)).then_some((72, "OutOfRange"))
+    let mut pairs = words[1..].iter().zip(*form);
+    let faulty = pairs.find_map(|(word, kind)| match kind.magnitude(word) {
+        None => Some((71, "BadNumber")),
+        Some(n) => (!kind.allows(n)).then_some((72, "OutOfRange")),
     });
     let (code, name) = faulty.expect("a line that was refused is faulty");
     fault(code, name)
@@ -109,12 +109,10 @@ pub fn in_class_line(line: Option<&[u8]>) -> Option<Fault> {
     let fault = |code, name| Some(Fault::InLine(code, name, 1));
     let mut words = line.unwrap_or(b"").split(|byte| *byte == b' ');
     let named = words.next() == Some(b"classes");
-    let Some(classes) = words.map(number_of).collect::<Option<Vec<_>>>() else {
-        return fault(23, "BadLine");
+    let classes = match words.map(number_of).collect::<Option<Vec<_>>>() {
+        Some(classes) if named => classes,
+        _ => return fault(23, "BadLine"),
     };
-    if !named {
-        return fault(23, "BadLine");
-    }
     if classes.len() > 32 {
         return fault(20, "TooMany");
     }
@@ -167,8 +165,9 @@ fn in_lines(
             word => word.and_then(number_of).filter(|size| *size < AFTER_SIZES),
         };
         let numbers: Option<Vec<u128>> = words.map(number_of).collect();
-        let (Some(size), Some(numbers), true) = (size, numbers, next <= AFTER_SIZES) else {
-            return fault(30, "BadLine");
+        let (size, numbers) = match (size, numbers) {
+            (Some(size), Some(numbers)) if next <= AFTER_SIZES => (size, numbers),
+            _ => return fault(30, "BadLine"),
         };
         if numbers.len() != counts {
             return fault(wrong_length.0, wrong_length.1);

@@ -95,7 +95,7 @@ pub struct Heap {
 }
 
 fn chunk_granules(n: u32) -> u32 {
-    n.div_ceil(16).max(1)
+    ((n + 15) / 16).max(1)
 }
 
 impl Heap {
@@ -319,8 +319,9 @@ impl Heap {
 
     /// What a granule is for an access that faults there.
     pub fn kind(&self, granule: u32) -> &'static str {
-        let Some(slot) = self.layout.slot_at(granule) else {
-            return "slack";
+        let slot = match self.layout.slot_at(granule) {
+            Some(slot) => slot,
+            None => return "slack",
         };
         let start = self.layout.start(slot);
         if granule == start {

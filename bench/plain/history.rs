@@ -27,10 +27,13 @@ impl History {
         };
         let mut next = 0;
         while text.len() > 0 {
-            let Some(size) = text.number() else {
-                text.expect(b"large")?;
-                read_counts(text, snapshots, |_| ())?;
-                return (text.len() == 0).then_some(history);
+            let size = match text.number() {
+                Some(size) => size,
+                None => {
+                    text.expect(b"large")?;
+                    read_counts(text, snapshots, |_| ())?;
+                    return (text.len() == 0).then_some(history);
+                }
             };
             if size < next || size > LARGEST as u64 {
                 return None;

@@ -76,5 +76,6 @@ impl HistorySpans {
 
 // the granules that a size needs with its header, rounded up to the step
 fn need_of(size: usize, step: u32) -> u32 {
-    (1 + size.div_ceil(16).max(1) as u32).next_multiple_of(step)
+    let granules = 1 + ((size + 15) / 16).max(1) as u32;
+    (granules + step - 1) / step * step
 }

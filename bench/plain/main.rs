@@ -86,11 +86,12 @@ fn answer(words: Vec<String>, out: &mut impl Write) -> Result<ExitCode, Fault> {
     if words.iter().any(|word| word == "--help" || word == "-h") {
         return written(out, HELP.as_bytes());
     }
-    let mut words = words.into_iter();
-    let Some(command) = words.next() else {
+    if words.is_empty() {
         eprint!("{HELP}");
         return Ok(ExitCode::from(2));
-    };
+    }
+    let mut words = words.into_iter();
+    let command = words.next().unwrap_or_default();
     match command.as_str() {
         "--version" => written(out, b"plain 0.1.0\n"),
         "events" => events(&Options::new(&["--seed"], words)?, out),
@@ -244,9 +245,7 @@ fn replay(options: &Options, out: &mut impl Write) -> Result<ExitCode, Fault> {
         1 => faults::in_class_line(Some(line)).expect("a class line that was refused is faulty"),
         _ => faults::in_trace(line, number, 1),
     })?;
-    let Some(classes) = classes else {
-        return Err(faults::in_scored(b""));
-    };
+    let classes = classes.ok_or_else(|| faults::in_scored(b""))?;
     write_report(&classes, &settings, &events, out)
 }
 

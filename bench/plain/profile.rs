@@ -36,10 +36,13 @@ impl Profile {
         let mut profile = Profile::new();
         let mut next = 0;
         while text.len() > 0 {
-            let Some(size) = text.number() else {
-                text.expect(b"large ")?;
-                profile.large = read_count(text)?;
-                return (text.len() == 0).then_some(profile);
+            let size = match text.number() {
+                Some(size) => size,
+                None => {
+                    text.expect(b"large ")?;
+                    profile.large = read_count(text)?;
+                    return (text.len() == 0).then_some(profile);
+                }
             };
             if size < next || size > LARGEST as u64 {
                 return None;

@@ -82,7 +82,7 @@ impl Replay {
     fn moved(&self, w: u16, granules: i64, steps: u8) -> u64 {
         let p = self.variables[w as usize];
         let tag = choose_tag(logical_tag(p), steps, 1);
-        let address = p.wrapping_add_signed(GRANULE as i64 * granules);
+        let address = p.wrapping_add((GRANULE as i64 * granules) as u64);
         address & !TAG_MASK | u64::from(tag) << 56
     }
 
@@ -108,7 +108,7 @@ impl Replay {
 
     // where in the region a load or a store is
     fn access(&self, v: u16, off: i32, len: u8) -> Result<Range<usize>, Fault> {
-        let address = self.variables[v as usize].wrapping_add_signed(off as i64);
+        let address = self.variables[v as usize].wrapping_add(off as i64 as u64);
         let from = self.heap.memory.check(address, len as u64)?;
         Ok(from..from + len as usize)
     }

@@ -47,9 +47,12 @@ pub fn each_line(
         }
         let mut text = &piece[..n];
         while found.is_ok() {
-            let Some(end) = text.iter().position(|byte| *byte == b'\n') else {
-                unfinished.extend_from_slice(text);
-                break;
+            let end = match text.iter().position(|byte| *byte == b'\n') {
+                Some(end) => end,
+                None => {
+                    unfinished.extend_from_slice(text);
+                    break;
+                }
             };
             lines += 1;
             if unfinished.is_empty() {
