@@ -59,7 +59,11 @@ class Trace:
             self._resize(first, second, third)
         elif first in self.pointer:
             self._event(f"free {self._variable(first)}")
-            self.slots.free(self.pointer[first][0])
+            self.slots.free(self._gone(first)[0])
+
+    def _gone(self, block):
+        """The pointer of a block that is freed or moved; it is kept where an error needs it."""
+        return self.pointer[block] if block in self.choice.last_wrong else self.pointer.pop(block)
 
     def _variable(self, block):
         return self.choice.variable[self.log.chain[block]]
@@ -109,13 +113,14 @@ class Trace:
         variable = self._variable(old)
         if variable in (NONE, SHARED) or old not in self.pointer:
             return self._request("malloc", new, size)
-        slot = self.pointer[old][0]
+        given = self._gone(old)
+        slot = given[0]
         if old in self.choice.stale:
             self._event(f"addg {self.choice.stale[old]} {variable} 0 0")
             self.holder[self.choice.stale[old]] = NONE
         if size <= LARGEST_SIZE and self.slots.class_of(size) == slot.class_number:
             slot.size = size
-            self.pointer[new] = self.pointer[old]
+            self.pointer[new] = given
             return self._event(f"realloc {variable} {size}")
         pointer = self._take(new, size)
         self._event(f"realloc {variable} {min(size, MOST_REQUEST)}", self._refusal(size, pointer))

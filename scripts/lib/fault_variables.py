@@ -34,7 +34,9 @@ class Choice:
         rank = self._ranks(log, slots)
         least_kept = self._fit_events(log, rank, events)
         needs = []
-        for chain, at in begin.items():
+        for chain, at in enumerate(begin):
+            if at < 0:
+                continue  # a block in a chain, not its first
             if rank[chain] > least_kept:
                 self.left_out[RANKS[rank[chain]]] += 1
             elif end[chain] > at:
@@ -45,13 +47,13 @@ class Choice:
         given = self._schedule(needs, variables)
         self.stale = {-key: variable for key, variable in given.items() if key < 0}
         self.variable = array("i", [NONE]) * len(log.chain)
-        for chain, at in begin.items():
-            if rank[chain] <= least_kept:
+        for chain, at in enumerate(begin):
+            if at >= 0 and rank[chain] <= least_kept:
                 self.variable[chain] = given.get(chain, NONE) if end[chain] > at else SHARED
 
     def _lives(self, log):
-        """Where each chain begins, and where it last needs a variable."""
-        begin, end = {}, {}
+        """Where each chain begins, -1 for a block that is not the first of one, and where it last needs a variable."""
+        begin, end = array("q", [-1]) * len(log.chain), array("q", [-1]) * len(log.chain)
         for at, (letter, first) in enumerate(zip(log.letters, log.first)):
             letter = chr(letter)
             if letter in "mc":
@@ -65,7 +67,7 @@ class Choice:
         self.last_wrong.pop(0, None)  # errors of no known block
         for block, at in self.last_wrong.items():
             chain = log.chain[block]
-            end[chain] = max(end.get(chain, at), at)
+            end[chain] = max(end[chain], at)
         return begin, end
 
     def _ranks(self, log, slots):
@@ -125,6 +127,7 @@ class Everything:
 
     def __init__(self, log):
         self.variable = array("i", [0]) * len(log.chain)
+        self.last_wrong = {error.block: 0 for error in log.errors}
         self.stale = {error.block: 0 for error in log.errors if error.state == "resized"}
         self.fixed = 0
         self.left_out = Counter()

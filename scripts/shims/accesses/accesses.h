@@ -21,11 +21,11 @@ typedef uintptr_t address;
 #define NOT_INLINE __attribute__((noinline))
 
 // A terabyte of addresses is set aside, with tables that have an entry for each granule of 16 bytes.
-#define ARENA ((address)1 << 44)
+#define ARENA ((address)1 << 44)  // a multiple of its size
 #define ARENA_SIZE ((address)1 << 40)
 #define OWNERS ((uint32_t *)(ARENA + 2 * ARENA_SIZE))
-#define SHADOW ((unsigned char *)(ARENA + 3 * ARENA_SIZE))
-#define BLOCKS ((struct block *)(ARENA + 4 * ARENA_SIZE))
+#define KNOWN(store) ((unsigned char *)(ARENA + (3 + (store)) * ARENA_SIZE))  // see is_known
+#define BLOCKS ((struct block *)(ARENA + 5 * ARENA_SIZE))
 #define MOST_BLOCKS ((address)1 << 28)
 enum { GREATEST = 16368 };  // the largest request that the heap of the replay serves
 
@@ -35,10 +35,6 @@ struct block {
   size_t size;
   uint32_t state, chunk;
 };
-
-// An entry of SHADOW: how many of the granule's first bytes are a live block's, and whether the log knows a load and a store of them.
-#define BYTES 31
-#define KNOWN(store) (32 << (store))
 
 // where the program calls: the address that the call returns to, and the frame of the function that calls
 struct caller { address pc, *frame; };
@@ -57,7 +53,7 @@ static inline void leave(void) {
   busy--;
 }
 
-static inline int is_in_arena(address a) { return a - ARENA < ARENA_SIZE; }
+static inline int is_in_arena(address a) { return a / ARENA_SIZE == ARENA / ARENA_SIZE; }
 static inline address round_up(address a, address to) { return (a + to - 1) & -to; }
 
 // blocks.c
@@ -69,11 +65,11 @@ void *request(char kind, size_t size, size_t alignment, struct caller);
 // hooks.c
 void touch_slowly(address, size_t, int store, struct caller);
 
-// An access inside one granule of a live block, which the log knows already, needs no more, and none outside the arena does.
+// Most accesses are outside the arena, or inside a granule of a live block of which the log has such an access already: the table for loads
+// or stores has the number of bytes of the granule that are the block's then, else 0.
 static inline __attribute__((always_inline)) int is_known(address a, size_t size, int store) {
   if (!is_in_arena(a)) return 1;
-  unsigned entry = SHADOW[(a - ARENA) >> 4];
-  return entry & KNOWN(store) && (a & 15) + size <= (entry & BYTES);
+  return a % 16 + size <= *(KNOWN(store) - ARENA / 16 + a / 16);
 }
 
 // libc.c: gcc and clang would make a loop over bytes a call of memcpy and memset, which are the program's

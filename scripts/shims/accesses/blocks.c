@@ -40,7 +40,7 @@ void begin(void) {
   if (live_in_chunk) return;
   reserve(ARENA, ARENA_SIZE);
   reserve((address)OWNERS, ARENA_SIZE / 16 * sizeof *OWNERS);
-  reserve((address)SHADOW, ARENA_SIZE / 16);
+  for (int store = 0; store < 2; store++) reserve((address)KNOWN(store), ARENA_SIZE / 16);
   reserve((address)BLOCKS, MOST_BLOCKS * sizeof *BLOCKS);
   empties = reserve(0, ARENA_SIZE / CHUNK * sizeof *empties);
   live_in_chunk = reserve(0, ARENA_SIZE / CHUNK * sizeof *live_in_chunk);
@@ -65,7 +65,7 @@ static void return_memory(void) {
     struct empty old = empties[oldest_empty++];
     address at = old.first * CHUNK, size = old.count * CHUNK;
     madvise((void *)(ARENA + at), size, MADV_DONTNEED);
-    madvise(SHADOW + at / 16, size / 16, MADV_DONTNEED);
+    for (int store = 0; store < 2; store++) madvise(KNOWN(store) + at / 16, size / 16, MADV_DONTNEED);
     madvise(OWNERS + at / 16, size / 16 * sizeof *OWNERS, MADV_DONTNEED);
   }
   errno = error;
@@ -91,15 +91,17 @@ static struct block *new_block(size_t size, size_t alignment) {
   *block = (struct block){start, size, LIVE, chunk_of(next)};
   live_in_chunk[block->chunk]++;
   for (address g = (next - ARENA) / 16; g < (end - ARENA) / 16; g++) OWNERS[g] = last_block;
-  unsigned char *entry = SHADOW + (start - ARENA) / 16, known = size <= GREATEST && is_logging() ? 0 : KNOWN(0) | KNOWN(1);
-  fill_bytes(entry, 16 | known, size / 16);
-  if (size % 16) entry[size / 16] = size % 16 | known;
+  for (int store = 0; store < 2 && (size > GREATEST || !is_logging()); store++) {  // no access is logged
+    unsigned char *known = KNOWN(store) + (start - ARENA) / 16;
+    fill_bytes(known, 16, size / 16);
+    if (size % 16) known[size / 16] = size % 16;
+  }
   next = is_large ? round_up(end, CHUNK) : end;
   return block;
 }
 
 static void end_block(struct block *block) {
-  fill_bytes(SHADOW + (block->start - ARENA) / 16, 0, round_up(block->size, 16) / 16);
+  for (int store = 0; store < 2; store++) fill_bytes(KNOWN(store) + (block->start - ARENA) / 16, 0, round_up(block->size, 16) / 16);
   block->state = FREED;
   freed_bytes += block->size + gap_after(block->size);
   if (!--live_in_chunk[block->chunk] && block->chunk != chunk_of(next))

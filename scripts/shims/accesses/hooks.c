@@ -36,11 +36,11 @@ static void wrong(struct block *block, long offset, size_t size, int store, stru
 
 static void right(struct block *block, size_t offset, size_t size, int store) {
   static long logged;
-  unsigned char *entry = SHADOW + (block->start - ARENA) / 16;
+  unsigned char *known = KNOWN(store) + (block->start - ARENA) / 16;
   for (size_t from = offset, to; from < offset + size; from = to) {
     to = (from / 16 + 1) * 16 < offset + size ? (from / 16 + 1) * 16 : offset + size;
-    if (entry[from / 16] & KNOWN(store)) continue;
-    entry[from / 16] |= KNOWN(store);
+    if (known[from / 16]) continue;
+    known[from / 16] = block->size - from / 16 * 16 < 16 ? block->size % 16 : 16;
     if (logged >= MOST_RIGHT || !is_logging()) continue;
     logged++;
     put_record(store ? 's' : 'l', 3, (long)(block - BLOCKS), (long)from, (long)(to - from));
