@@ -15,7 +15,8 @@ fields-same table table' limit limit' step step' footprint footprint' rows rows'
 pub one-fit : OneFit
 one-fit snapshots step limit a b of_a of_b =
     let table = one_fitted snapshots step limit a.table b.table of_a.fitted of_b.fitted in
-    fields-same a.table b.table a.limit b.limit a.step b.step a.footprint b.footprint a.rows b.rows table (of_a.for_limit ∙ sym of_b.for_limit)
+    fields-same a.table b.table a.limit b.limit a.step b.step a.footprint b.footprint a.rows b.rows table
+    (of_a.for_limit ∙ sym of_b.for_limit)
     (of_a.for_step ∙ sym of_b.for_step)
     (of_a.takes ∙ (ap (footprint_of snapshots) table ∙ sym of_b.takes))
     (one_least_rows _ _ limit a.rows b.rows of_a.ends of_b.ends of_a.shape of_b.shape of_a.least.least of_b.least.least)

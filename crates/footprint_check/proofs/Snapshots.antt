@@ -42,7 +42,8 @@ take-all [] (suc t) e = refl
 take-all (x ∷ xs) zero e = absurd (omega arith)
 take-all (x ∷ xs) (suc t) e = ap (λ rest. x ∷ rest) (take-all xs t (omega arith))
 
-module _ (snapshots : List (List ℕ)) (counts : List ℕ) (step : ℕ) (sums : List (List ℕ)) (holds : HoldsHistory snapshots counts step sums) where
+module _ (snapshots : List (List ℕ)) (counts : List ℕ) (step : ℕ) (sums : List (List ℕ))
+    (holds : HoldsHistory snapshots counts step sums) where
   pub small-spans : (i j : ℕ) → i < j → j ≤ places counts step → span_footprint snapshots step i j ≤ 2 ^ 60
   small-spans i j lt le =
       omega (

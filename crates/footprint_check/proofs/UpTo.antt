@@ -65,7 +65,8 @@ pub record AreSumsBefore (sum_up_to : ℕ → ℕ) (counts : List ℕ) (step pla
   pub size : length sums ≡ place
   pub sums_are : (i : ℕ) → i < place → slice_index sums i ≡ sum_up_to (need_at counts step i)
 
-pub sums-more : (sum_up_to : ℕ → ℕ) (counts : List ℕ) (step place total : ℕ) (sums : List ℕ) → AreSumsBefore sum_up_to counts step place sums
+pub sums-more : (sum_up_to : ℕ → ℕ) (counts : List ℕ) (step place total : ℕ) (sums : List ℕ)
+    → AreSumsBefore sum_up_to counts step place sums
     → total ≡ sum_up_to (need_at counts step place) → AreSumsBefore sum_up_to counts step (place + 1) (sums ++ total ∷ [])
 sums-more sum_up_to counts step place total sums before is = record {
   size = omega (arith, length-append {A = ℕ} sums (total ∷ []), before.size);
@@ -73,7 +74,8 @@ sums-more sum_up_to counts step place total sums before is = record {
     | inl inside ↦ get_or_append_left sums (total ∷ []) 0 i (omega (arith, before.size)) ∙ before.sums_are i inside
     | inr not ↦ (let here : i ≡ length sums = omega (arith, before.size) in
         let here' : place ≡ i = omega arith in
-        ap (slice_index (sums ++ total ∷ [])) here ∙ get_or-append_seam sums total [] 0 ∙ is ∙ ap (λ p. sum_up_to (need_at counts step p)) here')
+        ap (slice_index (sums ++ total ∷ [])) here ∙ get_or-append_seam sums total [] 0 ∙ is
+        ∙ ap (λ p. sum_up_to (need_at counts step p)) here')
   ];
 }
 

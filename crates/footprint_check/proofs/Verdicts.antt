@@ -85,7 +85,8 @@ module _ (snapshots : List (List ℕ)) (fit : Fit) (counts : List ℕ) (step : �
       pub edge-broken : not tests.edge ≡ true → IsFitVerdict snapshots fit (Refused Edge)
       edge-broken broken = refused-edge meets table shape last-met drop-met (λ met. fails tests.edge broken (edge.1 met))
 
-      module _ (edge_holds : not tests.edge ≡ false) (k number : ℕ) (k_is : k ≡ max fit.limit 1) (number_is : number ≡ number_at fit.rows k 0) where
+      module _ (edge_holds : not tests.edge ≡ false) (k number : ℕ) (k_is : k ≡ max fit.limit 1)
+          (number_is : number ≡ number_at fit.rows k 0) where
         edge-met : meets Edge
         edge-met = edge.0 (holds tests.edge edge_holds)
 

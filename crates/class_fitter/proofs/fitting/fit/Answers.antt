@@ -16,28 +16,46 @@ fill_places-requires-clause-places c =
 
 pub tuned_table-table-requires-clause-later : goal.tuned_table-table-requires-clause-later
 tuned_table-table-requires-clause-later c =
-    let filled : IsFilled (span_footprint c.args.history.now.snapshots c.args.step) (places (peaks c.args.history.now.snapshots) c.args.step)
-    c.args.limit (lists_of c.in_ok-filled.filled.rows.items) (lists_of c.in_ok-filled.filled.ends.items) =
-    rw (c.in_ok-costs.ensures.cost, c.in_ok-costs.ensures.places, c.snapshots.ensures.snapshots, c.in_ok-spans.ensures.spans, c.peaks.ensures)
-    at c.in_ok-filled.ensures.filled in
+    let snapshots = c.args.history.now.snapshots in
+    let filled : IsFilled (span_footprint snapshots c.args.step) (places (peaks snapshots) c.args.step) c.args.limit
+    (lists_of c.in_ok-filled.filled.rows.items) (lists_of c.in_ok-filled.filled.ends.items) =
+    rw (
+      c.in_ok-costs.ensures.cost,
+      c.in_ok-costs.ensures.places,
+      c.snapshots.ensures.snapshots,
+      c.in_ok-spans.ensures.spans,
+      c.peaks.ensures,
+    ) at c.in_ok-filled.ensures.filled in
     rw (c.deref.ensures.value, c.in_ok-spans.ensures.spans, c.peaks.ensures) (ends_are_later _ _ c.args.limit _ _ filled.least)
 
 pub tuned_table-table-requires-clause-legal : goal.tuned_table-table-requires-clause-legal
 tuned_table-table-requires-clause-legal c =
-    let filled : IsFilled (span_footprint c.args.history.now.snapshots c.args.step) (places (peaks c.args.history.now.snapshots) c.args.step)
-    c.args.limit (lists_of c.in_ok-filled.filled.rows.items) (lists_of c.in_ok-filled.filled.ends.items) =
-    rw (c.in_ok-costs.ensures.cost, c.in_ok-costs.ensures.places, c.snapshots.ensures.snapshots, c.in_ok-spans.ensures.spans, c.peaks.ensures)
-    at c.in_ok-filled.ensures.filled in
+    let snapshots = c.args.history.now.snapshots in
+    let filled : IsFilled (span_footprint snapshots c.args.step) (places (peaks snapshots) c.args.step) c.args.limit
+    (lists_of c.in_ok-filled.filled.rows.items) (lists_of c.in_ok-filled.filled.ends.items) =
+    rw (
+      c.in_ok-costs.ensures.cost,
+      c.in_ok-costs.ensures.places,
+      c.snapshots.ensures.snapshots,
+      c.in_ok-spans.ensures.spans,
+      c.peaks.ensures,
+    ) at c.in_ok-filled.ensures.filled in
     rw (c.deref.ensures.value, c.in_ok-spans.ensures.spans, c.peaks.ensures)
     (fit-legal c.args.history.now.snapshots c.snapshots.ensures.history.snapshots c.args.step c.requires.step c.args.limit c.requires.some
     c.requires.few (lists_of c.in_ok-filled.filled.rows.items) (lists_of c.in_ok-filled.filled.ends.items) filled)
 
 pub returns-clause-fitted : goal.returns-clause-fitted
 returns-clause-fitted c =
-    let filled : IsFilled (span_footprint c.args.history.now.snapshots c.args.step) (places (peaks c.args.history.now.snapshots) c.args.step)
-    c.args.limit (lists_of c.in_ok-filled.filled.rows.items) (lists_of c.in_ok-filled.filled.ends.items) =
-    rw (c.in_ok-costs.ensures.cost, c.in_ok-costs.ensures.places, c.snapshots.ensures.snapshots, c.in_ok-spans.ensures.spans, c.peaks.ensures)
-    at c.in_ok-filled.ensures.filled in
+    let snapshots = c.args.history.now.snapshots in
+    let filled : IsFilled (span_footprint snapshots c.args.step) (places (peaks snapshots) c.args.step) c.args.limit
+    (lists_of c.in_ok-filled.filled.rows.items) (lists_of c.in_ok-filled.filled.ends.items) =
+    rw (
+      c.in_ok-costs.ensures.cost,
+      c.in_ok-costs.ensures.places,
+      c.snapshots.ensures.snapshots,
+      c.in_ok-spans.ensures.spans,
+      c.peaks.ensures,
+    ) at c.in_ok-filled.ensures.filled in
     rw c.new-rows.ensures
     (fit-made c.args.history.now.snapshots c.snapshots.ensures.history.snapshots c.args.step c.requires.step c.args.limit c.requires.some
     c.requires.few (lists_of c.in_ok-filled.filled.rows.items) (lists_of c.in_ok-filled.filled.ends.items) filled

@@ -50,7 +50,8 @@ loop-i-preserved g c =
     let counted = c.loop-i.invariant.counted in
     let same_places = ap g.C.SpanCosts.place_count counted ∙ g.met.C.SpanCosts.keeps_places _ _ in
     let same_cost : g.C.SpanCosts.cost c.loop-i.costs ≡ cost = ap g.C.SpanCosts.cost counted ∙ g.met.C.SpanCosts.keeps_cost _ _ in
-    let more : span_count d - span_count (d - i) + (g.C.SpanCosts.place_count c.loop-i.costs - i) ≡ span_count d - span_count (d - (i + 1)) =
+    let more : span_count d - span_count (d - i) + (g.C.SpanCosts.place_count c.loop-i.costs - i)
+    ≡ span_count d - span_count (d - (i + 1)) =
     omega (arith, same_places, count-first d i (omega arith)) in
     let from = with_items_is c.loop-i.from c.write_from.new.costs (omega (arith, c.write_from.ensures.size)) in
     let written : (j : ℕ) → i < j → j ≤ d → slice_index c.write_from.new.costs j ≡ cost i j =

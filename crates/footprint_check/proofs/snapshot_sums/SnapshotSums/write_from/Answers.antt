@@ -35,8 +35,8 @@ raise-requires-clause-length c =
 
 pub raise-requires-clause-ascend : goal.raise-requires-clause-ascend
 raise-requires-clause-ascend c = λ j after le.
-    ascend c.args.self.now c.loop-t.t c.index.result.now c.deref.result.now (omega arith) c.index.ensures c.deref.ensures.value c.args.i j after
-    le
+    ascend c.args.self.now c.loop-t.t c.index.result.now c.deref.result.now (omega arith) c.index.ensures c.deref.ensures.value c.args.i j
+    after le
 
 pub raise-requires-clause-within : goal.raise-requires-clause-within
 raise-requires-clause-within c =
@@ -71,8 +71,8 @@ overflow_mul-costs-in-loop-j c =
     let factor : c.from.result * c.from-in-loop-j.result ≡ 16 * need_at s.spans.now.counts s.spans.now.step c.loop-j.j =
     ap (λ m. m * c.from-in-loop-j.result) c.from.ensures ∙ ap (λ n. 16 * n) (c.from-in-loop-j.ensures ∙ c.need.ensures.need) in
     let fits = span-fits (lists_of s.snapshots.now) s.spans.now.counts s.spans.now.step (lists_of s.sums.items) s.holds c.args.i c.loop-j.j
-    (slice_index c.loop-j.costs c.loop-j.j * (c.from.result * c.from-in-loop-j.result)) c.loop-j.costs c.loop-j.invariant.scaled (omega arith)
-    (omega arith) (ap (λ n. slice_index c.loop-j.costs c.loop-j.j * n) factor) in
+    (slice_index c.loop-j.costs c.loop-j.j * (c.from.result * c.from-in-loop-j.result)) c.loop-j.costs c.loop-j.invariant.scaled
+    (omega arith) (omega arith) (ap (λ n. slice_index c.loop-j.costs c.loop-j.j * n) factor) in
     omega (arith, fits)
 
 pub loop-j-preserved : goal.loop-j-preserved
@@ -81,9 +81,9 @@ loop-j-preserved c =
     let factor : c.from.result * c.from-in-loop-j.result ≡ 16 * need_at s.spans.now.counts s.spans.now.step c.loop-j.j =
     ap (λ m. m * c.from-in-loop-j.result) c.from.ensures ∙ ap (λ n. 16 * n) (c.from-in-loop-j.ensures ∙ c.need.ensures.need) in
     record {
-      scaled = scaled-more (lists_of s.snapshots.now) s.spans.now.counts s.spans.now.step (lists_of s.sums.items) s.holds c.args.i c.loop-j.j
-          (slice_index c.loop-j.costs c.loop-j.j * (c.from.result * c.from-in-loop-j.result)) c.loop-j.costs c.loop-j.invariant.scaled
-          (omega arith) (omega arith) (ap (λ n. slice_index c.loop-j.costs c.loop-j.j * n) factor);
+      scaled = scaled-more (lists_of s.snapshots.now) s.spans.now.counts s.spans.now.step (lists_of s.sums.items) s.holds c.args.i
+          c.loop-j.j (slice_index c.loop-j.costs c.loop-j.j * (c.from.result * c.from-in-loop-j.result)) c.loop-j.costs
+          c.loop-j.invariant.scaled (omega arith) (omega arith) (ap (λ n. slice_index c.loop-j.costs c.loop-j.j * n) factor);
     }
 
 pub returns-clause-costs : goal.returns-clause-costs
