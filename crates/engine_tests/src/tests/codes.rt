@@ -1,6 +1,7 @@
 //! The code and the name of each error, as a user of the libraries sees it.
 use super::support::same;
 use class_table::TableError;
+use history_count::{HistoryError, HistoryFault};
 use potential_check::{FitError, SheetError};
 use profile_count::{CountFull, ProfileError, ProfileFault};
 use std::fmt::Display;
@@ -91,6 +92,24 @@ fn faults_of_texts(rt: HostRuntime) -> Result<(), Fail> {
         ],
     )?;
     shown(&rt, &[(CountFull, "33 CountFull")])?;
+    shown(
+        &rt,
+        &[
+            (HistoryError::OutOfMemory, "1 OutOfMemory"),
+            (
+                HistoryError::Line(1, HistoryFault::BadSnapshots),
+                "34 BadSnapshots line 1",
+            ),
+            (
+                HistoryError::Line(2, HistoryFault::WrongLength),
+                "35 WrongLength line 2",
+            ),
+            (
+                HistoryError::Line(30, HistoryFault::Counted(ProfileFault::BadLine)),
+                "30 BadLine line 30",
+            ),
+        ],
+    )?;
     shown(
         &rt,
         &[

@@ -4,6 +4,7 @@ mod ample;
 mod engines;
 mod fits;
 mod heaps;
+mod histories;
 mod profiles;
 mod sheets;
 mod support;
