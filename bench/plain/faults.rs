@@ -73,7 +73,7 @@ pub fn in_checked_fit(text: &[u8]) -> Fault {
     let lines = lines_of(text);
     match sheet_lines(&lines, "footprint") {
         Ok(count) => in_snapshots(&lines[count..], count),
-        Err(line) => Fault::InLine(50, "BadFit", line),
+        Err(line) => Fault::InLine(36, "BadFit", line),
     }
 }
 

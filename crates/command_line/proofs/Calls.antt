@@ -5,8 +5,8 @@ use Rattle.clap.specs.Words.{Row, Text}
 use Rattle.command_line.specs.Calls.{HasConfig, IsCall, IsValid, Names}
 use Rattle.command_line.specs.declared.commands.replay.Replay.{Replay as ReplayOptions}
 use Rattle.command_line.specs.declared.call.Call.{Call}
-use Rattle.command_line.specs.declared.call.Call.TheVariants.{Score, Tune, Check, Profile, Replay, Run}
-use Rattle.command_line.specs.Spellings.{replay_name, run_name, tune_name}
+use Rattle.command_line.specs.declared.call.Call.TheVariants.{Score, Tune, Check, Footprint, Fit, CheckFit, Profile, Replay, Run}
+use Rattle.command_line.specs.Spellings.{fit_name, replay_name, run_name, tune_name}
 use Rattle.tagged_heap.specs.Config.{IsConfig}
 use Rattle.tagged_heap.specs.declared.heap.Config.{Config}
 
@@ -22,6 +22,9 @@ call_is_valid None call is = absurd is
 call_is_valid (Some command) Score is = tt
 call_is_valid (Some command) (Tune o) is = record { some = is.1.1; few = is.1.2; is_step = is.2.1 }
 call_is_valid (Some command) Check is = tt
+call_is_valid (Some command) Footprint is = tt
+call_is_valid (Some command) (Fit o) is = record { some = is.1.1; few = is.1.2; is_step = is.2.1 }
+call_is_valid (Some command) CheckFit is = tt
 call_is_valid (Some command) Profile is = tt
 call_is_valid (Some command) (Replay o) is = valid_config command.1 o.config is.1
 call_is_valid (Some command) (Run o) is =
@@ -33,6 +36,9 @@ pub no_replay : (options : List Row) → ((o : ReplayOptions) → Names replay_n
 no_replay options none Score named = cc
 no_replay options none (Tune o) named = let bad : replay_name ≡ tune_name = named.0 in cc
 no_replay options none Check named = cc
+no_replay options none Footprint named = cc
+no_replay options none (Fit o) named = let bad : replay_name ≡ fit_name = named.0 in cc
+no_replay options none CheckFit named = cc
 no_replay options none Profile named = cc
 no_replay options none (Replay o) named = none o named
 no_replay options none (Run o) named = let bad : replay_name ≡ run_name = named.0 in cc

@@ -8,7 +8,10 @@ use Rattle.clap.specs.declared.builder.command.Command.TheViews.{out-Command as 
 use Rattle.clap.specs.declared.builder.value_parser.ValueParser.TheVariants.{Signed}
 use Rattle.command_line.specs.Bounds.{granules_bounds, limit_bounds, quarantine_bounds, seed_bounds, step_bounds}
 use Rattle.command_line.specs.Spellings.{
+  check_fit_name,
   check_name,
+  fit_name,
+  footprint_name,
   granules_name,
   limit_name,
   profile_name,
@@ -55,6 +58,15 @@ tune_words = with_rule (with_rule (new_app tune_name) limit_rule) step_rule
 abbrev pub check_words : App
 check_words = new_app check_name
 
+abbrev pub footprint_words : App
+footprint_words = new_app footprint_name
+
+abbrev pub fit_words : App
+fit_words = with_rule (with_rule (new_app fit_name) limit_rule) step_rule
+
+abbrev pub check_fit_words : App
+check_fit_words = new_app check_fit_name
+
 abbrev pub profile_words : App
 profile_words = new_app profile_name
 
@@ -74,15 +86,18 @@ top = on_top (λ s. record s { has_version = true; subcommand_required = true; a
 abbrev pub with_command : App → App → App
 with_command a c = with_subcommand a c.top
 
--- The commands that read and write tables, and those that read a trace.
+-- The commands that read a profile, those that read a history, and those that read a trace.
 abbrev pub with_table_commands : App → App
 with_table_commands a = with_command (with_command (with_command a score_words) tune_words) check_words
+
+abbrev pub with_history_commands : App → App
+with_history_commands a = with_command (with_command (with_command a footprint_words) fit_words) check_fit_words
 
 abbrev pub with_trace_commands : App → App
 with_trace_commands a = with_command (with_command (with_command a profile_words) replay_words) run_words
 
 abbrev pub program : App
-program = with_trace_commands (with_table_commands top)
+program = with_trace_commands (with_history_commands (with_table_commands top))
 
 -- An option, and a command without subcommands, with these words.
 abbrev pub IsOption : Arg → Rule → Type 0

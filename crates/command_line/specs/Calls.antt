@@ -4,6 +4,9 @@ use Rattle.std.specs.Str.Parse.{IsNumeral, without_leading_plus, digits_value}
 use Rattle.clap.specs.Words.{Row, Text, one_of}
 use Rattle.class_table.specs.Steps.{IsStep}
 use Rattle.mte_engine.specs.Check.{CheckAnswers}
+use Rattle.mte_engine.specs.CheckFit.{CheckFitAnswers}
+use Rattle.mte_engine.specs.Fit.{FitAnswers}
+use Rattle.mte_engine.specs.Footprint.{FootprintAnswers}
 use Rattle.mte_engine.specs.Outcome.{Answer}
 use Rattle.mte_engine.specs.Score.{ScoreAnswers}
 use Rattle.mte_engine.specs.Profile.{ProfileAnswers}
@@ -13,7 +16,10 @@ use Rattle.mte_engine.specs.Tune.{AreTuneOptions, TuneAnswers}
 use Rattle.mte_engine.specs.declared.fault.InputFault.{InputFault}
 use Rattle.command_line.specs.Bounds.{granules_bounds, limit_bounds, quarantine_bounds, seed_bounds, step_bounds}
 use Rattle.command_line.specs.Spellings.{
+  check_fit_name,
   check_name,
+  fit_name,
+  footprint_name,
   granules_name,
   limit_name,
   profile_name,
@@ -26,7 +32,7 @@ use Rattle.command_line.specs.Spellings.{
   tune_name,
 }
 use Rattle.command_line.specs.declared.call.Call.{Call}
-use Rattle.command_line.specs.declared.call.Call.TheVariants.{Score, Tune, Check, Profile, Replay, Run}
+use Rattle.command_line.specs.declared.call.Call.TheVariants.{Score, Tune, Check, Footprint, Fit, CheckFit, Profile, Replay, Run}
 use Rattle.tagged_heap.specs.Config.{IsConfig}
 use Rattle.tagged_heap.specs.declared.heap.Config.{Config}
 
@@ -70,6 +76,9 @@ abbrev pub Names : Text → List Row → Call → Type 0
 Names name options Score = name ≡ score_name
 Names name options (Tune o) = (name ≡ tune_name) × HasLimit options o.limit × HasStep options o.step
 Names name options Check = name ≡ check_name
+Names name options Footprint = name ≡ footprint_name
+Names name options (Fit o) = (name ≡ fit_name) × HasLimit options o.limit × HasStep options o.step
+Names name options CheckFit = name ≡ check_fit_name
 Names name options Profile = name ≡ profile_name
 Names name options (Replay o) = (name ≡ replay_name) × HasConfig options o.config
 Names name options (Run o) = (name ≡ run_name) × HasLimit options o.limit × HasStep options o.step × HasConfig options o.config
@@ -87,6 +96,9 @@ abbrev pub IsValid : Call → Type 0
 IsValid Score = ⊤
 IsValid (Tune o) = AreTuneOptions o.limit o.step
 IsValid Check = ⊤
+IsValid Footprint = ⊤
+IsValid (Fit o) = AreTuneOptions o.limit o.step
+IsValid CheckFit = ⊤
 IsValid Profile = ⊤
 IsValid (Replay o) = IsConfig o.config
 IsValid (Run o) = AreTuneOptions o.limit o.step × IsConfig o.config
@@ -96,6 +108,9 @@ abbrev pub answers_of : Call → List ℕ → Result Answer InputFault → Type 
 answers_of Score = ScoreAnswers
 answers_of (Tune o) = TuneAnswers o.limit o.step
 answers_of Check = CheckAnswers
+answers_of Footprint = FootprintAnswers
+answers_of (Fit o) = FitAnswers o.limit o.step
+answers_of CheckFit = CheckFitAnswers
 answers_of Profile = ProfileAnswers
 answers_of (Replay o) = ReplayAnswers o.config
 answers_of (Run o) = RunAnswers o.limit o.step o.config

@@ -11,6 +11,15 @@ tune_name = codes "tune"
 abbrev pub check_name : List ℕ
 check_name = codes "check"
 
+abbrev pub footprint_name : List ℕ
+footprint_name = codes "footprint"
+
+abbrev pub fit_name : List ℕ
+fit_name = codes "fit"
+
+abbrev pub check_fit_name : List ℕ
+check_fit_name = codes "check-fit"
+
 abbrev pub profile_name : List ℕ
 profile_name = codes "profile"
 

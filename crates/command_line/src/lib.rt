@@ -11,6 +11,7 @@ mod refusal;
 mod words;
 
 pub use call::Call;
+pub use commands::fit::Fit;
 pub use commands::replay::Replay;
 pub use commands::run::Run;
 pub use commands::tune::Tune;

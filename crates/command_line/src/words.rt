@@ -3,19 +3,19 @@ ghost use Rattle.std.specs.Prelude.{◌≡◌, IfOk, IfErr, MatchResult, map, st
 ghost use Rattle.clap.specs.Words.{app_of};
 ghost use Rattle.mte_engine.specs.Outcome.{IsReady, Runs};
 ghost use Rattle.command_line.specs.Calls.{answers_of};
-ghost use Rattle.command_line.specs.AcceptedWords.{program, top, with_table_commands, with_trace_commands};
+ghost use Rattle.command_line.specs.AcceptedWords.{program, top, with_history_commands, with_table_commands, with_trace_commands};
 ghost use Rattle.command_line.specs.Words.{AreRefused, Mean};
 
 use crate::call::{Call, call_of};
-use crate::commands::{check, profile, replay, run, score, tune};
+use crate::commands::{check, check_fit, fit, footprint, profile, replay, run, score, tune};
 use crate::refusal::Refusal;
 use clap::Command;
 use mte_engine::{ByteSink, ByteSource, Status, ToolFault};
 use std::alloc::{AllocError, Global};
 
 const ABOUT: &str = "\
-Find the size-class table that wastes least on what a program really allocates, prove that it does,
-and run the program's allocations on a heap with memory tags.";
+Find the size-class table that wastes least, or takes least, for what a program really allocates,
+prove that it does, and run the program's allocations on a heap with memory tags.";
 
 const AFTER: &str = "\
 All input is read from standard input; no file is opened. `mte_tool COMMAND --help` explains a
@@ -38,6 +38,7 @@ pub fn command<'a>(alloc: Global) -> Result<Command<'a>, AllocError>
 {
     let command = top_words(alloc);
     let command = add_table_commands(alloc, command)?;
+    let command = add_history_commands(alloc, command)?;
     add_trace_commands(alloc, command)
 }
 
@@ -53,7 +54,7 @@ fn top_words<'a>(alloc: Global) -> Command<'a>
         .arg_required_else_help(true)
 }
 
-// adds the commands that read and write tables
+// adds the commands that read a profile
 fn add_table_commands<'a>(alloc: Global, command: Command<'a>) -> Result<Command<'a>, AllocError>
     ensures { IfOk result (λ added. app_of added ≡ with_table_commands (app_of command.entry)) }
 {
@@ -61,6 +62,16 @@ fn add_table_commands<'a>(alloc: Global, command: Command<'a>) -> Result<Command
         .subcommand(score::words(alloc))?
         .subcommand(tune::words(alloc)?)?
         .subcommand(check::words(alloc))
+}
+
+// adds the commands that read a history
+fn add_history_commands<'a>(alloc: Global, command: Command<'a>) -> Result<Command<'a>, AllocError>
+    ensures { IfOk result (λ added. app_of added ≡ with_history_commands (app_of command.entry)) }
+{
+    command
+        .subcommand(footprint::words(alloc))?
+        .subcommand(fit::words(alloc)?)?
+        .subcommand(check_fit::words(alloc))
 }
 
 // adds the commands that read a trace

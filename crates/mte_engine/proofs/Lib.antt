@@ -1,12 +1,15 @@
+pub mod OneFitAnswer
 pub mod Outcomes
 pub mod Counting
 pub mod FaultLines
+pub mod FitAndHistory
 pub mod Headline
 pub mod SheetLinesSettled
 pub mod LineAndTrace
 pub mod Transfers
 pub mod Reporting
 pub mod SheetAndProfile
+pub mod TableAndHistory
 pub mod TableAndProfile
 pub mod TracePieces
 pub mod RunAnswers

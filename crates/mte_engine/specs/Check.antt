@@ -9,6 +9,7 @@ use Rattle.tuner_theory.specs.Best.{IsBest}
 use Rattle.tuner_theory.specs.Sheets.{IsVerdict, Sheet}
 use Rattle.tuner_theory.specs.RefusalText.{shown_refusal}
 use Rattle.tuner_theory.specs.Profiles.{Profile as Counted}
+use Rattle.tuner_theory.specs.declared.verdict.Refusal.{Refusal}
 use Rattle.tuner_theory.specs.declared.verdict.Verdict.{Verdict}
 use Rattle.tuner_theory.specs.declared.verdict.Verdict.TheVariants.{Optimal, Refused}
 use Rattle.mte_engine.specs.Outcome.{Answer}
@@ -16,10 +17,14 @@ use Rattle.mte_engine.specs.Parts.{profile_part, sheet_part}
 use Rattle.mte_engine.specs.declared.engine.Status.TheVariants.{Done, No}
 use Rattle.mte_engine.specs.declared.fault.InputFault.{InputFault}
 
--- `optimal`, or `refused CODE NAME` with the status of a no.
+-- `optimal`, or `refused` and what is shown of the refusal, with the status of a no.
+abbrev pub verdict_text_by : (Refusal → List ℕ) → Verdict → Answer
+verdict_text_by shown Optimal = record { text = ended (codes "optimal"); status = Done }
+verdict_text_by shown (Refused refusal) = record { text = ended (codes "refused " ++ shown refusal); status = No }
+
+-- `optimal`, or `refused CODE NAME`.
 abbrev pub verdict_text : Verdict → Answer
-verdict_text Optimal = record { text = ended (codes "optimal"); status = Done }
-verdict_text (Refused refusal) = record { text = ended (codes "refused " ++ shown_refusal refusal); status = No }
+verdict_text verdict = verdict_text_by shown_refusal verdict
 
 -- The sheet at the start of these lines, and the profile after it.
 unfoldable pub sheet_and_profile : List (List ℕ) → Result (Sheet × Counted) InputFault

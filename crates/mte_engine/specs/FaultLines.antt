@@ -9,14 +9,16 @@ use Rattle.profile_count.specs.ProfileText.{SpellsProfile}
 use Rattle.tuner_theory.specs.Sheets.{Sheet}
 use Rattle.tuner_theory.specs.Profiles.{Profile as Counted}
 use Rattle.mte_engine.specs.declared.fault.InputFault.{InputFault}
-use Rattle.mte_engine.specs.declared.fault.InputFault.TheVariants.{TooLong, Table, BadSheet, Profile, Trace}
+use Rattle.mte_engine.specs.declared.fault.InputFault.TheVariants.{TooLong, Table, BadSheet, BadFit, Profile, History, Trace}
 
 -- The line of a fault; none where the input is too long, which no line is to blame for.
 abbrev pub line_of_fault : InputFault → Option ℕ
 line_of_fault TooLong = None
 line_of_fault (Table fault) = Some 1
 line_of_fault (BadSheet line) = Some line
+line_of_fault (BadFit line) = Some line
 line_of_fault (Profile line fault) = Some line
+line_of_fault (History line fault) = Some line
 line_of_fault (Trace line fault) = Some line
 
 -- The fault is in the line of the first fault of the text.

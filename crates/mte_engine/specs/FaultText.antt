@@ -2,10 +2,11 @@
 use Rattle.std.specs.Prelude.{ℕ, List, ◌++◌, codes}
 use Rattle.std.specs.Fmt.{decimal}
 use Rattle.class_table.specs.FaultText.{shown_table_error}
+use Rattle.history_count.specs.FaultText.{shown_history_fault}
 use Rattle.profile_count.specs.FaultText.{shown_profile_fault}
 use Rattle.trace_reader.specs.FaultText.{shown_trace_fault}
 use Rattle.mte_engine.specs.declared.fault.InputFault.{InputFault}
-use Rattle.mte_engine.specs.declared.fault.InputFault.TheVariants.{TooLong, Table, BadSheet, Profile, Trace}
+use Rattle.mte_engine.specs.declared.fault.InputFault.TheVariants.{TooLong, Table, BadSheet, BadFit, Profile, History, Trace}
 use Rattle.mte_engine.specs.declared.fault.ToolFault.{ToolFault}
 use Rattle.mte_engine.specs.declared.fault.ToolFault.TheVariants.{OutOfMemory, Input, ReadFault, WriteFault}
 
@@ -17,7 +18,9 @@ abbrev pub shown_input_fault : InputFault → List ℕ
 shown_input_fault TooLong = codes "80 InputTooLong"
 shown_input_fault (Table fault) = shown_table_error fault ++ codes " line 1"
 shown_input_fault (BadSheet line) = in_line (codes "48 BadSheet") line
+shown_input_fault (BadFit line) = in_line (codes "36 BadFit") line
 shown_input_fault (Profile line fault) = in_line (shown_profile_fault fault) line
+shown_input_fault (History line fault) = in_line (shown_history_fault fault) line
 shown_input_fault (Trace line fault) = in_line (shown_trace_fault fault) line
 
 abbrev pub shown_fault : ToolFault → List ℕ

@@ -11,6 +11,7 @@ use Rattle.profile_count.specs.declared.fault.ProfileFault.{ProfileFault}
 use Rattle.tagged_heap.specs.declared.heap.Config.{Config}
 use Rattle.tuner_theory.specs.Sheets.{Sheet}
 use Rattle.mte_engine.specs.Check.{CheckAnswers}
+use Rattle.mte_engine.specs.Fit.{FitAnswers}
 use Rattle.mte_engine.specs.FaultLines.{IsAtFirstFault, SpellsSheetAndProfile, SpellsTableAndProfile, line_of_fault}
 use Rattle.mte_engine.specs.Outcome.{Answer}
 use Rattle.mte_engine.specs.Replay.{ReplayAnswers, report_on}
@@ -33,6 +34,12 @@ TunedRunIsHeadline =
 abbrev pub TuneHasOneAnswer : Type 0
 TuneHasOneAnswer =
     (limit step : ℕ) (text : List ℕ) (a b : Result Answer InputFault) → TuneAnswers limit step text a → TuneAnswers limit step text b →
+    a ≡ b
+
+-- An input has one answer of `fit`.
+abbrev pub FitHasOneAnswer : Type 0
+FitHasOneAnswer =
+    (limit step : ℕ) (text : List ℕ) (a b : Result Answer InputFault) → FitAnswers limit step text a → FitAnswers limit step text b →
     a ≡ b
 
 -- An input has one answer of `run`.

@@ -1,5 +1,8 @@
 pub mod Check
+pub mod CheckFit
 pub mod FaultLines
+pub mod Fit
+pub mod Footprint
 pub mod Laws
 pub mod Transfer
 pub mod Outcome

@@ -1,11 +1,17 @@
 -- The parts of an input but a trace, which Traces.antt has. A fault has the number of its line in the whole input, counted from 1.
-use Rattle.std.specs.Prelude.{◌≡◌, ℕ, ◌+◌, ◌<◌, ◌^◌, List, Result, Ok, Err, ⊤}
+use Rattle.std.specs.Prelude.{◌≡◌, ℕ, ◌+◌, ◌<◌, ◌^◌, List, [], ◌∷◌, Result, Ok, Err, ⊤}
+use Rattle.line_text.specs.FirstFault.{◌>>=◌}
+use Rattle.class_table.specs.ClassLine.{table_of_line}
 use Rattle.class_table.specs.declared.fault.TableError.{TableError}
+use Rattle.class_table.specs.declared.fault.TableError.TheVariants.{BadLine}
+use Rattle.history_count.specs.Histories.{History as CountedHistory}
+use Rattle.history_count.specs.declared.fault.HistoryFault.{HistoryFault}
 use Rattle.profile_count.specs.declared.fault.ProfileFault.{ProfileFault}
+use Rattle.tuner_theory.specs.Fits.{Fit}
 use Rattle.tuner_theory.specs.Sheets.{Sheet}
 use Rattle.tuner_theory.specs.Profiles.{Profile as Counted}
 use Rattle.mte_engine.specs.declared.fault.InputFault.{InputFault}
-use Rattle.mte_engine.specs.declared.fault.InputFault.TheVariants.{Table, BadSheet, Profile}
+use Rattle.mte_engine.specs.declared.fault.InputFault.TheVariants.{Table, BadSheet, BadFit, Profile, History}
 use Rattle.mte_engine.specs.declared.fault.AnswerError.{AnswerError}
 use Rattle.mte_engine.specs.declared.fault.AnswerError.TheVariants.{OutOfMemory, Input}
 
@@ -23,10 +29,35 @@ abbrev pub sheet_part : Result Sheet ℕ → Result Sheet InputFault
 sheet_part (Ok s) = Ok s
 sheet_part (Err number) = Err (BadSheet number)
 
+-- A fit, which begins with the first line of its input.
+abbrev pub fit_part : Result Fit ℕ → Result Fit InputFault
+fit_part (Ok f) = Ok f
+fit_part (Err number) = Err (BadFit number)
+
 -- A profile that follows this many lines of its input.
 abbrev pub profile_part : ℕ → Result Counted (ℕ × ProfileFault) → Result Counted InputFault
 profile_part lines (Ok profile) = Ok profile
 profile_part lines (Err fault) = Err (Profile (lines + fault.0) fault.1)
+
+-- A history that follows this many lines of its input.
+abbrev pub history_part : ℕ → Result CountedHistory (ℕ × HistoryFault) → Result CountedHistory InputFault
+history_part lines (Ok history) = Ok history
+history_part lines (Err fault) = Err (History (lines + fault.0) fault.1)
+
+-- A class line, and what is read of the lines after it.
+abbrev pub table_and : {A : Type 0} → (List (List ℕ) → Result A InputFault) → List (List ℕ) → Result (List ℕ × A) InputFault
+table_and after [] = Err (Table BadLine)
+table_and after (line ∷ ls) = do
+  table ← table_part (table_of_line line)
+  rest ← after ls
+  Ok (table, rest)
+
+-- Two parts, of which the first one's fault comes first.
+abbrev pub both_parts : {A B : Type 0} → Result A InputFault → Result B InputFault → Result (A × B) InputFault
+both_parts first second = do
+  x ← first
+  y ← second
+  Ok (x, y)
 
 -- What the code read is this part, unless memory ran out.
 abbrev pub GivesPart : {A : Type 0} → Result A AnswerError → Result A InputFault → Type 0

@@ -15,10 +15,14 @@ use Rattle.mte_engine.specs.declared.engine.Status.TheVariants.{Done, No}
 use Rattle.mte_engine.specs.declared.fault.InputFault.{InputFault}
 use Rattle.mte_engine.specs.declared.fault.InputFault.TheVariants.{Table}
 
--- `waste W`, or `not serving N` with the status of a no, where N is the least counted size without a class.
+-- The line of a name and a number, or `not serving N` with the status of a no, where N is the least counted size without a class.
+abbrev pub named_or_unserved : List ℕ → Option ℕ → ℕ → Answer
+named_or_unserved name None number = record { text = ended (named_line name (number ∷ [])); status = Done }
+named_or_unserved name (Some size) number = record { text = ended (named_line (codes "not serving") (size ∷ [])); status = No }
+
+-- `waste W`, or `not serving N`.
 abbrev pub score_text : Option ℕ → ℕ → Answer
-score_text None waste = record { text = ended (named_line (codes "waste") (waste ∷ [])); status = Done }
-score_text (Some size) waste = record { text = ended (named_line (codes "not serving") (size ∷ [])); status = No }
+score_text unserved waste = named_or_unserved (codes "waste") unserved waste
 
 abbrev pub scored : List ℕ → Counted → Answer
 scored table profile = score_text (unserved_of profile.counts table) (waste_of profile.counts table)

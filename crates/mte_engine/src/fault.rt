@@ -8,6 +8,7 @@ ghost use Rattle.mte_engine.specs.declared.fault.ToolFault.TheVariants.{OutOfMem
 
 use crate::byte_streams::Failure;
 use class_table::TableError;
+use history_count::HistoryFault;
 use profile_count::ProfileFault;
 use std::alloc::{AllocError, AllocFailed};
 use std::fmt;
@@ -23,8 +24,12 @@ pub enum InputFault {
     Table(TableError),
     /// A line of the sheet is faulty or missing.
     BadSheet(u64),
+    /// A line of the fit is faulty or missing.
+    BadFit(u64),
     /// A line of the profile is faulty.
     Profile(u64, ProfileFault),
+    /// A line of the history is faulty or missing.
+    History(u64, HistoryFault),
     /// A line of the trace is faulty.
     Trace(u64, TraceFault),
 }
@@ -38,7 +43,10 @@ impl fmt::Display for InputFault {
             InputFault::Table(fault) => write!(f, "{fault} line 1"),
             // `SheetError::Line` shows the same text
             InputFault::BadSheet(line) => write!(f, "48 BadSheet line {line}"),
+            // as of `FitError::Line`
+            InputFault::BadFit(line) => write!(f, "36 BadFit line {line}"),
             InputFault::Profile(line, fault) => write!(f, "{fault} line {line}"),
+            InputFault::History(line, fault) => write!(f, "{fault} line {line}"),
             InputFault::Trace(line, fault) => write!(f, "{fault} line {line}"),
         }
     }

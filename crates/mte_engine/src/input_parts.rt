@@ -2,16 +2,23 @@
 ghost use Rattle.std.specs.Prelude.{◌≡◌, length, Ok, Err, IfOk, MatchResult};
 ghost use Rattle.line_text.specs.Lines.{lines};
 ghost use Rattle.class_table.specs.ClassLine.{table_of_line};
+ghost use Rattle.history_count.specs.HistoryText.{history_of};
 ghost use Rattle.profile_count.specs.ProfileText.{profile_of};
+ghost use Rattle.potential_check.specs.FitText.{fit_of_lines};
+ghost use Rattle.potential_check.specs.FitView.{fit_of};
 ghost use Rattle.potential_check.specs.Leading.{leading_lines, lines_after};
 ghost use Rattle.potential_check.specs.SheetView.{sheet_of};
 ghost use Rattle.potential_check.specs.SheetText.{sheet_of_lines};
+ghost use Rattle.tuner_theory.specs.Fits.{Fit};
 ghost use Rattle.tuner_theory.specs.Sheets.{Sheet};
-ghost use Rattle.mte_engine.specs.Parts.{AreFewLines, GivesPart, table_part, sheet_part, profile_part};
+ghost use Rattle.mte_engine.specs.Parts.{AreFewLines, GivesPart, fit_part, history_part, table_part, sheet_part, profile_part};
 
 use crate::fault::{AnswerError, InputFault};
 use class_table::ClassTable;
-use potential_check::{LeadingSheet, SheetError, read_leading_sheet};
+use history_count::{History, HistoryError};
+use potential_check::{
+    FitError, LeadingFit, LeadingSheet, SheetError, read_leading_fit, read_leading_sheet,
+};
 use profile_count::{Profile, ProfileError};
 use std::alloc::Global;
 
@@ -41,6 +48,22 @@ pub fn read_leading(alloc: Global, text: &[u8]) -> Result<LeadingSheet<'_>, Answ
     }
 }
 
+/// The fit at the start of an input, and the text after it.
+pub fn read_fit_first(alloc: Global, text: &[u8]) -> Result<LeadingFit<'_>, AnswerError>
+    ensures fit { MatchResult result
+        (λ leading. fit_part (fit_of_lines (leading_lines (lines text.now))) ≡ Ok (fit_of leading.fit))
+        (λ fault. GivesPart {A = Fit} (Err fault) (fit_part (fit_of_lines (leading_lines (lines text.now))))) }
+    ensures lines { IfOk result
+        (λ leading. (leading.lines ≡ length (leading_lines (lines text.now))) × AreFewLines leading.lines) }
+    ensures rest { IfOk result (λ leading. lines leading.rest.now ≡ lines_after (lines text.now)) }
+{
+    match read_leading_fit(alloc, text) {
+        Ok(leading) => Ok(leading),
+        Err(FitError::OutOfMemory) => Err(AnswerError::OutOfMemory),
+        Err(FitError::Line(number)) => Err(AnswerError::Input(InputFault::BadFit(number))),
+    }
+}
+
 /// The profile that a text spells. The text follows this many lines of the input.
 pub fn read_profile(alloc: Global, text: &[u8], lines: u64) -> Result<Profile, AnswerError>
     requires { AreFewLines lines }
@@ -50,6 +73,21 @@ pub fn read_profile(alloc: Global, text: &[u8], lines: u64) -> Result<Profile, A
         Ok(profile) => Ok(profile),
         Err(ProfileError::OutOfMemory) => Err(AnswerError::OutOfMemory),
         Err(ProfileError::Line(number, fault)) => Err(AnswerError::Input(InputFault::Profile(
+            lines + u64::from(number),
+            fault,
+        ))),
+    }
+}
+
+/// The history that a text spells. The text follows this many lines of the input.
+pub fn read_history(alloc: Global, text: &[u8], lines: u64) -> Result<History, AnswerError>
+    requires { AreFewLines lines }
+    ensures { GivesPart result (history_part lines (history_of text.now)) }
+{
+    match History::read(alloc, text) {
+        Ok(history) => Ok(history),
+        Err(HistoryError::OutOfMemory) => Err(AnswerError::OutOfMemory),
+        Err(HistoryError::Line(number, fault)) => Err(AnswerError::Input(InputFault::History(
             lines + u64::from(number),
             fault,
         ))),

@@ -1,5 +1,5 @@
 //! What holds for every answer of an engine. Each law is the contract of a function that does nothing.
-ghost use Rattle.mte_engine.specs.Laws.{RunHasOneAnswer, TuneHasOneAnswer, TunedRunIsHeadline};
+ghost use Rattle.mte_engine.specs.Laws.{FitHasOneAnswer, RunHasOneAnswer, TuneHasOneAnswer, TunedRunIsHeadline};
 ghost use Rattle.mte_engine.specs.Laws.{CheckRefusesTheProfileAtItsFirstFault, FaultIsShownWithItsLine};
 ghost use Rattle.mte_engine.specs.Laws.{ReplayRefusesTheFirstLine, ScoreRefusesAtTheFirstFault, TuneRefusesAtTheFirstFault};
 
@@ -8,10 +8,11 @@ pub fn law_headline()
     ensures { TunedRunIsHeadline }
 {}
 
-/// What `tune` and `run` write is one function of their input and options.
-#[tactic(auto, using(class_tuner::proofs::LawLemmas::one_sheet))]
+/// What `tune`, `fit` and `run` write is one function of their input and options.
+#[tactic(auto, using(class_tuner::proofs::LawLemmas::one_sheet, crate::proofs::OneFitAnswer::one_answer))]
 pub fn law_one_answer()
     ensures tune { TuneHasOneAnswer }
+    ensures fit { FitHasOneAnswer }
     ensures run { RunHasOneAnswer }
 {}
 

@@ -86,7 +86,7 @@ fn score_of_profile(
 }
 
 // the line of these words and a number, with its newline
-fn numbered_line(alloc: Global, words: &[u8], number: u64) -> Result<Text, AllocError>
+pub(crate) fn numbered_line(alloc: Global, words: &[u8], number: u64) -> Result<Text, AllocError>
     ensures { IfOk result (λ text. text_left text ≡ words.now ++ decimal number ++ 10 ∷ []) }
 {
     let mut buffer = Buffer::new();

@@ -31,7 +31,7 @@ pub enum FitError {
     #[error("1 OutOfMemory")]
     OutOfMemory,
     /// The first line that is faulty or missing has this number, counted from 1.
-    #[error("50 BadFit line {0}")]
+    #[error("36 BadFit line {0}")]
     Line(u64),
 }
 

@@ -39,10 +39,12 @@ macro_rules! about {
 
 // A command's text after its options. A part of it is a literal, or a word for what several commands say:
 // - `class_line` and `profile_lines`: the forms of these lines (`check` says them in words of its own)
+// - `history_lines`: the forms of a history's lines
 // - `trace_lines`: the forms of a trace's lines
 // - `step_refusals`: the refusals of an option `--step`, with their head
 // - `class_line_refusals`: those of a class line
-// - `profile_refusals` and `trace_refusals`: those of a profile and of a trace, and the failures, which end the text
+// - `profile_refusals`, `history_refusals` and `trace_refusals`: those of a profile, of a history and of a trace, and the failures, which
+//   end the text
 macro_rules! help_text {
     (@[$($done:tt)*]) => {
         concat!($($done),*)
@@ -60,6 +62,14 @@ macro_rules! help_text {
                      sizes ascend
   large COUNT        how often more than 16368 bytes were requested, if they were; it is the last
                      line, and is not in the waste"] $($rest)*)
+    };
+    (@[$($done:tt)*] history_lines $($rest:tt)*) => {
+        help_text!(@[$($done)*
+            "  snapshots T        the number of moments at which blocks were counted, 1 to 64
+  SIZE N1 .. NT      a size in bytes, 0 to 16368, and how many blocks of it were live at each
+                     snapshot, 0 to 1000000000, not all of them 0; sizes ascend
+  large N1 .. NT     how many blocks of more than 16368 bytes were, if any; it is the last line, and
+                     is not in the footprint"] $($rest)*)
     };
     (@[$($done:tt)*] trace_lines $($rest:tt)*) => {
         help_text!(@[$($done)* "
@@ -94,6 +104,15 @@ of each event. "] $($rest)*)
   30 BadLine           a line of the profile is none of its two forms, or its size is above 16368
   31 NotAscending      a size is not above the one before it
   32 CountOutOfRange   a count is not from 1 to 1000000000"] failures $($rest)*)
+    };
+    (@[$($done:tt)*] history_refusals $($rest:tt)*) => {
+        help_text!(@[$($done)* "
+  30 BadLine           a later line of the history is none of its two forms, or its size is above
+                       16368
+  31 NotAscending      a size is not above the one before it
+  32 CountOutOfRange   a number is above 1000000000, or all of a line are 0
+  34 BadSnapshots      the history's first line is not `snapshots T`, or is missing
+  35 WrongLength       a line does not have T numbers"] failures $($rest)*)
     };
     (@[$($done:tt)*] trace_refusals $($rest:tt)*) => {
         help_text!(@[$($done)* "

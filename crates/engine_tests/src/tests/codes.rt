@@ -121,7 +121,7 @@ fn faults_of_texts(rt: HostRuntime) -> Result<(), Fail> {
         &rt,
         &[
             (FitError::OutOfMemory, "1 OutOfMemory"),
-            (FitError::Line(3), "50 BadFit line 3"),
+            (FitError::Line(3), "36 BadFit line 3"),
         ],
     )?;
     shown(

@@ -1,4 +1,4 @@
-//! The six engines with their options, as values, so that one table runs them all.
+//! The engines with their options, as values, so that one table runs them all.
 ghost use Rattle.mte_engine.specs.Outcome.{IsReady};
 ghost use Rattle.tagged_heap.specs.Config.{IsConfig};
 
@@ -6,7 +6,8 @@ use super::support::ended;
 use crate::tests::streams::{sink, source};
 use crate::tests::support::{HEAP, same};
 use mte_engine::{
-    ByteSink, ByteSource, Status, ToolFault, check, profile, replay, run, score, tune,
+    ByteSink, ByteSource, Status, ToolFault, check, check_fit, fit, footprint, profile, replay,
+    run, score, tune,
 };
 use replay_core::Config;
 use std::process::Abort;
@@ -21,6 +22,12 @@ pub enum Call {
         step: u8,
     },
     Check,
+    Footprint,
+    Fit {
+        limit: u8,
+        step: u8,
+    },
+    CheckFit,
     Profile,
     Replay {
         quarantine: u32,
@@ -49,6 +56,13 @@ pub fn call_on<R: ByteSource, W: ByteSink>(
             tune(rt.alloc(), limit, step, source, sink)
         }
         Call::Check => check(rt.alloc(), source, sink),
+        Call::Footprint => footprint(rt.alloc(), source, sink),
+        Call::Fit { limit, step } => {
+            assert!(rt; limit >= 1 && limit <= 32);
+            assert!(rt; step == 1 || step == 2 || step == 4 || step == 8);
+            fit(rt.alloc(), limit, step, source, sink)
+        }
+        Call::CheckFit => check_fit(rt.alloc(), source, sink),
         Call::Profile => profile(rt.alloc(), source, sink),
         Call::Replay { quarantine } => replay(rt.alloc(), config(rt, quarantine), source, sink),
         Call::Run {

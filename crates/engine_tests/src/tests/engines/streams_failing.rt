@@ -16,7 +16,10 @@ struct Case(Call, &'static str, &'static str);
 
 const SHEET: &str = "classes 2 4\nlimit 2\nwaste 8\nrow 104 8\nrow 8 8\n16 3\n40 1\n";
 
-const CASES: [Case; 7] = [
+const FIT: &str =
+    "classes 2 4\nlimit 2\nfootprint 160\nrow 192 64\nrow 160 64\nsnapshots 2\n16 3 0\n40 0 1\n";
+
+const CASES: [Case; 10] = [
     Case(Call::Score, "classes 4\n16 3\n40 1\n", "waste 104\n"),
     Case(
         Call::Tune { limit: 2, step: 1 },
@@ -24,6 +27,17 @@ const CASES: [Case; 7] = [
         "classes 2 4\nlimit 2\nwaste 8\nrow 104 8\nrow 8 8\n",
     ),
     Case(Call::Check, SHEET, "optimal\n"),
+    Case(
+        Call::Footprint,
+        "classes 2 4\nsnapshots 2\n16 3 0\n40 0 1\n",
+        "footprint 160\n",
+    ),
+    Case(
+        Call::Fit { limit: 2, step: 1 },
+        "snapshots 2\n16 3 0\n40 0 1\n",
+        "classes 2 4\nlimit 2\nfootprint 160\nrow 192 64\nrow 160 64\n",
+    ),
+    Case(Call::CheckFit, FIT, "optimal\n"),
     Case(
         Call::Profile,
         "malloc 1 16368\ncalloc 2 16369\n",

@@ -1,8 +1,11 @@
-//! The six engines: where a growth is refused, the sink is as it was.
+//! The engines: where a growth is refused, the sink is as it was.
 use super::support::{PROFILE, SHEET, refused_twice};
 use crate::tests::streams::{sink, source};
 use crate::tests::support::{HEAP, same};
-use mte_engine::{MemorySink, Status, ToolFault, check, profile, replay, run, score, tune};
+use mte_engine::{
+    MemorySink, Status, ToolFault, check, check_fit, fit, footprint, profile, replay, run, score,
+    tune,
+};
 use std::process::Abort;
 use std::test::Fail;
 
@@ -43,6 +46,50 @@ fn checking(rt: HostRuntime) -> Result<(), Fail> {
     for _attempt in 0..2 {
         let mut to = sink(rt.alloc())?;
         let end = check(rt.alloc(), &mut source(input.as_bytes()), &mut to);
+        if answered(&rt, end, &to, "optimal\n") {
+            return Ok(());
+        }
+    }
+    refused_twice(&rt)
+}
+
+const HISTORY: &str = "snapshots 2\n16 3 0\n40 0 1\n";
+
+const FIT: &str = "classes 2 4\nlimit 2\nfootprint 160\nrow 192 64\nrow 160 64\n";
+
+#[test]
+fn taking_a_footprint(rt: HostRuntime) -> Result<(), Fail> {
+    let mut input = String::from_str(rt.alloc(), "classes 2 4\n")?;
+    input.push_str(HISTORY)?;
+    for _attempt in 0..2 {
+        let mut to = sink(rt.alloc())?;
+        let end = footprint(rt.alloc(), &mut source(input.as_bytes()), &mut to);
+        if answered(&rt, end, &to, "footprint 160\n") {
+            return Ok(());
+        }
+    }
+    refused_twice(&rt)
+}
+
+#[test]
+fn fitting(rt: HostRuntime) -> Result<(), Fail> {
+    for _attempt in 0..2 {
+        let mut to = sink(rt.alloc())?;
+        let end = fit(rt.alloc(), 2, 1, &mut source(HISTORY.as_bytes()), &mut to);
+        if answered(&rt, end, &to, FIT) {
+            return Ok(());
+        }
+    }
+    refused_twice(&rt)
+}
+
+#[test]
+fn checking_a_fit(rt: HostRuntime) -> Result<(), Fail> {
+    let mut input = String::from_str(rt.alloc(), FIT)?;
+    input.push_str(HISTORY)?;
+    for _attempt in 0..2 {
+        let mut to = sink(rt.alloc())?;
+        let end = check_fit(rt.alloc(), &mut source(input.as_bytes()), &mut to);
         if answered(&rt, end, &to, "optimal\n") {
             return Ok(());
         }

@@ -1,0 +1,23 @@
+-- The answers of `fit`: the table of least footprint over a history, with its certificate.
+use Rattle.std.specs.Prelude.{◌≡◌, ℕ, List, Result, Ok, Err}
+use Rattle.class_fitter.specs.Fitted.{IsFitOf}
+use Rattle.history_count.specs.Histories.{History}
+use Rattle.history_count.specs.HistoryText.{history_of}
+use Rattle.potential_check.specs.FitText.{fit_text}
+use Rattle.tuner_theory.specs.Fits.{Fit}
+use Rattle.mte_engine.specs.Outcome.{Answer}
+use Rattle.mte_engine.specs.Parts.{history_part}
+use Rattle.mte_engine.specs.declared.engine.Status.TheVariants.{Done}
+use Rattle.mte_engine.specs.declared.fault.InputFault.{InputFault}
+
+-- The text of the fit of a history, a limit and a step.
+pub record IsFitText (limit step : ℕ) (history : History) (answer : Answer) : Type 0 where
+  pub fit : Fit
+  pub fitted : IsFitOf history.snapshots step limit fit
+  pub written : answer ≡ record { text = fit_text fit; status = Done }
+
+-- The whole text is a history. The answer is the fit's text, or the history's first fault.
+abbrev pub FitAnswers : ℕ → ℕ → List ℕ → Result Answer InputFault → Type 0
+FitAnswers limit step text (Ok answer) =
+    (history : History) × (history_part 0 (history_of text) ≡ Ok history) × IsFitText limit step history answer
+FitAnswers limit step text (Err fault) = history_part 0 (history_of text) ≡ Err fault

@@ -1,0 +1,82 @@
+//! `check-fit`: the verdict on a fit, whoever wrote it.
+ghost use Rattle.std.specs.Prelude.{◌≡◌, IfOk};
+ghost use Rattle.mte_engine.specs.Check.{verdict_text_by};
+ghost use Rattle.mte_engine.specs.CheckFit.{CheckFitAnswers};
+ghost use Rattle.mte_engine.specs.Outcome.{GivesAnswer, IsReady, Runs};
+ghost use Rattle.mte_engine.specs.TextLeft.{text_left};
+ghost use Rattle.tuner_theory.specs.RefusalText.{shown_fit_refusal};
+
+use crate::byte_streams::{ByteSink, ByteSource};
+use crate::engine::{Engine, Status, run_engine};
+use crate::fault::{AnswerError, ToolFault};
+use crate::input::WholeText;
+use crate::input_parts::{read_fit_first, read_history};
+use crate::output::Text;
+use footprint_check::check_fit as verdict_on;
+use potential_check::Verdict;
+use std::alloc::{AllocError, Global};
+use tuner_theory::FitRefusal;
+
+/// Reads a fit and then a history. It writes `optimal`, or `refused CODE NAME` with the status of a no: the first refusal (39 to 41, 43 to
+/// 47 and 49) of the fit for the history. `optimal` means that no table takes less, of all tables that have at most the fit's limit of
+/// classes, all of them multiples of its step, and that serve each counted size. The fit is the first three lines, or four if the third
+/// begins with `step`, and all lines directly after them whose first word is `row`.
+///
+/// Faults of the input (`Input`), in this order: that it is too long; the fault of the fit; that of the history. `ToolFault` has the
+/// other faults, and what the sink took when one comes.
+pub fn check_fit<R: ByteSource, W: ByteSink>(
+    alloc: Global,
+    source: &mut R,
+    sink: &mut W,
+) -> Result<Status, ToolFault>
+    requires { IsReady (R.state source.old) (W.state sink.old) }
+    ensures { Runs CheckFitAnswers (R.state source.old) (R.state source.new) W.state sink.old sink.new result }
+{
+    run_engine(alloc, &CheckFitEngine, source, sink)
+}
+
+struct CheckFitEngine;
+
+impl Engine for CheckFitEngine {
+    type Input = WholeText;
+
+    type Output = Text;
+
+    ghost answers = { λ _. CheckFitAnswers };
+
+    fn input(&self, alloc: Global) -> Result<WholeText, AllocError> {
+        Ok(WholeText::new(alloc))
+    }
+
+    fn answer(&self, alloc: Global, input: WholeText) -> Result<(Text, Status), AnswerError> {
+        check_fit_text(alloc, &input.text)
+    }
+}
+
+// the answer to a text
+fn check_fit_text(alloc: Global, text: &[u8]) -> Result<(Text, Status), AnswerError>
+    ensures { GivesAnswer text_left (CheckFitAnswers text.now) result }
+{
+    let leading = read_fit_first(alloc, text)?;
+    let history = read_history(alloc, leading.rest, leading.lines)?;
+    let verdict = verdict_on(alloc, &history, &leading.fit)?;
+    Ok(answer_for(alloc, verdict)?)
+}
+
+// the text and the status of a verdict
+fn answer_for(alloc: Global, verdict: Verdict) -> Result<(Text, Status), AllocError>
+    ensures { IfOk result (λ answered.
+        record { text = text_left answered.0; status = answered.1 } ≡ verdict_text_by shown_fit_refusal verdict) }
+{
+    match verdict {
+        Verdict::Optimal => {
+            let text = Vec::from_slice(alloc, b"optimal\n")?;
+            Ok((Text::new(text), Status::Done))
+        }
+        Verdict::Refused(refusal) => {
+            let refusal = FitRefusal(refusal);
+            let text = format!(in alloc; "refused {refusal}\n")?.into_bytes();
+            Ok((Text::new(text), Status::No))
+        }
+    }
+}

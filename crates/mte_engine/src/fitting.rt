@@ -1,0 +1,71 @@
+//! `fit`: the class table of least footprint over a history, with its certificate.
+ghost use Rattle.mte_engine.specs.Fit.{FitAnswers};
+ghost use Rattle.mte_engine.specs.Outcome.{GivesAnswer, IsReady, Runs};
+ghost use Rattle.mte_engine.specs.TextLeft.{text_left};
+ghost use Rattle.mte_engine.specs.Tune.{AreTuneOptions};
+
+use crate::byte_streams::{ByteSink, ByteSource};
+use crate::engine::{Engine, Status, run_engine};
+use crate::fault::{AnswerError, ToolFault};
+use crate::input::WholeText;
+use crate::input_parts::read_history;
+use crate::output::Text;
+use potential_check::write_fit;
+use std::alloc::{AllocError, Global};
+
+/// Reads a history, and writes the fit of its table of least footprint. Of all tables that have at most `limit` (1 to 32) classes, all of
+/// them multiples of `step` (1, 2, 4 or 8 granules), and that serve each counted size, it is the canonical one of those that take least. The
+/// fit's certificate is rows of least footprints: number i of row k, both counted from 1, is the least that at most k classes take for the
+/// blocks whose need is above the i - 1 smallest distinct needs.
+///
+/// Faults of the input (`Input`), in this order: that it is too long; the fault of the history. `ToolFault` has the other faults, and what
+/// the sink took when one comes.
+pub fn fit<R: ByteSource, W: ByteSink>(
+    alloc: Global,
+    limit: u8,
+    step: u8,
+    source: &mut R,
+    sink: &mut W,
+) -> Result<Status, ToolFault>
+    requires options { AreTuneOptions limit step }
+    requires ready { IsReady (R.state source.old) (W.state sink.old) }
+    ensures { Runs (FitAnswers limit step) (R.state source.old) (R.state source.new) W.state sink.old sink.new result }
+{
+    run_engine(alloc, &FitEngine { limit, step }, source, sink)
+}
+
+// the options of `fit`
+#[derive(Drop)]
+struct FitEngine {
+    limit: u8,
+    step: u8,
+    ghost options: { AreTuneOptions limit step },
+}
+
+impl Engine for FitEngine {
+    type Input = WholeText;
+
+    type Output = Text;
+
+    ghost answers = { λ e. FitAnswers e.limit e.step };
+
+    fn input(&self, alloc: Global) -> Result<WholeText, AllocError> {
+        Ok(WholeText::new(alloc))
+    }
+
+    fn answer(&self, alloc: Global, input: WholeText) -> Result<(Text, Status), AnswerError> {
+        fit_text(alloc, self.limit, self.step, &input.text)
+    }
+}
+
+// the answer to a text
+fn fit_text(alloc: Global, limit: u8, step: u8, text: &[u8]) -> Result<(Text, Status), AnswerError>
+    requires options { AreTuneOptions limit step }
+    ensures { GivesAnswer text_left (FitAnswers limit step text.now) result }
+{
+    let history = read_history(alloc, text, 0)?;
+    let fitted = class_fitter::fit(alloc, &history, limit, step)?;
+    let mut written = Vec::new(alloc);
+    write_fit(fitted.fit(), &mut written)?;
+    Ok((Text::new(written), Status::Done))
+}
