@@ -1,4 +1,4 @@
-"""What the Python scripts share: profiles, class lines and sheets in, standard output, the program mte_tool, and how a script ends.
+"""What the Python scripts share: texts in, standard output, the program mte_tool, and how a script ends.
 
 A script finds this module from its own real path, so that a link to it works, and leaves no compiled file beside it:
 
@@ -27,6 +27,7 @@ BUILT = os.path.join(os.path.dirname(SCRIPTS), "crates/mte_tool/out/mte_tool")
 LARGEST_SIZE = 16_368  # the largest request that a class serves, in bytes; a larger one is `large`
 MOST_COUNT = 1_000_000_000  # the most that a line of a profile counts
 MOST_CLASSES = 32
+MOST_SNAPSHOTS = 64
 MOST_INPUT = 67_108_864  # the most bytes that the program reads
 LARGEST_CLASS = 1024  # in granules
 
@@ -37,9 +38,11 @@ DIGITS = b"0123456789"
 LARGE = b"%d" % (LARGEST_SIZE + 1)
 COUNTED = re.compile(rb"[ \t]*(0*[0-9]{1,%d}|large)[ \t]+(0*[0-9]{1,%d})[ \t]*" % (MOST_DIGITS, MOST_DIGITS))
 EVENT_WORDS = (b"malloc", b"calloc", b"realloc", b"free", b"load", b"store", b"addg", b"subg")
-SHEET_WORDS = (b"classes", b"limit", b"step", b"waste", b"row")
+SHEET_WORDS = (b"classes", b"limit", b"step", b"waste", b"footprint", b"row")
 
 Sheet = namedtuple("Sheet", "classes limit step waste rows")
+Fit = namedtuple("Fit", "classes limit step footprint rows")
+History = namedtuple("History", "snapshots counts")  # how many snapshots; for each size, and `large`, its count at each of them
 
 
 class Refused(Exception):
@@ -147,6 +150,54 @@ def counts_of(file, path):
     return dict(counts)
 
 
+def is_history(data):
+    """Whether a text that begins with these bytes is a history, or means to be one."""
+    return data.split(b"\n", 1)[0].split(b" ", 1)[0] == b"snapshots"
+
+
+def read_history(path):
+    """A history. As in a profile, its sizes come in any order and however often; a size above 16,368 is large. Counts are summed."""
+    return parse_history(read(path), named(path))
+
+
+def parse_history(data, name="the history"):
+    """The same of bytes that were read from a file of this name."""
+    lines = lines_of(data)
+    first = lines[0] if lines else b""
+    match = re.fullmatch(rb"snapshots ([1-9][0-9]?)", first)
+    if not match or int(match[1]) > MOST_SNAPSHOTS:
+        if wrong := encoding(first):
+            raise Refused(2, f"{name}: {wrong}")
+        if COUNTED.fullmatch(first):
+            raise Refused(2, f"{name}: line 1 is of a profile, and no history: `profile_program --history` records one")
+        if first.split(b" ")[0] in EVENT_WORDS + SHEET_WORDS:
+            raise fault(first, 1, name, "SIZE N1 .. NT")
+        raise Refused(2, f"{name}: line 1 is not `snapshots T` with T from 1 to {MOST_SNAPSHOTS}: {shown(first)}")
+    snapshots = int(match[1])
+    counts = {}
+    for at, line in enumerate(lines[1:], 2):
+        word, *numbers = line.split()
+        if not line.strip() or not all(re.fullmatch(rb"[0-9]{1,%d}" % MOST_DIGITS, each) for each in numbers + [word] * (word != b"large")):
+            raise fault(line, at, name, "SIZE N1 .. NT")
+        if len(numbers) != snapshots:
+            raise Refused(2, f"{name}: line {at} has {len(numbers)} counts, and not one for each of {snapshots} snapshots")
+        size = "large" if word == b"large" or int(word) > LARGEST_SIZE else int(word)
+        before = counts.get(size, [0] * snapshots)
+        counts[size] = [one + int(other) for one, other in zip(before, numbers)]
+    return History(snapshots, {size: numbers for size, numbers in counts.items() if any(numbers)})
+
+
+def history_text(history):
+    """A history as FORMATS.md has it. Where a count is above the most that a text may have, all are scaled down alike, and rounded up."""
+    top = max((max(counts) for counts in history.counts.values()), default=0)
+    lines = [f"snapshots {history.snapshots}\n"]
+    for size in [*sorted(history.counts.keys() - {"large"}), "large"]:
+        if counts := history.counts.get(size):
+            scaled = [-(-count * MOST_COUNT // top) for count in counts] if top > MOST_COUNT else counts
+            lines.append(f"{size} {' '.join(map(str, scaled))}\n")
+    return "".join(lines)
+
+
 def whole_lines(file, path):
     """The bytes of a file in pieces of whole lines. The last line is given the newline that it may lack."""
     rest = b""
@@ -201,17 +252,20 @@ def refuse_line(piece, line, path):
     raise AssertionError("no line is faulty")
 
 
-def fault(text, line, path):
-    """What is wrong with a line that is not SIZE COUNT."""
+def fault(text, line, path, form="SIZE COUNT"):
+    """What is wrong with a line that is not of this form."""
     name, first = named(path), text.split(b" ")[0]
     if wrong := encoding(text, line):
         return Refused(2, f"{name}: {wrong}")
     where = f"{name}: line {line}" if line else name
+    kind = "profile" if form == "SIZE COUNT" else "history"
     if first in EVENT_WORDS:
-        return Refused(2, f"{where} is of a trace, and not SIZE COUNT: `mte_tool profile` makes the profile of a trace")
+        return Refused(2, f"{where} is of a trace, and not {form}: `mte_tool profile` makes the profile of a trace")
     if first in SHEET_WORDS:
-        return Refused(2, f"{where} is of a sheet or a class line, and not SIZE COUNT: give the profile that it was made for")
-    return Refused(2, f"{where} is not SIZE COUNT: {shown(text)}")
+        return Refused(2, f"{where} is of a sheet or a class line, and not {form}: give the {kind} that it was made for")
+    if is_history(text):
+        return Refused(2, f"{where} is of a history, and not {form}: give histories alone, or profiles alone")
+    return Refused(2, f"{where} is not {form}: {shown(text)}")
 
 
 def encoding(text, line=1):
@@ -261,6 +315,8 @@ def parse_class_line(text, name="the class line"):
         raise Refused(2, f"{name}: line 1 is of a trace, and no class line: `mte_tool run` makes the sheet of a trace")
     if COUNTED.fullmatch(text):
         raise Refused(2, f"{name}: line 1 is of a profile, and no class line: `mte_tool tune` makes the sheet of a profile")
+    if is_history(text):
+        raise Refused(2, f"{name}: line 1 is of a history, and no class line: `mte_tool fit` makes the fit of a history")
     if not re.fullmatch(rb"classes( (0|[1-9][0-9]*))*", text):
         raise Refused(2, f"{name}: line 1 is no class line: {shown(text)}")
     words = text.split()[1:]
@@ -276,6 +332,15 @@ def parse_class_line(text, name="the class line"):
 
 def parse_sheet(text, name="the sheet"):
     """A sheet as its parts. It has the form of a sheet; only `mte_tool check` says whether it is right."""
+    return parse_parts(text, name, "sheet", b"waste", Sheet)
+
+
+def parse_fit(text, name="the fit"):
+    """A fit as its parts. Only `mte_tool check-fit` says whether it is right."""
+    return parse_parts(text, name, "fit", b"footprint", Fit)
+
+
+def parse_parts(text, name, kind, cost, make):
     lines = lines_of(os.fsencode(text))
     classes = parse_class_line(lines[0] if lines else None, name)
     numbers = {b"step": 1}
@@ -283,16 +348,16 @@ def parse_sheet(text, name="the sheet"):
     for at, line in enumerate(lines[1:], 2):
         word, *values = line.split(b" ")
         if not all(re.fullmatch(rb"0|[1-9][0-9]{0,19}", value) for value in values):
-            raise Refused(2, f"{name}: {encoding(line, at) or f'line {at} is no line of a sheet: {shown(line)}'}")
+            raise Refused(2, f"{name}: {encoding(line, at) or f'line {at} is no line of a {kind}: {shown(line)}'}")
         if word == b"row":
             rows.append([int(value) for value in values])
-        elif word in (b"limit", b"step", b"waste") and len(values) == 1 and not rows:
+        elif word in (b"limit", b"step", cost) and len(values) == 1 and not rows:
             numbers[word] = int(values[0])
         else:
-            raise Refused(2, f"{name}: line {at} is no line of a sheet: {shown(line)}")
-    if b"limit" not in numbers or b"waste" not in numbers:
-        raise Refused(2, f"{name}: it is no whole sheet: a line `limit` or `waste` is missing")
-    return Sheet(classes, numbers[b"limit"], numbers[b"step"], numbers[b"waste"], rows)
+            raise Refused(2, f"{name}: line {at} is no line of a {kind}: {shown(line)}")
+    if b"limit" not in numbers or cost not in numbers:
+        raise Refused(2, f"{name}: it is no whole {kind}: a line `limit` or `{cost.decode()}` is missing")
+    return make(classes, numbers[b"limit"], numbers[b"step"], numbers[cost], rows)
 
 
 def unproved():

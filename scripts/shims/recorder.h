@@ -44,6 +44,7 @@ struct notes {
   uint64_t shared;          // blocks without
   uint64_t wrong;           // frees of what is no live block
   uint64_t ended;           // why the trace ended: 1 that many events are the most, 2 there is no more room in the file
+  uint64_t taken[64];       // sizes.c: for each snapshot the request after which it was taken, 0 where there is none
   char allocator[NAME] __attribute__((aligned(NAME)));  // the file that has the allocator of the last process that has another one
 };
 _Static_assert(sizeof(struct notes) <= PAGE, "the notes are one page");

@@ -5,10 +5,13 @@
 // SIZES_ONLY=NAME  only processes whose program has this name are counted.
 // SIZES_LIVE=1     counts the blocks that are live when the most bytes are, in the first process alone. Where that runs another program in
 //                  its own place, the counts begin anew.
+// SIZES_HISTORY=T  the same, and T copies of the counters, 1 to 64. The first is of the peak. The others are taken at evenly spaced requests:
+//                  where there is no room for one more, every second goes, and the spacing doubles.
 #include "recorder.h"
 
 enum { LARGE = 16369, COUNTERS = LARGE + 1 };
-static const uint64_t FORM_ALL = 0x315A49534C4C41, FORM_LIVE = 0x315A495345564C;
+enum { SNAPSHOTS = 64 };
+static const uint64_t FORM_ALL = 0x315A49534C4C41, FORM_LIVE = 0x315A495345564C, FORM_HISTORY = 0x315A4953534948;
 
 static uint64_t early[COUNTERS], *counts = early;  // `early` until the file is mapped
 static int live;                                   // whether blocks are followed until they are freed
@@ -28,15 +31,42 @@ static char is_changed[COUNTERS];
 static int changes;
 static pthread_mutex_t lock = PTHREAD_MUTEX_INITIALIZER;
 
+// The snapshots. `counts` is the first; those that follow it are at multiples of the spacing.
+static uint64_t requests, spacing = 1;
+static int snapshots;
+
+static int free_snapshot(void) {
+  int k = 1;
+  while (k < snapshots && notes->taken[k]) k++;
+  return k;
+}
+
+static void take_snapshot(void) {
+  int k = free_snapshot();
+  if (k >= snapshots) {
+    spacing *= 2;
+    for (k = 1; k < snapshots; k++)
+      if (notes->taken[k] % spacing) notes->taken[k] = 0;
+    if (requests % spacing || (k = free_snapshot()) >= snapshots) return;
+    __atomic_thread_fence(__ATOMIC_SEQ_CST);  // who looks while it is written sees that none is there
+  }
+  memcpy(counts + (size_t)k * COUNTERS, now, sizeof now);
+  __atomic_store_n(&notes->taken[k], requests, __ATOMIC_RELEASE);
+}
+
 static void change(size_t size, int64_t by) {
   if (!here->recorded) return;
   size_t i = counter_of(size);
   pthread_mutex_lock(&lock);
   now[i] += by;
+  requests += by > 0;
   bytes += by * (int64_t)size;
   if (!is_changed[i]) is_changed[i] = 1, changed[changes++] = i;
-  if (bytes > peak)
-    for (notes->most = peak = bytes; changes; is_changed[i] = 0) i = changed[--changes], counts[i] = now[i];
+  if (bytes > peak) {
+    notes->most = peak = bytes, notes->taken[0] = requests;
+    for (; changes; is_changed[i] = 0) i = changed[--changes], counts[i] = now[i];
+  }
+  if (snapshots > 1 && by > 0 && !(requests & (spacing - 1))) take_snapshot();
   pthread_mutex_unlock(&lock);
 }
 
@@ -189,9 +219,10 @@ size_t malloc_usable_size(void *block) {
 static void begin(void) {
   const char *only = getenv("SIZES_ONLY");
   if (only && strcmp(only, program_invocation_short_name)) return;
-  int follow = getenv("SIZES_LIVE") != NULL;
-  size_t room;
-  notes = map_file("SIZES", follow ? FORM_LIVE : FORM_ALL, sizeof early, sizeof early, &room);
+  const char *history = getenv("SIZES_HISTORY");
+  int number = history ? atoi(history) : 1, follow = history || getenv("SIZES_LIVE");
+  size_t room = sizeof early * (number < 1 ? 1 : number > SNAPSHOTS ? SNAPSHOTS : number);
+  notes = map_file("SIZES", history ? FORM_HISTORY : follow ? FORM_LIVE : FORM_ALL, room, room, &room);
   if (!notes) return;
   examine(follow);
   if (untouched) return;
@@ -203,7 +234,9 @@ static void begin(void) {
   is_other = !is_the_one();
   record_here(!is_other);
   if (is_other) return;
-  memset(counts, 0, sizeof early), notes->most = 0;  // of what the process ran before in its own place
+  if (history) snapshots = room / sizeof early < SNAPSHOTS ? room / sizeof early : SNAPSHOTS;
+  // of what the process ran before in its own place
+  memset(notes->taken, 0, sizeof notes->taken), notes->most = 0, memset(counts, 0, sizeof early);
   is_aligned_own = is_same((void *)next.memalign, (void *)next.malloc) && is_same((void *)next.posix_memalign, (void *)next.malloc);
   live = 1;
 }
