@@ -176,15 +176,42 @@ def parse_history(data, name="the history"):
     snapshots = int(match[1])
     counts = {}
     for at, line in enumerate(lines[1:], 2):
-        word, *numbers = line.split()
-        if not line.strip() or not all(re.fullmatch(rb"[0-9]{1,%d}" % MOST_DIGITS, each) for each in numbers + [word] * (word != b"large")):
+        word, *numbers = line.split() or [b""]
+        sizes = [word] * (word != b"large")
+        if not all(re.fullmatch(rb"[0-9]{1,%d}" % MOST_DIGITS, each) for each in numbers + sizes):
             raise fault(line, at, name, "SIZE N1 .. NT")
         if len(numbers) != snapshots:
-            raise Refused(2, f"{name}: line {at} has {len(numbers)} counts, and not one for each of {snapshots} snapshots")
+            raise Refused(2, f"{name}: line {at} has not {snapshots} counts, one for each snapshot, but {len(numbers)}")
         size = "large" if word == b"large" or int(word) > LARGEST_SIZE else int(word)
         before = counts.get(size, [0] * snapshots)
         counts[size] = [one + int(other) for one, other in zip(before, numbers)]
     return History(snapshots, {size: numbers for size, numbers in counts.items() if any(numbers)})
+
+
+class Begun:
+    """A file of which some bytes were read."""
+
+    def __init__(self, begin, file):
+        self.begin = begin
+        self.file = file
+
+    def read(self, most):
+        begin, self.begin = self.begin, b""
+        return begin or self.file.read(most)
+
+
+def read_either(path):
+    """A profile as read_profile has it, or a History: the first line says which."""
+    with opened(path) as file:
+        begin = b""
+        while len(begin) < len(b"snapshots ") and (piece := next_piece(file, path)):
+            begin += piece
+        if not is_history(begin):
+            return counts_of(Begun(begin, file), path)
+        pieces = [begin]
+        while piece := next_piece(file, path):
+            pieces.append(piece)
+        return parse_history(b"".join(pieces), named(path))
 
 
 def history_text(history):
