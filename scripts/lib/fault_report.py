@@ -47,7 +47,7 @@ def sentence(error, log):
         return f"free of {block}{gone}"
     access = f"{'load' if error.letter == 'L' else 'store'} of {count(error.size, 'byte')}"
     if not error.block:
-        return f"{access} of a block that was freed long ago"
+        return f"{access} of {'an address that the heap never gave out' if error.offset else 'a block that was freed long ago'}"
     if error.offset < 0:
         return f"{access}, {count(-error.offset, 'byte')} before {block}{gone}"
     if error.offset >= size:

@@ -22,6 +22,7 @@ MISPLACED = "misplaced: free refuses what is not the first byte of a granule"
 NOT_GIVEN = "misplaced: free refuses an address that the heap never gave out"
 LARGE = "the block is larger than the heap serves"
 FORGOTTEN = "its block was freed so long ago that the recorder forgot it"
+NEVER_GIVEN = "it is far from every block"
 NO_VARIABLE = "its block has no variable in the trace"
 NO_SLOT = "its block has no slot in the replay: its class is exhausted"
 NO_EVENT = "the trace has no room for it"
@@ -135,7 +136,7 @@ class Trace:
         if error.letter == "n":
             return verdict("ruled", NOT_GIVEN)
         if not error.block:
-            return verdict("left", FORGOTTEN)
+            return verdict("left", NEVER_GIVEN if error.offset else FORGOTTEN)
         if self.log.size[error.block] > LARGEST_SIZE:
             return verdict("large", LARGE)
         variable = self.choice.stale.get(error.block, NONE) if error.state == "resized" else self._variable(error.block)

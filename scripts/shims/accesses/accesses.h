@@ -60,6 +60,7 @@ static inline address round_up(address a, address to) { return (a + to - 1) & -t
 void begin(void);
 uint32_t number_of_blocks(void);
 struct block *owner(address);
+int was_given_out(address);
 void *request(char kind, size_t size, size_t alignment, struct caller);
 
 // hooks.c

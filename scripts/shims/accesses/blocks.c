@@ -1,6 +1,6 @@
 // The allocator. Blocks stand apart, and no address is given out twice: 64 bytes are before a block, and as many as it has, up to 2,112,
-// after it. So an address names its block also after the block's free. The memory of freed blocks goes back to the system a mebibyte at a
-// time, once another 64 MiB were freed; then their addresses are owned by nobody.
+// after it. So an address names its block also after the block's free; the rest of a mebibyte is its last block's. The memory of freed
+// blocks goes back to the system a mebibyte at a time, once another 64 MiB were freed; then their addresses are owned by nobody.
 #include "accesses.h"
 #include <errno.h>
 #include <stdlib.h>
@@ -48,9 +48,18 @@ void begin(void) {
 
 uint32_t number_of_blocks(void) { return last_block; }
 
+static uint32_t chunk_of(address a) { return (a - ARENA) / CHUNK; }
+
 struct block *owner(address a) {
   uint32_t number = is_in_arena(a) ? OWNERS[(a - ARENA) / 16] : 0;
+  if (!number && next % CHUNK && a >= next && chunk_of(a) == chunk_of(next)) number = last_block;
   return number ? &BLOCKS[number] : NULL;
+}
+
+int was_given_out(address a) { return ARENA + CHUNK <= a && a < next; }
+
+static void own(address from, address to, uint32_t number) {
+  for (address g = (from - ARENA) / 16; g < (to - ARENA) / 16; g++) OWNERS[g] = number;
 }
 
 static size_t gap_after(size_t size) { return round_up(AFTER + (size < MOST_AFTER ? size : MOST_AFTER), 16); }
@@ -71,8 +80,6 @@ static void return_memory(void) {
   errno = error;
 }
 
-static uint32_t chunk_of(address a) { return (a - ARENA) / CHUNK; }
-
 static struct block *new_block(size_t size, size_t alignment) {
   begin();
   if (size > ARENA_SIZE / 16 || alignment > ARENA_SIZE / 16 || last_block + 1 >= MOST_BLOCKS) return NULL;
@@ -81,6 +88,7 @@ static struct block *new_block(size_t size, size_t alignment) {
   int is_large = most > CHUNK / 2;
   // a small block stands in one chunk, a large one has its own
   if ((is_large || chunk_of(next + most) != chunk_of(next)) && next % CHUNK) {
+    own(next, round_up(next, CHUNK), last_block);
     if (!live_in_chunk[chunk_of(next)]) is_empty(chunk_of(next), next);
     next = round_up(next, CHUNK);
   }
@@ -90,13 +98,14 @@ static struct block *new_block(size_t size, size_t alignment) {
   address start = round_up(next + BEFORE, alignment), end = start + round_up(size, 16) + gap_after(size);
   *block = (struct block){start, size, LIVE, chunk_of(next)};
   live_in_chunk[block->chunk]++;
-  for (address g = (next - ARENA) / 16; g < (end - ARENA) / 16; g++) OWNERS[g] = last_block;
+  address rest = is_large ? round_up(end, CHUNK) : end;
+  own(next, rest, last_block);
   for (int store = 0; store < 2 && (size > GREATEST || !is_logging()); store++) {  // no access is logged
     unsigned char *known = KNOWN(store) + (start - ARENA) / 16;
     fill_bytes(known, 16, size / 16);
     if (size % 16) known[size / 16] = size % 16;
   }
-  next = is_large ? round_up(end, CHUNK) : end;
+  next = rest;
   return block;
 }
 
@@ -130,7 +139,7 @@ static struct block *block_at(address a, struct caller from) {
   if (block && block->start == a && block->state == LIVE) return block;
   if (is_logging()) {
     if (block) put_record('x', 2, (long)(block - BLOCKS), (long)(a - block->start));
-    else put_record(is_in_arena(a) ? 'o' : 'n', 0);
+    else put_record(was_given_out(a) ? 'o' : 'n', 0);
     put_stack(from);
   }
   return NULL;

@@ -26,11 +26,12 @@ static enum part part_of(const struct block *block, long offset, long size) {
   return offset < 0 ? BEFORE : offset + size <= end ? IN_LAST_GRANULE : AFTER;
 }
 
-static void wrong(struct block *block, long offset, size_t size, int store, struct caller from) {
+static void wrong(struct block *block, address a, size_t size, int store, struct caller from) {
   uint32_t number = block ? block - BLOCKS : 0;
-  enum part part = block ? part_of(block, offset, size) : 0;
+  long offset = block ? (long)(a - block->start) : !was_given_out(a);
+  int part = block ? (int)part_of(block, offset, size) : (int)offset;
   if (!is_logging() || !is_first(from.pc, number, 2 * part + store)) return;
-  put_record(store ? 'S' : 'L', 3, (long)number, block ? offset : 0, (long)size);
+  put_record(store ? 'S' : 'L', 3, (long)number, offset, (long)size);
   put_stack(from);
 }
 
@@ -57,7 +58,7 @@ void touch_slowly(address a, size_t size, int store, struct caller from) {
   struct block *block = owner(a);
   if (block && block->state == LIVE && a - block->start < block->size && size <= block->size - (a - block->start))
     right(block, a - block->start, size, store);
-  else wrong(block, block ? (long)(a - block->start) : 0, size, store, from);
+  else wrong(block, a, size, store, from);
   leave();
 }
 

@@ -3,7 +3,8 @@
 //   m BLOCK SIZE STACK         a malloc; c a calloc; blocks are numbered from 1
 //   r OLD NEW SIZE STACK       a realloc; f BLOCK STACK a free
 //   l BLOCK OFFSET SIZE        a right load; s a right store
-//   L BLOCK OFFSET SIZE STACK  a wrong load; S a wrong store; block 0 stands for a freed one that is forgotten
+//   L BLOCK OFFSET SIZE STACK  a wrong load; S a wrong store; block 0 stands for a freed one that is forgotten, or with the offset 1 for
+//                              an address that was never given out
 //   x BLOCK OFFSET STACK       a wrong free of an address of a block; o STACK of a forgotten one, n STACK of one that was never given out
 //   M LOW HIGH OFFSET PATH     a file that is mapped with code
 //   Z NOT_LOGGED               the end of the program; C where the log could not grow
