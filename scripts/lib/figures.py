@@ -8,6 +8,7 @@ import texts
 
 GRANULE = 16  # bytes; a block begins with a header of one granule
 NOTHING = "no bytes are counted in requests of at most 16,368 bytes: there is nothing to tune"
+FITTED = "the fitted table"
 OTHERS = [("Scudo's default", "scudo.classes"), ("Scudo's for Android", "scudo_android.classes")]
 
 
@@ -45,12 +46,18 @@ class Table:
         status, answer = run(["score"], class_text(classes) + "\n" + profile_text(profile))
         number = int(answer.split()[-1])
         self.waste, self.unserved = (number, None) if status == 0 else (None, number)
+        self.footprint = None  # where there is a history, and the table serves it
+
+    def over(self, history):
+        status, answer = run(["footprint"], class_text(self.classes) + "\n" + history)
+        self.footprint = int(answer.split()[-1]) if status == 0 else None
 
 
 class Figures:
-    """The figures of a profile, a sheet of it as text, and other tables as [(name, classes)]."""
+    """The figures of a profile, a sheet of it as text, and other tables as [(name, classes)]; with a history and its fit as texts, those of
+    the fit's table too, and each table's footprint."""
 
-    def __init__(self, profile, sheet, others):
+    def __init__(self, profile, sheet, others, history=None, fit=None):
         self.counts = {size: profile[size] for size in sorted(profile.keys() - {"large"}) if profile[size]}
         self.large = profile.get("large", 0)
         self.requests = sum(self.counts.values())
@@ -64,6 +71,13 @@ class Figures:
             raise texts.Refused(2, f"{unserved}: is it the sheet of another profile?")
         self.tuned, self.verdict = self.checked(profile, sheet)
         self.others = [Table(name, classes, profile) for name, classes in others]
+        self.fitted = None
+        if history is not None:
+            _, self.fit_verdict = run(["check-fit"], fit + history)
+            self.fitted = Table(FITTED, texts.parse_fit(fit).classes, profile)
+            self.others.append(self.fitted)
+            for table in (self.best, *self.others):
+                table.over(history)
         _, tuned = run(["tune", "--limit", "32", "--step", str(self.sheet.step)], profile_text(self.tuned))
         self.least = [row[0] for row in texts.parse_sheet(tuned).rows]  # the least waste of 1, 2, .. classes
 

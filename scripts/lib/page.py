@@ -76,6 +76,7 @@ def page(figures, name, counted, warnings, check):
     if default.waste is not None:
         lead += f" {default.name} loses {numbered(default.waste, 'byte')}, {share(figures, default)}."
     forced = " Class 1024 is kept by a request of 16,368 bytes, which adds no waste." if figures.forced else ""
+    over_time = " The footprint is the most memory of the classes over time; the fitted table has the least." if figures.fitted else ""
     proved = int(figures.proof().startswith("Proved"))
     return f"""<!DOCTYPE html>
 <html lang="en">
@@ -98,12 +99,12 @@ def page(figures, name, counted, warnings, check):
 </dl>
 <h2>Each table</h2>
 <div class="scroll"><table id="tables">
-{headings("Table", "Classes", "Waste, bytes", "The best one saves")}
+{headings("Table", "Classes", "Waste, bytes", "The best one saves", *["Footprint"] * bool(figures.fitted))}
 <tbody>{table_row(figures, best, "best")}
 {lines(table_row(figures, table, f"other-{at}") for at, table in enumerate(figures.others))}</tbody>
 </table></div>
 <p class="soft">A block has a header of 16 bytes, the bytes that were requested, and those that are lost by rounding: the
-waste. Its share is of the requested bytes. The saving has its share of all blocks with that table.{forced}</p>
+waste. Its share is of the requested bytes. The saving has its share of all blocks with that table.{forced}{over_time}</p>
 <h2>How many classes?</h2>
 <figure>{curve(figures, "wide", 760, 340)}{curve(figures, "narrow", 340, 260)}
 {curve_key(figures)}
@@ -172,6 +173,8 @@ def table_row(figures, table, kind):
         cells += cell("waste", table.waste, with_share(number(table.waste), table.waste, figures.bytes))
         saving = figures.saving(table)
         cells += "<td></td>" if kind == "best" else cell("saving", saving, with_share(kibibytes(saving), saving, figures.blocks(table)))
+    if figures.fitted:
+        cells += "<td></td>" if table.footprint is None else cell("footprint", table.footprint, kibibytes(table.footprint))
     form = ' class="best"' if kind == "best" else ""
     return f'<tr data-table="{kind}"{form}>{cells}</tr>'
 
