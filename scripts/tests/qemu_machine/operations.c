@@ -5,7 +5,7 @@ typedef unsigned int u32;
 typedef unsigned long u64;
 
 // What they mean is said where they run, in `main`. scripts/tests/qemu has the same list, and the same two structures.
-enum { RESET, RGSR, IRG, ADDG, SUBG, GMI, LDG, STG, ST2G, STZG, LOAD, STORE, TAGS, ZERO, COPY, DUMP, SEEDS, MASKS };
+enum { RESET, IRG, ADDG, SUBG, GMI, LDG, STG, ST2G, STZG, LOAD, STORE, TAGS, ZERO, COPY, DUMP, SEEDS, MASKS };
 enum { SUMS = 1, ALIKE = 2 };       // flags: add checksums of all tags and bytes; the bytes of a store are all alike
 struct operation { u8 code, flags; u16 length; u32 n; u64 a, b; };
 struct result { u32 esr, rgsr, tags, bytes; u64 value, far; };
@@ -136,7 +136,6 @@ void main(void) {
         fault.esr = fault.far = 0;
         switch (op->code) {
         case RESET: reset(op->n); set_rgsr(a, 0); break;        // a new memory of n granules, and RGSR_EL1 = a
-        case RGSR: set_rgsr(a, 0); break;
         case IRG: r.value = irg(a, b); break;
         case ADDG: r.value = ((function *)(addg_table + 8 * b))(a, 0); break;      // b is 16 u6 + u4
         case SUBG: r.value = ((function *)(subg_table + 8 * b))(a, 0); break;
