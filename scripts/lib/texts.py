@@ -177,14 +177,14 @@ def parse_history(data, name="the history"):
     counts = {}
     for at, line in enumerate(lines[1:], 2):
         word, *numbers = line.split() or [b""]
-        sizes = [word] * (word != b"large")
-        if not all(re.fullmatch(rb"[0-9]{1,%d}" % MOST_DIGITS, each) for each in numbers + sizes):
+        digits = numbers if word == b"large" else [word, *numbers]
+        if digits and not (b"".join(digits).isdigit() and len(max(digits, key=len)) <= MOST_DIGITS):
             raise fault(line, at, name, "SIZE N1 .. NT")
         if len(numbers) != snapshots:
             raise Refused(2, f"{name}: line {at} has not {snapshots} counts, one for each snapshot, but {len(numbers)}")
         size = "large" if word == b"large" or int(word) > LARGEST_SIZE else int(word)
-        before = counts.get(size, [0] * snapshots)
-        counts[size] = [one + int(other) for one, other in zip(before, numbers)]
+        numbers = list(map(int, numbers))
+        counts[size] = [one + other for one, other in zip(counts[size], numbers)] if size in counts else numbers
     return History(snapshots, {size: numbers for size, numbers in counts.items() if any(numbers)})
 
 
