@@ -2,6 +2,7 @@ pub mod AccessAnswers
 pub mod Answered
 pub mod CallsKept
 pub mod ChangedSlot
+pub mod CopiedPointers
 pub mod ExampleAnswers
 pub mod FirstHeap
 pub mod Front

@@ -1,9 +1,9 @@
 -- Each event keeps a run sound, so every run is.
-use Rattle.std.proofs.Common.{◌≡◌, ◌≢◌, ℕ, suc, ◌≤◌, List, [], ◌∷◌, length, get_or, set, refl, sym, ap, ◌∙◌, subst, inl, inr, arith, Some, None, Option}
+use Rattle.std.proofs.Common.{◌≡◌, ℕ, suc, ◌≤◌, List, [], ◌∷◌, length, get_or, set, refl, sym, ap, ◌∙◌, subst, inl, inr, arith, Some, None, Option}
 use Rattle.std.specs.Prelude.{fold, replicate}
 use Rattle.std.proofs.lemmas.Bool.{cases_eq, cases_lt}
 use Rattle.std.proofs.lemmas.List.{get_or-set_same, get_or-set_other, length-set, get_or_past, length-replicate}
-use Rattle.machine_theory.specs.Address.{logical_tag, moved_by}
+use Rattle.machine_theory.specs.Address.{moved_by}
 use Rattle.machine_theory.specs.Instructions.{addg, subg}
 use Rattle.class_table.specs.Layout.{Partition, IsPartition, slot_count}
 use Rattle.heap_theory.proofs.TheoryLemmas as laws
@@ -15,6 +15,7 @@ use Rattle.heap_theory.specs.Sound.{IsSoundHeap}
 use Rattle.heap_theory.specs.SoundRun.{IsSoundVariable, IsSoundRun}
 use Rattle.heap_theory.specs.State.{Heap, first_heap}
 use Rattle.heap_theory.proofs.CallsKept.{HeapChange, IsKept, IsKept-refl, IsKept-malloc, IsKept-calloc, IsKept-free, IsKept-realloc, IsKept-store, layout-given_out, quarantine-given_out}
+use Rattle.heap_theory.proofs.CopiedPointers.{IsSoundVariable-moved, addg-address, subg-address}
 use Rattle.heap_theory.proofs.FirstHeap.{IsSoundHeap-first, get_or-replicate_any}
 use Rattle.heap_theory.proofs.VariablesKept.{IsSoundVariable-other, IsSoundVariable-malloc, IsSoundVariable-calloc, IsSoundVariable-realloc}
 
@@ -37,9 +38,6 @@ set_both P xs ys v x a y b long new old u = elim (cases_eq u v) [
     past_same xs v x a past =
         get_or_past xs v a past ∙ sym (get_or_past (set xs v x) v a (subst (λ n. n ≤ v) (sym (length-set xs v x)) past))
 
-untagged : (h : Heap) (times : List ℕ) (a : ℕ) → logical_tag a ≢ 0 → IsSoundVariable h times a None
-untagged h times a tagged = record { null_or_tagged = inr tagged; follows = tt }
-
 length-times_with : (w : Run) (o : Option ℕ) → length (times_with w o) ≡ length w.times
 length-times_with w None = refl
 length-times_with w (Some s) = length-set w.times s (suc (times_of w s))
@@ -53,8 +51,8 @@ lengths_kept w (Realloc v n) long = length-set w.generations v _ ∙ long ∙ sy
 lengths_kept w (Free v) long = long
 lengths_kept w (Load v off len) long = long
 lengths_kept w (Store v off len byte) long = long
-lengths_kept w (Addg v x u6 u4) long = length-set w.generations v None ∙ long ∙ sym (length-set w.replay.variables v _)
-lengths_kept w (Subg v x u6 u4) long = length-set w.generations v None ∙ long ∙ sym (length-set w.replay.variables v _)
+lengths_kept w (Addg v x u6 u4) long = length-set w.generations v _ ∙ long ∙ sym (length-set w.replay.variables v _)
+lengths_kept w (Subg v x u6 u4) long = length-set w.generations v _ ∙ long ∙ sym (length-set w.replay.variables v _)
 
 layout_kept : (h new : Heap) (o : Option ℕ) → HeapChange h new o → new.layout ≡ h.layout
 layout_kept h new None change = change.layout
@@ -122,10 +120,14 @@ module _ where
   variables_kept w (Store v off len byte) sound u = others w (Store v off len byte) sound u
   variables_kept w (Addg v x u6 u4) sound u =
       set_both (IsSoundVariable _ _) w.replay.variables w.generations v _ 0 _ None sound.generations
-      (untagged _ _ (addg (variable w.replay x) u6 u4) (laws.addg_tagged (variable w.replay x) u6 u4)) (others w (Addg v x u6 u4) sound) u
+      (IsSoundVariable-moved w.replay.heap w.times sound.heap addg laws.addg_tagged (addg-address w.replay.heap w.times sound.heap)
+      (variable w.replay x) u6 u4 (generation_of w x) (sound.variables x))
+      (others w (Addg v x u6 u4) sound) u
   variables_kept w (Subg v x u6 u4) sound u =
       set_both (IsSoundVariable _ _) w.replay.variables w.generations v _ 0 _ None sound.generations
-      (untagged _ _ (subg (variable w.replay x) u6 u4) (laws.subg_tagged (variable w.replay x) u6 u4)) (others w (Subg v x u6 u4) sound) u
+      (IsSoundVariable-moved w.replay.heap w.times sound.heap subg laws.subg_tagged (subg-address w.replay.heap w.times sound.heap)
+      (variable w.replay x) u6 u4 (generation_of w x) (sound.variables x))
+      (others w (Subg v x u6 u4) sound) u
 
   pub IsSoundRun-run_after : (w : Run) (e : Event) → IsSoundRun w → IsSoundRun (run_after w e)
   unfolding run_after replay_after

@@ -7,5 +7,5 @@ pub use Rattle.machine_theory.proofs.InstructionLaws.{addg-some as addg_tagged, 
 pub use Rattle.machine_theory.proofs.ChangedMemories.{IsMemory-written as memory_written}
 pub use Rattle.machine_theory.proofs.LawLemmas.{mapped_test, tag_fault_names, written_tag, other_tag, tag_under_bytes, other_bytes, bytes_under_tags}
 pub use Rattle.machine_theory.proofs.MemoryLaws.{length-each_granule as each_length, granule_at-each_granule as each_at, length-tagged as tagged_length, length-written as written_length}
-pub use Rattle.machine_theory.proofs.TagLaws.{odd_drawn, even_drawn}
+pub use Rattle.machine_theory.proofs.TagLaws.{odd_drawn, even_drawn, allowed_some as some_tag_is_allowed, is_excluded-one as other_tags_are_allowed}
 pub use Rattle.class_table.proofs.LawLemmas.{first_is_least as least_class, number_gives_class as class_by_number, legal_slots_are_in_order as in_order, slots_have_classes as classes_listed, slots_have_at_most_1024_granules as classes_small, one_slot_covers}

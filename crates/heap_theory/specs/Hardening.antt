@@ -5,9 +5,10 @@ use Rattle.machine_theory.specs.Access.{access_fault}
 use Rattle.machine_theory.specs.Address.{logical_tag, place_of, moved_by, Holds, Touches}
 use Rattle.machine_theory.specs.Memory.{tag_at}
 use Rattle.class_table.specs.Layout.{end_of, Covers}
+use Rattle.heap_theory.specs.declared.event.Event.{Event}
 use Rattle.heap_theory.specs.declared.place_kind.PlaceKind.{PlaceKind}
 use Rattle.heap_theory.specs.declared.place_kind.PlaceKind.TheVariants.{Slack, Header, Tail, Dead as DeadChunk, Other}
-use Rattle.heap_theory.specs.Run.{Run, times_of, generation_of}
+use Rattle.heap_theory.specs.Run.{Run, times_of, generation_of, run_after}
 use Rattle.heap_theory.specs.GranuleKinds.{place_kind}
 use Rattle.heap_theory.specs.Replay.{variable}
 use Rattle.heap_theory.specs.State.{State, Heap, IsLive, is_dead, slot_in, state_at, chunk_granules_of, IsSlot}
@@ -128,6 +129,19 @@ abbrev pub FreedFaults : Run → Type 0
 FreedFaults run =
     (v : ℕ) (off : ℤ) (len address s time g : ℕ) → IsAccess run v off len address → HasGeneration run v s time → WasFreed run s time →
     Covers (slot_in run.replay.heap s) g → Touches address len g → Faults run address len
+
+-- ---- copies
+
+-- After ADDG or SUBG by 0 and 0 of a variable that has a generation, its copy is the same pointer, of the same generation.
+pub record IsCopied (run copy : Run) (v w s time : ℕ) : Type 0 where
+  pub value : variable copy.replay v ≡ variable run.replay w
+  pub generation : HasGeneration copy v s time
+  pub heap : copy.replay.heap ≡ run.replay.heap
+
+abbrev pub PointersAreCopied : (ℕ → ℕ → Event) → Run → Type 0
+PointersAreCopied copying run =
+    (v w s time : ℕ) → v < length run.replay.variables → HasGeneration run w s time →
+    IsCopied run (run_after run (copying v w)) v w s time
 
 -- ---- what an event does to a slot
 

@@ -1,6 +1,6 @@
 -- A run: a replay, and beside it two facts that no code stores: how often each slot was given out, and at which of these times each
 -- variable got its address. No answer depends on them: what is stored determines each answer, and what is stored after it.
-use Rattle.std.specs.Prelude.{ℕ, ◌+◌, suc, ◌==◌, if◌then◌else◌, List, replicate, fold, slice_set, slice_index, slice_index_or, Option, Some, None}
+use Rattle.std.specs.Prelude.{ℕ, ◌+◌, zero, suc, ◌==◌, if◌then◌else◌, List, replicate, fold, slice_set, slice_index, slice_index_or, Option, Some, None}
 use Rattle.std.specs.Result.{result_ok}
 use Rattle.class_table.specs.Layout.{Partition, slot_count}
 use Rattle.heap_theory.specs.declared.event.Event.{Event}
@@ -52,6 +52,11 @@ abbrev pub begun_or : Run → Option Generation → Option ℕ → Option Genera
 begun_or run other None = other
 begun_or run other (Some s) = Some (record { slot = s; time = suc (times_of run s) })
 
+-- the generation of an address that ADDG or SUBG makes of another: by 0 and 0 it is the same address, with its generation
+abbrev pub moved_generation : Option Generation → ℕ → ℕ → Option Generation
+moved_generation generation zero zero = generation
+moved_generation generation u6 u4 = None
+
 unfoldable pub generations_after : Run → Event → List (Option Generation)
 generations_after run (Malloc v n) = slice_set run.generations v (begun_or run None (slot_given run.replay (Malloc v n)))
 generations_after run (Calloc v n) = slice_set run.generations v (begun_or run None (slot_given run.replay (Calloc v n)))
@@ -59,8 +64,8 @@ generations_after run (Realloc v n) = slice_set run.generations v (begun_or run 
 generations_after run (Free v) = run.generations
 generations_after run (Load v off len) = run.generations
 generations_after run (Store v off len byte) = run.generations
-generations_after run (Addg v w u6 u4) = slice_set run.generations v None
-generations_after run (Subg v w u6 u4) = slice_set run.generations v None
+generations_after run (Addg v w u6 u4) = slice_set run.generations v (moved_generation (generation_of run w) u6 u4)
+generations_after run (Subg v w u6 u4) = slice_set run.generations v (moved_generation (generation_of run w) u6 u4)
 
 unfoldable pub run_after : Run → Event → Run
 run_after run event = record {

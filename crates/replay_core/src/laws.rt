@@ -4,8 +4,8 @@ ghost use Rattle.replay_core.specs.ReplayState.{IsStored, LinesOfNone, LinesOfOn
 
 use crate::replay::Replay;
 pub use heap_theory::laws::hardening::{
-    law_bookkeeping, law_chunk_tags, law_delay, law_freed, law_inside, law_life, law_neighbours,
-    law_own_pointer,
+    law_bookkeeping, law_chunk_tags, law_copied_pointer, law_delay, law_freed, law_inside,
+    law_life, law_neighbours, law_own_pointer,
 };
 pub use heap_theory::laws::run::{law_faults, law_run, law_states, law_totals};
 

@@ -5,8 +5,8 @@ ghost use Rattle.heap_theory.specs.Sound.{IsSoundHeap};
 
 use crate::heap::Heap;
 pub use heap_theory::laws::hardening::{
-    law_bookkeeping, law_chunk_tags, law_delay, law_freed, law_inside, law_life, law_neighbours,
-    law_own_pointer,
+    law_bookkeeping, law_chunk_tags, law_copied_pointer, law_delay, law_freed, law_inside,
+    law_life, law_neighbours, law_own_pointer,
 };
 pub use heap_theory::laws::headers::law_header_words;
 

@@ -8,9 +8,11 @@ ghost use Rattle.heap_theory.specs.Hardening.{
   LivesOn,
   NeighboursFault,
   NullOrTagged,
+  PointersAreCopied,
   ReuseIsDelayed,
 };
 ghost use Rattle.heap_theory.specs.Laws.{AfterEveryRun, AtEveryEvent};
+ghost use Rattle.heap_theory.specs.declared.event.Event.TheVariants.{Addg, Subg};
 ghost use Rattle.heap_theory.specs.OwnPointers.{
   FreeAcceptsOwnPointers,
   LiveVariablesAreAccepted,
@@ -59,6 +61,13 @@ pub fn law_neighbours()
 /// Through a variable whose generation was freed, an access that touches its slot is a fault, until the next generation was freed too.
 pub fn law_freed()
     ensures { AfterEveryRun FreedFaults }
+{}
+
+/// ADDG and SUBG by 0 and 0 copy a pointer that was given out: the copy is the same pointer, of the same generation. So all laws on
+/// generations hold for it, until it is set again, whatever becomes of the variable that it was copied from.
+pub fn law_copied_pointer()
+    ensures addg { AfterEveryRun (PointersAreCopied (λ v w. Addg v w 0 0)) }
+    ensures subg { AfterEveryRun (PointersAreCopied (λ v w. Subg v w 0 0)) }
 {}
 
 /// A dead slot is given out only after the bytes freed from its free on, those of its own block included, exceed the quarantine's limit.
