@@ -1,5 +1,5 @@
 -- What `Layout::new` has made of the first classes of a table.
-use Rattle.std.proofs.Common.{◌≡◌, ℕ, ◌+◌, ◌/◌, ◌<◌, List, [], ◌∷◌, ◌++◌, length, map, take, get_or, sym, ◌∙◌, ap, zero-add}
+use Rattle.std.proofs.Common.{◌≡◌, ℕ, ◌+◌, ◌/◌, ◌<◌, List, [], ◌∷◌, ◌++◌, length, map, take, get_or, sym, ◌∙◌, ap, zero-add, arith, take_all}
 use Rattle.std.specs.List.{range_with_len}
 use Rattle.std.proofs.lemmas.List.{take_more}
 use Rattle.std.proofs.lemmas.List.FromFn.{length-map-range_with_len, map-range_with_len_more}
@@ -31,3 +31,11 @@ module _ (layout : Partition) (filled numbers : List ℕ) (count number : ℕ) (
     firsts = firsts_more;
     slots = ap (λ n. n + share_of layout / get_or layout.classes number 0) is.slots ∙ sym (first_slot-suc layout number within);
   }
+
+  -- and of all
+  pub classes_all : number ≡ length layout.classes → filled ≡ layout.classes
+  classes_all all = is.classes ∙ take_all number layout.classes (omega arith)
+
+  pub firsts_all : number ≡ length layout.classes →
+      numbers ++ count ∷ [] ≡ map (first_slot layout) (range_with_len 0 (length layout.classes + 1))
+  firsts_all all = firsts_more ∙ ap (λ n. map (first_slot layout) (range_with_len 0 (n + 1))) all

@@ -1,4 +1,5 @@
 pub mod ClassOf
+pub mod Counted
 pub mod Covering
 pub mod LayoutSoFar
 pub mod FirstFaults

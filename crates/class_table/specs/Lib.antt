@@ -1,4 +1,5 @@
 pub mod ClassLine
+pub mod Counts
 pub mod Faults
 pub mod Laws
 pub mod Layout

@@ -1,9 +1,9 @@
-ghost use Rattle.std.specs.Prelude.{◌≡◌, ◌+◌, ◌/◌, ◌<◌, ◌≤◌, length, slice_get, slice_index, slice_index_or, ℕ, IfNone, IfSome, None, Some};
+ghost use Rattle.std.specs.Prelude.{◌≡◌, ◌+◌, ◌/◌, ◌<◌, ◌≤◌, length, slice_get, slice_index, IfNone, IfSome, None, Some};
 ghost use Rattle.class_table.specs.Sizes.{IsBlockSize};
 ghost use Rattle.class_table.specs.Layout.{IsClassOf, IsPartition, block_bytes, first_slot, share_of, slot_count, slot_of, slot_over};
 ghost use Rattle.class_table.specs.Tables.{class_number_for, loss_of_size};
-ghost use Rattle.std.specs.List.Sorted.{IsNonDecreasingBy};
 
+use crate::counts::{COUNTS, count_up_to, counts_at};
 use crate::sizes::{GRANULE_BYTES, LARGEST_COUNTED, SMALLEST_CLASS, payload_bytes};
 use crate::table::{ClassTable, MOST_CLASSES};
 use arrayvec::ArrayVec;
@@ -20,6 +20,9 @@ pub const MOST_SLOTS: u32 = MOST_GRANULES / SMALLEST_CLASS as u32;
 
 // the first slots of all classes, and after them the number of slots
 const MOST_FIRSTS: usize = MOST_CLASSES + 1;
+
+// the step of the counts of first slots
+const SLOT_STEP: u32 = MOST_SLOTS / COUNTS as u32;
 
 /// Where a slot lies: its first granule, which is its header, and its class, the number of its granules.
 #[derive(Clone, Copy, Debug, PartialEq, Eq)]
@@ -38,6 +41,10 @@ pub struct Layout {
     firsts: ArrayVec<u32, MOST_FIRSTS>,
     share: u32,
     granules: u32,
+    // the classes up to each number of granules
+    class_counts: [u8; COUNTS],
+    // the first slots up to each number of a slot that is a multiple of SLOT_STEP
+    slot_counts: [u8; COUNTS],
 }
 
 impl Model for Layout {
@@ -70,6 +77,8 @@ impl Layout {
         }
         firsts.push(slots);
         Layout {
+            class_counts: counts_at(&classes, 1),
+            slot_counts: counts_at(&firsts, SLOT_STEP),
             classes,
             firsts,
             share,
@@ -108,7 +117,9 @@ impl Layout {
         ensures within { IfSome result (λ number. number < length self.now.classes) }
     {
         // a class serves n bytes exactly if it has more granules than they fill: the header takes one
-        let number = count_up_to(&self.classes, n.div_ceil(GRANULE_BYTES)) as usize;
+        let granules = n.div_ceil(GRANULE_BYTES);
+        let known = self.class_counts[(granules as usize).min(COUNTS - 1)];
+        let number = count_up_to(&self.classes, granules, known) as usize;
         if number < self.classes.len() {
             Some(number)
         } else {
@@ -141,7 +152,8 @@ impl Layout {
         ensures from { first_slot self.now result ≤ slot }
         ensures to { slot < first_slot self.now (result + 1) }
     {
-        count_up_to(&self.firsts, slot) as usize - 1
+        let known = self.slot_counts[(slot / SLOT_STEP) as usize];
+        count_up_to(&self.firsts, slot, known) as usize - 1
     }
 
     /// The granule and the class of the slot of this number, which must be below `slots()`.
@@ -247,20 +259,4 @@ fn share_of_each(classes: usize, granules: u32) -> u32
     ensures { result ≡ granules / classes }
 {
     granules.checked_div(classes as u32).unwrap_or(0)
-}
-
-// How many of these ascending numbers are at most n. The loop looks at all of them: a search that stops early is slower, since a
-// processor can't predict where it stops.
-fn count_up_to(numbers: &[u32], n: u32) -> u32
-    requires few { length numbers.now ≤ MOST_FIRSTS }
-    requires ascending { IsNonDecreasingBy (λ number. number) numbers.now }
-    ensures bound { result ≤ length numbers.now }
-    ensures below { (k d : ℕ) → k < length numbers.now → k < result → slice_index_or numbers.now k d ≤ n }
-    ensures above { (k d : ℕ) → result ≤ k → k < length numbers.now → n < slice_index_or numbers.now k d }
-{
-    let mut count = 0;
-    for number in numbers {
-        count += u32::from(*number <= n);
-    }
-    count
 }

@@ -2,6 +2,7 @@
 #![tactic(auto)]
 
 mod class_line;
+mod counts;
 mod fault;
 pub mod laws;
 mod layout;

@@ -149,7 +149,20 @@ impl Memory {
         ensures others { ChangesOnlyBytes self.old self.new (GRANULE_BYTES * g) (GRANULE_BYTES * g + GRANULE_BYTES) }
         ensures memory { IsMemory self.new }
     {
-        self.write_bytes(start_of_granule(g), &[0; GRANULE]);
+        self.zero_granules(g, 1);
+    }
+
+    /// Sets the bytes of `count` granules from `first` on to 0, in one fill. They must end at `granules()` or before. No tag changes.
+    #[tactic(auto, using(crate::proofs::Granules::granules_counted, crate::proofs::Writes::written_is))]
+    pub fn zero_granules(&mut self, first: u32, count: u32)
+        requires { first + count ≤ length self.old }
+        ensures written { self.new ≡ written (GRANULE_BYTES * first) (replicate (GRANULE_BYTES * count) 0) self.old }
+        ensures others { ChangesOnlyBytes self.old self.new
+            (GRANULE_BYTES * first) (GRANULE_BYTES * first + GRANULE_BYTES * count) }
+        ensures memory { IsMemory self.new }
+    {
+        let start = start_of_granule(first);
+        self.region.fill(start, start + start_of_granule(count), 0);
     }
 
     /// Fills `to` with the bytes from byte `i` of the memory on; granule g begins at byte 16 g.

@@ -27,10 +27,6 @@ bytes_at-append memory i a b =
     ap (map (λ j. byte_at memory j)) (range-append i a b)
     ∙ map-append (λ j. byte_at memory j) (range_with_len i a) (range_with_len (i + a) b)
 
--- one granule more of zeros
-pub zeros_more : (n : ℕ) → replicate {A = ℕ} (16 * n) 0 ++ replicate 16 0 ≡ replicate (16 * (n + 1)) 0
-zeros_more n = replicate-append-replicate (16 * n) 16 0 ∙ ap (λ k. replicate k 0) (let e : 16 * n + 16 ≡ 16 * (n + 1) = omega arith in e)
-
 -- a run of bytes is copied in pieces, by way of a piece of 256 bytes
 module _
     (in_parts : (i : ℕ) (a b : List ℕ) (memory : List Granule) → written (i + length a) b (written i a memory) ≡ written i (a ++ b) memory)

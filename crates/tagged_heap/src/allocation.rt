@@ -9,7 +9,6 @@ ghost use Rattle.tagged_heap.specs.ClassSlots.{IsCauseFor};
 ghost use Rattle.std.specs.Result.{result_map_both};
 ghost use Rattle.std.specs.Prelude.{◌≡◌, ◌*◌, ◌<◌, ◌≤◌, length, replicate, IfErr, IfOk, OnErr};
 
-use crate::bytes::zero;
 use crate::heap::Heap;
 use crate::next_slot::take_slot;
 use crate::slot_changes::give_out;
@@ -112,6 +111,6 @@ impl Heap {
             } }
     {
         let memory = self.machine.memory_mut();
-        zero(memory, given.start + 1, chunk_granules(n));
+        memory.zero_granules(given.start + 1, chunk_granules(n));
     }
 }

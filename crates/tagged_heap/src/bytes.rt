@@ -1,23 +1,12 @@
 //! The bytes of payloads.
 ghost use Rattle.machine_theory.specs.Memory.{bytes_at, written};
-ghost use Rattle.std.specs.Prelude.{◌≡◌, ◌⊎◌, ◌+◌, ◌*◌, ◌≤◌, length, replicate};
+ghost use Rattle.std.specs.Prelude.{◌≡◌, ◌⊎◌, ◌+◌, ◌*◌, ◌≤◌, length};
 
 use granule_memory::Memory;
 use machine_theory::{GRANULE_BYTES, MOST_GRANULES};
 
 // the bytes that are copied at once
 const PIECE: usize = 256;
-
-/// Sets all bytes of `count` granules from `first` on to 0.
-pub(crate) fn zero(memory: &mut Memory, first: u32, count: u32)
-    requires granules { first + count ≤ length memory.old }
-    requires few { length memory.old ≤ MOST_GRANULES }
-    ensures { memory.new ≡ written (GRANULE_BYTES * first) (replicate (GRANULE_BYTES * count) 0) memory.old }
-{
-    for done in 0..count {
-        memory.zero_granule(first + done);
-    }
-}
 
 /// Copies `count` bytes from byte `from` on to byte `to` on. The two runs must not overlap.
 pub(crate) fn copy(memory: &mut Memory, from: usize, to: usize, count: usize)

@@ -1,8 +1,10 @@
-use Rattle.std.proofs.Common.{◌≡◌, ◌+◌, ◌/◌, length, map, get_or, arith, ◌∙◌, ap, take_all}
-use Rattle.std.specs.List.{range_with_len}
+use Rattle.std.proofs.Common.{◌≡◌, ◌+◌, ◌/◌, length, get_or, arith, ◌∙◌, ap, subst}
 use Rattle.std.proofs.lemmas.Option.{get_or_from_slice_get}
-use Rattle.class_table.specs.Layout.{IsPartition, first_slot}
-use Rattle.class_table.proofs.LayoutSoFar.{IsFilled-more, firsts_more, length-numbers}
+use Rattle.class_table.specs.Counts.{AreCounts}
+use Rattle.class_table.specs.Layout.{IsPartition}
+use Rattle.class_table.proofs.ClassOf.{firsts_of-ascending}
+use Rattle.class_table.proofs.LeastClass.{ascending_classes}
+use Rattle.class_table.proofs.LayoutSoFar.{IsFilled-more, classes_all, firsts_all, length-numbers}
 use Rattle.class_table.proofs.FirstSlots.{first_slot-few}
 use Rattle.class_table.proofs.layout.Layout.new.Goals as goal
 
@@ -41,15 +43,25 @@ push-requires-2 c =
     let numbers = length-numbers _ _ _ _ _ c.loop-number.invariant in
     (omega arith, omega (arith, numbers, c.len-number-end.ensures.len, c.len-number-end.ensures.legal.few))
 
+pub counts_at-requires-clause-ascending : goal.counts_at-requires-clause-ascending
+counts_at-requires-clause-ascending c =
+    let all : c.loop-number.number ≡ length c.args.table.now = omega (arith, c.len-number-end.ensures.len) in
+    rw (c.deref.ensures.0, classes_all _ _ _ _ _ c.loop-number.invariant all) (ascending_classes c.args.table.now c.len.ensures.legal.ascending)
+
+pub counts_at-requires-2-clause-ascending : goal.counts_at-requires-2-clause-ascending
+counts_at-requires-2-clause-ascending c =
+    let all : c.loop-number.number ≡ length c.args.table.now = omega (arith, c.len-number-end.ensures.len) in
+    rw (c.deref-2.ensures.0, c.push-2.ensures.items, firsts_all _ _ _ _ _ c.loop-number.invariant all)
+    (firsts_of-ascending (record { classes = c.args.table.now; granules = c.args.granules }))
+
 pub invariant_of-result : goal.invariant_of-result
 invariant_of-result c =
-    let number : c.loop-number.number ≡ length c.args.table.now = omega (arith, c.len-number-end.ensures.len) in
-    let classes : c.loop-number.classes.items ≡ c.args.table.now =
-    c.loop-number.invariant.classes ∙ take_all c.loop-number.number c.args.table.now (omega arith) in
+    let all : c.loop-number.number ≡ length c.args.table.now = omega (arith, c.len-number-end.ensures.len) in
+    let classes : c.loop-number.classes.items ≡ c.args.table.now = classes_all _ _ _ _ _ c.loop-number.invariant all in
     rw classes (record {
       partition = record { table = c.len.ensures.legal; least = c.requires.least; most = c.requires.most };
       share = c.share_of_each-share.ensures ∙ ap (λ n. c.args.granules / n) c.len.ensures.len;
-      firsts = c.push-2.ensures.items ∙ firsts_more _ _ _ _ _ c.loop-number.invariant
-          ∙ ap (λ n. map (first_slot (record { classes = c.args.table.now; granules = c.args.granules })) (range_with_len 0 (n + 1)))
-          number;
+      firsts = c.push-2.ensures.items ∙ firsts_all _ _ _ _ _ c.loop-number.invariant all;
+      class_counts = subst (AreCounts c.counts_at.result 1) (c.deref.ensures.0 ∙ classes) c.counts_at.ensures;
+      slot_counts = subst (AreCounts c.counts_at-2.result 128) c.deref-2.ensures.0 c.counts_at-2.ensures;
     })

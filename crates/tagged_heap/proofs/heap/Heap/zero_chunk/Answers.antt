@@ -6,8 +6,8 @@ use Rattle.tagged_heap.proofs.PayloadWritten.{HasPayload, payload_within, payloa
 use Rattle.tagged_heap.proofs.heap.Heap.zero_chunk.Goals as goal
 use Rattle.tagged_heap.proofs.heap.Heap.zero_chunk.Goals.{After-self-1}
 
-pub zero-requires-clause-granules : goal.zero-requires-clause-granules
-zero-requires-clause-granules c =
+pub zero_granules-requires : goal.zero_granules-requires
+zero_granules-requires c =
     let room = rw (← c.self.view_is) at c.requires.room in
     let start = rw (← c.self.view_is) at c.requires.start in
     let within =
@@ -15,7 +15,7 @@ zero-requires-clause-granules c =
     (omega (arith, room)) in
     omega (arith, within, start, c.chunk_granules.ensures.granules, ap length c.memory_mut-memory.ensures.value)
 
-payload : (c : After-self-1) → HasPayload c.self.inside.layout c.self.inside.machine.memory c.zero.new.memory c.args.given.slot
+payload : (c : After-self-1) → HasPayload c.self.inside.layout c.self.inside.machine.memory c.zero_granules.new.self c.args.given.slot
     (replicate (16 * chunk_granules c.args.n) 0)
 payload c =
     let room = rw (← c.self.view_is) at c.requires.room in
@@ -24,7 +24,7 @@ payload c =
       in_range = rw (← c.self.view_is) at c.requires.slot;
       room = omega (arith, room, length-replicate {A = ℕ} (16 * chunk_granules c.args.n) 0);
       fit = All-replicate (λ b. b < 256) (16 * chunk_granules c.args.n) 0 (omega arith);
-      written_is = rw (← c.memory_mut-memory.ensures.value, ← start, ← c.chunk_granules.ensures.granules) c.zero.ensures;
+      written_is = rw (← c.memory_mut-memory.ensures.value, ← start, ← c.chunk_granules.ensures.granules) c.zero_granules.ensures.written;
     }
 
 pub invariant_of-self : goal.invariant_of-self

@@ -1,0 +1,11 @@
+use Rattle.std.proofs.Common.{◌≡◌, ℕ, ◌+◌, ◌*◌, ◌<◌, length}
+use Rattle.std.specs.Prelude.{slice_index}
+use Rattle.class_table.specs.Counts.{AreAtMost}
+use Rattle.class_table.proofs.counts.counts_at.Given as goal
+
+abbrev pub invariant-loop-place : goal.invariant-loop-place
+invariant-loop-place l = record {
+  long : length l.counts ≡ 1024;
+  last : AreAtMost l.numbers (l.step * l.place) l.count;
+  each : (k : ℕ) → k < l.place → AreAtMost l.numbers (l.step * k) (slice_index l.counts k);
+}

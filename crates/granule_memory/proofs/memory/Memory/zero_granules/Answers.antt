@@ -1,0 +1,45 @@
+use Rattle.std.proofs.Common.{◌≡◌, ℕ, ◌+◌, ◌-◌, ◌*◌, ◌<◌, ◌≤◌, ◌∙◌, ap, subst, arith, length, List, lit<}
+use Rattle.std.specs.Prelude.{replicate}
+use Rattle.std.proofs.lemmas.List.{length-replicate}
+use Rattle.std.proofs.lemmas.List.Elements.{All-replicate}
+use Rattle.raw_region.specs.Bytes.{with_bytes}
+use Rattle.granule_memory.specs.BytesOfGranules.{granules_of}
+use Rattle.granule_memory.specs.Changes.{ChangesOnlyBytes}
+use Rattle.granule_memory.proofs.Granules.{granules_fit}
+use Rattle.granule_memory.proofs.Writes.{written_is, written_fits, written_keeps}
+use Rattle.granule_memory.proofs.memory.Memory.zero_granules.Goals as goal
+use Rattle.granule_memory.proofs.memory.Memory.zero_granules.Goals.{After-fill}
+
+-- the zeros are written from the first granule on, and lie in the memory
+module _ (c : After-fill) where
+  abbrev zeros : List ℕ
+  zeros = replicate (16 * c.args.count) 0
+
+  at : c.fill.new.self ≡ with_bytes c.self.inside.region (16 * c.args.first) zeros
+  at =
+      let start = c.start_of_granule-start.result in
+      let long : start + c.start_of_granule.result - start ≡ 16 * c.args.count = omega (arith, c.start_of_granule.ensures) in
+      c.fill.ensures.bytes ∙ ap (λ n. with_bytes c.self.inside.region start (replicate n 0)) long
+      ∙ ap (λ i. with_bytes c.self.inside.region i zeros) c.start_of_granule-start.ensures
+
+  fits : 16 * c.args.first + length zeros ≤ 16 * length c.args.self.now
+  fits = omega (arith, length-replicate {A = ℕ} (16 * c.args.count) 0, c.requires)
+
+pub invariant_of-self : goal.invariant_of-self
+invariant_of-self c =
+    written_fits _ _ _ c.args.self.now c.self.invariant c.self.view_is (16 * c.args.first) (zeros c) (at c) (fits c)
+    (All-replicate (λ byte. byte < 256) (16 * c.args.count) 0 (lit< tt))
+
+pub returns-clause-written : goal.returns-clause-written
+returns-clause-written c =
+    written_is _ _ _ c.args.self.now c.self.invariant c.self.view_is (16 * c.args.first) (zeros c) (at c) (fits c)
+
+pub returns-clause-others : goal.returns-clause-others
+returns-clause-others c =
+    subst (λ n. ChangesOnlyBytes c.args.self.now (granules_of c.fill.new.self c.self.inside.granules) (16 * c.args.first)
+    (16 * c.args.first + n)) (length-replicate {A = ℕ} (16 * c.args.count) 0)
+    (written_keeps _ _ _ c.args.self.now c.self.invariant c.self.view_is (16 * c.args.first) (zeros c) (at c)
+    (fits c))
+
+pub returns-clause-memory : goal.returns-clause-memory
+returns-clause-memory c = granules_fit _ _ (invariant_of-self c)
