@@ -2,7 +2,8 @@
 // reads the log.
 //
 //   blocks.c   the allocator: no address is given out twice, so an address has one owner for ever: a block, live or freed, or its gap
-//   hooks.c    what the compiler calls before each load and store
+//   shadow.c   what the compiler's own check before each load and store reads
+//   hooks.c    what this check calls where it doesn't know the access
 //   libc.c     functions of libc that load and store, and call no hook
 //   log.c      the log, with its stacks and modules; the start, the end and the forks of a process
 //
@@ -21,13 +22,21 @@ typedef uintptr_t address;
 #define NOT_INLINE __attribute__((noinline))
 
 // A terabyte of addresses is set aside, with tables that have an entry for each granule of 16 bytes.
-#define ARENA ((address)1 << 44)  // a multiple of its size
+#define ARENA ((address)1 << 45)  // a multiple of its size
 #define ARENA_SIZE ((address)1 << 40)
 #define OWNERS ((uint32_t *)(ARENA + 2 * ARENA_SIZE))
 #define KNOWN(store) ((unsigned char *)(ARENA + (3 + (store)) * ARENA_SIZE))  // see is_known
 #define BLOCKS ((struct block *)(ARENA + 5 * ARENA_SIZE))
 #define MOST_BLOCKS ((address)1 << 28)
-enum { GREATEST = 16368 };  // the largest request that the heap of the replay serves
+#define CHUNK ((address)1 << 20)  // memory is taken and goes back by chunks
+enum { GREATEST = 16368 };        // the largest request that the heap of the replay serves
+
+// The shadow: each eight bytes of the address space have a byte. The compiler's check goes on where it is 0, or greater than the place of
+// the access's last byte in the eight; else it calls a hook. The shadow is 0 outside the arena. In the arena it is closed, but for the
+// granules of live blocks of which the log has a load and a store, or wants none. traced_cc tells the compiler where it is.
+#define SHADOW_OFFSET ((address)0x7fff8000)
+#define SHADOW(a) ((unsigned char *)((a) / 8 + SHADOW_OFFSET))
+enum { CLOSED = 0xFF };
 
 enum state { LIVE = 1, FREED };
 struct block {
@@ -58,16 +67,24 @@ static inline address round_up(address a, address to) { return (a + to - 1) & -t
 
 // blocks.c
 void begin(void);
+void *reserve(address at, size_t size, int mode, int how);
 uint32_t number_of_blocks(void);
 struct block *owner(address);
 int was_given_out(address);
 void *request(char kind, size_t size, size_t alignment, struct caller);
 
+// shadow.c: of whole chunks, or of any multiple of 8 bytes
+void begin_shadow(void);
+int begin_chunks(address from, address to);
+void close_shadow(address from, address to);
+void open_shadow(address from, size_t size);
+
 // hooks.c
+int logs_right(void);
 void touch_slowly(address, size_t, int store, struct caller);
 
-// Most accesses are outside the arena, or inside a granule of a live block of which the log has such an access already: the table for loads
-// or stores has the number of bytes of the granule that are the block's then, else 0.
+// Most accesses are outside the arena, or inside a granule of a live block of which the log has such an access already, or wants none: the
+// table for loads or stores has the number of bytes of the granule that are the block's then, else 0.
 static inline __attribute__((always_inline)) int is_known(address a, size_t size, int store) {
   if (!is_in_arena(a)) return 1;
   return a % 16 + size <= *(KNOWN(store) - ARENA / 16 + a / 16);

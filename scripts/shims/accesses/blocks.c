@@ -1,6 +1,8 @@
-// The allocator. Blocks stand apart, and no address is given out twice: 64 bytes are before a block, and as many as it has, up to 2,112,
-// after it. So an address names its block also after the block's free; the rest of a mebibyte is its last block's. The memory of freed
-// blocks goes back to the system a mebibyte at a time, once another 64 MiB were freed; then their addresses are owned by nobody.
+// The allocator. Blocks stand apart, and no address is given out twice: 64 bytes are before a block, and 208 to 2,112 after it, as many as
+// it has and 64 more where that lies between. So a copy of 256 bytes never reaches from block to block; that matters since gcc looks only
+// at the first and the last byte of a struct. And an address names its block also after the block's free; the rest of a mebibyte is its
+// last block's. The memory of freed blocks goes back to the system a mebibyte at a time, once another 64 MiB were freed; then their
+// addresses are owned by nobody.
 #include "accesses.h"
 #include <errno.h>
 #include <stdlib.h>
@@ -8,9 +10,8 @@
 #include <sys/syscall.h>
 #include <unistd.h>
 
-#define CHUNK ((address)1 << 20)
 #define DELAY ((address)64 << 20)
-enum { BEFORE = 64, AFTER = 64, MOST_AFTER = 2048 };
+enum { BEFORE = 64, AFTER = 64, LEAST_MORE = 144, MOST_MORE = 2048 };
 
 pthread_mutex_t accesses_lock = PTHREAD_MUTEX_INITIALIZER;
 __thread int busy __attribute__((tls_model("initial-exec")));
@@ -23,11 +24,11 @@ static uint32_t *live_in_chunk;
 static struct empty *empties;
 static size_t oldest_empty, next_empty;
 
-static void *reserve(address at, size_t size) {
-  int flags = MAP_PRIVATE | MAP_ANONYMOUS | MAP_NORESERVE | (at ? MAP_FIXED_NOREPLACE : 0);
-  void *mapped = mmap((void *)at, size, PROT_READ | PROT_WRITE, flags, -1, 0);
+void *reserve(address at, size_t size, int mode, int how) {
+  void *mapped = mmap((void *)at, size, mode, how | MAP_ANONYMOUS | MAP_NORESERVE | (at ? MAP_FIXED_NOREPLACE : 0), -1, 0);
   if (mapped == MAP_FAILED || (at && mapped != (void *)at)) {
-    static const char text[] = "traced_cc: no terabyte of addresses: raise `ulimit -v`, and don't set vm.overcommit_memory to 2\n";
+    static const char text[] = "traced_cc: no room for 18 terabytes of addresses: "
+                               "raise `ulimit -v`, and don't set vm.overcommit_memory to 2\n";
     if (syscall(SYS_write, 2, text, sizeof text - 1)) _exit(3);
     _exit(3);
   }
@@ -36,14 +37,17 @@ static void *reserve(address at, size_t size) {
   return mapped;
 }
 
+static void *reserve_table(address at, size_t size) { return reserve(at, size, PROT_READ | PROT_WRITE, MAP_PRIVATE); }
+
 void begin(void) {
   if (live_in_chunk) return;
-  reserve(ARENA, ARENA_SIZE);
-  reserve((address)OWNERS, ARENA_SIZE / 16 * sizeof *OWNERS);
-  for (int store = 0; store < 2; store++) reserve((address)KNOWN(store), ARENA_SIZE / 16);
-  reserve((address)BLOCKS, MOST_BLOCKS * sizeof *BLOCKS);
-  empties = reserve(0, ARENA_SIZE / CHUNK * sizeof *empties);
-  live_in_chunk = reserve(0, ARENA_SIZE / CHUNK * sizeof *live_in_chunk);
+  reserve(ARENA, ARENA_SIZE, PROT_NONE, MAP_PRIVATE);
+  reserve_table((address)OWNERS, ARENA_SIZE / 16 * sizeof *OWNERS);
+  for (int store = 0; store < 2; store++) reserve_table((address)KNOWN(store), ARENA_SIZE / 16);
+  reserve_table((address)BLOCKS, MOST_BLOCKS * sizeof *BLOCKS);
+  empties = reserve_table(0, ARENA_SIZE / CHUNK * sizeof *empties);
+  begin_shadow();
+  live_in_chunk = reserve_table(0, ARENA_SIZE / CHUNK * sizeof *live_in_chunk);
 }
 
 uint32_t number_of_blocks(void) { return last_block; }
@@ -62,7 +66,9 @@ static void own(address from, address to, uint32_t number) {
   for (address g = (from - ARENA) / 16; g < (to - ARENA) / 16; g++) OWNERS[g] = number;
 }
 
-static size_t gap_after(size_t size) { return round_up(AFTER + (size < MOST_AFTER ? size : MOST_AFTER), 16); }
+static size_t gap_after(size_t size) {
+  return round_up(AFTER + (size < LEAST_MORE ? LEAST_MORE : size < MOST_MORE ? size : MOST_MORE), 16);
+}
 
 static void is_empty(uint32_t chunk, address end) {
   empties[next_empty++] = (struct empty){chunk, (end - 1 - ARENA) / CHUNK - chunk + 1, freed_bytes};
@@ -76,8 +82,27 @@ static void return_memory(void) {
     madvise((void *)(ARENA + at), size, MADV_DONTNEED);
     for (int store = 0; store < 2; store++) madvise(KNOWN(store) + at / 16, size / 16, MADV_DONTNEED);
     madvise(OWNERS + at / 16, size / 16 * sizeof *OWNERS, MADV_DONTNEED);
+    close_shadow(ARENA + at, ARENA + at + size);
   }
   errno = error;
+}
+
+// the rest of a chunk is its last block's
+static void end_chunk(void) {
+  if (next % CHUNK == 0) return;
+  own(next, round_up(next, CHUNK), last_block);
+  if (!live_in_chunk[chunk_of(next)]) is_empty(chunk_of(next), next);
+  next = round_up(next, CHUNK);
+}
+
+// no access of the block is logged
+static void know_all(const struct block *block) {
+  for (int store = 0; store < 2; store++) {
+    unsigned char *known = KNOWN(store) + (block->start - ARENA) / 16;
+    fill_bytes(known, 16, block->size / 16);
+    if (block->size % 16) known[block->size / 16] = block->size % 16;
+  }
+  open_shadow(block->start, block->size);
 }
 
 static struct block *new_block(size_t size, size_t alignment) {
@@ -87,32 +112,26 @@ static struct block *new_block(size_t size, size_t alignment) {
   address most = BEFORE + alignment + round_up(size, 16) + gap_after(size);
   int is_large = most > CHUNK / 2;
   // a small block stands in one chunk, a large one has its own
-  if ((is_large || chunk_of(next + most) != chunk_of(next)) && next % CHUNK) {
-    own(next, round_up(next, CHUNK), last_block);
-    if (!live_in_chunk[chunk_of(next)]) is_empty(chunk_of(next), next);
-    next = round_up(next, CHUNK);
-  }
+  if (is_large || chunk_of(next + most) != chunk_of(next)) end_chunk();
   if (next + most + CHUNK > ARENA + ARENA_SIZE) return NULL;
+  address start = round_up(next + BEFORE, alignment), end = start + round_up(size, 16) + gap_after(size);
+  if (next % CHUNK == 0 && !begin_chunks(next, round_up(end, CHUNK))) return NULL;
 
   struct block *block = &BLOCKS[++last_block];
-  address start = round_up(next + BEFORE, alignment), end = start + round_up(size, 16) + gap_after(size);
   *block = (struct block){start, size, LIVE, chunk_of(next)};
   live_in_chunk[block->chunk]++;
   address rest = is_large ? round_up(end, CHUNK) : end;
   own(next, rest, last_block);
-  for (int store = 0; store < 2 && (size > GREATEST || !is_logging()); store++) {  // no access is logged
-    unsigned char *known = KNOWN(store) + (start - ARENA) / 16;
-    fill_bytes(known, 16, size / 16);
-    if (size % 16) known[size / 16] = size % 16;
-  }
+  if (size > GREATEST || !logs_right()) know_all(block);
   next = rest;
   return block;
 }
 
 static void end_block(struct block *block) {
   for (int store = 0; store < 2; store++) fill_bytes(KNOWN(store) + (block->start - ARENA) / 16, 0, round_up(block->size, 16) / 16);
+  close_shadow(block->start, round_up(block->start + block->size, 8));
   block->state = FREED;
-  freed_bytes += block->size + gap_after(block->size);
+  freed_bytes += BEFORE + block->size + AFTER;
   if (!--live_in_chunk[block->chunk] && block->chunk != chunk_of(next))
     is_empty(block->chunk, block->start + round_up(block->size, 16) + gap_after(block->size));
   return_memory();

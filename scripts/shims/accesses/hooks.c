@@ -1,8 +1,10 @@
-// What the compiler calls before each load and store. A right access is logged once for each granule and kind, and a wrong one once for
-// each place in the code, block, and part of the block that it touches.
+// What gcc's check before each load and store calls where the shadow is closed (__asan_report_). clang calls the others before each, and so
+// does gcc on processors but x86-64. A right access is logged once for each granule and kind, and a wrong one once for each place in the
+// code, block, and part of the block that it touches. While a granule's loads are logged and its stores are not, or the other way round,
+// its shadow stays closed. That is slow where the other kind never comes: once a program waited often, no more right accesses are logged.
 #include "accesses.h"
 
-enum { MOST_RIGHT = 600000, SEEN = 1 << 16, TRIES = 64 };
+enum { MOST_RIGHT = 600000, MOST_WAITS = 1 << 22, SEEN = 1 << 16, TRIES = 64 };
 enum part { IN_FREED = 1, BEFORE_FREED, AFTER_FREED, BEFORE, IN_LAST_GRANULE, AFTER };
 
 static struct seen { address pc; uint32_t block, part; } seen[SEEN];
@@ -35,18 +37,31 @@ static void wrong(struct block *block, address a, size_t size, int store, struct
   put_stack(from);
 }
 
+static long logged, waits;
+int logs_right(void) { return logged < MOST_RIGHT && waits < MOST_WAITS && is_logging(); }
+
 static void right(struct block *block, size_t offset, size_t size, int store) {
-  static long logged;
-  unsigned char *known = KNOWN(store) + (block->start - ARENA) / 16;
+  size_t first = (block->start - ARENA) / 16;
   for (size_t from = offset, to; from < offset + size; from = to) {
-    to = (from / 16 + 1) * 16 < offset + size ? (from / 16 + 1) * 16 : offset + size;
-    if (known[from / 16]) continue;
-    known[from / 16] = block->size - from / 16 * 16 < 16 ? block->size % 16 : 16;
-    if (logged >= MOST_RIGHT || !is_logging()) continue;
+    size_t granule = from / 16, bytes = block->size - granule * 16 < 16 ? block->size % 16 : 16;
+    unsigned char *known = KNOWN(store) + first + granule, *other = KNOWN(!store) + first + granule;
+    to = (granule + 1) * 16 < offset + size ? (granule + 1) * 16 : offset + size;
+    int is_logged = *known, is_last = !logs_right();
+    *known = bytes;
+    if (is_last) *other = bytes;
+    if (*other) open_shadow(block->start + granule * 16, bytes);
+    if (is_logged || is_last) continue;
     logged++;
     put_record(store ? 's' : 'l', 3, (long)(block - BLOCKS), (long)from, (long)(to - from));
     put_end();
   }
+}
+
+// the live block that has all these bytes
+static struct block *live_at(address a, size_t size) {
+  struct block *block = owner(a);
+  int has_all = block && block->state == LIVE && a - block->start < block->size && size <= block->size - (a - block->start);
+  return has_all ? block : NULL;
 }
 
 void touch_slowly(address a, size_t size, int store, struct caller from) {
@@ -55,10 +70,9 @@ void touch_slowly(address a, size_t size, int store, struct caller from) {
     return;
   }
   enter();
-  struct block *block = owner(a);
-  if (block && block->state == LIVE && a - block->start < block->size && size <= block->size - (a - block->start))
-    right(block, a - block->start, size, store);
-  else wrong(block, a, size, store, from);
+  struct block *block = live_at(a, size);
+  if (block) right(block, a - block->start, size, store);
+  else wrong(owner(a), a, size, store, from);
   leave();
 }
 
@@ -67,18 +81,22 @@ static NOT_INLINE void slowly(address a, size_t size, int store, address pc) {
   touch_slowly(a, size, store, (struct caller){pc, *(address **)__builtin_frame_address(0)});
 }
 
+static NOT_INLINE int may_wait(void) { return __atomic_add_fetch(&waits, 1, __ATOMIC_RELAXED) <= MOST_WAITS; }
+
+#define PC (address)__builtin_return_address(0)
 #define HOOKED(a, size, store) \
-  if (size && __builtin_expect(!is_known(a, size, store), 0)) slowly(a, size, store, (address)__builtin_return_address(0))
-#define HOOKS(size) \
-  SHOWN void __asan_load##size##_noabort(address a) { HOOKED(a, size, 0); } \
-  SHOWN void __asan_store##size##_noabort(address a) { HOOKED(a, size, 1); }
-HOOKS(1)
-HOOKS(2)
-HOOKS(4)
-HOOKS(8)
-HOOKS(16)
-SHOWN void __asan_loadN_noabort(address a, size_t size) { HOOKED(a, size, 0); }
-SHOWN void __asan_storeN_noabort(address a, size_t size) { HOOKED(a, size, 1); }
+  if (size && !__builtin_expect(is_known(a, size, store), 1)) slowly(a, size, store, PC)
+#define REPORTED(a, size, store) \
+  if (size && !(is_known(a, size, store) && may_wait())) slowly(a, size, store, PC)
+#define HOOKS(kind, size, store) \
+  SHOWN void __asan_##kind##size##_noabort(address a) { HOOKED(a, size, store); } \
+  SHOWN void __asan_report_##kind##size##_noabort(address a) { REPORTED(a, size, store); }
+#define ALL_HOOKS(kind, store) \
+  HOOKS(kind, 1, store) HOOKS(kind, 2, store) HOOKS(kind, 4, store) HOOKS(kind, 8, store) HOOKS(kind, 16, store) \
+  SHOWN void __asan_##kind##N_noabort(address a, size_t size) { HOOKED(a, size, store); } \
+  SHOWN void __asan_report_##kind##_n_noabort(address a, size_t size) { REPORTED(a, size, store); }
+ALL_HOOKS(load, 0)
+ALL_HOOKS(store, 1)
 SHOWN void __asan_handle_no_return(void) {}
 SHOWN void __asan_before_dynamic_init(const char *source) { (void)source; }
 SHOWN void __asan_after_dynamic_init(void) {}
