@@ -3,12 +3,14 @@
 The program itself scores, checks and tunes; here is only what its outputs mean for memory."""
 
 import os
+from collections import namedtuple
 
 import texts
 
 GRANULE = 16  # bytes; a block begins with a header of one granule
 NOTHING = "no bytes are counted in requests of at most 16,368 bytes: there is nothing to tune"
 FITTED = "the fitted table"
+OverTime = namedtuple("OverTime", "history fitted fit")  # texts: the history, the one that was fitted, and the fit of that
 OTHERS = [("Scudo's default", "scudo.classes"), ("Scudo's for Android", "scudo_android.classes")]
 
 
@@ -23,6 +25,19 @@ def profile_text(profile):
 def with_largest(profile):
     """The profile with a request that class 1024 alone serves, so that its best table has this class. It adds no waste."""
     return profile if profile.get(texts.LARGEST_SIZE) else {**profile, texts.LARGEST_SIZE: 1}
+
+
+def with_largest_block(history):
+    """The history with a block that class 1024 alone serves, so that its fitted table has this class. It adds at most 16 KiB."""
+    counts = history.counts.get(texts.LARGEST_SIZE) or [1] * history.snapshots
+    return history._replace(counts={**history.counts, texts.LARGEST_SIZE: counts})
+
+
+def at_peak(history):
+    """The snapshot of the most requested bytes, large ones left out, as a profile."""
+    sizes = history.counts.keys() - {"large"}
+    most = max(range(history.snapshots), key=lambda at: sum(size * history.counts[size][at] for size in sizes))
+    return {size: counts[most] for size, counts in history.counts.items()}
 
 
 def class_text(classes):
@@ -54,10 +69,10 @@ class Table:
 
 
 class Figures:
-    """The figures of a profile, a sheet of it as text, and other tables as [(name, classes)]; with a history and its fit as texts, those of
-    the fit's table too, and each table's footprint."""
+    """The figures of a profile, a sheet of it as text, and other tables as [(name, classes)]; with a history, those of its fit's table too,
+    and each table's footprint."""
 
-    def __init__(self, profile, sheet, others, history=None, fit=None):
+    def __init__(self, profile, sheet, others, over_time=None):
         self.counts = {size: profile[size] for size in sorted(profile.keys() - {"large"}) if profile[size]}
         self.large = profile.get("large", 0)
         self.requests = sum(self.counts.values())
@@ -72,12 +87,12 @@ class Figures:
         self.tuned, self.verdict = self.checked(profile, sheet)
         self.others = [Table(name, classes, profile) for name, classes in others]
         self.fitted = None
-        if history is not None:
-            _, self.fit_verdict = run(["check-fit"], fit + history)
-            self.fitted = Table(FITTED, texts.parse_fit(fit).classes, profile)
+        if over_time is not None:
+            _, self.fit_verdict = run(["check-fit"], over_time.fit + over_time.fitted)
+            self.fitted = Table(FITTED, texts.parse_fit(over_time.fit).classes, profile)
             self.others.append(self.fitted)
             for table in (self.best, *self.others):
-                table.over(history)
+                table.over(over_time.history)
         _, tuned = run(["tune", "--limit", "32", "--step", str(self.sheet.step)], profile_text(self.tuned))
         self.least = [row[0] for row in texts.parse_sheet(tuned).rows]  # the least waste of 1, 2, .. classes
 
@@ -108,6 +123,12 @@ class Figures:
         """By how many bytes the blocks of the best table are less."""
         return table.waste - self.best.waste
 
+    def map_saving(self, table, objective):
+        """By how many bytes the table of the map takes less than this one, if both serve all sizes."""
+        if objective == "footprint":
+            return None if table.footprint is None else table.footprint - self.fitted.footprint
+        return None if table.waste is None else self.saving(table)
+
     def classes(self):
         """For each class of the best table: its block in bytes, the least and the greatest size it serves, requests, bytes lost."""
         below = -1
@@ -136,10 +157,10 @@ def other_tables(paths):
     return [(name, texts.class_line(path)) for name, path in named]
 
 
-def without_ending(path, ending):
-    """The name of a file, without its folder and this ending."""
+def without_ending(path, *endings):
+    """The name of a file, without its folder and such an ending."""
     name = os.path.basename(path)
-    return name[: -len(ending)] if name.endswith(ending) and name != ending else name
+    return next((name[: -len(ending)] for ending in endings if name.endswith(ending) and name != ending), name)
 
 
 def number(value):

@@ -67,8 +67,9 @@ SIZE_TICKS = [(16, "16"), (64, "64"), (256, "256"), (1024, "1 KiB"), (4096, "4 K
 FIRST_OCTAVE, OCTAVES = 3, 11  # the sizes from 8 bytes to 16 KiB
 
 
-def page(figures, name, counted, warnings, check):
-    """The page for a program or a profile of this name. COUNTED says what was counted, CHECK is the command that checks the sheet."""
+def page(figures, name, counted, warnings, check, check_fit=None):
+    """The page for a program or a profile of this name. COUNTED says what was counted, CHECK is the command that checks the sheet, and
+    CHECK_FIT the one that checks the fit, if there is one."""
     best = figures.best
     lead = f"A table of {len(best.classes)} size classes loses {numbered(best.waste, 'byte')} by rounding, "
     lead += f"{share(figures, best)} of what was requested."
@@ -129,8 +130,15 @@ serves.</figcaption></figure>
 <pre id="class-line">{class_text(best.classes)}</pre>
 <p>The sheet has this table and its certificate. Run this at the top of the repository of <code>mte_tool</code>:</p>
 <pre id="check">{escape(check)}</pre>
-</body>
+{fit_section(figures, check_fit) if figures.fitted else ""}</body>
 </html>
+"""
+
+
+def fit_section(figures, check):
+    return f"""<p>The fitted table, and the command that checks its fit:</p>
+<pre id="fitted-line">{class_text(figures.fitted.classes)}</pre>
+<pre id="check-fit">{escape(check)}</pre>
 """
 
 
