@@ -8,7 +8,7 @@ use Rattle.trace_reader.specs.declared.fault.TraceError.TheVariants.{Line}
 use Rattle.trace_reader.specs.declared.fault.TraceFault.{TraceFault}
 use Rattle.trace_reader.specs.declared.fault.TraceFault.TheVariants.{LineTooLong}
 use Rattle.line_text.specs.Prefixes.{IsPrefix}
-use Rattle.trace_reader.specs.Reached.{HasReached, answer_of}
+use Rattle.trace_reader.specs.Reached.{HasReached, IsOnTheWay, answer_of}
 use Rattle.trace_reader.specs.Reading.{Cut, State, Reading, added, cut, fed, fed_in, finished, finished_in, going_on, is_open, judged_in, judgement_in, line_ended, reading_of_cut, state_after, whole_reading, with_judged, is_finished}
 use Rattle.trace_reader.specs.Reading.State.{Open, Failed, Finished}
 use Rattle.trace_reader.specs.declared.status.Status.{Status}
@@ -228,6 +228,31 @@ reached_from old mid wanted wanted' new result same kept reached =
 
 pub reached_ok : (old wanted new : Reading) → HasReached old wanted new (Ok tt) → new ≡ wanted
 reached_ok old wanted new reached = reached.reading (λ e. absurd cc)
+
+-- the way goes on over a line
+pub line_on_the_way : (old mid new : Reading) (text rest line after : List ℕ) → IsOnTheWay old text mid rest → rest ≡ line ++ 10 ∷ after →
+    IsLine line → HasReached mid (line_ended mid line) new (Ok tt) → IsOnTheWay old text new after
+line_on_the_way old mid new text rest line after way cut is_line reached =
+    let now = reached_ok mid (line_ended mid line) new reached in
+    let answer = reached.answer ∙ ap (λ (r : Reading). answer_of r.state) now in
+    record {
+      still_open = ap is_open now ∙ is_open-ended mid line way.still_open answer;
+      fed_is = way.fed_is ∙ ap (fed mid) cut ∙ fed-after mid line after way.still_open is_line ∙ ap (λ (r : Reading). fed r after) (sym now);
+      kept = prefix_of_prefix old.events mid.events new.events way.kept reached.kept;
+    }
+
+pub way_after_way : (old mid new : Reading) (text rest after : List ℕ) → IsOnTheWay old text mid rest → IsOnTheWay mid rest new after →
+    IsOnTheWay old text new after
+way_after_way old mid new text rest after way more = record {
+  still_open = more.still_open;
+  fed_is = way.fed_is ∙ more.fed_is;
+  kept = prefix_of_prefix old.events mid.events new.events way.kept more.kept;
+}
+
+pub reached_on_the_way : (old mid new : Reading) (text rest : List ℕ) (result : Answer) → IsOnTheWay old text mid rest →
+    HasReached mid (fed mid rest) new result → HasReached old (fed old text) new result
+reached_on_the_way old mid new text rest result way reached =
+    reached_from old mid (fed mid rest) (fed old text) new result (sym way.fed_is) way.kept reached
 
 pub state_failed : (old : Reading) (events : List Event) (lines : ℕ) (rest : List ℕ) (status : Status) (error : TraceError) →
     fields events lines rest status ≡ old → status ≡ HasFailed error → old.state ≡ Failed error

@@ -1,6 +1,7 @@
 pub mod LawLemmas
 pub mod BadWords
 pub mod Cutting
+pub mod DigitsInFront
 pub mod Ending
 pub mod EventLines
 pub mod Feeding
@@ -8,6 +9,7 @@ pub mod LineRanges
 pub mod Offsets
 pub mod Pieces
 pub mod Reaching
+pub mod SpelledEvents
 pub mod SpelledLines
 pub mod SpelledWords
 pub mod TraceSpelling

@@ -100,6 +100,14 @@ is_open_state other = false
 abbrev pub is_open : Reading → Bool
 is_open reading = is_open_state reading.state
 
+-- The reading is open at the start of a line: it has nothing of an unfinished one.
+abbrev pub is_start : State → Bool
+is_start (Open lines []) = true
+is_start other = false
+
+abbrev pub is_at_start : Reading → Bool
+is_at_start reading = is_start reading.state
+
 -- The reading after the unfinished line was judged.
 abbrev pub judged_in : State → Result Event TraceFault → Reading
 judged_in (Open lines rest) (Ok event) = record { events = event ∷ []; state = Open (suc lines) [] }

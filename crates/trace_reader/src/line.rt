@@ -1,5 +1,5 @@
-//! The event that a line spells, found word by word. `one_pass` reads the words of the same events in one pass: a change of an event's
-//! words must be made in both files and in `specs/TraceLine.antt`.
+//! The event that a line spells, or its fault, found word by word. `one_pass` reads the lines that spell events, as far as it can: a change of
+//! an event's words must be made in both files and in `specs/TraceLine.antt`.
 ghost use Rattle.std.specs.Prelude.{◌≡◌, ◌≤◌, ℕ, IfOk, map};
 ghost use Rattle.heap_theory.specs.declared.event.Event.{Event as EventView};
 ghost use Rattle.heap_theory.specs.Ranges.{IsInRange};
@@ -7,7 +7,6 @@ ghost use Rattle.line_text.specs.Lines.{words};
 ghost use Rattle.trace_reader.specs.TraceLine.{made, event_named, event_of_line, event_of_words, free_of, load_of, move_of, request_of, store_of, variable_of, len_of};
 
 use crate::fault::TraceFault;
-use crate::one_pass::spelled_event;
 use crate::words::{are_full_words, byte_in, number_from, offset_in};
 use arrayvec::ArrayVec;
 use heap_theory::Event;
@@ -56,10 +55,7 @@ fn judged_line(number: u32, line: &[u8]) -> Result<Event, TraceFault>
     if number > MOST_EVENTS {
         return Err(TraceFault::TooManyEvents);
     }
-    match spelled_event(line) {
-        Some(event) => Ok(event),
-        None => judged_words(line),
-    }
+    judged_words(line)
 }
 
 // the event that a line spells, or its fault, found word by word

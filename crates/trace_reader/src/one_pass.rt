@@ -1,158 +1,211 @@
-//! The event of a line that spells one, read in one pass over its bytes. `line` judges every other line word by word, which is slower and
-//! finds each fault. A change of an event's words must be made in both files and in `specs/TraceLine.antt`; an event that is missing here
-//! is read by `line`.
-ghost use Rattle.std.specs.Prelude.{◌≡◌, ◌≤◌, [], ℕ, IfSome, Ok};
-ghost use Rattle.heap_theory.specs.declared.event.Event.{Event as EventView};
-ghost use Rattle.line_text.specs.Lines.{words};
-ghost use Rattle.trace_reader.specs.OnePass.{AreAfter, AreRead, IsRead};
-ghost use Rattle.trace_reader.specs.TraceLine.{byte_of, event_of_words, free_of, load_of, move_of, number_from, offset_of, request_of, store_of};
+//! The event of a text's first line, where that line spells one, read in one pass over its bytes. `line` judges every other line word by
+//! word, which is slower and finds each fault. An event that is missing here is read by `line`.
+ghost use Rattle.std.specs.Prelude.{◌≡◌, ◌≤◌, ◌<◌, ◌^◌, ◌++◌, ◌∷◌, [], IfSome, nat_abs};
+ghost use Rattle.std.specs.Fmt.{decimal, signed_decimal};
+ghost use Rattle.heap_theory.specs.Ranges.{IsAccessOf, IsInRange, IsMove, IsRequest, IsVariable};
+ghost use Rattle.line_text.specs.Hexadecimal.{hex};
+ghost use Rattle.line_text.specs.Lines.{line_of};
+ghost use Rattle.std.specs.Prelude.{codes};
+ghost use Rattle.trace_reader.specs.TraceLine.{event_line};
 
-use crate::words::{FARTHEST, byte_in, offset_in};
 use heap_theory::Event;
-use line_text::{Words, words_in};
+use line_text::hex_byte_in;
 
-// The event that a line spells. `None` leaves the line to `line`, which finds an event or a fault.
-pub(crate) fn spelled_event(line: &[u8]) -> Option<Event>
-    ensures { IfSome result (λ event. event_of_words (words line.now) ≡ Ok event) }
+// A number of more digits is left to `line`.
+const DIGITS: usize = 8;
+
+// A shorter text is left to `line`. No line that is read here has as many bytes, so the compiler drops the tests of the length in `digits`.
+const WINDOW: usize = 48;
+
+// The event of the first line of a text, and the text after that line. `None` leaves the line to `line`, which finds an event or a fault.
+#[inline(always)]
+pub(crate) fn first_event(text: &[u8]) -> Option<(Event, &[u8])>
+    ensures spelled { IfSome result (λ found. text.now ≡ event_line found.0 ++ 10 ∷ found.1.now) }
+    ensures range { IfSome result (λ found. IsInRange found.0) }
 {
-    match line.first()? {
+    if text.len() < WINDOW {
+        return None;
+    }
+    match text[0] {
         b'm' => {
-            let (v, n) = request(words_after(b"malloc ", line)?)?;
-            Some(Event::Malloc { v, n })
+            let (v, n, after) = request(after_name(b"malloc ", text)?)?;
+            Some((Event::Malloc { v, n }, after))
         }
         b'c' => {
-            let (v, n) = request(words_after(b"calloc ", line)?)?;
-            Some(Event::Calloc { v, n })
+            let (v, n, after) = request(after_name(b"calloc ", text)?)?;
+            Some((Event::Calloc { v, n }, after))
         }
         b'r' => {
-            let (v, n) = request(words_after(b"realloc ", line)?)?;
-            Some(Event::Realloc { v, n })
+            let (v, n, after) = request(after_name(b"realloc ", text)?)?;
+            Some((Event::Realloc { v, n }, after))
         }
-        b'f' => free(words_after(b"free ", line)?),
-        b'l' => load(words_after(b"load ", line)?),
+        b'f' => {
+            let (v, after) = variable(b'\n', after_name(b"free ", text)?)?;
+            Some((Event::Free { v }, after))
+        }
+        b'l' => {
+            let (v, off, len, after) = access(b'\n', after_name(b"load ", text)?)?;
+            Some((Event::Load { v, off, len }, after))
+        }
+        b's' => first_with_s(text),
         b'a' => {
-            let (v, w, u6, u4) = move_pointer(words_after(b"addg ", line)?)?;
-            Some(Event::Addg { v, w, u6, u4 })
+            let (v, w, u6, u4, after) = move_pointer(after_name(b"addg ", text)?)?;
+            Some((Event::Addg { v, w, u6, u4 }, after))
         }
-        _ => spelled_with_s(line),
+        _ => None,
     }
 }
 
-fn spelled_with_s(line: &[u8]) -> Option<Event>
-    ensures { IfSome result (λ event. event_of_words (words line.now) ≡ Ok event) }
+#[inline(always)]
+fn first_with_s(text: &[u8]) -> Option<(Event, &[u8])>
+    ensures spelled { IfSome result (λ found. text.now ≡ event_line found.0 ++ 10 ∷ found.1.now) }
+    ensures range { IfSome result (λ found. IsInRange found.0) }
 {
-    if let Some(words) = words_after(b"store ", line) {
-        return store(words);
+    if let Some(numbers) = after_name(b"store ", text) {
+        return store(numbers);
     }
-    let (v, w, u6, u4) = move_pointer(words_after(b"subg ", line)?)?;
-    Some(Event::Subg { v, w, u6, u4 })
+    let (v, w, u6, u4, after) = move_pointer(after_name(b"subg ", text)?)?;
+    Some((Event::Subg { v, w, u6, u4 }, after))
 }
 
-// the words after the first, which `first` gives with its space
-fn words_after<'a>(first: &[u8], line: &'a [u8]) -> Option<Words<'a>>
-    ensures { IfSome result (λ left. AreAfter first.now line.now left) }
+// the text after a name
+#[inline(always)]
+fn after_name<'a>(name: &[u8], text: &'a [u8]) -> Option<&'a [u8]>
+    ensures { IfSome result (λ after. text.now ≡ name.now ++ after.now) }
 {
-    Some(words_in(line.strip_prefix(first)?))
+    if text.len() < name.len() {
+        return None;
+    }
+    for (place, letter) in name.iter().enumerate() {
+        if text[place] != *letter {
+            return None;
+        }
+    }
+    Some(&text[name.len()..])
 }
 
-// the variable and the size of a request
-fn request(mut words: Words<'_>) -> Option<(u16, u32)>
-    ensures { (event : ℕ → ℕ → EventView)
-        → IfSome result (λ x. AreRead (request_of event) words.entry (event x.0 x.1)) }
+// the variable and the size of a request, up to the end of the line
+#[inline(always)]
+fn request(text: &[u8]) -> Option<(u16, u32, &[u8])>
+    ensures spelled { IfSome result (λ x. text.now ≡ line_of (decimal x.0 ∷ decimal x.1 ∷ []) ++ 10 ∷ x.2.now) }
+    ensures range { IfSome result (λ x. IsRequest x.0 x.1) }
 {
-    let v = variable(&mut words)?;
-    let n = number(0, Event::LARGEST_REQUEST, &mut words)?;
-    last(&mut words)?;
-    Some((v, n))
+    let (v, text) = variable(b' ', text)?;
+    let (n, after) = number(0, Event::LARGEST_REQUEST, b'\n', text)?;
+    Some((v, n, after))
 }
 
-fn free(mut words: Words<'_>) -> Option<Event>
-    ensures { IfSome result (λ event. AreRead free_of words.entry event) }
+// the variable, the offset and the bytes of an access, up to the byte `end`
+#[inline(always)]
+fn access(end: u8, text: &[u8]) -> Option<(u16, i32, u8, &[u8])>
+    ensures spelled { IfSome result
+        (λ x. text.now ≡ line_of (decimal x.0 ∷ signed_decimal x.1 ∷ decimal x.2 ∷ []) ++ end ∷ x.3.now) }
+    ensures range { IfSome result (λ x. IsAccessOf x.0 x.1 x.2) }
 {
-    let v = variable(&mut words)?;
-    last(&mut words)?;
-    Some(Event::Free { v })
+    let (v, text) = variable(b' ', text)?;
+    let (off, text) = offset(text)?;
+    let (len, after) = number(1, Event::LONGEST_ACCESS, end, text)?;
+    Some((v, off, len as u8, after))
 }
 
-fn load(mut words: Words<'_>) -> Option<Event>
-    ensures { IfSome result (λ event. AreRead load_of words.entry event) }
+#[inline(always)]
+fn store(text: &[u8]) -> Option<(Event, &[u8])>
+    ensures spelled { IfSome result (λ found. codes "store" ++ 32 ∷ text.now ≡ event_line found.0 ++ 10 ∷ found.1.now) }
+    ensures range { IfSome result (λ found. IsInRange found.0) }
 {
-    let v = variable(&mut words)?;
-    let off = offset(&mut words)?;
-    let len = number(1, Event::LONGEST_ACCESS, &mut words)? as u8;
-    last(&mut words)?;
-    Some(Event::Load { v, off, len })
+    let (v, off, len, text) = access(b' ', text)?;
+    let (byte, after) = byte(text)?;
+    Some((Event::Store { v, off, len, byte }, after))
 }
 
-fn store(mut words: Words<'_>) -> Option<Event>
-    ensures { IfSome result (λ event. AreRead store_of words.entry event) }
+// the two variables of a move, its granules and its tags, up to the end of the line
+#[inline(always)]
+fn move_pointer(text: &[u8]) -> Option<(u16, u16, u8, u8, &[u8])>
+    ensures spelled { IfSome result
+        (λ x. text.now ≡ line_of (decimal x.0 ∷ decimal x.1 ∷ decimal x.2 ∷ decimal x.3 ∷ []) ++ 10 ∷ x.4.now) }
+    ensures range { IfSome result (λ x. IsMove x.0 x.1 x.2 x.3) }
 {
-    let v = variable(&mut words)?;
-    let off = offset(&mut words)?;
-    let len = number(1, Event::LONGEST_ACCESS, &mut words)? as u8;
-    let byte = byte(&mut words)?;
-    last(&mut words)?;
-    Some(Event::Store { v, off, len, byte })
+    let (v, text) = variable(b' ', text)?;
+    let (w, text) = variable(b' ', text)?;
+    let (u6, text) = number(0, Event::FARTHEST_MOVE, b' ', text)?;
+    let (u4, after) = number(0, Event::LARGEST_TAG_STEP, b'\n', text)?;
+    Some((v, w, u6 as u8, u4 as u8, after))
 }
 
-// the two variables of a move, its granules and its tags
-fn move_pointer(mut words: Words<'_>) -> Option<(u16, u16, u8, u8)>
-    ensures { (event : ℕ → ℕ → ℕ → ℕ → EventView)
-        → IfSome result (λ x. AreRead (move_of event) words.entry (event x.0 x.1 x.2 x.3)) }
+#[inline(always)]
+fn variable(end: u8, text: &[u8]) -> Option<(u16, &[u8])>
+    ensures spelled { IfSome result (λ x. text.now ≡ decimal x.0 ++ end ∷ x.1.now) }
+    ensures range { IfSome result (λ x. IsVariable x.0) }
 {
-    let v = variable(&mut words)?;
-    let w = variable(&mut words)?;
-    let u6 = number(0, Event::FARTHEST_MOVE, &mut words)? as u8;
-    let u4 = number(0, Event::LARGEST_TAG_STEP, &mut words)? as u8;
-    last(&mut words)?;
-    Some((v, w, u6, u4))
+    let (v, after) = number(0, Event::LAST_VARIABLE, end, text)?;
+    Some((v as u16, after))
 }
 
-fn variable(words: &mut Words<'_>) -> Option<u16>
-    ensures { IfSome result (λ v. IsRead (number_from 0 Event.LAST_VARIABLE) words.old words.new v) }
+// an offset, up to a space
+#[inline(always)]
+fn offset(text: &[u8]) -> Option<(i32, &[u8])>
+    ensures spelled { IfSome result (λ x. text.now ≡ signed_decimal x.0 ++ 32 ∷ x.1.now) }
+    ensures range { IfSome result (λ x. nat_abs x.0 ≤ Event.FARTHEST_ACCESS) }
 {
-    Some(number(0, Event::LAST_VARIABLE, words)? as u16)
+    if let Some(digits) = after_name(b"-", text) {
+        let (n, after) = number(1, Event::FARTHEST_ACCESS, b' ', digits)?;
+        return Some((-1 - (n - 1) as i32, after));
+    }
+    let (n, after) = number(0, Event::FARTHEST_ACCESS, b' ', text)?;
+    Some((n as i32, after))
 }
 
-fn number(low: u32, high: u32, words: &mut Words<'_>) -> Option<u32>
-    ensures number { IfSome result (λ n. IsRead (number_from low high) words.old words.new n) }
-    ensures most { IfSome result (λ n. n ≤ high) }
+// the number from `low` to `high` in front of a text, up to the byte `end`
+#[inline(always)]
+fn number(low: u32, high: u32, end: u8, text: &[u8]) -> Option<(u32, &[u8])>
+    ensures spelled { IfSome result (λ x. text.now ≡ decimal x.0 ++ end ∷ x.1.now) }
+    ensures low { IfSome result (λ x. low ≤ x.0) }
+    ensures high { IfSome result (λ x. x.0 ≤ high) }
 {
-    let n = words.next_number()?;
-    if u64::from(low) <= n && n <= u64::from(high) {
-        Some(n as u32)
+    let (n, after) = digits(end, text)?;
+    if low <= n && n <= high {
+        Some((n, after))
     } else {
         None
     }
 }
 
-fn offset(words: &mut Words<'_>) -> Option<i32>
-    ensures { IfSome result (λ off. IsRead offset_of words.old words.new off) }
+// The number of at most `DIGITS` digits in front of a text, up to the byte `end`. The loop has a constant length, so the compiler unrolls it.
+#[inline(always)]
+fn digits(end: u8, text: &[u8]) -> Option<(u32, &[u8])>
+    ensures { IfSome result (λ x. text.now ≡ decimal x.0 ++ end ∷ x.1.now) }
 {
-    if let Some(n) = words.next_number() {
-        return if n <= FARTHEST { Some(n as i32) } else { None };
+    if text.len() <= DIGITS || !text[0].is_ascii_digit() {
+        return None;
     }
-    match offset_in(words.next()?) {
-        Ok(off) => Some(off),
-        Err(_) => None,
+    let mut value = u32::from(text[0] - b'0');
+    if text[1] == end {
+        return Some((value, &text[2..]));
     }
+    if value == 0 {
+        return None;
+    }
+    for place in 1..DIGITS {
+        let byte = text[place];
+        if !byte.is_ascii_digit() {
+            return None;
+        }
+        value = value * 10 + u32::from(byte - b'0');
+        if text[place + 1] == end {
+            return Some((value, &text[place + 2..]));
+        }
+    }
+    None
 }
 
-fn byte(words: &mut Words<'_>) -> Option<u8>
-    ensures { IfSome result (λ byte. IsRead byte_of words.old words.new byte) }
+// two hexadecimal digits and the end of the line
+#[inline(always)]
+fn byte(text: &[u8]) -> Option<(u8, &[u8])>
+    ensures spelled { IfSome result (λ x. text.now ≡ hex x.0 ++ 10 ∷ x.1.now) }
+    ensures range { IfSome result (λ x. x.0 < 2 ^ 8) }
 {
-    match byte_in(words.next()?) {
-        Ok(byte) => Some(byte),
-        Err(_) => None,
+    if text.len() < 3 || text[2] != b'\n' {
+        return None;
     }
-}
-
-// `Some` if no word is left
-fn last(words: &mut Words<'_>) -> Option<()>
-    ensures { IfSome result (λ _. words.old ≡ []) }
-{
-    match words.next() {
-        Some(_) => None,
-        None => Some(()),
-    }
+    Some((hex_byte_in(&text[..2])?, &text[3..]))
 }

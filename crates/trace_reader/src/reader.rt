@@ -1,14 +1,15 @@
-ghost use Rattle.std.specs.Prelude.{◌≡◌, ◌≢◌, ◌≤◌, [], drop, length, slice_get, false, true, All, Err, IfSome, OnOk, is_ok};
+ghost use Rattle.std.specs.Prelude.{◌≡◌, ◌≢◌, ◌≤◌, [], drop, length, slice_get, false, true, All, Err, IfOk, IfSome, MatchResult, OnOk, is_ok};
 ghost use Rattle.line_text.specs.Lines.{IsLine};
 ghost use Rattle.trace_reader.specs.declared.fault.TraceError.TheVariants.{OutOfMemory};
 ghost use Rattle.heap_theory.specs.Ranges.{IsInRange};
 ghost use Rattle.line_text.specs.Prefixes.{IsPrefix};
-ghost use Rattle.trace_reader.specs.Reached.{HasReached, answer_of};
+ghost use Rattle.trace_reader.specs.Reached.{HasReached, IsOnTheWay, answer_of};
 ghost use Rattle.trace_reader.specs.Reading.State.{Failed};
 ghost use Rattle.trace_reader.specs.Reading.{fed, finished, is_finished, nothing_read, IsJudgementIn, is_open, line_ended, with_judged};
 
 use crate::fault::{TraceError, TraceFault};
 use crate::line::{LONGEST_LINE, MOST_EVENTS, event_in};
+use crate::one_pass::first_event;
 use crate::status::Status;
 use arrayvec::ArrayVec;
 use heap_theory::Event;
@@ -79,7 +80,7 @@ impl TraceReader {
         let mut text = piece;
         while let Some((line, after)) = first_line(text) {
             self.end_line(line)?;
-            text = after;
+            text = self.take_events(after)?;
         }
         self.keep(text)
     }
@@ -131,6 +132,28 @@ impl TraceReader {
         &self.events
     }
 
+    // Takes the events of the lines in front of a text, up to the first line that is not read in one pass, and returns the text from there.
+    fn take_events<'a>(&mut self, text: &'a [u8]) -> Result<&'a [u8], TraceError>
+        requires { is_open self.old ≡ true }
+        ensures way { MatchResult result
+            (λ rest. IsOnTheWay self.old text.now self.new rest.now)
+            (λ error. HasReached self.old (fed self.old text.now) self.new (Err error)) }
+        ensures shorter { IfOk result (λ rest. length rest.now ≤ length text.now) }
+    {
+        let mut rest = text;
+        if !self.rest.is_empty() {
+            return Ok(rest);
+        }
+        while let Some((event, after)) = first_event(rest) {
+            if self.lines == MOST_EVENTS {
+                break;
+            }
+            self.add(Ok(event))?;
+            rest = after;
+        }
+        Ok(rest)
+    }
+
     // ends the unfinished line with these bytes and a newline
     fn end_line(&mut self, end: &[u8]) -> Result<(), TraceError>
         requires open { is_open self.old ≡ true }
@@ -154,7 +177,8 @@ impl TraceReader {
         self.add(judged)
     }
 
-    // keeps the event of the line that was judged, or stops at its fault
+    // Keeps the event of the line that was judged, or stops at its fault. Inlined, so that an event of `take_events` costs no call.
+    #[inline(always)]
     fn add(&mut self, judged: Result<Event, TraceFault>) -> Result<(), TraceError>
         requires open { is_open self.old ≡ true }
         requires judged { IsJudgementIn self.old.state judged }
@@ -162,9 +186,10 @@ impl TraceReader {
     {
         match judged {
             Ok(event) => {
-                if self.events.push_back(event).is_err() {
+                if self.events.capacity() <= self.events.len() && self.events.reserve(1).is_err() {
                     return self.fail(TraceError::OutOfMemory);
                 }
+                self.events.push_back_reserved(event);
                 self.lines += 1;
                 self.rest.clear();
                 Ok(())

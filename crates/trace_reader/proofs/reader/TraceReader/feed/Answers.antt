@@ -1,9 +1,8 @@
 use Rattle.std.proofs.Common.{◌∙◌, sym, ap, Err, rules}
 use Rattle.std.proofs.lemmas.Result.{err_from_is_err_and}
-use Rattle.line_text.proofs.LawLemmas.{prefix_of_prefix}
 use Rattle.trace_reader.specs.Reached.{answer_of}
-use Rattle.trace_reader.specs.Reading.{Reading, fed, line_ended}
-use Rattle.trace_reader.proofs.Ending.{failed_on_the_way, fed-after, fed-failed, is_open-ended, reached_ok, state_failed, unchanged_if_failed, unfinished_after}
+use Rattle.trace_reader.specs.Reading.{Reading, fed}
+use Rattle.trace_reader.proofs.Ending.{failed_on_the_way, fed-failed, line_on_the_way, reached_on_the_way, state_failed, unchanged_if_failed, unfinished_after, way_after_way}
 use Rattle.trace_reader.proofs.Reaching.{IsPrefix-fed, came}
 use Rattle.trace_reader.proofs.reader.TraceReader.feed.Goals as goal
 
@@ -19,40 +18,49 @@ returns-in-Failed-clause-prefix c = IsPrefix-fed c.args.self.now c.args.piece.no
 pub returns-in_err-end_line : goal.returns-in_err-end_line
 returns-in_err-end_line c =
     let old = c.args.self.now in
-    let mid = c.loop-line.self in
-    let line = c.in-Some.line.now in
-    let after = c.in-Some.after.now in
-    let rest = c.loop-line.invariant.rest ∙ ap (fed mid) c.in-Some.ensures.cut in
+    let way = c.loop-line.invariant in
     let p = err_from_is_err_and c.from_residual.result c.from_residual.ensures.1 in
     let r =
-    failed_on_the_way old mid c.end_line.new.self c.in_err-end_line.field-0.0 c.args.piece.now line after
-    c.loop-line.invariant.still_open c.in-Some.ensures.line rest c.loop-line.invariant.kept c.in_err-end_line.ensures in
+    failed_on_the_way old c.loop-line.self c.end_line.new.self c.in_err-end_line.field-0.0 c.args.piece.now c.in-Some.line.now
+    c.in-Some.after.now way.still_open c.in-Some.ensures.line (way.fed_is ∙ ap (fed c.loop-line.self) c.in-Some.ensures.cut) way.kept
+    c.in_err-end_line.ensures in
     let failed = unchanged_if_failed old c.end_line.new.self (search rules) in
     let unfinished = unfinished_after old c.end_line.new.self c.args.piece.now (Err c.in_err-end_line.field-0.0) c.requires r in
     rw (p.1, p.2) (search (r, failed, unfinished))
 
+pub take_events-requires : goal.take_events-requires
+take_events-requires c =
+    let way =
+    line_on_the_way c.args.self.now c.loop-line.self c.end_line.new.self c.args.piece.now c.loop-line.text.now c.in-Some.line.now
+    c.in-Some.after.now c.loop-line.invariant c.in-Some.ensures.cut c.in-Some.ensures.line c.in_ok-end_line.ensures in
+    way.still_open
+
+pub returns-in_err-text : goal.returns-in_err-text
+returns-in_err-text c =
+    let old = c.args.self.now in
+    let way =
+    line_on_the_way old c.loop-line.self c.end_line.new.self c.args.piece.now c.loop-line.text.now c.in-Some.line.now c.in-Some.after.now
+    c.loop-line.invariant c.in-Some.ensures.cut c.in-Some.ensures.line c.in_ok-end_line.ensures in
+    let p = err_from_is_err_and c.from_residual-in_err-text.result c.from_residual-in_err-text.ensures.1 in
+    let r =
+    reached_on_the_way old c.end_line.new.self c.take_events.new.self c.args.piece.now c.in-Some.after.now (Err c.in_err-text.field-0.0) way
+    c.in_err-text.ensures.way in
+    let failed = unchanged_if_failed old c.take_events.new.self (search rules) in
+    let unfinished = unfinished_after old c.take_events.new.self c.args.piece.now (Err c.in_err-text.field-0.0) c.requires r in
+    rw (p.1, p.2) (search (r, failed, unfinished))
+
 pub loop-line-preserved : goal.loop-line-preserved
 loop-line-preserved c =
-    let old = c.args.self.now in
-    let mid = c.loop-line.self in
-    let line = c.in-Some.line.now in
-    let after = c.in-Some.after.now in
-    let reached = c.in_ok-end_line.ensures in
-    let now = reached_ok mid (line_ended mid line) c.end_line.new.self reached in
-    let answer = reached.answer ∙ ap (λ (r : Reading). answer_of r.state) now in
-    record {
-      still_open = rw now (is_open-ended mid line c.loop-line.invariant.still_open answer);
-      rest =
-          c.loop-line.invariant.rest ∙ ap (fed mid) c.in-Some.ensures.cut
-          ∙ fed-after mid line after c.loop-line.invariant.still_open c.in-Some.ensures.line
-          ∙ ap (λ (r : Reading). fed r after) (sym now);
-      kept = prefix_of_prefix old.events mid.events c.end_line.new.self.events c.loop-line.invariant.kept reached.kept;
-    }
+    let way =
+    line_on_the_way c.args.self.now c.loop-line.self c.end_line.new.self c.args.piece.now c.loop-line.text.now c.in-Some.line.now
+    c.in-Some.after.now c.loop-line.invariant c.in-Some.ensures.cut c.in-Some.ensures.line c.in_ok-end_line.ensures in
+    way_after_way c.args.self.now c.end_line.new.self c.take_events.new.self c.args.piece.now c.in-Some.after.now c.in_ok-text.text.now way
+    c.in_ok-text.ensures.way
 
 pub returns : goal.returns
 returns c =
     let old = c.args.self.now in
-    let now = c.keep.ensures.reading ∙ sym c.loop-line.invariant.rest in
+    let now = c.keep.ensures.reading ∙ sym c.loop-line.invariant.fed_is in
     let r =
     came old (fed old c.args.piece.now) c.keep.new.self c.keep.result now
     (c.keep.ensures.answer ∙ ap (λ (r : Reading). answer_of r.state) now) (IsPrefix-fed old c.args.piece.now) in

@@ -1,0 +1,14 @@
+use Rattle.std.proofs.Common.{◌≡◌, ◌≤◌, length, true}
+use Rattle.trace_reader.specs.Reached.{IsOnTheWay}
+use Rattle.trace_reader.specs.Reading.{is_at_start}
+use Rattle.trace_reader.proofs.reader.TraceReader.take_events.Given as goal
+
+abbrev pub invariant-loop-event : goal.invariant-loop-event
+invariant-loop-event l = record {
+  way : IsOnTheWay l.fn.self l.text l.self l.rest;
+  start : is_at_start l.self ≡ true;
+  shorter : length l.rest ≤ length l.text;
+}
+
+abbrev pub decreases-loop-event : goal.decreases-loop-event
+decreases-loop-event l = length l.rest
