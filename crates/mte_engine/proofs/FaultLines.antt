@@ -8,7 +8,7 @@ use Rattle.std.proofs.lemmas.List.{drop-take, length-drop, take-take}
 use Rattle.std.proofs.lemmas.Option.{same_Some}
 use Rattle.std.proofs.lemmas.List.Elements.{All-take, All-drop, All-head, All-tail}
 use Rattle.line_text.specs.FirstFault.{◌>>=◌, IsFirstFault}
-use Rattle.line_text.specs.Lines.{ended, lines, text_of, IsLine}
+use Rattle.line_text.specs.Lines.{lines, text_of, IsLine}
 use Rattle.line_text.proofs.LawLemmas.{line_in_front_is_read, lines_are_lines, written_lines_are_read}
 use Rattle.class_table.specs.ClassLine.{BeginsWithTable, class_line, table_of_line}
 use Rattle.class_table.specs.declared.fault.TableError.{TableError}
@@ -30,7 +30,7 @@ use Rattle.trace_reader.specs.declared.fault.TraceFault.{TraceFault}
 use Rattle.tuner_theory.specs.Sheets.{Sheet}
 use Rattle.tuner_theory.specs.Profiles.{Profile as Counted}
 use Rattle.mte_engine.specs.Check.{sheet_and_profile}
-use Rattle.mte_engine.specs.FaultLines.{IsAtFirstFault, SpellsSheetAndProfile, SpellsTableAndProfile, line_of_fault}
+use Rattle.mte_engine.specs.FaultLines.{IsAtFirstFault, SpellsLeadingAnd, SpellsSheetAndProfile, SpellsTableAnd, SpellsTableAndProfile, line_of_fault}
 use Rattle.mte_engine.specs.Outcome.{Answer}
 use Rattle.mte_engine.specs.Parts.{profile_part}
 use Rattle.mte_engine.specs.Replay.{replay_answer, replay_of_lines, report_on}
@@ -70,79 +70,82 @@ alike_after : (m : ℕ) (line : List ℕ) (ls rest : List (List ℕ)) → take (
 alike_after m line ls [] e = absurd cc
 alike_after m line ls (other ∷ rest) e = cc
 
--- ---- a table in front of a profile
+-- ---- a table in front of another part
+
+-- a part that a text spells, which is spelled by the text's lines too, each with its newline
+module _ {A : Type 0} (Spells : List ℕ → A → Type 0)
+    (whole_lines : (text : List ℕ) (x : A) → Spells text x → Spells (text_of (lines text)) x)
+    (example : List ℕ) (value : A) (spelled_example : Spells example value) where
+  -- the line of a table in front of it
+  in_front : (line table text : List ℕ) (x : A) → IsLine line → table_of_line line ≡ Ok table → Spells text x
+      → SpellsTableAnd Spells (line ++ 10 ∷ text) (table, x)
+  in_front line table text x is_line read spells =
+      let parts : lines (line ++ 10 ∷ text) ≡ line ∷ lines text = line_in_front_is_read line text is_line in
+      let spelled = read_line_is_spelled line table read in
+      let after : drop 1 (lines (line ++ 10 ∷ text)) ≡ lines text = ap (drop 1) parts in
+      record {
+        table = record { legal = spelled.1; line = ap (take 1) parts ∙ ap (λ (l : List ℕ). l ∷ []) spelled.0 };
+        rest = rw after (whole_lines text x spells);
+      }
+
+  -- an input with a fault in its table has its first fault there
+  pub first_line : (text : List ℕ) → IsFirstFault BeginsWithTable text 1 → IsFirstFault (SpellsTableAnd Spells) text 1
+  first_line text first = record {
+    some = first.some;
+    within = first.within;
+    before = (
+      class_line [] ++ 10 ∷ example,
+      ([], value),
+      in_front (class_line []) [] example value (class_line_is_full [] no_classes_are_legal).0
+          (table_line_is_read [] no_classes_are_legal) spelled_example,
+      refl,
+    );
+    none = λ other parts spells alike. first.none other parts.0 spells.table alike;
+  }
+
+  -- the first fault of the lines after a table is that of the input, one line later
+  pub later_line : (text line table : List ℕ) (ls : List (List ℕ)) (m : ℕ) → lines text ≡ line ∷ ls
+      → table_of_line line ≡ Ok table → IsFirstFault Spells (text_of ls) m → IsFirstFault (SpellsTableAnd Spells) text (suc m)
+  later_line text line table ls m parts read first =
+      let all : All IsLine (line ∷ ls) = rw parts at (lines_are_lines text) in
+      let same : lines (text_of ls) ≡ ls = written_lines_are_read ls (All-tail IsLine line ls all) in
+      let other = first.before.0 in
+      let is_line = All-head IsLine line ls all in
+      let before : suc m - 1 ≡ suc (m - 1) = omega (arith, first.some) in
+      let alike : take (m - 1) (lines other) ≡ take (m - 1) ls = rw same at first.before.3 in
+      record {
+        some = omega arith;
+        within = omega (arith, first.within, ap length same, ap length parts);
+        before = (
+          line ++ 10 ∷ other,
+          (table, first.before.1),
+          in_front line table other first.before.1 is_line read first.before.2,
+          rw (before, parts, line_in_front_is_read line other is_line) (ap (λ (front : List (List ℕ)). line ∷ front) alike),
+        );
+        none = λ next spelled spells alike_next.
+            let rest = drop 1 (lines next) in
+            let rest_lines = written_lines_are_read rest (All-drop IsLine 1 (lines next) (lines_are_lines next)) in
+            let after : take m ls ≡ take m rest = alike_after m line ls (lines next) (rw parts at (sym alike_next)) in
+            first.none (text_of rest) spelled.1 spells.rest (rw (same, rest_lines) (sym after));
+      }
 
 -- a profile is spelled by its lines, each with its newline
-whole_lines : (text : List ℕ) (p : Counted) → SpellsProfile text p → SpellsProfile (text_of (lines text)) p
-whole_lines text p spells =
+profile_lines : (text : List ℕ) (p : Counted) → SpellsProfile text p → SpellsProfile (text_of (lines text)) p
+profile_lines text p spells =
     let same = written_lines_are_read (lines text) (lines_are_lines text) in
     profile_is_spelled (text_of (lines text)) p (ap profile_of_lines same ∙ spelled_profile_is_read text p spells)
-
--- the line of a table in front of a profile
-in_front : (line table text : List ℕ) (p : Counted) → IsLine line → table_of_line line ≡ Ok table → SpellsProfile text p
-    → SpellsTableAndProfile (line ++ 10 ∷ text) (table, p)
-in_front line table text p is_line read spells =
-    let parts : lines (line ++ 10 ∷ text) ≡ line ∷ lines text = line_in_front_is_read line text is_line in
-    let spelled = read_line_is_spelled line table read in
-    let after : drop 1 (lines (line ++ 10 ∷ text)) ≡ lines text = ap (drop 1) parts in
-    record {
-      table = record { legal = spelled.1; line = ap (take 1) parts ∙ ap (λ (l : List ℕ). l ∷ []) spelled.0 };
-      profile = rw after (whole_lines text p spells);
-    }
-
--- ---- the fault of the table
 
 nothing_spelled : SpellsProfile [] nothing_counted
 unfolding lines profile_from
 nothing_spelled = profile_is_spelled [] nothing_counted refl
 
--- an input with a fault in its table has its first fault there
-first_line : (text : List ℕ) → IsFirstFault BeginsWithTable text 1 → IsFirstFault SpellsTableAndProfile text 1
-first_line text first = record {
-  some = first.some;
-  within = first.within;
-  before = (
-    ended (class_line []),
-    ([], nothing_counted),
-    in_front (class_line []) [] [] nothing_counted (class_line_is_full [] no_classes_are_legal).0
-        (table_line_is_read [] no_classes_are_legal) nothing_spelled,
-    refl,
-  );
-  none = λ other parts spells alike. first.none other parts.0 spells.table alike;
-}
+first_of_profile : (text : List ℕ) → IsFirstFault BeginsWithTable text 1 → IsFirstFault SpellsTableAndProfile text 1
+first_of_profile = first_line SpellsProfile profile_lines [] nothing_counted nothing_spelled
 
 -- the table of a text is refused at line 1
-table_refused : (text line : List ℕ) (ls : List (List ℕ)) (fault : TableError) → lines text ≡ line ∷ ls
+pub table_refused : (text line : List ℕ) (ls : List (List ℕ)) (fault : TableError) → lines text ≡ line ∷ ls
     → table_of_line line ≡ Err fault → IsFirstFault BeginsWithTable text 1
 table_refused text line ls fault parts read = (table_fault_is_refused text line (ap (take 1) parts)).0 (rw read refl)
-
--- ---- the fault of the profile
-
--- the first fault of the lines after a table is that of the input, one line later
-later_line : (text line table : List ℕ) (ls : List (List ℕ)) (m : ℕ) → lines text ≡ line ∷ ls
-    → table_of_line line ≡ Ok table → IsFirstFault SpellsProfile (text_of ls) m → IsFirstFault SpellsTableAndProfile text (suc m)
-later_line text line table ls m parts read first =
-    let all : All IsLine (line ∷ ls) = rw parts at (lines_are_lines text) in
-    let same : lines (text_of ls) ≡ ls = written_lines_are_read ls (All-tail IsLine line ls all) in
-    let other = first.before.0 in
-    let is_line = All-head IsLine line ls all in
-    let before : suc m - 1 ≡ suc (m - 1) = omega (arith, first.some) in
-    let alike : take (m - 1) (lines other) ≡ take (m - 1) ls = rw same at first.before.3 in
-    record {
-      some = omega arith;
-      within = omega (arith, first.within, ap length same, ap length parts);
-      before = (
-        line ++ 10 ∷ other,
-        (table, first.before.1),
-        in_front line table other first.before.1 is_line read first.before.2,
-        rw (before, parts, line_in_front_is_read line other is_line) (ap (λ (front : List (List ℕ)). line ∷ front) alike),
-      );
-      none = λ next spelled spells alike_next.
-          let rest = drop 1 (lines next) in
-          let rest_lines = written_lines_are_read rest (All-drop IsLine 1 (lines next) (lines_are_lines next)) in
-          let after : take m ls ≡ take m rest = alike_after m line ls (lines next) (rw parts at (sym alike_next)) in
-          first.none (text_of rest) spelled.1 spells.profile (rw (same, rest_lines) (sym after));
-    }
 
 -- ---- what is refused
 
@@ -162,7 +165,8 @@ score_at_first text fault e = go (lines text) refl e
         let refused_text : profile_of (text_of ls) ≡ Err (refused.0, refused.1) = ap profile_of_lines same ∙ is_profile in
         let first = (profile_fault_is_refused (text_of ls) refused.0).0 (refused.1, refused_text) in
         let number : 1 + refused.0 ≡ suc refused.0 = omega arith in
-        let later = later_line text line table ls refused.0 parts is_table first in
+        let later =
+        later_line SpellsProfile profile_lines [] nothing_counted nothing_spelled text line table ls refused.0 parts is_table first in
         (suc refused.0, rw is_fault (ap (λ (n : ℕ). Some n) number), later)
 
     with_line : (line : List ℕ) (ls : List (List ℕ)) (read : Result (List ℕ) TableError) → lines text ≡ line ∷ ls
@@ -170,12 +174,12 @@ score_at_first text fault e = go (lines text) refl e
     with_line line ls (Ok table) parts is e = after line table ls (profile_of_lines ls) parts is refl e
     with_line line ls (Err refused) parts is e =
         let is_fault : fault ≡ Table refused = (let same = rw is at e in cc) in
-        (1, rw is_fault refl, first_line text (table_refused text line ls refused parts is))
+        (1, rw is_fault refl, first_of_profile text (table_refused text line ls refused parts is))
 
     go : (ls : List (List ℕ)) → lines text ≡ ls → score_of_lines ls ≡ Err fault → IsAtFirstFault SpellsTableAndProfile text fault
     go [] parts e =
         let is_fault : fault ≡ Table BadLine = cc in
-        (1, rw is_fault refl, first_line text (missing_line_is_first_fault text parts))
+        (1, rw is_fault refl, first_of_profile text (missing_line_is_first_fault text parts))
     go (line ∷ ls) parts e = with_line line ls (table_of_line line) parts refl e
 
 pub tune_at_first : (text : List ℕ) (fault : InputFault) → profile_part 0 (profile_of text) ≡ Err fault
@@ -190,7 +194,62 @@ tune_at_first text fault e = go (profile_of text) refl e
         let number : 0 + refused.0 ≡ refused.0 = omega arith in
         (refused.0, rw is_fault (ap (λ (n : ℕ). Some n) number), (profile_fault_is_refused text refused.0).0 (refused.1, is))
 
--- the first fault of the lines after a sheet is that of the input, so many lines later
+-- ---- a part in front of another part
+
+-- No text with the same leading lines and the lines after them up to their first fault spells both parts.
+pub none_later : {A B : Type 0} (First : List ℕ → A → Type 0) (Rest : List ℕ → B → Type 0) (text next : List ℕ) (m : ℕ) (parts : A × B)
+    → IsFirstFault Rest (text_of (lines_after (lines text))) m → leading_lines (lines next) ≡ leading_lines (lines text)
+    → SpellsLeadingAnd First Rest next parts
+    → take (length (leading_lines (lines text)) + m) (lines next) ≡ take (length (leading_lines (lines text)) + m) (lines text) → ⊥
+unfolding lines_after
+none_later First Rest text next m parts first settled spells alike =
+    let ls = lines text in
+    let others = lines next in
+    let k = length (leading_lines ls) in
+    let rest_lines = written_lines_are_read (drop k ls) (All-drop IsLine k ls (lines_are_lines text)) in
+    let after = drop k others in
+    let after_lines : lines (text_of after) ≡ after =
+    written_lines_are_read after (All-drop IsLine k others (lines_are_lines next)) in
+    let is_next : Rest (text_of after) parts.1 = rw settled at spells.rest in
+    first.none (text_of after) parts.1 is_next (rw (rest_lines, after_lines) (after_alike k m others ls alike))
+
+-- The first fault of the lines after the leading lines is that of the input, so many lines later: where that line is there, and those before
+-- it spell the other part.
+pub after_leading : {A B : Type 0} (First : List ℕ → A → Type 0) (Rest : List ℕ → B → Type 0) (text : List ℕ) (x : A) (y : B) (m : ℕ)
+    → First (text_of (leading_lines (lines text))) x → m ≤ length (lines_after (lines text))
+    → Rest (text_of (take (m - 1) (lines_after (lines text)))) y → IsFirstFault Rest (text_of (lines_after (lines text))) m
+    → IsFirstFault (SpellsLeadingAnd First Rest) text (length (leading_lines (lines text)) + m)
+unfolding lines_after
+after_leading First Rest text x y m is_first there is_rest first =
+    let ls = lines text in
+    let front = leading_lines ls in
+    let k = length front in
+    let rest = drop k ls in
+    let all = lines_are_lines text in
+    let within : k + m ≤ length ls = omega (arith, there, length-drop k ls, first.some) in
+    let number : k + m - 1 ≡ k + (m - 1) = omega (arith, first.some) in
+    let kept = take (k + (m - 1)) ls in
+    let other = text_of kept in
+    let kept_lines : lines other ≡ kept = written_lines_are_read kept (All-take IsLine (k + (m - 1)) ls all) in
+    let same_front : leading_lines kept ≡ front =
+    leading_lines-cut (k + (m - 1)) ls (omega arith) (omega (arith, within, first.some)) in
+    let same_rest : drop k kept ≡ take (m - 1) rest = drop-take k (m - 1) ls in
+    record {
+      some = omega (arith, first.some);
+      within = omega (arith, within);
+      before = (
+        other,
+        (x, y),
+        record { first = rw (kept_lines, same_front) is_first; rest = rw (kept_lines, same_front, same_rest) is_rest },
+        rw (number, kept_lines) (take-take (k + (m - 1)) (k + (m - 1)) ls (omega arith)),
+      );
+      none = λ next spelled spells alike.
+          let more : k < k + m = omega (arith, first.some) in
+          let settled = leading_lines-settled (k + m) ls (lines next) more within (sym alike) in
+          none_later First Rest text next m spelled first settled spells alike;
+    }
+
+-- the first fault of the lines after a sheet
 after_sheet : (text : List ℕ) (sheet : Sheet) (m : ℕ) → sheet_of_lines (leading_lines (lines text)) ≡ Ok sheet
     → IsRefusedAt m (text_of (lines_after (lines text)))
     → IsFirstFault SpellsSheetAndProfile text (length (leading_lines (lines text)) + m)
@@ -198,43 +257,16 @@ unfolding lines_after
 after_sheet text sheet m read refused =
     let ls = lines text in
     let front = leading_lines ls in
-    let k = length front in
-    let rest = drop k ls in
+    let rest = drop (length front) ls in
     let all = lines_are_lines text in
-    let rest_lines : lines (text_of rest) ≡ rest = written_lines_are_read rest (All-drop IsLine k ls all) in
+    let rest_lines : lines (text_of rest) ≡ rest = written_lines_are_read rest (All-drop IsLine (length front) ls all) in
     let front_lines : lines (text_of front) ≡ front = written_lines_are_read front (leading_lines-lines ls all) in
     let first = (profile_fault_is_refused (text_of rest) m).0 refused in
     let there : m ≤ length rest = rw rest_lines at (refused_line_is_there (text_of rest) m refused) in
-    let within : k + m ≤ length ls = omega (arith, there, length-drop k ls, first.some) in
-    let number : k + m - 1 ≡ k + (m - 1) = omega (arith, first.some) in
     let before = lines_before_it_spell (text_of rest) m refused in
-    let kept = take (k + (m - 1)) ls in
-    let other = text_of kept in
-    let kept_lines : lines other ≡ kept = written_lines_are_read kept (All-take IsLine (k + (m - 1)) ls all) in
-    let same_front : leading_lines kept ≡ front =
-    leading_lines-cut (k + (m - 1)) ls (omega arith) (omega (arith, within, first.some)) in
-    let same_rest : drop k kept ≡ take (m - 1) rest = drop-take k (m - 1) ls in
     let is_sheet : SpellsSheet (text_of front) sheet = sheet_is_spelled (text_of front) sheet (ap sheet_of_lines front_lines ∙ read) in
     let is_profile : SpellsProfile (text_of (take (m - 1) rest)) before.0 = rw rest_lines at before.1 in
-    record {
-      some = omega (arith, first.some);
-      within = omega (arith, within);
-      before = (
-        other,
-        (sheet, before.0),
-        record { sheet = rw (kept_lines, same_front) is_sheet; profile = rw (kept_lines, same_front, same_rest) is_profile },
-        rw (number, kept_lines) (take-take (k + (m - 1)) (k + (m - 1)) ls (omega arith)),
-      );
-      none = λ next spelled spells alike.
-          let others = lines next in
-          let more : k < k + m = omega (arith, first.some) in
-          let settled : leading_lines others ≡ front = leading_lines-settled (k + m) ls others more within (sym alike) in
-          let after = drop k others in
-          let after_lines : lines (text_of after) ≡ after =
-          written_lines_are_read after (All-drop IsLine k others (lines_are_lines next)) in
-          let is_next : SpellsProfile (text_of after) spelled.1 = rw settled at spells.profile in
-          first.none (text_of after) spelled.1 is_next (rw (rest_lines, after_lines) (after_alike k m others ls alike));
-    }
+    after_leading SpellsSheet SpellsProfile text sheet before.0 m is_sheet there is_profile first
 
 pub check_profile_at_first : (text : List ℕ) (n : ℕ) (fault : ProfileFault) → sheet_and_profile (lines text) ≡ Err (Profile n fault)
     → IsFirstFault SpellsSheetAndProfile text n

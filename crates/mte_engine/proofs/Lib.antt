@@ -2,6 +2,7 @@ pub mod OneFitAnswer
 pub mod Outcomes
 pub mod Counting
 pub mod FaultLines
+pub mod HistoryFaultLines
 pub mod FitAndHistory
 pub mod Headline
 pub mod SheetLinesSettled

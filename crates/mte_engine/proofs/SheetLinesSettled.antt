@@ -4,9 +4,10 @@ use Rattle.std.proofs.Common.{List, [], ◌∷◌, ◌++◌, length, take, drop,
 use Rattle.std.proofs.Common.{refl, sym, ap, ◌∙◌, arith, length-append}
 use Rattle.std.specs.List.{prefix_len, take_while}
 use Rattle.std.specs.Prelude.{All}
-use Rattle.std.proofs.lemmas.List.{drop-take, get_or-take, length-drop, length-take, take-take}
+use Rattle.std.proofs.lemmas.List.{drop-append-le, drop-take, get_or_append_left, get_or-take, length-drop, length-take, take-append-le, take-take}
+use Rattle.std.proofs.lemmas.List.Folds.{length-prefix_len}
 use Rattle.std.proofs.lemmas.List.Elements.{All-append, All-drop, All-take}
-use Rattle.std.proofs.lemmas.List.Sums.{take_while-cons}
+use Rattle.std.proofs.lemmas.List.Sums.{prefix_len-le-length, take_while-cons}
 use Rattle.line_text.specs.Lines.{IsLine}
 use Rattle.potential_check.specs.Leading.{head_size, is_row_line, leading_lines}
 use Rattle.potential_check.specs.SheetText.{is_named}
@@ -55,6 +56,16 @@ passing_cut p (suc n) (x ∷ xs) few = go (passing_cut p n xs) (p x) refl
         rw (take_while-cons p x (take n xs), take_while-cons p x xs, is, others (omega (arith, fewer))) refl
     go others false is = rw (take_while-cons p x (take n xs), take_while-cons p x xs, is) refl
 
+-- One that fails may stand at the end.
+passing_end : {A : Type 0} (p : A → Bool) (xs : List A) (x : A) → p x ≡ false → take_while p (xs ++ x ∷ []) ≡ take_while p xs
+passing_end p [] x fails = take_while-cons p x [] ∙ rw fails refl
+passing_end p (y ∷ xs) x fails = go (passing_end p xs x fails) (p y) refl
+  where
+    go : take_while p (xs ++ x ∷ []) ≡ take_while p xs → (passes : Bool) → p y ≡ passes
+        → take_while p (y ∷ xs ++ x ∷ []) ≡ take_while p (y ∷ xs)
+    go others true is = rw (take_while-cons p y (xs ++ x ∷ []), take_while-cons p y xs, is, others) refl
+    go others false is = rw (take_while-cons p y (xs ++ x ∷ []), take_while-cons p y xs, is) refl
+
 -- ---- so many elements, and those after them that pass a test
 
 abbrev leading : {A : Type 0} → (A → Bool) → ℕ → List A → List A
@@ -89,6 +100,28 @@ leading-cut p h n xs few short =
     let after : drop h (take n xs) ≡ take (n - h) (drop h xs) = ap (λ (n : ℕ). drop h (take n xs)) parts ∙ drop-take h (n - h) xs in
     let rows = passing_cut p (n - h) (drop h xs) (omega (arith, few, size.0)) in
     rw (head, after, rows) refl
+
+-- where one that fails stands after them
+leading-one_more : {A : Type 0} (p : A → Bool) (h : ℕ) (xs : List A) (x : A) → p x ≡ false → h ≤ length xs
+    → (length (leading p h xs) ≤ length xs) × (leading p h (take (length (leading p h xs)) xs ++ x ∷ []) ≡ leading p h xs)
+leading-one_more p h xs x fails within =
+    let k = length (leading p h xs) in
+    let rest = drop h xs in
+    let passing = length-prefix_len p rest in
+    let few = prefix_len-le-length p rest in
+    let size : k ≡ h + length (take_while p rest) =
+    omega (arith, length-append (take h xs) (take_while p rest), length-take h xs, within) in
+    let fits : k ≤ length xs = omega (arith, size, passing, few, length-drop h xs, within) in
+    let long : h ≤ length (take k xs) = omega (arith, size, fits, length-take k xs) in
+    let parts : k ≡ h + (k - h) = omega (arith, size) in
+    let head : take h (take k xs ++ x ∷ []) ≡ take h xs =
+    take-append-le h (take k xs) (x ∷ []) long ∙ take-take h k xs (omega (arith, size)) in
+    let after : drop h (take k xs) ≡ take (k - h) rest = ap (λ (n : ℕ). drop h (take n xs)) parts ∙ drop-take h (k - h) xs in
+    let tail : drop h (take k xs ++ x ∷ []) ≡ take (k - h) rest ++ x ∷ [] =
+    drop-append-le h (take k xs) (x ∷ []) long ∙ ap (λ (front : List _). front ++ x ∷ []) after in
+    let rows : take_while p (take (k - h) rest ++ x ∷ []) ≡ take_while p rest =
+    passing_end p (take (k - h) rest) x fails ∙ passing_cut p (k - h) rest (omega (arith, size)) in
+    (fits, rw (head, tail, rows) refl)
 
 -- ---- the lines of a sheet
 
@@ -126,6 +159,24 @@ leading_lines-cut n ls few short =
     let same = sym (take-take n n ls (omega arith)) in
     let head = head_size-alike n ls (take n ls) (omega (arith, head_size-few ls, few, size.0)) same in
     ap (λ (h : ℕ). leading is_row_line h (take n ls)) head ∙ leading-cut is_row_line (head_size ls) n ls few short
+
+-- where another line than a row's stands after them,
+pub leading_lines-one_more : (ls : List (List ℕ)) (line : List ℕ) → is_row_line line ≡ false → head_size ls ≤ length ls
+    → (length (leading_lines ls) ≤ length ls)
+    × (leading_lines (take (length (leading_lines ls)) ls ++ line ∷ []) ≡ leading_lines ls)
+unfolding leading_lines
+leading_lines-one_more ls line is_no_row within =
+    let k = length (leading_lines ls) in
+    let both = leading-one_more is_row_line (head_size ls) ls line is_no_row within in
+    let some = head_size-few ls in
+    let long : 2 < k =
+    (let both_long = length-append (take (head_size ls) ls) (take_while is_row_line (drop (head_size ls) ls)) in
+    omega (arith, some, both_long, length-take (head_size ls) ls, within)) in
+    let kept : 2 < length (take k ls) = omega (arith, long, both.0, length-take k ls) in
+    let third : get_or (take k ls ++ line ∷ []) 2 [] ≡ get_or ls 2 [] =
+    get_or_append_left (take k ls) (line ∷ []) [] 2 kept ∙ get_or-take k ls 2 [] long in
+    let head : head_size (take k ls ++ line ∷ []) ≡ head_size ls = rw third refl in
+    (both.0, ap (λ (h : ℕ). leading is_row_line h (take k ls ++ line ∷ [])) head ∙ both.1)
 
 -- They are lines.
 pub leading_lines-lines : (ls : List (List ℕ)) → All IsLine ls → All IsLine (leading_lines ls)

@@ -3,9 +3,13 @@ use Rattle.std.specs.Prelude.{◌≡◌, ℕ, List, Option, Some, None, drop}
 use Rattle.line_text.specs.FirstFault.{IsFirstFault}
 use Rattle.line_text.specs.Lines.{lines, text_of}
 use Rattle.class_table.specs.ClassLine.{BeginsWithTable}
+use Rattle.history_count.specs.Histories.{History as CountedHistory}
+use Rattle.history_count.specs.HistoryText.{SpellsHistory}
+use Rattle.potential_check.specs.FitText.{SpellsFit}
 use Rattle.potential_check.specs.Leading.{leading_lines, lines_after}
 use Rattle.potential_check.specs.SheetText.{SpellsSheet}
 use Rattle.profile_count.specs.ProfileText.{SpellsProfile}
+use Rattle.tuner_theory.specs.Fits.{Fit}
 use Rattle.tuner_theory.specs.Sheets.{Sheet}
 use Rattle.tuner_theory.specs.Profiles.{Profile as Counted}
 use Rattle.mte_engine.specs.declared.fault.InputFault.{InputFault}
@@ -25,12 +29,25 @@ line_of_fault (Trace line fault) = Some line
 abbrev pub IsAtFirstFault : {A : Type 0} → (List ℕ → A → Type 0) → List ℕ → InputFault → Type 0
 IsAtFirstFault Spells text fault = (n : ℕ) × (line_of_fault fault ≡ Some n) × IsFirstFault Spells text n
 
--- The text spells a table in its first line, and a profile in those after it.
-pub record SpellsTableAndProfile (text : List ℕ) (parts : List ℕ × Counted) : Type 0 where
+-- The text spells a table in its first line, and another part in those after it.
+pub record SpellsTableAnd {A : Type 0} (Spells : List ℕ → A → Type 0) (text : List ℕ) (parts : List ℕ × A) : Type 0 where
   pub table : BeginsWithTable text parts.0
-  pub profile : SpellsProfile (text_of (drop 1 (lines text))) parts.1
+  pub rest : Spells (text_of (drop 1 (lines text))) parts.1
 
--- The text spells a sheet in its leading lines, and a profile in those after them.
-pub record SpellsSheetAndProfile (text : List ℕ) (parts : Sheet × Counted) : Type 0 where
-  pub sheet : SpellsSheet (text_of (leading_lines (lines text))) parts.0
-  pub profile : SpellsProfile (text_of (lines_after (lines text))) parts.1
+abbrev pub SpellsTableAndProfile : List ℕ → List ℕ × Counted → Type 0
+SpellsTableAndProfile text parts = SpellsTableAnd SpellsProfile text parts
+
+abbrev pub SpellsTableAndHistory : List ℕ → List ℕ × CountedHistory → Type 0
+SpellsTableAndHistory text parts = SpellsTableAnd SpellsHistory text parts
+
+-- The text spells one part in its leading lines, and another in those after them.
+pub record SpellsLeadingAnd {A B : Type 0} (First : List ℕ → A → Type 0) (Rest : List ℕ → B → Type 0) (text : List ℕ) (parts : A × B)
+    : Type 0 where
+  pub first : First (text_of (leading_lines (lines text))) parts.0
+  pub rest : Rest (text_of (lines_after (lines text))) parts.1
+
+abbrev pub SpellsSheetAndProfile : List ℕ → Sheet × Counted → Type 0
+SpellsSheetAndProfile text parts = SpellsLeadingAnd SpellsSheet SpellsProfile text parts
+
+abbrev pub SpellsFitAndHistory : List ℕ → Fit × CountedHistory → Type 0
+SpellsFitAndHistory text parts = SpellsLeadingAnd SpellsFit SpellsHistory text parts

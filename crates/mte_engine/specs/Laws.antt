@@ -10,9 +10,13 @@ use Rattle.profile_count.specs.ProfileText.{SpellsProfile}
 use Rattle.profile_count.specs.declared.fault.ProfileFault.{ProfileFault}
 use Rattle.tagged_heap.specs.declared.heap.Config.{Config}
 use Rattle.tuner_theory.specs.Sheets.{Sheet}
+use Rattle.history_count.specs.HistoryText.{SpellsHistory}
+use Rattle.history_count.specs.declared.fault.HistoryFault.{HistoryFault}
 use Rattle.mte_engine.specs.Check.{CheckAnswers}
+use Rattle.mte_engine.specs.CheckFit.{CheckFitAnswers}
 use Rattle.mte_engine.specs.Fit.{FitAnswers}
-use Rattle.mte_engine.specs.FaultLines.{IsAtFirstFault, SpellsSheetAndProfile, SpellsTableAndProfile, line_of_fault}
+use Rattle.mte_engine.specs.FaultLines.{IsAtFirstFault, SpellsFitAndHistory, SpellsSheetAndProfile, SpellsTableAndHistory, SpellsTableAndProfile, line_of_fault}
+use Rattle.mte_engine.specs.Footprint.{FootprintAnswers}
 use Rattle.mte_engine.specs.Outcome.{Answer}
 use Rattle.mte_engine.specs.Replay.{ReplayAnswers, report_on}
 use Rattle.mte_engine.specs.Run.{IsTunedRun, RunAnswers}
@@ -22,7 +26,7 @@ use Rattle.mte_engine.specs.Traces.{profile_of_events}
 use Rattle.mte_engine.specs.Tune.{TuneAnswers}
 use Rattle.mte_engine.specs.declared.engine.Status.TheVariants.{Done}
 use Rattle.mte_engine.specs.declared.fault.InputFault.{InputFault}
-use Rattle.mte_engine.specs.declared.fault.InputFault.TheVariants.{Profile, Table}
+use Rattle.mte_engine.specs.declared.fault.InputFault.TheVariants.{History, Profile, Table}
 
 -- The sheet that is tuned for the profile of a trace, and then the report on that sheet's table, are the headline.
 abbrev pub TunedRunIsHeadline : Type 0
@@ -79,3 +83,21 @@ abbrev pub ReplayRefusesTheFirstLine : Type 0
 ReplayRefusesTheFirstLine =
     (config : Config) (text : List ℕ) (fault : TableError) → ReplayAnswers config text (Err (Table fault)) →
     IsAtFirstFault BeginsWithTable text (Table fault)
+
+-- A fault of the table or the history that `footprint` reports is in the line of the input's first fault.
+abbrev pub FootprintRefusesAtTheFirstFault : Type 0
+FootprintRefusesAtTheFirstFault =
+    (text : List ℕ) (fault : InputFault) → FootprintAnswers text (Err fault) →
+    IsAtFirstFault SpellsTableAndHistory text fault
+
+-- A fault of the history that `fit` reports is in the line of the input's first fault.
+abbrev pub FitRefusesAtTheFirstFault : Type 0
+FitRefusesAtTheFirstFault =
+    (limit step : ℕ) (text : List ℕ) (fault : InputFault) → FitAnswers limit step text (Err fault) →
+    IsAtFirstFault SpellsHistory text fault
+
+-- A fault of the history that `check-fit` reports is in the line of the input's first fault.
+abbrev pub CheckFitRefusesTheHistoryAtItsFirstFault : Type 0
+CheckFitRefusesTheHistoryAtItsFirstFault =
+    (text : List ℕ) (n : ℕ) (fault : HistoryFault) → CheckFitAnswers text (Err (History n fault)) →
+    IsFirstFault SpellsFitAndHistory text n

@@ -14,6 +14,7 @@ pub mod ReportLeft
 pub mod Run
 pub mod Score
 pub mod FaultText
+pub mod FormatNumbers
 pub mod Streams
 pub mod Traces
 pub mod TextLeft

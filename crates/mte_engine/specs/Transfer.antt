@@ -5,15 +5,14 @@ use Rattle.mte_engine.specs.Streams.{SinkState, SourceState}
 use Rattle.mte_engine.specs.declared.fault.ReadError.{ReadError}
 use Rattle.mte_engine.specs.declared.fault.ReadError.TheVariants.{OutOfMemory, TooLong, Failed}
 use Rattle.mte_engine.specs.declared.byte_streams.Failure.{Failure}
-use Rattle.mte_engine.specs.declared.transfer.TheConstants.{MOST_INPUT}
 
 -- The most bytes of an input.
 abbrev pub most_input : ℕ
-most_input = MOST_INPUT
+most_input = 67108864
 
 -- A bound on how often a source is read. Each read but the last takes at least one byte.
 abbrev pub most_reads : ℕ
-most_reads = MOST_INPUT + 1
+most_reads = most_input + 1
 
 -- The source was read at most so often.
 abbrev pub IsReadFewTimes : SourceState → SourceState → Type 0
