@@ -2,14 +2,14 @@
 use Rattle.std.proofs.Common.{◌≡◌, ℕ, List, [], ◌∷◌, ◌++◌, codes, append_assoc}
 use Rattle.line_text.specs.Lines.{ended, line_of, text_of}
 
-pub tag_fault_line : (number granule memory pointer kind : List ℕ) (x0 x1 x2 x3 x4 x5 x6 x7 x8 x9 x10 : List ℕ) → x0 ≡ [] →
+pub tag_fault_line : (number granule memory pointer kind : List ℕ) (x0 x1 x2 x3 x4 x5 x6 x7 x8 x9 x10 : List ℕ) →
     x1 ≡ x0 ++ number → x2 ≡ x1 ++ codes " fault tag granule " →
     x3 ≡ x2 ++ granule → x4 ≡ x3 ++ codes " memory " → x5 ≡ x4 ++ memory → x6 ≡ x5 ++ codes " pointer " → x7 ≡ x6 ++ pointer →
     x8 ≡ x7 ++ codes " in " → x9 ≡ x8 ++ kind → x10 ≡ x9 ++ 10 ∷ [] →
-    x10 ≡ ended (line_of (number ∷ codes "fault" ∷ codes "tag" ∷ codes "granule" ∷ granule ∷ codes "memory" ∷ memory ∷ codes
+    x10 ≡ x0 ++ ended (line_of (number ∷ codes "fault" ∷ codes "tag" ∷ codes "granule" ∷ granule ∷ codes "memory" ∷ memory ∷ codes
     "pointer" ∷ pointer ∷ codes "in" ∷ kind ∷ []))
-tag_fault_line number granule memory pointer kind x0 x1 x2 x3 x4 x5 x6 x7 x8 x9 x10 e0 e1 e2 e3 e4 e5 e6 e7 e8 e9 e10 =
-    rw (e10, e9, e8, e7, e6, e5, e4, e3, e2, e1, e0) (simp append_assoc)
+tag_fault_line number granule memory pointer kind x0 x1 x2 x3 x4 x5 x6 x7 x8 x9 x10 e1 e2 e3 e4 e5 e6 e7 e8 e9 e10 =
+    rw (e10, e9, e8, e7, e6, e5, e4, e3, e2, e1) (simp append_assoc)
 
 pub nine_lines : (a b c d e f g h i x0 x1 x2 x3 x4 x5 x6 x7 x8 x9 : List ℕ) → x0 ≡ [] → x1 ≡ x0 ++ ended a → x2 ≡ x1 ++ ended b →
     x3 ≡ x2 ++ ended c → x4 ≡ x3 ++ ended d → x5 ≡ x4 ++ ended e →

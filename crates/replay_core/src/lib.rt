@@ -10,6 +10,7 @@ mod append;
 mod event_fields;
 pub mod laws;
 mod perform;
+mod put;
 mod replay;
 mod report_line;
 mod totals;

@@ -4,9 +4,10 @@ ghost use Rattle.heap_theory.specs.Report.{report_line};
 ghost use Rattle.heap_theory.specs.Replay.{answer_of};
 ghost use Rattle.replay_core.specs.ReplayState.{first_stored, stored_after};
 ghost use Rattle.tagged_heap.specs.Config.{IsConfig, layout_for};
-ghost use Rattle.std.specs.Prelude.{◌≡◌, ◌+◌, ◌^◌, ◌<◌, IfOk};
+ghost use Rattle.std.specs.Prelude.{◌≡◌, ◌++◌, ◌+◌, ◌^◌, ◌<◌, ◌≤◌, IfOk, length, take};
 
 use crate::access::LONGEST_ACCESS;
+use crate::append::append;
 use crate::perform::perform;
 use crate::report_line::write_line;
 use crate::totals::Totals;
@@ -74,10 +75,28 @@ impl Replay {
         ensures stored { self.new ≡ stored_after self.old event.now }
         ensures run { (run : Run) → run.replay ≡ self.old.replay → (run_after run event.now).replay ≡ self.new.replay }
     {
+        let mut text = [0; LINE_ROOM];
+        let end = self.step_at(event, &mut text, 0);
+        line.clear();
+        append(line, &text[..end]);
+    }
+
+    /// As `step`, but writes the line into a text from byte `at` on, where there must be room for `LINE_ROOM` bytes. Returns where the line
+    /// ends. What lies before `at` stays.
+    pub fn step_at(&mut self, event: &Event, text: &mut [u8], at: usize) -> usize
+        requires few { self.old.totals.events < 2 ^ 40 }
+        requires in_range { IsInRange event.now }
+        requires room { at + LINE_ROOM ≤ length text.old }
+        ensures end { result ≤ at + LINE_ROOM }
+        ensures line { take result text.new
+            ≡ take at text.old ++ report_line (self.old.totals.events + 1) (answer_of self.old.replay event.now) }
+        ensures stored { self.new ≡ stored_after self.old event.now }
+        ensures run { (run : Run) → run.replay ≡ self.old.replay → (run_after run event.now).replay ≡ self.new.replay }
+    {
         let mut bytes = [0; LONGEST_ACCESS];
         let answer = perform(&mut self.heap, &mut self.variables, event, &mut bytes);
         self.totals.count(&self.heap, event, &answer);
-        write_line(line, self.totals.events, &answer, &bytes);
+        write_line(text, at, self.totals.events, &answer, &bytes)
     }
 
     /// How many events were performed.

@@ -2,8 +2,7 @@ use Rattle.std.proofs.Common.{append_assoc}
 use Rattle.heap_theory.specs.Report.{report_line}
 use Rattle.replay_core.proofs.report_line.write_data.Goals as goal
 
-pub returns : goal.returns
+pub returns-clause-text : goal.returns-clause-text
 unfolding report_line
-returns c =
-    rw (c.push.ensures.items, c.append_hex.ensures.items, c.append.ensures.items, c.append_number.ensures.items, c.requires.empty)
-    (simp append_assoc)
+returns-clause-text c =
+    rw (c.put.ensures.text, c.put_hex-end.ensures.text, c.put-end.ensures.text, c.put_number-end.ensures.text) (simp append_assoc)

@@ -1,14 +1,18 @@
-use Rattle.std.proofs.Common.{ap, ◌∙◌, ◌++◌}
+use Rattle.std.proofs.Common.{ap, take, ◌∙◌, ◌++◌}
 use Rattle.std.specs.Fmt.{decimal}
 use Rattle.heap_theory.specs.Report.{report_line}
 use Rattle.replay_core.proofs.Written.{tag_fault_line}
 use Rattle.replay_core.proofs.report_line.write_tag_fault.Goals as goal
 
-pub returns : goal.returns
+pub returns-clause-text : goal.returns-clause-text
 unfolding report_line
-returns c =
-    tag_fault_line _ _ _ _ _ _ _ _ _ _ _ _ _ _ _ _ c.requires c.append_number.ensures.items c.append.ensures.items
-    (c.append_number-2.ensures.items ∙ ap (λ n. c.append.new.text.items ++ decimal n) c.from.ensures) c.append-2.ensures.items
-    (c.append_number-3.ensures.items ∙ ap (λ n. c.append-2.new.text.items ++ decimal n) c.from-2.ensures) c.append-3.ensures.items
-    (c.append_number-4.ensures.items ∙ ap (λ n. c.append-3.new.text.items ++ decimal n) c.from-3.ensures) c.append-4.ensures.items
-    (c.append-5.ensures.items ∙ ap (λ word. c.append-4.new.text.items ++ word) c.kind_word.ensures.word) c.push.ensures.items
+returns-clause-text c =
+    tag_fault_line _ _ _ _ _ _ _ _ _ _ _ _ _ _ _ _ c.put_number-end.ensures.text c.put-end.ensures.text
+    (c.put_number-end-2.ensures.text ∙ ap (λ n. take c.put-end.result c.put-end.new.text ++ decimal n) c.from.ensures)
+    c.put-end-2.ensures.text
+    (c.put_number-end-3.ensures.text ∙ ap (λ n. take c.put-end-2.result c.put-end-2.new.text ++ decimal n) c.from-2.ensures)
+    c.put-end-3.ensures.text
+    (c.put_number-end-4.ensures.text ∙ ap (λ n. take c.put-end-3.result c.put-end-3.new.text ++ decimal n) c.from-3.ensures)
+    c.put-end-4.ensures.text
+    (c.put-end-5.ensures.text ∙ ap (λ word. take c.put-end-4.result c.put-end-4.new.text ++ word) c.kind_word.ensures.word)
+    c.put.ensures.text

@@ -1,4 +1,4 @@
-use Rattle.std.proofs.Common.{◌≡◌, ◌+◌, length, sym, ap, ◌∙◌, subst, arith}
+use Rattle.std.proofs.Common.{◌≡◌, ◌+◌, ◌++◌, length, take, sym, ap, ◌∙◌, subst, arith}
 use Rattle.std.proofs.lemmas.List.{with_items_is}
 use Rattle.std.specs.Vec.{with_items}
 use Rattle.class_table.specs.Layout.{Partition}
@@ -13,7 +13,8 @@ use Rattle.replay_core.specs.TheoryValues.{AreVariables, over, shown, totals_in}
 use Rattle.replay_core.specs.ReplayState.{Stored, IsStored, stored_after}
 use Rattle.heap_theory.proofs.LayoutStays.{layout_after}
 use Rattle.replay_core.proofs.Reached.{null_or_tagged, sound_heap, IsStored-after, stored_in_parts, run_goes_on}
-use Rattle.replay_core.proofs.replay.Replay.step.Goals as goal
+use Rattle.replay_core.proofs.replay.Replay.step_at.Goals as goal
+use Rattle.replay_core.proofs.replay.Replay.step_at.Goals.{After-write_line}
 
 pub perform-answer-requires-clause-sound : goal.perform-answer-requires-clause-sound
 perform-answer-requires-clause-sound c = sound_heap (stored c.self.inside) c.self.invariant.reached
@@ -39,7 +40,7 @@ count-requires-clause-legal c =
 
 -- ---- the parts, after the event
 
-module _ (c : goal.After-write_line) where
+module _ (c : After-write_line) where
   variables_are : c.perform-answer.new.variables ≡ variables_after (stored c.self.inside).replay c.args.event.now
   unfolding replay_after
   variables_are =
@@ -84,21 +85,24 @@ module _ (c : goal.After-write_line) where
   events_are = ap (λ (t : Totals). t.events) counted
 
 pub returns-clause-stored : goal.returns-clause-stored
-returns-clause-stored c = stored_is c ∙ ap (λ (s : Stored). stored_after s c.args.event.now) c.self.view_is
+returns-clause-stored c =
+    stored_is (goal.at.returns-clause-stored c).After-write_line ∙ ap (λ (s : Stored). stored_after s c.args.event.now) c.self.view_is
 
 pub returns-clause-line : goal.returns-clause-line
 returns-clause-line c =
-    c.write_line.ensures ∙ ap (λ n. report_line n (shown c.perform-answer.new.bytes c.perform-answer.result)) (events_are c)
-    ∙ ap (λ answer. report_line (c.self.inside.totals.events + 1) answer) (answer_is c)
-    ∙ ap (λ (s : Stored). report_line (s.totals.events + 1) (answer_of s.replay c.args.event.now)) c.self.view_is
+    let at = (goal.at.returns-clause-line c).After-write_line in
+    c.write_line.ensures.text ∙ ap (λ line. take c.args.at c.args.text.now ++ line)
+    (ap (λ n. report_line n (shown c.perform-answer.new.bytes c.perform-answer.result)) (events_are at)
+    ∙ ap (λ answer. report_line (c.self.inside.totals.events + 1) answer) (answer_is at)
+    ∙ ap (λ (s : Stored). report_line (s.totals.events + 1) (answer_of s.replay c.args.event.now)) c.self.view_is)
 
 pub invariant_of-self : goal.invariant_of-self
-invariant_of-self c = record {
-  reached = subst IsStored (sym (stored_is c)) (IsStored-after (stored c.self.inside) c.args.event.now c.self.invariant.reached);
+invariant_of-self c = let at = (goal.at.invariant_of-self c).After-write_line in record {
+  reached = subst IsStored (sym (stored_is at)) (IsStored-after (stored c.self.inside) c.args.event.now c.self.invariant.reached);
   bounded = c.count.ensures.bounded;
-  long = ap length (items_are c) ∙ c.perform-answer.auto.variables ∙ ap length c.deref_mut.ensures.value ∙ c.self.invariant.long;
-  legal = subst (IsLegalTable 1) (sym (classes_are c)) c.self.invariant.legal;
-  few = omega (arith, c.perform-answer.ensures.frees, c.self.invariant.few, events_are c);
+  long = ap length (items_are at) ∙ c.perform-answer.auto.variables ∙ ap length c.deref_mut.ensures.value ∙ c.self.invariant.long;
+  legal = subst (IsLegalTable 1) (sym (classes_are at)) c.self.invariant.legal;
+  few = omega (arith, c.perform-answer.ensures.frees, c.self.invariant.few, events_are at);
 }
 
 pub returns-clause-run : goal.returns-clause-run
