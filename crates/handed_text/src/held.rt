@@ -1,0 +1,7 @@
+//! What a handle leads to.
+
+/// A text in memory.
+#[derive(Drop)]
+pub struct Held {
+    pub text: Vec<u8>,
+}

@@ -1,0 +1,118 @@
+//! A text that C holds.
+ghost use Rattle.std.specs.Prelude.{◌≡◌, ◌<◌, length, vec_len};
+ghost use Rattle.std.specs.Option.{ForNone, ForSome};
+
+use crate::filling::fill;
+use crate::handle::Handle;
+use crate::held::Held;
+use crate::parts::BoxParts;
+use std::alloc::{AllocError, Global};
+
+/// A text with its length. All zeros is the empty text, which holds no memory. Dropping a text frees nothing: `clear` does.
+#[repr(C)]
+#[derive(Drop)]
+pub struct HandedText {
+    handle: Handle,
+    length: usize,
+    ghost long: { ForSome handle.held (λ held. (length ≡ vec_len held.text) × (0 < length)) },
+    ghost empty: { ForNone handle.held (length ≡ 0) },
+}
+
+impl HandedText {
+    ghost use Rattle.std.specs.Prelude.{None, ◌++◌, [], drop, min, ◌-◌, OnOk, OnErr};
+    ghost use Rattle.handed_text.specs.Bytes.{bytes_of, filled};
+
+    /// The empty text.
+    pub fn new() -> HandedText
+        ensures { bytes_of result ≡ [] }
+    {
+        HandedText {
+            handle: Handle::empty(),
+            length: 0,
+        }
+    }
+
+    /// Its bytes. The empty text is left.
+    pub fn take(&mut self, alloc: Global) -> Vec<u8>
+        ensures bytes { result.items ≡ bytes_of self.old }
+        ensures left { bytes_of self.new ≡ [] }
+    {
+        if self.length == 0 {
+            return Vec::new(alloc);
+        }
+        let Held { text } = Box::into_inner(self.open(alloc));
+        text
+    }
+
+    /// Takes these bytes in place of its own, whose memory it frees. If memory runs out, the empty text is left.
+    pub fn put(&mut self, alloc: Global, text: Vec<u8>) -> Result<(), AllocError>
+        ensures put { OnOk result (bytes_of self.new ≡ text.items) }
+        ensures empty { OnErr result (bytes_of self.new ≡ []) }
+    {
+        self.clear(alloc);
+        if !text.is_empty() {
+            self.close(Box::new(alloc, Held { text })?);
+        }
+        Ok(())
+    }
+
+    /// Appends these bytes. If memory runs out, the text stays as it is.
+    pub fn append(&mut self, alloc: Global, piece: &[u8]) -> Result<(), AllocError>
+        ensures appended { OnOk result (bytes_of self.new ≡ bytes_of self.old ++ piece.now) }
+        ensures kept { OnErr result (bytes_of self.new ≡ bytes_of self.old) }
+    {
+        if self.length == 0 {
+            return self.put(alloc, Vec::from_slice(alloc, piece)?);
+        }
+        let mut held = self.open(alloc);
+        let extended = held.text.extend_from_slice(piece);
+        self.close(held);
+        extended
+    }
+
+    /// Fills the room with the bytes from this place on, as many as there are and as fit. Returns how many.
+    pub fn read(&mut self, alloc: Global, from: usize, room: &mut [u8]) -> usize
+        ensures room { room.new ≡ filled (drop from (bytes_of self.old)) room.old }
+        ensures count { result ≡ min (length room.old) (length (bytes_of self.old) - from) }
+        ensures kept { bytes_of self.new ≡ bytes_of self.old }
+    {
+        if self.length <= from {
+            return 0;
+        }
+        let held = self.open(alloc);
+        let n = fill(&held.text[from..], room);
+        self.close(held);
+        n
+    }
+
+    /// Frees its memory. The empty text is left.
+    pub fn clear(&mut self, alloc: Global)
+        ensures { bytes_of self.new ≡ [] }
+    {
+        let _bytes = self.take(alloc);
+    }
+
+    // the box of a text that is not empty; the empty text is left
+    fn open(&mut self, alloc: Global) -> Box<Held>
+        requires { 0 < self.old.length }
+        ensures bytes { result.value.text.items ≡ bytes_of self.old }
+        ensures some { 0 < vec_len result.value.text }
+        ensures left { self.new.handle.held ≡ None }
+    {
+        let HandedText { handle, length: _ } = std::mem::replace(self, HandedText::new());
+        handle.into_parts(alloc).into_box()
+    }
+
+    // puts a box into the empty text
+    fn close(&mut self, held: Box<Held>)
+        requires empty { self.old.handle.held ≡ None }
+        requires some { 0 < vec_len held.value.text }
+        ensures { bytes_of self.new ≡ held.value.text.items }
+    {
+        let length = held.text.len();
+        *self = HandedText {
+            handle: Handle::of_parts(BoxParts::of(held)),
+            length,
+        };
+    }
+}

@@ -1,0 +1,44 @@
+-- What C is told of the end of a call.
+use Rattle.std.specs.Prelude.{◌≡◌, ℕ, List, Some, unwrap_or, Result}
+use Rattle.line_text.specs.Numbers.{leading_number_of}
+use Rattle.mte_calls.specs.Answered.{IsAnswered, IsAnsweredIf}
+use Rattle.mte_calls.specs.declared.ended.Ended.{Ended}
+use Rattle.mte_calls.specs.declared.ended.Ended.TheVariants.{Done as HasDone, No as HasNo, Refused as IsRefused, OutOfMemory as RanOut, BadOption as HasBadOption}
+use Rattle.mte_c.specs.declared.structures.Ending.{Ending}
+use Rattle.mte_c.specs.declared.structures.TheConstants.{DONE, NO, REFUSED, OUT_OF_MEMORY, BAD_OPTION}
+use Rattle.mte_engine.specs.FaultLines.{line_of_fault}
+use Rattle.mte_engine.specs.FaultText.{shown_input_fault}
+use Rattle.mte_engine.specs.Outcome.{Answer}
+use Rattle.mte_engine.specs.declared.fault.InputFault.{InputFault}
+
+-- The number of an end.
+abbrev pub number_of_end : Ended → ℕ
+number_of_end HasDone = DONE
+number_of_end HasNo = NO
+number_of_end (IsRefused fault) = REFUSED
+number_of_end RanOut = OUT_OF_MEMORY
+number_of_end HasBadOption = BAD_OPTION
+
+-- The code of a fault is the number at the start of its text. Where there is no fault, both numbers are 0; and so is the line of a fault
+-- that has none.
+abbrev pub ShowsFault : Ended → ℕ → ℕ → Type 0
+ShowsFault (IsRefused fault) code line =
+    (leading_number_of (shown_input_fault fault) ≡ Some code) × (line ≡ unwrap_or (line_of_fault fault) 0)
+ShowsFault ended code line = (code ≡ 0) × (line ≡ 0)
+
+pub record Shows (ended : Ended) (ending : Ending) : Type 0 where
+  pub number : ending.end ≡ number_of_end ended
+  pub fault : ShowsFault ended ending.fault ending.line
+
+-- What a C function with these answers leaves: the end, and the text.
+pub record Answers (answers : List ℕ → Result Answer InputFault → Type 0) (input text : List ℕ) (ending : Ending) : Type 0 where
+  pub ended : Ended
+  pub shown : Shows ended ending
+  pub answered : IsAnswered answers input ended text
+
+-- The same for a function that tests its options first.
+pub record AnswersIf (options : Type 0) (answers : List ℕ → Result Answer InputFault → Type 0) (input text : List ℕ) (ending : Ending)
+    : Type 0 where
+  pub ended : Ended
+  pub shown : Shows ended ending
+  pub answered : IsAnsweredIf options answers input ended text

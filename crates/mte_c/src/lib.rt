@@ -1,0 +1,171 @@
+//! The engines as functions for C: a static library. Each takes its input in two parts, of which the first is what `text` holds, and leaves
+//! the answer in `text`. `library/pointers.c` looks for null pointers before it calls them, and `include/mte_tool.h` declares that.
+#![tactic(auto)]
+
+ghost use Rattle.std.specs.Prelude.{◌≡◌, ◌++◌, [], drop, length, min, ◌-◌};
+ghost use Rattle.handed_text.specs.Bytes.{bytes_of, filled};
+ghost use Rattle.mte_c.specs.Ending.{Answers, AnswersIf};
+ghost use Rattle.mte_c.specs.Settings.{config_of};
+ghost use Rattle.mte_calls.specs.Options.{AreRunOptions};
+ghost use Rattle.mte_engine.specs.Check.{CheckAnswers};
+ghost use Rattle.mte_engine.specs.CheckFit.{CheckFitAnswers};
+ghost use Rattle.mte_engine.specs.Fit.{FitAnswers};
+ghost use Rattle.mte_engine.specs.Footprint.{FootprintAnswers};
+ghost use Rattle.mte_engine.specs.Profile.{ProfileAnswers};
+ghost use Rattle.mte_engine.specs.Replay.{ReplayAnswers};
+ghost use Rattle.mte_engine.specs.Run.{RunAnswers};
+ghost use Rattle.mte_engine.specs.Score.{ScoreAnswers};
+ghost use Rattle.mte_engine.specs.Tune.{AreTuneOptions, TuneAnswers};
+ghost use Rattle.tagged_heap.specs.Config.{IsConfig};
+
+mod structures;
+
+use handed_text::HandedText;
+use std::alloc::Global;
+use structures::{DONE, Ending, OUT_OF_MEMORY, Options};
+
+/// The version of this interface.
+#[unsafe(no_mangle)]
+pub extern "C" fn mte_c_version() -> u32
+    ensures { result ≡ 1 }
+{
+    1
+}
+
+/// `score` of a class line and a profile.
+#[unsafe(no_mangle)]
+pub extern "C" fn mte_c_score(alloc: Global, input: &[u8], text: &mut HandedText) -> Ending
+    ensures { Answers ScoreAnswers (bytes_of text.old ++ input.now) (bytes_of text.new) result }
+{
+    Ending::of(mte_calls::score(alloc, input, text))
+}
+
+/// `tune` of a profile.
+#[unsafe(no_mangle)]
+pub extern "C" fn mte_c_tune(
+    alloc: Global,
+    options: Options,
+    input: &[u8],
+    text: &mut HandedText,
+) -> Ending
+    ensures { AnswersIf (AreTuneOptions options.limit options.step) (TuneAnswers options.limit options.step)
+        (bytes_of text.old ++ input.now) (bytes_of text.new) result }
+{
+    Ending::of(mte_calls::tune(alloc, options.limit, options.step, input, text))
+}
+
+/// `check` of a sheet and a profile.
+#[unsafe(no_mangle)]
+pub extern "C" fn mte_c_check(alloc: Global, input: &[u8], text: &mut HandedText) -> Ending
+    ensures { Answers CheckAnswers (bytes_of text.old ++ input.now) (bytes_of text.new) result }
+{
+    Ending::of(mte_calls::check(alloc, input, text))
+}
+
+/// `footprint` of a class line and a history.
+#[unsafe(no_mangle)]
+pub extern "C" fn mte_c_footprint(alloc: Global, input: &[u8], text: &mut HandedText) -> Ending
+    ensures { Answers FootprintAnswers (bytes_of text.old ++ input.now) (bytes_of text.new) result }
+{
+    Ending::of(mte_calls::footprint(alloc, input, text))
+}
+
+/// `fit` of a history.
+#[unsafe(no_mangle)]
+pub extern "C" fn mte_c_fit(
+    alloc: Global,
+    options: Options,
+    input: &[u8],
+    text: &mut HandedText,
+) -> Ending
+    ensures { AnswersIf (AreTuneOptions options.limit options.step) (FitAnswers options.limit options.step)
+        (bytes_of text.old ++ input.now) (bytes_of text.new) result }
+{
+    Ending::of(mte_calls::fit(alloc, options.limit, options.step, input, text))
+}
+
+/// `check-fit` of a fit and a history.
+#[unsafe(no_mangle)]
+pub extern "C" fn mte_c_check_fit(alloc: Global, input: &[u8], text: &mut HandedText) -> Ending
+    ensures { Answers CheckFitAnswers (bytes_of text.old ++ input.now) (bytes_of text.new) result }
+{
+    Ending::of(mte_calls::check_fit(alloc, input, text))
+}
+
+/// `profile` of a trace.
+#[unsafe(no_mangle)]
+pub extern "C" fn mte_c_profile(alloc: Global, input: &[u8], text: &mut HandedText) -> Ending
+    ensures { Answers ProfileAnswers (bytes_of text.old ++ input.now) (bytes_of text.new) result }
+{
+    Ending::of(mte_calls::profile(alloc, input, text))
+}
+
+/// `replay` of a class line and a trace.
+#[unsafe(no_mangle)]
+pub extern "C" fn mte_c_replay(
+    alloc: Global,
+    options: Options,
+    input: &[u8],
+    text: &mut HandedText,
+) -> Ending
+    ensures { AnswersIf (IsConfig (config_of options)) (ReplayAnswers (config_of options))
+        (bytes_of text.old ++ input.now) (bytes_of text.new) result }
+{
+    Ending::of(mte_calls::replay(alloc, options.config(), input, text))
+}
+
+/// `run` of a trace.
+#[unsafe(no_mangle)]
+pub extern "C" fn mte_c_run(
+    alloc: Global,
+    options: Options,
+    input: &[u8],
+    text: &mut HandedText,
+) -> Ending
+    ensures { AnswersIf (AreRunOptions options.limit options.step (config_of options))
+        (RunAnswers options.limit options.step (config_of options)) (bytes_of text.old ++ input.now) (bytes_of text.new) result }
+{
+    Ending::of(mte_calls::run(
+        alloc,
+        options.limit,
+        options.step,
+        options.config(),
+        input,
+        text,
+    ))
+}
+
+/// Appends a piece to a text: the input in pieces. If memory runs out, the text stays as it is.
+#[unsafe(no_mangle)]
+pub extern "C" fn mte_c_append(alloc: Global, piece: &[u8], text: &mut HandedText) -> u32
+    ensures appended { result ≡ DONE → bytes_of text.new ≡ bytes_of text.old ++ piece.now }
+    ensures kept { (result ≡ DONE → ⊥) → (result ≡ OUT_OF_MEMORY) × (bytes_of text.new ≡ bytes_of text.old) }
+{
+    match text.append(alloc, piece) {
+        Ok(()) => DONE,
+        Err(_) => OUT_OF_MEMORY,
+    }
+}
+
+/// Copies the bytes of a text from this place on into the room, as many as there are and as fit. Returns how many.
+#[unsafe(no_mangle)]
+pub extern "C" fn mte_c_read(
+    alloc: Global,
+    text: &mut HandedText,
+    from: usize,
+    room: &mut [u8],
+) -> usize
+    ensures room { room.new ≡ filled (drop from (bytes_of text.old)) room.old }
+    ensures count { result ≡ min (length room.old) (length (bytes_of text.old) - from) }
+    ensures kept { bytes_of text.new ≡ bytes_of text.old }
+{
+    text.read(alloc, from, room)
+}
+
+/// Frees the memory of a text. The empty text is left.
+#[unsafe(no_mangle)]
+pub extern "C" fn mte_c_free(alloc: Global, text: &mut HandedText)
+    ensures { bytes_of text.new ≡ [] }
+{
+    text.clear(alloc);
+}

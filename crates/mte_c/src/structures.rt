@@ -1,0 +1,91 @@
+//! The structures and numbers that cross to C.
+ghost use Rattle.std.specs.Prelude.{◌≡◌};
+
+use mte_calls::{Ended, code_of, line_of};
+use replay_core::Config;
+
+/// Done.
+pub const DONE: u32 = 0;
+
+/// Done, and the verdict is no.
+pub const NO: u32 = 1;
+
+/// The input is refused.
+pub const REFUSED: u32 = 2;
+
+/// The allocator refused memory.
+pub const OUT_OF_MEMORY: u32 = 3;
+
+/// An option is out of its range.
+pub const BAD_OPTION: u32 = 4;
+
+/// The options. A call reads those that are its own.
+#[repr(C)]
+#[derive(Clone, Copy)]
+pub struct Options {
+    /// The granules of the heap, 64 to 262,144.
+    pub granules: u32,
+    /// The limit of its quarantine in bytes, 0 to 4,194,304.
+    pub quarantine: u32,
+    /// The seed of the random tags, not 0.
+    pub seed: u16,
+    /// The most classes of the table, 1 to 32.
+    pub limit: u8,
+    /// The granules that each class is a multiple of: 1, 2, 4 or 8.
+    pub step: u8,
+}
+
+impl Options {
+    ghost use Rattle.mte_c.specs.Settings.{config_of};
+
+    /// How the heap is set up.
+    pub fn config(self) -> Config
+        ensures { result ≡ config_of self }
+    {
+        Config {
+            granules: self.granules,
+            seed: self.seed,
+            quarantine: self.quarantine,
+        }
+    }
+}
+
+/// How a call ended: the number of the end; the code of the fault and its line, or 0.
+#[repr(C)]
+#[derive(Clone, Copy)]
+pub struct Ending {
+    pub end: u32,
+    pub fault: u32,
+    pub line: u64,
+}
+
+impl Ending {
+    ghost use Rattle.mte_c.specs.Ending.{Shows};
+
+    /// What C is told of this end.
+    pub fn of(ended: Ended) -> Ending
+        ensures { Shows ended result }
+    {
+        match ended {
+            Ended::Done => Ending::without_fault(DONE),
+            Ended::No => Ending::without_fault(NO),
+            Ended::Refused(fault) => Ending {
+                end: REFUSED,
+                fault: code_of(fault),
+                line: line_of(fault),
+            },
+            Ended::OutOfMemory => Ending::without_fault(OUT_OF_MEMORY),
+            Ended::BadOption => Ending::without_fault(BAD_OPTION),
+        }
+    }
+
+    fn without_fault(end: u32) -> Ending
+        ensures { result ≡ record { end = end; fault = 0; line = 0 } }
+    {
+        Ending {
+            end,
+            fault: 0,
+            line: 0,
+        }
+    }
+}

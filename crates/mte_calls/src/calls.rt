@@ -1,0 +1,149 @@
+//! The engines over inputs in memory.
+ghost use Rattle.std.specs.Prelude.{◌++◌};
+ghost use Rattle.handed_text.specs.Bytes.{bytes_of};
+ghost use Rattle.mte_calls.specs.Answered.{IsAnswered, IsAnsweredIf};
+ghost use Rattle.mte_calls.specs.Options.{AreRunOptions};
+ghost use Rattle.mte_engine.specs.Check.{CheckAnswers};
+ghost use Rattle.mte_engine.specs.CheckFit.{CheckFitAnswers};
+ghost use Rattle.mte_engine.specs.Fit.{FitAnswers};
+ghost use Rattle.mte_engine.specs.Footprint.{FootprintAnswers};
+ghost use Rattle.mte_engine.specs.Profile.{ProfileAnswers};
+ghost use Rattle.mte_engine.specs.Replay.{ReplayAnswers};
+ghost use Rattle.mte_engine.specs.Run.{RunAnswers};
+ghost use Rattle.mte_engine.specs.Score.{ScoreAnswers};
+ghost use Rattle.mte_engine.specs.Tune.{AreTuneOptions, TuneAnswers};
+ghost use Rattle.tagged_heap.specs.Config.{IsConfig};
+
+use crate::ended::Ended;
+use crate::handing::{hand_out, new_sink};
+use crate::options::{are_tune_options, is_config};
+use crate::two_parts::TwoParts;
+use handed_text::HandedText;
+use replay_core::Config;
+use std::alloc::Global;
+
+/// `score` of a class line and a profile.
+pub fn score(alloc: Global, input: &[u8], text: &mut HandedText) -> Ended
+    ensures { IsAnswered ScoreAnswers (bytes_of text.old ++ input.now) result (bytes_of text.new) }
+{
+    let first = text.take(alloc);
+    let mut source = TwoParts::new(&first, input);
+    let mut sink = new_sink(alloc);
+    let end = mte_engine::score(alloc, &mut source, &mut sink);
+    hand_out(alloc, end, sink.text, text)
+}
+
+/// `tune` of a profile, with these options.
+pub fn tune(alloc: Global, limit: u8, step: u8, input: &[u8], text: &mut HandedText) -> Ended
+    ensures { IsAnsweredIf (AreTuneOptions limit step) (TuneAnswers limit step)
+        (bytes_of text.old ++ input.now) result (bytes_of text.new) }
+{
+    if !are_tune_options(limit, step) {
+        text.clear(alloc);
+        return Ended::BadOption;
+    }
+    let first = text.take(alloc);
+    let mut source = TwoParts::new(&first, input);
+    let mut sink = new_sink(alloc);
+    let end = mte_engine::tune(alloc, limit, step, &mut source, &mut sink);
+    hand_out(alloc, end, sink.text, text)
+}
+
+/// `check` of a sheet and a profile.
+pub fn check(alloc: Global, input: &[u8], text: &mut HandedText) -> Ended
+    ensures { IsAnswered CheckAnswers (bytes_of text.old ++ input.now) result (bytes_of text.new) }
+{
+    let first = text.take(alloc);
+    let mut source = TwoParts::new(&first, input);
+    let mut sink = new_sink(alloc);
+    let end = mte_engine::check(alloc, &mut source, &mut sink);
+    hand_out(alloc, end, sink.text, text)
+}
+
+/// `footprint` of a class line and a history.
+pub fn footprint(alloc: Global, input: &[u8], text: &mut HandedText) -> Ended
+    ensures { IsAnswered FootprintAnswers (bytes_of text.old ++ input.now) result (bytes_of text.new) }
+{
+    let first = text.take(alloc);
+    let mut source = TwoParts::new(&first, input);
+    let mut sink = new_sink(alloc);
+    let end = mte_engine::footprint(alloc, &mut source, &mut sink);
+    hand_out(alloc, end, sink.text, text)
+}
+
+/// `fit` of a history, with these options.
+pub fn fit(alloc: Global, limit: u8, step: u8, input: &[u8], text: &mut HandedText) -> Ended
+    ensures { IsAnsweredIf (AreTuneOptions limit step) (FitAnswers limit step)
+        (bytes_of text.old ++ input.now) result (bytes_of text.new) }
+{
+    if !are_tune_options(limit, step) {
+        text.clear(alloc);
+        return Ended::BadOption;
+    }
+    let first = text.take(alloc);
+    let mut source = TwoParts::new(&first, input);
+    let mut sink = new_sink(alloc);
+    let end = mte_engine::fit(alloc, limit, step, &mut source, &mut sink);
+    hand_out(alloc, end, sink.text, text)
+}
+
+/// `check-fit` of a fit and a history.
+pub fn check_fit(alloc: Global, input: &[u8], text: &mut HandedText) -> Ended
+    ensures { IsAnswered CheckFitAnswers (bytes_of text.old ++ input.now) result (bytes_of text.new) }
+{
+    let first = text.take(alloc);
+    let mut source = TwoParts::new(&first, input);
+    let mut sink = new_sink(alloc);
+    let end = mte_engine::check_fit(alloc, &mut source, &mut sink);
+    hand_out(alloc, end, sink.text, text)
+}
+
+/// `profile` of a trace.
+pub fn profile(alloc: Global, input: &[u8], text: &mut HandedText) -> Ended
+    ensures { IsAnswered ProfileAnswers (bytes_of text.old ++ input.now) result (bytes_of text.new) }
+{
+    let first = text.take(alloc);
+    let mut source = TwoParts::new(&first, input);
+    let mut sink = new_sink(alloc);
+    let end = mte_engine::profile(alloc, &mut source, &mut sink);
+    hand_out(alloc, end, sink.text, text)
+}
+
+/// `replay` of a class line and a trace, on a heap that is set up so.
+pub fn replay(alloc: Global, config: Config, input: &[u8], text: &mut HandedText) -> Ended
+    ensures { IsAnsweredIf (IsConfig config) (ReplayAnswers config)
+        (bytes_of text.old ++ input.now) result (bytes_of text.new) }
+{
+    if !is_config(config) {
+        text.clear(alloc);
+        return Ended::BadOption;
+    }
+    let first = text.take(alloc);
+    let mut source = TwoParts::new(&first, input);
+    let mut sink = new_sink(alloc);
+    let end = mte_engine::replay(alloc, config, &mut source, &mut sink);
+    hand_out(alloc, end, sink.text, text)
+}
+
+/// `run` of a trace, with these options and on a heap that is set up so.
+pub fn run(
+    alloc: Global,
+    limit: u8,
+    step: u8,
+    config: Config,
+    input: &[u8],
+    text: &mut HandedText,
+) -> Ended
+    ensures { IsAnsweredIf (AreRunOptions limit step config) (RunAnswers limit step config)
+        (bytes_of text.old ++ input.now) result (bytes_of text.new) }
+{
+    if !are_tune_options(limit, step) || !is_config(config) {
+        text.clear(alloc);
+        return Ended::BadOption;
+    }
+    let first = text.take(alloc);
+    let mut source = TwoParts::new(&first, input);
+    let mut sink = new_sink(alloc);
+    let end = mte_engine::run(alloc, limit, step, config, &mut source, &mut sink);
+    hand_out(alloc, end, sink.text, text)
+}

@@ -1,0 +1,15 @@
+//! The engines over inputs in memory, for callers that have no source and no sink. The input is what a `HandedText` holds, followed by a
+//! slice, and the answer takes the place of what the text held. A call returns how it ended. The static library `mte_c` exports these calls
+//! to C.
+#![tactic(auto)]
+
+mod calls;
+mod ended;
+mod faults;
+mod handing;
+mod options;
+mod two_parts;
+
+pub use calls::{check, check_fit, fit, footprint, profile, replay, run, score, tune};
+pub use ended::Ended;
+pub use faults::{code_of, line_of};

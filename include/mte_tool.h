@@ -1,0 +1,86 @@
+/* The engines of mte_tool for C99, C++ and whatever else calls C. docs/LIBRARY.md has examples, and says what is proved.
+
+   Every call reads one input and gives one answer, both texts of docs/FORMATS.md: what the program's command of the same name reads from
+   standard input, and what it writes. The input has at most 67,108,864 bytes. There is no state beside the texts: calls in many threads are
+   independent, as long as no two use one text at a time. */
+#ifndef MTE_TOOL_H
+#define MTE_TOOL_H
+
+#include <stddef.h>
+#include <stdint.h>
+
+#ifdef __cplusplus
+extern "C" {
+#endif
+
+/* the version of this interface; mte_tool_version() gives the library's own */
+#define MTE_TOOL_VERSION 1
+
+/* How a call ended. */
+enum {
+    MTE_TOOL_DONE = 0,          /* the text is the answer */
+    MTE_TOOL_NO = 1,            /* the text is the answer, and the verdict is no */
+    MTE_TOOL_REFUSED = 2,       /* the text is the first fault of the input, as "30 BadLine line 2" */
+    MTE_TOOL_OUT_OF_MEMORY = 3, /* the text is empty */
+    MTE_TOOL_BAD_OPTION = 4,    /* an option is out of its range; the text is empty */
+    MTE_TOOL_MISUSE = 5         /* a pointer is null that must not be; nothing was done */
+};
+
+typedef struct mte_tool_ending {
+    uint32_t end;   /* MTE_TOOL_DONE and so on */
+    uint32_t fault; /* the code of the input's fault, as docs/FORMATS.md lists them; 0 without one */
+    uint64_t line;  /* the line of the fault, from 1 on; 0 without one */
+} mte_tool_ending;
+
+/* The options. Each call reads its own: tune and fit the last two, replay the first three, run all. */
+typedef struct mte_tool_options {
+    uint32_t granules;   /* the granules of the heap, 64 to 262144 */
+    uint32_t quarantine; /* the bytes of freed blocks that it holds back, 0 to 4194304 */
+    uint16_t seed;       /* of the random tags, 1 to 65535 */
+    uint8_t limit;       /* the most classes of the table, 1 to 32 */
+    uint8_t step;        /* the granules that each class is a multiple of: 1, 2, 4 or 8 */
+} mte_tool_options;
+
+/* The program's own defaults, with this limit. */
+#define MTE_TOOL_OPTIONS(limit) {65536, 65536, 1, (limit), 1}
+
+/* A text that the library holds for its caller. It begins as MTE_TOOL_TEXT, the empty text, and mte_tool_free makes it that again. `length`
+   may be read, and `handle` is the library's own. A copy of the structure is the same text: free one of them. */
+typedef struct mte_tool_text {
+    void *handle;
+    size_t length;
+} mte_tool_text;
+
+#define MTE_TOOL_TEXT {NULL, 0}
+
+/* MTE_TOOL_VERSION of the library that runs */
+uint32_t mte_tool_version(void);
+
+/* The calls. The input is what `text` holds, and after it the `length` bytes at `input`. The answer takes its place in `text`, whose memory
+   is the caller's to free. So a text must be empty before a call whose input is `input` alone. `input` may be null if `length` is 0. */
+mte_tool_ending mte_tool_score(const uint8_t *input, size_t length, mte_tool_text *text);
+mte_tool_ending mte_tool_tune(mte_tool_options options, const uint8_t *input, size_t length, mte_tool_text *text);
+mte_tool_ending mte_tool_check(const uint8_t *input, size_t length, mte_tool_text *text);
+mte_tool_ending mte_tool_footprint(const uint8_t *input, size_t length, mte_tool_text *text);
+mte_tool_ending mte_tool_fit(mte_tool_options options, const uint8_t *input, size_t length, mte_tool_text *text);
+mte_tool_ending mte_tool_check_fit(const uint8_t *input, size_t length, mte_tool_text *text);
+mte_tool_ending mte_tool_profile(const uint8_t *input, size_t length, mte_tool_text *text);
+mte_tool_ending mte_tool_replay(mte_tool_options options, const uint8_t *input, size_t length, mte_tool_text *text);
+mte_tool_ending mte_tool_run(mte_tool_options options, const uint8_t *input, size_t length, mte_tool_text *text);
+
+/* Appends a piece to a text, for an input that comes in pieces. MTE_TOOL_OUT_OF_MEMORY leaves the text as it was. `piece` may be null if
+   `length` is 0. */
+uint32_t mte_tool_append(mte_tool_text *text, const uint8_t *piece, size_t length);
+
+/* Copies bytes of a text into the room, from the byte `from` on (the first is 0), as many as there are and as fit. Returns how many. `room`
+   may be null if `length` is 0. */
+size_t mte_tool_read(mte_tool_text *text, size_t from, uint8_t *room, size_t length);
+
+/* Frees the memory of a text, and leaves the empty text. Null is let pass. */
+void mte_tool_free(mte_tool_text *text);
+
+#ifdef __cplusplus
+}
+#endif
+
+#endif
