@@ -91,6 +91,19 @@ def tell(log, trace, report):
     return lines + totals(log, trace, report)
 
 
+def notes(log, trace, report):
+    """For each error that an event of the trace asks: the event, and what the program did, what came of it, and whose block it was."""
+    asked = [(error, verdict) for error, verdict in zip(log.errors, trace.verdicts) if verdict.event]
+    places = Places(log)
+    places.learn({stack for error, _ in asked for stack in (error.stack, log.made[error.block], max(log.ended[error.block], 0))})
+    told = []
+    for error, verdict in asked:
+        result, why = outcome(verdict, report)
+        did = f"{places.show(error.stack)}: {sentence(error, log)}"
+        told.append((verdict.event, f"{did}. {result.capitalize()}: {why}. {history(error, log, places).capitalize()}."))
+    return told
+
+
 def totals(log, trace, report):
     outcomes = [outcome(verdict, report) for verdict in trace.verdicts]
     counts, reasons = Counter(result for result, _ in outcomes), Counter(both for both in outcomes if both[0] != "caught")

@@ -65,6 +65,13 @@ impl Replay {
         })
     }
 
+    /// The heap.
+    pub fn heap(&self) -> &Heap
+        ensures { result.now.state ≡ self.now.replay.heap }
+    {
+        &self.heap
+    }
+
     /// Performs the event and counts it in the totals. Replaces what `line` holds by the event's report line with its newline, or by
     /// nothing if it has none. Afterwards the replay is what is stored of the run with this event added. The event's numbers must be in
     /// their ranges (`Event`), and there must have been fewer than 2^40 steps (`steps`).

@@ -1,0 +1,108 @@
+"""Puts the page of scripts/page together from the sources in web/ and the engines in WebAssembly."""
+
+import base64
+import importlib.machinery
+import importlib.util
+import json
+import os
+import subprocess
+
+import texts
+import webassembly
+
+WEB = os.path.join(webassembly.ROOT, "web")
+# in the order in which they use one another
+WORKER = ("engine", "model", "words", "worker")
+SCRIPT = ("model", "words", "pictures", "tune", "heap", "main")
+# the crate of each module, and how the names of its exported functions begin
+MODULES = {"tool": ("mte_c", "mte_c_"), "steps": ("mte_step", "mte_step_")}
+EXAMPLES = {
+    "the requests of sqlite3": "sqlite.profile",
+    "the requests of jq": "jq.profile",
+    "the requests of perl": "perl.profile",
+    "the live blocks of sqlite3 over time": "sqlite_large.history",
+}
+
+
+def source(name):
+    with open(os.path.join(WEB, name), encoding="utf-8") as file:
+        return file.read()
+
+
+def scripts(names):
+    """The sources as one script; no word in it ends the element that it stands in."""
+    return "\n".join(source(f"{name}.js") for name in names).replace("</", "<\\/")
+
+
+def example(name):
+    return texts.read(os.path.join(texts.EXAMPLES, name)).decode()
+
+
+def newest_source():
+    """When a source of the crates, or of the way to WebAssembly, was changed last."""
+    files = [os.path.join(webassembly.ROOT, "crates.txt"), webassembly.HEAP, webassembly.__file__]
+    for folder, below, names in os.walk(os.path.join(webassembly.ROOT, "crates")):
+        below[:] = [name for name in below if name != "out"]
+        files += [os.path.join(folder, name) for name in names if name.endswith((".rt", ".antt"))]
+    return max(os.stat(file).st_mtime for file in files)
+
+
+def engines(tell=lambda words: None):
+    """The bytes of each module, built where a source is newer than it."""
+    found, newest = {}, newest_source()
+    for name, (crate, prefix) in MODULES.items():
+        # not NAME.wasm, which rt lib removes
+        kept = os.path.join(webassembly.ROOT, "crates", crate, "out", "page.wasm")
+        if not os.path.exists(kept) or os.stat(kept).st_mtime < newest:
+            tell(f"proving {crate} and compiling it to WebAssembly; the first time this takes as long as proving all")
+            data = webassembly.wasm(crate, prefix)
+            with open(f"{kept}.new", "wb") as file:
+                file.write(data)
+            os.utime(f"{kept}.new", (newest, newest))
+            os.replace(f"{kept}.new", kept)
+        with open(kept, "rb") as file:
+            found[name] = file.read()
+    return found
+
+
+def built(name):
+    """The same for a script of this name, which is refused where they can't be built."""
+    try:
+        return engines(lambda words: texts.say(name, words))
+    except webassembly.Missing as missing:
+        raise texts.Refused(3, f"the page wants {missing}") from None
+    except (subprocess.CalledProcessError, OSError, ValueError) as error:
+        raise texts.Refused(3, f"the engines of the page could not be built: {error}") from None
+
+
+def scudo_map():
+    """The C++ of a table, from the script that prints it."""
+    path = os.path.join(texts.SCRIPTS, "scudo_classes")
+    loader = importlib.machinery.SourceFileLoader("scudo_classes", path)
+    made = importlib.util.module_from_spec(importlib.util.spec_from_loader("scudo_classes", loader))
+    loader.exec_module(made)
+    return made.MAP + made.AS_DEFAULT
+
+
+def page(modules, profile=None, trace=None, replay=None):
+    """The page. A profile (or a history) and a trace are (name, text), or left out. A trace may come with its replay: the class line, the
+    numbers of the heap, and notes, each (event, text)."""
+    data = {name: base64.b64encode(bytes_).decode() for name, bytes_ in modules.items()}
+    data["examples"] = {name: example(file) for name, file in EXAMPLES.items()}
+    data["scudo"], data["android"] = example("scudo.classes").strip(), example("scudo_android.classes").strip()
+    data["map"] = scudo_map()
+    data["given"] = {name: {"name": of[0], "text": of[1]} for name, of in (("profile", profile), ("trace", trace)) if of}
+    if replay:
+        data["given"]["replay"] = replay
+    parts = {
+        "STYLE": source("style.css").strip(),
+        "WORKER": scripts(WORKER).strip(),
+        "SCRIPT": scripts(SCRIPT).strip(),
+        "DATA": json.dumps(data, ensure_ascii=True).replace("</", "<\\/"),
+    }
+    whole = source("page.html")
+    for name, text in parts.items():
+        before, mark, after = whole.partition(f"@{name}@")
+        assert mark, f"web/page.html has no @{name}@"
+        whole = before + text + after
+    return whole

@@ -1,0 +1,180 @@
+"""The way from a proved static library of this repository to WebAssembly: the LLVM module from which the toolchain compiles the library,
+compiled for wasm64, linked with the small heap of web/heap.c, and lowered to 32 bits. What is proved is proved of that module's source;
+nothing proves the steps of this file. scripts/tests/page compares what comes out with the program."""
+
+import os
+import re
+import shutil
+import subprocess
+import sys
+import tempfile
+
+ROOT = os.path.dirname(os.path.dirname(os.path.dirname(os.path.realpath(__file__))))
+HEAP = os.path.join(ROOT, "web", "heap.c")
+HERE = "x86_64-unknown-linux-gnu"
+THERE = "wasm64-unknown-unknown"
+# LLVM's name for what every engine since 2023 has: multivalue, bulk memory and so on
+PROCESSOR = "-mcpu=lime1"
+
+# Stands in for the toolchain's clang: it keeps the module that it is given, and goes on.
+KEEPER = """\
+#!/bin/sh
+for word; do
+    case $word in *.bc | *.ll) [ ! -f "$word" ] || cp "$word" '{kept}' ;; esac
+done
+exec '{clang}' "$@"
+"""
+
+
+class Missing(Exception):
+    """What this machine lacks for the way, in words."""
+
+
+def kit():
+    command = shutil.which("rt")
+    if not command:
+        raise Missing("the toolchain's command rt")
+    if not shutil.which("wasm-opt"):
+        raise Missing("wasm-opt of Debian's package binaryen")
+    return os.path.dirname(os.path.dirname(os.path.realpath(command)))
+
+
+def run(words, **how):
+    """Runs a command; what it says goes to standard error, and only where it fails."""
+    done = subprocess.run(words, stdout=subprocess.PIPE, stderr=subprocess.STDOUT, stdin=subprocess.DEVNULL, **how)
+    if done.returncode:
+        sys.stderr.write(done.stdout.decode(errors="replace"))
+        raise subprocess.CalledProcessError(done.returncode, words[0])
+    return done.stdout.decode(errors="replace")
+
+
+def libraries():
+    """The libraries that each crate stands on, from crates.txt."""
+    found = {}
+    with open(os.path.join(ROOT, "crates.txt"), encoding="utf-8") as lines:
+        for line in lines:
+            name, colon, below = line.partition(":")
+            if colon and not line.startswith("#"):
+                found[name.split()[0]] = below.split()
+    return found
+
+
+def crates_below(crate, known):
+    found = []
+    for name in known[crate]:
+        if name in known:
+            found += [below for below in [*crates_below(name, known), name] if below not in found]
+    return found
+
+
+def llvm_module(crate, kept, folder):
+    """Proves and builds the static library, and builds it once more by a clang that keeps the module in the file KEPT."""
+    place = os.path.join(ROOT, "crates", crate)
+    run(["rt", "lib", "--jobs", os.environ.get("RT_JOBS", "1")], cwd=place)
+    toolchain, known = os.path.join(folder, "toolchain"), libraries()
+    os.makedirs(os.path.join(toolchain, "bin"))
+    os.symlink(f"{kit()}/toolchain/lib", f"{toolchain}/lib")
+    for name in os.listdir(f"{kit()}/toolchain/bin"):
+        os.symlink(f"{kit()}/toolchain/bin/{name}", f"{toolchain}/bin/{name}")
+    os.unlink(f"{toolchain}/bin/clang")
+    with open(f"{toolchain}/bin/clang", "w", encoding="utf-8") as script:
+        script.write(KEEPER.format(kept=kept, clang=f"{kit()}/toolchain/bin/clang"))
+    os.chmod(f"{toolchain}/bin/clang", 0o755)
+    words = ["--crate-name", crate, "src/lib.rt", "-L", f"dependency={kit()}/rlibs", "--crate-type", "staticlib"]
+    for name in ["std", *known[crate]]:
+        library = f"{ROOT}/crates/{name}/out/rlib/{name}.rlib" if name in known else f"{kit()}/rlibs/{name}.rlib"
+        words += ["--extern", f"{name}={library}"]
+    for name in crates_below(crate, known):
+        words += ["-L", f"dependency={ROOT}/crates/{name}/out/rlib"]
+    words += ["--antt-project", f"{kit()}/rattle/logic/antt-project.json", "--logic-built", f"{kit()}/logic_built"]
+    words += ["--backend", "llvm", "--incremental", "out/incremental", "--toolchain", toolchain, "-o", f"{folder}/kept.a"]
+    run([f"{kit()}/bin/rattle", "build", *words], cwd=place)
+
+
+def as_wasm64(module, prefix, folder):
+    """The module as text for wasm64: with its data layout, without the attributes of x86; it exports the functions of this prefix."""
+    clang, text = f"{kit()}/toolchain/bin/clang", f"{folder}/module.ll"
+    as_it_is = ["-O0", "-Xclang", "-disable-llvm-passes"]
+    run([clang, f"--target={HERE}", "--no-default-config", "-x", "ir", "-S", "-emit-llvm", *as_it_is, module, "-o", text])
+    with open(f"{folder}/none.c", "w", encoding="utf-8") as source:
+        source.write("int none;\n")
+    layout = run([clang, f"--target={THERE}", "-S", "-emit-llvm", f"{folder}/none.c", "-o", "-"])
+    with open(text, encoding="utf-8") as lines:
+        module = lines.read()
+    module = re.sub(r"^target datalayout = .*$", re.search(r"^target datalayout = .*$", layout, re.M)[0], module, flags=re.M)
+    module = re.sub(r"^target triple = .*$", f'target triple = "{THERE}"', module, flags=re.M)
+    module = re.sub(r' ?"(probe-stack|stack-probe-size|target-cpu|target-features|tune-cpu)"="[^"]*"', "", module)
+    exported = rf"^(define [^@\n]*@({prefix}\w*)\(.*\).*?) (#\d+ \{{|\{{)$"
+    module, count = re.subn(exported, r'\1 "wasm-export-name"="\2" \3', module, flags=re.M)
+    if not count:
+        raise ValueError(f"the module defines no function {prefix}..")
+    with open(text, "w", encoding="utf-8") as out:
+        out.write(module)
+    return text
+
+
+def linked(text, folder):
+    """The module with the heap, as WebAssembly of 64 bits."""
+    clang, tools = f"{kit()}/toolchain/bin/clang", f"{kit()}/toolchain"
+    common = [clang, f"--target={THERE}", PROCESSOR, "--no-default-config", "-ffunction-sections", "-c"]
+    sound = ["-fdata-sections", "-mllvm", "-trap-unreachable", "-mllvm", "-expand-div-rem-bits=64"]
+    run([*common, *sound, "-O3", "-x", "ir", text, "-o", f"{folder}/module.o"])
+    run([*common, "-O2", "-ffreestanding", "-nostdlib", "-Wall", HEAP, "-o", f"{folder}/heap.o"])
+    run([f"{tools}/bin/llvm-ar", "rcsD", f"{folder}/both.a", f"{folder}/module.o", f"{folder}/heap.o"])
+    run([f"{kit()}/bin/rattle-link", "--target", THERE, "--toolchain", tools, "-o", f"{folder}/wide.wasm", f"{folder}/both.a"])
+    return f"{folder}/wide.wasm"
+
+
+def number_at(data, at):
+    """An unsigned number of LEB128, and where it ends."""
+    value = shift = 0
+    while True:
+        byte = data[at]
+        value |= (byte & 127) << shift
+        at, shift = at + 1, shift + 7
+        if byte < 128:
+            return value, at
+
+
+def as_number(value):
+    data = bytearray()
+    while value > 127:
+        data.append(value & 127 | 128)
+        value >>= 7
+    return bytes([*data, value])
+
+
+def with_narrow_tables(data):
+    """The same module with tables of 32 bits: binaryen lowers memories of 64 bits, and knows no such tables. No code calls through one."""
+    out, at = bytearray(data[:8]), 8
+    while at < len(data):
+        kind = data[at]
+        length, begin = number_at(data, at + 1)
+        body, at = bytearray(data[begin : begin + length]), begin + length
+        if kind == 4:
+            tables, place = number_at(body, 0)
+            for _ in range(tables):
+                flags = body[place + 1]
+                body[place + 1] = flags & ~4
+                _, place = number_at(body, place + 2)
+                if flags & 1:
+                    _, place = number_at(body, place)
+        out += bytes([kind]) + as_number(len(body)) + body
+    return bytes(out)
+
+
+def wasm(crate, prefix):
+    """The bytes of the crate's library as WebAssembly of 32 bits. Its functions that begin with PREFIX are exported."""
+    with tempfile.TemporaryDirectory() as folder:
+        module = f"{folder}/module.bc"
+        llvm_module(crate, module, folder)
+        wide = linked(as_wasm64(module, prefix, folder), folder)
+        with open(wide, "rb") as file:
+            narrow = with_narrow_tables(file.read())
+        with open(f"{folder}/tables.wasm", "wb") as file:
+            file.write(narrow)
+        run(["wasm-opt", "--enable-memory64", "--enable-bulk-memory", "--enable-sign-ext", "--enable-mutable-globals",
+             "--enable-nontrapping-float-to-int", "--enable-multivalue", "--enable-extended-const",
+             "--memory64-lowering", "-O2", f"{folder}/tables.wasm", "-o", f"{folder}/small.wasm"])  # fmt: skip
+        with open(f"{folder}/small.wasm", "rb") as file:
+            return file.read()

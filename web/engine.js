@@ -1,0 +1,137 @@
+// The engines in WebAssembly: `engines.call("tune", {limit: 8, step: 1}, bytes)` is what the command writes, with its exit status.
+// `engines.begin(line, trace, options)` is a replay that goes on event by event. Runs in a page's worker and in node.
+"use strict";
+
+const ENDED = ["done", "no", "refused", "out of memory", "bad option"];
+const DEFAULTS = { limit: 8, step: 1, granules: 65536, seed: 1, quarantine: 65536 };
+
+// The structures of options as the calling convention passes them, in two words: granules and quarantine; seed, and limit and step.
+const setUp = (o) => [BigInt.asIntN(64, (BigInt(o.quarantine) << 32n) | BigInt(o.granules)), o.seed];
+const allOptions = (o) => [setUp(o)[0], o.seed | (o.limit << 16) | (o.step << 24)];
+const WITH_OPTIONS = ["tune", "fit", "replay", "run"];
+
+const asBytes = (input) => (typeof input === "string" ? new TextEncoder().encode(input) : input);
+const asText = (bytes) => new TextDecoder("latin1").decode(bytes);
+
+/** A WebAssembly module and its memory. */
+class Module {
+  static async load(bytes) {
+    return new Module((await WebAssembly.instantiate(bytes, {})).instance);
+  }
+
+  constructor(instance) {
+    this.exports = instance.exports;
+    this.trapped = false;
+  }
+
+  /** A place of so many bytes. */
+  take(length) {
+    const place = this.exports.web_take(BigInt(length || 1));
+    if (!place) throw new RangeError("the page is out of memory");
+    return place;
+  }
+
+  give(...places) {
+    if (!this.trapped) for (const place of places) this.exports.web_give(place);
+  }
+
+  bytes(place, length) {
+    return new Uint8Array(this.exports.memory.buffer, Number(place), Number(length));
+  }
+
+  word(place) {
+    return new DataView(this.exports.memory.buffer).getBigUint64(Number(place), true);
+  }
+
+  /** A place with these bytes, and their number. */
+  put(input) {
+    const bytes = asBytes(input);
+    const place = this.take(bytes.length);
+    this.bytes(place, bytes.length).set(bytes);
+    return [place, BigInt(bytes.length)];
+  }
+
+  /** Calls a function. What a trap leaves is half written, so no call comes after it. */
+  run(name, ...words) {
+    if (this.trapped) throw new Error("the module trapped before");
+    try {
+      return this.exports[name](...words);
+    } catch (error) {
+      this.trapped = true;
+      throw error;
+    }
+  }
+}
+
+/** A replay of a trace on a heap. */
+class Steps {
+  constructor(module, line, trace, options) {
+    const o = { ...DEFAULTS, ...options };
+    const [places, texts] = [[module.take(8)], [module.put(line), module.put(trace)]];
+    [this.module, this.handle, this.granules, this.done] = [module, places[0], o.granules, 0];
+    module.bytes(this.handle, 8).fill(0);
+    const status = module.run("mte_step_new", ...setUp(o), ...texts[0], ...texts[1], this.handle);
+    module.give(texts[0][0], texts[1][0]);
+    if (status) {
+      module.give(this.handle);
+      throw new Error(`no replay: ${ENDED[status]}`);
+    }
+  }
+
+  /** Performs the next event; whether there was one. */
+  go() {
+    const went = this.module.run("mte_step_go", this.handle) !== 0;
+    this.done += went ? 1 : 0;
+    return went;
+  }
+
+  /** The tag and the kind of each granule: 0 slack, 1 header, 2 tail, 3 dead, 4 live. */
+  draw() {
+    const [m, n] = [this.module, this.granules];
+    const [tags, kinds] = [m.take(n), m.take(n)];
+    m.run("mte_step_draw", this.handle, tags, BigInt(n), kinds, BigInt(n));
+    const picture = { tags: m.bytes(tags, n).slice(), kinds: m.bytes(kinds, n).slice() };
+    m.give(tags, kinds);
+    return picture;
+  }
+
+  free() {
+    this.module.run("mte_step_free", this.handle);
+    this.module.give(this.handle);
+  }
+}
+
+/** All engines of the page. */
+class Engines {
+  static async load(tool, steps) {
+    const engines = new Engines();
+    engines.sources = { tool, steps };
+    engines.tool = await Module.load(tool);
+    engines.steps = await Module.load(steps);
+    return engines;
+  }
+
+  /** What a command answers: its exit status and its text, of standard output or, for status 2, of standard error. */
+  call(command, options, input) {
+    const m = this.tool;
+    const words = WITH_OPTIONS.includes(command) ? allOptions({ ...DEFAULTS, ...options }) : [];
+    const [from, length] = m.put(input);
+    const [ending, text] = [m.take(16), m.take(16)];
+    m.bytes(text, 16).fill(0);
+    m.run(`mte_c_${command.replace("-", "_")}`, ending, ...words, from, length, text);
+    const status = Number(m.word(ending) & 0xffffffffn);
+    const size = m.word(text + 8n);
+    const room = m.take(size);
+    m.run("mte_c_read", text, 0n, room, size);
+    const answer = asText(m.bytes(room, size));
+    m.run("mte_c_free", text);
+    m.give(from, ending, text, room);
+    return { status, ended: ENDED[status], text: status === 2 ? `error ${answer}\n` : answer };
+  }
+
+  begin(line, trace, options) {
+    return new Steps(this.steps, line, trace, options);
+  }
+}
+
+if (typeof module !== "undefined") module.exports = { Engines, ENDED, DEFAULTS };

@@ -1,0 +1,119 @@
+// The curve and the histogram, as the inner text of an SVG.
+"use strict";
+
+const escaped = (text) => String(text).replace(/[&<>"]/g, (c) => ({ "&": "&amp;", "<": "&lt;", ">": "&gt;", '"': "&quot;" })[c]);
+const short = (x) => String(Math.round(x * 10) / 10);
+const shortLevel = (x) => String(Number(x.toPrecision(3)));
+const classesText = (n) => `${n} class${n === 1 ? "" : "es"}`;
+const TICKS = [[16, "16"], [64, "64"], [256, "256"], [1024, "1 KiB"], [4096, "4 KiB"], [16384, "16 KiB"]];
+const MARKS = ["-5,0 0,-5 5,0 0,5", "-5,-5 5,-5 5,5 -5,5", "0,-6 6,5 -6,5", "0,6 6,-5 -6,-5"];
+
+function byteText(n) {
+  const [unit, name] = [[1 << 30, "GiB"], [1 << 20, "MiB"], [1 << 10, "KiB"], [1, "bytes"]].find(([of]) => n >= of) ?? [1, "bytes"];
+  return `${(n / unit).toLocaleString("en", { maximumSignificantDigits: 3 })} ${name}`;
+}
+
+/** A picture with a vertical scale from 0 to TOP. */
+class Picture {
+  constructor(svg, height, top, levelText) {
+    this.svg = svg;
+    this.width = Math.max(280, Math.min(1000, Math.round(svg.parentElement.clientWidth || 760)));
+    Object.assign(this, { height, left: 64, right: this.width - 12, upper: 12, lower: height - 46, parts: [] });
+    this.top = top || 1;
+    const step = this.levelStep();
+    for (let level = 0; level <= this.top; level += step) {
+      const y = this.y(level);
+      this.parts.push(`<path class="${level ? "gridline" : "axis"}" d="M${this.left} ${short(y)}H${this.right}"/>`);
+      this.text(this.left - 6, y + 4, levelText(level), "end");
+    }
+  }
+
+  /** A round number, of which up to five make the top. */
+  levelStep() {
+    const rough = this.top / 5;
+    const ten = 10 ** Math.floor(Math.log10(rough));
+    return [1, 2, 2.5, 5, 10].map((n) => n * ten).find((step) => step >= rough);
+  }
+
+  y(value) {
+    return this.lower - ((this.lower - this.upper) * value) / this.top;
+  }
+
+  text(x, y, words, anchor = "middle") {
+    this.parts.push(`<text x="${short(x)}" y="${short(y)}" text-anchor="${anchor}">${escaped(words)}</text>`);
+  }
+
+  mark(style, x, y, title) {
+    const place = `transform="translate(${short(x)} ${short(y)})"`;
+    this.parts.push(`<polygon points="${MARKS[style]}" ${place} fill="var(--c${style})"><title>${escaped(title)}</title></polygon>`);
+  }
+
+  finish(label) {
+    this.svg.setAttribute("viewBox", `0 0 ${this.width} ${this.height}`);
+    this.svg.setAttribute("aria-label", label);
+    this.svg.innerHTML = this.parts.join("");
+  }
+}
+
+/** The least total by the number of classes, and each table as a point {name, classes, total, style}. Where OF is given, the levels are its
+ * percents, and else bytes. */
+function drawCurve(svg, least, tables, total, of) {
+  const highest = Math.max(least[Math.min(7, least.length - 1)], ...tables.map((t) => t.total));
+  const unit = of ? of / 100 : 1024 ** Math.floor(Math.log(Math.max(1, highest)) / Math.log(1024));
+  const levelText = (level) => (of ? `${shortLevel(level)}%` : level ? byteText(level * unit) : "0");
+  const picture = new Picture(svg, 320, (1.15 * highest) / unit, levelText);
+  const y = (bytes) => picture.y(bytes / unit);
+  const x = (classes) => picture.left + 8 + ((picture.right - picture.left - 16) * (classes - 1)) / 31;
+  for (const classes of [1, 4, 8, 12, 16, 20, 24, 28, 32]) picture.text(x(classes), picture.lower + 18, classes);
+  picture.text((picture.left + picture.right) / 2, picture.height - 8, "classes in the table");
+  const points = least.map((bytes, i) => `${short(x(i + 1))},${short(Math.max(y(bytes), -10 * picture.height))}`);
+  const [wide, high] = [picture.right - picture.left, picture.lower - picture.upper];
+  const area = `x="${picture.left}" y="${picture.upper - 8}" width="${wide}" height="${high + 10}"`;
+  picture.parts.push(`<clipPath id="area"><rect ${area}/></clipPath>`);
+  picture.parts.push(`<polyline class="curve" clip-path="url(#area)" points="${points.join(" ")}"/>`);
+  for (const t of [...tables].reverse()) {
+    picture.mark(t.style, x(t.classes), y(t.total), `${t.name}: ${classesText(t.classes)}, ${bytesText(t.total)}`);
+  }
+  const [one, all] = [bytesText(least[0]), bytesText(least.at(-1))];
+  picture.finish(`The least ${total} by the number of classes: ${one} with one, ${all} with ${least.length}.`);
+}
+
+const octaves = (size) => Math.log2(Math.max(size, 8)) - 3;
+
+/** The sizes in groups, so many for each doubling: by the place of its bar, each group's sizes, requests and bytes. */
+function barsOf(sizes, perOctave) {
+  const groups = new Map();
+  for (const [size, count] of sizes) {
+    const place = Math.max(0, Math.ceil(octaves(size) * perOctave - 1e-9) - 1);
+    const group = groups.get(place) ?? { least: size, most: size, requests: 0, bytes: 0 };
+    Object.assign(group, { most: size, requests: group.requests + count, bytes: group.bytes + size * count });
+    groups.set(place, group);
+  }
+  return groups;
+}
+
+/** The bytes by size, the borders of the best table, and those of another under the bars. */
+function drawHistogram(svg, sizes, classes, other) {
+  const perOctave = svg.parentElement.clientWidth < 500 ? 4 : 8;
+  const groups = barsOf(sizes, perOctave);
+  const highest = Math.max(1, ...[...groups.values()].map((g) => g.bytes));
+  const unit = 1024 ** Math.floor(Math.log(highest) / Math.log(1024));
+  const picture = new Picture(svg, 300, (1.05 * highest) / unit, (level) => (level ? byteText(level * unit) : "0"));
+  const x = (size) => picture.left + ((picture.right - picture.left) * octaves(size)) / 11;
+  const wide = (picture.right - picture.left) / (11 * perOctave);
+  for (const [place, g] of groups) {
+    const y = picture.y(g.bytes / unit);
+    const title = `${grouped(g.least)} to ${grouped(g.most)} bytes: ${grouped(g.requests)}, ${byteText(g.bytes)} in all`;
+    const [width, height] = [Math.max(1, wide - 0.5), Math.max(0.5, picture.lower - y)];
+    const at = `x="${short(picture.left + place * wide)}" y="${short(y)}" width="${short(width)}" height="${short(height)}"`;
+    picture.parts.push(`<rect class="bars" ${at}><title>${title}</title></rect>`);
+  }
+  for (const c of classes) {
+    const line = `M${short(x(16 * c - 16))} ${picture.upper}V${picture.lower}`;
+    picture.parts.push(`<path class="border" d="${line}"><title>serves up to ${grouped(16 * c - 16)} bytes</title></path>`);
+  }
+  for (const c of other) picture.parts.push(`<path class="scudo" d="M${short(x(16 * c - 16))} ${picture.lower + 2}v8"/>`);
+  for (const [size, words] of TICKS) picture.text(x(size), picture.lower + 26, words, size === TICKS.at(-1)[0] ? "end" : "middle");
+  picture.text((picture.left + picture.right) / 2, picture.height - 4, "size in bytes");
+  picture.finish(`The bytes by size, in ${counted(groups.size, "bar")}, with ${counted(classes.length, "border")} of the best table.`);
+}

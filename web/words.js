@@ -1,0 +1,170 @@
+// What the page says in sentences: events, reports, laws, verdicts, errors of inputs.
+"use strict";
+
+const LAWS = {
+  law_bookkeeping:
+    "An access that touches slack, a header or a tail is a fault through every pointer: their tag is 0, and no pointer has that tag.",
+  law_neighbours:
+    "An access to a slot of the other parity is a fault: slots with even numbers take odd tags, and slots with odd numbers even ones. " +
+    "Both neighbours of a slot have the other parity.",
+  law_freed:
+    "An access to the pointer's own slot after its free is a fault, until the slot's next user is freed too: the free drew another tag.",
+  law_own_pointer: "free and realloc take the own pointer of a live chunk, and no other pointer but null.",
+  law_accesses: "A load or a store outside of the region is unmapped. A null pointer leads outside of it.",
+};
+// The law of a tag fault that no other law promises.
+const BY_ITS_TAG =
+  "An access is a tag fault exactly if it touches a granule whose tag differs from the pointer's. " +
+  "No further law promised that they differ here.";
+const REASONS = {
+  last: "It is inside the last granule of its chunk, after the bytes that were requested. The unit of tags is a granule of 16 bytes.",
+  reused: "The slot's next user was freed too, and the same tag came again. The heap avoids only the tag that the slot had last.",
+  parity: "It falls in another slot of the same parity that happens to have the same tag.",
+  made: "The pointer was made by addg or subg, and happens to have the tag of that memory.",
+  place: "The block was resized in place, and the old pointer is still its own.",
+};
+const SHEET_CODES = {
+  39: "a class is no multiple of the step",
+  40: "there are more classes than the limit",
+  41: "a counted size has no class",
+  42: "the total that the sheet states is not that of its table",
+  43: "there are not as many rows as the limit, or a row does not have one number for each distinct need",
+  44: "a number of the first row is above what one class costs on all requests after its place",
+  45: "a number is above the number at its place in the row before",
+  46: "a number is above what one more class makes of the row before",
+  47: "the first number of the last row is not the total: the rows do not show that no other table is better",
+  49: "the footprint that the fit states is not that of its table",
+};
+const INPUT_CODES = {
+  20: "there are more than 32 classes",
+  21: "a class is not from 2 to 1024",
+  22: "a class is not above the one before it",
+  23: "this is no class line: it has the word classes, and then the classes in granules",
+  30: "a line of a profile has a size up to 16368 and a count, or the word large and a count at the end",
+  31: "the sizes do not ascend",
+  32: "a count is not from 1 to 1000000000",
+  34: "a history begins with the line snapshots T, with T from 1 to 64",
+  35: "the line does not have a number for each snapshot",
+  36: "the line does not have the form of a fit",
+  48: "the line does not have the form of a sheet",
+  70: "the first word is no event, or the line has too many or too few words",
+  71: "a word is no number in its one spelling",
+  72: "a number is out of its range",
+  73: "the line has more than 80 bytes",
+  74: "a trace has at most 1000000 lines",
+  80: "an input has at most 67108864 bytes",
+};
+
+const bytesText = (n) => counted(n, "byte");
+
+/** What an event asks for. */
+function eventWords(event) {
+  const name = `variable ${event.v}`;
+  switch (event.name) {
+    case "malloc":
+      return `malloc: ${name} requests ${bytesText(event.size)}.`;
+    case "calloc":
+      return `calloc: ${name} requests ${bytesText(event.size)} of zeros.`;
+    case "realloc":
+      return `realloc: ${name} requests ${bytesText(event.size)} for its block.`;
+    case "free":
+      return `free: ${name} gives its block back.`;
+    case "load":
+    case "store": {
+      const where = event.off < 0 ? `${bytesText(-event.off)} before` : event.off === 0 ? "at" : `${bytesText(event.off)} after`;
+      const which = event.name === "store" ? ` ${event.byte}` : "";
+      return `${event.name}: ${bytesText(event.len)}${which}, ${where} the address in ${name}.`;
+    }
+    default: {
+      const way = event.name === "addg" ? "up" : "down";
+      const moved = `${counted(event.up, "granule")} further ${way}, its tag ${counted(event.steps, "step")} on`;
+      return `${event.name}: ${name} is the address in variable ${event.w}, ${moved}.`;
+    }
+  }
+}
+
+/** What the heap did about it, as far as the report has no line. */
+function doneWords(event, outcome, model) {
+  const slot = outcome.slot === undefined ? null : model.slots.get(outcome.slot);
+  if (event.name === "free") return slot ? `Slot ${slot.number} is dead now, under tag ${slot.chunkTag}.` : "A free of null does nothing.";
+  if (slot && outcome.inPlace) return `Slot ${slot.number} is resized in place; its tag ${slot.tag} stays.`;
+  const mover = outcome.from === undefined ? "It" : `The block moves from slot ${outcome.from}, and`;
+  if (slot) return `${mover} gets slot ${slot.number} of ${bytesText(model.bytesOf(slot))}, under tag ${slot.tag}.`;
+  if (event.name === "load" || event.name === "store") return "The tags agree, and the bytes move.";
+  return `The pointer's tag is ${tagOf(model.variable(event.v).address)}.`;
+}
+
+/** The law that a fault or a refusal is an instance of, with its sentence. */
+function lawOf(event, outcome, model) {
+  if (outcome.report.startsWith("null")) return null;
+  if (outcome.report.startsWith("refused")) return named("law_own_pointer");
+  if (outcome.report === "fault unmapped") return named("law_accesses");
+  const name = lawOfTags(event, outcome, model);
+  return name ? named(name) : { name: "law_accesses", words: BY_ITS_TAG };
+}
+
+const named = (name) => ({ name, words: LAWS[name] });
+
+/** The law that promised that the tags differ, or null. */
+function lawOfTags(event, outcome, model) {
+  const pointer = model.variable(event.v);
+  const at = model.layout.slotAt(outcome.granule);
+  if (model.kindAt(outcome.granule) < 3) return "law_bookkeeping";
+  if (pointer.slot === null) return null;
+  if ((at.number - pointer.slot) % 2) return "law_neighbours";
+  if (at.number !== pointer.slot) return null;
+  const slot = model.slots.get(at.number);
+  const early = slot.generation === pointer.generation ? !slot.isLive : slot.generation === pointer.generation + 1 && slot.isLive;
+  return early ? "law_freed" : null;
+}
+
+/** Why an access that a program should not make is let pass, or null where the access is right. */
+function passReason(event, outcome, model) {
+  if (outcome.report || outcome.first === undefined) return null;
+  const pointer = model.variable(event.v);
+  const at = model.layout.slotAt(outcome.first);
+  const slot = model.slots.get(at.number);
+  if (pointer.slot === null) {
+    const begin = GRANULE * (slot.start + 1);
+    return slot.isLive && outcome.at >= begin && outcome.to <= begin + slot.size ? null : "made";
+  }
+  if (at.number !== pointer.slot) return "parity";
+  if (slot.generation !== pointer.generation || !slot.isLive) return "reused";
+  const end = GRANULE * (slot.start + 1) + slot.size;
+  return outcome.to > end ? "last" : null;
+}
+
+const KIND_WORDS = { slack: "slack", header: "a header", tail: "a tail", dead: "of a dead chunk", other: "of a live chunk" };
+const CAUSES = {
+  large: "it is above 16,368 bytes",
+  "no-class": "no class of the table serves it",
+  exhausted: "its class has no slot left",
+  misplaced: "the address is not the start of a block",
+  "not-live": "the block there is not live",
+  "wrong-tag": "the pointer's tag is not the block's",
+};
+
+/** A line of the report in a sentence. */
+function reportWords(report) {
+  const w = report.split(" ");
+  if (w[0] === "data") return `It reads ${w[1].replace(/(..)(?=.)/g, "$1 ")}.`;
+  if (w[0] === "fault" && w[1] === "unmapped") return "Fault: the access is not mapped.";
+  if (w[0] === "fault") return `Tag fault: granule ${w[3]} has tag ${w[5]}, the pointer tag ${w[7]}. The granule is ${KIND_WORDS[w[9]]}.`;
+  return `${w[0] === "null" ? "The request is refused" : "Refused"}: ${CAUSES[w[1]]}.`;
+}
+
+/** A fault of an input in a sentence, with its line. */
+function faultWords(text) {
+  const [, code, name, , line] = /^error (\d+) (\w+)( line (\d+))?/.exec(text.trim()) ?? [];
+  if (!code) return { words: text.trim() || "the engine gave no answer", line: 0 };
+  return { words: `${line ? `Line ${line}: ` : ""}${INPUT_CODES[code] ?? name} (${code} ${name}).`, line: Number(line ?? 0) };
+}
+
+/** The verdict of check or check-fit in a sentence. */
+function verdictWords(text, what) {
+  const [word, code, name] = text.trim().split(" ");
+  if (word === "optimal") return `Optimal: of all tables within this limit and step that serve everything counted, none has less ${what}.`;
+  const may = "Its table may still be a best one; the sheet does not show it.";
+  const table = Number(code) <= 41 ? "So its table is not among those in question." : may;
+  return `Refused, ${code} ${name}: ${SHEET_CODES[code]}. ${table}`;
+}
