@@ -4,8 +4,8 @@
 
 ghost use Rattle.std.specs.Prelude.{◌≡◌, ◌++◌, [], drop, length, min, ◌-◌};
 ghost use Rattle.handed_text.specs.Bytes.{bytes_of, filled};
-ghost use Rattle.mte_c.specs.Ending.{Answers, AnswersIf};
-ghost use Rattle.mte_c.specs.Settings.{config_of};
+ghost use Rattle.mte_calls.specs.Ending.{Answers, AnswersIf};
+ghost use Rattle.mte_calls.specs.Settings.{config_of};
 ghost use Rattle.mte_calls.specs.Options.{AreRunOptions};
 ghost use Rattle.mte_engine.specs.Check.{CheckAnswers};
 ghost use Rattle.mte_engine.specs.CheckFit.{CheckFitAnswers};
@@ -18,11 +18,9 @@ ghost use Rattle.mte_engine.specs.Score.{ScoreAnswers};
 ghost use Rattle.mte_engine.specs.Tune.{AreTuneOptions, TuneAnswers};
 ghost use Rattle.tagged_heap.specs.Config.{IsConfig};
 
-mod structures;
-
 use handed_text::HandedText;
+use mte_calls::{DONE, Ending, OUT_OF_MEMORY, Options};
 use std::alloc::Global;
-use structures::{DONE, Ending, OUT_OF_MEMORY, Options};
 
 /// The version of this interface.
 #[unsafe(no_mangle)]

@@ -8,8 +8,10 @@ mod ended;
 mod faults;
 mod handing;
 mod options;
+mod structures;
 mod two_parts;
 
 pub use calls::{check, check_fit, fit, footprint, profile, replay, run, score, tune};
 pub use ended::Ended;
 pub use faults::{code_of, line_of};
+pub use structures::{BAD_OPTION, DONE, Ending, NO, OUT_OF_MEMORY, Options, REFUSED};

@@ -4,8 +4,8 @@ use Rattle.line_text.specs.Numbers.{leading_number_of}
 use Rattle.mte_calls.specs.Answered.{IsAnswered, IsAnsweredIf}
 use Rattle.mte_calls.specs.declared.ended.Ended.{Ended}
 use Rattle.mte_calls.specs.declared.ended.Ended.TheVariants.{Done as HasDone, No as HasNo, Refused as IsRefused, OutOfMemory as RanOut, BadOption as HasBadOption}
-use Rattle.mte_c.specs.declared.structures.Ending.{Ending}
-use Rattle.mte_c.specs.declared.structures.TheConstants.{DONE, NO, REFUSED, OUT_OF_MEMORY, BAD_OPTION}
+use Rattle.mte_calls.specs.declared.structures.Ending.{Ending}
+use Rattle.mte_calls.specs.declared.structures.TheConstants.{DONE, NO, REFUSED, OUT_OF_MEMORY, BAD_OPTION}
 use Rattle.mte_engine.specs.FaultLines.{line_of_fault}
 use Rattle.mte_engine.specs.FaultText.{shown_input_fault}
 use Rattle.mte_engine.specs.Outcome.{Answer}

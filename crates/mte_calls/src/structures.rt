@@ -1,7 +1,8 @@
 //! The structures and numbers that cross to C.
 ghost use Rattle.std.specs.Prelude.{◌≡◌};
 
-use mte_calls::{Ended, code_of, line_of};
+use crate::ended::Ended;
+use crate::faults::{code_of, line_of};
 use replay_core::Config;
 
 /// Done.
@@ -36,7 +37,7 @@ pub struct Options {
 }
 
 impl Options {
-    ghost use Rattle.mte_c.specs.Settings.{config_of};
+    ghost use Rattle.mte_calls.specs.Settings.{config_of};
 
     /// How the heap is set up.
     pub fn config(self) -> Config
@@ -60,7 +61,7 @@ pub struct Ending {
 }
 
 impl Ending {
-    ghost use Rattle.mte_c.specs.Ending.{Shows};
+    ghost use Rattle.mte_calls.specs.Ending.{Shows};
 
     /// What C is told of this end.
     pub fn of(ended: Ended) -> Ending

@@ -1,5 +1,5 @@
 -- The options that a caller passes, as the heap's configuration.
-use Rattle.mte_c.specs.declared.structures.Options.{Options}
+use Rattle.mte_calls.specs.declared.structures.Options.{Options}
 use Rattle.tagged_heap.specs.declared.heap.Config.{Config}
 
 abbrev pub config_of : Options → Config
