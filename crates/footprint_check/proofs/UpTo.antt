@@ -10,7 +10,7 @@ use Rattle.potential_check.specs.Lists.{lists_of}
 use Rattle.potential_check.specs.Spanned.{AreSumsUpTo}
 use Rattle.class_table.specs.Sizes.{largest_counted}
 use Rattle.tuner_theory.specs.Profiles.{AreCounts, greatest_count}
-use Rattle.tuner_theory.specs.Spans.{counted_up_to, need_at, places, rounded_need}
+use Rattle.tuner_theory.specs.Spans.{counted_up_to, need_at, rounded_need}
 use Rattle.tuner_theory.specs.Waste.{sum_below}
 use Rattle.tuner_theory.proofs.Rounding.{fits-rounded, rounded-fits, rounded-positive}
 use Rattle.tuner_theory.proofs.Spans.{count-small}
@@ -77,13 +77,6 @@ sums-more sum_up_to counts step place total sums before is = record {
         ap (slice_index (sums ++ total ∷ [])) here ∙ get_or-append_seam sums total [] 0 ∙ is
         ∙ ap (λ p. sum_up_to (need_at counts step p)) here')
   ];
-}
-
-pub sums-all : (sum_up_to : ℕ → ℕ) (counts : List ℕ) (step place : ℕ) (sums : List ℕ) → place ≡ places counts step + 1
-    → AreSumsBefore sum_up_to counts step place sums → AreSumsUpTo sum_up_to counts step sums
-sums-all sum_up_to counts step place sums all are = record {
-  size = are.size ∙ all;
-  sums_are = λ i le. are.sums_are i (omega arith);
 }
 
 -- the sums of the first t snapshots

@@ -1,5 +1,5 @@
 -- The entry of a line by the numbers that were read of it.
-use Rattle.std.proofs.Common.{◌≡◌, ℕ, ◌≤◌, Bool, true, false, ◌&&◌, List, [], ◌∷◌, length, map, Option, Some, None, Ok, Err, leb, ltb, eqb, refl, sym, ap, ◌∙◌, arith, ne_eqb}
+use Rattle.std.proofs.Common.{◌≡◌, ℕ, ◌≤◌, Bool, true, false, ◌&&◌, List, [], ◌∷◌, length, map, Option, Some, None, Ok, Err, leb, ltb, eqb, refl, sym, ap, ◌∙◌, arith}
 use Rattle.std.specs.Prelude.{All}
 use Rattle.std.proofs.lemmas.Bool.{eq-eqb, eqb-true, le-leb, leb-true}
 use Rattle.std.proofs.lemmas.List.Elements.{All-cons, All-head, All-nil, All-tail}
@@ -8,7 +8,6 @@ use Rattle.profile_count.specs.declared.fault.ProfileFault.TheVariants.{CountOut
 use Rattle.tuner_theory.specs.Profiles.{greatest_count}
 use Rattle.history_count.specs.HistoryText.{Entry, are_few, are_in_range, entry_with, entry_with_numbers, is_in_order, is_some_counted}
 use Rattle.history_count.specs.LineView.{Fills, capped}
-use Rattle.history_count.specs.declared.fault.HistoryFault.{HistoryFault}
 use Rattle.history_count.specs.declared.fault.HistoryFault.TheVariants.{Counted}
 use Rattle.history_count.specs.declared.line.Subject.{Subject}
 
@@ -56,11 +55,6 @@ pub record IsFilled (o : Option (List ℕ)) (count : ℕ) (filled : List ℕ) : 
 pub filled-ok : (u : Unit {0}) (o : Option (List ℕ)) (count : ℕ) (filled : List ℕ) → Fills (Ok u) filled count o → IsFilled o count filled
 filled-ok u None count filled fills = absurd fills
 filled-ok u (Some numbers) count filled fills = record { numbers = numbers; read = refl; size = fills.0; is = fills.1 }
-
-pub entry-unfilled : (fault : HistoryFault) (o : Option (List ℕ)) (count next : ℕ) (subject : Subject) (filled : List ℕ)
-    → Fills {A = Unit {0}} (Err fault) filled count o → entry_with_numbers count next (Some subject) o ≡ Err fault
-entry-unfilled fault None count next subject filled fills = ap Err (sym fills)
-entry-unfilled fault (Some numbers) count next subject filled fills = rw (ne_eqb (length numbers) count fills.1) (ap Err (sym fills.0))
 
 module _ (o : Option (List ℕ)) (count next : ℕ) (subject : Subject) (filled : List ℕ) (is : IsFilled o count filled) where
   in_range : are_in_range filled ≡ are_in_range is.numbers

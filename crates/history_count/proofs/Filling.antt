@@ -39,20 +39,6 @@ pub record FillsSoFar (all rest : List (List ℕ)) (count place : ℕ) (is_too_l
   pub short : is_too_long ≡ false → (length front ≡ place) × (take place filled ≡ map capped front)
   pub long : is_too_long ≡ true → (count < length front) × (place ≡ count)
 
-pub fills-none : (all : List (List ℕ)) (filled : List ℕ) → FillsSoFar all all (length filled) 0 false filled
-fills-none all filled = record {
-  front = [];
-  read = same (numbers_of all);
-  size = refl;
-  within = omega arith;
-  short = λ e. (refl, refl);
-  long = λ e. absurd cc;
-}
-  where
-    same : (o : Option (List ℕ)) → o ≡ option_map (λ (ns : List ℕ). [] ++ ns) o
-    same None = refl
-    same (Some ns) = refl
-
 number_more : (front : List ℕ) (w : List ℕ) (rest : List (List ℕ)) (n : ℕ) → number_of w ≡ Some n
     → numbers_on front (w ∷ rest) ≡ numbers_on (front ++ n ∷ []) rest
 unfolding numbers_of

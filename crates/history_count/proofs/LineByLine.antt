@@ -1,20 +1,12 @@
 -- Reading a history line by line.
-use Rattle.std.proofs.Common.{◌≡◌, ℕ, ◌+◌, List, [], ◌∷◌, length, Some, None, Ok, Err, refl, sym, ap, ◌∙◌, add-one}
+use Rattle.std.proofs.Common.{◌≡◌, ℕ, ◌+◌, List, [], ◌∷◌, length, Some, Ok, Err, refl, sym, ap, ◌∙◌, add-one}
 use Rattle.line_text.specs.Lines.{lines, words}
 use Rattle.history_count.specs.Histories.{History}
 use Rattle.history_count.specs.HistoryText.{Entry, Reading, entry_of, first_reading, history_from, history_of, next_entry, snapshots_of, with_entry}
 use Rattle.history_count.specs.declared.fault.HistoryFault.{HistoryFault}
-use Rattle.history_count.specs.declared.fault.HistoryFault.TheVariants.{BadSnapshots}
 use Rattle.history_count.specs.declared.line.Subject.{Subject}
 
 -- ---- the first line
-
-pub no_first_line : (text : List ℕ) → lines text ≡ [] → history_of text ≡ Err (1, BadSnapshots)
-no_first_line text none = rw none refl
-
-pub first_line_faulty : (text line : List ℕ) (rest : List (List ℕ)) → lines text ≡ line ∷ rest → None ≡ snapshots_of (words line)
-    → history_of text ≡ Err (1, BadSnapshots)
-first_line_faulty text line rest parts is = rw (parts, ← is) refl
 
 pub first_line_read : (text line : List ℕ) (rest : List (List ℕ)) (count : ℕ) → lines text ≡ line ∷ rest
     → Some count ≡ snapshots_of (words line) → history_of text ≡ history_from 2 (first_reading count) rest

@@ -1,10 +1,10 @@
 -- One answer of `fit` to an input, since a history has one fit.
-use Rattle.std.proofs.Common.{◌≡◌, ℕ, List, Result, Ok, Err, ap, sym, subst, ◌∙◌}
+use Rattle.std.proofs.Common.{◌≡◌, ℕ, Ok, Err, ap, sym, subst, ◌∙◌}
 use Rattle.class_fitter.proofs.LawLemmas.{one_fit}
 use Rattle.history_count.specs.Histories.{History}
 use Rattle.potential_check.specs.FitText.{fit_text}
 use Rattle.tuner_theory.specs.Fits.{Fit}
-use Rattle.mte_engine.specs.Fit.{FitAnswers, IsFitText}
+use Rattle.mte_engine.specs.Fit.{IsFitText}
 use Rattle.mte_engine.specs.Laws.{FitHasOneAnswer}
 use Rattle.mte_engine.specs.Outcome.{Answer}
 use Rattle.mte_engine.specs.declared.engine.Status.TheVariants.{Done}

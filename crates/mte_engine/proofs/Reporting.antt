@@ -1,7 +1,5 @@
 -- The report that is still to come, as events are replayed and their lines are appended to a buffer.
-use Rattle.std.proofs.Common.{◌≡◌, ◌≤◌, ℕ, ◌+◌, List, [], ◌∷◌, ◌++◌, length, drop, refl, sym, ap, ◌∙◌, append_assoc, append-nil}
-use Rattle.std.proofs.lemmas.List.{drop-append-le, drop-drop}
-use Rattle.std.proofs.Math.Seq.{drop-length}
+use Rattle.std.proofs.Common.{◌≡◌, ℕ, ◌+◌, List, [], ◌∷◌, ◌++◌, refl, sym, ap, ◌∙◌, append_assoc, append-nil}
 use Rattle.heap_theory.specs.Report.{report, report_line, totals_text}
 use Rattle.heap_theory.specs.Replay.{answer_of}
 use Rattle.heap_theory.specs.Totals.{totals_after}
@@ -65,16 +63,3 @@ module _ (layout : Partition) (seed quarantine : ℕ) where
       ap (λ (s : Stored). report_from s events) (sym (stored_of_none layout seed quarantine))
       ∙ ap (λ (t : List ℕ). t ++ report_from (stored_of layout seed quarantine []) events) (sym (lines_of_none layout seed quarantine))
       ∙ report_goes_on [] events
-
--- what is left of the buffer and what comes after it, once some of it was written
-pub advanced : (items later : List ℕ) (written n : ℕ) → n ≤ length (drop written items) →
-    drop (written + n) items ++ later ≡ drop n (drop written items ++ later)
-advanced items later written n fits =
-    sym (drop-append-le n (drop written items) later fits ∙ ap (λ (t : List ℕ). t ++ later) (drop-drop n written items))
-
--- the buffer was written, and filled again
-pub filled_again : (items later items' later' : List ℕ) (written n : ℕ) → n ≤ length (drop written items) → written + n ≡ length items
-    → items' ++ later' ≡ later → drop 0 items' ++ later' ≡ drop n (drop written items ++ later)
-filled_again items later items' later' written n fits end is =
-    let none : drop (written + n) items ≡ [] = rw end (drop-length items) in
-    is ∙ sym (ap (λ (t : List ℕ). t ++ later) none) ∙ advanced items later written n fits

@@ -4,14 +4,11 @@ use Rattle.std.specs.Prelude.{IsSome, slice_get}
 use Rattle.std.specs.List.{position_or_len}
 use Rattle.std.proofs.lemmas.Bool.{cases_Bool, cases_lt, not_from_true, leb-false, le-leb, lt-leb, both_ways}
 use Rattle.std.proofs.lemmas.List.Kept.{AllPairs-from_increasing}
-use Rattle.std.proofs.lemmas.List.Sums.{position_or_len_is, prefix_len-le-length, prefix_len_passes}
+use Rattle.std.proofs.lemmas.List.Sums.{position_or_len_is, prefix_len_passes}
 use Rattle.std.proofs.lemmas.List.Folds.{find_at}
 use Rattle.std.proofs.lemmas.Option.{get_or_from_slice_get, slice_get_past, slice_get_within, slice_get-get_or}
 use Rattle.class_table.specs.Sizes.{serves}
 use Rattle.class_table.specs.Tables.{IsLegalTable, class_for}
-
-pub position-le-length : (n : ℕ) (classes : List ℕ) → position_or_len (serves n) classes ≤ length classes
-position-le-length n classes = prefix_len-le-length (λ class. not (serves n class)) classes
 
 -- a place that the walk has come to, whose class serves n, is the first such
 pub reached : (n i : ℕ) (classes : List ℕ) → i ≤ position_or_len (serves n) classes → i < length classes →

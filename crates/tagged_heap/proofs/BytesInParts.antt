@@ -1,8 +1,8 @@
 -- Bytes that are written and read in parts.
-use Rattle.std.proofs.Common.{◌≡◌, ℕ, zero, suc, ◌+◌, ◌*◌, ◌≤◌, ◌⊎◌, List, [], ◌∷◌, ◌++◌, length, map, take, drop, replicate, refl, sym, ap, ◌∙◌, subst, inl, inr, arith, min, length-append, length-drop, length-take}
+use Rattle.std.proofs.Common.{◌≡◌, ℕ, zero, suc, ◌+◌, ◌≤◌, ◌⊎◌, List, [], ◌∷◌, ◌++◌, length, map, take, drop, refl, sym, ap, ◌∙◌, subst, inl, inr, arith, min, length-append, length-drop, length-take}
 use Rattle.std.proofs.Math.Seq.{take-append_seam}
 use Rattle.std.specs.List.{range_with_len}
-use Rattle.std.proofs.lemmas.List.{map-append, replicate-append-replicate}
+use Rattle.std.proofs.lemmas.List.{map-append}
 use Rattle.machine_theory.specs.Memory.{Granule, byte_at, bytes_at, written}
 use Rattle.machine_theory.proofs.ByteLaws.{length-bytes_at}
 

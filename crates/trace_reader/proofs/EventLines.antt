@@ -126,10 +126,6 @@ event_read (Subg v w u6 u4) is = named_words subg (moved v w u6 u4 Subg is.0 is.
 
 -- ---- the line
 
--- so many digits at most
-variable_len : (v : ℕ) → v ≤ 1023 → length (decimal v) ≤ 10
-variable_len v v_in = length-decimal-le 10 v (omega arith) (omega (arith, v_in)) (omega (arith, v_in))
-
 number_len : (n : ℕ) → n ≤ 2147483647 → length (decimal n) ≤ 10
 number_len n n_in = length-decimal-le 10 n (omega arith) (omega (arith, n_in)) (omega (arith, n_in))
 

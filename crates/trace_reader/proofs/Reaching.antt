@@ -1,5 +1,5 @@
 -- Readings that a call comes to.
-use Rattle.std.proofs.Common.{◌≡◌, ℕ, suc, ◌+◌, ◌<◌, ◌≤◌, true, false, ltb, List, [], ◌∷◌, ◌++◌, length, Result, Ok, Err, IfOk, IsOk, OnOk, is_err, ◌↔◌, refl, sym, ap, subst, ◌∙◌, arith, append_assoc, append-nil, add-one, add-zero}
+use Rattle.std.proofs.Common.{◌≡◌, ℕ, suc, ◌+◌, ◌<◌, ◌≤◌, true, false, ltb, List, [], ◌∷◌, ◌++◌, length, Result, Ok, Err, IsOk, OnOk, is_err, ◌↔◌, refl, sym, ap, subst, ◌∙◌, arith, append-nil, add-one, add-zero}
 use Rattle.std.proofs.lemmas.Bool.{lt-ltb}
 use Rattle.std.proofs.lemmas.Bool.Decides.{nat_tests}
 use Rattle.line_text.specs.Lines.{IsLine}
@@ -12,12 +12,10 @@ use Rattle.trace_reader.specs.declared.fault.TraceFault.{TraceFault}
 use Rattle.trace_reader.specs.declared.fault.TraceFault.TheVariants.{LineTooLong}
 use Rattle.trace_reader.specs.declared.status.Status.{Status}
 use Rattle.trace_reader.specs.declared.status.Status.TheVariants.{Open as IsOpen, Failed as HasFailed, Finished as HasFinished}
-use Rattle.heap_theory.specs.Ranges.{IsInRange}
 use Rattle.trace_reader.specs.Reached.{HasReached, answer_of}
-use Rattle.trace_reader.specs.Reading.{Cut, Reading, added, fed, fed_in, finished, finished_in, going_on, is_open, is_open_state, judgement_in, reading_of_cut, with_judged, IsJudgementIn, unfinished_state}
+use Rattle.trace_reader.specs.Reading.{Cut, Reading, added, fed, fed_in, finished, finished_in, going_on, is_open, is_open_state, reading_of_cut, with_judged, unfinished_state}
 use Rattle.trace_reader.specs.Reading.State.{Open, Failed}
 use Rattle.trace_reader.specs.Status.{state_of}
-use Rattle.trace_reader.specs.TraceLine.{event_of_line}
 use Rattle.trace_reader.proofs.Cutting.{cut-line}
 use Rattle.trace_reader.proofs.Traces.{trace_from-none}
 
@@ -109,25 +107,6 @@ judged_fault old new events lines rest status fault result is open_now failed an
     rw s.1
     (came (open_at events lines rest) _ new result (failed ∙ rw (s.1, append-nil events, add-one lines) refl)
     (answer ∙ rw (add-one lines) refl) (record { after = []; is = refl }))
-
-pub judgement : (old : Reading) (events : List Event) (lines : ℕ) (rest : List ℕ) (status : Status) (end line : List ℕ)
-    → fields events lines rest status ≡ old → is_open old ≡ true → line ≡ rest ++ end →
-    event_of_line (lines + 1) line ≡ judgement_in old.state end
-judgement old events lines rest status end line is open_now all =
-    let s = is_open_at old events lines rest status is open_now in
-    rw (s.1, all, add-one lines) refl
-
-pub judgement-next : (old : Reading) (events : List Event) (lines : ℕ) (rest : List ℕ) (status : Status) (judged : Result Event TraceFault)
-    → fields events lines rest status ≡ old → is_open old ≡ true → IfOk judged IsInRange → IfOk judged (λ event. lines + 1 ≤ 1000000) →
-    IsJudgementIn old.state judged
-judgement-next old events lines rest status judged is open_now ranges few =
-    let s = is_open_at old events lines rest status is open_now in
-    rw s.1 (both judged ranges few)
-  where
-    both : (judged : Result Event TraceFault) → IfOk judged IsInRange → IfOk judged (λ event. lines + 1 ≤ 1000000) →
-        IfOk judged (λ event. IsInRange event × (lines < 1000000))
-    both (Ok event) a b = (a, omega (arith, b))
-    both (Err fault) a b = tt
 
 -- ---- bytes without a newline
 

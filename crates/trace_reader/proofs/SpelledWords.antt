@@ -1,13 +1,9 @@
 -- What the words of an event spell, read one after the other.
-use Rattle.std.proofs.Common.{◌≡◌, ℕ, ℤ, List, [], ◌∷◌, ◌++◌, append_assoc, refl, ap, ◌∙◌, false, Result, Ok, arith, length, ne_eqb, codes, nat_abs, ◌≤◌, Some, pos, sym, drop, slice_get, option_and_then, eqb, eqb-true, inl, inr, to_z}
+use Rattle.std.proofs.Common.{◌≡◌, ℕ, ℤ, List, [], ◌∷◌, ◌++◌, append_assoc, refl, ap, ◌∙◌, false, Result, Ok, arith, length, ne_eqb, codes, nat_abs, ◌≤◌, eqb}
 use Rattle.line_text.specs.Lines.{words}
-use Rattle.line_text.specs.Numbers.{number_of, short_number_of}
-use Rattle.std.proofs.lemmas.Bool.{cases_Bool}
-use Rattle.std.proofs.Math.Facts.{to_z_pos}
-use Rattle.std.proofs.lemmas.Bool.Decides.{nat_tests}
+use Rattle.line_text.specs.Numbers.{number_of}
 use Rattle.line_text.specs.Signed.{signed_of}
 use Rattle.line_text.specs.Hexadecimal.{hex_of}
-use Rattle.line_text.proofs.LawLemmas.{short_is_number}
 use Rattle.heap_theory.specs.declared.event.Event.{Event}
 use Rattle.heap_theory.specs.declared.event.Event.TheVariants.{Malloc, Calloc, Realloc, Free, Load, Store, Addg, Subg}
 use Rattle.std.specs.Int.{w32}
@@ -48,24 +44,6 @@ request_read ws more left v n event a b none = record {
 pub free_read : (ws left : List (List ℕ)) (v : ℕ) → IsRead (number_from 0 1023) ws left v → left ≡ [] → AreRead free_of ws (Free v)
 free_read ws left v a none =
     record { is = rw (a.words, none) (rw a.is refl); full = rw (a.words, none) (rw (full_number 0 1023 a.word v a.is) refl) }
-
--- an offset without a sign is a number
-signed_is_number : (word : List ℕ) (n : ℕ) → number_of word ≡ Some n → signed_of word ≡ Some (pos n)
-unfolding number_of signed_of
-signed_is_number [] n e = absurd cc
-signed_is_number (b ∷ word) n e = elim (cases_Bool (eqb b 45)) [
-  | inl minus ↦ let h = rw (eqb-true b 45 minus) at e in absurd cc
-  | inr other ↦ rw (other, e) refl
-]
-
-pub offset_without_sign : (ws left : List (List ℕ)) (n : ℕ) → Some n ≡ option_and_then short_number_of (slice_get ws 0) → left ≡ drop 1 ws →
-    n ≤ 1048576
-    → IsRead offset_of ws left (to_z w32 n)
-offset_without_sign [] left n e rest near = absurd cc
-offset_without_sign (word ∷ ws) left n e rest near =
-    let signed = signed_is_number word n (short_is_number word n (sym e)) in
-    let whole : to_z w32 n ≡ pos n = to_z_pos w32 (omega (arith, near)) in
-    record { word = word; words = rw rest refl; is = rw (signed, whole) (grind (arith, nat_tests, near)) }
 
 -- an offset that is read fits 32 bits
 pub offset_fits : (ws left : List (List ℕ)) (off : ℤ) → IsRead offset_of ws left off → FitsSigned w32 off

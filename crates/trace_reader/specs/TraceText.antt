@@ -1,16 +1,12 @@
 -- A trace's text: a line for each event.
-use Rattle.std.specs.Prelude.{◌≡◌, ◌≤◌, ℕ, suc, List, [], ◌∷◌, length, map, Option, Some, None, Result, Ok, Err, All}
-use Rattle.line_text.specs.Lines.{IsTextOf, lines, text_of}
+use Rattle.std.specs.Prelude.{◌≤◌, ℕ, suc, List, [], ◌∷◌, length, map, Option, Some, None, Result, Ok, Err, All}
+use Rattle.line_text.specs.Lines.{IsTextOf, lines}
 use Rattle.heap_theory.specs.declared.event.Event.{Event}
 use Rattle.trace_reader.specs.declared.fault.TraceFault.{TraceFault}
 use Rattle.heap_theory.specs.Ranges.{IsInRange}
 use Rattle.trace_reader.specs.TraceLine.{event_line, event_of_line, most_events}
 
 -- ---- the spelling
-
--- Events as a text, each line with its newline.
-abbrev pub trace_text : List Event → List ℕ
-trace_text events = text_of (map event_line events)
 
 -- The text spells these events, its last line with its newline or without.
 pub record SpellsTrace (text : List ℕ) (events : List Event) : Type 0 where

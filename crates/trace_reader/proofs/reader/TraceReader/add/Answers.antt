@@ -1,4 +1,4 @@
-use Rattle.std.proofs.Common.{◌≡◌, ◌++◌, ◌∷◌, [], refl, ◌∙◌}
+use Rattle.std.proofs.Common.{◌≡◌, refl, ◌∙◌}
 use Rattle.trace_reader.proofs.Reaching.{fields, judged_event, judged_fault, judged_memory}
 use Rattle.trace_reader.proofs.reader.TraceReader.add.Goals as goal
 use Rattle.trace_reader.proofs.reader.TraceReader.add.Goals.{else-capacity-len-via-then-capacity-len+else-is_err, else-capacity-len-via-else-capacity-len}
