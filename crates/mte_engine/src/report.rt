@@ -5,7 +5,7 @@ ghost use Rattle.mte_engine.specs.declared.report.TheConstants.{BUFFER};
 ghost use Rattle.tagged_heap.specs.Config.{IsConfig};
 ghost use Rattle.mte_engine.specs.ReportFrom.{AreFewEvents, report_from, report_unless};
 ghost use Rattle.trace_reader.specs.TraceLine.{most_events};
-ghost use Rattle.std.specs.Prelude.{◌≡◌, ◌+◌, ◌≤◌, ◌++◌, drop, length, vec_capacity, vec_len, true, IfOk};
+ghost use Rattle.std.specs.Prelude.{◌≡◌, ◌+◌, ◌≤◌, ◌++◌, drop, length, take, vec_len, true, IfOk};
 
 use crate::output::Output;
 use arrayvec::ArrayVec;
@@ -24,12 +24,14 @@ pub struct Report {
     replay: Replay,
     reader: TraceReader,
     buffer: Vec<u8>,
+    filled: usize,
     written: usize,
     is_whole: bool,
-    ghost in_buffer: { written ≤ vec_len buffer },
-    ghost room: { BUFFER ≤ vec_capacity buffer },
+    ghost in_filled: { written ≤ filled },
+    ghost in_buffer: { filled ≤ vec_len buffer },
+    ghost room: { BUFFER ≤ vec_len buffer },
     ghost few: { AreFewEvents replay reader.events },
-    ghost ready: { written ≡ vec_len buffer → is_whole ≡ true },
+    ghost ready: { written ≡ filled → is_whole ≡ true },
 }
 
 impl Report {
@@ -50,13 +52,15 @@ impl Report {
             report_left report ≡ text.items ++ report_on config table.now reader.events) }
     {
         let mut buffer = text;
-        buffer.reserve(BUFFER)?;
+        let from = buffer.len();
+        buffer.resize(from + BUFFER, 0)?;
         let mut replay = Replay::new(alloc, table, config)?;
-        let is_whole = fill(&mut replay, &mut reader, &mut buffer);
+        let (filled, is_whole) = fill(&mut replay, &mut reader, &mut buffer, from);
         Ok(Report {
             replay,
             reader,
             buffer,
+            filled,
             written: 0,
             is_whole,
         })
@@ -68,65 +72,60 @@ impl Output for Report {
 
     ghost rest = { report_left };
 
-    ghost ready = { λ r. drop r.written r.buffer.items };
+    ghost ready = { λ r. drop r.written (take r.filled r.buffer.items) };
 
     fn piece(&self) -> &[u8] {
-        &self.buffer[self.written..]
+        &self.buffer[self.written..self.filled]
     }
 
     fn advance(&mut self, n: usize) {
         self.written += n;
-        if self.written == self.buffer.len() && !self.is_whole {
-            self.buffer.clear();
+        if self.written == self.filled && !self.is_whole {
+            let (filled, is_whole) = fill(&mut self.replay, &mut self.reader, &mut self.buffer, 0);
             self.written = 0;
-            self.is_whole = fill(&mut self.replay, &mut self.reader, &mut self.buffer);
+            self.filled = filled;
+            self.is_whole = is_whole;
         }
     }
 }
 
-// Replays events and appends their lines to the buffer, until the buffer is full or all events are replayed. After the last event it
-// appends the totals. Returns whether it has appended the totals. A step writes its line into a buffer of its own, from which it is
-// appended. There is room for all of this, so the call takes no memory.
-fn fill(replay: &mut Replay, reader: &mut TraceReader, buffer: &mut Vec<u8>) -> bool
+// Replays events and writes their lines into a text from byte `from` on, until the text is full or all events are replayed. After the last
+// event it writes the totals. Returns where it ended, and whether it has written the totals.
+fn fill(
+    replay: &mut Replay,
+    reader: &mut TraceReader,
+    text: &mut [u8],
+    from: usize,
+) -> (usize, bool)
     requires few { AreFewEvents replay.old reader.old.events }
-    requires room { vec_len buffer.old + BUFFER ≤ vec_capacity buffer.old }
-    ensures report { buffer.new.items ++ report_unless result replay.new reader.new.events
-        ≡ buffer.old.items ++ report_from replay.old reader.old.events }
-    ensures some { vec_len buffer.new ≤ vec_len buffer.old → result ≡ true }
+    requires room { from + BUFFER ≤ length text.old }
+    ensures end { result.0 ≤ length text.old }
+    ensures report { take result.0 text.new ++ report_unless result.1 replay.new reader.new.events
+        ≡ take from text.old ++ report_from replay.old reader.old.events }
+    ensures some { result.0 ≤ from → result.1 ≡ true }
     ensures few { AreFewEvents replay.new reader.new.events }
-    ensures capacity { vec_capacity buffer.old ≤ vec_capacity buffer.new }
 {
-    let full = buffer.len() + BUFFER - LINE_ROOM - TOTALS_ROOM;
-    let mut line = ArrayVec::new();
+    let full = text.len() - LINE_ROOM - TOTALS_ROOM;
+    let mut end = from;
     // the label names the loop's invariant in proofs/
-    'lines: while buffer.len() < full {
+    'lines: while end < full {
         let Some(event) = reader.next_event() else {
-            append_totals(replay, buffer);
-            return true;
+            return (write_totals(replay, text, end), true);
         };
-        replay.step(&event, &mut line);
-        append(buffer, &line);
+        end = replay.step_at(&event, text, end);
     }
-    false
+    (end, false)
 }
 
-// appends the totals, for which there must be room
-fn append_totals(replay: &Replay, buffer: &mut Vec<u8>)
-    requires { vec_len buffer.old + TOTALS_ROOM ≤ vec_capacity buffer.old }
-    ensures items { buffer.new.items ≡ buffer.old.items ++ totals_text replay.now.totals }
-    ensures capacity { vec_capacity buffer.old ≤ vec_capacity buffer.new }
+// writes the totals, for which there must be room, and returns where they end
+fn write_totals(replay: &Replay, text: &mut [u8], at: usize) -> usize
+    requires { at + TOTALS_ROOM ≤ length text.old }
+    ensures end { result ≤ at + TOTALS_ROOM }
+    ensures text { take result text.new ≡ take at text.old ++ totals_text replay.now.totals }
 {
     let mut totals = ArrayVec::new();
     replay.totals().write(&mut totals);
-    append(buffer, &totals);
-}
-
-// appends bytes, for which there must be room
-fn append(buffer: &mut Vec<u8>, bytes: &[u8])
-    requires { vec_len buffer.old + length bytes.now ≤ vec_capacity buffer.old }
-    ensures items { buffer.new.items ≡ buffer.old.items ++ bytes.now }
-    ensures len { vec_len buffer.new ≡ vec_len buffer.old + length bytes.now }
-    ensures capacity { vec_capacity buffer.old ≤ vec_capacity buffer.new }
-{
-    let _ = buffer.extend_from_slice(bytes);
+    let end = at + totals.len();
+    text[at..end].copy_from_slice(&totals);
+    end
 }

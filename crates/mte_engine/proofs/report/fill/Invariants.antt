@@ -1,14 +1,12 @@
-use Rattle.std.proofs.Common.{◌≡◌, ◌+◌, ◌≤◌, ◌++◌, length, vec_len}
-use Rattle.std.specs.Prelude.{vec_capacity}
+use Rattle.std.proofs.Common.{◌≡◌, ◌+◌, ◌≤◌, ◌++◌, length, take}
 use Rattle.mte_engine.specs.ReportFrom.{AreFewEvents, report_from}
 use Rattle.mte_engine.proofs.report.fill.Given as goal
 
 abbrev pub invariant-lines : goal.invariant-lines
 invariant-lines l = record {
-  report : l.buffer.items ++ report_from l.replay l.reader.events ≡ l.fn.buffer.items ++ report_from l.fn.replay l.fn.reader.events;
+  report : take l.end l.text ++ report_from l.replay l.reader.events ≡ take l.from l.initial.text ++ report_from l.fn.replay l.fn.reader.events;
   few : AreFewEvents l.replay l.reader.events;
-  room : vec_len l.buffer ≤ l.full + 160;
-  capacity : vec_capacity l.fn.buffer ≤ vec_capacity l.buffer;
+  room : l.end ≤ l.full + 160;
 }
 
 abbrev pub decreases-lines : goal.decreases-lines
