@@ -1,7 +1,7 @@
 -- The report that is still to come, as events are replayed and their lines are appended to a buffer.
 use Rattle.std.proofs.Common.{◌≡◌, ◌≤◌, ℕ, ◌+◌, ◌-◌, List, [], ◌∷◌, ◌++◌, length, take, drop, refl, sym, ap, ◌∙◌, append_assoc, append-nil, take_all, arith}
-use Rattle.std.proofs.lemmas.List.{drop-append-le, drop-drop, drop-take}
-use Rattle.std.proofs.Math.Seq.{drop-length, take-append_seam}
+use Rattle.std.proofs.lemmas.List.{drop-take}
+use Rattle.std.proofs.Math.Seq.{take-append_seam}
 use Rattle.heap_theory.specs.Report.{report, report_line, totals_text}
 use Rattle.heap_theory.specs.Replay.{answer_of}
 use Rattle.heap_theory.specs.Totals.{totals_after}
@@ -78,16 +78,3 @@ pub text_kept : (text more : List ℕ) (m n : ℕ) → m ≡ length text → m �
 text_kept text more m n is fits =
     let long : length text ≤ n = omega arith in
     ap (λ t. take m (t ++ more)) (take_all n text long) ∙ ap (λ k. take k (text ++ more)) is ∙ take-append_seam text more
-
--- what is left of the buffer and what comes after it, once some of it was written
-pub advanced : (items later : List ℕ) (written n : ℕ) → n ≤ length (drop written items) →
-    drop (written + n) items ++ later ≡ drop n (drop written items ++ later)
-advanced items later written n fits =
-    sym (drop-append-le n (drop written items) later fits ∙ ap (λ (t : List ℕ). t ++ later) (drop-drop n written items))
-
--- the buffer was written, and filled again
-pub filled_again : (items later items' later' : List ℕ) (written n : ℕ) → n ≤ length (drop written items) → written + n ≡ length items
-    → items' ++ later' ≡ later → drop 0 items' ++ later' ≡ drop n (drop written items ++ later)
-filled_again items later items' later' written n fits end is =
-    let none : drop (written + n) items ≡ [] = rw end (drop-length items) in
-    is ∙ sym (ap (λ (t : List ℕ). t ++ later) none) ∙ advanced items later written n fits
