@@ -67,6 +67,11 @@ def crates_below(crate, known):
     return found
 
 
+def is_kept(crate):
+    """Whether `rt lib` kept each library below the crate. `rt ci` keeps none, and after it `rt lib` would prove all of them again."""
+    return all(os.path.exists(f"{ROOT}/crates/{name}/out/rlib/stamp") for name in crates_below(crate, libraries()))
+
+
 def llvm_module(crate, kept, folder):
     """Proves and builds the static library, and builds it once more by a clang that keeps the module in the file KEPT."""
     place = os.path.join(ROOT, "crates", crate)
