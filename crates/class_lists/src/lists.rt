@@ -87,14 +87,17 @@ impl ClassLists {
         Some(slot)
     }
 
-    fn front(&self, number: usize) -> u32
+    /// The front of the list of a class, given by its number: the number of the list's first slot plus one, or 0 if the list is empty.
+    pub fn front(&self, number: usize) -> u32
         requires { number < length self.now }
         ensures { result ≡ slice_index self.now number }
     {
         self.fronts[number]
     }
 
-    fn set_front(&mut self, number: usize, front: u32)
+    /// Sets the front of the list of a class, given by its number, and changes no link. With the slot's number plus one it completes what
+    /// `push` does, where the caller wrote the slot's header with the old front as its link.
+    pub fn set_front(&mut self, number: usize, front: u32)
         requires { number < length self.old }
         ensures { self.new ≡ slice_set self.old number front }
     {

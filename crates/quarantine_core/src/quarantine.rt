@@ -1,4 +1,5 @@
 ghost use Rattle.chunk_header.specs.Links.{SetsLink};
+ghost use Rattle.class_table.specs.Layout.{slot_of};
 ghost use Rattle.heap_theory.specs.Links.{IsLinked};
 ghost use Rattle.heap_theory.specs.Region.{Region, next_in, region_of};
 ghost use Rattle.quarantine_core.specs.Queue.{
@@ -99,18 +100,35 @@ impl Quarantine {
             (λ slot. TakesOldest self.old self.new layout.now memory.old memory.new slot) }
         ensures region { length memory.new ≡ layout.now.granules }
     {
+        let (slot, _) = self.next_out_at(memory, layout)?;
+        Some(slot)
+    }
+
+    /// As `next_out`, with the slot's header granule.
+    pub fn next_out_at(&mut self, memory: &mut Memory, layout: &Layout) -> Option<(u32, u32)>
+        requires region { length memory.old ≡ layout.now.granules }
+        requires linked { LinksStand self.old layout.now (region_of layout.now memory.old) }
+        ensures over { IsSome result ↔ (self.old.limit < self.old.held) }
+        ensures linked { LinksStand self.new layout.now (region_of layout.now memory.new) }
+        ensures same { IfNone result ((self.new ≡ self.old) × (memory.new ≡ memory.old)) }
+        ensures oldest { IfSome result
+            (λ out. TakesOldest self.old self.new layout.now memory.old memory.new out.0) }
+        ensures start { IfSome result (λ out. out.1 ≡ (slot_of layout.now out.0).start) }
+        ensures region { length memory.new ≡ layout.now.granules }
+    {
         if self.held <= u64::from(self.limit) {
             return None;
         }
         Some(self.take_oldest(memory, layout))
     }
 
-    // takes off the slot that was put in first; the quarantine must hold some bytes
-    fn take_oldest(&mut self, memory: &mut Memory, layout: &Layout) -> u32
+    // takes off the slot that was put in first, and returns it with its header granule; the quarantine must hold some bytes
+    fn take_oldest(&mut self, memory: &mut Memory, layout: &Layout) -> (u32, u32)
         requires region { length memory.old ≡ layout.now.granules }
         requires linked { LinksStand self.old layout.now (region_of layout.now memory.old) }
         requires some { 0 < self.old.held }
-        ensures oldest { TakesOldest self.old self.new layout.now memory.old memory.new result }
+        ensures oldest { TakesOldest self.old self.new layout.now memory.old memory.new result.0 }
+        ensures start { result.1 ≡ (slot_of layout.now result.0).start }
         ensures linked { LinksStand self.new layout.now (region_of layout.now memory.new) }
         ensures region { length memory.new ≡ layout.now.granules }
     {
@@ -122,6 +140,6 @@ impl Quarantine {
             self.back = 0;
         }
         self.front = next;
-        slot
+        (slot, place.start)
     }
 }

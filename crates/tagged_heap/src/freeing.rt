@@ -1,5 +1,5 @@
 //! The call that takes a chunk back.
-ghost use Rattle.class_table.specs.Layout.{slot_count, IsPartition};
+ghost use Rattle.class_table.specs.Layout.{slot_count, slot_of, IsPartition};
 ghost use Rattle.heap_theory.specs.Calls.{free_step, freed};
 ghost use Rattle.heap_theory.specs.Lookups.{chunk_at};
 ghost use Rattle.heap_theory.specs.Header.Standing.{Freed};
@@ -123,14 +123,22 @@ fn release_oldest(
         IsKept same (record { memory = memory.new; quarantine = quarantine.new; fronts = lists.new }) }
     ensures held { quarantine.new.held ≤ quarantine.new.limit }
 {
-    while let Some(slot) = quarantine.next_out(memory, layout) {
-        list_released(memory, layout, lists, slot);
+    while let Some((slot, start)) = quarantine.next_out_at(memory, layout) {
+        list_released(memory, layout, lists, slot, start);
     }
 }
 
-// Puts a slot that the quarantine let go into its class's list.
-fn list_released(memory: &mut Memory, layout: &Layout, lists: &mut ClassLists, slot: u32)
+// Puts a slot that the quarantine let go, whose header is granule `start`, in front of its class's list: writes its header once, link
+// included.
+fn list_released(
+    memory: &mut Memory,
+    layout: &Layout,
+    lists: &mut ClassLists,
+    slot: u32,
+    start: u32,
+)
     requires slot { slot < slot_count layout.now }
+    requires start { start ≡ (slot_of layout.now slot).start }
     requires region { length memory.old ≡ layout.now.granules }
     requires memory { IsMemory memory.old }
     requires partition { IsPartition layout.now }
@@ -142,12 +150,14 @@ fn list_released(memory: &mut Memory, layout: &Layout, lists: &mut ClassLists, s
         lists.new ≡ slice_set lists.old before.class (slot + 1) }
     ensures memory { IsMemory memory.new }
 {
-    let start = layout.start(slot);
+    prove!(slot < layout.slots());
     let before = header(memory, layout, slot, start);
+    let number = usize::from(before.class);
     let after = Header {
         state: State::Freed,
+        next: lists.front(number),
         ..before
     };
     write(memory, start, &after);
-    lists.push(memory, layout, usize::from(before.class), slot);
+    lists.set_front(number, slot + 1);
 }
