@@ -1,3 +1,4 @@
 pub mod Granules
 pub mod SameBytes
 pub mod Writes
+pub mod TagWords

@@ -1,7 +1,7 @@
 ghost use Rattle.granule_memory.specs.Changes.{ChangesOnlyBytes, ChangesOnlyTags};
 ghost use Rattle.machine_theory.specs.Memory.{byte_at, bytes_at, new_granule, tag_at, tagged, word_at, written, Granule, IsMemory};
 ghost use Rattle.std.specs.Int.{to_le_bytes, w64};
-ghost use Rattle.std.specs.Prelude.{◌≡◌, ◌+◌, ◌*◌, ◌<◌, ◌≤◌, [], ◌∷◌, ℕ, IfOk, List, length, replicate};
+ghost use Rattle.std.specs.Prelude.{◌≡◌, ◌↔◌, ◌+◌, ◌*◌, ◌<◌, ◌≤◌, [], ◌∷◌, ℕ, IfOk, IsTrue, List, length, replicate};
 
 use machine_theory::{FEWEST_GRANULES, GRANULE_BYTES, MOST_GRANULES};
 use raw_region::RawRegion;
@@ -10,6 +10,9 @@ use std::marker::Model;
 
 // The bytes of a granule.
 const GRANULE: usize = GRANULE_BYTES as usize;
+
+// The word whose eight bytes are 1.
+const EIGHT_ONES: u64 = 0x0101_0101_0101_0101;
 
 /// 64 to 262,144 granules of sixteen bytes, each with an Allocation Tag from 0 to 15. Contracts see it as the list of its granules.
 /// One region holds 17 bytes for each granule: first the bytes of all granules, so that byte i of the memory is byte i of the
@@ -65,6 +68,21 @@ impl Memory {
         ensures below { result < 16 }
     {
         self.region.byte(self.place_of_tag(g))
+    }
+
+    /// Whether all granules from `first` to `last`, at most eight, have the Allocation Tag `tag`. It compares them as one word. `last` must
+    /// be below `granules()`.
+    #[tactic(auto, using(crate::proofs::Granules::granules_counted))]
+    pub fn all_have_tag(&self, first: u32, last: u32, tag: u8) -> bool
+        requires granules { (first ≤ last) × (last < length self.now) }
+        requires few { last < first + 8 }
+        requires tag { tag < 16 }
+        ensures { IsTrue result ↔ ((g : ℕ) → first ≤ g → g ≤ last → tag_at self.now g ≡ tag) }
+    {
+        // the last tag is the word's highest byte; its lowest bytes are of granules before `first`, or of bytes before all tags
+        let word = self.region.word(self.place_of_tag(last) - 7);
+        let others = 8 * (7 - (last - first));
+        word >> others == (EIGHT_ONES * u64::from(tag)) >> others
     }
 
     /// Gives granule `g`, which must be below `granules()`, the Allocation Tag `t`, which must be below 16. No byte changes.

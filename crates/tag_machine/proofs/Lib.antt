@@ -1,3 +1,4 @@
 pub mod MaskBits
 pub mod DrawnTags
 pub mod Choice
+pub mod Touched

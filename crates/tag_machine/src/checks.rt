@@ -31,9 +31,26 @@ pub(crate) fn check_access(memory: &Memory, address: u64, len: u64) -> Result<()
     if !is_mapped(memory, address, len) {
         return Err(Fault::Unmapped);
     }
-    let pointer_tag = logical_tag(address);
+    // an access touches at most five granules
+    let first = granule_of(address);
     let last = granule_of(address + len - 1);
-    for granule in granule_of(address)..last + 1 {
+    if memory.all_have_tag(first, last, logical_tag(address)) {
+        return Ok(());
+    }
+    check_tags(memory, address, len)
+}
+
+// What `check_access` returns for an access that is mapped, by one granule after the other.
+#[inline(never)]
+fn check_tags(memory: &Memory, address: u64, len: u64) -> Result<(), Fault>
+    requires len { (1 ≤ len) × (len ≤ LONGEST_ACCESS) }
+    requires mapped { IsMapped (length memory.now) address len }
+    requires memory { IsMemory memory.now }
+    ensures { result ≡ ok_unless (access_fault memory.now address len) }
+{
+    let pointer_tag = logical_tag(address);
+    let end = granule_of(address + len - 1) + 1;
+    for granule in granule_of(address)..end {
         let memory_tag = memory.tag(granule);
         if memory_tag != pointer_tag {
             return Err(Fault::TagCheck {
