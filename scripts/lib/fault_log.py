@@ -73,6 +73,8 @@ class Log:
             self.is_whole, self.not_logged = True, int(words[1])
         elif letter == b"C":
             self.is_cut = True
+        elif letter == b"-":
+            self._stack(words[-1])
         else:
             self._error(letter.decode(), [int(word) for word in words[1:-1]], self._stack(words[-1]))
 

@@ -1,7 +1,8 @@
-// What gcc's check before each load and store calls where the shadow is closed (__asan_report_). clang calls the others before each, and so
-// does gcc on processors but x86-64. A right access is logged once for each granule and kind, and a wrong one once for each place in the
-// code, block, and part of the block that it touches. While a granule's loads are logged and its stores are not, or the other way round,
-// its shadow stays closed. That is slow where the other kind never comes: once a program waited often, no more right accesses are logged.
+// What the compiler's check before each load and store calls where the shadow is closed: gcc __asan_report_, and clang __asan_report_exp_.
+// On processors but x86-64 both call the others before each. A right access is logged once for each granule and kind, and a wrong one once
+// for each place in the code, block, and part of the block that it touches. While a granule's loads are logged and its stores are not, or
+// the other way round, its shadow stays closed. That is slow where the other kind never comes: once a program waited often, no more right
+// accesses are logged.
 #include "accesses.h"
 
 enum { MOST_RIGHT = 600000, MOST_WAITS = 1 << 22, SEEN = 1 << 16, TRIES = 64 };
@@ -64,21 +65,71 @@ static struct block *live_at(address a, size_t size) {
   return has_all ? block : NULL;
 }
 
-void touch_slowly(address a, size_t size, int store, struct caller from) {
+// Of an access whose size or alignment is not usual, clang looks at the first byte and then at the last one, and calls for each that is
+// closed. Only the next call shows which of the two a byte was: the last one comes right after the first. So a wrong byte is believed to be
+// the last one if the first one is right then. If it was the first one itself, the record is taken back at the call for the last one.
+static __thread struct half {
+  address at, *frame;
+  size_t size, record;
+  int is_guess;
+} half __attribute__((tls_model("initial-exec")));
+
+// whether the access is wrong
+static int see(address a, size_t size, int store, struct caller from) {
   if (busy) {  // in a handler of a signal that came in the runtime
+    not_logged++;
+    return 0;
+  }
+  enter();
+  half.size = 0;
+  struct block *block = live_at(a, size);
+  if (block) right(block, a - block->start, size, store);
+  else wrong(owner(a), a, size, store, from);
+  leave();
+  return !block;
+}
+
+// gcc looks at the first and at the last byte of a struct, and copies a large one by memcpy: what the look told is not told again.
+static __thread struct { address at, *frame; size_t size; } told[2] __attribute__((tls_model("initial-exec")));
+
+void touch_slowly(address a, size_t size, int store, struct caller from) {
+  int is_told = told[store].at == a && told[store].size == size && told[store].frame == from.frame;
+  told[store].size = 0;
+  if (!is_told) see(a, size, store, from);
+}
+
+static void touch_half(address a, size_t size, int store, struct caller from) {
+  if (busy) {
     not_logged++;
     return;
   }
   enter();
-  struct block *block = live_at(a, size);
-  if (block) right(block, a - block->start, size, store);
-  else wrong(owner(a), a, size, store, from);
+  struct half first = half;
+  struct block *block = live_at(a, 1);
+  half.size = 0;
+  if (first.size == size && first.at + size - 1 == a && first.frame == from.frame) {
+    if (first.is_guess) take_back(first.record), wrong(owner(first.at), first.at, size, store, from);
+  } else if (block) {
+    right(block, a - block->start, 1, store);
+  } else {
+    int is_guess = live_at(a - size + 1, 1) != NULL;
+    address begin = is_guess ? a - size + 1 : a;
+    half = (struct half){a, from.frame, size, place_in_log(), is_guess};
+    wrong(owner(begin), begin, size, store, from);
+    if (half.record == place_in_log()) half.record = 0;
+  }
   leave();
 }
 
 // A hook has no frame of its own, so it is quick; here the frame is still the one of the function that called the hook.
 static NOT_INLINE void slowly(address a, size_t size, int store, address pc) {
-  touch_slowly(a, size, store, (struct caller){pc, *(address **)__builtin_frame_address(0)});
+  struct caller from = {pc, *(address **)__builtin_frame_address(0)};
+  int is_wrong = see(a, size, store, from);
+  told[store].at = a, told[store].frame = from.frame, told[store].size = is_wrong ? size : 0;
+}
+
+static NOT_INLINE void slowly_half(address a, size_t size, int store, address pc) {
+  touch_half(a, size, store, (struct caller){pc, *(address **)__builtin_frame_address(0)});
 }
 
 static NOT_INLINE int may_wait(void) { return __atomic_add_fetch(&waits, 1, __ATOMIC_RELAXED) <= MOST_WAITS; }
@@ -88,13 +139,17 @@ static NOT_INLINE int may_wait(void) { return __atomic_add_fetch(&waits, 1, __AT
   if (size && !__builtin_expect(is_known(a, size, store), 1)) slowly(a, size, store, PC)
 #define REPORTED(a, size, store) \
   if (size && !(is_known(a, size, store) && may_wait())) slowly(a, size, store, PC)
+#define HALF_REPORTED(a, size, store) \
+  if (size && !(is_known(a, 1, store) && may_wait())) slowly_half(a, size, store, PC)
 #define HOOKS(kind, size, store) \
   SHOWN void __asan_##kind##size##_noabort(address a) { HOOKED(a, size, store); } \
-  SHOWN void __asan_report_##kind##size##_noabort(address a) { REPORTED(a, size, store); }
+  SHOWN void __asan_report_##kind##size##_noabort(address a) { REPORTED(a, size, store); } \
+  SHOWN void __asan_report_exp_##kind##size##_noabort(address a, uint32_t unused) { (void)unused; REPORTED(a, size, store); }
 #define ALL_HOOKS(kind, store) \
   HOOKS(kind, 1, store) HOOKS(kind, 2, store) HOOKS(kind, 4, store) HOOKS(kind, 8, store) HOOKS(kind, 16, store) \
   SHOWN void __asan_##kind##N_noabort(address a, size_t size) { HOOKED(a, size, store); } \
-  SHOWN void __asan_report_##kind##_n_noabort(address a, size_t size) { REPORTED(a, size, store); }
+  SHOWN void __asan_report_##kind##_n_noabort(address a, size_t size) { REPORTED(a, size, store); } \
+  SHOWN void __asan_report_exp_##kind##_n_noabort(address a, size_t size, uint32_t unused) { (void)unused; HALF_REPORTED(a, size, store); }
 ALL_HOOKS(load, 0)
 ALL_HOOKS(store, 1)
 SHOWN void __asan_handle_no_return(void) {}

@@ -5,6 +5,7 @@
 //   l BLOCK OFFSET SIZE        a right load; s a right store
 //   L BLOCK OFFSET SIZE STACK  a wrong load; S a wrong store; block 0 stands for a freed one that is forgotten, or with the offset 1 for
 //                              an address that was never given out
+//   - BLOCK OFFSET SIZE STACK  a wrong access that was taken back; only its stack counts
 //   x BLOCK OFFSET STACK       a wrong free of an address of a block; o STACK of a forgotten one, n STACK of one that was never given out
 //   M LOW HIGH OFFSET PATH     a file that is mapped with code
 //   Z NOT_LOGGED               the end of the program; C where the log could not grow
@@ -46,6 +47,14 @@ static void put_number(unsigned long value, unsigned base) {
 }
 
 void put_end(void) { put('\n'); }
+
+// where the next record begins; a place is the same in the log of a child
+size_t place_in_log(void) { return text ? text - log_start : 0; }
+
+// the record that begins at this place, if there is one: the log begins with a mapping
+void take_back(size_t place) {
+  if (text && place) log_start[place] = '-';
+}
 
 // The log grows by its name, since the program may have closed each file that it did not open.
 static int grow(void) {
