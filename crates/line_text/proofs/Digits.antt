@@ -18,7 +18,7 @@ use Rattle.line_text.specs.Numbers.{number_of, is_numeral}
 
 -- ---- reading
 
-digit_is : (c : ℕ) → is_ascii_digit c ≡ true → (digit_value c ≡ c - 48) × (48 ≤ c) × (c ≤ 57)
+pub digit_is : (c : ℕ) → is_ascii_digit c ≡ true → (digit_value c ≡ c - 48) × (48 ≤ c) × (c ≤ 57)
 digit_is c e = let h : (48 ≤ c) × (c ≤ 57) = grind (arith, nat_tests) in (grind (arith, nat_tests), h.0, h.1)
 
 pub digit_at : (word : List ℕ) (i : ℕ) → list_all is_ascii_digit word ≡ true → i < length word → is_ascii_digit (get_or word i 0) ≡ true

@@ -1,5 +1,5 @@
 -- The digits in front of a text, and the number that they spell.
-use Rattle.std.proofs.Common.{◌≡◌, ℕ, zero, suc, ◌+◌, min, Bool, cond, ◌<◌, ◌≤◌, true, false, eqb, List, [], ◌∷◌, ◌++◌, append-nil, leb, ◌∙◌, length, get_or, take, take_all, refl, sym, ap, arith, Option, Some, None, inl, inr, ◌⊎◌}
+use Rattle.std.proofs.Common.{◌≡◌, ℕ, zero, suc, ◌+◌, min, Bool, cond, ◌<◌, ◌≤◌, true, false, eqb, List, [], ◌∷◌, ◌++◌, append-nil, leb, ◌∙◌, length, get_or, take, take_all, refl, sym, ap, arith, Some, None, inl, inr, ◌⊎◌}
 use Rattle.std.specs.Char.{is_ascii_digit}
 use Rattle.std.specs.List.{list_all, prefix_len, take_while}
 use Rattle.std.specs.Str.Parse.{digits_value}
@@ -7,7 +7,7 @@ use Rattle.std.proofs.lemmas.Bool.{cases_Bool, cases_lt, both_ways}
 use Rattle.std.proofs.lemmas.Bool.Decides.{nat_tests}
 use Rattle.std.proofs.lemmas.List.{get_or-take, length-take-le, take-take}
 use Rattle.std.proofs.lemmas.List.Sums.{prefix_len_is, prefix_len_stops, prefix_len-le-length, take_while-cons}
-use Rattle.line_text.specs.Numbers.{AreLeading, number_of, short_number_of, leading_digits, leading_number_of}
+use Rattle.line_text.specs.Numbers.{AreLeading, AreNear, number_of, short_number_of, leading_digits, leading_number_of}
 use Rattle.line_text.proofs.Digits.{digit_at}
 
 -- a digit before the end of digits
@@ -106,16 +106,13 @@ prefix_len-take (c ∷ text) (suc n) = more (prefix_len-take text n) (is_ascii_d
     more rest true = omega arith
     more rest false = omega arith
 
--- the digits in front of the first 20 bytes tell those of the text, as far as they are few
-pub leading_of_window : (text : List ℕ) (found : Option (ℕ × ℕ)) → AreLeading found (take 20 text) → AreLeading found text
-leading_of_window text None many = omega (arith, prefix_len-take text 20)
-leading_of_window text (Some found) read =
-    let same : prefix_len is_ascii_digit (take 20 text) ≡ prefix_len is_ascii_digit text = omega (arith, prefix_len-take text 20, read) in
-    let few : prefix_len is_ascii_digit (take 20 text) ≤ 20 = omega (arith, read) in (
-      read.0 ∙ ap (digits_value 10) (take-take (prefix_len is_ascii_digit (take 20 text)) 20 text few ∙ ap (λ n. take n text) same),
-      read.1
-          ∙ same,
-      read.2,
+-- the digits in front of the first 19 bytes, where another byte ends them there, are those of the text
+pub leading_of_near : (text : List ℕ) (size value : ℕ) → AreNear (Some (size, value)) (take 19 text) → AreLeading (Some (value, size)) text
+leading_of_near text size value near =
+    let same : prefix_len is_ascii_digit text ≡ size = omega (arith, prefix_len-take text 19, near) in (
+      near.2 ∙ ap (digits_value 10) (take-take size 19 text (omega (arith, near.1)) ∙ ap (λ n. take n text) (sym same)),
+      sym same,
+      omega (arith, near.1),
     )
 
 -- a number of few bytes is a number

@@ -1,7 +1,10 @@
 pub mod LawLemmas
 pub mod Cuts
 pub mod Digits
+mod DigitWords
+mod JoinedDigits
 pub mod FirstFaults
+mod FourMore
 pub mod FirstNumbers
 pub mod FirstPairs
 pub mod FullLines

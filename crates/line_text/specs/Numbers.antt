@@ -1,5 +1,5 @@
 -- How a number is spelled, and how a word is read as one.
-use Rattle.std.specs.Prelude.{◌≡◌, ◌<◌, ◌≤◌, ℕ, ◌^◌, Bool, ◌&&◌, ◌||◌, not, List, [], ◌∷◌, length, slice_index, Option, Some, None, ◌==◌, nat_lt, nat_le, if◌then◌else◌}
+use Rattle.std.specs.Prelude.{◌≡◌, ◌<◌, ◌≤◌, ℕ, ◌+◌, ◌*◌, ◌^◌, Bool, ◌&&◌, ◌||◌, not, List, [], ◌∷◌, length, take, slice_index, Option, Some, None, ◌==◌, nat_lt, nat_le, if◌then◌else◌}
 use Rattle.std.specs.Char.{is_ascii_digit}
 use Rattle.std.specs.List.{list_all, prefix_len, take_while}
 use Rattle.std.specs.Str.Parse.{digits_value}
@@ -42,3 +42,14 @@ abbrev pub AreLeading : Option (ℕ × ℕ) → List ℕ → Type 0
 AreLeading None text = 19 < prefix_len is_ascii_digit text
 AreLeading (Some found) text =
     (found.0 ≡ digits_value 10 (leading_digits text)) × (found.1 ≡ prefix_len is_ascii_digit text) × (found.1 ≤ 19)
+
+-- The number of the digits at the start of 19 bytes, and their value; `None` exactly if all are digits.
+abbrev pub AreNear : Option (ℕ × ℕ) → List ℕ → Type 0
+AreNear None bytes = list_all is_ascii_digit bytes ≡ Bool.true
+AreNear (Some found) bytes =
+    (found.0 ≡ prefix_len is_ascii_digit bytes) × (found.0 < 19) × (found.1 ≡ digits_value 10 (take found.0 bytes))
+
+-- Bytes as one number, the first of them the lowest.
+abbrev pub word_of : List ℕ → ℕ
+word_of [] = 0
+word_of (b ∷ bs) = b + 256 * word_of bs

@@ -3,6 +3,7 @@ ghost use Rattle.std.specs.Prelude.{◌≡◌, ◌++◌, IfSome};
 ghost use Rattle.std.specs.Option.{option_map};
 ghost use Rattle.line_text.specs.Numbers.{AreLeading, leading_digits, leading_number_of};
 
+use crate::near_digits::near_digits;
 use crate::number::SHORT_DIGITS;
 
 // the number that the digits at the start of a text spell, and the text after them; `None` if they spell none or are more than 19
@@ -23,15 +24,15 @@ pub(crate) fn leading_number(text: &[u8]) -> Option<(u64, &[u8])>
 fn digits_in_front(text: &[u8]) -> Option<(u64, usize)>
     ensures { AreLeading result text.now }
 {
-    // The compiler unrolls the loop if the number of bytes is a constant.
-    if SHORT_DIGITS < text.len() {
-        count_digits(&text[..SHORT_DIGITS + 1])
-    } else {
-        count_digits(text)
+    if let Some((bytes, _)) = text.split_first_chunk::<SHORT_DIGITS>() {
+        if let Some((end, value)) = near_digits(bytes) {
+            return Some((value, end));
+        }
     }
+    count_digits(text)
 }
 
-#[inline(always)]
+// the same, byte by byte: few texts are so short, and few have so many digits
 #[tactic(auto, using(crate::proofs::Digits::room_for_one))]
 fn count_digits(text: &[u8]) -> Option<(u64, usize)>
     ensures { AreLeading result text.now }

@@ -1,6 +1,7 @@
 //! Lines of a text, words of a line, and the numbers that words spell: what all text formats of the tool share.
 #![tactic(auto)]
 
+mod digit_words;
 mod hexadecimal;
 pub mod laws;
 mod leading_number;

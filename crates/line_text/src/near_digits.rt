@@ -1,23 +1,49 @@
 //! The digits at the start of a fixed number of bytes. A number is **near** if it ends within these bytes.
-ghost use Rattle.std.specs.Prelude.{◌≡◌, ◌<◌, Bool, IfNone, IfSome, take};
+ghost use Rattle.std.specs.Prelude.{◌≡◌, ◌≤◌, ◌+◌, Bool, take};
 ghost use Rattle.std.specs.Char.{is_ascii_digit};
-ghost use Rattle.std.specs.List.{list_all, prefix_len};
+ghost use Rattle.std.specs.List.{list_all};
 ghost use Rattle.std.specs.Str.Parse.{digits_value};
+ghost use Rattle.line_text.specs.Numbers.{AreNear};
 
+use crate::digit_words::{eight_digits, four_digits};
 use crate::number::SHORT_DIGITS;
 
 // How many digits are at the start of these bytes, and their value; `None` if all bytes are digits.
-// The length is a constant. So the compiler unrolls the loop, and no byte costs a test for the end of the text.
+// The numbers of bytes below are constants. So the compiler unrolls the loop, and no byte costs a test for the end of the text.
 #[inline(always)]
 pub(crate) fn near_digits(bytes: &[u8; SHORT_DIGITS]) -> Option<(usize, u64)>
-    ensures size { IfSome result (λ pair. pair.0 ≡ prefix_len is_ascii_digit bytes.now) }
-    ensures ended { IfSome result (λ pair. pair.0 < SHORT_DIGITS) }
-    ensures value { IfSome result (λ pair. pair.1 ≡ digits_value 10 (take pair.0 bytes.now)) }
-    ensures all { IfNone result (list_all is_ascii_digit bytes.now ≡ Bool.true) }
+    ensures { AreNear result bytes.now }
 {
-    let mut value: u64 = 0;
-    for (place, byte) in bytes.iter().enumerate() {
-        let digit = u64::from(*byte).wrapping_sub(u64::from(b'0'));
+    match eight_digits(bytes) {
+        Some(value) => further_digits(bytes, 8, value),
+        None => further_digits(bytes, 0, 0),
+    }
+}
+
+// The same, where the first bytes are known to be digits of this value.
+#[inline(always)]
+fn further_digits(bytes: &[u8; SHORT_DIGITS], known: usize, value: u64) -> Option<(usize, u64)>
+    requires known { known ≤ 8 }
+    requires digits { list_all is_ascii_digit (take known bytes.now) ≡ Bool.true }
+    requires value { value ≡ digits_value 10 (take known bytes.now) }
+    ensures { AreNear result bytes.now }
+{
+    match four_digits(&bytes[known..]) {
+        Some(four) => last_digits(bytes, known + 4, value * 10_000 + u64::from(four)),
+        None => last_digits(bytes, known, value),
+    }
+}
+
+#[inline(always)]
+fn last_digits(bytes: &[u8; SHORT_DIGITS], known: usize, value: u64) -> Option<(usize, u64)>
+    requires known { known ≤ SHORT_DIGITS }
+    requires digits { list_all is_ascii_digit (take known bytes.now) ≡ Bool.true }
+    requires value { value ≡ digits_value 10 (take known bytes.now) }
+    ensures { AreNear result bytes.now }
+{
+    let mut value = value;
+    for place in known..SHORT_DIGITS {
+        let digit = u64::from(bytes[place]).wrapping_sub(u64::from(b'0'));
         if digit > 9 {
             return Some((place, value));
         }

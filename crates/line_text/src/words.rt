@@ -53,7 +53,7 @@ impl<'a> Words<'a> {
     }
 
     /// Takes the next word, and returns what it spells as a number, mostly in one pass over its bytes. `None` if no word is left.
-    #[inline]
+    #[inline(always)]
     pub fn next_as_number(&mut self) -> Option<Number>
         ensures number { result ≡ option_map (λ word. classified (number_of word)) (slice_get self.old 0) }
         ensures taken { self.new ≡ drop 1 self.old }

@@ -10,8 +10,8 @@ use Rattle.line_text.proofs.words.Words.next_near_number.Goals.{then-bytes-size-
 near : (c : goal.After-self-2-1) → IsNear c.in_ok-line.line.now c.in_ok-size.size
 near c = record {
   long = c.in_ok-bytes.ensures.variant.0 cc;
-  digits = rw c.in_ok-bytes.ensures.cases.0 at c.in_ok-size.ensures.size;
-  ended = c.in_ok-size.ensures.ended;
+  digits = rw c.in_ok-bytes.ensures.cases.0 at c.in_ok-size.ensures.0;
+  ended = c.in_ok-size.ensures.1;
 }
 
 self_is : (c : goal.After-self-2-1) → c.args.self.now ≡ words c.in_ok-line.line.now
@@ -23,8 +23,8 @@ returns-clause-number c =
     let size = c.in_ok-size.size in
     let space = rw c.in_ok-bytes.ensures.cases.0 at c.if-bytes-size-ne32.false in
     let value : c.in_ok-size.value ≡ digits_value 10 (take size line) =
-    c.in_ok-size.ensures.value ∙ ap (λ (bytes : List ℕ). digits_value 10 (take size bytes)) c.in_ok-bytes.ensures.cases.0
-    ∙ ap (digits_value 10) (take-take size 19 line (omega (arith, c.in_ok-size.ensures.ended))) in
+    c.in_ok-size.ensures.2 ∙ ap (λ (bytes : List ℕ). digits_value 10 (take size bytes)) c.in_ok-bytes.ensures.cases.0
+    ∙ ap (digits_value 10) (take-take size 19 line (omega (arith, c.in_ok-size.ensures.1))) in
     rw (self_is c, value)
     (sym (near_some line size (near c) space (omega arith) (elim c.if-size-gt1.either [
       | inl one ↦ inl (omega (arith, one.1))
@@ -46,7 +46,7 @@ pub returns-in_err-size-clause-number : goal.returns-in_err-size-clause-number
 returns-in_err-size-clause-number c =
     let self_is : c.args.self.now ≡ words c.in_ok-line.line.now =
     sym c.self.view_is ∙ ap (λ r. words_left (option_map (λ x. x.now) r)) c.in_ok-line.was in
-    let digits = rw c.in_ok-bytes.ensures.cases.0 at c.in_err-size.ensures.all in
+    let digits = rw c.in_ok-bytes.ensures.cases.0 at c.in_err-size.ensures in
     rw (self_is, near_many c.in_ok-line.line.now (c.in_ok-bytes.ensures.variant.0 cc) digits) c.from_residual-in_err-size.ensures
 
 pub returns-then-bytes-size-ne32-clause-number : goal.returns-then-bytes-size-ne32-clause-number
@@ -56,8 +56,8 @@ returns-then-bytes-size-ne32-clause-number c =
     let self_is : c.args.self.now ≡ words line = sym c.self.view_is ∙ ap (λ r. words_left (option_map (λ x. x.now) r)) c.in_ok-line.was in
     let near : IsNear line size = record {
       long = c.in_ok-bytes.ensures.variant.0 cc;
-      digits = rw c.in_ok-bytes.ensures.cases.0 at c.in_ok-size.ensures.size;
-      ended = c.in_ok-size.ensures.ended;
+      digits = rw c.in_ok-bytes.ensures.cases.0 at c.in_ok-size.ensures.0;
+      ended = c.in_ok-size.ensures.1;
     } in
     rw self_is (sym (elim c.then-bytes-size-ne32.branch [
       | then-bytes-size-ne32-via-then-bytes-size-ne32 w ↦ near_other line size near

@@ -3,13 +3,16 @@ use Rattle.std.specs.Char.{is_ascii_digit}
 use Rattle.line_text.proofs.Digits.{one_more, digits_more, room_for_one}
 use Rattle.line_text.proofs.LeadingDigits.{ends_at}
 use Rattle.line_text.proofs.DigitDistance.{distance, near_digit, far_digit}
-use Rattle.line_text.proofs.near_digits.near_digits.Goals as goal
+use Rattle.line_text.proofs.near_digits.last_digits.Goals as goal
 
-pub returns-then-digit-gt9-clause-size : goal.returns-then-digit-gt9-clause-size
-returns-then-digit-gt9-clause-size c =
+pub returns-then-digit-gt9 : goal.returns-then-digit-gt9
+returns-then-digit-gt9 c =
     let far = rw c.from-in-loop-place.ensures at c.if-digit-gt9.true in
-    let other = rw c.from.ensures at (far_digit c.from.result c.from.type_inv far) in
-    sym (ends_at c.args.bytes.now c.loop-place.place (omega arith) c.loop-place.invariant.digits (λ within. other))
+    let other = rw c.from.ensures at (far_digit c.from.result c.from.type_inv far) in (
+      sym (ends_at c.args.bytes.now c.loop-place.place (omega arith) c.loop-place.invariant.digits (λ within. other)),
+      omega arith,
+      c.loop-place.invariant.value,
+    )
 
 -- this byte is a digit, and what it adds
 record IsNext (byte added : ℕ) : Type 0 where
@@ -43,7 +46,7 @@ loop-place-preserved c = record {
       (omega (arith, (next c).value, one_more c.args.bytes.now c.loop-place.place (omega arith) (next c).digit));
 }
 
-pub returns-clause-all : goal.returns-clause-all
-returns-clause-all c =
+pub returns : goal.returns
+returns c =
     let whole = take_all c.loop-place.place c.args.bytes.now (omega arith) in
     rw whole at c.loop-place.invariant.digits
