@@ -2,3 +2,4 @@ pub mod MaskBits
 pub mod DrawnTags
 pub mod Choice
 pub mod Touched
+pub mod BitTables

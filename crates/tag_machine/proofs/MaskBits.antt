@@ -1,12 +1,12 @@
 -- How the set bits of a number are counted and found.
-use Rattle.std.proofs.Common.{◌≡◌, ℕ, zero, suc, ◌+◌, ◌-◌, ◌*◌, ◌/◌, ◌%◌, ◌^◌, ◌<◌, Bool, cond, List, [], ◌∷◌, length, get_or, drop, refl, sym, ap, ◌∙◌, subst, inl, inr, arith, pow-suc, add-zero}
+use Rattle.std.proofs.Common.{◌≡◌, ℕ, zero, suc, ◌+◌, ◌*◌, ◌/◌, ◌%◌, ◌^◌, ◌<◌, Bool, true, false, cond, List, [], ◌∷◌, ◌++◌, map, length, get_or, refl, sym, ap, ◌∙◌, subst, inl, inr, arith, pow-suc, append-nil}
 use Rattle.std.specs.Prelude.{◌==◌}
 use Rattle.std.specs.Int.{bit_at}
-use Rattle.std.specs.Int.Bits.{bit_and, and_self}
-use Rattle.std.specs.Int.Count.{ones, ones_in, count_trailing_zeros, under}
+use Rattle.std.specs.Int.Count.{ones, ones_in}
 use Rattle.std.specs.List.{filter, range_with_len}
 use Rattle.std.proofs.lemmas.Bool.{cases_eq}
-use Rattle.std.proofs.lemmas.Nat.{ones_cat, and_block}
+use Rattle.std.proofs.lemmas.Nat.{mod-pow-add, ones_cat}
+use native.Mathlib.Nat.{div-div-eq-div-mul}
 use Rattle.std.proofs.lemmas.Nat.Bits.{bit_at-suc, bit_at_lowest}
 use Rattle.tag_machine.specs.MaskBits.{set_bits}
 
@@ -62,44 +62,65 @@ length-places (suc w) k n h =
     ∙ sym (ones_cat 1 half 1 (omega arith) ∙ omega arith))
     n (omega (arith, pow-suc))
 
--- the first is where `trailing_zeros` says
-first_of_places : (w k n : ℕ) → 0 < n → n < 2 ^ w → get_or (places w k n) 0 0 ≡ k + count_trailing_zeros w n
-unfolding count_trailing_zeros
-first_of_places zero k n some h = absurd (omega arith)
-first_of_places (suc w) k n some h =
-    by_lowest_bit (λ m. 0 < m → m < 2 * 2 ^ w → get_or (places (suc w) k m) 0 0 ≡ k + under (m % 2) (count_trailing_zeros w (m / 2)))
-    (λ half more below.
-    let even : (half * 2 + 0) % 2 ≡ 0 = omega arith in
-    let halved : (half * 2 + 0) / 2 ≡ half = omega arith in
-    ap (λ xs. get_or xs 0 0) (places_even w k half) ∙ first_of_places w (k + 1) half (omega arith) (omega arith)
-    ∙ later k (count_trailing_zeros w half)
-    ∙ (λ i. k + under (sym even i) (count_trailing_zeros w (sym halved i))))
-    (λ half more below.
-    let odd : (half * 2 + 1) % 2 ≡ 1 = omega arith in
-    ap (λ xs. get_or xs 0 0) (places_odd w k half) ∙ sym (add-zero k)
-    ∙ ap (λ b. k + under b (count_trailing_zeros w ((half * 2 + 1) / 2))) (sym odd))
-    n some (omega (arith, pow-suc))
-  where
-    later : (k t : ℕ) → k + 1 + t ≡ k + suc t
-    later k t = omega arith
+-- the places of the lowest w bits, and those of the others
+with_rest : (b : Bool) (k : ℕ) (xs ys : List ℕ) → cond b (k ∷ (xs ++ ys)) (xs ++ ys) ≡ cond b (k ∷ xs) xs ++ ys
+with_rest true k xs ys = refl
+with_rest false k xs ys = refl
 
--- `n & (n - 1)` has all but the first
-places_cleared : (w k n : ℕ) → 0 < n → places w k (bit_and n (n - 1)) ≡ drop 1 (places w k n)
+places_parts : (w v t k n : ℕ) → t ≡ w + v → places t k n ≡ places w k n ++ places v (k + w) (n / 2 ^ w)
 unfolding places
-places_cleared zero k n some = refl
-places_cleared (suc w) k n some =
-    by_lowest_bit (λ m. 0 < m → places (suc w) k (bit_and m (m - 1)) ≡ drop 1 (places (suc w) k m))
-    (λ half more.
-    let before : half * 2 + 0 - 1 ≡ (half - 1) * 2 + 1 = omega arith in
-    ap (places (suc w) k) (ap (bit_and (half * 2 + 0)) before ∙ and_block 1 half (half - 1) 0 1 (omega arith) (omega arith))
-    ∙ places_even w k (bit_and half (half - 1))
-    ∙ places_cleared w (k + 1) half (omega arith) ∙ ap (drop 1) (sym (places_even w k half)))
-    (λ half more.
-    let before : half * 2 + 1 - 1 ≡ half * 2 + 0 = omega arith in
-    ap (places (suc w) k) (ap (bit_and (half * 2 + 1)) before ∙ and_block 1 half half 1 0 (omega arith) (omega arith)
-    ∙ ap (λ h. h * 2 + 0) (and_self half)) ∙ places_even w k half
-    ∙ ap (drop 1) (sym (places_odd w k half)))
-    n some
+places_parts zero v t k n sum =
+    let width : t ≡ v = omega arith in
+    let at : k ≡ k + 0 = omega arith in
+    let whole : n ≡ n / 2 ^ 0 = omega arith in
+    λ i. places (width i) (at i) (whole i)
+places_parts (suc w) v zero k n sum = absurd (omega arith)
+places_parts (suc w) v (suc t) k n sum =
+    let rest = places_parts w v t (k + 1) (n / 2) (omega arith) in
+    let at : k + 1 + w ≡ k + suc w = omega arith in
+    let high : n / 2 / 2 ^ w ≡ n / 2 ^ suc w = div-div-eq-div-mul n 2 (2 ^ w) ∙ ap (λ p. n / p) (omega (arith, pow-suc)) in
+    (λ i. cond (n % 2 == 1) (k ∷ rest i) (rest i))
+    ∙ with_rest (n % 2 == 1) k (places w (k + 1) (n / 2)) (places v (k + 1 + w) (n / 2 / 2 ^ w))
+    ∙ (λ i. places (suc w) k n ++ places v (at i) (high i))
+
+-- the lowest w bits alone matter
+places_low : (w k n m : ℕ) → n % 2 ^ w ≡ m % 2 ^ w → places w k n ≡ places w k m
+unfolding places
+places_low zero k n m same = refl
+places_low (suc w) k n m same =
+    let width : 2 ^ suc w ≡ 2 ^ (w + 1) = (let e : suc w ≡ w + 1 = omega arith in ap (λ j. 2 ^ j) e) in
+    let both : n % 2 ^ (w + 1) ≡ m % 2 ^ (w + 1) = ap (λ p. n % p) (sym width) ∙ same ∙ ap (λ p. m % p) width in
+    let low : n % 2 ≡ m % 2 = omega (arith, both, mod-pow-add n w 1, mod-pow-add m w 1) in
+    let high : n / 2 % 2 ^ w ≡ m / 2 % 2 ^ w = omega (arith, both, mod-pow-add n w 1, mod-pow-add m w 1) in
+    let rest = places_low w (k + 1) (n / 2) (m / 2) high in
+    λ i. cond (low i == 1) (k ∷ rest i) (rest i)
+
+-- places that are counted from d further on
+moved : (b : Bool) (k d : ℕ) (xs : List ℕ) →
+    cond b ((k + d) ∷ map (λ p. p + d) xs) (map (λ p. p + d) xs) ≡ map (λ p. p + d) (cond b (k ∷ xs) xs)
+moved true k d xs = refl
+moved false k d xs = refl
+
+places_moved : (w k d n : ℕ) → places w (k + d) n ≡ map (λ p. p + d) (places w k n)
+unfolding places
+places_moved zero k d n = refl
+places_moved (suc w) k d n =
+    let at : k + d + 1 ≡ k + 1 + d = omega arith in
+    let rest = ap (λ j. places w j (n / 2)) at ∙ places_moved w (k + 1) d (n / 2) in
+    (λ i. cond (n % 2 == 1) ((k + d) ∷ rest i) (rest i)) ∙ moved (n % 2 == 1) k d (places w (k + 1) (n / 2))
+
+-- each place is one of the w
+places_below : (w k n i : ℕ) → i < length (places w k n) → get_or (places w k n) i 0 < k + w
+unfolding places
+places_below zero k n i less = absurd (omega arith)
+places_below (suc w) k n i less =
+    one (n % 2 == 1) (places w (k + 1) (n / 2)) (λ j h. let rest = places_below w (k + 1) (n / 2) j h in omega arith) i less
+  where
+    one : (b : Bool) (xs : List ℕ) → ((j : ℕ) → j < length xs → get_or xs j 0 < k + suc w) → (j : ℕ) → j < length (cond b (k ∷ xs) xs) →
+        get_or (cond b (k ∷ xs) xs) j 0 < k + suc w
+    one true xs each zero h = omega arith
+    one true xs each (suc j) h = each j (omega arith)
+    one false xs each j h = each j h
 
 -- ---- of a number of sixteen bits
 
@@ -111,19 +132,23 @@ set_bits-places n =
 pub length-set_bits : (n : ℕ) → n < 2 ^ 16 → length (set_bits n) ≡ ones n
 length-set_bits n h = ap length (set_bits-places n) ∙ length-places 16 0 n h
 
-pub first_set_bit : (n : ℕ) → 0 < n → n < 2 ^ 16 → get_or (set_bits n) 0 0 ≡ count_trailing_zeros 16 n
-first_set_bit n some h = ap (λ xs. get_or xs 0 0) (set_bits-places n) ∙ first_of_places 16 0 n some h ∙ omega arith
+-- those of a byte are the places of its eight bits
+of_byte : (byte : ℕ) → byte < 256 → set_bits byte ≡ places 8 0 byte ++ []
+unfolding places
+of_byte byte small =
+    let none : byte / 2 ^ 8 ≡ 0 = omega arith in
+    set_bits-places byte ∙ places_parts 8 8 16 0 byte refl ∙ ap (λ high. places 8 0 byte ++ places 8 8 high) none
 
-pub set_bits_cleared : (n : ℕ) → 0 < n → set_bits (bit_and n (n - 1)) ≡ drop 1 (set_bits n)
-set_bits_cleared n some = set_bits-places (bit_and n (n - 1)) ∙ places_cleared 16 0 n some ∙ ap (drop 1) (sym (set_bits-places n))
+-- those of two bytes are those of the lower one, and those of the upper one eight further on
+pub set_bits_of_bytes : (n : ℕ) → n < 2 ^ 16 → set_bits n ≡ set_bits (n % 256) ++ map (λ p. p + 8) (set_bits (n / 256))
+set_bits_of_bytes n small =
+    let same : n % 256 % 256 ≡ n % 256 = omega arith in
+    let low : set_bits (n % 256) ≡ places 8 0 n = of_byte (n % 256) (omega arith) ∙ append-nil _ ∙ places_low 8 0 (n % 256) n same in
+    let high : set_bits (n / 256) ≡ places 8 0 (n / 256) = of_byte (n / 256) (omega arith) ∙ append-nil _ in
+    set_bits-places n ∙ places_parts 8 8 16 0 n refl ∙ ap (λ xs. places 8 0 n ++ xs) (places_moved 8 0 8 (n / 256))
+    ∙ (let lower = sym low in let upper = sym high in λ i. lower i ++ map (λ p. p + 8) (upper i))
 
--- a number with a set bit is not 0
-pub set_bits_some : (n : ℕ) → 0 < length (set_bits n) → 0 < n
-unfolding set_bits
-set_bits_some n some = elim (cases_eq n 0) [
-  | inr other ↦ omega arith
-  | inl none ↦ absurd (nothing (subst (λ m. 0 < length (set_bits m)) none some))
-]
-  where
-    nothing : 0 < length (set_bits 0) → ⊥
-    nothing h = omega arith
+pub byte_place_below : (byte i : ℕ) → byte < 256 → i < length (set_bits byte) → get_or (set_bits byte) i 0 < 8
+byte_place_below byte i small less =
+    let is : set_bits byte ≡ places 8 0 byte = of_byte byte small ∙ append-nil _ in
+    subst (λ xs. get_or xs i 0 < 8) (sym is) (places_below 8 0 byte i (subst (λ xs. i < length xs) is less))

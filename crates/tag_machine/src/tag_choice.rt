@@ -3,7 +3,7 @@ ghost use Rattle.machine_theory.specs.Tags.{allowed_after, choose_tag, is_exclud
 ghost use Rattle.std.specs.Prelude.{◌≡◌, ◌+◌, ◌%◌, ◌<◌, map};
 ghost use Rattle.tag_machine.specs.MaskBits.{set_bits};
 
-use crate::mask_bits::nth_set_bit;
+use crate::mask_bits::{count_set_bits, nth_set_bit};
 
 /// Whether the mask excludes the tag.
 fn is_excluded(exclude: u16, tag: u8) -> bool
@@ -35,6 +35,6 @@ pub(crate) fn choose_tag(tag: u8, offset: u8, exclude: u16) -> u8
     if offset == 0 && !is_excluded(exclude, tag) {
         return tag;
     }
-    let skipped = u32::from(offset.saturating_sub(1)) % allowed.count_ones();
+    let skipped = u32::from(offset.saturating_sub(1)) % count_set_bits(allowed);
     (tag + 1 + nth_set_bit(allowed, skipped)) % 16
 }

@@ -21,7 +21,10 @@ returns-then-not-is_excluded-clause-chosen c =
 
 pub nonzero_rem-skipped : goal.nonzero_rem-skipped
 nonzero_rem-skipped c =
-    mask_some c.args.tag c.args.exclude c.allowed_above-allowed.result (omega arith) c.allowed_above-allowed.ensures c.if-allowed-eq0.false
+    let some =
+    mask_some c.args.tag c.args.exclude c.allowed_above-allowed.result (omega arith) c.allowed_above-allowed.ensures
+    c.if-allowed-eq0.false in
+    omega (arith, c.count_set_bits.ensures, some)
 
 pub nth_set_bit-requires : goal.nth_set_bit-requires
 nth_set_bit-requires c =
@@ -38,6 +41,7 @@ returns-clause-chosen c =
     ] in
     let place : c.nth_set_bit.result ≡ slice_index (set_bits c.allowed_above-allowed.result) ((c.args.offset - 1) % ones c.allowed_above-allowed.result) =
     c.nth_set_bit.ensures.place
+    ∙ ap (λ n. slice_index (set_bits c.allowed_above-allowed.result) (c.from.result % n)) c.count_set_bits.ensures
     ∙ ap (λ o. slice_index (set_bits c.allowed_above-allowed.result) (o % ones c.allowed_above-allowed.result))
     (c.from.ensures ∙ c.saturating_sub.ensures) in
     grouped c.args.tag c.nth_set_bit.result ∙ ap (λ k. (c.args.tag + (1 + k)) % 16) place
