@@ -6,9 +6,8 @@ ghost use Rattle.class_table.specs.Steps.{IsStep};
 ghost use Rattle.potential_check.specs.RowConditions.{AreTight, EdgesHold, HasTightEnd, IsTightEnd, edge_bound};
 ghost use Rattle.tuner_theory.specs.Spans.{places};
 
-use crate::row_conditions::edge_order;
+use crate::row_conditions::{exceeds_edge, word_bound};
 use crate::spans::Spans;
-use std::cmp::Ordering;
 
 /// Whether each number of a row is within its edges, and exactly what one of them allows.
 // Not inlined: in a large caller the walk's values would be kept in memory.
@@ -42,16 +41,20 @@ fn tight_end(spans: &Spans, before: &[u64], row: &[u64], place: usize, last: usi
 {
     let mut end = last;
     loop {
-        match edge_order(row[place], spans, before, place, end) {
-            Ordering::Less => {}
-            Ordering::Equal => return Some(end),
-            Ordering::Greater => return None,
+        // Two tests, since the compiler would compute an `Ordering` before it tests that.
+        if let Some(bound) = word_bound(spans, before, place, end) {
+            if row[place] == bound {
+                return Some(end);
+            }
+            if row[place] > bound {
+                return None;
+            }
         }
         end -= 1;
         if end == place {
             return None;
         }
-        if place + 1 < end && edge_order(row[place + 1], spans, before, place + 1, end).is_gt() {
+        if place + 1 < end && exceeds_edge(row[place + 1], spans, before, place + 1, end) {
             return None;
         }
     }
@@ -65,7 +68,7 @@ fn first_edges_hold(spans: &Spans, before: &[u64], row: &[u64], end: usize) -> b
         ↔ ((j : ℕ) → 0 < j → j < end → slice_index row.now 0 ≤ edge_bound spans.now before.now 0 j) }
 {
     for j in 1..end {
-        if edge_order(row[0], spans, before, 0, j).is_gt() {
+        if exceeds_edge(row[0], spans, before, 0, j) {
             return false;
         }
     }

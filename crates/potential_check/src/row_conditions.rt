@@ -1,7 +1,7 @@
 //! The conditions on the numbers of a sheet's rows. A number may have any 64 bits. So a sum with a number has 128 bits, or the code avoids
 //! the sum.
-ghost use Rattle.std.specs.Prelude.{◌≡◌, ◌↔◌, ℕ, ◌+◌, ◌<◌, ◌≤◌, length, IsTrue};
-ghost use Rattle.std.specs.Ordering.{MatchOrdering};
+ghost use Rattle.std.specs.Prelude.{◌≡◌, ◌↔◌, ℕ, ◌+◌, ◌<◌, ◌≤◌, ◌^◌, length, IsTrue};
+ghost use Rattle.std.specs.Option.{SomeIff};
 ghost use Rattle.class_table.specs.Steps.{IsStep};
 ghost use Rattle.potential_check.specs.RowConditions.{EdgesHold, EdgesHoldWithin, LastClassHolds, StageDropHolds, edge_bound};
 ghost use Rattle.tuner_theory.specs.Spans.{places};
@@ -9,7 +9,6 @@ ghost use Rattle.tuner_theory.specs.Spans.{places};
 use crate::edge_walk::is_tight_row;
 use crate::rows::number_in_row;
 use crate::spans::Spans;
-use std::cmp::Ordering;
 use std::ops::Range;
 
 /// Whether no number of a row is more than what one class for all needs above its place wastes.
@@ -108,16 +107,26 @@ fn edge_bound(spans: &Spans, before: &[u64], i: usize, j: usize) -> u128
     u128::from(spans.waste(i, j)) + u128::from(number_in_row(before, j))
 }
 
-/// How a number at place `i` compares with the most that it may be by its edge to place `j`.
-pub(crate) fn edge_order(number: u64, spans: &Spans, before: &[u64], i: usize, j: usize) -> Ordering
+/// The most that a number at place `i` may be by its edge to place `j`. `None` if that is past 64 bits, so that every number is within the
+/// edge.
+#[inline(always)]
+pub(crate) fn word_bound(spans: &Spans, before: &[u64], i: usize, j: usize) -> Option<u64>
     requires order { i < j }
     requires within { j ≤ places spans.now.counts spans.now.step }
-    ensures { let bound = edge_bound spans.now before.now i j in
-        MatchOrdering result (number < bound) (number ≡ bound) (bound < number) }
+    ensures { let bound = edge_bound spans.now before.now i j in SomeIff result (bound < 2 ^ 64) bound }
 {
-    let waste = spans.waste(i, j);
-    match number.checked_sub(number_in_row(before, j)) {
-        Some(rest) => rest.cmp(&waste),
-        None => Ordering::Less,
+    spans.waste(i, j).checked_add(number_in_row(before, j))
+}
+
+/// Whether a number at place `i` is more than its edge to place `j` allows.
+#[inline(always)]
+pub(crate) fn exceeds_edge(number: u64, spans: &Spans, before: &[u64], i: usize, j: usize) -> bool
+    requires order { i < j }
+    requires within { j ≤ places spans.now.counts spans.now.step }
+    ensures { IsTrue result ↔ (edge_bound spans.now before.now i j < number) }
+{
+    match word_bound(spans, before, i, j) {
+        Some(bound) => number > bound,
+        None => false,
     }
 }
