@@ -37,7 +37,6 @@ pub fn unlink(memory: &mut Memory, layout: &Layout, slot: u32, start: u32) -> u3
     ensures link { SetsLink layout.now memory.old memory.new slot 0 }
 {
     prove!(memory.granules() == layout.granules());
-    prove!(start == layout.start(slot));
     let link = next(memory, start);
     set_next(memory, start, 0);
     link

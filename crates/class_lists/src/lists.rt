@@ -1,8 +1,8 @@
 ghost use Rattle.chunk_header.specs.Links.{SetsLink};
 ghost use Rattle.class_lists.specs.Lists.{ShowsList, TakesFirst};
-ghost use Rattle.class_table.specs.Layout.{slot_count};
+ghost use Rattle.class_table.specs.Layout.{IsClassOf, slot_count, slot_of};
 ghost use Rattle.heap_theory.specs.Region.{Region, region_of};
-ghost use Rattle.std.specs.Prelude.{◌≡◌, ◌+◌, ◌<◌, ◌≤◌, ℕ, List, [], ◌∷◌, length, drop, replicate, slice_get, slice_index, slice_set, Contains, IfNone, IfSome};
+ghost use Rattle.std.specs.Prelude.{◌≡◌, ◌+◌, ◌<◌, ◌≤◌, ℕ, List, [], ◌∷◌, length, drop, replicate, slice_get, slice_index, slice_set, Contains, IfNone, IfSome, Some};
 
 use arrayvec::ArrayVec;
 use chunk_header::{set_link, unlink};
@@ -82,9 +82,65 @@ impl ClassLists {
             return None;
         }
         let slot = front - 1;
-        let next = unlink(memory, layout, slot, layout.start(slot));
-        self.set_front(number, next);
+        let start = layout.start(slot);
+        self.take_first(memory, layout, number, slot, start);
         Some(slot)
+    }
+
+    /// As `pop`, without a search for where the slot begins: the first slot of the list must be of that class.
+    pub fn pop_of_class(
+        &mut self,
+        memory: &mut Memory,
+        layout: &Layout,
+        number: usize,
+    ) -> Option<u32>
+        requires number { number < length self.old }
+        requires class { (s : ℕ) → slice_index self.old number ≡ s + 1 → IsClassOf layout.now s number }
+        requires granules { length memory.old ≡ layout.now.granules }
+        ensures none { IfNone result (slice_index self.old number ≡ 0) }
+        ensures same { IfNone result ((self.new ≡ self.old) × (memory.new ≡ memory.old)) }
+        ensures taken { IfSome result
+            (λ slot. TakesFirst layout.now memory.old memory.new self.old self.new number slot) }
+        ensures popped { (list : List ℕ) →
+            ShowsList (region_of layout.now memory.old) (slice_index self.old number) list →
+            (result ≡ slice_get list 0)
+            × ShowsList (region_of layout.now memory.new) (slice_index self.new number) (drop 1 list) }
+        ensures others { (front : ℕ) (list : List ℕ) → ShowsList (region_of layout.now memory.old) front list →
+            IfSome result (λ slot. Contains list slot → ⊥) → ShowsList (region_of layout.now memory.new) front list }
+    {
+        let front = self.front(number);
+        if front == 0 {
+            return None;
+        }
+        let slot = front - 1;
+        let start = layout.slot_of_class(number, slot).start;
+        self.take_first(memory, layout, number, slot, start);
+        Some(slot)
+    }
+
+    // takes this slot, the first of the list, off it; `start` is its header granule
+    fn take_first(
+        &mut self,
+        memory: &mut Memory,
+        layout: &Layout,
+        number: usize,
+        slot: u32,
+        start: u32,
+    )
+        requires first { (number < length self.old) × (slice_index self.old number ≡ slot + 1) }
+        requires slot { slot < slot_count layout.now }
+        requires start { start ≡ (slot_of layout.now slot).start }
+        requires granules { length memory.old ≡ layout.now.granules }
+        ensures taken { TakesFirst layout.now memory.old memory.new self.old self.new number slot }
+        ensures popped { (list : List ℕ) →
+            ShowsList (region_of layout.now memory.old) (slice_index self.old number) list →
+            (Some slot ≡ slice_get list 0)
+            × ShowsList (region_of layout.now memory.new) (slice_index self.new number) (drop 1 list) }
+        ensures others { (front : ℕ) (list : List ℕ) → ShowsList (region_of layout.now memory.old) front list →
+            (Contains list slot → ⊥) → ShowsList (region_of layout.now memory.new) front list }
+    {
+        let next = unlink(memory, layout, slot, start);
+        self.set_front(number, next);
     }
 
     /// The front of the list of a class, given by its number: the number of the list's first slot plus one, or 0 if the list is empty.

@@ -37,7 +37,7 @@ use Rattle.tagged_heap.proofs.Changed.{with_link, other_list, counters_changed, 
 use Rattle.tagged_heap.proofs.Counters.{counters_step, counted, lowest_counted, lowest_none}
 use Rattle.tagged_heap.proofs.RewrittenHeaders.{link_set}
 use Rattle.tagged_heap.proofs.Shares.{share_of_slot}
-use Rattle.tagged_heap.proofs.Kept.{class_few, within_states, within_lists, region_is, front_few, list_slot, agree_at_rest, shown_is}
+use Rattle.tagged_heap.proofs.Kept.{class_few, within_states, within_lists, region_is, list_slot, agree_at_rest, shown_is}
 
 -- ---- the request
 
@@ -187,6 +187,19 @@ module _ {h : Heap} {frees : ℕ} {p : Parts} {counters : List ℕ} (held : IsAt
       (laws.fresh_given h k.queue k.lists number _ k.sound agree listed none
       ∙ lowest_none h k.sound counters held.fresh number within (omega (arith, t.counter)))
 
+-- the first slot of a class's list is of that class
+front_class : {h : Heap} {p : Parts} (k : IsKept h p) (number s : ℕ) → number < length h.layout.classes →
+    slice_index p.fronts number ≡ s + 1 → IsClassOf h.layout s number
+front_class {h} {p} k number s within is =
+    let plus : s + 1 ≡ suc s = omega arith in
+    let list = list_of k.lists number in
+    let first =
+    IsLinked-first (next_in (region_of h.layout p.memory)) (slice_index p.fronts number) s list
+    (k.listed.linked number (within_lists k number within)) (is ∙ plus) in
+    let listed =
+    list_slot k number s (within_lists k number within) (subst (λ slots. Contains slots s) (sym first.0) (Contains-head s (drop 1 list))) in
+    share_of_slot h.layout number s k.sound.partition.table within listed.in_range listed.of_class
+
 pub has_class : {h : Heap} {frees : ℕ} {p : Parts} {counters : List ℕ} → IsAtRest h frees p counters → (number : ℕ) →
     number < length h.layout.classes → HasClass h.layout p.memory p.fronts counters number
 has_class {h} {frees} {p} {counters} held number within =
@@ -195,7 +208,7 @@ has_class {h} {frees} {p} {counters} held number within =
     record {
       class = within;
       in_fronts = subst (λ n. number < n) (sym k.listed.long) (within_lists k number within);
-      front = front_few k number (within_lists k number within);
+      front = λ s. front_class k number s within;
       in_counters = in_counters;
       counter = held.fresh.to number in_counters;
       region = region_is k;

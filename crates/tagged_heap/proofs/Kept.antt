@@ -1,20 +1,18 @@
 -- What is known of a heap that is kept in its parts.
-use Rattle.std.proofs.Common.{◌≡◌, ℕ, ◌+◌, ◌-◌, ◌^◌, ◌<◌, ◌≤◌, List, [], ◌∷◌, length, refl, sym, ap, ◌∙◌, subst, inl, inr, arith}
+use Rattle.std.proofs.Common.{◌≡◌, ℕ, ◌+◌, ◌-◌, ◌^◌, ◌<◌, ◌≤◌, List, length, refl, sym, ap, ◌∙◌, subst, inl, inr, arith}
 use Rattle.std.specs.Prelude.{Contains, map, slice_index}
 use Rattle.std.proofs.lemmas.Bool.{cases_lt, lt-ltb, le-ltb, cond-true, cond-false}
 use Rattle.std.proofs.lemmas.List.{ext_get_or, get_or-map, length-map}
-use Rattle.class_table.specs.Layout.{slot_count}
 use Rattle.heap_theory.specs.QueueAndLists.{HasMark, AgreeWithMarks, AgreeWithMarksFrom, bytes_of}
 use Rattle.heap_theory.specs.Header.{Header, FitsWords, header_for, shown_state, standing_in, state_by, class_number}
 use Rattle.heap_theory.specs.Header.Standing.{Freed, Quarantined}
 use Rattle.heap_theory.specs.HeapInMemory.{IsKeptIn}
-use Rattle.heap_theory.specs.Links.{IsLinked, list_of}
+use Rattle.heap_theory.specs.Links.{list_of}
 use Rattle.heap_theory.specs.Region.{region_of, headers_of, next_in, no_header}
 use Rattle.heap_theory.specs.Sound.{IsSoundHeap}
 use Rattle.class_table.specs.Sizes.{chunk_granules}
 use Rattle.heap_theory.specs.State.{State, Heap, slot_in, state_at, IsSlot}
 use Rattle.heap_theory.specs.State.State.{Fresh, Live, Dead}
-use Rattle.heap_theory.proofs.ListSearch.{Contains-head}
 use Rattle.heap_theory.proofs.Regions.{length-headers_of}
 use Rattle.heap_theory.proofs.Marks.{IsQueued, IsListed, chain_bytes, chain_dead, list_dead}
 use Rattle.heap_theory.proofs.SeenMemory.{length-without_headers}
@@ -83,16 +81,6 @@ module _ {h : Heap} {p : Parts} (k : IsKept h p) where
   pub list_slot : (number s : ℕ) → number < length k.lists → Contains (list_of k.lists number) s →
       IsListed h (slice_index h.layout.classes number) k.from s
   list_slot number s within there = list_dead h _ k.from (list_of k.lists number) s (k.agree.freed number within) there
-
-  -- a front is the link to a slot
-  pub front_few : (number : ℕ) → number < length k.lists → slice_index p.fronts number ≤ slot_count h.layout
-  front_few number within = by (list_of k.lists number) (k.listed.linked number within) (list_slot number)
-    where
-      by : (list : List ℕ) → IsLinked (next_in (region_of h.layout p.memory)) (slice_index p.fronts number) list →
-          ((s : ℕ) → number < length k.lists → Contains list s → IsListed h (slice_index h.layout.classes number) k.from s) →
-          slice_index p.fronts number ≤ slot_count h.layout
-      by [] linked listed = omega (arith, linked)
-      by (s ∷ rest) linked listed = omega (arith, linked.0, (listed s within (Contains-head s rest)).in_range)
 
   pub has_room : (s n : ℕ) → IsSlot h s → n ≤ 16368 → chunk_granules n < (slot_in h s).class → HasRoom h.layout p.memory s n
   has_room s n in_range few room = record {

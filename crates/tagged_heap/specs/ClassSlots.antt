@@ -2,7 +2,7 @@
 use Rattle.std.specs.Prelude.{◌≡◌, ℕ, ◌⊎◌, ◌+◌, ◌<◌, ◌≤◌, length, slice_index, slice_set, List, None, Some, Option}
 use Rattle.machine_theory.specs.Memory.{Granule, IsMemory}
 use Rattle.class_table.specs.Sizes.{largest_counted}
-use Rattle.class_table.specs.Layout.{Partition, slot_count, first_slot}
+use Rattle.class_table.specs.Layout.{Partition, IsClassOf, first_slot}
 use Rattle.class_table.specs.Tables.{class_number_for}
 use Rattle.class_table.specs.declared.table.TheConstants.{MOST_CLASSES}
 use Rattle.heap_theory.specs.declared.refusal.NullCause.{NullCause}
@@ -17,11 +17,11 @@ IsCauseFor classes n Exhausted = ⊥
 
 -- ---- a slot is taken for a request
 
--- the class of this number has a front and a counter
+-- the class of this number has a counter and a front, which is the link to a slot of that class or 0
 pub record HasClass (layout : Partition) (memory : List Granule) (fronts counters : List ℕ) (number : ℕ) : Type 0 where
   pub class : number < length layout.classes
   pub in_fronts : number < length fronts
-  pub front : slice_index fronts number ≤ slot_count layout
+  pub front : (s : ℕ) → slice_index fronts number ≡ s + 1 → IsClassOf layout s number
   pub in_counters : number < length counters
   pub counter : slice_index counters number ≤ first_slot layout (number + 1)
   pub region : length memory ≡ layout.granules

@@ -22,7 +22,7 @@ pub(crate) fn take_slot(
         number result }
     ensures memory { IsMemory memory.new }
 {
-    if let Some(slot) = lists.pop(memory, layout, number) {
+    if let Some(slot) = lists.pop_of_class(memory, layout, number) {
         return Some(slot);
     }
     next_fresh(counters, layout, number)
