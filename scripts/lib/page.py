@@ -2,6 +2,7 @@
 
 import math
 
+import texts
 from figures import GRANULE, byte_text, class_text, kibibytes, number, numbered, percent
 from pictures import Picture, escape, shown
 
@@ -67,9 +68,9 @@ SIZE_TICKS = [(16, "16"), (64, "64"), (256, "256"), (1024, "1 KiB"), (4096, "4 K
 FIRST_OCTAVE, OCTAVES = 3, 11  # the sizes from 8 bytes to 16 KiB
 
 
-def page(figures, name, counted, warnings, check, check_fit=None):
+def page(figures, name, counted, warnings, check, check_fit=None, tables=None):
     """The page for a program or a profile of this name. COUNTED says what was counted, CHECK is the command that checks the sheet, and
-    CHECK_FIT the one that checks the fit, if there is one."""
+    CHECK_FIT the one that checks the fit, if there is one. TABLES is the file beside it with the page of scripts/page, if that is made."""
     best = figures.best
     lead = f"A table of {len(best.classes)} size classes loses {numbered(best.waste, 'byte')} by rounding, "
     lead += f"{share(figures, best)} of what was requested."
@@ -79,6 +80,7 @@ def page(figures, name, counted, warnings, check, check_fit=None):
     forced = " Class 1024 is kept by a request of 16,368 bytes, which adds no waste." if figures.forced else ""
     over_time = " The footprint is the most memory of the classes over time; the fitted table has the least." if figures.fitted else ""
     proved = int(figures.proof().startswith("Proved"))
+    where = "" if texts.IS_PACKAGED else " at the top of the repository of <code>mte_tool</code>"
     return f"""<!DOCTYPE html>
 <html lang="en">
 <head>
@@ -92,6 +94,7 @@ def page(figures, name, counted, warnings, check, check_fit=None):
 <p class="lead">{escape(lead)}</p>
 <p id="proof" data-verdict="{escape(figures.verdict)}" data-proved="{proved}">{with_code(figures.proof())}</p>
 {lines(f'<p class="warning">{escape(text)}</p>' for text in warnings)}
+{f'<p><a href="{tables}">Try other tables for these counts</a>, in a page that tunes and checks as you turn its knobs.</p>' * bool(tables)}
 <dl>
 {card("requests", "Requests counted", figures.requests, escape(counted))}
 {card("bytes", "Bytes requested", figures.bytes, byte_text(figures.bytes))}
@@ -128,7 +131,7 @@ serves.</figcaption></figure>
 <h2>Check it again</h2>
 <p>This is the best table as a class line, in granules of 16 bytes:</p>
 <pre id="class-line">{class_text(best.classes)}</pre>
-<p>The sheet has this table and its certificate. Run this at the top of the repository of <code>mte_tool</code>:</p>
+<p>The sheet has this table and its certificate. Run this{where}:</p>
 <pre id="check">{escape(check)}</pre>
 {fit_section(figures, check_fit) if figures.fitted else ""}</body>
 </html>

@@ -21,8 +21,11 @@ import sys
 from collections import defaultdict, namedtuple
 
 SCRIPTS = os.path.dirname(os.path.dirname(os.path.realpath(__file__)))
-EXAMPLES = os.path.join(os.path.dirname(SCRIPTS), "examples")
-BUILT = os.path.join(os.path.dirname(SCRIPTS), "crates/mte_tool/out/mte_tool")
+ROOT = os.path.dirname(SCRIPTS)
+EXAMPLES = os.path.join(ROOT, "examples")
+# scripts/package puts the program beside the scripts, and there is nothing to prove there
+IS_PACKAGED = os.path.exists(os.path.join(ROOT, "mte_tool")) and not os.path.exists(os.path.join(ROOT, "crates.txt"))
+BUILT = os.path.join(ROOT, "mte_tool" if IS_PACKAGED else "crates/mte_tool/out/mte_tool")
 
 LARGEST_SIZE = 16_368  # the largest request that a class serves, in bytes; a larger one is `large`
 MOST_COUNT = 1_000_000_000  # the most that a line of a profile counts
@@ -68,8 +71,40 @@ def main(name, function):
     sys.exit(status)
 
 
+def called(name):
+    """What a script is called: mte_NAME in an installed package, since names such as `report` are anybody's there."""
+    return f"mte_{name}" if IS_PACKAGED and name != "mte_tool" else name
+
+
+@functools.lru_cache(maxsize=None)
+def script_names():
+    """How a text names scripts: any by its path, and those by their name alone that have no other meaning, or where they are called."""
+    names = sorted((name for name in os.listdir(SCRIPTS) if os.path.isfile(os.path.join(SCRIPTS, name))), key=len, reverse=True)
+    every, own = ("|".join(map(re.escape, some)) for some in (names, [name for name in names if "_" in name and name != "mte_tool"]))
+    return re.compile(rf"(?<![\w/.-])scripts/({every})(?![\w+])|(?m:^Usage: ({every})(?= ))|(?<![\w/.-])({own})(?![\w+/])")
+
+
+def as_called(text):
+    """A text that names the scripts as in the repository, with the names that they have here."""
+
+    def here(match):
+        name = match[1] or match[2] or match[3]
+        return match[0].replace(f"scripts/{name}" if match[1] else name, called(name))
+
+    return script_names().sub(here, text) if IS_PACKAGED else text
+
+
+def write_help(text):
+    """Writes a help, so that its examples can be run as they stand, and the documents that it names are found."""
+    if IS_PACKAGED:
+        places = {name: os.path.realpath(os.path.join(ROOT, name)) for name in ("docs", "examples")}
+        text = re.sub(r"(?<![\w/.-])(docs|examples)/(?=\w)", lambda match: f"{places[match[1]]}/", as_called(text))
+    write(text)
+
+
 def say(name, text):
     """A line on standard error. A name of a file may have any character: those that move the cursor are shown escaped."""
+    name, text = called(name), as_called(text)
     if sys.stderr is not None:
         shown = "".join(c if c.isprintable() else c.encode("unicode_escape").decode() for c in text.replace("\t", " "))
         try:

@@ -11,6 +11,7 @@ import texts
 import webassembly
 
 WEB = os.path.join(webassembly.ROOT, "web")
+KEPT = "page.wasm"  # the module in the folder `out` of its crate; not NAME.wasm, which rt lib removes
 # in the order in which they use one another
 WORKER = ("engine", "model", "words", "worker")
 SCRIPT = ("model", "words", "pictures", "tune", "heap", "main")
@@ -47,13 +48,32 @@ def newest_source():
     return max(os.stat(file).st_mtime for file in files)
 
 
+def kept_at(name):
+    """Where a module is kept: in an installed package beside the sources of the page, else in its crate."""
+    if texts.IS_PACKAGED:
+        return os.path.join(WEB, f"{name}.wasm")
+    return os.path.join(webassembly.ROOT, "crates", MODULES[name][0], "out", KEPT)
+
+
+def is_old(kept, newest):
+    return not os.path.exists(kept) or os.stat(kept).st_mtime < newest
+
+
+def at_hand():
+    """The bytes of each module where nothing has to be built for them, else None."""
+    places = {name: kept_at(name) for name in MODULES}
+    if not all(map(os.path.exists, places.values())):
+        return None
+    newest = 0 if texts.IS_PACKAGED else newest_source()
+    return None if any(is_old(kept, newest) for kept in places.values()) else {name: texts.read(kept) for name, kept in places.items()}
+
+
 def engines(tell=lambda words: None):
     """The bytes of each module, built where a source is newer than it."""
     found, newest = {}, newest_source()
     for name, (crate, prefix) in MODULES.items():
-        # not NAME.wasm, which rt lib removes
-        kept = os.path.join(webassembly.ROOT, "crates", crate, "out", "page.wasm")
-        if not os.path.exists(kept) or os.stat(kept).st_mtime < newest:
+        kept = kept_at(name)
+        if is_old(kept, newest):
             tell(f"proving {crate} and compiling it to WebAssembly; the first time this takes as long as proving all")
             data = webassembly.wasm(crate, prefix)
             with open(f"{kept}.new", "wb") as file:
@@ -67,6 +87,10 @@ def engines(tell=lambda words: None):
 
 def built(name):
     """The same for a script of this name, which is refused where they can't be built."""
+    if texts.IS_PACKAGED:
+        if modules := at_hand():
+            return modules
+        raise texts.Refused(3, "this package was made without the page's engines")
     try:
         return engines(lambda words: texts.say(name, words))
     except webassembly.Missing as missing:

@@ -1,0 +1,61 @@
+"""Manual pages, made of the helps."""
+
+import re
+
+SECTIONS = ["DESCRIPTION", "COMMANDS", "OPTIONS", "EXIT STATUS", "EXAMPLES"]
+
+
+def escaped(text):
+    """A line of text for roff, as it stands: a hyphen stays one that can be copied, and no line begins a request."""
+    for old, new in (("\\", "\\e"), ("-", "\\-"), ("'", "\\(aq"), ("`", "\\(ga"), ("^", "\\(ha"), ("~", "\\(ti")):
+        text = text.replace(old, new)
+    return "\\&" + text if text.startswith(".") else text
+
+
+def prose(text):
+    """The same; words between backquotes are bold."""
+    parts = text.split("`")
+    if len(parts) % 2 == 0:
+        return escaped(text)
+    marked = "".join(f"\\fB{escaped(part)}\\fR" if at % 2 else escaped(part) for at, part in enumerate(parts))
+    return "\\&" + marked if marked.startswith(("\\.", ".")) else marked
+
+
+def lines_of(block):
+    if block.kind == "text":
+        yield from (".PP", prose(block.content))
+    elif block.kind == "terms":
+        for term, text in block.content:
+            yield from (".TP", f"\\fB{escaped(term)}\\fR", prose(text))
+    elif block.kind == "items":
+        for item in block.content:
+            yield from (".IP \\(bu 2", prose(item))
+    else:
+        yield from (".PP", ".RS 4", ".EX", *map(escaped, block.content), ".EE", ".RE")
+
+
+def page(name, help_, date, version, also, files=()):
+    """The manual page of a command. ALSO names other pages, FILES are (path, what it is)."""
+    title = name.replace(" ", "-")
+    out = [f'.TH "{escaped(title.upper())}" 1 "{date}" "{version}" "User Commands"', ".nh"]
+    out += [".SH NAME", f"{escaped(title)} \\- {prose(help_.what())}", ".SH SYNOPSIS", ".nf"]
+    for line in help_.usage:
+        word, space, rest = line.partition(" ")
+        out += [f"\\fB{escaped(word)}\\fR{space}{prose(rest)}"]
+    out += [".fi"]
+    for section in SECTIONS:
+        blocks = help_.blocks(section)
+        if section == "DESCRIPTION":
+            out += [".SH DESCRIPTION", prose(help_.intro)]
+        elif blocks:
+            out += [f".SH {section}"]
+        for block in blocks:
+            lines = list(lines_of(block))
+            out += lines[out[-1].startswith(".SH") and lines[0] == ".PP" :]
+    if files:
+        out += [".SH FILES"]
+        for path, what in files:
+            out += [".TP", f"\\fI{escaped(path)}\\fR", prose(what)]
+    if also:
+        out += [".SH SEE ALSO", *(f".BR {escaped(other)} (1){',' if at < len(also) else ''}" for at, other in enumerate(also, 1))]
+    return "\n".join(out) + "\n"
