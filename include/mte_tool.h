@@ -23,7 +23,7 @@ enum {
     MTE_TOOL_REFUSED = 2,       /* the text is the first fault of the input, as "30 BadLine line 2" */
     MTE_TOOL_OUT_OF_MEMORY = 3, /* the text is empty */
     MTE_TOOL_BAD_OPTION = 4,    /* an option is out of its range; the text is empty */
-    MTE_TOOL_MISUSE = 5         /* a pointer is null that must not be; nothing was done */
+    MTE_TOOL_MISUSE = 5         /* the call is not as it has to be: a pointer is null that must not be, or as the call says; nothing was done */
 };
 
 typedef struct mte_tool_ending {
@@ -78,6 +78,55 @@ size_t mte_tool_read(mte_tool_text *text, size_t from, uint8_t *room, size_t len
 
 /* Frees the memory of a text, and leaves the empty text. Null is let pass. */
 void mte_tool_free(mte_tool_text *text);
+
+/* ---- the heap itself, for whoever tests an allocator against the model (docs/HEAP.md) */
+
+/* A heap that the library holds for its caller. It begins as MTE_TOOL_HEAP, which holds none, and mte_tool_heap_close makes it that again.
+   `live` is 1 if there is a heap, and may be read; both members are the library's own. A copy of the structure is the same heap: close one
+   of them. Calls on different heaps are independent. */
+typedef struct mte_tool_heap {
+    void *handle;
+    uint32_t live;
+} mte_tool_heap;
+
+#define MTE_TOOL_HEAP {NULL, 0}
+
+/* What a call on a heap gave. What it does not give is 0. */
+typedef struct mte_tool_outcome {
+    uint32_t end;         /* MTE_TOOL_DONE; MTE_TOOL_NO: the heap or the machine refused it, and `code` says why, and nothing changed */
+    uint32_t code;        /* of a request: 60 larger than 16368 bytes, 61 no class serves it, 62 no slot is left; of a pointer to be freed or
+                             resized: 63 not a slot's first byte, 64 not live, 65 another tag; of an access: 50 not in the region, 52 a tag
+                             that differs */
+    uint64_t value;       /* the address, with its tag in bits 56 to 59 */
+    uint32_t granule;     /* 52: the lowest granule whose tag differs, from the region's start */
+    uint8_t memory_tag;   /* 52: its tag */
+    uint8_t pointer_tag;  /* 52: the address's tag */
+    uint8_t granule_kind; /* 52: what that granule is: 0 slack, 1 a header, 2 a tail, 3 of a freed chunk, 4 of a live chunk */
+} mte_tool_outcome;
+
+/* Makes a heap over the table of `class_count` classes, in granules, ascending, from 2 to 1024. It reads the first three options. The ends:
+   MTE_TOOL_BAD_OPTION, MTE_TOOL_REFUSED (the classes), MTE_TOOL_OUT_OF_MEMORY; MTE_TOOL_MISUSE if `heap` holds a heap, which it keeps. It
+   takes 17 bytes for each granule. No other call takes memory. */
+mte_tool_outcome mte_tool_heap_new(mte_tool_heap *heap, mte_tool_options options, const uint16_t *classes, size_t class_count);
+
+/* The calls of the heap, and the loads and stores of its machine. On a heap that is not there they end with MTE_TOOL_MISUSE. The address of
+   null is 0: `realloc` of it is `malloc`, and `free` of it does nothing. */
+mte_tool_outcome mte_tool_heap_malloc(mte_tool_heap *heap, size_t size);
+mte_tool_outcome mte_tool_heap_calloc(mte_tool_heap *heap, size_t size);
+mte_tool_outcome mte_tool_heap_realloc(mte_tool_heap *heap, uint64_t address, size_t size);
+mte_tool_outcome mte_tool_heap_free(mte_tool_heap *heap, uint64_t address);
+
+/* Read and write 1 to 64 bytes from an address on; another length is MTE_TOOL_BAD_OPTION. No chunk has tag 0, so an address with it that lies
+   in the region is MTE_TOOL_MISUSE. After any end but MTE_TOOL_DONE the room and the region are as they were. */
+mte_tool_outcome mte_tool_heap_load(mte_tool_heap *heap, uint64_t address, uint8_t *room, size_t length);
+mte_tool_outcome mte_tool_heap_store(mte_tool_heap *heap, uint64_t address, const uint8_t *bytes, size_t length);
+
+/* ADDG: the address `granules` granules (0 to 63) further up, with the tag that `step` (0 to 15) counts up from its own. A number out of its
+   range is MTE_TOOL_BAD_OPTION. */
+mte_tool_outcome mte_tool_heap_addg(mte_tool_heap *heap, uint64_t address, uint8_t granules, uint8_t step);
+
+/* Frees the heap, and leaves MTE_TOOL_HEAP. Null is let pass. */
+void mte_tool_heap_close(mte_tool_heap *heap);
 
 #ifdef __cplusplus
 }

@@ -1,4 +1,5 @@
-/* The functions of mte_tool.h: each looks for null pointers, and then calls the proved function of crates/mte_c. Nothing here is proved. */
+/* The functions of mte_tool.h: each looks for null pointers, and then calls the proved function of crates/mte_c or crates/mte_heap. Nothing
+   here is proved. */
 #include "../include/mte_tool.h"
 
 /* the proved functions; a slice is a pointer and a length */
@@ -15,12 +16,27 @@ mte_tool_ending mte_c_run(mte_tool_options, const uint8_t *, size_t, mte_tool_te
 uint32_t mte_c_append(const uint8_t *, size_t, mte_tool_text *);
 size_t mte_c_read(mte_tool_text *, size_t, uint8_t *, size_t);
 void mte_c_free(mte_tool_text *);
+typedef struct heap_settings {
+    uint32_t granules;
+    uint32_t quarantine;
+    uint16_t seed;
+} heap_settings;
+
+mte_tool_outcome mte_heap_new(heap_settings, const uint16_t *, size_t, mte_tool_heap *);
+mte_tool_outcome mte_heap_malloc(mte_tool_heap *, uint32_t);
+mte_tool_outcome mte_heap_calloc(mte_tool_heap *, uint32_t);
+mte_tool_outcome mte_heap_realloc(mte_tool_heap *, uint64_t, uint32_t);
+mte_tool_outcome mte_heap_free(mte_tool_heap *, uint64_t);
+mte_tool_outcome mte_heap_load(mte_tool_heap *, uint64_t, uint8_t *, size_t);
+mte_tool_outcome mte_heap_store(mte_tool_heap *, uint64_t, const uint8_t *, size_t);
+mte_tool_outcome mte_heap_addg(mte_tool_heap *, uint64_t, uint8_t, uint8_t);
+void mte_heap_close(mte_tool_heap *);
 
 static const uint8_t no_bytes;
 static const mte_tool_ending misuse = {MTE_TOOL_MISUSE, 0, 0};
 
 /* whether a slice has bytes and no place */
-static int is_missing(const uint8_t *bytes, size_t length) {
+static int is_missing(const void *bytes, size_t length) {
     return !bytes && length > 0;
 }
 
@@ -68,4 +84,57 @@ size_t mte_tool_read(mte_tool_text *text, size_t from, uint8_t *room, size_t len
 
 void mte_tool_free(mte_tool_text *text) {
     if (text) mte_c_free(text);
+}
+
+/* ---- the heap */
+
+/* where an empty array stands */
+static const uint16_t no_classes;
+
+static const mte_tool_outcome misused_heap = {MTE_TOOL_MISUSE, 0, 0, 0, 0, 0, 0};
+
+/* a size for the heap, to which all that is above 16368 is one */
+static uint32_t request(size_t size) {
+    return size > UINT32_MAX ? UINT32_MAX : (uint32_t)size;
+}
+
+mte_tool_outcome mte_tool_heap_new(mte_tool_heap *heap, mte_tool_options options, const uint16_t *classes, size_t class_count) {
+    heap_settings settings = {options.granules, options.quarantine, options.seed};
+    if (!heap || is_missing(classes, class_count)) return misused_heap;
+    return mte_heap_new(settings, classes ? classes : &no_classes, class_count, heap);
+}
+
+mte_tool_outcome mte_tool_heap_malloc(mte_tool_heap *heap, size_t size) {
+    return heap ? mte_heap_malloc(heap, request(size)) : misused_heap;
+}
+
+mte_tool_outcome mte_tool_heap_calloc(mte_tool_heap *heap, size_t size) {
+    return heap ? mte_heap_calloc(heap, request(size)) : misused_heap;
+}
+
+mte_tool_outcome mte_tool_heap_realloc(mte_tool_heap *heap, uint64_t address, size_t size) {
+    return heap ? mte_heap_realloc(heap, address, request(size)) : misused_heap;
+}
+
+mte_tool_outcome mte_tool_heap_free(mte_tool_heap *heap, uint64_t address) {
+    return heap ? mte_heap_free(heap, address) : misused_heap;
+}
+
+mte_tool_outcome mte_tool_heap_load(mte_tool_heap *heap, uint64_t address, uint8_t *room, size_t length) {
+    uint8_t none;
+    if (!heap || is_missing(room, length)) return misused_heap;
+    return mte_heap_load(heap, address, room ? room : &none, length);
+}
+
+mte_tool_outcome mte_tool_heap_store(mte_tool_heap *heap, uint64_t address, const uint8_t *bytes, size_t length) {
+    if (!heap || is_missing(bytes, length)) return misused_heap;
+    return mte_heap_store(heap, address, or_none(bytes), length);
+}
+
+mte_tool_outcome mte_tool_heap_addg(mte_tool_heap *heap, uint64_t address, uint8_t granules, uint8_t step) {
+    return heap ? mte_heap_addg(heap, address, granules, step) : misused_heap;
+}
+
+void mte_tool_heap_close(mte_tool_heap *heap) {
+    if (heap) mte_heap_close(heap);
 }

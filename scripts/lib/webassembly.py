@@ -5,11 +5,11 @@ nothing proves the steps of this file. scripts/tests/page compares what comes ou
 import os
 import re
 import shutil
-import subprocess
-import sys
 import tempfile
 
-ROOT = os.path.dirname(os.path.dirname(os.path.dirname(os.path.realpath(__file__))))
+import static_libraries
+from static_libraries import ROOT, run
+
 HEAP = os.path.join(ROOT, "web", "heap.c")
 HERE = "x86_64-unknown-linux-gnu"
 THERE = "wasm64-unknown-unknown"
@@ -31,52 +31,16 @@ class Missing(Exception):
 
 
 def kit():
-    command = shutil.which("rt")
-    if not command:
+    if not static_libraries.kit():
         raise Missing("the toolchain's command rt")
     if not shutil.which("wasm-opt"):
         raise Missing("wasm-opt of Debian's package binaryen")
-    return os.path.dirname(os.path.dirname(os.path.realpath(command)))
-
-
-def run(words, **how):
-    """Runs a command; what it says goes to standard error, and only where it fails."""
-    done = subprocess.run(words, stdout=subprocess.PIPE, stderr=subprocess.STDOUT, stdin=subprocess.DEVNULL, **how)
-    if done.returncode:
-        sys.stderr.write(done.stdout.decode(errors="replace"))
-        raise subprocess.CalledProcessError(done.returncode, words[0])
-    return done.stdout.decode(errors="replace")
-
-
-def libraries():
-    """The libraries that each crate stands on, from crates.txt."""
-    found = {}
-    with open(os.path.join(ROOT, "crates.txt"), encoding="utf-8") as lines:
-        for line in lines:
-            name, colon, below = line.partition(":")
-            if colon and not line.startswith("#"):
-                found[name.split()[0]] = below.split()
-    return found
-
-
-def crates_below(crate, known):
-    found = []
-    for name in known[crate]:
-        if name in known:
-            found += [below for below in [*crates_below(name, known), name] if below not in found]
-    return found
-
-
-def is_kept(crate):
-    """Whether `rt lib` kept each library below the crate. `rt ci` keeps none, and after it `rt lib` would prove all of them again."""
-    return all(os.path.exists(f"{ROOT}/crates/{name}/out/rlib/stamp") for name in crates_below(crate, libraries()))
+    return static_libraries.kit()
 
 
 def llvm_module(crate, kept, folder):
-    """Proves and builds the static library, and builds it once more by a clang that keeps the module in the file KEPT."""
-    place = os.path.join(ROOT, "crates", crate)
-    run(["rt", "lib", "--jobs", os.environ.get("RT_JOBS", "1")], cwd=place)
-    toolchain, known = os.path.join(folder, "toolchain"), libraries()
+    """Proves and builds the static library by a clang that keeps the module in the file KEPT."""
+    toolchain = os.path.join(folder, "toolchain")
     os.makedirs(os.path.join(toolchain, "bin"))
     os.symlink(f"{kit()}/toolchain/lib", f"{toolchain}/lib")
     for name in os.listdir(f"{kit()}/toolchain/bin"):
@@ -85,15 +49,7 @@ def llvm_module(crate, kept, folder):
     with open(f"{toolchain}/bin/clang", "w", encoding="utf-8") as script:
         script.write(KEEPER.format(kept=kept, clang=f"{kit()}/toolchain/bin/clang"))
     os.chmod(f"{toolchain}/bin/clang", 0o755)
-    words = ["--crate-name", crate, "src/lib.rt", "-L", f"dependency={kit()}/rlibs", "--crate-type", "staticlib"]
-    for name in ["std", *known[crate]]:
-        library = f"{ROOT}/crates/{name}/out/rlib/{name}.rlib" if name in known else f"{kit()}/rlibs/{name}.rlib"
-        words += ["--extern", f"{name}={library}"]
-    for name in crates_below(crate, known):
-        words += ["-L", f"dependency={ROOT}/crates/{name}/out/rlib"]
-    words += ["--antt-project", f"{kit()}/rattle/logic/antt-project.json", "--logic-built", f"{kit()}/logic_built"]
-    words += ["--backend", "llvm", "--incremental", "out/incremental", "--toolchain", toolchain, "-o", f"{folder}/kept.a"]
-    run([f"{kit()}/bin/rattle", "build", *words], cwd=place)
+    static_libraries.build(crate, f"{folder}/kept.a", toolchain)
 
 
 def as_wasm64(module, prefix, folder):

@@ -1,11 +1,15 @@
-//! Texts that C holds. A `HandedText` is a structure in C's memory: a pointer to a text of this library, or null, and the text's length. The
-//! pointer's proofs stand in `parts.rt` and `handle.rt`; what is built on them is ordinary code.
+//! What C holds. A `HandedText` is a structure in C's memory: a pointer to a text of this library, or null, and the text's length.
+//! `BoxParts` are the parts of a box, of which a handle to another type is made. The pointers' proofs stand in `parts.rt` and `handle.rt`;
+//! what is built on them is ordinary code. The constants are the numbers by which C is told how a call ended.
 #![tactic(auto)]
 
+mod ends;
 mod filling;
 mod handle;
 mod held;
 mod parts;
 mod text;
 
+pub use ends::{BAD_OPTION, DONE, MISUSE, NO, OUT_OF_MEMORY, REFUSED};
+pub use parts::BoxParts;
 pub use text::HandedText;

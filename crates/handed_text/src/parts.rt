@@ -1,14 +1,14 @@
-//! A `Box` as its pointer and its allocator, in sight of the modules here.
+//! A `Box` as its pointer and its allocator, for a handle that C holds in place of the box.
 ghost use Rattle.std.specs.Prelude.{◌≡◌};
 ghost use Rattle.std.specs.Box.Ownership.{box_owns};
 
 use std::alloc::Allocator;
 use std::marker::Model;
 
-/// The pointer and the allocator of a box.
+/// The pointer and the allocator of a box. They own what the box owned.
 pub struct BoxParts<T, A: Allocator> {
-    pub(crate) ptr: *mut T,
-    pub(crate) alloc: A,
+    pub ptr: *mut T,
+    pub alloc: A,
     pub ghost value: { T },
 }
 

@@ -1,0 +1,111 @@
+"""Building the static libraries of this repository. By hand they are built by `rt lib`, which proves them and keeps what it proved. In the
+gate `rt ci` has just proved all crates, but makes no static library and keeps nothing for `rt lib`: there, where MTE_AFTER_CI is set, a
+static library is proved once more over the libraries that `rt ci` left, and built of that.
+
+  python3 static_libraries.py FOLDER CRATE..    builds libCRATE.a of each crate in that folder"""
+
+import os
+import shutil
+import subprocess
+import sys
+
+ROOT = os.path.dirname(os.path.dirname(os.path.dirname(os.path.realpath(__file__))))
+
+
+def kit():
+    """The toolchain's folder, or None."""
+    command = shutil.which("rt")
+    return command and os.path.dirname(os.path.dirname(os.path.realpath(command)))
+
+
+def jobs():
+    return ["--jobs", os.environ.get("RT_JOBS", "1")]
+
+
+def run(words, **how):
+    """Runs a command; what it says goes to standard error, and only where it fails."""
+    done = subprocess.run(words, stdout=subprocess.PIPE, stderr=subprocess.STDOUT, stdin=subprocess.DEVNULL, **how)
+    if done.returncode:
+        sys.stderr.write(done.stdout.decode(errors="replace"))
+        raise subprocess.CalledProcessError(done.returncode, words[0])
+    return done.stdout.decode(errors="replace")
+
+
+def libraries():
+    """The libraries that each crate stands on, from crates.txt."""
+    found = {}
+    with open(os.path.join(ROOT, "crates.txt"), encoding="utf-8") as lines:
+        for line in lines:
+            name, colon, below = line.partition(":")
+            if colon and not line.startswith("#"):
+                found[name.split()[0]] = below.split()
+    return found
+
+
+def crates_below(crate, known):
+    found = []
+    for name in known[crate]:
+        if name in known:
+            found += [below for below in [*crates_below(name, known), name] if below not in found]
+    return found
+
+
+def are_left(crate):
+    """Whether `rt ci` has just left each library below the crate."""
+    return bool(os.environ.get("MTE_AFTER_CI")) and all(
+        os.path.exists(f"{ROOT}/crates/{name}/out/rlib/{name}.rlib/format") for name in crates_below(crate, libraries()))
+
+
+def is_cheap(crate):
+    """Whether the crate can be built without a proof of those below it: `rt ci` left their libraries, or `rt lib` kept them."""
+    return are_left(crate) or all(os.path.exists(f"{ROOT}/crates/{name}/out/rlib/stamp") for name in crates_below(crate, libraries()))
+
+
+def words(crate):
+    """The crate, its kind and its libraries, for the compiler."""
+    known = libraries()
+    said = ["--crate-name", crate, "src/lib.rt", "-L", f"dependency={kit()}/rlibs", "--crate-type", "staticlib"]
+    for name in ["std", *known[crate]]:
+        library = f"{ROOT}/crates/{name}/out/rlib/{name}.rlib" if name in known else f"{kit()}/rlibs/{name}.rlib"
+        said += ["--extern", f"{name}={library}"]
+    for name in crates_below(crate, known):
+        said += ["-L", f"dependency={ROOT}/crates/{name}/out/rlib"]
+    return [*said, "--antt-project", f"{kit()}/rattle/logic/antt-project.json"]
+
+
+def build(crate, archive, toolchain):
+    """Builds the static library by this toolchain's compiler, of what was proved."""
+    place = os.path.join(ROOT, "crates", crate)
+    over = ["--logic-built", f"{kit()}/logic_built"]
+    made = ["--backend", "llvm", "--toolchain", toolchain, "-o", archive]
+    if not are_left(crate):
+        run(["rt", "lib", *jobs()], cwd=place)
+        run([f"{kit()}/bin/rattle", "build", *words(crate), *over, "--incremental", "out/incremental", *made], cwd=place)
+        return
+    # one proof serves each build of the crate; of another text, or over other libraries, the compiler refuses it
+    proved = f"{place}/out/proved"
+    compiled = [f"{kit()}/bin/rattle", "build", *words(crate), "--crate-checked", proved, *made]
+    if os.path.exists(proved) and not subprocess.run(compiled, cwd=place, capture_output=True, stdin=subprocess.DEVNULL).returncode:
+        return
+    shutil.rmtree(proved, ignore_errors=True)
+    run([f"{kit()}/bin/rattle", "check", *words(crate), *over, *jobs(), "-o", proved], cwd=place)
+    run(compiled, cwd=place)
+
+
+def main():
+    folder, *crates = sys.argv[1:]
+    for crate in crates:
+        archive = os.path.join(os.path.abspath(folder), f"lib{crate}.a")
+        if are_left(crate):
+            build(crate, archive, f"{kit()}/toolchain")
+        else:
+            place = os.path.join(ROOT, "crates", crate)
+            run(["rt", "lib", *jobs()], cwd=place)
+            shutil.copyfile(f"{place}/out/lib{crate}.a", archive)
+
+
+if __name__ == "__main__":
+    try:
+        main()
+    except (subprocess.CalledProcessError, OSError) as error:
+        sys.exit(f"static_libraries: {error}")
