@@ -9,6 +9,8 @@ import shutil
 import subprocess
 import sys
 
+# those that scripts/library links
+LIBRARY = ("mte_c", "mte_heap")
 ROOT = os.path.dirname(os.path.dirname(os.path.dirname(os.path.realpath(__file__))))
 
 
