@@ -1,6 +1,7 @@
 pub mod OneFitAnswer
 pub mod Outcomes
 pub mod Counting
+pub mod CountedLines
 pub mod FaultLines
 pub mod HistoryFaultLines
 pub mod FitAndHistory

@@ -49,6 +49,12 @@ pub record KeepsCounts (reading : Reading) (profile : Counted) (bytes : List ℕ
   pub state : reading ≡ record { events = []; state = (fed nothing_read bytes).state }
   pub counts : profile ≡ profile_of_events (fed nothing_read bytes).events
 
+-- Of a text after these bytes, the front was taken and counted, and this rest is left.
+pub record CountsFront (bytes text : List ℕ) (reading : Reading) (profile : Counted) (rest : List ℕ) : Type 0 where
+  pub front : List ℕ
+  pub text_is : text ≡ front ++ rest
+  pub keeps : KeepsCounts reading profile (bytes ++ front)
+
 -- The first line is kept, and the events of the lines after it; `ended` says whether its end was seen.
 abbrev pub KeepsLineAndEvents : Bool → List ℕ → Reading → List ℕ → Type 0
 KeepsLineAndEvents false line reading bytes = (line ≡ bytes) × IsLine bytes × (reading ≡ nothing_read)

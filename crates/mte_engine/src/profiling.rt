@@ -11,8 +11,9 @@ use crate::engine::{Engine, Status, run_engine};
 use crate::fault::{AnswerError, ToolFault};
 use crate::input::Input;
 use crate::output::Text;
-use crate::trace_counting::count_out;
-use crate::trace_feeding::{end, feed};
+use crate::trace_counting::{count_lines, count_out, feed_counted};
+use crate::trace_feeding::end;
+use line_text::first_line;
 use profile_count::Profile;
 use std::alloc::{AllocError, Global};
 use trace_reader::TraceReader;
@@ -67,9 +68,13 @@ impl Input for CountedTrace {
     ghost has_taken = { λ input bytes. KeepsCounts input.reader input.profile bytes };
 
     fn take(&mut self, piece: &[u8]) -> Result<(), AllocError> {
-        feed(&mut self.reader, piece)?;
-        count_out(&mut self.reader, &mut self.profile);
-        Ok(())
+        let mut text = piece;
+        while let Some((line, after)) = first_line(text) {
+            feed_counted(&mut self.reader, &mut self.profile, line)?;
+            feed_counted(&mut self.reader, &mut self.profile, b"\n")?;
+            text = count_lines(&mut self.reader, &mut self.profile, after);
+        }
+        feed_counted(&mut self.reader, &mut self.profile, text)
     }
 }
 

@@ -1,11 +1,13 @@
 //! Counting what the events of a trace request.
-ghost use Rattle.std.specs.Prelude.{◌≡◌, ◌++◌, ◌+◌, ◌<◌, ◌≤◌, List, ℕ, [], ◌∷◌, length, IfOk};
+ghost use Rattle.std.specs.Prelude.{◌≡◌, ◌++◌, ◌+◌, ◌<◌, ◌≤◌, List, ℕ, [], ◌∷◌, length, false, IfOk, OnOk};
 ghost use Rattle.heap_theory.specs.Losses.{requested_sizes};
 ghost use Rattle.profile_count.specs.Requests.{profile_of_sizes};
 ghost use Rattle.trace_reader.specs.TraceLine.{most_events};
 ghost use Rattle.tuner_theory.specs.Profiles.{greatest_count};
-ghost use Rattle.mte_engine.specs.Traces.{profile_of_events};
+ghost use Rattle.mte_engine.specs.Traces.{CountsFront, KeepsCounts, profile_of_events};
+ghost use Rattle.trace_reader.specs.Reading.{is_finished};
 
+use crate::trace_feeding::feed;
 use profile_count::Profile;
 use replay_core::{Event, request_size};
 use std::alloc::{AllocError, Global};
@@ -24,6 +26,42 @@ pub fn count_out(reader: &mut TraceReader, profile: &mut Profile)
     }
 }
 
+/// Feeds a piece of a trace, and counts what its events request. The reader keeps a fault of its text.
+pub fn feed_counted(
+    reader: &mut TraceReader,
+    profile: &mut Profile,
+    piece: &[u8],
+) -> Result<(), AllocError>
+    requires { is_finished reader.old ≡ false }
+    ensures counted { OnOk result ((bytes : List ℕ) → KeepsCounts reader.old profile.old bytes →
+        KeepsCounts reader.new profile.new (bytes ++ piece.now)) }
+    ensures unfinished { is_finished reader.new ≡ false }
+{
+    feed(reader, piece)?;
+    count_out(reader, profile);
+    Ok(())
+}
+
+/// Reads the lines in front of a text that spell events, as far as the reader finds them at once, and counts what they request. Returns the
+/// text after them. No event is kept in between.
+pub fn count_lines<'a>(reader: &mut TraceReader, profile: &mut Profile, text: &'a [u8]) -> &'a [u8]
+    requires { is_finished reader.old ≡ false }
+    ensures counted { (bytes : List ℕ) → KeepsCounts reader.old profile.old bytes →
+        CountsFront bytes text.now reader.new profile.new result.now }
+    ensures shorter { length result.now ≤ length text.now }
+    ensures unfinished { is_finished reader.new ≡ false }
+{
+    let mut rest = text;
+    if !reader.is_at_start() {
+        return rest;
+    }
+    while let Some((event, after)) = reader.read_event(rest) {
+        count(profile, &event);
+        rest = after;
+    }
+    rest
+}
+
 /// The profile of what these events request. There must be at most 1,000,000 of them, so that no count gets full.
 pub fn count_all(alloc: Global, events: &VecDeque<Event>) -> Result<Profile, AllocError>
     requires { length events.now.items ≤ most_events }
@@ -37,6 +75,7 @@ pub fn count_all(alloc: Global, events: &VecDeque<Event>) -> Result<Profile, All
 }
 
 // Counts what an event requests.
+#[inline(always)]
 #[tactic(auto, using(profile_count::proofs::LawLemmas::one_more_is_counted, profile_count::proofs::LawLemmas::counts_are_few))]
 fn count(profile: &mut Profile, event: &Event)
     ensures { (sizes : List ℕ) → length sizes < greatest_count → profile.old ≡ profile_of_sizes sizes →

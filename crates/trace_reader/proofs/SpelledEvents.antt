@@ -1,5 +1,5 @@
 -- Lines that are read in one pass, since they spell events.
-use Rattle.std.proofs.Common.{◌≡◌, ℕ, suc, ◌<◌, true, List, [], ◌∷◌, ◌++◌, Ok, Err, refl, sym, ap, subst, ◌∙◌, arith}
+use Rattle.std.proofs.Common.{◌+◌, add-one, ◌≡◌, ℕ, suc, ◌<◌, true, List, [], ◌∷◌, ◌++◌, Ok, Err, refl, sym, ap, subst, ◌∙◌, arith}
 use Rattle.line_text.proofs.LawLemmas.{prefix_of_prefix}
 use Rattle.heap_theory.specs.declared.event.Event.{Event}
 use Rattle.heap_theory.specs.Ranges.{IsInRange}
@@ -9,7 +9,8 @@ use Rattle.trace_reader.specs.Reached.{HasReached, IsOnTheWay}
 use Rattle.trace_reader.specs.Reading.{Reading, State, fed, is_at_start, is_open_state, is_start, line_ended, with_judged}
 use Rattle.trace_reader.specs.Reading.State.{Open, Failed, Finished}
 use Rattle.trace_reader.specs.TraceLine.{event_line}
-use Rattle.trace_reader.proofs.Ending.{failed_on_the_way, fed-after, reached_ok}
+use Rattle.trace_reader.proofs.Ending.{failed_on_the_way, fed-after, fed-ended, reached_ok}
+use Rattle.line_text.specs.Lines.{ended}
 use Rattle.trace_reader.proofs.EventLines.{event_line-is_line, event_of_line-spelled}
 use Rattle.trace_reader.proofs.Reaching.{fields, is_open_at, open_at}
 
@@ -71,3 +72,24 @@ module _ (old mid new : Reading) (text rest after : List ℕ) (event : Event) (w
       failed_on_the_way old mid new error text (event_line event) after way.still_open (event_line-is_line event range)
       (way.fed_is ∙ ap (fed mid) spelled) way.kept
       (subst (λ (r : Reading). HasReached mid r new (Err error)) (sym line) reached)
+
+-- ---- an event that is handed out at once
+
+-- the reading after the line, and the event of the line
+pub event_at_once : (old : Reading) (events : List Event) (lines : ℕ) (rest : List ℕ) (status : Status) (event : Event)
+    → fields events lines rest status ≡ old → is_at_start old ≡ true → lines < 1000000 → IsInRange event
+    → record { events = old.events ++ event ∷ []; state = (fields events (lines + 1) rest status).state } ≡ fed old (ended (event_line event))
+unfolding with_judged
+event_at_once old events lines rest status event is start few range =
+    let open_now = start_is_open old.state start in
+    let s = is_open_at old events lines rest status is open_now in
+    let start_there : is_start (Open lines rest) ≡ true = sym (ap is_at_start s.1) ∙ start in
+    sym (fed-ended old (event_line event) open_now (event_line-is_line event range)
+    ∙ line_of_event old events lines rest status event is start few range
+    ∙ subst (λ (r : Reading). with_judged r (Ok event) ≡ record { events = r.events ++ event ∷ []; state = Open (suc lines) [] })
+    (sym s.1) refl
+    ∙ rw (s.0, add-one lines, no_rest rest start_there) refl)
+  where
+    no_rest : (rest : List ℕ) → is_start (Open lines rest) ≡ true → rest ≡ []
+    no_rest [] e = refl
+    no_rest (b ∷ rest) e = absurd cc

@@ -1,11 +1,12 @@
-ghost use Rattle.std.specs.Prelude.{◌≡◌, ◌≢◌, ◌≤◌, [], drop, length, slice_get, false, true, All, Err, IfOk, IfSome, MatchResult, OnOk, is_ok};
-ghost use Rattle.line_text.specs.Lines.{IsLine};
+ghost use Rattle.std.specs.Prelude.{◌≡◌, ◌≢◌, ◌≤◌, [], ◌∷◌, ◌++◌, drop, length, slice_get, false, true, All, Err, IfNone, IfOk, IfSome, MatchResult, OnOk, is_ok};
+ghost use Rattle.line_text.specs.Lines.{IsLine, ended};
 ghost use Rattle.trace_reader.specs.declared.fault.TraceError.TheVariants.{OutOfMemory};
 ghost use Rattle.heap_theory.specs.Ranges.{IsInRange};
 ghost use Rattle.line_text.specs.Prefixes.{IsPrefix};
 ghost use Rattle.trace_reader.specs.Reached.{HasReached, IsOnTheWay, answer_of};
 ghost use Rattle.trace_reader.specs.Reading.State.{Failed};
-ghost use Rattle.trace_reader.specs.Reading.{fed, finished, is_finished, nothing_read, IsJudgementIn, is_open, line_ended, with_judged};
+ghost use Rattle.trace_reader.specs.TraceLine.{event_line};
+ghost use Rattle.trace_reader.specs.Reading.{fed, finished, is_finished, nothing_read, IsJudgementIn, is_at_start, is_open, line_ended, with_judged};
 
 use crate::fault::{TraceError, TraceFault};
 use crate::line::{LONGEST_LINE, MOST_EVENTS, event_in};
@@ -122,6 +123,33 @@ impl TraceReader {
         ensures range { IfSome result IsInRange }
     {
         self.events.pop_front()
+    }
+
+    /// Whether the reader is open and stands at the start of a line: no line is unfinished. Then `read_event` may be called.
+    pub fn is_at_start(&self) -> bool
+        ensures { result ≡ is_at_start self.now }
+    {
+        matches!(self.status, Status::Open) && self.rest.is_empty()
+    }
+
+    /// Reads the first line of a text if it spells an event, and hands out the event at once; the events that wait are left where they are.
+    /// Returns the text after the line, too. `None`, with nothing read, leaves the line to `feed`: it may spell an event all the same.
+    #[inline(always)]
+    pub fn read_event<'a>(&mut self, text: &'a [u8]) -> Option<(Event, &'a [u8])>
+        requires { is_at_start self.old ≡ true }
+        ensures line { IfSome result (λ found. text.now ≡ event_line found.0 ++ 10 ∷ found.1.now) }
+        ensures event { IfSome result (λ found. record { events = self.old.events ++ found.0 ∷ []; state = self.new.state }
+            ≡ fed self.old (ended (event_line found.0))) }
+        ensures events { self.new.events ≡ self.old.events }
+        ensures start { is_at_start self.new ≡ true }
+        ensures none { IfNone result (self.new ≡ self.old) }
+    {
+        if self.lines == MOST_EVENTS {
+            return None;
+        }
+        let (event, after) = first_event(text)?;
+        self.lines += 1;
+        Some((event, after))
     }
 
     /// The events that were read and not yet taken out, in order.
