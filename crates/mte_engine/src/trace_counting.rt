@@ -11,7 +11,6 @@ use crate::trace_feeding::feed;
 use profile_count::Profile;
 use replay_core::{Event, request_size};
 use std::alloc::{AllocError, Global};
-use std::collections::VecDeque;
 use trace_reader::TraceReader;
 
 /// Takes all events out of the reader, and counts what they request.
@@ -63,9 +62,9 @@ pub fn count_lines<'a>(reader: &mut TraceReader, profile: &mut Profile, text: &'
 }
 
 /// The profile of what these events request. There must be at most 1,000,000 of them, so that no count gets full.
-pub fn count_all(alloc: Global, events: &VecDeque<Event>) -> Result<Profile, AllocError>
-    requires { length events.now.items ≤ most_events }
-    ensures { IfOk result (λ profile. profile ≡ profile_of_events events.now.items) }
+pub fn count_all(alloc: Global, events: &[Event]) -> Result<Profile, AllocError>
+    requires { length events.now ≤ most_events }
+    ensures { IfOk result (λ profile. profile ≡ profile_of_events events.now) }
 {
     let mut profile = Profile::new(alloc)?;
     for place in 0..events.len() {

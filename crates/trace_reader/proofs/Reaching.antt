@@ -1,5 +1,5 @@
 -- Readings that a call comes to.
-use Rattle.std.proofs.Common.{◌≡◌, ℕ, suc, ◌+◌, ◌<◌, ◌≤◌, true, false, ltb, List, [], ◌∷◌, ◌++◌, length, Result, Ok, Err, IsOk, OnOk, is_err, ◌↔◌, refl, sym, ap, subst, ◌∙◌, arith, append-nil, add-one, add-zero}
+use Rattle.std.proofs.Common.{◌≡◌, ℕ, suc, ◌+◌, ◌<◌, ◌≤◌, true, false, ltb, List, [], ◌∷◌, ◌++◌, length, Result, Ok, Err, IsOk, OnErr, OnOk, is_err, ◌↔◌, refl, sym, ap, subst, ◌∙◌, arith, append-nil, add-one, add-zero}
 use Rattle.std.proofs.lemmas.Bool.{lt-ltb}
 use Rattle.std.proofs.lemmas.Bool.Decides.{nat_tests}
 use Rattle.line_text.specs.Lines.{IsLine}
@@ -107,6 +107,15 @@ judged_fault old new events lines rest status fault result is open_now failed an
     rw s.1
     (came (open_at events lines rest) _ new result (failed ∙ rw (s.1, append-nil events, add-one lines) refl)
     (answer ∙ rw (add-one lines) refl) (record { after = []; is = refl }))
+
+-- what a call says that did not fail, and what one says that did
+pub pushed : {E : Type 0} (r : Result (Unit {0}) E) (Is : Type 0) → is_err r ≡ false → OnOk r Is → Is
+pushed (Ok done) Is ok is = is
+pushed (Err e) Is ok is = absurd cc
+
+pub not_pushed : {E : Type 0} (r : Result (Unit {0}) E) (Is : Type 0) → is_err r ≡ true → OnErr r Is → Is
+not_pushed (Ok done) Is failed is = absurd cc
+not_pushed (Err e) Is failed is = is
 
 -- ---- bytes without a newline
 

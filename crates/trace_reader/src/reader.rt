@@ -8,6 +8,7 @@ ghost use Rattle.trace_reader.specs.Reading.State.{Failed};
 ghost use Rattle.trace_reader.specs.TraceLine.{event_line};
 ghost use Rattle.trace_reader.specs.Reading.{fed, finished, is_finished, nothing_read, IsJudgementIn, is_at_start, is_open, line_ended, with_judged};
 
+use crate::event_queue::EventQueue;
 use crate::fault::{TraceError, TraceFault};
 use crate::line::{LONGEST_LINE, MOST_EVENTS, event_in};
 use crate::one_pass::first_event;
@@ -16,7 +17,6 @@ use arrayvec::ArrayVec;
 use heap_theory::Event;
 use line_text::first_line;
 use std::alloc::Global;
-use std::collections::VecDeque;
 use std::marker::Model;
 
 /// Reads a trace that comes in pieces of any size. It keeps the events that were not yet taken out, and of the text only the bytes of the
@@ -24,7 +24,7 @@ use std::marker::Model;
 #[derive(Debug, Drop)]
 pub struct TraceReader {
     // the events that were not yet taken out
-    events: VecDeque<Event>,
+    events: EventQueue,
     // how many whole lines were read
     lines: u32,
     // what was read of the unfinished line
@@ -42,10 +42,10 @@ impl Model for TraceReader {
     ghost use Rattle.trace_reader.specs.Status.{state_of};
     ghost use Rattle.trace_reader.specs.TraceLine.{most_events};
 
-    ghost view = { λ r. record { events = r.events.items; state = state_of r.status r.lines r.rest.items } };
+    ghost view = { λ r. record { events = r.events; state = state_of r.status r.lines r.rest.items } };
 
     ghost invariant = { λ r.
-        (r.lines ≤ most_events) × (length r.events.items ≤ r.lines) × All IsInRange r.events.items };
+        (r.lines ≤ most_events) × (length r.events ≤ r.lines) × All IsInRange r.events };
 }
 
 impl TraceReader {
@@ -54,7 +54,7 @@ impl TraceReader {
         ensures { result ≡ nothing_read }
     {
         TraceReader {
-            events: VecDeque::new(alloc),
+            events: EventQueue::new(alloc),
             lines: 0,
             rest: ArrayVec::new(),
             status: Status::Open,
@@ -116,13 +116,14 @@ impl TraceReader {
     }
 
     /// Takes out the first event that was read and not yet taken out. `None` if there is none at present.
+    /// The room of the events that were taken out is used again once it has returned `None`.
     pub fn next_event(&mut self) -> Option<Event>
         ensures event { result ≡ slice_get self.old.events 0 }
         ensures rest { self.new.events ≡ drop 1 self.old.events }
         ensures state { self.new.state ≡ self.old.state }
         ensures range { IfSome result IsInRange }
     {
-        self.events.pop_front()
+        self.events.pop()
     }
 
     /// Whether the reader is open and stands at the start of a line: no line is unfinished. Then `read_event` may be called.
@@ -153,11 +154,11 @@ impl TraceReader {
     }
 
     /// The events that were read and not yet taken out, in order.
-    pub fn events(&self) -> &VecDeque<Event>
-        ensures events { result.now.items ≡ self.now.events }
-        ensures range { All IsInRange result.now.items }
+    pub fn events(&self) -> &[Event]
+        ensures events { result.now ≡ self.now.events }
+        ensures range { All IsInRange result.now }
     {
-        &self.events
+        self.events.as_slice()
     }
 
     // Takes the events of the lines in front of a text, up to the first line that is not read in one pass, and returns the text from there.
@@ -214,10 +215,9 @@ impl TraceReader {
     {
         match judged {
             Ok(event) => {
-                if self.events.capacity() <= self.events.len() && self.events.reserve(1).is_err() {
+                if self.events.push(event).is_err() {
                     return self.fail(TraceError::OutOfMemory);
                 }
-                self.events.push_back_reserved(event);
                 self.lines += 1;
                 self.rest.clear();
                 Ok(())

@@ -1,7 +1,6 @@
-use Rattle.std.proofs.Common.{◌≡◌, ◌+◌, ◌<◌, ◌++◌, ◌∷◌, [], length, take, arith, sym, ap, ◌∙◌}
+use Rattle.std.proofs.Common.{◌<◌, [], length, take, arith, sym, ap, ◌∙◌}
 use Rattle.std.proofs.lemmas.List.{take_more, length-take}
 use Rattle.heap_theory.specs.Losses.{requested_sizes}
-use Rattle.heap_theory.specs.declared.event.Event.{Event}
 use Rattle.profile_count.specs.Requests.{profile_of_sizes}
 use Rattle.profile_count.proofs.LawLemmas.{added_requests_are_counted}
 use Rattle.mte_engine.specs.Traces.{profile_of_events}
@@ -10,18 +9,15 @@ use Rattle.mte_engine.proofs.trace_counting.count_all.Goals as goal
 
 pub loop-place-preserved : goal.loop-place-preserved
 loop-place-preserved c =
-    let events = c.args.events.now.items in
+    let events = c.args.events.now in
     let place = c.loop-place.place in
-    let event = c.index.result.now in
     let before = take place events in
     let within : place < length events = omega arith in
-    let more : take (place + 1) events ≡ before ++ event ∷ [] =
-    take_more events place event within ∙ ap (λ (e : Event). before ++ e ∷ []) (sym c.index.ensures) in
     let short : length (requested_sizes before) < 1000000000 =
     omega (arith, length-requested_sizes before, simp length-take at (length-requested_sizes before), c.requires) in
     c.count.ensures (requested_sizes before) short c.loop-place.invariant
-    ∙ ap profile_of_sizes (one_requested [] before event)
-    ∙ ap profile_of_events (sym more)
+    ∙ ap profile_of_sizes (one_requested [] before _)
+    ∙ ap profile_of_events (sym (take_more events place _ within))
 
 pub loop-place-init : goal.loop-place-init
 loop-place-init c = c.in_ok-profile.ensures ∙ added_requests_are_counted []

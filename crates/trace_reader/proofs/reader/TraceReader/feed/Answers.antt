@@ -10,7 +10,7 @@ pub returns-in-Failed-clause-reading : goal.returns-in-Failed-clause-reading
 returns-in-Failed-clause-reading c =
     let i = c.self.inside in
     λ other. sym (fed-failed c.args.self.now c.in-Failed.error c.args.piece.now
-    (state_failed c.args.self.now i.events.items i.lines i.rest.items i.status c.in-Failed.error c.self.view_is c.in-Failed.is))
+    (state_failed c.args.self.now i.events i.lines i.rest.items i.status c.in-Failed.error c.self.view_is c.in-Failed.is))
 
 pub returns-in-Failed-clause-prefix : goal.returns-in-Failed-clause-prefix
 returns-in-Failed-clause-prefix c = IsPrefix-fed c.args.self.now c.args.piece.now

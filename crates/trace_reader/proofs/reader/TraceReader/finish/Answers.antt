@@ -13,7 +13,7 @@ pub returns-in-Failed-clause-reading : goal.returns-in-Failed-clause-reading
 returns-in-Failed-clause-reading c =
     let i = c.self.inside in
     λ other. sym (finished-failed c.args.self.now c.in-Failed.error
-    (state_failed c.args.self.now i.events.items i.lines i.rest.items i.status c.in-Failed.error c.self.view_is c.in-Failed.is))
+    (state_failed c.args.self.now i.events i.lines i.rest.items i.status c.in-Failed.error c.self.view_is c.in-Failed.is))
 
 pub returns-in-Failed-clause-prefix : goal.returns-in-Failed-clause-prefix
 returns-in-Failed-clause-prefix c = IsPrefix-finished c.args.self.now
@@ -26,7 +26,7 @@ returns-in_err-judge_rest c =
     let some = not_empty i.rest.items c.is_empty.result c.is_empty.ensures (search rules) in
     let p = err_from_is_err_and c.from_residual.result c.from_residual.ensures.1 in
     let r =
-    finish_failed old c.judge_rest.new.self i.events.items i.lines i.rest.items i.status c.in_err-judge_rest.field-0.0 c.self.view_is
+    finish_failed old c.judge_rest.new.self i.events i.lines i.rest.items i.status c.in_err-judge_rest.field-0.0 c.self.view_is
     open_now some c.in_err-judge_rest.ensures in
     let failed = unchanged_if_failed old c.judge_rest.new.self open_now in
     let finished_now = finished_after old c.judge_rest.new.self c.in_err-judge_rest.field-0.0 r in
@@ -37,13 +37,13 @@ returns c =
     let old = c.args.self.now in
     let i = c.self.inside in
     let open_now : is_open old ≡ true = search rules in
-    let new : Reading = record { events = c.self-2.inside.events.items; state = Finished } in
+    let new : Reading = record { events = c.self-2.inside.events; state = Finished } in
     let r : HasReached old (finished old) new (Ok tt) =
     elim c.if-not-is_empty.branch [
-      | then-not-is_empty+in_ok-judge_rest w ↦ finish_line old w.judge_rest.new.self i.events.items i.lines i.rest.items i.status
-          c.self-2.inside.events.items c.self.view_is open_now (not_empty i.rest.items c.is_empty.result c.is_empty.ensures (search rules))
+      | then-not-is_empty+in_ok-judge_rest w ↦ finish_line old w.judge_rest.new.self i.events i.lines i.rest.items i.status
+          c.self-2.inside.events c.self.view_is open_now (not_empty i.rest.items c.is_empty.result c.is_empty.ensures (search rules))
           w.in_ok-judge_rest.ensures (ap (λ (r : Reading). r.events) (c.self-2.view_is ∙ w.self-is))
-      | else-not-is_empty w ↦ finish_empty old i.events.items i.lines i.rest.items i.status c.self-2.inside.events.items c.self.view_is
+      | else-not-is_empty w ↦ finish_empty old i.events i.lines i.rest.items i.status c.self-2.inside.events c.self.view_is
           open_now (eqb-true (length i.rest.items) 0 (sym c.is_empty.ensures ∙ search rules))
           (ap (λ (r : Reading). r.events) (c.self-2.view_is ∙ w.self-is))
     ] in

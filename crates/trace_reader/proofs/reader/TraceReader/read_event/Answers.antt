@@ -6,5 +6,5 @@ pub returns-clause-event : goal.returns-clause-event
 returns-clause-event c =
     let i = c.self.inside in
     let few : i.lines < 1000000 = omega (arith, c.self.invariant.0, c.if-self-eq-MOST_EVENTS.false) in
-    event_at_once c.args.self.now i.events.items i.lines i.rest.items i.status c.in_ok-event.event c.self.view_is c.requires few
+    event_at_once c.args.self.now i.events i.lines i.rest.items i.status c.in_ok-event.event c.self.view_is c.requires few
     c.in_ok-event.ensures.range

@@ -11,7 +11,7 @@ returns-in_err-add-clause-way c =
     let mid = c.loop-event.self in
     let few : i.lines < 1000000 = omega (arith, c.self-in-Some.invariant.0, c.if-self-eq-MOST_EVENTS.false) in
     let line =
-    line_of_event mid i.events.items i.lines i.rest.items i.status c.in-Some.event c.self-in-Some.view_is c.loop-event.invariant.start few
+    line_of_event mid i.events i.lines i.rest.items i.status c.in-Some.event c.self-in-Some.view_is c.loop-event.invariant.start few
     c.in-Some.ensures.range in
     let p = err_from_is_err_and c.from_residual.result c.from_residual.ensures.1 in
     rw (p.1, p.2) (no_room_for_event c.args.self.now mid c.add.new.self c.args.text.now c.loop-event.rest.now c.in-Some.after.now
@@ -24,7 +24,7 @@ loop-event-preserved c =
     let mid = c.loop-event.self in
     let few : i.lines < 1000000 = omega (arith, c.self-in-Some.invariant.0, c.if-self-eq-MOST_EVENTS.false) in
     let line =
-    line_of_event mid i.events.items i.lines i.rest.items i.status c.in-Some.event c.self-in-Some.view_is c.loop-event.invariant.start few
+    line_of_event mid i.events i.lines i.rest.items i.status c.in-Some.event c.self-in-Some.view_is c.loop-event.invariant.start few
     c.in-Some.ensures.range in
     let more =
     one_event_more c.args.self.now mid c.add.new.self c.args.text.now c.loop-event.rest.now c.in-Some.after.now

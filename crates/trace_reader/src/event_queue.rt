@@ -1,0 +1,74 @@
+//! The events that wait in a reader.
+ghost use Rattle.std.specs.Prelude.{◌≡◌, [], ◌∷◌, ◌++◌, drop, slice_get, OnErr, OnOk};
+
+use heap_theory::Event;
+use std::alloc::{AllocError, Global};
+use std::marker::Model;
+
+/// Events that wait, in order. Those that were taken out keep their room until `pop` finds no event: so adding an event and taking one out
+/// each cost one test.
+#[derive(Debug, Drop)]
+pub(crate) struct EventQueue {
+    events: Vec<Event>,
+    // how many of them were taken out
+    taken: usize,
+}
+
+impl Model for EventQueue {
+    ghost use Rattle.std.specs.Prelude.{◌≤◌, List, drop, length};
+    ghost use Rattle.heap_theory.specs.declared.event.Event.{Event as EventView};
+
+    ghost Value = { List EventView };
+
+    ghost view = { λ q. drop q.taken q.events.items };
+
+    ghost invariant = { λ q. q.taken ≤ length q.events.items };
+}
+
+impl EventQueue {
+    // no events; it takes no memory yet
+    pub(crate) fn new(alloc: Global) -> EventQueue
+        ensures { result ≡ [] }
+    {
+        EventQueue {
+            events: Vec::new(alloc),
+            taken: 0,
+        }
+    }
+
+    // the events that wait
+    pub(crate) fn as_slice(&self) -> &[Event]
+        ensures { result.now ≡ self.now }
+    {
+        &self.events[self.taken..]
+    }
+
+    // adds an event at the end
+    #[inline(always)]
+    pub(crate) fn push(&mut self, event: Event) -> Result<(), AllocError>
+        ensures ok { OnOk result (self.new ≡ self.old ++ event ∷ []) }
+        ensures err { OnErr result (self.new ≡ self.old) }
+    {
+        if self.events.capacity() <= self.events.len() {
+            self.events.reserve(1)?;
+        }
+        self.events.push_reserved(event);
+        Ok(())
+    }
+
+    // takes out the first event
+    #[inline(always)]
+    pub(crate) fn pop(&mut self) -> Option<Event>
+        ensures event { result ≡ slice_get self.old 0 }
+        ensures rest { self.new ≡ drop 1 self.old }
+    {
+        if self.taken == self.events.len() {
+            self.events.clear();
+            self.taken = 0;
+            return None;
+        }
+        let event = self.events[self.taken];
+        self.taken += 1;
+        Some(event)
+    }
+}
