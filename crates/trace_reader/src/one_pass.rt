@@ -1,6 +1,7 @@
 //! The event of a text's first line, where that line spells one, read in one pass over its bytes. `line` judges every other line word by
 //! word, which is slower and finds each fault. An event that is missing here is read by `line`.
-ghost use Rattle.std.specs.Prelude.{◌≡◌, ◌≤◌, ◌<◌, ◌^◌, ◌++◌, ◌∷◌, [], IfSome, nat_abs};
+ghost use Rattle.std.specs.Prelude.{◌≡◌, ◌≤◌, ◌<◌, ◌^◌, ◌++◌, ◌∷◌, [], IfSome, length, nat_abs};
+ghost use Rattle.std.specs.Int.{to_le_bytes, w32};
 ghost use Rattle.std.specs.Fmt.{decimal, signed_decimal};
 ghost use Rattle.heap_theory.specs.Ranges.{IsAccessOf, IsInRange, IsMove, IsRequest, IsVariable};
 ghost use Rattle.line_text.specs.Hexadecimal.{hex};
@@ -17,6 +18,26 @@ const DIGITS: usize = 8;
 // A shorter text is left to `line`. No line that is read here has as many bytes, so the compiler drops the tests of the length in `digits`.
 const WINDOW: usize = 48;
 
+// the bytes of a word
+const WORD: usize = 4;
+
+// The first four letters of the events' names, as words: the first letter is the lowest byte.
+const MALL: u32 = 0x6c6c_616d;
+
+const CALL: u32 = 0x6c6c_6163;
+
+const REAL: u32 = 0x6c61_6572;
+
+const FREE: u32 = 0x6565_7266;
+
+const LOAD: u32 = 0x6461_6f6c;
+
+const STOR: u32 = 0x726f_7473;
+
+const ADDG: u32 = 0x6764_6461;
+
+const SUBG: u32 = 0x6762_7573;
+
 // The event of the first line of a text, and the text after that line. `None` leaves the line to `line`, which finds an event or a fault.
 #[inline(always)]
 pub(crate) fn first_event(text: &[u8]) -> Option<(Event, &[u8])>
@@ -26,46 +47,55 @@ pub(crate) fn first_event(text: &[u8]) -> Option<(Event, &[u8])>
     if text.len() < WINDOW {
         return None;
     }
-    match text[0] {
-        b'm' => {
-            let (v, n, after) = request(after_name(b"malloc ", text)?)?;
+    let (word, text) = first_word(text);
+    match word {
+        MALL => {
+            let (v, n, after) = request(after_name(b"oc ", text)?)?;
             Some((Event::Malloc { v, n }, after))
         }
-        b'c' => {
-            let (v, n, after) = request(after_name(b"calloc ", text)?)?;
+        CALL => {
+            let (v, n, after) = request(after_name(b"oc ", text)?)?;
             Some((Event::Calloc { v, n }, after))
         }
-        b'r' => {
-            let (v, n, after) = request(after_name(b"realloc ", text)?)?;
+        REAL => {
+            let (v, n, after) = request(after_name(b"loc ", text)?)?;
             Some((Event::Realloc { v, n }, after))
         }
-        b'f' => {
-            let (v, after) = variable(b'\n', after_name(b"free ", text)?)?;
+        FREE => {
+            let (v, after) = variable(b'\n', after_name(b" ", text)?)?;
             Some((Event::Free { v }, after))
         }
-        b'l' => {
-            let (v, off, len, after) = access(b'\n', after_name(b"load ", text)?)?;
+        LOAD => {
+            let (v, off, len, after) = access(b'\n', after_name(b" ", text)?)?;
             Some((Event::Load { v, off, len }, after))
         }
-        b's' => first_with_s(text),
-        b'a' => {
-            let (v, w, u6, u4, after) = move_pointer(after_name(b"addg ", text)?)?;
+        STOR => {
+            let (v, off, len, text) = access(b' ', after_name(b"e ", text)?)?;
+            let (byte, after) = byte(text)?;
+            Some((Event::Store { v, off, len, byte }, after))
+        }
+        ADDG => {
+            let (v, w, u6, u4, after) = move_pointer(after_name(b" ", text)?)?;
             Some((Event::Addg { v, w, u6, u4 }, after))
+        }
+        SUBG => {
+            let (v, w, u6, u4, after) = move_pointer(after_name(b" ", text)?)?;
+            Some((Event::Subg { v, w, u6, u4 }, after))
         }
         _ => None,
     }
 }
 
+// the first four bytes of a text as a word, and the text after them
 #[inline(always)]
-fn first_with_s(text: &[u8]) -> Option<(Event, &[u8])>
-    ensures spelled { IfSome result (λ found. text.now ≡ event_line found.0 ++ 10 ∷ found.1.now) }
-    ensures range { IfSome result (λ found. IsInRange found.0) }
+fn first_word(text: &[u8]) -> (u32, &[u8])
+    requires { WORD ≤ length text.now }
+    ensures { text.now ≡ to_le_bytes w32 result.0 ++ result.1.now }
 {
-    if let Some(numbers) = after_name(b"store ", text) {
-        return store(numbers);
-    }
-    let (v, w, u6, u4, after) = move_pointer(after_name(b"subg ", text)?)?;
-    Some((Event::Subg { v, w, u6, u4 }, after))
+    (
+        u32::from_le_bytes([text[0], text[1], text[2], text[3]]),
+        &text[WORD..],
+    )
 }
 
 // the text after a name
@@ -106,16 +136,6 @@ fn access(end: u8, text: &[u8]) -> Option<(u16, i32, u8, &[u8])>
     let (off, text) = offset(text)?;
     let (len, after) = number(1, Event::LONGEST_ACCESS, end, text)?;
     Some((v, off, len as u8, after))
-}
-
-#[inline(always)]
-fn store(text: &[u8]) -> Option<(Event, &[u8])>
-    ensures spelled { IfSome result (λ found. codes "store" ++ 32 ∷ text.now ≡ event_line found.0 ++ 10 ∷ found.1.now) }
-    ensures range { IfSome result (λ found. IsInRange found.0) }
-{
-    let (v, off, len, text) = access(b' ', text)?;
-    let (byte, after) = byte(text)?;
-    Some((Event::Store { v, off, len, byte }, after))
 }
 
 // the two variables of a move, its granules and its tags, up to the end of the line
