@@ -1,24 +1,16 @@
 -- The digits in front of a text are the spelling of their number.
-use Rattle.std.proofs.Common.{◌≡◌, ℕ, ◌+◌, ◌-◌, ◌*◌, ◌/◌, ◌%◌, ◌^◌, ◌<◌, ◌≤◌, true, List, [], ◌∷◌, ◌++◌, length, get_or, take, drop, refl, sym, ap, ◌∙◌, arith, add-one}
-use Rattle.std.specs.Char.{is_ascii_digit}
+use Rattle.std.proofs.Common.{◌≡◌, ℕ, ◌+◌, ◌-◌, ◌*◌, ◌/◌, ◌%◌, ◌^◌, ◌<◌, ◌≤◌, List, [], ◌∷◌, ◌++◌, length, get_or, take, drop, refl, sym, ap, ◌∙◌, arith, add-one}
 use Rattle.std.specs.Fmt.{decimal}
 use Rattle.std.proofs.Math.Seq.{split_at}
 use Rattle.std.proofs.Math.Nat.{pow-le-pow_right}
-use Rattle.std.proofs.lemmas.Bool.Decides.{nat_tests}
 use Rattle.std.proofs.lemmas.Fmt.{decimal_digit, decimal_step}
 use Rattle.std.proofs.lemmas.Grind.{pow_more}
 use Rattle.std.proofs.lemmas.List.{take_more}
 
-pub digit_range : (b : ℕ) → is_ascii_digit b ≡ true → (48 ≤ b) × (b ≤ 57)
-digit_range b e = let h : (48 ≤ b) × (b ≤ 57) = grind (arith, nat_tests) in h
-
 -- one digit is the spelling of its value
-pub first_digit : (text : List ℕ) → 0 < length text → is_ascii_digit (get_or text 0 0) ≡ true → take 1 text ≡ decimal (get_or text 0 0 - 48)
-first_digit [] some digit = absurd (omega arith)
-first_digit (b ∷ text) some digit =
-    let range = digit_range b digit in
-    let same : 48 + (b - 48) ≡ b = omega (arith, range) in
-    sym (decimal_digit (b - 48) (omega (arith, range)) ∙ ap (λ (x : ℕ). x ∷ []) same)
+pub first_digit : (text : List ℕ) (d : ℕ) → 0 < length text → get_or text 0 0 ≡ 48 + d → d ≤ 9 → take 1 text ≡ decimal d
+first_digit [] d some is small = absurd (omega arith)
+first_digit (b ∷ text) d some is small = sym (decimal_digit d (omega (arith, small)) ∙ ap (λ (x : ℕ). x ∷ []) (sym is))
 
 -- and a digit more is that of ten times the number and the digit
 longer : (value d : ℕ) → 0 < value → d < 10 → value * 10 + d < 2 ^ 64 → decimal (value * 10 + d) ≡ decimal value ++ (48 + d) ∷ []
@@ -27,15 +19,11 @@ longer value d some small fits =
     let last : (value * 10 + d) % 10 ≡ d = omega arith in
     rw (decimal_step (value * 10 + d) (omega arith) fits, front, last) refl
 
-pub digit_more : (text : List ℕ) (place value d : ℕ) → place < length text → is_ascii_digit (get_or text place 0) ≡ true
-    → d ≡ get_or text place 0 - 48 → 0 < value → value < 10 ^ 7 → take place text ≡ decimal value
-    → take (place + 1) text ≡ decimal (value * 10 + d)
-digit_more text place value d within digit is some few spelled =
-    let b = get_or text place 0 in
-    let range = digit_range b digit in
-    let same : 48 + d ≡ b = omega (arith, range, is) in
-    take_more text place 0 within ∙ ap (λ (front : List ℕ). front ++ b ∷ []) spelled
-    ∙ sym (longer value d some (omega (arith, range, is)) (omega (arith, range, is)) ∙ ap (λ (x : ℕ). decimal value ++ x ∷ []) same)
+pub digit_more : (text : List ℕ) (place value d : ℕ) → place < length text → get_or text place 0 ≡ 48 + d → d ≤ 9 → 0 < value
+    → value < 10 ^ 7 → take place text ≡ decimal value → take (place + 1) text ≡ decimal (value * 10 + d)
+digit_more text place value d within is small some few spelled =
+    take_more text place 0 within ∙ ap (λ (front : List ℕ). front ++ get_or text place 0 ∷ []) spelled
+    ∙ ap (λ (x : ℕ). decimal value ++ x ∷ []) is ∙ sym (longer value d some (omega (arith, small)) (omega (arith, small)))
 
 -- a number of so many digits is below that power of 10
 pub few_more : (place value d : ℕ) → value < 10 ^ place → d < 10 → value * 10 + d < 10 ^ (place + 1)

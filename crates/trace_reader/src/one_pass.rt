@@ -1,6 +1,6 @@
 //! The event of a text's first line, where that line spells one, read in one pass over its bytes. `line` judges every other line word by
 //! word, which is slower and finds each fault. An event that is missing here is read by `line`.
-ghost use Rattle.std.specs.Prelude.{◌≡◌, ◌≤◌, ◌<◌, ◌^◌, ◌++◌, ◌∷◌, [], IfSome, length, nat_abs};
+ghost use Rattle.std.specs.Prelude.{◌≡◌, ◌≤◌, ◌<◌, ◌+◌, ◌^◌, ◌++◌, ◌∷◌, [], IfSome, length, nat_abs};
 ghost use Rattle.std.specs.Int.{to_le_bytes, w32};
 ghost use Rattle.std.specs.Fmt.{decimal, signed_decimal};
 ghost use Rattle.heap_theory.specs.Ranges.{IsAccessOf, IsInRange, IsMove, IsRequest, IsVariable};
@@ -190,15 +190,75 @@ fn number(low: u32, high: u32, end: u8, text: &[u8]) -> Option<(u32, &[u8])>
     }
 }
 
-// The number of at most `DIGITS` digits in front of a text, up to the byte `end`. The loop has a constant length, so the compiler unrolls it.
+// The number of at most `DIGITS` digits in front of a text, up to the byte `end`. Most numbers of a trace have three digits or two: there
+// the place of `end` says how many, and no digit costs a search for it.
 #[inline(always)]
 fn digits(end: u8, text: &[u8]) -> Option<(u32, &[u8])>
     ensures { IfSome result (λ x. text.now ≡ decimal x.0 ++ end ∷ x.1.now) }
 {
-    if text.len() <= DIGITS || !text[0].is_ascii_digit() {
+    if let Some(found) = three_digits(end, text) {
+        return Some(found);
+    }
+    if let Some(found) = two_digits(end, text) {
+        return Some(found);
+    }
+    some_digits(end, text)
+}
+
+// a number of three digits
+#[inline(always)]
+fn three_digits(end: u8, text: &[u8]) -> Option<(u32, &[u8])>
+    ensures { IfSome result (λ x. text.now ≡ decimal x.0 ++ end ∷ x.1.now) }
+{
+    if text.len() < 4 || text[3] != end {
         return None;
     }
-    let mut value = u32::from(text[0] - b'0');
+    let hundreds = digit_of(text[0]);
+    if hundreds == 0 || hundreds > 9 {
+        return None;
+    }
+    let tens = digit_of(text[1]);
+    if tens > 9 {
+        return None;
+    }
+    let ones = digit_of(text[2]);
+    if ones > 9 {
+        return None;
+    }
+    Some(((hundreds * 10 + tens) * 10 + ones, &text[4..]))
+}
+
+// a number of two digits
+#[inline(always)]
+fn two_digits(end: u8, text: &[u8]) -> Option<(u32, &[u8])>
+    ensures { IfSome result (λ x. text.now ≡ decimal x.0 ++ end ∷ x.1.now) }
+{
+    if text.len() < 3 || text[2] != end {
+        return None;
+    }
+    let tens = digit_of(text[0]);
+    if tens == 0 || tens > 9 {
+        return None;
+    }
+    let ones = digit_of(text[1]);
+    if ones > 9 {
+        return None;
+    }
+    Some((tens * 10 + ones, &text[3..]))
+}
+
+// A number of at most `DIGITS` digits. The loop has a constant length, so the compiler unrolls it.
+#[inline(always)]
+fn some_digits(end: u8, text: &[u8]) -> Option<(u32, &[u8])>
+    ensures { IfSome result (λ x. text.now ≡ decimal x.0 ++ end ∷ x.1.now) }
+{
+    if text.len() <= DIGITS {
+        return None;
+    }
+    let mut value = digit_of(text[0]);
+    if value > 9 {
+        return None;
+    }
     if text[1] == end {
         return Some((value, &text[2..]));
     }
@@ -206,16 +266,24 @@ fn digits(end: u8, text: &[u8]) -> Option<(u32, &[u8])>
         return None;
     }
     for place in 1..DIGITS {
-        let byte = text[place];
-        if !byte.is_ascii_digit() {
+        let digit = digit_of(text[place]);
+        if digit > 9 {
             return None;
         }
-        value = value * 10 + u32::from(byte - b'0');
+        value = value * 10 + digit;
         if text[place + 1] == end {
             return Some((value, &text[place + 2..]));
         }
     }
     None
+}
+
+// The value of a digit, and more than 9 for any other byte. One subtraction serves for the test and for the value.
+#[inline(always)]
+fn digit_of(byte: u8) -> u32
+    ensures { result ≤ 9 → byte ≡ 48 + result }
+{
+    u32::from(byte).wrapping_sub(u32::from(b'0'))
 }
 
 // two hexadecimal digits and the end of the line
