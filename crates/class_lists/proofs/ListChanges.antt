@@ -3,9 +3,8 @@ use Rattle.std.proofs.Common.{◌≡◌, ◌≢◌, ℕ, ◌+◌, ◌<◌, ◌�
 use Rattle.std.specs.Prelude.{Contains}
 use Rattle.heap_theory.specs.Links.{IsLinked}
 use Rattle.heap_theory.specs.Region.{Region, next_in, with_slot_link}
-use Rattle.heap_theory.proofs.ListSearch.{Contains-cases, Contains-tail, AllPairs-first, few_below}
-use Rattle.heap_theory.proofs.Linked.{IsLinked-first, IsLinked-none, IsLinked-same}
-pub use Rattle.heap_theory.proofs.Linked.{IsLinked-once as each_once, IsLinked-one as one_list}
+use Rattle.heap_theory.proofs.ListSearch.{Contains-cases, Contains-tail, AllPairs-first}
+use Rattle.heap_theory.proofs.Linked.{IsLinked-first, IsLinked-none, IsLinked-once, IsLinked-same}
 use Rattle.heap_theory.proofs.Regions.{as_many_headers, other_link}
 use Rattle.class_lists.specs.Lists.{ShowsList}
 
@@ -51,14 +50,9 @@ shown_rest region s rest shown = record { linked = shown.linked.1; slots = λ r 
 pub first_not_in_rest : (region : Region) (s : ℕ) (rest : List ℕ) → ShowsList region (s + 1) (s ∷ rest) →
     Contains rest s → ⊥
 first_not_in_rest region s rest shown there =
-    AllPairs-first (λ s r. s ≢ r) s rest s (each_once (next_in region) (s + 1) (s ∷ rest) shown.linked) there refl
+    AllPairs-first (λ s r. s ≢ r) s rest s (IsLinked-once (next_in region) (s + 1) (s ∷ rest) shown.linked) there refl
 
--- distinct numbers below the number of slots are no more than that
-pub shown_short : (region : Region) (front : ℕ) (list : List ℕ) → ShowsList region front list
-    → length list ≤ length region.headers
-shown_short region front list shown =
-    few_below (length region.headers) list shown.slots (each_once (next_in region) front list shown.linked)
-
+-- and the front is 0 or the number of a slot of the region plus one
 pub front_within : (region : Region) (front : ℕ) (list : List ℕ) → ShowsList region front list →
     front ≤ length region.headers
 front_within region front [] shown = omega (arith, shown.linked)

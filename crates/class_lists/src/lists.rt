@@ -60,8 +60,8 @@ impl ClassLists {
     }
 
     /// Takes the first slot off the list of a class, given by its number. `None` if the list is empty.
-    /// The front of the list must be 0, or the number of a slot of the layout plus one; `law_lists` says so of each list that the links
-    /// show. The slot's link becomes 0, and nothing else of the memory changes.
+    /// The front of the list must be 0, or the number of a slot of the layout plus one, as that of each list that the links show is
+    /// (`front_within`). The slot's link becomes 0, and nothing else of the memory changes.
     pub fn pop(&mut self, memory: &mut Memory, layout: &Layout, number: usize) -> Option<u32>
         requires number { number < length self.old }
         requires front { slice_index self.old number ≤ slot_count layout.now }

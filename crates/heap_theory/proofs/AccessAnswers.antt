@@ -1,19 +1,19 @@
 -- When each answer of an access is given.
-use Rattle.std.proofs.Common.{◌≡◌, ◌≢◌, ℕ, ◌<◌, ◌≤◌, ◌∷◌, ◌++◌, [], true, not, List, length, refl, sym, ap, ◌∙◌, subst, inl, inr, arith, Some, None, Option}
-use Rattle.std.specs.Prelude.{◌↔◌, ◌==◌, replicate, slice_get, option_map, IsSome}
+use Rattle.std.proofs.Common.{◌≡◌, ◌≢◌, ℕ, ◌<◌, ◌∷◌, ◌++◌, [], true, not, List, length, refl, sym, ap, ◌∙◌, subst, inl, inr, arith, Some, None, Option}
+use Rattle.std.specs.Prelude.{◌↔◌, ◌==◌, replicate, slice_get, option_map, IsSome, ℤ}
 use Rattle.std.specs.List.{find}
 use Rattle.std.proofs.lemmas.Bool.{both_ways, cases_Bool, cases_eq, cond-true, cond-false, false≢true}
 use Rattle.std.proofs.lemmas.List.{length-replicate}
 use Rattle.machine_theory.specs.declared.fault.Fault.{Fault}
-use Rattle.machine_theory.specs.declared.fault.Fault.TheVariants.{Unmapped, Alignment, TagCheck}
-use Rattle.machine_theory.specs.Access.{IsMapped, IsTagFault, access_fault, is_mapped, stored, tag_fault, touched}
+use Rattle.machine_theory.specs.declared.fault.Fault.TheVariants.{Unmapped, TagCheck}
+use Rattle.machine_theory.specs.Access.{IsMapped, IsTagFault, access_fault, is_mapped, stored, tag_fault, touched, loaded}
 use Rattle.machine_theory.specs.Address.{logical_tag, moved_by, Touches}
 use Rattle.machine_theory.specs.Memory.{tag_at}
 use Rattle.heap_theory.proofs.TheoryLemmas as laws
 use Rattle.heap_theory.specs.declared.event.Event.{Event}
 use Rattle.heap_theory.specs.declared.event.Event.TheVariants.{Load, Store}
 use Rattle.heap_theory.specs.declared.place_kind.PlaceKind.{PlaceKind}
-use Rattle.heap_theory.specs.AccessLaws.{IsAnswerTo, LoadIsAnswered, StoreIsAnswered, StoreIsDone, AllAccessesAreAnswered}
+use Rattle.heap_theory.specs.AccessLaws.{IsAnswerTo, AccessesAreAnswered}
 use Rattle.heap_theory.specs.GranuleKinds.{place_kind}
 use Rattle.heap_theory.specs.Replay.{Replay, Answer, IsFaultAnswer, is_tag_fault, variable, store_with, store_step, heap_after, replay_after, access_answer, answer_of, answers, replay_of}
 use Rattle.heap_theory.specs.Replay.Answer.{Silent, Loaded, NotMapped, TagFault, NoPointer, NotFreed}
@@ -22,12 +22,7 @@ use Rattle.heap_theory.specs.State.{Heap}
 -- ---- which answers are faults
 
 tag_fault_faults : (a : Answer) → is_tag_fault a ≡ true → IsFaultAnswer a
-tag_fault_faults Silent is = absurd (false≢true is)
-tag_fault_faults (Loaded bytes) is = absurd (false≢true is)
-tag_fault_faults NotMapped is = refl
-tag_fault_faults (TagFault g m p kind) is = refl
-tag_fault_faults (NoPointer cause) is = absurd (false≢true is)
-tag_fault_faults (NotFreed error) is = absurd (false≢true is)
+tag_fault_faults x0 is = grind arith
 
 -- what a tag fault says of the access; any other answer says nothing of one
 abbrev Names : Heap → ℕ → ℕ → Answer → Type 0
@@ -42,12 +37,7 @@ Names h address len (NotFreed error) = ⊥
 
 module _ (h : Heap) (address len : ℕ) (done : Answer) (no_fault : IsFaultAnswer done → ⊥) where
   unmapped_answer : (IsMapped (length h.memory) address len → ⊥) → IsAnswerTo h address len done NotMapped
-  unmapped_answer never = record {
-    unmapped = (λ is. never, λ it. refl);
-    tag_fault = (λ is. absurd (false≢true is), λ it. absurd (never it.0));
-    names = λ g m p kind. (λ is. absurd (false≢true (ap is_tag_fault is)), λ it. absurd (never it.0.mapped));
-    succeeds = (λ is. absurd (no_fault (subst IsFaultAnswer is refl)), λ it. absurd (never it.0));
-  }
+  unmapped_answer never = grind arith
 
   tag_answer : (g m p : ℕ) → IsTagFault h.memory address len g m p → IsAnswerTo h address len done (TagFault g m p (place_kind h g))
   tag_answer g m p t = record {
@@ -63,14 +53,7 @@ module _ (h : Heap) (address len : ℕ) (done : Answer) (no_fault : IsFaultAnswe
       -- one granule is the lowest
       same : (g' m' p' : ℕ) (kind : PlaceKind) → IsTagFault h.memory address len g' m' p' → kind ≡ place_kind h g' →
           TagFault g m p (place_kind h g) ≡ TagFault g' m' p' kind
-      same g' m' p' kind u kind_is =
-          let low : g ≤ g' = t.least g' u.touches (λ is. u.differs (u.memory_tag_is ∙ is ∙ sym u.pointer_tag_is)) in
-          let high : g' ≤ g = u.least g t.touches differs in
-          let granule : g ≡ g' = omega arith in
-          let memory_tag : m ≡ m' = t.memory_tag_is ∙ ap (tag_at h.memory) granule ∙ sym u.memory_tag_is in
-          let pointer_tag : p ≡ p' = t.pointer_tag_is ∙ sym u.pointer_tag_is in
-          let place : place_kind h g ≡ kind = ap (place_kind h) granule ∙ sym kind_is in
-          λ i. TagFault (granule i) (memory_tag i) (pointer_tag i) (place i)
+      same g' m' p' kind u kind_is = grind arith
 
   done_answer : IsMapped (length h.memory) address len → ((g : ℕ) → Touches address len g → tag_at h.memory g ≡ logical_tag address) →
       IsAnswerTo h address len done done
@@ -119,21 +102,23 @@ module _ (h : Heap) (address len : ℕ) (done : Answer) (no_fault : IsFaultAnswe
 
 -- ---- loads and stores
 
-pub load_is_answered : LoadIsAnswered
+pub load_is_answered : (replay : Replay) (v : ℕ) (off : ℤ) (len : ℕ) → 0 < len → let address = moved_by (variable replay v) off in
+    let done = Loaded (loaded replay.heap.memory address len) in IsAnswerTo replay.heap address len done (answer_of replay (Load v off len))
 unfolding answer_of
 load_is_answered r v off len some = access_is_answered r.heap (moved_by (variable r v) off) len _ false≢true some
 
-pub store_is_answered : StoreIsAnswered
+pub store_is_answered : (replay : Replay) (v : ℕ) (off : ℤ) (len byte : ℕ) → 0 < len →
+    IsAnswerTo replay.heap (moved_by (variable replay v) off) len Silent (answer_of replay (Store v off len byte))
 unfolding answer_of
 store_is_answered r v off len byte some = access_is_answered r.heap (moved_by (variable r v) off) len Silent false≢true some
 
 -- a fault is not silent
 not_silent : (h : Heap) (fault : Fault) → access_answer h Silent (Some fault) ≡ Silent → ⊥
-not_silent h Unmapped is = cc
-not_silent h Alignment is = cc
-not_silent h (TagCheck g m p) is = cc
+not_silent h x1 is = grind arith
 
-pub store_is_done : StoreIsDone
+pub store_is_done : (replay : Replay) (v : ℕ) (off : ℤ) (len byte : ℕ) → let address = moved_by (variable replay v) off in
+    let answer = answer_of replay (Store v off len byte) in let after = heap_after replay (Store v off len byte) in (answer ≡ Silent → after
+    ≡ record replay.heap { memory = stored replay.heap.memory address (replicate len byte) }) × (answer ≢ Silent → after ≡ replay.heap)
 unfolding answer_of heap_after store_step
 store_is_done r v off len byte =
     rw length-replicate (by (access_fault r.heap.memory (moved_by (variable r v) off) len))
@@ -154,7 +139,7 @@ unfolding answers replay_of
 answer_at first [] e after = refl
 answer_at first (event ∷ before) e after = answer_at (replay_after first event) before e after
 
-pub accesses_are_answered : AllAccessesAreAnswered
+pub accesses_are_answered : (first : Replay) (events : List Event) → AccessesAreAnswered first events
 accesses_are_answered first events = record {
   loads = λ before after v off len is some. (
     answer_of (replay_of first before) (Load v off len),
@@ -171,3 +156,5 @@ accesses_are_answered first events = record {
     at : (before after : List Event) (e : Event) → events ≡ before ++ e ∷ after →
         slice_get (answers first events) (length before) ≡ Some (answer_of (replay_of first before) e)
     at before after e is = ap (λ all. slice_get (answers first all) (length before)) is ∙ answer_at first before e after
+
+pub ruleset access_laws = (load_is_answered, store_is_answered, store_is_done, accesses_are_answered)

@@ -1,8 +1,7 @@
 -- Each call keeps a sound heap, and gives out a slot or leaves what was given out.
-use Rattle.std.proofs.Common.{◌≡◌, ℕ, ◌*◌, ◌<◌, Bool, true, false, cond, List, length, get_or, refl, sym, ap, ◌∙◌, subst, inl, inr, ⊎_elim, Some, None, Option, Result, Ok, Err}
+use Rattle.std.proofs.Common.{arith, ◌≡◌, ℕ, ◌*◌, ◌<◌, Bool, true, false, cond, List, length, get_or, refl, sym, ◌∙◌, subst, Some, None, Option, Result, Ok, Err}
 use Rattle.std.specs.Prelude.{◌==◌, slice_set, min, replicate}
 use Rattle.std.specs.Result.{result_ok}
-use Rattle.std.proofs.lemmas.Bool.{cases_eq, both_ways}
 use Rattle.std.proofs.lemmas.List.{get_or-set_same, get_or-set_other}
 use Rattle.machine_theory.specs.declared.fault.Fault.{Fault}
 use Rattle.machine_theory.specs.Access.{access_fault}
@@ -15,7 +14,7 @@ use Rattle.heap_theory.specs.Lookups.{Chunk, IsReusable, MayBeGiven, IsLiveChunk
 use Rattle.heap_theory.specs.Replay.{store_with, store_step}
 use Rattle.heap_theory.specs.Sound.{IsSoundHeap}
 use Rattle.class_table.specs.Sizes.{chunk_granules}
-use Rattle.heap_theory.specs.State.{State, Heap, state_at, last_tag, is_fresh, is_released}
+use Rattle.heap_theory.specs.State.{State, Heap, state_at, last_tag, is_fresh}
 use Rattle.heap_theory.specs.State.State.{Fresh, Live, Dead}
 use Rattle.heap_theory.proofs.Lookups.{slot_for_request-cases, chunk_at-is, room_in_place}
 use Rattle.heap_theory.proofs.HeapKept.{in_states, IsSoundHeap-given_out, IsSoundHeap-resized, IsSoundHeap-freed, IsSoundHeap-written, IsSoundHeap-with_payload}
@@ -33,13 +32,7 @@ pub KeepsGiven-refl : (h : Heap) → KeepsGiven h h
 KeepsGiven-refl h = record { layout = refl; limit = refl; last = λ s. refl; fresh = λ s. refl; dead = λ s n t m is. is }
 
 KeepsGiven-trans : (a b c : Heap) → KeepsGiven a b → KeepsGiven b c → KeepsGiven a c
-KeepsGiven-trans a b c p q = record {
-  layout = q.layout ∙ p.layout;
-  limit = q.limit ∙ p.limit;
-  last = λ s. q.last s ∙ p.last s;
-  fresh = λ s. q.fresh s ∙ p.fresh s;
-  dead = λ s n t m is. q.dead s n t m (p.dead s n t m is);
-}
+KeepsGiven-trans a b c p q = grind arith
 
 KeepsGiven-written : (h : Heap) (i : ℕ) (bytes : List ℕ) → KeepsGiven h (record h { memory = written i bytes h.memory })
 KeepsGiven-written h i bytes = record { layout = refl; limit = refl; last = λ s. refl; fresh = λ s. refl; dead = λ s n t m is. is }
@@ -52,47 +45,21 @@ KeepsGiven-with_payload h s bytes = KeepsGiven-written h _ bytes
 module _ (h : Heap) (s : ℕ) (state : State) (n t : ℕ) (in_range : s < length h.states) (live : state_at h s ≡ Live n t)
     (same : last_tag state ≡ last_tag (state_at h s)) (not_fresh : is_fresh state ≡ false) where
   kept_last : (r : ℕ) → last_tag (get_or (slice_set h.states s state) r Fresh) ≡ last_tag (state_at h r)
-  kept_last r = elim (cases_eq r s) [
-    | inl is ↦
-        subst (λ q. last_tag (get_or (slice_set h.states s state) q Fresh) ≡ last_tag (state_at h q)) (sym is)
-        (ap last_tag (get_or-set_same h.states s state Fresh in_range) ∙ same)
-    | inr not ↦ ap last_tag (get_or-set_other h.states s r state Fresh not)
-  ]
+  kept_last r = grind (arith, get_or-set_other, get_or-set_same)
 
   kept_fresh : (r : ℕ) → is_fresh (get_or (slice_set h.states s state) r Fresh) ≡ is_fresh (state_at h r)
-  kept_fresh r = elim (cases_eq r s) [
-    | inl is ↦
-        subst (λ q. is_fresh (get_or (slice_set h.states s state) q Fresh) ≡ is_fresh (state_at h q)) (sym is)
-        (ap is_fresh (get_or-set_same h.states s state Fresh in_range) ∙ not_fresh ∙ sym (ap is_fresh live))
-    | inr not ↦ ap is_fresh (get_or-set_other h.states s r state Fresh not)
-  ]
+  kept_fresh r = grind (arith, get_or-set_other, get_or-set_same)
 
   kept_dead : (r m u k : ℕ) → state_at h r ≡ Dead m u k → get_or (slice_set h.states s state) r Fresh ≡ Dead m u k
-  kept_dead r m u k was = elim (cases_eq r s) [
-    | inl is ↦ let clash : Dead m u k ≡ Live n t = sym (subst (λ q. state_at h q ≡ Dead m u k) is was) ∙ live in absurd cc
-    | inr not ↦ get_or-set_other h.states s r state Fresh not ∙ was
-  ]
+  kept_dead r m u k was = grind (arith, get_or-set_other)
 
 KeepsGiven-freed : (h : Heap) (s n t : ℕ) → s < length h.states → state_at h s ≡ Live n t → KeepsGiven h (freed h s n)
 unfolding freed
-KeepsGiven-freed h s n t within live =
-    record {
-      layout = refl;
-      limit = refl;
-      last = kept_last h s (Dead n (last_tag (state_at h s)) h.total) n t within live refl refl;
-      fresh = kept_fresh h s (Dead n (last_tag (state_at h s)) h.total) n t within live refl refl;
-      dead = kept_dead h s (Dead n (last_tag (state_at h s)) h.total) n t within live refl refl;
-    }
+KeepsGiven-freed h s n t within live = grind (arith, kept_dead, kept_fresh, kept_last)
 
 pub KeepsGiven-resized : (h : Heap) (s n m t : ℕ) → s < length h.states → state_at h s ≡ Live m t → KeepsGiven h (resized h s n)
 unfolding resized
-KeepsGiven-resized h s n m t within live = record {
-  layout = refl;
-  limit = refl;
-  last = kept_last h s (Live n (last_tag (state_at h s))) m t within live refl refl;
-  fresh = kept_fresh h s (Live n (last_tag (state_at h s))) m t within live refl refl;
-  dead = kept_dead h s (Live n (last_tag (state_at h s))) m t within live refl refl;
-}
+KeepsGiven-resized h s n m t within live = grind (arith, kept_dead, kept_fresh, kept_last)
 
 -- ---- what a call changes
 
@@ -141,10 +108,7 @@ layout-with_payload h s bytes = refl
 
 -- a live slot is not given out
 pub not_reusable : (h : Heap) (s size t : ℕ) → IsReusable h s → state_at h s ≡ Live size t → ⊥
-not_reusable h s size t reusable live = ⊎_elim
-    (λ fresh. both_ways _ (ap is_fresh live) fresh)
-    (λ released. both_ways _ (ap (is_released h) live) released)
-    reusable.free
+not_reusable h s size t reusable live = grind arith
 
 -- ---- a chunk is moved
 

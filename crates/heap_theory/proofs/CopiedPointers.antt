@@ -1,5 +1,5 @@
 -- ADDG and SUBG by 0 and 0 leave an address as it is, if its tag is not 0.
-use Rattle.std.proofs.Common.{◌≡◌, ◌≢◌, ℕ, zero, suc, ◌+◌, ◌*◌, ◌-◌, ◌%◌, ◌^◌, ◌<◌, List, false, length, get_or, set, refl, sym, ap, ◌∙◌, subst, inr, arith, Some, None, Option}
+use Rattle.std.proofs.Common.{◌≡◌, ◌≢◌, ℕ, zero, suc, ◌^◌, ◌<◌, List, false, length, get_or, set, refl, sym, ◌∙◌, subst, inr, arith, Some, None, Option}
 use Rattle.std.specs.Prelude.{◌==◌}
 use Rattle.std.proofs.lemmas.Bool.{cond-false, eqb-true, false_from_ne_true}
 use Rattle.std.proofs.lemmas.List.{get_or-set_same}
@@ -13,7 +13,7 @@ use Rattle.heap_theory.specs.Hardening.{HasGeneration, PointersAreCopied}
 use Rattle.heap_theory.specs.Replay.{variable, heap_after, variables_after, replay_after}
 use Rattle.heap_theory.specs.Run.{Run, Generation, generation_of, generations_after, moved_generation, run_after}
 use Rattle.heap_theory.specs.declared.event.Event.TheVariants.{Addg, Subg}
-use Rattle.heap_theory.specs.State.{Heap, slot_in, payload_place}
+use Rattle.heap_theory.specs.State.{Heap}
 
 tag_stays : (tag : ℕ) → tag < 16 → tag ≢ 0 → choose_tag tag 0 1 ≡ tag
 unfolding choose_tag
@@ -29,17 +29,11 @@ own_tag a = omega arith
 
 addg-copies : (a : ℕ) → a < 2 ^ 64 → logical_tag a ≢ 0 → addg a 0 0 ≡ a
 unfolding addg
-addg-copies a small some =
-    let same : (a + 16 * 0) % 2 ^ 64 ≡ a = omega arith in
-    ap (with_tag ((a + 16 * 0) % 2 ^ 64)) (tag_stays (logical_tag a) (laws.tag_fits a) some)
-    ∙ ap (λ x. with_tag x (logical_tag a)) same ∙ own_tag a
+addg-copies a small some = grind (arith, own_tag, small, tag_stays, laws.tag_fits)
 
 subg-copies : (a : ℕ) → a < 2 ^ 64 → logical_tag a ≢ 0 → subg a 0 0 ≡ a
 unfolding subg
-subg-copies a small some =
-    let same : (a + (2 ^ 64 - 16 * 0)) % 2 ^ 64 ≡ a = omega arith in
-    ap (with_tag ((a + (2 ^ 64 - 16 * 0)) % 2 ^ 64)) (tag_stays (logical_tag a) (laws.tag_fits a) some)
-    ∙ ap (λ x. with_tag x (logical_tag a)) same ∙ own_tag a
+subg-copies a small some = grind (arith, own_tag, small, tag_stays, laws.tag_fits)
 
 -- an address with a generation
 module _ (h : Heap) (times : List ℕ) (sound : IsSoundHeap h) (a s time : ℕ) (i : IsAddressOf h times a s time) where
@@ -47,14 +41,7 @@ module _ (h : Heap) (times : List ℕ) (sound : IsSoundHeap h) (a s time : ℕ) 
   tagged none = let some : 0 < logical_tag a = i.tag.not_zero in omega arith
 
   small : a < 2 ^ 64
-  small =
-      let inside = sound.slots.inside s i.in_range in
-      let wide = sound.slots.wide s i.in_range in
-      let most = sound.partition.most in
-      let place : payload_place (slot_in h s) < 2 ^ 56 = omega arith in
-      let below : logical_tag a < 16 = laws.tag_fits a in
-      let plain : with_tag (payload_place (slot_in h s)) (logical_tag a) < 2 ^ 60 = omega arith in
-      subst (λ x. x < 2 ^ 64) (sym i.address_is) (omega arith)
+  small = grind (arith, laws.tag_fits)
 
   pub addg-address : addg a 0 0 ≡ a
   addg-address = addg-copies a small tagged

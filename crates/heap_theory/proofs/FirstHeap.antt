@@ -4,8 +4,9 @@ use Rattle.std.proofs.lemmas.Bool.{cases_lt, cond_both}
 use Rattle.std.proofs.lemmas.List.{get_or-replicate, length-replicate, get_or_past}
 use Rattle.std.proofs.lemmas.List.FromFn.{get_or-map-range_with_len, length-map-range_with_len}
 use Rattle.machine_theory.specs.Memory.{Granule, no_granule, new_granule, tag_at}
-use Rattle.class_table.specs.Layout.{Partition, IsPartition, slot_count, slot_of, AreInOrder}
+use Rattle.class_table.specs.Layout.{Partition, IsPartition, slot_count, slot_of}
 use Rattle.machine_theory.proofs.MemoryLaws.{tag_at_past}
+use Rattle.heap_theory.proofs.TheoryLemmas as laws
 use Rattle.heap_theory.specs.Sound.{IsTaggedSlot, IfDead, IsSoundHeap}
 use Rattle.heap_theory.specs.State.{is_header_granule, first_memory, first_heap}
 use Rattle.heap_theory.specs.State.State.{Fresh}
@@ -27,15 +28,13 @@ tag_at-first_memory layout g = ⊎_elim
     (cases_lt g layout.granules)
 
 pub get_or-replicate_any : {A : Type 0} (n i : ℕ) (a : A) → get_or (replicate n a) i a ≡ a
-get_or-replicate_any n i a = ⊎_elim
-    (λ within. get_or-replicate n i a a within)
-    (λ past. get_or_past (replicate n a) i a (subst (λ k. k ≤ i) (sym (length-replicate n a)) past))
-    (cases_lt i n)
+get_or-replicate_any n i a = grind (arith, cases_lt, get_or-replicate, get_or_past, length-replicate)
 
-pub IsSoundHeap-first : (layout : Partition) (seed quarantine : ℕ) → IsPartition layout → AreInOrder layout →
+pub IsSoundHeap-first : (layout : Partition) (seed quarantine : ℕ) → IsPartition layout →
     IsSoundHeap (first_heap layout seed quarantine)
 unfolding first_heap
-IsSoundHeap-first layout seed quarantine is order =
+IsSoundHeap-first layout seed quarantine is =
+    let order = laws.in_order 1 layout is.table in
     record {
       partition = is;
       slots = order;

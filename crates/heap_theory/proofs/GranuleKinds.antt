@@ -1,14 +1,14 @@
 -- What the kinds of granules mean.
 use Rattle.std.proofs.Common.{◌≡◌, ℕ, ◌+◌, ◌<◌, ◌≤◌, true, cond, refl, sym, ap, ◌∙◌, subst, inl, inr, arith, Some, None, Option}
 use Rattle.std.specs.Prelude.{◌==◌, nat_le, nat_lt}
-use Rattle.std.proofs.lemmas.Bool.{and_from, cases_eq, cases_lt, cond-true, cond-false, eq-eqb, false_from_ne_true, le-leb, lt-ltb, ltb-true, and_parts, ne_eqb, false≢true}
+use Rattle.std.proofs.lemmas.Bool.{and_from, cases_eq, cases_lt, cond-true, cond-false, eq-eqb, false_from_ne_true, le-leb, lt-ltb, ltb-true, and_parts, ne_eqb}
 use Rattle.machine_theory.specs.Memory.{is_among}
 use Rattle.class_table.specs.Layout.{Covers, slot_over}
 use Rattle.heap_theory.proofs.TheoryLemmas as laws
 use Rattle.heap_theory.specs.declared.place_kind.PlaceKind.{PlaceKind}
 use Rattle.heap_theory.specs.declared.place_kind.PlaceKind.TheVariants.{Slack, Header, Tail, Dead as DeadChunk, Other}
 use Rattle.heap_theory.specs.Hardening.{IsChunkGranule, IsPayloadGranule}
-use Rattle.heap_theory.specs.KindLaws.{IsOfItsKind, GranuleIsOfItsKind}
+use Rattle.heap_theory.specs.Hardening.{IsOfItsKind}
 use Rattle.heap_theory.specs.GranuleKinds.{kind_of_chunk, kind_in_slot, kind_at, place_kind}
 use Rattle.heap_theory.specs.Sound.{IsSoundHeap}
 use Rattle.heap_theory.specs.State.{State, Heap, IsLive, is_dead, slot_in, state_at, chunk_granules_of, payload_start, IsSlot}
@@ -71,14 +71,10 @@ module _ (h : Heap) (sound : IsSoundHeap h) (g : ℕ) where
       })))
 
   live_is : (x : State) → IsLive x → kind_of_chunk x ≡ Other
-  live_is Fresh live = absurd live
-  live_is (Live size tag) live = refl
-  live_is (Dead size tag mark) live = absurd live
+  live_is x live = grind arith
 
   dead_is : (x : State) → is_dead x ≡ true → kind_of_chunk x ≡ DeadChunk
-  dead_is Fresh dead = absurd (false≢true dead)
-  dead_is (Live size tag) dead = absurd (false≢true dead)
-  dead_is (Dead size tag mark) dead = refl
+  dead_is x dead = grind arith
 
   -- ---- the place of a granule whose kind is known
 
@@ -131,5 +127,5 @@ module _ (h : Heap) (sound : IsSoundHeap h) (g : ℕ) where
     tail = (λ is. subst Means is means, λ at. tail_is at.0 at.1 at.2);
   }
 
-pub is_of_its_kind : GranuleIsOfItsKind
+pub is_of_its_kind : (heap : Heap) → IsSoundHeap heap → (g : ℕ) → IsOfItsKind heap g
 is_of_its_kind h sound g = of_its_kind h sound g

@@ -2,7 +2,7 @@
 use Rattle.std.proofs.Common.{◌≡◌, ◌≢◌, ℕ, ◌+◌, ◌-◌, ◌*◌, ◌%◌, ◌^◌, ◌<◌, ◌≤◌, true, length, refl, sym, ap, ◌∙◌, subst, inl, inr, arith}
 use Rattle.std.specs.Prelude.{ℤ}
 use Rattle.std.proofs.lemmas.Bool.{false≢true}
-use Rattle.machine_theory.specs.Address.{logical_tag, place_of, with_tag, moved_by, region_start, Touches}
+use Rattle.machine_theory.specs.Address.{logical_tag, place_of, with_tag, region_start, Touches}
 use Rattle.machine_theory.specs.Memory.{tag_at}
 use Rattle.class_table.specs.Layout.{end_of}
 use Rattle.heap_theory.proofs.TheoryLemmas as laws
@@ -36,22 +36,12 @@ module _ (w : Run) (sound : IsSoundRun w) where
   -- ---- an access has the variable's tag
 
   near_region : (len address g : ℕ) → len ≤ 64 → g < length w.replay.heap.memory → Touches address len g → place_of address < 2 ^ 37
-  near_region len address g few within t =
-      let region_small = small in
-      let to : place_of address + t.0 < region_start + 16 * g + 16 = t.2.to in
-      omega arith
+  near_region len address g few within t = grind (arith, small)
 
   same_tag : (v : ℕ) (off : ℤ) (len address g : ℕ) → IsAccess w v off len address → g < length w.replay.heap.memory →
       Touches address len g →
       logical_tag address ≡ logical_tag (variable w.replay v)
-  same_tag v off len address g a within t =
-      let to : place_of address < 2 ^ 37 = near_region len address g a.few within t in
-      let from : region_start + 16 * g ≤ place_of address + t.0 = t.2.from in
-      let i_below : t.0 < len = t.1 in
-      let few : len ≤ 64 = a.few in
-      subst (λ x. logical_tag x ≡ logical_tag (variable w.replay v)) (sym a.address_is)
-      (laws.moved_tag (variable w.replay v) off t.0 a.near (omega arith)
-      (subst (λ x. region_start ≤ place_of x + t.0) a.address_is (omega arith)) (subst (λ x. place_of x < 2 ^ 37) a.address_is to))
+  same_tag v off len address g a within t = grind (arith, near_region, laws.moved_tag)
 
   -- so it is a fault where it touches a granule of another tag
   other_tag_faults : (v : ℕ) (off : ℤ) (len address g : ℕ) → IsAccess w v off len address → g < length w.replay.heap.memory →
@@ -62,14 +52,7 @@ module _ (w : Run) (sound : IsSoundRun w) where
 
   null_never_touches : (v : ℕ) (off : ℤ) (len address g : ℕ) → IsAccess w v off len address → g < length w.replay.heap.memory →
       Touches address len g → variable w.replay v ≡ 0 → ⊥
-  null_never_touches v off len address g a within t null =
-      let to : place_of address < 2 ^ 37 = near_region len address g a.few within t in
-      let from : region_start + 16 * g ≤ place_of address + t.0 = t.2.from in
-      let i_below : t.0 < len = t.1 in
-      let few : len ≤ 64 = a.few in
-      let moved : address ≡ moved_by 0 off = subst (λ x. address ≡ moved_by x off) null a.address_is in
-      laws.moved_null off t.0 a.near (omega arith) (subst (λ x. region_start ≤ place_of x + t.0) moved (omega arith))
-      (subst (λ x. place_of x < 2 ^ 37) moved to)
+  null_never_touches v off len address g a within t null = grind (arith, near_region, laws.moved_null)
 
   -- ---- bookkeeping
 

@@ -1,65 +1,41 @@
 -- A header that is written is read, and says how its slot stands.
-use Rattle.std.proofs.Common.{⊎_elim, ◌≡◌, ◌⊎◌, ℕ, zero, suc, ◌+◌, ◌*◌, ◌/◌, ◌%◌, ◌^◌, ◌<◌, ◌≤◌, false, ◌++◌, length, get_or, refl, sym, ap, ◌∙◌, inl, inr, arith, Some, None, Option}
-use Rattle.std.specs.Prelude.{◌==◌, All, slice_get, position, unwrap_or}
+use Rattle.std.proofs.Common.{⊎_elim, ◌≡◌, ◌⊎◌, ℕ, ◌+◌, ◌*◌, ◌%◌, ◌^◌, ◌<◌, ◌≤◌, false, length, get_or, refl, sym, ap, ◌∙◌, inl, inr, arith, Some, None, Option}
+use Rattle.std.specs.Prelude.{◌==◌, All, slice_get, position, unwrap_or, List, ◌≢◌}
 use Rattle.std.specs.Int.{w64, to_le_bytes, from_le_bytes}
-use Rattle.std.proofs.lemmas.Bool.{cases_Bool, cases_order, eq-eqb, eqb-true, both_ways}
-use Rattle.std.proofs.lemmas.List.Elements.{All-append, All-from_recursion}
+use Rattle.std.proofs.lemmas.Bool.{cases_order, eq-eqb, eqb-true, both_ways}
+use Rattle.std.proofs.lemmas.List.Elements.{All-from_recursion}
 use Rattle.std.proofs.lemmas.List.Quantifiers.{position-Some}
 use Rattle.std.proofs.lemmas.Option.{slice_get-get_or, slice_get_within}
-use Rattle.machine_theory.specs.Memory.{IsMemory, word_at, written}
+use Rattle.machine_theory.specs.Memory.{IsMemory, word_at, written, Granule, tagged}
 use Rattle.class_table.specs.Layout.{Partition, slot_count, slot_of}
 use Rattle.class_table.specs.Tables.{IsLegalTable}
 use Rattle.heap_theory.proofs.TheoryLemmas as laws
-use Rattle.heap_theory.specs.Header.{Standing, code_of, standing_of, first_word, second_word, header_of, header_at, with_header, shown_state, size_of, standing_in, class_number, header_with, header_for}
-use Rattle.heap_theory.specs.Header.Standing.{Fresh, Live, Quarantined, Freed}
-use Rattle.heap_theory.specs.Sound.{IfDead, IsChunkTag}
-use Rattle.heap_theory.specs.State.{State, slot_in, state_at, last_tag, chunk_granules_of, is_released, mark_of}
+use Rattle.heap_theory.specs.Header.{Standing, code_of, standing_of, first_word, second_word, header_of, header_at, with_header, size_of, class_number, header_for, Header, FitsWords}
+use Rattle.heap_theory.specs.Sound.{IfDead, IsChunkTag, IsSoundHeap}
+use Rattle.heap_theory.specs.State.{State, slot_in, state_at, last_tag, chunk_granules_of, mark_of, Heap, IsSlot}
 use Rattle.heap_theory.specs.State.State.{Fresh as NeverGiven, Live as Given, Dead}
 use Rattle.heap_theory.proofs.ListSearch.{position-None}
-use Rattle.heap_theory.specs.HeaderLaws.{HeaderIsReadFromWords, WordsAreOfHeader, WordsFit, ReadHeaderFits, HeaderShowsState, ClassIsAtItsNumber, SlotHeaderFits, HeaderIsTwoWords, WrittenHeaderIsRead, OtherHeadersStay, HeaderKeepsTags, HeaderKeepsMemory, TagsKeepHeaders, OtherBytesKeepHeaders}
+use Rattle.machine_theory.specs.declared.sizes.TheConstants.{GRANULE_BYTES}
 
 -- ---- words
 
 code_fits : (standing : Standing) → code_of standing < 4
-code_fits Fresh = omega arith
-code_fits Live = omega arith
-code_fits Quarantined = omega arith
-code_fits Freed = omega arith
+code_fits x0 = grind arith
 
 standing_of-code_of : (standing : Standing) → standing_of (code_of standing) ≡ standing
-standing_of-code_of Fresh = refl
-standing_of-code_of Live = refl
-standing_of-code_of Quarantined = refl
-standing_of-code_of Freed = refl
+standing_of-code_of x0 = grind arith
 
-pub header_of-words : HeaderIsReadFromWords
-header_of-words header fits =
-    let code = code_fits header.standing in
-    let code_is : first_word header % 2 ^ 2 ≡ code_of header.standing = omega arith in
-    let standing_is : standing_of (first_word header % 2 ^ 2) ≡ header.standing =
-    ap standing_of code_is ∙ standing_of-code_of header.standing in
-    let size_is : first_word header / 2 ^ 2 % 2 ^ 14 ≡ header.size = omega arith in
-    let tag_is : first_word header / 2 ^ 16 % 2 ^ 4 ≡ header.tag = omega arith in
-    let class_is : first_word header / 2 ^ 20 % 2 ^ 12 ≡ header.class = omega arith in
-    let next_is : first_word header / 2 ^ 32 ≡ header.next = omega arith in
-    λ i. record { standing = standing_is i; size = size_is i; tag = tag_is i; class = class_is i; next = next_is i; mark = header.mark }
+pub header_of-words : (header : Header) → FitsWords header → header_of (first_word header) (second_word header) ≡ header
+header_of-words header fits = grind (arith, code_fits, standing_of-code_of)
 
 pub code_of-standing_of : (code : ℕ) → code < 4 → code_of (standing_of code) ≡ code
-code_of-standing_of zero below = refl
-code_of-standing_of (suc zero) below = refl
-code_of-standing_of (suc (suc zero)) below = refl
-code_of-standing_of (suc (suc (suc zero))) below = refl
-code_of-standing_of (suc (suc (suc (suc code)))) below = absurd (omega arith)
+code_of-standing_of x0 below = grind arith
 
-pub words-header_of : WordsAreOfHeader
+pub words-header_of : (first second : ℕ) → (first_word (header_of first second) ≡ first) × (second_word (header_of first second) ≡ second)
 words-header_of first second = let code = code_of-standing_of (first % 2 ^ 2) (omega arith) in (omega arith, refl)
 
-pub words_fit : WordsFit
+pub words_fit : (header : Header) → FitsWords header → (first_word header < 2 ^ 64) × (second_word header < 2 ^ 64)
 words_fit header fits = let code = code_fits header.standing in (omega arith, fits.mark)
-
-pub header_of-fits : ReadHeaderFits
-header_of-fits first second one other class =
-    record { size = omega arith; tag = omega arith; class = class; next = omega arith; mark = other }
 
 -- ---- in memory
 
@@ -67,19 +43,14 @@ bytes_fit : (n : ℕ) → All (λ b. b < 256) (to_le_bytes w64 n)
 bytes_fit n = All-from_recursion (λ b. b < 256) (to_le_bytes w64 n)
     (omega arith, (omega arith, (omega arith, (omega arith, (omega arith, (omega arith, (omega arith, (omega arith, tt))))))))
 
-pub with_header-words : HeaderIsTwoWords
+pub with_header-words : (memory : List Granule) (g : ℕ) (header : Header) → with_header memory g header
+    ≡ written (GRANULE_BYTES * g + 8) (to_le_bytes w64 (second_word header)) (written (GRANULE_BYTES * g) (to_le_bytes w64 (first_word header)) memory)
 unfolding with_header
 with_header-words memory g header =
     sym (laws.in_parts (16 * g) (to_le_bytes w64 (first_word header)) (to_le_bytes w64 (second_word header)) memory)
 
-pub IsMemory-with_header : HeaderKeepsMemory
-unfolding with_header
-IsMemory-with_header memory g header is =
-    laws.memory_written (16 * g) (to_le_bytes w64 (first_word header) ++ to_le_bytes w64 (second_word header)) memory
-    (All-append (λ b. b < 256) (to_le_bytes w64 (first_word header)) (to_le_bytes w64 (second_word header)) (bytes_fit (first_word header))
-    (bytes_fit (second_word header))) is
-
-pub header_at-with_header : WrittenHeaderIsRead
+pub header_at-with_header : (memory : List Granule) (g : ℕ) (header : Header) → IsMemory memory → g < length memory → FitsWords header →
+    header_at (with_header memory g header) g ≡ header
 unfolding header_at word_at
 header_at-with_header memory g header is within fits =
     let fit = words_fit header fits in
@@ -99,7 +70,8 @@ header_at-with_header memory g header is within fits =
     (λ i. header_of (first i) (second i)) ∙ header_of-words header fits
 
 -- bytes outside of a granule leave its header as it is
-pub header_at-written : OtherBytesKeepHeaders
+pub header_at-written : (i g : ℕ) (new : List ℕ) (memory : List Granule) →
+    (i + length new ≤ GRANULE_BYTES * g) ⊎ (GRANULE_BYTES * g + GRANULE_BYTES ≤ i) → header_at (written i new memory) g ≡ header_at memory g
 unfolding header_at word_at
 header_at-written i g new memory out =
     λ j. header_of
@@ -109,44 +81,20 @@ header_at-written i g new memory out =
     apart : (at : ℕ) → (16 * g ≤ at) × (at + 8 ≤ 16 * g + 16) → (at + 8 ≤ i) ⊎ (i + length new ≤ at)
     apart at inside = ⊎_elim (λ before. inr (omega (arith, inside.0))) (λ after. inl (omega (arith, inside.1))) out
 
-pub header_at-tagged : TagsKeepHeaders
+pub header_at-tagged : (first count tag g : ℕ) (memory : List Granule) → header_at (tagged first count tag memory) g ≡ header_at memory g
 unfolding header_at word_at
-header_at-tagged first count tag g memory =
-    λ j. header_of
-    (from_le_bytes w64 (laws.bytes_under_tags first count tag (16 * g) 8 memory j))
-    (from_le_bytes w64 (laws.bytes_under_tags first count tag (16 * g + 8) 8 memory j))
+header_at-tagged first count tag g memory = grind (arith, laws.bytes_under_tags)
 
-pub header_at-elsewhere : OtherHeadersStay
+pub header_at-elsewhere : (memory : List Granule) (g k : ℕ) (header : Header) → k ≢ g → header_at (with_header memory g header) k
+    ≡ header_at memory k
 unfolding with_header
-header_at-elsewhere memory g k header differs =
-    header_at-written (16 * g) k (to_le_bytes w64 (first_word header) ++ to_le_bytes w64 (second_word header)) memory
-    (elim (cases_order k g) [
-      | inl same ↦ absurd (differs same)
-      | inr (inl before) ↦ inr (omega arith)
-      | inr (inr after) ↦ inl (omega arith)
-    ])
-
-pub tag_at-with_header : HeaderKeepsTags
-unfolding with_header
-tag_at-with_header memory g k header =
-    laws.tag_under_bytes (16 * g) k (to_le_bytes w64 (first_word header) ++ to_le_bytes w64 (second_word header)) memory
+header_at-elsewhere memory g k header differs = grind (arith, cases_order, header_at-written)
 
 -- ---- the headers of a heap
 
-pub shown_state-header_for : HeaderShowsState
-unfolding header_for
-shown_state-header_for h s next = by (state_at h s)
-  where
-    by : (x : State) → shown_state (header_with h.layout s (standing_in h x) x next) ≡ x
-    by NeverGiven = refl
-    by (Given n t) = refl
-    by (Dead n t m) = elim (cases_Bool (is_released h (Dead n t m))) [
-      | inl released ↦ rw released refl
-      | inr held ↦ rw held refl
-    ]
-
 -- the class at its number
-pub class_number-is : ClassIsAtItsNumber
+pub class_number-is : (layout : Partition) (s : ℕ) → s < slot_count layout → slice_get layout.classes (class_number layout s)
+    ≡ Some (slot_of layout s).class
 class_number-is layout s within = by (position (λ class. class == (slot_of layout s).class) layout.classes) refl
   where
     by : (o : Option ℕ) → position (λ class. class == (slot_of layout s).class) layout.classes ≡ o →
@@ -168,11 +116,10 @@ class_number-few step layout s table within =
 
 -- a slot's size is at most 16,368 bytes
 pub size_of-most : (x : State) (class : ℕ) → chunk_granules_of x < class → class ≤ 1024 → size_of x ≤ 16368
-size_of-most NeverGiven class room most = omega arith
-size_of-most (Given n t) class room most = omega arith
-size_of-most (Dead n t m) class room most = omega arith
+size_of-most x0 class room most = grind arith
 
-pub header_for-fits : SlotHeaderFits
+pub header_for-fits : (heap : Heap) (s next : ℕ) → IsSoundHeap heap → IsSlot heap s → next < 2 ^ 32 → heap.total < 2 ^ 64 →
+    FitsWords (header_for heap s next)
 unfolding header_for
 header_for-fits h s next sound within link total = record {
   size =
@@ -193,6 +140,4 @@ header_for-fits h s next sound within link total = record {
     tag_fits (Dead n t m) tag is = is.0.below
 
     mark_fits : (x : State) → IfDead x (λ mark. mark < h.total) → mark_of x < 2 ^ 64
-    mark_fits NeverGiven is = omega arith
-    mark_fits (Given n t) is = omega arith
-    mark_fits (Dead n t m) is = omega arith
+    mark_fits x0 is = grind arith

@@ -6,13 +6,12 @@ use Rattle.std.proofs.lemmas.Option.{slice_get_within}
 use Rattle.machine_theory.specs.Memory.{Granule, word_at}
 use Rattle.class_table.specs.Layout.{slot_count, slot_of}
 use Rattle.heap_theory.specs.Header.{first_word, second_word, header_at, class_number, header_for}
-use Rattle.heap_theory.specs.HeaderLaws.{ClassIsAtItsNumber}
 use Rattle.heap_theory.specs.HeapInMemory.{IsKeptIn, HaveSameSlots, HeaderWordsStay}
 use Rattle.heap_theory.specs.Links.{IsLinked, list_of}
 use Rattle.heap_theory.specs.Region.{Region, header_in, next_in, region_of}
 use Rattle.heap_theory.specs.State.{Heap, state_at, is_dead, mark_of}
 use Rattle.heap_theory.proofs.ListSearch.{Contains-head, Contains-tail, Contains-cases, Contains-none, AllPairs-first}
-use Rattle.heap_theory.proofs.HeaderWords.{words-header_of}
+use Rattle.heap_theory.proofs.HeaderWords.{class_number-is, words-header_of}
 use Rattle.heap_theory.proofs.Regions.{header_in-region_of}
 
 -- ---- lists in an order
@@ -76,22 +75,22 @@ one_queue h seen seed tag m new a b =
     (λ r there. (a.queue_holds.slots r).1 ((b.queue_holds.slots r).0 there))
     (λ r there. (b.queue_holds.slots r).1 ((a.queue_holds.slots r).0 there))
 
-one_list : ClassIsAtItsNumber → (h : Heap) (seen : List Granule) (seed tag : ℕ) (m new : Region) → (a : IsKeptIn h m) →
+one_list : (h : Heap) (seen : List Granule) (seed tag : ℕ) (m new : Region) → (a : IsKeptIn h m) →
     (b : IsKeptIn (with_seen h seen seed tag) new) → (s : ℕ) → s < slot_count h.layout →
     list_of b.lists (class_number h.layout s) ≡ list_of a.lists (class_number h.layout s)
-one_list class_is h seen seed tag m new a b s within =
+one_list h seen seed tag m new a b s within =
     let number = class_number h.layout s in
     let class = (slot_of h.layout s).class in
-    let in_a = a.list_holds number class (class_is h.layout s within) in
-    let in_b = b.list_holds number class (class_is h.layout s within) in
+    let in_a = a.list_holds number class (class_number-is h.layout s within) in
+    let in_b = b.list_holds number class (class_number-is h.layout s within) in
     one_order (λ s r. mark_of (state_at h r) < mark_of (state_at h s)) (list_of b.lists number) (list_of a.lists number)
     (λ s r up down. omega (arith, up, down)) in_b.descending in_a.descending
     (λ r there. (in_a.slots r).1 ((in_b.slots r).0 there))
     (λ r there. (in_b.slots r).1 ((in_a.slots r).0 there))
 
-next_agrees : ClassIsAtItsNumber → (h : Heap) (seen : List Granule) (seed tag : ℕ) (m new : Region) → IsKeptIn h m →
+next_agrees : (h : Heap) (seen : List Granule) (seed tag : ℕ) (m new : Region) → IsKeptIn h m →
     IsKeptIn (with_seen h seen seed tag) new → (s : ℕ) → s < slot_count h.layout → next_in new s ≡ next_in m s
-next_agrees class_is h seen seed tag m new a b s within = elim (cases_Bool (is_dead (state_at h s))) [
+next_agrees h seen seed tag m new a b s within = elim (cases_Bool (is_dead (state_at h s))) [
   | inr alive ↦ b.unlinked s within alive ∙ sym (a.unlinked s within alive)
   | inl dead ↦ elim (cases_lt h.quarantine (h.total - mark_of (state_at h s))) [
     | inr held ↦
@@ -101,21 +100,21 @@ next_agrees class_is h seen seed tag m new a b s within = elim (cases_Bool (is_d
     | inl over ↦
         let number = class_number h.layout s in
         let class = (slot_of h.layout s).class in
-        let found = class_is h.layout s within in
+        let found = class_number-is h.layout s within in
         let numbered : number < length h.layout.classes = slice_get_within h.layout.classes number class found in
         let linked = b.list_linked number (omega (arith, numbered, b.fronts_long)) in
         links_agree (next_in m) (next_in new) _ _ (list_of a.lists number) s
         (a.list_linked number (omega (arith, numbered, a.fronts_long)))
-        (subst (IsLinked (next_in new) _) (one_list class_is h seen seed tag m new a b s within) linked)
+        (subst (IsLinked (next_in new) _) (one_list h seen seed tag m new a b s within) linked)
         (((a.list_holds number class found).slots s).1 (within, refl, and_from _ _ dead (lt-ltb _ _ over)))
   ]
 ]
 
-header_agrees : ClassIsAtItsNumber → (h : Heap) (seen : List Granule) (seed tag : ℕ) (m new : Region) → IsKeptIn h m →
+header_agrees : (h : Heap) (seen : List Granule) (seed tag : ℕ) (m new : Region) → IsKeptIn h m →
     IsKeptIn (with_seen h seen seed tag) new → (s : ℕ) → s < slot_count h.layout → header_in new s ≡ header_in m s
 unfolding header_for
-header_agrees class_is h seen seed tag m new a b s within =
-    b.headers s within ∙ ap (header_for h s) (next_agrees class_is h seen seed tag m new a b s within) ∙ sym (a.headers s within)
+header_agrees h seen seed tag m new a b s within =
+    b.headers s within ∙ ap (header_for h s) (next_agrees h seen seed tag m new a b s within) ∙ sym (a.headers s within)
 
 -- ---- and a header has each bit of its words
 
@@ -128,18 +127,10 @@ unfolding header_at
 second_of memory g = (words-header_of (word_at memory (16 * g)) (word_at memory (16 * g + 8))).1
 
 as_one : (h other : Heap) → HaveSameSlots h other → other ≡ with_seen h other.memory other.seed other.tag
-as_one h other same = λ i. record {
-  layout = same.layout i;
-  quarantine = same.quarantine i;
-  states = same.states i;
-  memory = other.memory;
-  total = same.total i;
-  seed = other.seed;
-  tag = other.tag;
-}
+as_one h other same = grind arith
 
-pub header_words_stay : ClassIsAtItsNumber → (h other : Heap) → HaveSameSlots h other → HeaderWordsStay h other
-header_words_stay class_is h other same m new a b = record {
+pub header_words_stay : (h other : Heap) → HaveSameSlots h other → HeaderWordsStay h other
+header_words_stay h other same m new a b = record {
   first = λ s within. let g = (slot_of h.layout s).start in sym (first_of new g) ∙ ap first_word (header s within) ∙ first_of m g;
   second = λ s within. let g = (slot_of h.layout s).start in sym (second_of new g) ∙ ap second_word (header s within) ∙ second_of m g;
 }
@@ -147,6 +138,6 @@ header_words_stay class_is h other same m new a b = record {
     header : (s : ℕ) → s < slot_count h.layout → header_at new (slot_of h.layout s).start ≡ header_at m (slot_of h.layout s).start
     header s within =
         sym (header_in-region_of h.layout new s within)
-        ∙ header_agrees class_is h other.memory other.seed other.tag (region_of h.layout m) (region_of h.layout new) a
+        ∙ header_agrees h other.memory other.seed other.tag (region_of h.layout m) (region_of h.layout new) a
         (subst (λ h. IsKeptIn h (region_of h.layout new)) (as_one h other same) b) s within
         ∙ header_in-region_of h.layout m s within

@@ -8,7 +8,7 @@ use Rattle.machine_theory.specs.Seed.{next_seed}
 use Rattle.class_table.specs.Layout.{Slot, end_of, slot_count, Covers, block_bytes}
 use Rattle.heap_theory.proofs.TheoryLemmas as laws
 use Rattle.heap_theory.specs.Calls.{next_tag, chunk_tagged, given_out, freed, resized, with_payload}
-use Rattle.heap_theory.specs.Sound.{IsTagOf, IsChunkTag, IsTaggedSlot, IfDead, IsSoundHeap}
+use Rattle.heap_theory.specs.Sound.{IsTagOf, IsTaggedSlot, IfDead, IsSoundHeap}
 use Rattle.class_table.specs.Sizes.{chunk_granules}
 use Rattle.heap_theory.specs.State.{State, Heap, slot_in, state_at, last_tag, chunk_granules_of, payload_start}
 use Rattle.heap_theory.specs.State.State.{Fresh, Live, Dead}
@@ -23,9 +23,7 @@ in_states h s sound within = subst (λ n. s < n) (sym sound.states) within
 
 -- what follows of the mark of a dead slot, and of the marks of two
 IfDead-so : (x : State) (P Q : ℕ → Type 0) → ((mark : ℕ) → P mark → Q mark) → IfDead x P → IfDead x Q
-IfDead-so Fresh P Q so p = tt
-IfDead-so (Live n t) P Q so p = tt
-IfDead-so (Dead n t mark) P Q so p = so mark p
+IfDead-so x0 x1 x2 so p = grind arith
 
 IfDead-both : (x y : State) (P Q : ℕ → Type 0) (R : ℕ → ℕ → Type 0) → ((mark other : ℕ) → P mark → Q other → R mark other) →
     IfDead x P → IfDead y Q → IfDead x (λ mark. IfDead y (R mark))
@@ -36,16 +34,7 @@ IfDead-both x y P Q R so p q =
 IsTaggedSlot-same : (memory other : List Granule) (s : ℕ) (slot : Slot) (state : State) →
     ((g : ℕ) → slot.start ≤ g → g < end_of slot → tag_at other g ≡ tag_at memory g) → IsTaggedSlot memory s slot state →
     IsTaggedSlot other s slot state
-IsTaggedSlot-same memory other s slot state same t =
-    let room : chunk_granules_of state < slot.class = t.room in
-    record {
-      room = t.room;
-      chunk_tag = t.chunk_tag;
-      is_chunk_tag = t.is_chunk_tag;
-      header = same slot.start (omega arith) (omega arith) ∙ t.header;
-      chunk = λ g a b. same g (omega arith) (omega arith) ∙ t.chunk g a b;
-      tail = λ g a b. same g (omega arith) (omega arith) ∙ t.tail g a b;
-    }
+IsTaggedSlot-same memory other s slot state same t = grind arith
 
 -- Slot s gets another state, its payload other tags, and the heap another total, seed and tag.
 module _ (h : Heap) (s : ℕ) (state : State) (memory : List Granule) (total seed tag : ℕ) (sound : IsSoundHeap h)
@@ -68,10 +57,7 @@ module _ (h : Heap) (s : ℕ) (state : State) (memory : List Granule) (total see
 
   outside : (g : ℕ) → ((r : ℕ) → r < slot_count h.layout → Covers (slot_in h r) g → ⊥) →
       (g ≤ (slot_in h s).start) ⊎ (end_of (slot_in h s) ≤ g)
-  outside g none = ⊎_elim
-      (λ lt. inl (omega arith))
-      (λ le. ⊎_elim (λ lt. absurd (none s in_range (record { from = le; to = lt }))) (λ ge. inr ge) (cases_lt g (end_of (slot_in h s))))
-      (cases_lt g (slot_in h s).start)
+  outside g none = grind (arith, cases_lt)
 
   pub IsSoundHeap-retagged : length memory ≡ length h.memory →
       ((g : ℕ) → (g ≤ (slot_in h s).start) ⊎ (end_of (slot_in h s) ≤ g) → tag_at memory g ≡ tag_at h.memory g) →
@@ -137,10 +123,7 @@ module _ (h : Heap) (s : ℕ) (state : State) (memory : List Granule) (total see
 -- the tag of a live slot is one that it may take
 IsTagOf-live : (h : Heap) (s n t : ℕ) → IsSoundHeap h → s < slot_count h.layout → state_at h s ≡ Live n t →
     IsTagOf s (last_tag (state_at h s))
-IsTagOf-live h s n t sound in_range live =
-    let slot = sound.tagged s in_range in
-    let both : IsChunkTag s (Live n t) slot.chunk_tag = subst (λ x. IsChunkTag s x slot.chunk_tag) live slot.is_chunk_tag in
-    subst (λ x. IsTagOf s (last_tag x)) (sym live) both.0
+IsTagOf-live h s n t sound in_range live = grind arith
 
 module _ where
   pub length-chunk_tagged : (slot : Slot) (n tag : ℕ) (memory : List Granule) → length (chunk_tagged slot n tag memory) ≡ length memory
@@ -150,10 +133,7 @@ module _ where
   module _ (slot : Slot) (n tag : ℕ) (memory : List Granule) (room : chunk_granules n < slot.class) (inside : end_of slot ≤ length memory)
     where
       chunk_tagged_others : (g : ℕ) → (g ≤ slot.start) ⊎ (end_of slot ≤ g) → tag_at (chunk_tagged slot n tag memory) g ≡ tag_at memory g
-      chunk_tagged_others g out =
-          laws.other_tag _ _ 0 g (tagged (payload_start slot) (chunk_granules n) tag memory)
-          (⊎_elim (λ low. inl (omega arith)) (λ high. inr (omega arith)) out)
-          ∙ laws.other_tag _ _ tag g memory (⊎_elim (λ low. inl (omega arith)) (λ high. inr (omega arith)) out)
+      chunk_tagged_others g out = grind (arith, laws.other_tag)
 
       chunk_tagged_chunk : (g : ℕ) → slot.start < g → g ≤ slot.start + chunk_granules n → tag_at (chunk_tagged slot n tag memory) g ≡ tag
       chunk_tagged_chunk g from to =
@@ -233,20 +213,7 @@ module _ where
   -- bytes that are written leave a sound heap
   pub IsSoundHeap-written : (h : Heap) (i : ℕ) (bytes : List ℕ) → IsSoundHeap h →
       IsSoundHeap (record h { memory = written i bytes h.memory })
-  IsSoundHeap-written h i bytes sound =
-      record {
-        partition = sound.partition;
-        slots = sound.slots;
-        long = laws.written_length i bytes h.memory ∙ sound.long;
-        states = sound.states;
-        tag_below = sound.tag_below;
-        tagged =
-            λ s within. IsTaggedSlot-same h.memory (written i bytes h.memory) s (slot_in h s) (state_at h s)
-            (λ g from to. laws.tag_under_bytes i g bytes h.memory) (sound.tagged s within);
-        slack = λ g none. laws.tag_under_bytes i g bytes h.memory ∙ sound.slack g none;
-        marks = sound.marks;
-        marks_differ = sound.marks_differ;
-      }
+  IsSoundHeap-written h i bytes sound = grind (arith, IsTaggedSlot-same, laws.written_length, laws.tag_under_bytes)
 
   pub IsSoundHeap-with_payload : (h : Heap) (s : ℕ) (bytes : List ℕ) → IsSoundHeap h → IsSoundHeap (with_payload h s bytes)
   unfolding with_payload

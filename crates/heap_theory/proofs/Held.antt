@@ -1,16 +1,15 @@
 -- What the queue and the lists hold.
 use Rattle.std.proofs.Common.{◌≡◌, ℕ, ◌+◌, ◌-◌, ◌<◌, ◌≤◌, true, List, [], ◌∷◌, sym, ◌∙◌, subst, inl, inr, arith}
-use Rattle.std.specs.Prelude.{AllPairs, Contains}
+use Rattle.std.specs.Prelude.{AllPairs, Contains, slice_get, Some, length}
 use Rattle.std.proofs.lemmas.Bool.{and_from, and_parts, cases_lt, leb-true, le-leb}
 use Rattle.class_table.specs.Layout.{slot_count, block_bytes}
-use Rattle.heap_theory.specs.QueueAndLists.{IsChain, IsFreedList}
+use Rattle.heap_theory.specs.QueueAndLists.{IsChain, IsFreedList, AgreeWithMarks, HoldsQuarantined, HoldsReleased}
 use Rattle.heap_theory.specs.Links.{list_of}
 use Rattle.heap_theory.specs.Sound.{IsSoundHeap}
 use Rattle.heap_theory.specs.State.{Heap, slot_in, state_at, is_dead, is_released, is_quarantined, mark_of}
 use Rattle.heap_theory.proofs.ListSearch.{AllPairs-cons, AllPairs-nil}
 use Rattle.heap_theory.proofs.Front.{freed_list, listed}
 use Rattle.heap_theory.proofs.Marks.{HasMark-own, mark_of-is, dead_with_mark, released_from_mark, chain_bytes, chain_dead, list_dead, one_number}
-use Rattle.heap_theory.specs.Laws.{QueueHoldsQuarantined, ListsHoldReleased, OneListHasASlot, QueueHasNoListedSlot}
 
 -- ---- the queue
 
@@ -25,7 +24,8 @@ ascending h from (s ∷ rest) sound c =
     omega (arith, mark_of-is (state_at h s) from c.1, mark_of-is (state_at h r) q.mark q.marked, q.above))
     (ascending h (from + block_bytes (slot_in h s)) rest sound c.2)
 
-pub holds_quarantined : QueueHoldsQuarantined
+pub holds_quarantined : (heap : Heap) (queue : List ℕ) (lists : List (List ℕ)) → IsSoundHeap heap → AgreeWithMarks heap queue lists →
+    HoldsQuarantined heap queue
 holds_quarantined h queue lists sound b = record {
   slots = λ s. (in_queue s, queued s);
   ascending = ascending h b.from queue sound b.agree.chain;
@@ -62,7 +62,8 @@ descending h class bound (s ∷ rest) f =
     omega (arith, mark_of-is (state_at h s) f.0 f.3, mark_of-is (state_at h r) l.mark l.marked, l.below))
     (descending h class f.0 rest f.5)
 
-pub holds_released : ListsHoldReleased
+pub holds_released : (heap : Heap) (queue : List ℕ) (lists : List (List ℕ)) (number class : ℕ) → IsSoundHeap heap →
+    AgreeWithMarks heap queue lists → slice_get heap.layout.classes number ≡ Some class → HoldsReleased heap class (list_of lists number)
 holds_released h queue lists number class sound b numbered = record {
   slots =
       λ s. (
@@ -84,14 +85,16 @@ holds_released h queue lists number class sound b numbered = record {
 
 -- ---- no slot is in two of them
 
-pub one_list_has : OneListHasASlot
+pub one_list_has : (heap : Heap) (queue : List ℕ) (lists : List (List ℕ)) (a b s : ℕ) → IsSoundHeap heap → AgreeWithMarks heap queue lists →
+    a < length lists → b < length lists → Contains (list_of lists a) s → Contains (list_of lists b) s → a ≡ b
 one_list_has h queue lists a b s sound agree in_a in_b at_a at_b =
     let l = list_dead h _ agree.from (list_of lists a) s (agree.agree.freed a in_a) at_a in
     let k = list_dead h _ agree.from (list_of lists b) s (agree.agree.freed b in_b) at_b in
     one_number 1 h.layout.classes a b sound.partition.table (subst (λ n. a < n) agree.agree.long in_a)
     (subst (λ n. b < n) agree.agree.long in_b) (sym l.of_class ∙ k.of_class)
 
-pub queue_or_list : QueueHasNoListedSlot
+pub queue_or_list : (heap : Heap) (queue : List ℕ) (lists : List (List ℕ)) (number s : ℕ) → AgreeWithMarks heap queue lists →
+    number < length lists → Contains queue s → Contains (list_of lists number) s → ⊥
 queue_or_list h queue lists number s b within in_queue in_list =
     let q = chain_dead h b.from queue s b.agree.chain in_queue in
     let l = list_dead h _ b.from (list_of lists number) s (b.agree.freed number within) in_list in

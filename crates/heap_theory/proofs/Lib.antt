@@ -13,7 +13,6 @@ pub mod HeaderWords
 pub mod HeadersAgree
 pub mod HeapKept
 pub mod Held
-pub mod LawLemmas
 pub mod LayoutStays
 pub mod Linked
 pub mod ListSearch

@@ -1,12 +1,12 @@
 -- Lists that are linked through headers.
 use Rattle.std.proofs.Common.{◌≡◌, ◌≢◌, ℕ, ◌<◌, List, [], ◌∷◌, ◌++◌, length, suc, refl, sym, ap, ◌∙◌, subst, inl, inr, arith, drop}
-use Rattle.std.specs.Prelude.{Contains}
-use Rattle.heap_theory.specs.Links.{IsLinked}
+use Rattle.std.specs.Prelude.{Contains, AllPairs}
+use Rattle.heap_theory.specs.Links.{IsLinked, last_link}
 use Rattle.heap_theory.proofs.ListSearch.{Contains-head, Contains-tail, Contains-cases, Contains-none, AllPairs-cons, AllPairs-nil}
-use Rattle.heap_theory.specs.HeaderLaws.{LinksStay, OneListIsLinked, EachSlotOnce, LastSlotEnds, PutInFront, PutAtEnd, PutAtEndIsLast}
 
 -- links that change outside the list leave it linked
-pub IsLinked-same : LinksStay
+pub IsLinked-same : (next new : ℕ → ℕ) (front : ℕ) (list : List ℕ) → ((s : ℕ) → Contains list s → new s ≡ next s) →
+    IsLinked next front list → IsLinked new front list
 IsLinked-same next new front [] same l = l
 IsLinked-same next new front (s ∷ rest) same l = (
   l.0,
@@ -15,7 +15,7 @@ IsLinked-same next new front (s ∷ rest) same l = (
 )
 
 -- from one front there is one list
-pub IsLinked-one : OneListIsLinked
+pub IsLinked-one : (next : ℕ → ℕ) (front : ℕ) (a b : List ℕ) → IsLinked next front a → IsLinked next front b → a ≡ b
 IsLinked-one next front [] [] l k = refl
 IsLinked-one next front [] (s ∷ rest) l k = absurd (omega (arith, k.0))
 IsLinked-one next front (s ∷ rest) [] l k = absurd (omega (arith, l.0))
@@ -46,7 +46,7 @@ from_there next front (r ∷ rest) s l there = elim (Contains-cases r rest s the
 ]
 
 -- each slot is met once, since links do not go round
-pub IsLinked-once : EachSlotOnce
+pub IsLinked-once : (next : ℕ → ℕ) (front : ℕ) (list : List ℕ) → IsLinked next front list → AllPairs (λ s r. s ≢ r) list
 IsLinked-once next front [] l = AllPairs-nil (λ s r. s ≢ r)
 IsLinked-once next front (s ∷ rest) l =
     AllPairs-cons (λ s r. s ≢ r) s rest
@@ -56,12 +56,9 @@ IsLinked-once next front (s ∷ rest) l =
     omega (arith, again.1, ap length one))
     (IsLinked-once next (next s) rest l.1)
 
--- a slot is put in front of a list
-pub IsLinked-push : PutInFront
-IsLinked-push next front s list is l = (refl, subst (λ n. IsLinked next n list) (sym is) l)
-
 -- the last slot has no link
-pub IsLinked-ends : LastSlotEnds
+pub IsLinked-ends : (next : ℕ → ℕ) (front s : ℕ) (list : List ℕ) → IsLinked next front list → last_link list ≡ suc s → Contains list s
+    × (next s ≡ 0)
 IsLinked-ends next front s [] l is = absurd (omega (arith, is))
 IsLinked-ends next front s (r ∷ []) l is =
     let same : r ≡ s = omega (arith, is) in (subst (Contains (r ∷ [])) same (Contains-head r []), subst (λ q. next q ≡ 0) same l.1)
@@ -69,7 +66,8 @@ IsLinked-ends next front s (r ∷ q ∷ rest) l is =
     let more = IsLinked-ends next (next r) s (q ∷ rest) l.1 is in (Contains-tail r (q ∷ rest) s more.0, more.1)
 
 -- a slot is put after a list, where the list's last slot is linked to it
-pub IsLinked-append : PutAtEnd
+pub IsLinked-append : (next new : ℕ → ℕ) (front last s : ℕ) (list : List ℕ) → IsLinked next front list → last_link list ≡ suc last →
+    ((r : ℕ) → Contains list r → r ≢ last → new r ≡ next r) → new last ≡ suc s → new s ≡ 0 → IsLinked new front (list ++ s ∷ [])
 IsLinked-append next new front last s [] l is others linked ends = absurd (omega (arith, is))
 IsLinked-append next new front last s (r ∷ []) l is others linked ends =
     let same : r ≡ last = omega (arith, is) in
@@ -81,7 +79,7 @@ IsLinked-append next new front last s (r ∷ q ∷ rest) l is others linked ends
     omega (arith, ap next same, end.1, l.1.0) in
     (l.0, subst (λ n. IsLinked new n ((q ∷ rest) ++ s ∷ [])) (sym (others r (Contains-head r (q ∷ rest)) another)) more)
 
-pub last_link-append : PutAtEndIsLast
+pub last_link-append : (list : List ℕ) (s : ℕ) → last_link (list ++ s ∷ []) ≡ suc s
 last_link-append [] s = refl
 last_link-append (r ∷ []) s = refl
 last_link-append (r ∷ q ∷ rest) s = last_link-append (q ∷ rest) s

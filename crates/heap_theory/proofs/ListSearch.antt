@@ -1,7 +1,7 @@
 -- What `find`, `filter` and `position` give.
 use Rattle.std.proofs.Common.{◌≡◌, ◌≢◌, ◌⊎◌, ℕ, zero, suc, ◌<◌, ◌≤◌, Bool, true, false, cond, List, [], ◌∷◌, length, get_or, refl, sym, ap, ◌∙◌, subst, inl, inr, arith, Some, None, Option}
 use Rattle.std.specs.Prelude.{slice_get, All, AllPairs, Contains}
-use Rattle.std.specs.List.{find, filter, position, position_or_len, range_with_len}
+use Rattle.std.specs.List.{find, filter, position, range_with_len}
 use Rattle.std.proofs.lemmas.Bool.{both_ways, cases_Bool, cases_lt, cond_both, cond-true, eqb-true, lt-ltb}
 use Rattle.std.proofs.lemmas.Bool.Decides.{Decides-eqb}
 use Rattle.std.proofs.lemmas.List.Elements.{All-nil, All-cons, Contains-get_or}
@@ -126,10 +126,4 @@ AllPairs-nil R i j d before within = absurd (omega arith)
 
 -- where no place is found, no element passes
 pub position-None : {X : Type 0} (p : X → Bool) (xs : List X) → position p xs ≡ None → All (λ x. p x ≡ false) xs
-position-None p xs is = elim (cases_lt (position_or_len p xs) (length xs)) [
-  | inl within ↦
-      let test = lt-ltb (position_or_len p xs) (length xs) within in
-      let some : Some (position_or_len p xs) ≡ None = subst (λ b. cond b (Some (position_or_len p xs)) None ≡ None) test is in
-      absurd cc
-  | inr past ↦ λ k d inside. fails_before_first p xs k d (omega arith)
-]
+position-None p xs is = grind (arith, cases_lt, fails_before_first, lt-ltb)

@@ -1,6 +1,6 @@
 -- What an event does to a slot.
-use Rattle.std.proofs.Common.{◌≡◌, ℕ, suc, ◌-◌, ◌<◌, true, get_or, refl, sym, ap, ◌∙◌, subst, inl, inr, Some, None, Option}
-use Rattle.std.proofs.lemmas.Bool.{cases_eq, both_ways, ltb-true, false≢true}
+use Rattle.std.proofs.Common.{◌≡◌, ℕ, suc, ◌-◌, ◌<◌, true, get_or, arith, refl, sym, ap, ◌∙◌, subst, inl, inr, Some, None, Option}
+use Rattle.std.proofs.lemmas.Bool.{cases_eq, ltb-true, false≢true}
 use Rattle.std.proofs.lemmas.List.{get_or-set_same, get_or-set_other}
 use Rattle.heap_theory.specs.declared.event.Event.{Event}
 use Rattle.heap_theory.specs.Calls.{given_out}
@@ -9,18 +9,15 @@ use Rattle.heap_theory.specs.Run.{Run, times_of, slot_given, times_with, run_aft
 use Rattle.heap_theory.specs.Hardening.{ReuseIsDelayed, LifeStep, LivesOn}
 use Rattle.heap_theory.specs.Replay.{heap_after, replay_after}
 use Rattle.heap_theory.specs.SoundRun.{IsSoundRun}
-use Rattle.heap_theory.specs.State.{State, Heap, IsLive, state_at, is_fresh, is_released}
+use Rattle.heap_theory.specs.State.{State, Heap, IsLive, state_at, is_fresh}
 use Rattle.heap_theory.specs.State.State.{Fresh, Live, Dead}
-use Rattle.heap_theory.proofs.CallsKept.{KeepsGiven, HeapChange, not_reusable, state_at-given_out_other}
+use Rattle.heap_theory.proofs.CallsKept.{KeepsGiven, HeapChange, state_at-given_out_other}
 use Rattle.heap_theory.proofs.RunKept.{IsKept-event}
 
 -- ---- reuse is delayed
 
 released_over : (h : Heap) (s n t m : ℕ) → IsReusable h s → state_at h s ≡ Dead n t m → h.quarantine < h.total - m
-released_over h s n t m reusable was = elim reusable.free [
-  | inl fresh ↦ absurd (both_ways _ (ap is_fresh was) fresh)
-  | inr released ↦ ltb-true _ _ (sym (ap (is_released h) was) ∙ released)
-]
+released_over h s n t m reusable was = grind (arith, ltb-true)
 
 -- a dead slot that an event makes live was reusable
 revived : (h new : Heap) (o : Option ℕ) (s n t m : ℕ) → HeapChange h new o → state_at h s ≡ Dead n t m → IsLive (state_at new s) →
@@ -34,9 +31,7 @@ revived h new (Some r) s n t m change was live = elim (cases_eq s r) [
 -- ---- the life of a slot
 
 fresh_is : (x : State) → is_fresh x ≡ true → x ≡ Fresh
-fresh_is Fresh is = refl
-fresh_is (Live n t) is = absurd (false≢true is)
-fresh_is (Dead n t m) is = absurd (false≢true is)
+fresh_is x is = grind arith
 
 kept_life : (h new : Heap) (s times next : ℕ) → KeepsGiven h new → next ≡ times → LifeStep (state_at h s) times (state_at new s) next
 kept_life h new s times next kept same = at (state_at h s) refl (state_at new s) refl
@@ -49,9 +44,7 @@ kept_life h new s times next kept same = at (state_at h s) refl (state_at new s)
     at (Live n t) was (Dead m u k) now = inr (inl (tt, refl, same))
 
 not_live : (h : Heap) (s : ℕ) → IsReusable h s → (x : State) → state_at h s ≡ x → IsLive x → ⊥
-not_live h s reusable Fresh was l = l
-not_live h s reusable (Dead n t m) was l = l
-not_live h s reusable (Live n t) was l = not_reusable h s n t reusable was
+not_live h s reusable x3 was l = grind arith
 
 module _ (w : Run) (e : Event) (sound : IsSoundRun w) where
   change : HeapChange w.replay.heap (heap_after w.replay e) (slot_given w.replay e)
@@ -59,10 +52,7 @@ module _ (w : Run) (e : Event) (sound : IsSoundRun w) where
 
   pub reuse_is_delayed : (quarantine : ℕ) → w.replay.heap.quarantine ≡ quarantine → ReuseIsDelayed quarantine w (run_after w e)
   unfolding run_after replay_after
-  reuse_is_delayed quarantine limit s n t m was live =
-      subst (λ q. q < w.replay.heap.total - m) limit
-      (released_over w.replay.heap s n t m (revived w.replay.heap (heap_after w.replay e) (slot_given w.replay e) s n t m change was live)
-      was)
+  reuse_is_delayed quarantine limit s n t m was live = grind (arith, change, released_over, revived)
 
   pub lives_on : LivesOn w (run_after w e)
   unfolding run_after replay_after

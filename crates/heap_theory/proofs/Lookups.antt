@@ -2,12 +2,12 @@
 use Rattle.std.proofs.Common.{◌≡◌, ℕ, ◌-◌, ◌*◌, ◌^◌, ◌<◌, ◌≤◌, Bool, true, cond, List, refl, sym, ap, ◌∙◌, subst, inl, inr, arith, Some, None, Option, Result, Ok, Err}
 use Rattle.std.specs.Prelude.{◌==◌, ◌&&◌, nat_lt, nat_le, All}
 use Rattle.std.specs.Option.{ok_or, option_or}
-use Rattle.std.specs.List.{position, range_with_len, list_all}
+use Rattle.std.specs.List.{range_with_len, list_all}
 use Rattle.std.proofs.lemmas.Bool.{eqb-true, leb-true, ltb-true, and_parts, cases_Bool}
 use Rattle.std.proofs.lemmas.List.Elements.{All-filter, filter_passes}
 use Rattle.std.proofs.lemmas.List.Quantifiers.{position-Some}
 use Rattle.machine_theory.specs.Address.{logical_tag, place_of}
-use Rattle.class_table.specs.Layout.{no_slot, slots_of, slot_count}
+use Rattle.class_table.specs.Layout.{slot_count}
 use Rattle.class_table.specs.Sizes.{largest_counted, serves, chunk_granules}
 use Rattle.class_table.specs.Tables.{class_for}
 use Rattle.heap_theory.specs.declared.refusal.FreeError.{FreeError}
@@ -20,7 +20,6 @@ use Rattle.heap_theory.specs.Sound.{IsSoundHeap}
 use Rattle.heap_theory.specs.State.{State, Heap, slot_in, state_at, is_fresh, payload_place, is_released, mark_of}
 use Rattle.heap_theory.specs.State.State.{Fresh, Live, Dead}
 use Rattle.heap_theory.proofs.ListSearch.{All-find, find_passes, first_in_filter, All-range}
-use Rattle.heap_theory.specs.Laws.{RequestIsGiven, NamedChunkIsLive}
 
 -- ---- slots of a class
 
@@ -101,7 +100,7 @@ class_for_request-is h n class is = elim (cases_Bool (nat_lt largest_counted n))
     from None was is = absurd cc
     from (Some other) was is = let same : other ≡ class = cc in was ∙ ap Some same
 
-pub slot_for_request-is : RequestIsGiven
+pub slot_for_request-is : (heap : Heap) (n s : ℕ) → IsSoundHeap heap → slot_for_request heap n ≡ Ok s → MayBeGiven heap n s
 unfolding slot_for_request
 slot_for_request-is h n s sound is = in_class (class_for_request h n) refl is
   where
@@ -131,16 +130,9 @@ slot_for_request-cases h n sound P refused given = by_slot (slot_for_request h n
 
 pub slot_of_pointer-is : (h : Heap) (p s : ℕ) → slot_of_pointer h p ≡ Some s →
     (s < slot_count h.layout) × (p < 2 ^ 60) × (place_of p ≡ payload_place (slot_in h s))
-slot_of_pointer-is h p s is = elim (cases_Bool (nat_lt p (2 ^ 60))) [
-  | inl plain ↦
-      let found = position-Some (λ slot. payload_place slot == place_of p) (slots_of h.layout) s no_slot
-      (subst (λ b. cond b (position (λ slot. payload_place slot == place_of p) (slots_of h.layout)) None ≡ Some s) plain is) in
-      (found.0, ltb-true _ _ plain, sym (eqb-true _ _ found.1))
-  | inr high ↦ let none : None ≡ Some s =
-      subst (λ b. cond b (position (λ slot. payload_place slot == place_of p) (slots_of h.layout)) None ≡ Some s) high is in absurd cc
-]
+slot_of_pointer-is h p s is = grind (arith, eqb-true, ltb-true, position-Some)
 
-pub chunk_at-is : NamedChunkIsLive
+pub chunk_at-is : (heap : Heap) (p : ℕ) (chunk : Chunk) → chunk_at heap p ≡ Ok chunk → IsLiveChunk heap p chunk
 unfolding chunk_at
 chunk_at-is h p chunk is = from (slot_of_pointer h p) refl is
   where

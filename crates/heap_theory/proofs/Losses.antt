@@ -3,11 +3,10 @@ use Rattle.std.proofs.Common.{◌≡◌, ℕ, ◌+◌, ◌<◌, ◌≤◌, Bool,
 use Rattle.std.specs.List.{AllByRecursion as ByRecursion, cons_option}
 use Rattle.std.specs.Option.{ok_or}
 use Rattle.std.specs.Prelude.{◌==◌, ◌&&◌, nat_le, nat_lt, is_some, zip, count_by, IsSome}
-use Rattle.std.proofs.lemmas.Bool.{true≢false, false≢true, cond_both, ltb-false, ltb-true, le-leb, leb-false, lt-leb}
+use Rattle.std.proofs.lemmas.Bool.{true≢false, cond_both, le-leb, leb-false, lt-leb}
 use Rattle.std.proofs.lemmas.List.Elements.{recursion_from_All}
 use Rattle.std.proofs.lemmas.List.Sums.{sum_by-cons}
 use Rattle.machine_theory.specs.declared.fault.Fault.{Fault}
-use Rattle.machine_theory.specs.declared.fault.Fault.TheVariants.{Unmapped, Alignment, TagCheck}
 use Rattle.machine_theory.specs.Access.{access_fault}
 use Rattle.machine_theory.specs.Address.{moved_by}
 use Rattle.class_table.specs.Sizes.{counted_of, largest_counted}
@@ -20,28 +19,13 @@ use Rattle.heap_theory.specs.declared.refusal.NullCause.TheVariants.{Large, NoCl
 use Rattle.heap_theory.specs.declared.refusal.ReallocError.{ReallocError}
 use Rattle.heap_theory.specs.Calls.{Step, malloc_with, malloc_step, calloc_with, calloc_step, as_realloc, free_with, free_step, is_class_of, resized, move_with, realloc_with, realloc_step}
 use Rattle.heap_theory.specs.Lookups.{Chunk, class_for_request, slot_for_request, slot_in_class, slot_for, chunk_at}
-use Rattle.heap_theory.specs.Losses.{requested_sizes, counted_sizes, LosesAtMostItsWaste, ServedRunLosesItsWaste}
-use Rattle.heap_theory.specs.Replay.{
-  Replay,
-  Answer,
-  is_no_class,
-  is_exhausted,
-  is_refused,
-  is_silent,
-  variable,
-  answer_of,
-  answers,
-  replay_after,
-  first_replay,
-  malloc_answer,
-  free_answer,
-  realloc_answer,
-  access_answer,
-}
+use Rattle.heap_theory.specs.Losses.{requested_sizes, counted_sizes, LosesAtMostItsWaste, ServesEach}
+use Rattle.heap_theory.specs.Replay.{Replay, Answer, is_no_class, is_exhausted, is_refused, is_silent, variable, answer_of, answers, replay_after, first_replay, malloc_answer, free_answer, realloc_answer, access_answer}
 use Rattle.heap_theory.specs.Replay.Answer.{Silent, NoPointer, NotFreed}
 use Rattle.heap_theory.specs.State.{Heap, slot_in, first_heap}
 use Rattle.heap_theory.specs.Totals.{one_if, request_size, is_request, loss_of_request, loss_of_event, totals_of}
 use Rattle.heap_theory.proofs.LayoutStays.{layout_after}
+use Rattle.class_table.specs.Layout.{Partition}
 
 -- ---- one event
 
@@ -101,9 +85,7 @@ MayMeet n (Err Exhausted) = Unit {0}
 
 class_met : (n : ℕ) (large : Bool) (class : Option ℕ) → nat_lt largest_counted n ≡ large → (n ≤ largest_counted → IsSome class) →
     MayMeet n (cond large (Err Large) (ok_or class NoClass))
-class_met n true class is has = ltb-true largest_counted n is
-class_met n false None is has = absurd (false≢true (has (ltb-false largest_counted n is)))
-class_met n false (Some class) is has = ltb-false largest_counted n is
+class_met n x1 x2 is has = grind arith
 
 slot_met : (h : Heap) (n : ℕ) (class : Result ℕ NullCause) → MayMeet n class → MayMeet n (slot_in_class h class)
 slot_met h n (Ok class) is = elim (slot_for h class) as (λ slot. MayMeet n (ok_or slot Exhausted)) [ None ↦ tt | Some s ↦ is ]
@@ -111,9 +93,7 @@ slot_met h n (Err cause) is = is
 
 module _ (h : Heap) (n : ℕ) where
   null_loses : (cause : NullCause) → MayMeet n (Err cause) → RequestLoses h n (NoPointer cause)
-  null_loses Large is = too_large h n is
-  null_loses NoClass is = absurd is
-  null_loses Exhausted is = exhausted h n
+  null_loses x0 is = grind arith
 
   malloc_loses : (slot : Result ℕ NullCause) → MayMeet n slot → RequestLoses h n (malloc_answer (malloc_with h n slot).answer)
   malloc_loses (Ok s) is = given h n is
@@ -163,16 +143,11 @@ IsServed classes (Some n) = n ≤ largest_counted → IsSome (class_for classes 
 -- an event that requests nothing is not refused because it has no class
 free_wants_no_class : (h : Heap) (null : Bool) (chunk : Result Chunk FreeError) →
     is_no_class (free_answer (cond null (record { heap = h; answer = Ok tt }) (free_with h chunk)).answer) ≡ false
-free_wants_no_class h true chunk = refl
-free_wants_no_class h false (Ok chunk) = refl
-free_wants_no_class h false (Err error) = refl
+free_wants_no_class h x1 x2 = grind arith
 
 access_wants_no_class : (h : Heap) (done : Answer) (o : Option Fault) → is_no_class done ≡ false →
     is_no_class (access_answer h done o) ≡ false
-access_wants_no_class h done None is = is
-access_wants_no_class h done (Some Unmapped) is = refl
-access_wants_no_class h done (Some Alignment) is = refl
-access_wants_no_class h done (Some (TagCheck granule memory_tag pointer_tag)) is = refl
+access_wants_no_class h done x2 is = grind arith
 
 class_of_request : (h : Heap) (n : ℕ) → IsServed h.layout.classes (Some n) → MayMeet n (class_for_request h n)
 class_of_request h n has = class_met n (nat_lt largest_counted n) (class_for h.layout.classes n) refl has
@@ -268,7 +243,8 @@ LosesAtMostItsWaste-from r classes (e ∷ events) is each =
     one_event_more classes e (answer_of r e) events (zip events (answers (replay_after r e) events)) first
     (LosesAtMostItsWaste-from (replay_after r e) classes events (ap (λ p. p.classes) (layout_after r e) ∙ is) served.1)
 
-pub LosesAtMostItsWaste-run : ServedRunLosesItsWaste
+pub LosesAtMostItsWaste-run : (layout : Partition) (seed quarantine : ℕ) (events : List Event) → ServesEach layout.classes events →
+    LosesAtMostItsWaste layout.classes events (zip events (answers (first_replay layout seed quarantine) events))
 unfolding first_replay first_heap
 LosesAtMostItsWaste-run layout seed quarantine events each =
     LosesAtMostItsWaste-from (first_replay layout seed quarantine) layout.classes events refl

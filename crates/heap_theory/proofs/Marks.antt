@@ -1,7 +1,7 @@
 -- The marks of slots in a queue and in lists.
-use Rattle.std.proofs.Common.{◌≡◌, ◌≢◌, ℕ, ◌+◌, ◌-◌, ◌<◌, ◌≤◌, true, false, List, [], ◌∷◌, length, get_or, refl, sym, ◌∙◌, subst, inl, inr, arith}
+use Rattle.std.proofs.Common.{◌≡◌, ◌≢◌, ℕ, ◌+◌, ◌-◌, ◌<◌, ◌≤◌, true, false, List, [], ◌∷◌, length, get_or, sym, ◌∙◌, subst, inl, inr, arith}
 use Rattle.std.specs.Prelude.{Contains, slice_get, Some}
-use Rattle.std.proofs.lemmas.Bool.{cases_order, lt-ltb}
+use Rattle.std.proofs.lemmas.Bool.{cases_order}
 use Rattle.std.proofs.lemmas.List.Kept.{AllPairs-from_increasing}
 use Rattle.std.proofs.lemmas.List.Sums.{sum_by-cons}
 use Rattle.std.proofs.lemmas.Option.{get_or_from_slice_get, slice_get_within}
@@ -10,45 +10,30 @@ use Rattle.class_table.specs.Tables.{IsLegalTable}
 use Rattle.heap_theory.specs.QueueAndLists.{HasMark, IsChain, IsFreedList, bytes_of}
 use Rattle.heap_theory.specs.Sound.{IfDead}
 use Rattle.heap_theory.specs.State.{State, Heap, slot_in, state_at, mark_of, is_dead, is_released}
-use Rattle.heap_theory.specs.State.State.{Fresh, Live, Dead}
 use Rattle.heap_theory.proofs.ListSearch.{Contains-cases, Contains-none}
 
 -- ---- one mark
 
 pub one_mark : (x : State) (m k : ℕ) → HasMark x m → HasMark x k → m ≡ k
-one_mark Fresh m k a b = absurd a
-one_mark (Live n t) m k a b = absurd a
-one_mark (Dead n t own) m k a b = sym a ∙ b
+one_mark x0 m k a b = grind arith
 
 pub mark_of-is : (x : State) (mark : ℕ) → HasMark x mark → mark_of x ≡ mark
-mark_of-is Fresh mark d = absurd d
-mark_of-is (Live n t) mark d = absurd d
-mark_of-is (Dead n t m) mark d = d
+mark_of-is x0 mark d = grind arith
 
 pub HasMark-own : (x : State) → is_dead x ≡ true → HasMark x (mark_of x)
-HasMark-own Fresh dead = cc
-HasMark-own (Live n t) dead = cc
-HasMark-own (Dead n t m) dead = refl
+HasMark-own x0 dead = grind arith
 
 pub dead_with_mark : (x : State) (mark : ℕ) → HasMark x mark → is_dead x ≡ true
-dead_with_mark Fresh mark d = absurd d
-dead_with_mark (Live n t) mark d = absurd d
-dead_with_mark (Dead n t m) mark d = refl
+dead_with_mark x0 mark d = grind arith
 
 pub not_marked : (x : State) (mark : ℕ) → is_dead x ≡ false → HasMark x mark → ⊥
 not_marked x mark alive d = let dead = sym alive ∙ dead_with_mark x mark d in cc
 
 pub same_mark : (x y : State) (m k : ℕ) → HasMark x m → HasMark y k → m ≡ k → IfDead x (λ mark. IfDead y (λ other. mark ≢ other)) → ⊥
-same_mark Fresh y m k d e same differ = d
-same_mark (Live n t) y m k d e same differ = d
-same_mark (Dead n t own) Fresh m k d e same differ = e
-same_mark (Dead n t own) (Live a b) m k d e same differ = e
-same_mark (Dead n t own) (Dead a b other) m k d e same differ = differ (d ∙ same ∙ sym e)
+same_mark x0 x1 m k d e same differ = grind arith
 
 pub released_from_mark : (h : Heap) (x : State) (mark : ℕ) → HasMark x mark → h.quarantine < h.total - mark → is_released h x ≡ true
-released_from_mark h Fresh mark d over = absurd d
-released_from_mark h (Live n t) mark d over = absurd d
-released_from_mark h (Dead n t m) mark d over = lt-ltb _ _ (subst (λ k. h.quarantine < h.total - k) (sym d) over)
+released_from_mark h x1 mark d over = grind arith
 
 -- ---- the queue
 
@@ -124,11 +109,7 @@ list_dead h class bound (r ∷ rest) s f there = elim (Contains-cases r rest s t
 -- a class has one number
 pub one_number : (step : ℕ) (classes : List ℕ) (a b : ℕ) → IsLegalTable step classes → a < length classes → b < length classes →
     get_or classes a 0 ≡ get_or classes b 0 → a ≡ b
-one_number step classes a b legal in_a in_b same = elim (cases_order a b) [
-  | inl is ↦ is
-  | inr (inl before) ↦ absurd (omega (arith, AllPairs-from_increasing classes legal.ascending a b 0 before in_b))
-  | inr (inr after) ↦ absurd (omega (arith, AllPairs-from_increasing classes legal.ascending b a 0 after in_a))
-]
+one_number step classes a b legal in_a in_b same = grind (arith, AllPairs-from_increasing, cases_order)
 
 pub record IsNumberOf (classes : List ℕ) (number class : ℕ) : Type 0 where
   pub within : number < length classes

@@ -1,6 +1,6 @@
 -- The pointer that was given out for a live chunk is accepted by `free` and by `realloc`, and of the others only null is.
 use Rattle.std.proofs.Common.{◌≡◌, ◌≢◌, ℕ, ◌*◌, ◌^◌, ◌<◌, Bool, cond, length, List, refl, sym, ap, ◌∙◌, subst, inl, inr, arith, Option, Some, None, Result, Ok, Err}
-use Rattle.std.specs.Prelude.{◌==◌, min, replicate}
+use Rattle.std.specs.Prelude.{◌==◌, min, replicate, ◌↔◌}
 use Rattle.std.proofs.lemmas.Bool.{cases_eq, cond-true, cond-false, cond_both, eq-eqb, eqb-true, false_from_ne_true}
 use Rattle.std.proofs.lemmas.List.{get_or-set_same, get_or-set_other}
 use Rattle.machine_theory.specs.Address.{logical_tag, place_of, with_tag}
@@ -13,30 +13,28 @@ use Rattle.heap_theory.specs.declared.refusal.ReallocError.{ReallocError}
 use Rattle.heap_theory.specs.Calls.{Step, given_out, freed, resized, with_payload, payload_bytes, moved, malloc_with, malloc_step, calloc_with, calloc_step, free_with, free_step, stays_in_class, move_with, realloc_with, as_realloc, realloc_step}
 use Rattle.heap_theory.specs.Lookups.{Chunk, IsReusable, MayBeGiven, IsLiveChunk, slot_for_request, chunk_at}
 use Rattle.heap_theory.specs.Run.{Run}
-use Rattle.heap_theory.specs.OwnPointers.{IsOwnPointer, IsNullOrOwn, FreeAccepts, IsNotRefused, ReallocAccepts, OwnPointerFreesChunk, LiveVariablesAreAccepted, FreeAcceptsOwnPointers, ReallocAcceptsOwnPointers, OwnPointersAreGiven, OwnPointersStay}
-use Rattle.heap_theory.specs.Replay.{variable, store_with, store_step}
+use Rattle.heap_theory.specs.OwnPointers.{IsOwnPointer, IsNullOrOwn, FreeAccepts, IsNotRefused, ReallocAccepts, LiveVariablesAreAccepted, GivesOwnPointers, StaysOwnPointer}
+use Rattle.heap_theory.specs.Replay.{store_with, store_step}
 use Rattle.heap_theory.specs.Sound.{IsSoundHeap}
-use Rattle.heap_theory.specs.SoundRun.{IsAddressOf, IsSoundRun, ForGeneration}
+use Rattle.heap_theory.specs.SoundRun.{IsSoundRun}
 use Rattle.class_table.specs.Sizes.{chunk_granules}
-use Rattle.heap_theory.specs.State.{State, Heap, IsLive, slot_in, state_at, last_tag, payload_place, pointer_to}
+use Rattle.heap_theory.specs.State.{State, Heap, IsLive, state_at, last_tag, payload_place, pointer_to, IsSlot}
 use Rattle.heap_theory.specs.State.State.{Fresh, Live, Dead}
 use Rattle.heap_theory.proofs.CallsKept.{KeepsGiven, KeepsGiven-refl, KeepsGiven-with_payload, KeepsGiven-resized, KeepsGiven-moved, HeapChange, IsKept-malloc, IsKept-calloc, IsKept-free, IsKept-realloc, IsKept-store, state_at-with_payload, state_at-given_out, state_at-given_out_other, live_moved, layout-given_out, not_reusable}
 use Rattle.heap_theory.proofs.Lookups.{slot_for_request-cases, chunk_at-is}
 use Rattle.heap_theory.proofs.HeapKept.{in_states}
-use Rattle.heap_theory.proofs.Pointers.{chunk_at-pointer_to}
+use Rattle.heap_theory.proofs.Pointers.{own_chunk}
 
 -- ---- own pointers and named chunks
 
 live_is : (x : State) → IsLive x → (n : ℕ) × (t : ℕ) × (x ≡ Live n t)
-live_is Fresh l = absurd l
-live_is (Live n t) l = (n, t, refl)
-live_is (Dead n t m) l = absurd l
+live_is x0 l = grind arith
 
 -- the own pointer of a chunk names it
 names : (h : Heap) (s p : ℕ) → IsSoundHeap h → IsOwnPointer h s p → (chunk : Chunk) × (chunk_at h p ≡ Ok chunk)
 names h s p sound own =
     let l = live_is (state_at h s) own.live in
-    (record { slot = s; size = l.0 }, ap (chunk_at h) own.address ∙ chunk_at-pointer_to h s l.0 l.1 sound own.in_range l.2)
+    (record { slot = s; size = l.0 }, ap (chunk_at h) own.address ∙ own_chunk h s l.0 l.1 sound own.in_range l.2)
 
 parts : (p : ℕ) → p < 2 ^ 60 → p ≡ with_tag (place_of p) (logical_tag p)
 parts p plain = omega arith
@@ -65,7 +63,7 @@ free_some : (h : Heap) (p : ℕ) (r : Result Chunk FreeError) → p ≢ 0 → ch
 unfolding free_step
 free_some h p r some named = cond-false (p == 0) _ _ (false_from_ne_true _ (λ null. some (eqb-true _ _ null))) ∙ ap (free_with h) named
 
-pub free_accepts : FreeAcceptsOwnPointers
+pub free_accepts : (heap : Heap) (p : ℕ) → IsSoundHeap heap → FreeAccepts heap p ↔ IsNullOrOwn heap p
 free_accepts h p sound = (
   λ accepts. elim (cases_eq p 0) [
     | inl null ↦ inl null
@@ -89,17 +87,13 @@ free_accepts h p sound = (
 
 -- an own pointer is not null
 not_null : (h : Heap) (s : ℕ) → IsSoundHeap h → s < slot_count h.layout → pointer_to h s ≢ 0
-not_null h s sound within null =
-    let inside = sound.slots.inside s within in
-    let wide = sound.slots.wide s within in
-    let most = sound.partition.most in
-    let place : payload_place (slot_in h s) < 2 ^ 56 = omega arith in
-    omega (arith, null)
+not_null h s sound within null = grind arith
 
-pub frees_chunk : OwnPointerFreesChunk
+pub frees_chunk : (heap : Heap) (s n tag : ℕ) → IsSoundHeap heap → IsSlot heap s → state_at heap s ≡ Live n tag →
+    free_step heap (pointer_to heap s) ≡ record { heap = freed heap s n; answer = Ok tt }
 frees_chunk h s n t sound within live =
     free_some h (pointer_to h s) (Ok (record { slot = s; size = n })) (not_null h s sound within)
-    (chunk_at-pointer_to h s n t sound within live)
+    (own_chunk h s n t sound within live)
 
 -- ---- realloc
 
@@ -129,7 +123,7 @@ not_refused h p n chunk = cond_both (stays_in_class h chunk n) _ _ Accepted (λ 
     by_slot (Ok s) = tt
     by_slot (Err cause) = tt
 
-pub realloc_accepts : ReallocAcceptsOwnPointers
+pub realloc_accepts : (heap : Heap) (p n : ℕ) → IsSoundHeap heap → ReallocAccepts heap p n ↔ IsNullOrOwn heap p
 realloc_accepts h p n sound = (
   λ accepts. elim (cases_eq p 0) [
     | inl null ↦ inl null
@@ -160,11 +154,7 @@ same_layout h new s same within = subst (λ (layout : Partition). s < slot_count
 
 own_new : (h new : Heap) (s n : ℕ) → MayBeGiven h n s → KeepsGiven (given_out h s n) new → IsLive (state_at new s) →
     IsOwnPointer new s (pointer_to (given_out h s n) s)
-own_new h new s n given kept live = record {
-  in_range = same_layout h new s (kept.layout ∙ layout-given_out h s n) given.reusable.in_range;
-  live = live;
-  address = sym (kept_pointer (given_out h s n) new s kept);
-}
+own_new h new s n given kept live = grind (arith, kept_pointer, layout-given_out, same_layout)
 
 -- the slot of an own pointer is not given out
 not_given : (h : Heap) (s p n r : ℕ) → IsOwnPointer h s p → MayBeGiven h n r → s ≢ r
@@ -174,11 +164,7 @@ not_given h s p n r own given is =
 
 -- an own pointer stays one while its slot stays live, whether nothing or another slot is given out
 own_kept : (h new : Heap) (s p : ℕ) → KeepsGiven h new → IsOwnPointer h s p → IsLive (state_at new s) → IsOwnPointer new s p
-own_kept h new s p kept own live = record {
-  in_range = same_layout h new s kept.layout own.in_range;
-  live = live;
-  address = own.address ∙ sym (kept_pointer h new s kept);
-}
+own_kept h new s p kept own live = grind (arith, kept_pointer, same_layout)
 
 own_stays : (h new : Heap) (given : Option ℕ) (s p : ℕ) → HeapChange h new given → IsOwnPointer h s p → IsLive (state_at new s) →
     IsOwnPointer new s p
@@ -256,7 +242,7 @@ module _ (h : Heap) (s p : ℕ) (sound : IsSoundHeap h) (own : IsOwnPointer h s 
       by_fault None = refl
       by_fault (Some fault) = refl
 
-pub stays_own : OwnPointersStay
+pub stays_own : (heap : Heap) (s p : ℕ) → IsSoundHeap heap → IsOwnPointer heap s p → StaysOwnPointer heap s p
 stays_own h s p sound own = record {
   malloc = λ n. own_stays h _ _ s p (IsKept-malloc h n sound).change own (live (state_after_malloc h s p sound own n));
   calloc = λ n. own_stays h _ _ s p (IsKept-calloc h n sound).change own (live (state_after_calloc h s p sound own n));
@@ -340,28 +326,12 @@ realloc_own h q n p sound =
     cond_both (q == 0) _ _ (λ (step : Step (Result ℕ ReallocError)). GivesOwn step p) (λ _. null_gives h n p sound)
     (λ _. chunk_gives h q n p sound (chunk_at h q) refl)
 
-pub gives_own : OwnPointersAreGiven
-gives_own h sound = record {
-  malloc = λ n p. malloc_own h n p sound;
-  calloc = λ n p. calloc_own h n p sound;
-  realloc = λ q n p. realloc_own h q n p sound;
-}
+pub gives_own : (heap : Heap) → IsSoundHeap heap → GivesOwnPointers heap
+gives_own h sound = grind (arith, calloc_own, malloc_own, realloc_own)
 
 -- ---- the variables of a run
 
 pub live_variables : (w : Run) → IsSoundRun w → LiveVariablesAreAccepted w
-live_variables w sound v s time generation live =
-    let h = w.replay.heap in
-    let p = variable w.replay v in
-    let i : IsAddressOf h w.times p s time =
-    subst (λ g. ForGeneration g (λ s time. IsAddressOf h w.times p s time)) generation (sound.variables v).follows in
-    let own : IsOwnPointer h s p = record {
-      in_range = i.in_range;
-      live = live.live;
-      address = i.address_is ∙ ap (with_tag (payload_place (slot_in h s))) (i.last (sym live.times)).0;
-    } in
-    record {
-      own = own;
-      by_free = (free_accepts h p sound.heap).1 (inr (s, own));
-      by_realloc = λ n. (realloc_accepts h p n sound.heap).1 (inr (s, own));
-    }
+live_variables w sound v s time generation live = grind (arith, free_accepts, realloc_accepts)
+
+pub ruleset own_pointers = (free_accepts, realloc_accepts, own_chunk, frees_chunk, gives_own, stays_own)

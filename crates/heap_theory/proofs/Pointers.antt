@@ -1,6 +1,6 @@
 -- Which slot a pointer names, and which fresh slot is the lowest.
 use Rattle.std.proofs.Common.{◌≡◌, ℕ, ◌^◌, ◌<◌, Bool, true, false, cond, get_or, ltb, refl, sym, ap, ◌∙◌, subst, arith, Some, None, Option}
-use Rattle.std.specs.Prelude.{◌==◌, ◌&&◌, slice_get, position}
+use Rattle.std.specs.Prelude.{◌==◌, ◌&&◌, slice_get, position, ◌↔◌, IsTrue, IsFalse, Ok}
 use Rattle.std.specs.List.{find, position_or_len, range_with_len}
 use Rattle.std.proofs.lemmas.Bool.{and_from, and_parts, cond-true, eq-eqb, eqb-true, lt-ltb, false_from_ne_true, both_ways}
 use Rattle.std.proofs.lemmas.List.Folds.{find_at}
@@ -11,13 +11,11 @@ use Rattle.machine_theory.specs.Address.{logical_tag, place_of}
 use Rattle.class_table.specs.Layout.{no_slot, slots_of, slot_count}
 use Rattle.heap_theory.proofs.TheoryLemmas as laws
 use Rattle.heap_theory.specs.Lookups.{chunk_in, chunk_in_slot, lowest_fresh, slot_of_pointer, chunk_at}
-use Rattle.heap_theory.specs.OwnPointers.{OwnPointerNamesChunk}
 use Rattle.heap_theory.specs.Sound.{IsChunkTag, IsSoundHeap}
-use Rattle.heap_theory.specs.State.{Heap, slot_in, state_at, is_fresh, last_tag, payload_place, pointer_to}
+use Rattle.heap_theory.specs.State.{Heap, slot_in, state_at, is_fresh, last_tag, payload_place, pointer_to, IsSlot}
 use Rattle.heap_theory.specs.State.State.{Live}
 use Rattle.heap_theory.proofs.Lookups.{slot_of_pointer-is, lowest_fresh-is}
 use Rattle.heap_theory.proofs.ListSearch.{first_in_filter}
-use Rattle.heap_theory.specs.Laws.{LowestFreshIsFirst, NoneIsFresh, PointerIsOfSlot}
 
 -- ---- the slot of a pointer
 
@@ -26,7 +24,8 @@ one_payload : (h : Heap) (r s : ℕ) → IsSoundHeap h → r < s → s < slot_co
     payload_place (slot_in h r) ≡ payload_place (slot_in h s) → ⊥
 one_payload h r s sound before within same = omega (arith, sound.slots.apart r s before within, sound.slots.wide r (omega arith))
 
-pub slot_of_pointer-iff : PointerIsOfSlot
+pub slot_of_pointer-iff : (heap : Heap) (p s : ℕ) → IsSoundHeap heap → (slot_of_pointer heap p ≡ Some s) ↔ (IsSlot heap s × (p < 2 ^ 60)
+    × (place_of p ≡ payload_place (slot_in heap s)))
 slot_of_pointer-iff h p s sound = (
   slot_of_pointer-is h p s,
   λ at.
@@ -40,9 +39,10 @@ slot_of_pointer-iff h p s sound = (
       ∙ cond-true (ltb s (slot_count h.layout)) (Some s) None (lt-ltb s (slot_count h.layout) at.0),
 )
 
-pub chunk_at-pointer_to : OwnPointerNamesChunk
+pub own_chunk : (heap : Heap) (s n tag : ℕ) → IsSoundHeap heap → IsSlot heap s → state_at heap s ≡ Live n tag →
+    chunk_at heap (pointer_to heap s) ≡ Ok (record { slot = s; size = n })
 unfolding chunk_at
-chunk_at-pointer_to h s n t sound within live =
+own_chunk h s n t sound within live =
     let inside = sound.slots.inside s within in
     let wide = sound.slots.wide s within in
     let most = sound.partition.most in
@@ -75,7 +75,9 @@ find_below p n s within passes before =
     ∙ slice_get-get_or (range_with_len 0 n) s 0 (omega arith)
     ∙ ap Some (at s within)
 
-pub lowest_fresh-first : LowestFreshIsFirst
+pub lowest_fresh-first : (heap : Heap) (class s : ℕ) → IsSlot heap s → (slot_in heap s).class ≡ class →
+    IsTrue (is_fresh (state_at heap s)) → ((r : ℕ) → r < s → (slot_in heap r).class ≡ class → IsFalse (is_fresh (state_at heap r))) →
+    lowest_fresh heap class ≡ Some s
 lowest_fresh-first h class s within of_class fresh before =
     first_in_filter (λ s. (slot_in h s).class == class && is_fresh (state_at h s)) (range_with_len 0 (slot_count h.layout))
     ∙ find_below (λ s. (slot_in h s).class == class && is_fresh (state_at h s)) (slot_count h.layout) s within
@@ -84,7 +86,8 @@ lowest_fresh-first h class s within of_class fresh before =
     let parts = and_parts ((slot_in h r).class == class) (is_fresh (state_at h r)) both in
     both_ways _ (before r less (eqb-true _ _ parts.0)) parts.1))
 
-pub lowest_fresh-none : NoneIsFresh
+pub lowest_fresh-none : (heap : Heap) (class : ℕ) → ((r : ℕ) → IsSlot heap r → (slot_in heap r).class ≡ class →
+    IsFalse (is_fresh (state_at heap r))) → lowest_fresh heap class ≡ None
 lowest_fresh-none h class none = by (lowest_fresh h class) refl
   where
     by : (o : Option ℕ) → lowest_fresh h class ≡ o → lowest_fresh h class ≡ None

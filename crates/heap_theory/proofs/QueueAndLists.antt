@@ -1,16 +1,16 @@
 -- After each step of a call the queue and the lists agree with the marks again.
 use Rattle.std.proofs.Common.{◌≡◌, ℕ, ◌+◌, ◌-◌, ◌<◌, true, false, List, [], ◌∷◌, ◌++◌, length, get_or, refl, sym, ap, ◌∙◌, subst, inl, inr, ⊎_elim, arith, Some}
-use Rattle.std.specs.Prelude.{slice_get, slice_set, replicate, Contains}
+use Rattle.std.specs.Prelude.{slice_get, slice_set, replicate, Contains, IsTrue}
 use Rattle.std.proofs.lemmas.Bool.{cases_eq}
 use Rattle.std.proofs.lemmas.List.{length-set, length-replicate}
 use Rattle.std.proofs.lemmas.List.Elements.{Contains-append_left, Contains-push}
 use Rattle.machine_theory.specs.Memory.{Granule}
-use Rattle.class_table.specs.Layout.{slot_count, block_bytes}
+use Rattle.class_table.specs.Layout.{slot_count, block_bytes, Partition}
 use Rattle.heap_theory.specs.QueueAndLists.{HasMark, IsChain, IsFreedList, AgreeWithMarksFrom, AgreeWithMarks}
 use Rattle.heap_theory.specs.Calls.{next_tag, given_out, freed, resized}
 use Rattle.heap_theory.specs.Links.{list_of}
 use Rattle.heap_theory.specs.Sound.{IsSoundHeap}
-use Rattle.heap_theory.specs.State.{State, Heap, slot_in, state_at, last_tag, is_fresh, first_heap, is_dead}
+use Rattle.heap_theory.specs.State.{State, Heap, slot_in, state_at, last_tag, is_fresh, first_heap, is_dead, IsSlot}
 use Rattle.heap_theory.specs.State.State.{Fresh, Live, Dead}
 use Rattle.heap_theory.proofs.ChangedSlot.{changed, state_here, state_there}
 use Rattle.heap_theory.proofs.FirstHeap.{get_or-replicate_any}
@@ -18,7 +18,6 @@ use Rattle.heap_theory.proofs.ListSearch.{Contains-head, Contains-tail, Contains
 use Rattle.heap_theory.proofs.HeapKept.{in_states}
 use Rattle.heap_theory.proofs.Marks.{one_mark, not_marked, chain_bytes, chain_mark, chain_dead, list_mark, list_dead, list_weaker, one_number, IsNumberOf, number_is}
 use Rattle.heap_theory.proofs.Releasing.{list_of-here, list_of-there}
-use Rattle.heap_theory.specs.Laws.{NothingIsFreedAtFirst, FreshIsTaken, ResizedStaysOut, MemoryHasNoMarks, FreedIsQueued}
 
 -- ---- a change of the memory
 
@@ -32,19 +31,9 @@ list_over : (h : Heap) (memory : List Granule) (class bound : ℕ) (list : List 
 list_over h memory class bound [] f = tt
 list_over h memory class bound (s ∷ rest) f = (f.0, f.1, f.2, f.3, f.4, list_over h memory class f.0 rest f.5)
 
-pub agree_over : MemoryHasNoMarks
-agree_over h memory queue lists b = record {
-  from = b.from;
-  agree = record {
-    chain = chain_over h memory b.from queue b.agree.chain;
-    long = b.agree.long;
-    freed = λ number within. list_over h memory _ b.from (list_of lists number) (b.agree.freed number within);
-    queued = b.agree.queued;
-    listed = b.agree.listed;
-    released = b.agree.released;
-  };
-  held = b.held;
-}
+pub agree_over : (heap : Heap) (memory : List Granule) (queue : List ℕ) (lists : List (List ℕ)) → AgreeWithMarks heap queue lists →
+    AgreeWithMarks (record heap { memory = memory }) queue lists
+agree_over h memory queue lists b = grind (arith, chain_over, list_over)
 
 -- ---- the state of one slot changes
 
@@ -171,13 +160,13 @@ not_listed h queue lists s b alive number inside there =
     not_marked (state_at h s) l.mark alive l.marked
 
 pub fresh_not_dead : (x : State) → is_fresh x ≡ true → is_dead x ≡ false
-fresh_not_dead Fresh fresh = refl
-fresh_not_dead (Live n t) fresh = refl
-fresh_not_dead (Dead n t m) fresh = cc
+fresh_not_dead x fresh = grind arith
 
 -- ---- the changes that calls make
 
-pub agree_freed : FreedIsQueued
+pub agree_freed : (heap : Heap) (queue : List ℕ) (lists : List (List ℕ)) (s n tag : ℕ) → IsSoundHeap heap →
+    (b : AgreeWithMarks heap queue lists) → IsSlot heap s → state_at heap s ≡ Live n tag →
+    AgreeWithMarksFrom (freed heap s n) b.from (queue ++ s ∷ []) lists
 unfolding freed
 agree_freed h queue lists s n t sound b in_range live =
     made_dead h s (Dead n (last_tag (state_at h s)) h.total) _ (h.total + block_bytes (slot_in h s)) _ _ (in_states h s sound in_range)
@@ -185,7 +174,8 @@ agree_freed h queue lists s n t sound b in_range live =
     (not_queued h b.from queue s b.agree.chain (ap is_dead live))
     (not_listed h queue lists s b (ap is_dead live))
 
-pub agree_fresh : FreshIsTaken
+pub agree_fresh : (heap : Heap) (queue : List ℕ) (lists : List (List ℕ)) (s n : ℕ) → IsSoundHeap heap → AgreeWithMarks heap queue lists →
+    IsSlot heap s → IsTrue (is_fresh (state_at heap s)) → AgreeWithMarks (given_out heap s n) queue lists
 unfolding given_out
 agree_fresh h queue lists s n sound b in_range fresh =
     made_live h s (Live n (next_tag h s)) _ h.total _ _ (in_states h s sound in_range) queue lists lists refl refl b
@@ -194,7 +184,8 @@ agree_fresh h queue lists s n sound b in_range fresh =
     (not_listed h queue lists s b (fresh_not_dead (state_at h s) fresh))
     (λ number class bound inside f. f) (λ number r not there. there)
 
-pub agree_resized : ResizedStaysOut
+pub agree_resized : (heap : Heap) (queue : List ℕ) (lists : List (List ℕ)) (s n size tag : ℕ) → IsSoundHeap heap →
+    AgreeWithMarks heap queue lists → IsSlot heap s → state_at heap s ≡ Live size tag → AgreeWithMarks (resized heap s n) queue lists
 unfolding resized
 agree_resized h queue lists s n m t sound b in_range live =
     made_live h s (Live n (last_tag (state_at h s))) _ h.total _ _ (in_states h s sound in_range) queue lists lists refl refl b
@@ -219,10 +210,7 @@ module _ (h : Heap) (queue : List ℕ) (lists : List (List ℕ)) (number class s
       (subst (λ c. IsFreedList h c b.from (list_of lists number)) is_number.is (b.agree.freed number inside))
 
   in_no_queue : Contains queue s → ⊥
-  in_no_queue there =
-      let f = front in
-      let below : f.0 < b.from = f.4 in
-      omega (arith, chain_mark h b.from queue s f.0 b.agree.chain there f.3)
+  in_no_queue there = grind (arith, chain_mark, front)
 
   in_no_list : (other : ℕ) → other < length (slice_set lists number rest) → Contains (list_of (slice_set lists number rest) other) s → ⊥
   in_no_list other within there =
@@ -275,7 +263,8 @@ module _ (h : Heap) (queue : List ℕ) (lists : List (List ℕ)) (number class s
 
 -- ---- a new heap
 
-pub agree_first : NothingIsFreedAtFirst
+pub agree_first : (layout : Partition) (seed quarantine : ℕ) →
+    AgreeWithMarks (first_heap layout seed quarantine) [] (replicate (length layout.classes) [])
 unfolding first_heap
 agree_first layout seed quarantine = record {
   from = 0;

@@ -49,10 +49,7 @@ module _ (layout : Partition) where
   pub region_of-tagged : (first count tag : ℕ) (memory : List Granule) →
       region_of layout (tagged first count tag memory)
       ≡ record (region_of layout memory) { granules = tagged first count tag (without_headers layout memory) }
-  region_of-tagged first count tag memory =
-      let headers = headers_of-same memory (tagged first count tag memory)
-      (λ s _. header_at-tagged first count tag (slot_of layout s).start memory) in
-      λ i. record { headers = headers i; granules = without_headers-tagged layout first count tag memory i }
+  region_of-tagged first count tag memory = grind (arith, header_at-tagged, headers_of-same, without_headers-tagged)
 
   -- bytes outside headers are written
   pub region_of-written : (i : ℕ) (new : List ℕ) (memory : List Granule) →
@@ -60,10 +57,7 @@ module _ (layout : Partition) where
       (i + length new ≤ 16 * (slot_of layout s).start) ⊎ (16 * (slot_of layout s).start + 16 ≤ i)) →
       region_of layout (written i new memory)
       ≡ record (region_of layout memory) { granules = written i new (without_headers layout memory) }
-  region_of-written i new memory outside =
-      let headers = headers_of-same memory (written i new memory)
-      (λ s within. header_at-written i (slot_of layout s).start new memory (outside s within)) in
-      λ j. record { headers = headers j; granules = without_headers-written layout i new memory j }
+  region_of-written i new memory outside = grind (arith, header_at-written, headers_of-same, without_headers-written)
 
   -- the header of a slot becomes another
   region_of-rewritten : (memory new : List Granule) (s : ℕ) (header : Header) → s < slot_count layout →
@@ -114,20 +108,12 @@ module _ (layout : Partition) (is : IsPartition layout) where
       new ≡ with_header memory (slot_of layout s).start header → header_at new (slot_of layout s).start ≡ header →
       region_of layout new ≡ with_slot_header (region_of layout memory) s header
   region_of-read memory new s header memory_is within written read =
-      let start = (slot_of layout s).start in
-      region_of-rewritten layout memory new s header within read
-      (λ r there other.
-      ap (λ m. header_at m (slot_of layout r).start) written
-      ∙ header_at-elsewhere memory start (slot_of layout r).start header (starts_differ s r within there other))
-      (ap (without_headers layout) written ∙ header_unseen memory s header memory_is within)
+      grind (arith, header_at-elsewhere, header_unseen, region_of-rewritten, starts_differ)
 
   pub region_of-header : (memory : List Granule) (s : ℕ) (header : Header) → IsMemory memory → length memory ≡ layout.granules →
       s < slot_count layout → FitsWords header →
       region_of layout (with_header memory (slot_of layout s).start header) ≡ with_slot_header (region_of layout memory) s header
-  region_of-header memory s header memory_is long within fits =
-      let start = (slot_of layout s).start in
-      region_of-read memory (with_header memory start header) s header memory_is within refl
-      (header_at-with_header memory start header memory_is (omega (arith, long, start_inside s within)) fits)
+  region_of-header memory s header memory_is long within fits = grind (arith, header_at-with_header, region_of-read, start_inside)
 
 -- ---- a link is set
 

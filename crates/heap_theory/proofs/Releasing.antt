@@ -37,19 +37,10 @@ module _ (h : Heap) (from s number : ℕ) (queue : List ℕ) (lists : List (List
 
   still_queued : (r mark : ℕ) → HasMark (state_at h r) mark → from + block_bytes (slot_in h s) ≤ mark → Contains (s ∷ queue) r →
       Contains queue r
-  still_queued r mark d le there = elim (Contains-cases s queue r there) [
-    | inl is ↦
-        let same : mark ≡ from = one_mark (state_at h r) mark from d (subst (λ r. HasMark (state_at h r) from) is b.chain.1) in
-        let some = wide in
-        absurd (omega arith)
-    | inr queued ↦ queued
-  ]
+  still_queued r mark d le there = grind (arith, Contains-cases, one_mark, wide)
 
   is_front : (r mark : ℕ) → HasMark (state_at h r) mark → mark < from + block_bytes (slot_in h s) → Contains (s ∷ queue) r → s ≡ r
-  is_front r mark d lt there = elim (Contains-cases s queue r there) [
-    | inl is ↦ is
-    | inr queued ↦ absurd (omega (arith, chain_mark h (from + block_bytes (slot_in h s)) queue r mark b.chain.2 queued d))
-  ]
+  is_front r mark d lt there = grind (arith, Contains-cases, chain_mark)
 
   stays_listed : (r other : ℕ) → Contains (list_of lists other) r →
       Contains (list_of (slice_set lists number (s ∷ list_of lists number)) other) r

@@ -45,14 +45,7 @@ length-times_with w (Some s) = length-set w.times s (suc (times_of w s))
 lengths_kept : (w : Run) (e : Event) → length w.generations ≡ length w.replay.variables →
     length (generations_after w e) ≡ length (variables_after w.replay e)
 unfolding generations_after variables_after
-lengths_kept w (Malloc v n) long = length-set w.generations v _ ∙ long ∙ sym (length-set w.replay.variables v _)
-lengths_kept w (Calloc v n) long = length-set w.generations v _ ∙ long ∙ sym (length-set w.replay.variables v _)
-lengths_kept w (Realloc v n) long = length-set w.generations v _ ∙ long ∙ sym (length-set w.replay.variables v _)
-lengths_kept w (Free v) long = long
-lengths_kept w (Load v off len) long = long
-lengths_kept w (Store v off len byte) long = long
-lengths_kept w (Addg v x u6 u4) long = length-set w.generations v _ ∙ long ∙ sym (length-set w.replay.variables v _)
-lengths_kept w (Subg v x u6 u4) long = length-set w.generations v _ ∙ long ∙ sym (length-set w.replay.variables v _)
+lengths_kept w x1 long = grind (arith, length-set)
 
 layout_kept : (h new : Heap) (o : Option ℕ) → HeapChange h new o → new.layout ≡ h.layout
 layout_kept h new None change = change.layout
@@ -144,7 +137,7 @@ module _ where
   IsSoundRun-first : (layout : Partition) (seed quarantine : ℕ) → IsPartition layout → IsSoundRun (first_run layout seed quarantine)
   unfolding first_run first_replay first_heap
   IsSoundRun-first layout seed quarantine is = record {
-    heap = IsSoundHeap-first layout seed quarantine is (laws.in_order 1 layout is.table);
+    heap = IsSoundHeap-first layout seed quarantine is;
     times = length-replicate (slot_count layout) 0;
     generations = length-replicate {A = Option Generation} 1024 None ∙ sym (length-replicate {A = ℕ} 1024 0);
     variables =

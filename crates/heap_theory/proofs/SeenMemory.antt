@@ -1,6 +1,6 @@
 -- What is seen of a memory without the bytes of its headers.
 use Rattle.std.proofs.Common.{◌≡◌, ◌⊎◌, ℕ, ◌+◌, ◌-◌, ◌*◌, ◌/◌, ◌%◌, ◌<◌, ◌≤◌, Bool, true, false, cond, List, [], length, replicate, refl, sym, ap, ◌∙◌, subst, inl, inr, ⊎_elim, arith}
-use Rattle.std.specs.Prelude.{◌==◌, nat_le, nat_lt, slice_index, Any, is_some}
+use Rattle.std.specs.Prelude.{nat_le, nat_lt, slice_index, is_some, IsTrue, ◌≢◌, None, IsFalse}
 use Rattle.std.proofs.lemmas.Bool.{cases_lt, cases_Bool, cases_order, cond-false, cond_both, eqb-true, both_ways, and_left, and_right, lt-leb, le-ltb, false_from_ne_true}
 use Rattle.std.proofs.lemmas.List.{length-replicate, get_or-replicate, get_or_past, get_or_default}
 use Rattle.std.proofs.lemmas.List.Folds.{Any-from_list_any}
@@ -8,11 +8,12 @@ use Rattle.std.proofs.lemmas.List.FromFn.{fill_by_all}
 use Rattle.machine_theory.specs.Access.{access_fault}
 use Rattle.machine_theory.specs.Memory.{Granule, no_granule, new_granule, granule_at, tag_at, each_granule, is_among, tagged, byte_at, byte_after, bytes_after, written, IsMemory}
 use Rattle.machine_theory.proofs.MemoryLaws.{tag_at_past}
-use Rattle.class_table.specs.Layout.{Partition, Slot, no_slot, slots_of, slot_count, slot_of}
+use Rattle.class_table.specs.Layout.{Partition, slot_count, slot_of}
 use Rattle.heap_theory.proofs.TheoryLemmas as laws
 use Rattle.heap_theory.specs.Sound.{IsSoundHeap}
 use Rattle.heap_theory.specs.State.{Heap, is_header_granule, without_headers, first_memory}
-use Rattle.heap_theory.specs.HeaderLaws.{HeaderBytesAreNotSeen, HeadersAreSpared}
+use Rattle.machine_theory.specs.declared.sizes.TheConstants.{GRANULE_BYTES}
+use Rattle.machine_theory.specs.Address.{logical_tag, Touches}
 
 -- what becomes of a granule
 abbrev hidden : Partition → ℕ → Granule → Granule
@@ -21,10 +22,7 @@ hidden layout g granule = cond (is_header_granule layout g) (record granule { by
 swap_tag : (a b : Bool) (tag : ℕ) (x : Granule) →
     ◌≡◌ {A = Granule} (cond a (record (cond b (record x { tag = tag }) x) { bytes = [] }) (cond b (record x { tag = tag }) x))
     (cond b (record (cond a (record x { bytes = [] }) x) { tag = tag }) (cond a (record x { bytes = [] }) x))
-swap_tag true true tag x = refl
-swap_tag true false tag x = refl
-swap_tag false true tag x = refl
-swap_tag false false tag x = refl
+swap_tag x0 x1 tag x = grind arith
 
 swap_bytes : (a : Bool) (i : ℕ) (new : List ℕ) (g : ℕ) (x : Granule) →
     ◌≡◌ {A = Granule} (cond a (record (record x { bytes = bytes_after i new g x.bytes }) { bytes = [] })
@@ -146,7 +144,9 @@ granule_at-written i g new memory is apart = elim (cases_lt g (length memory)) [
         apart
 
 -- bytes that are written in a header are not seen
-pub without_headers-in_header : HeaderBytesAreNotSeen
+pub without_headers-in_header : (layout : Partition) (g i : ℕ) (new : List ℕ) (memory : List Granule) → IsMemory memory →
+    IsTrue (is_header_granule layout g) → GRANULE_BYTES * g ≤ i → i + length new ≤ GRANULE_BYTES * g + GRANULE_BYTES →
+    without_headers layout (written i new memory) ≡ without_headers layout memory
 without_headers-in_header layout g i new memory is header from to =
     without_headers-same layout memory (written i new memory) (laws.written_length i new memory) (λ k. laws.tag_under_bytes i k new memory)
     (λ k none. granule_at-written i k new memory is (elim (cases_order k g) [
@@ -160,11 +160,7 @@ without_headers-in_header layout g i new memory is header from to =
 -- a header is the first granule of a slot,
 pub header_starts : (layout : Partition) (g : ℕ) → is_header_granule layout g ≡ true →
     (s : ℕ) × (s < slot_count layout) × ((slot_of layout s).start ≡ g)
-header_starts layout g is =
-    let any : Any (λ (slot : Slot). (slot.start == g) ≡ true) (slots_of layout) =
-    Any-from_list_any (λ slot. slot.start == g) (slots_of layout) is in
-    let slot : slot_of layout any.0 ≡ any.1 = get_or_default (slots_of layout) any.0 no_slot any.1 any.2 ∙ any.3 in
-    (any.0, any.2, ap (λ (slot : Slot). slot.start) slot ∙ eqb-true any.1.start g any.4)
+header_starts layout g is = grind (arith, Any-from_list_any, eqb-true, get_or_default)
 
 -- and has tag 0
 header_tag : (h : Heap) (g : ℕ) → IsSoundHeap h → is_header_granule h.layout g ≡ true → tag_at h.memory g ≡ 0
@@ -172,7 +168,8 @@ header_tag h g sound is =
     let slot = header_starts h.layout g is in subst (λ k. tag_at h.memory k ≡ 0) slot.2 (sound.tagged slot.0 slot.1).header
 
 -- an access that succeeds under another tag than 0 touches no header
-pub headers_spared : HeadersAreSpared
+pub headers_spared : (heap : Heap) (address len g : ℕ) → IsSoundHeap heap → logical_tag address ≢ 0 → access_fault heap.memory address len
+    ≡ None → Touches address len g → IsFalse (is_header_granule heap.layout g)
 headers_spared h address len g sound tagged succeeds touches = false_from_ne_true (is_header_granule h.layout g) (λ is.
     let fault = laws.other_tag_faults h.memory address len g touches (λ same. tagged (sym same ∙ header_tag h g sound is)) in
     let none : is_some (access_fault h.memory address len) ≡ false = ap is_some succeeds in

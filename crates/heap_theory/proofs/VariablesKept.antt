@@ -26,15 +26,7 @@ use Rattle.heap_theory.proofs.Tags.{IsTagOf-next_tag, next_tag-differs}
 -- ---- addresses
 
 IsAddressOf-kept : (h new : Heap) (times : List ℕ) (a s m : ℕ) → KeepsGiven h new → IsAddressOf h times a s m → IsAddressOf new times a s m
-IsAddressOf-kept h new times a s m kept i = record {
-  in_range = subst (λ (layout : Partition). s < slot_count layout) (sym kept.layout) i.in_range;
-  address_is =
-      subst (λ (layout : Partition). a ≡ with_tag (payload_place (slot_of layout s)) (logical_tag a)) (sym kept.layout) i.address_is;
-  tag = i.tag;
-  past = i.past;
-  last = λ now. ((i.last now).0 ∙ sym (kept.last s), kept.fresh s ∙ (i.last now).1);
-  last_but_one = λ before same. i.last_but_one before (same ∙ kept.last s);
-}
+IsAddressOf-kept h new times a s m kept i = grind arith
 
 -- slot r is given out
 module _ (h : Heap) (times : List ℕ) (r n : ℕ) (tag_below : h.tag < 16) (within : r < length h.states) (in_times : r < length times) where

@@ -1,13 +1,13 @@
 -- When each result of an access comes, exactly.
-use Rattle.std.specs.Prelude.{◌≡◌, ◌≢◌, ◌↔◌, ◌⊎◌, ℕ, ◌<◌, ℤ, List, ◌∷◌, ◌++◌, length, replicate, slice_get, Some, IsFalse, IsTrue}
-use Rattle.machine_theory.specs.Access.{IsMapped, IsTagFault, is_mapped, loaded, stored}
+use Rattle.std.specs.Prelude.{◌≡◌, ◌≢◌, ◌↔◌, ◌⊎◌, ℕ, ◌<◌, ℤ, List, ◌∷◌, ◌++◌, length, slice_get, Some, IsFalse, IsTrue}
+use Rattle.machine_theory.specs.Access.{IsMapped, IsTagFault, is_mapped, loaded}
 use Rattle.machine_theory.specs.Address.{logical_tag, moved_by, Touches}
 use Rattle.machine_theory.specs.Memory.{tag_at}
 use Rattle.heap_theory.specs.declared.event.Event.{Event}
 use Rattle.heap_theory.specs.declared.event.Event.TheVariants.{Load, Store}
 use Rattle.heap_theory.specs.declared.place_kind.PlaceKind.{PlaceKind}
 use Rattle.heap_theory.specs.GranuleKinds.{place_kind}
-use Rattle.heap_theory.specs.Replay.{Replay, Answer, variable, heap_after, answer_of, answers, replay_of, is_tag_fault}
+use Rattle.heap_theory.specs.Replay.{Replay, Answer, variable, answers, replay_of, is_tag_fault}
 use Rattle.heap_theory.specs.Replay.Answer.{Silent, Loaded, NotMapped, TagFault}
 use Rattle.heap_theory.specs.State.{Heap}
 
@@ -35,29 +35,6 @@ pub record IsAnswerTo (heap : Heap) (address len : ℕ) (done answer : Answer) :
 
 -- ---- one event
 
--- A load that succeeds gives the bytes that stand there,
-abbrev pub LoadIsAnswered : Type 0
-LoadIsAnswered =
-    (replay : Replay) (v : ℕ) (off : ℤ) (len : ℕ) → 0 < len → let address = moved_by (variable replay v) off in
-    let done = Loaded (loaded replay.heap.memory address len) in
-    IsAnswerTo replay.heap address len done (answer_of replay (Load v off len))
-
--- and a store that succeeds is silent.
-abbrev pub StoreIsAnswered : Type 0
-StoreIsAnswered =
-    (replay : Replay) (v : ℕ) (off : ℤ) (len byte : ℕ) → 0 < len →
-    IsAnswerTo replay.heap (moved_by (variable replay v) off) len Silent (answer_of replay (Store v off len byte))
-
--- A store leaves its bytes where it succeeds, and changes nothing where it does not.
-abbrev pub StoreIsDone : Type 0
-StoreIsDone =
-    (replay : Replay) (v : ℕ) (off : ℤ) (len byte : ℕ) →
-    let address = moved_by (variable replay v) off in
-    let answer = answer_of replay (Store v off len byte) in
-    let after = heap_after replay (Store v off len byte) in
-    (answer ≡ Silent → after ≡ record replay.heap { memory = stored replay.heap.memory address (replicate len byte) })
-    × (answer ≢ Silent → after ≡ replay.heap)
-
 -- ---- whole traces
 
 -- Each load and store of a trace has this result, in the replay after the events before it.
@@ -72,6 +49,3 @@ pub record AccessesAreAnswered (first : Replay) (events : List Event) : Type 0 w
       let replay = replay_of first before in
       (answer : Answer) × (slice_get (answers first events) (length before) ≡ Some answer)
       × IsAnswerTo replay.heap (moved_by (variable replay v) off) len Silent answer
-
-abbrev pub AllAccessesAreAnswered : Type 0
-AllAccessesAreAnswered = (first : Replay) (events : List Event) → AccessesAreAnswered first events

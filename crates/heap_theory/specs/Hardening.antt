@@ -1,6 +1,6 @@
 -- What hardens the heap, said of a run. An access touches each granule that holds one of its bytes, whether the whole access is mapped or
 -- not.
-use Rattle.std.specs.Prelude.{◌≡◌, ◌≢◌, ◌⊎◌, ℕ, suc, ◌+◌, ◌-◌, ◌%◌, ◌<◌, ◌≤◌, ℤ, nat_abs, List, length, slice_index, Some, None, IsSome, IsTrue, ⊤}
+use Rattle.std.specs.Prelude.{◌≡◌, ◌≢◌, ◌↔◌, ◌⊎◌, ℕ, suc, ◌+◌, ◌-◌, ◌%◌, ◌<◌, ◌≤◌, ℤ, nat_abs, List, length, slice_index, Some, None, IsSome, IsTrue, ⊤}
 use Rattle.machine_theory.specs.Access.{access_fault}
 use Rattle.machine_theory.specs.Address.{logical_tag, place_of, moved_by, Holds, Touches}
 use Rattle.machine_theory.specs.Memory.{tag_at}
@@ -44,6 +44,18 @@ pub record IsPayloadGranule (heap : Heap) (s g : ℕ) : Type 0 where
   pub in_range : IsSlot heap s
   pub from : (slot_in heap s).start < g
   pub to : g < end_of (slot_in heap s)
+
+-- What the kind of granule g means, exactly.
+pub record IsOfItsKind (heap : Heap) (g : ℕ) : Type 0 where
+  -- Slack is in no slot,
+  pub slack : (place_kind heap g ≡ Slack) ↔ ((s : ℕ) → IsSlot heap s → Covers (slot_in heap s) g → ⊥)
+  -- a header is the first granule of a slot,
+  pub header : (place_kind heap g ≡ Header) ↔ ((s : ℕ) × IsSlot heap s × ((slot_in heap s).start ≡ g))
+  -- a live or a dead chunk is that of a live or a dead slot,
+  pub other : (place_kind heap g ≡ Other) ↔ ((s : ℕ) × IsLive (state_at heap s) × IsChunkGranule heap s g)
+  pub dead : (place_kind heap g ≡ DeadChunk) ↔ ((s : ℕ) × IsTrue (is_dead (state_at heap s)) × IsChunkGranule heap s g)
+  -- and a tail is the rest of a slot's payload, all of it where the slot is fresh.
+  pub tail : (place_kind heap g ≡ Tail) ↔ ((s : ℕ) × IsPayloadGranule heap s g × (IsChunkGranule heap s g → ⊥))
 
 abbrev pub IsBookkeeping : PlaceKind → Type 0
 IsBookkeeping Slack = ⊤

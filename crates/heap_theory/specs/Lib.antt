@@ -3,10 +3,7 @@ pub mod Calls
 pub mod GranuleKinds
 pub mod Hardening
 pub mod Header
-pub mod HeaderLaws
 pub mod HeapInMemory
-pub mod KindLaws
-pub mod Laws
 pub mod Links
 pub mod Lookups
 pub mod Losses

@@ -1,10 +1,9 @@
 -- What a run loses by rounding requests up to their classes, against what its trace requests.
-use Rattle.std.specs.Prelude.{◌≡◌, ℕ, ◌≤◌, ◌&&◌, List, count_by, filter_map, zip}
-use Rattle.class_table.specs.Layout.{Partition}
+use Rattle.std.specs.Prelude.{◌≡◌, ℕ, ◌≤◌, ◌&&◌, List, count_by, filter_map}
 use Rattle.class_table.specs.Sizes.{counted_of}
 use Rattle.class_table.specs.Tables.{ServesSizes, rounding_loss}
 use Rattle.heap_theory.specs.declared.event.Event.{Event}
-use Rattle.heap_theory.specs.Replay.{Answer, answers, first_replay, is_refused}
+use Rattle.heap_theory.specs.Replay.{Answer, is_refused}
 use Rattle.heap_theory.specs.Totals.{request_size, is_request, totals_of}
 
 -- ---- what a trace requests
@@ -34,9 +33,3 @@ pub record LosesAtMostItsWaste (classes : List ℕ) (events : List Event) (happe
   pub loss : (totals_of classes happened).loss ≤ rounding_loss classes (counted_sizes events)
   pub all_loss : (totals_of classes happened).null_exhausted ≡ 0 → refused_reallocs happened ≡ 0 →
       (totals_of classes happened).loss ≡ rounding_loss classes (counted_sizes events)
-
--- So it is in every run over a new heap whose classes serve each counted request.
-abbrev pub ServedRunLosesItsWaste : Type 0
-ServedRunLosesItsWaste =
-    (layout : Partition) (seed quarantine : ℕ) (events : List Event) → ServesEach layout.classes events →
-    LosesAtMostItsWaste layout.classes events (zip events (answers (first_replay layout seed quarantine) events))

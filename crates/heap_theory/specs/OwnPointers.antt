@@ -1,15 +1,12 @@
 -- The pointer that was given out for a live chunk, and which pointers `free` and `realloc` accept.
-use Rattle.std.specs.Prelude.{◌≡◌, ◌≢◌, ◌↔◌, ◌⊎◌, ℕ, List, Result, Ok, Err, ⊤}
+use Rattle.std.specs.Prelude.{◌≡◌, ◌≢◌, ◌⊎◌, ℕ, List, Result, Ok, Err, ⊤}
 use Rattle.heap_theory.specs.declared.refusal.ReallocError.{ReallocError}
 use Rattle.heap_theory.specs.declared.refusal.ReallocError.TheVariants.{Null, Refused}
-use Rattle.heap_theory.specs.Calls.{freed, malloc_step, calloc_step, free_step, realloc_step}
-use Rattle.heap_theory.specs.Lookups.{chunk_at}
+use Rattle.heap_theory.specs.Calls.{malloc_step, calloc_step, free_step, realloc_step}
 use Rattle.heap_theory.specs.Run.{Run}
 use Rattle.heap_theory.specs.Hardening.{HasGeneration, IsLiveGeneration}
 use Rattle.heap_theory.specs.Replay.{variable, store_step}
-use Rattle.heap_theory.specs.Sound.{IsSoundHeap}
 use Rattle.heap_theory.specs.State.{Heap, IsLive, state_at, pointer_to, IsSlot}
-use Rattle.heap_theory.specs.State.State.{Live}
 
 -- The own pointer of the live chunk in slot s: the address of its first byte, under the tag that the slot was given out with.
 pub record IsOwnPointer (heap : Heap) (s p : ℕ) : Type 0 where
@@ -36,34 +33,11 @@ ReallocAccepts heap p n = IsNotRefused (realloc_step heap p n).answer
 
 -- ---- the laws
 
--- `free` accepts null and the own pointers of live chunks, and no others,
-abbrev pub FreeAcceptsOwnPointers : Type 0
-FreeAcceptsOwnPointers = (heap : Heap) (p : ℕ) → IsSoundHeap heap → FreeAccepts heap p ↔ IsNullOrOwn heap p
-
--- and `realloc` accepts the same ones, whatever size is asked for.
-abbrev pub ReallocAcceptsOwnPointers : Type 0
-ReallocAcceptsOwnPointers = (heap : Heap) (p n : ℕ) → IsSoundHeap heap → ReallocAccepts heap p n ↔ IsNullOrOwn heap p
-
--- An own pointer names its chunk,
-abbrev pub OwnPointerNamesChunk : Type 0
-OwnPointerNamesChunk =
-    (heap : Heap) (s n tag : ℕ) → IsSoundHeap heap → IsSlot heap s → state_at heap s ≡ Live n tag →
-    chunk_at heap (pointer_to heap s) ≡ Ok (record { slot = s; size = n })
-
--- and `free` frees that chunk.
-abbrev pub OwnPointerFreesChunk : Type 0
-OwnPointerFreesChunk =
-    (heap : Heap) (s n tag : ℕ) → IsSoundHeap heap → IsSlot heap s → state_at heap s ≡ Live n tag →
-    free_step heap (pointer_to heap s) ≡ record { heap = freed heap s n; answer = Ok tt }
-
 -- What malloc, calloc and realloc give out is the own pointer of a live chunk,
 pub record GivesOwnPointers (heap : Heap) : Type 0 where
   pub malloc : (n p : ℕ) → (malloc_step heap n).answer ≡ Ok p → (s : ℕ) × IsOwnPointer (malloc_step heap n).heap s p
   pub calloc : (n p : ℕ) → (calloc_step heap n).answer ≡ Ok p → (s : ℕ) × IsOwnPointer (calloc_step heap n).heap s p
   pub realloc : (q n p : ℕ) → (realloc_step heap q n).answer ≡ Ok p → (s : ℕ) × IsOwnPointer (realloc_step heap q n).heap s p
-
-abbrev pub OwnPointersAreGiven : Type 0
-OwnPointersAreGiven = (heap : Heap) → IsSoundHeap heap → GivesOwnPointers heap
 
 -- and stays it in each call but a free or a realloc of itself.
 pub record StaysOwnPointer (heap : Heap) (s p : ℕ) : Type 0 where
@@ -72,9 +46,6 @@ pub record StaysOwnPointer (heap : Heap) (s p : ℕ) : Type 0 where
   pub free : (q : ℕ) → q ≢ p → IsOwnPointer (free_step heap q).heap s p
   pub realloc : (q n : ℕ) → q ≢ p → IsOwnPointer (realloc_step heap q n).heap s p
   pub store : (address : ℕ) (bytes : List ℕ) → IsOwnPointer (store_step heap address bytes) s p
-
-abbrev pub OwnPointersStay : Type 0
-OwnPointersStay = (heap : Heap) (s p : ℕ) → IsSoundHeap heap → IsOwnPointer heap s p → StaysOwnPointer heap s p
 
 -- In a run, a variable whose generation is live has the own pointer of its chunk; so both calls accept it.
 pub record IsAcceptedVariable (run : Run) (v s : ℕ) : Type 0 where

@@ -2,7 +2,7 @@
 -- variable got its address. No answer depends on them: what is stored determines each answer, and what is stored after it.
 use Rattle.std.specs.Prelude.{ℕ, ◌+◌, zero, suc, ◌==◌, if◌then◌else◌, List, replicate, fold, slice_set, slice_index, slice_index_or, Option, Some, None}
 use Rattle.std.specs.Result.{result_ok}
-use Rattle.class_table.specs.Layout.{Partition, slot_count}
+use Rattle.class_table.specs.Layout.{IsPartition, Partition, slot_count}
 use Rattle.heap_theory.specs.declared.event.Event.{Event}
 use Rattle.heap_theory.specs.declared.event.Event.TheVariants.{Malloc, Calloc, Realloc, Free, Load, Store, Addg, Subg}
 use Rattle.heap_theory.specs.Calls.{slot_if_moved}
@@ -84,3 +84,14 @@ first_run layout seed quarantine = record {
 -- The run of a list of events, from a new heap on.
 unfoldable pub run : Partition → ℕ → ℕ → List Event → Run
 run layout seed quarantine events = fold run_after (first_run layout seed quarantine) events
+
+-- ---- every run, and every event of a run
+
+abbrev pub AfterEveryRun : (Run → Type 0) → Type 0
+AfterEveryRun P =
+    (layout : Partition) (seed quarantine : ℕ) (events : List Event) → IsPartition layout → P (run layout seed quarantine events)
+
+abbrev pub AtEveryEvent : (ℕ → Run → Run → Type 0) → Type 0
+AtEveryEvent P =
+    (layout : Partition) (seed quarantine : ℕ) (events : List Event) (event : Event) → IsPartition layout →
+    P quarantine (run layout seed quarantine events) (run_after (run layout seed quarantine events) event)

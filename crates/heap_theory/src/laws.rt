@@ -3,6 +3,4 @@
 pub mod hardening;
 pub mod headers;
 pub mod heap;
-pub mod losses;
-pub mod queue_and_lists;
 pub mod run;

@@ -73,9 +73,9 @@ byte_at-tagged first count tag memory j =
     (λ _. cond_both (is_among first count (j / 16)) (record (granule_at memory (j / 16)) { tag = tag }) (granule_at memory (j / 16))
     (λ x. slice_index x.bytes (j % 16) ≡ byte_at memory j) (λ _. refl) (λ _. refl))
 
-pub bytes_at-tagged : (first count tag : ℕ) (memory : List Granule) (j len : ℕ) →
+pub bytes_under_tags : (first count tag j len : ℕ) (memory : List Granule) →
     bytes_at (tagged first count tag memory) j len ≡ bytes_at memory j len
-bytes_at-tagged first count tag memory j len =
+bytes_under_tags first count tag j len memory =
     bytes_at_agree (tagged first count tag memory) memory j len (λ k h. byte_at-tagged first count tag memory (j + k))
 
 pub byte_at-written_outside : (i : ℕ) (new : List ℕ) (memory : List Granule) (j : ℕ) → (j < i) ⊎ (i + length new ≤ j) →
@@ -98,9 +98,9 @@ byte_at-written_outside i new memory j out =
         get_or_past (bytes_after i new (j / 16) bytes) (j % 16) 0
         (subst (λ n. n ≤ j % 16) (sym (length-bytes_after i new (j / 16) bytes)) past) ∙ sym (get_or_past bytes (j % 16) 0 past)
 
-pub bytes_at-written_outside : (i : ℕ) (new : List ℕ) (memory : List Granule) (j len : ℕ) → (j + len ≤ i) ⊎ (i + length new ≤ j) →
+pub other_bytes : (i j len : ℕ) (new : List ℕ) (memory : List Granule) → (j + len ≤ i) ⊎ (i + length new ≤ j) →
     bytes_at (written i new memory) j len ≡ bytes_at memory j len
-bytes_at-written_outside i new memory j len out =
+other_bytes i j len new memory out =
     bytes_at_agree (written i new memory) memory j len (λ k h. byte_at-written_outside i new memory (j + k) (apart k h out))
   where
     apart : (k : ℕ) → k < len → (j + len ≤ i) ⊎ (i + length new ≤ j) → (j + k < i) ⊎ (i + length new ≤ j + k)

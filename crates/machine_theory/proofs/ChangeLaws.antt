@@ -1,12 +1,12 @@
 -- Changes of the memory, one after another.
-use Rattle.std.proofs.Common.{◌≡◌, ℕ, ◌+◌, ◌-◌, ◌*◌, ◌<◌, ◌≤◌, Bool, true, false, cond, List, [], ◌++◌, map, length, get_or, refl, sym, ap, ◌∙◌, subst, inl, inr, ⊎_elim, arith, ◌⊎◌}
-use Rattle.std.specs.Prelude.{◌||◌, slice_index}
+use Rattle.std.proofs.Common.{◌≡◌, ℕ, ◌+◌, ◌-◌, ◌*◌, ◌<◌, ◌≤◌, false, List, [], ◌++◌, map, length, get_or, refl, sym, ap, ◌∙◌, subst, inl, inr, ⊎_elim, arith, ◌⊎◌}
+use Rattle.std.specs.Prelude.{slice_index}
 use Rattle.std.specs.List.{range_with_len}
 use Rattle.std.proofs.lemmas.List.{length-append, get_or_append_left, get_or-append_right}
 use Rattle.std.proofs.lemmas.List.FromFn.{get_or-map-range_with_len, length-map-range_with_len, fill_by_all}
 use Rattle.std.proofs.lemmas.Bool.{cases_lt, cond-true, cond-false, and_from, and_left, and_right, le-leb, lt-ltb, lt-leb, le-ltb}
 use Rattle.std.proofs.lemmas.Bool.Decides.{nat_tests}
-use Rattle.machine_theory.specs.Memory.{Granule, no_granule, granule_at, each_granule, is_among, tagged, byte_after, bytes_after, written}
+use Rattle.machine_theory.specs.Memory.{Granule, no_granule, granule_at, each_granule, is_among, byte_after, bytes_after, written}
 use Rattle.machine_theory.proofs.MemoryLaws.{length-each_granule, granule_at-each_granule}
 
 -- two changes that agree on each granule of the memory
@@ -42,36 +42,8 @@ pub each_granule_is : (change : ℕ → Granule → Granule) (memory new : List 
 unfolding each_granule
 each_granule_is change memory new long same = fill_by_all (λ g. change g (granule_at memory g)) new (length memory) no_granule long same
 
-is_among-more : (first n g : ℕ) → is_among first (n + 1) g ≡ (is_among (first + n) 1 g || is_among first n g)
-is_among-more first n g = grind (arith, nat_tests)
-
-twice_tagged : (a b : Bool) (tag : ℕ) (x : Granule) →
-    ◌≡◌ {A = Granule} (cond a (record (cond b (record x { tag = tag }) x) { tag = tag }) (cond b (record x { tag = tag }) x))
-    (cond (a || b) (record x { tag = tag }) x)
-twice_tagged true true tag x = refl
-twice_tagged true false tag x = refl
-twice_tagged false true tag x = refl
-twice_tagged false false tag x = refl
-
--- one granule more
-pub tagged-more : (first n tag : ℕ) (memory : List Granule) →
-    tagged (first + n) 1 tag (tagged first n tag memory) ≡ tagged first (n + 1) tag memory
-unfolding tagged
-tagged-more first n tag memory =
-    each_granule_twice (λ g x. cond (is_among (first + n) 1 g) (record x { tag = tag }) x)
-    (λ g x. cond (is_among first n g) (record x { tag = tag }) x) memory
-    ∙ each_granule_agree _ (λ g x. cond (is_among first (n + 1) g) (record x { tag = tag }) x) memory
-    (λ g _. twice_tagged (is_among (first + n) 1 g) (is_among first n g) tag (granule_at memory g)
-    ∙ ap (λ b. cond b (record (granule_at memory g) { tag = tag }) (granule_at memory g)) (sym (is_among-more first n g)))
-
 is_among-none : (first g : ℕ) → is_among first 0 g ≡ false
 is_among-none first g = grind (arith, nat_tests)
-
-pub tagged-none : (first tag : ℕ) (memory : List Granule) → tagged first 0 tag memory ≡ memory
-unfolding tagged
-tagged-none first tag memory = sym (each_granule_is (λ g x. cond (is_among first 0 g) (record x { tag = tag }) x) memory memory refl
-    (λ g _. sym (cond-false (is_among first 0 g) (record (granule_at memory g) { tag = tag }) (granule_at memory g)
-    (is_among-none first g))))
 
 -- no bytes
 pub written-none : (i : ℕ) (memory : List Granule) → written i [] memory ≡ memory
@@ -141,20 +113,3 @@ written-append i a b memory =
     (λ g x. record x { bytes = bytes_after i a g x.bytes }) memory
     ∙ each_granule_agree _ (λ g x. record x { bytes = bytes_after i (a ++ b) g x.bytes }) memory
     (λ g _. ap (λ bytes. record (granule_at memory g) { bytes = bytes }) (bytes_after-append i a b g (granule_at memory g).bytes))
-
--- tags and bytes may be written in either order
-pub written-tagged : (i : ℕ) (new : List ℕ) (first count tag : ℕ) (memory : List Granule) →
-    written i new (tagged first count tag memory) ≡ tagged first count tag (written i new memory)
-unfolding written tagged
-written-tagged i new first count tag memory =
-    each_granule_either (λ g x. record x { bytes = bytes_after i new g x.bytes })
-    (λ g x. cond (is_among first count g) (record x { tag = tag }) x) memory
-    (λ g x. either (is_among first count g) g x)
-  where
-    either : (b : Bool) (g : ℕ) (x : Granule) →
-        ◌≡◌ {A = Granule} (record (cond b (record x { tag = tag }) x)
-        { bytes = bytes_after i new g (cond b (record x { tag = tag }) x).bytes })
-        (cond b (record (record x { bytes = bytes_after i new g x.bytes }) { tag = tag })
-        (record x { bytes = bytes_after i new g x.bytes }))
-    either true g x = refl
-    either false g x = refl

@@ -1,26 +1,14 @@
 -- A changed memory is a memory.
-use Rattle.std.proofs.Common.{ℕ, ◌*◌, ◌+◌, ◌-◌, ◌<◌, ◌≤◌, cond, List, length, get_or, replicate, refl, sym, ◌∙◌, subst, arith}
+use Rattle.std.proofs.Common.{ℕ, ◌*◌, ◌+◌, ◌-◌, ◌<◌, ◌≤◌, List, length, get_or, sym, ◌∙◌, subst, arith}
 use Rattle.std.specs.Prelude.{All, slice_index}
 use Rattle.std.specs.List.{range_with_len}
-use Rattle.std.proofs.lemmas.List.{length-replicate}
 use Rattle.std.proofs.lemmas.List.FromFn.{get_or-range_with_len, length-range_with_len}
-use Rattle.std.proofs.lemmas.List.Elements.{All-map, All-replicate}
+use Rattle.std.proofs.lemmas.List.Elements.{All-map}
 use Rattle.std.proofs.lemmas.Bool.{cond_both}
-use Rattle.machine_theory.specs.Memory.{Granule, no_granule, new_granule, IsGranule, IsMemory, granule_at, each_granule, is_among, tagged, byte_after, bytes_after, written}
+use Rattle.machine_theory.specs.Memory.{Granule, no_granule, IsGranule, IsMemory, granule_at, each_granule, is_among, byte_after, bytes_after, written}
 use Rattle.machine_theory.proofs.MemoryLaws.{length-each_granule}
 use Rattle.machine_theory.proofs.ChangeLaws.{length-bytes_after}
 use Rattle.machine_theory.proofs.ByteLaws.{byte_below}
-
-pub IsMemory-new : (granules : ℕ) → 64 ≤ granules → granules ≤ 262144 → IsMemory (replicate granules new_granule)
-IsMemory-new granules least most =
-    let long = length-replicate granules new_granule in
-    record {
-      least = subst (λ n. 64 ≤ n) (sym long) least;
-      most = subst (λ n. n ≤ 262144) (sym long) most;
-      granules =
-          All-replicate IsGranule granules new_granule
-          (record { tag = omega arith; sixteen = refl; bytes = All-replicate (λ b. b < 256) 16 0 (omega arith) });
-    }
 
 -- a change that makes granules of granules
 IsGranule-each : (change : ℕ → Granule → Granule) (memory : List Granule) → ((g : ℕ) (x : Granule) → IsGranule x → IsGranule (change g x)) →
@@ -31,18 +19,6 @@ IsGranule-each change memory kept each =
     (λ k d h. let within : k < length memory = subst (λ n. k < n) (length-range_with_len 0 (length memory)) h in
     subst (λ g. IsGranule (change g (granule_at memory g))) (sym (get_or-range_with_len 0 (length memory) k d within))
     (kept (0 + k) (granule_at memory (0 + k)) (each (0 + k) no_granule (omega arith))))
-
-pub IsMemory-tagged : (first count tag : ℕ) (memory : List Granule) → tag < 16 → IsMemory memory → IsMemory (tagged first count tag memory)
-unfolding tagged
-IsMemory-tagged first count tag memory below is =
-    let long = length-each_granule (λ g granule. cond (is_among first count g) (record granule { tag = tag }) granule) memory in
-    record {
-      least = subst (λ n. 64 ≤ n) (sym long) is.least;
-      most = subst (λ n. n ≤ 262144) (sym long) is.most;
-      granules = IsGranule-each (λ g granule. cond (is_among first count g) (record granule { tag = tag }) granule) memory
-          (λ g x granule. cond_both (is_among first count g) (record x { tag = tag }) x IsGranule
-          (λ _. record { tag = below; sixteen = granule.sixteen; bytes = granule.bytes }) (λ _. granule)) is.granules;
-    }
 
 bytes_after-below : (i : ℕ) (new : List ℕ) (g : ℕ) (bytes : List ℕ) → All (λ b. b < 256) new → All (λ b. b < 256) bytes →
     All (λ b. b < 256) (bytes_after i new g bytes)

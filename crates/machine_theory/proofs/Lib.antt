@@ -6,7 +6,5 @@ pub mod MemoryLaws
 pub mod ChangeLaws
 pub mod ByteLaws
 pub mod ChangedMemories
-pub mod LawLemmas
 pub mod AccessLaws
-pub mod InstructionLaws
 mod WorkedExamples

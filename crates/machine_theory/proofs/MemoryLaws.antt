@@ -35,23 +35,23 @@ pub length-written : (i : ℕ) (new : List ℕ) (memory : List Granule) → leng
 unfolding written
 length-written i new memory = length-each_granule _ memory
 
-pub tag_at-written : (i : ℕ) (new : List ℕ) (memory : List Granule) (g : ℕ) → tag_at (written i new memory) g ≡ tag_at memory g
+pub tag_under_bytes : (i g : ℕ) (new : List ℕ) (memory : List Granule) → tag_at (written i new memory) g ≡ tag_at memory g
 unfolding written
-tag_at-written i new memory g = tag_at_same (λ g granule. record granule { bytes = bytes_after i new g granule.bytes }) memory g refl
+tag_under_bytes i g new memory = tag_at_same (λ g granule. record granule { bytes = bytes_after i new g granule.bytes }) memory g refl
 
-pub tag_at-tagged_inside : (first count tag : ℕ) (memory : List Granule) (g : ℕ) → first ≤ g → g < first + count → g < length memory →
+pub written_tag : (first count tag g : ℕ) (memory : List Granule) → first ≤ g → g < first + count → g < length memory →
     tag_at (tagged first count tag memory) g ≡ tag
 unfolding tagged
-tag_at-tagged_inside first count tag memory g above below within =
+written_tag first count tag g memory above below within =
     ap (λ (x : Granule). x.tag)
     (granule_at-each_granule _ memory g within
     ∙ cond-true (is_among first count g) (record (granule_at memory g) { tag = tag }) (granule_at memory g)
     (and_from (leb first g) (ltb g (first + count)) (le-leb _ _ above) (lt-ltb _ _ below)))
 
-pub tag_at-tagged_outside : (first count tag : ℕ) (memory : List Granule) (g : ℕ) → (g < first) ⊎ (first + count ≤ g) →
+pub other_tag : (first count tag g : ℕ) (memory : List Granule) → (g < first) ⊎ (first + count ≤ g) →
     tag_at (tagged first count tag memory) g ≡ tag_at memory g
 unfolding tagged
-tag_at-tagged_outside first count tag memory g outside =
+other_tag first count tag g memory outside =
     tag_at_same (λ g granule. cond (is_among first count g) (record granule { tag = tag }) granule) memory g
     (ap (λ (x : Granule). x.tag)
     (cond-false (is_among first count g) (record (granule_at memory g) { tag = tag }) (granule_at memory g) (not_among outside)))

@@ -1,10 +1,10 @@
 -- Draws of bits: one by one, four at once, and as parts of one sequence.
-use Rattle.std.proofs.Common.{◌≡◌, ℕ, zero, suc, ◌+◌, ◌*◌, ◌/◌, ◌%◌, ◌^◌, ◌<◌, refl, sym, ap, ◌∙◌, subst, inl, inr, arith}
+use Rattle.std.proofs.Common.{◌≡◌, ℕ, zero, suc, ◌+◌, ◌-◌, ◌*◌, ◌/◌, ◌%◌, ◌^◌, ◌<◌, refl, sym, ap, ◌∙◌, subst, inl, inr, arith}
 use Rattle.std.specs.Prelude.{◌==◌}
 use Rattle.std.specs.Int.{bit_at}
 use Rattle.std.proofs.lemmas.Bool.{agree_below_at, cases_lt, eq-eqb, eqb-true}
 use Rattle.std.proofs.lemmas.Nat.Bits.{bit_at_cat_low, bit_at_cat_high, bit_at-suc, bit_at_lowest}
-use Rattle.machine_theory.specs.Seed.{Begins, next_bit, shifted, next_offset, next_seed, seed_after}
+use Rattle.machine_theory.specs.Seed.{Begins, next_bit, next_offset, next_seed, seed_after}
 
 -- ---- the register
 
@@ -29,87 +29,80 @@ next_seed-some seed some fits = elim (cases_lt seed 16) [
       ]
 ]
 
--- ---- four bits at once are four bits one by one
+-- ---- a draw shifts the register by four bits, and puts four new ones on top
 
-bit_at-shifted : (seed i j : ℕ) → i < 15 → suc i ≡ j → bit_at (shifted seed) i ≡ bit_at seed j
-bit_at-shifted seed i j h is =
-    ap (λ n. bit_at n i) turned ∙ bit_at_cat_low (next_bit seed 0) 15 (seed / 2) i h ∙ sym (bit_at-suc seed i) ∙ ap (bit_at seed) is
+low_bit : (seed n : ℕ) → n < 12 → bit_at (next_seed seed) n ≡ bit_at seed (4 + n)
+unfolding next_seed
+low_bit seed n h =
+    ap (λ s. bit_at s n) turned ∙ bit_at_cat_low (next_offset seed) 12 (seed / 16) n h ∙ ap (λ s. bit_at s n) halves
+    ∙ sym (bit_at-suc seed (suc (suc (suc n))) ∙ bit_at-suc (seed / 2) (suc (suc n)) ∙ bit_at-suc (seed / 2 / 2) (suc n)
+    ∙ bit_at-suc (seed / 2 / 2 / 2) n) ∙ ap (bit_at seed) (omega arith)
   where
-    turned : seed / 2 + 2 ^ 15 * next_bit seed 0 ≡ next_bit seed 0 * 2 ^ 15 + seed / 2
+    turned : seed / 16 + 2 ^ 12 * next_offset seed ≡ next_offset seed * 2 ^ 12 + seed / 16
     turned = omega arith
 
-next_bit-shifted : (seed n : ℕ) → n < 10 → next_bit (shifted seed) n ≡ next_bit seed (suc n)
-next_bit-shifted seed n h =
-    λ i. (bit_at-shifted seed n (suc n) (omega arith) refl i + bit_at-shifted seed (n + 2) (suc n + 2) (omega arith) (omega arith) i
-    + bit_at-shifted seed (n + 3) (suc n + 3) (omega arith) (omega arith) i + bit_at-shifted seed (n + 5) (suc n + 5) (omega arith)
-    (omega arith) i) % 2
+    halves : seed / 16 ≡ seed / 2 / 2 / 2 / 2
+    halves = omega arith
 
-second : (seed : ℕ) → next_bit (shifted seed) 0 ≡ next_bit seed 1
-second seed = next_bit-shifted seed 0 (omega arith)
-
-third : (seed : ℕ) → next_bit (shifted (shifted seed)) 0 ≡ next_bit seed 2
-third seed = next_bit-shifted (shifted seed) 0 (omega arith) ∙ next_bit-shifted seed 1 (omega arith)
-
-fourth : (seed : ℕ) → next_bit (shifted (shifted (shifted seed))) 0 ≡ next_bit seed 3
-fourth seed =
-    next_bit-shifted (shifted (shifted seed)) 0 (omega arith) ∙ next_bit-shifted (shifted seed) 1 (omega arith)
-    ∙ next_bit-shifted seed 2 (omega arith)
-
-pub next_offset-bits : (seed : ℕ) →
-    next_offset seed ≡ next_bit seed 0 + 2 * next_bit (shifted seed) 0 + 4 * next_bit (shifted (shifted seed)) 0 + 8 * next_bit
-    (shifted (shifted (shifted seed))) 0
+offset_bit : (seed n : ℕ) → n < 4 → bit_at (next_offset seed) n ≡ next_bit seed n
 unfolding next_offset
-next_offset-bits seed = λ i. next_bit seed 0 + 2 * sym (second seed) i + 4 * sym (third seed) i + 8 * sym (fourth seed) i
+offset_bit seed zero h = bit_at_lowest _ ∙ omega arith
+offset_bit seed (suc zero) h = bit_at-suc _ 0 ∙ bit_at_lowest _ ∙ omega arith
+offset_bit seed (suc (suc zero)) h = bit_at-suc _ 1 ∙ bit_at-suc _ 0 ∙ bit_at_lowest _ ∙ omega arith
+offset_bit seed (suc (suc (suc zero))) h = bit_at-suc _ 2 ∙ bit_at-suc _ 1 ∙ bit_at-suc _ 0 ∙ bit_at_lowest _ ∙ omega arith
+offset_bit seed (suc (suc (suc (suc n)))) h = absurd (omega arith)
 
-pub next_seed-bits : (seed : ℕ) → next_seed seed ≡ shifted (shifted (shifted (shifted seed)))
-unfolding next_seed next_offset
-next_seed-bits seed = register seed (next_bit seed 0) (next_bit seed 1) (next_bit seed 2) (next_bit seed 3)
-    ∙ (λ i. (((seed / 2 + 2 ^ 15 * next_bit seed 0) / 2 + 2 ^ 15 * sym (second seed) i) / 2 + 2 ^ 15 * sym (third seed) i) / 2 + 2 ^ 15
-    * sym (fourth seed) i)
+high_bit : (seed n : ℕ) → seed < 2 ^ 16 → n < 4 → bit_at (next_seed seed) (12 + n) ≡ next_bit seed n
+unfolding next_seed
+high_bit seed n fits h =
+    ap (λ s. bit_at s (12 + n)) turned ∙ bit_at_cat_high (next_offset seed) 12 (seed / 16) (12 + n) (omega arith) (omega arith)
+    ∙ ap (bit_at (next_offset seed)) (omega arith) ∙ offset_bit seed n h
   where
-    register : (seed a b c d : ℕ) →
-        seed / 16 + 2 ^ 12 * (a + 2 * b + 4 * c + 8 * d) ≡ (((seed / 2 + 2 ^ 15 * a) / 2 + 2 ^ 15 * b) / 2 + 2 ^ 15 * c) / 2 + 2 ^ 15 * d
-    register seed a b c d = omega arith
+    turned : seed / 16 + 2 ^ 12 * next_offset seed ≡ next_offset seed * 2 ^ 12 + seed / 16
+    turned = omega arith
 
 -- ---- the sequence that a seed begins
 
+seed_after-below : (k seed : ℕ) → seed < 2 ^ 16 → seed_after k seed < 2 ^ 16
+seed_after-below zero seed fits = fits
+seed_after-below (suc k) seed fits = next_seed-below (seed_after k seed) (seed_after-below k seed fits)
+
 -- bit n of the sequence
 random_bit : ℕ → ℕ → ℕ
-random_bit seed zero = bit_at seed 0
-random_bit seed (suc n) = random_bit (shifted seed) n
+random_bit seed n = bit_at (seed_after (n / 4) seed) (n % 4)
 
-shifted-below : (seed : ℕ) → seed < 2 ^ 16 → shifted seed < 2 ^ 16
-shifted-below seed fits = omega arith
-
-random_bit-own : (n seed : ℕ) → n < 16 → random_bit seed n ≡ bit_at seed n
+-- the register after k draws has the sixteen bits from bit 4 k on
+first_bits : (seed k i : ℕ) → i < 4 → random_bit seed (4 * k + i) ≡ bit_at (seed_after k seed) i
 unfolding random_bit
-random_bit-own zero seed h = refl
-random_bit-own (suc n) seed h = random_bit-own n (shifted seed) (omega arith) ∙ bit_at-shifted seed n (suc n) (omega arith) refl
+first_bits seed k i h =
+    let draws : (4 * k + i) / 4 ≡ k = omega arith in
+    let rest : (4 * k + i) % 4 ≡ i = omega arith in
+    λ t. bit_at (seed_after (draws t) seed) (rest t)
 
-last_bit : (seed : ℕ) → seed < 2 ^ 16 → bit_at (shifted seed) 15 ≡ next_bit seed 0
-last_bit seed fits =
-    ap (λ n. bit_at n 15) turned ∙ bit_at_cat_high (next_bit seed 0) 15 (seed / 2) 15 (omega arith) (omega arith)
-    ∙ bit_at_lowest (next_bit seed 0) ∙ omega arith
-  where
-    turned : seed / 2 + 2 ^ 15 * next_bit seed 0 ≡ next_bit seed 0 * 2 ^ 15 + seed / 2
-    turned = omega arith
-
-random_bit-further : (n seed : ℕ) → seed < 2 ^ 16 →
-    random_bit seed (n + 16) ≡ (random_bit seed n + random_bit seed (n + 2) + random_bit seed (n + 3) + random_bit seed (n + 5)) % 2
-unfolding random_bit
-random_bit-further zero seed fits =
-    random_bit-own 15 (shifted seed) (omega arith) ∙ last_bit seed fits
-    ∙ (λ i. (bit_at seed 0 + sym (random_bit-own 2 seed (omega arith)) i + sym (random_bit-own 3 seed (omega arith)) i + sym
-    (random_bit-own 5 seed (omega arith)) i) % 2)
-random_bit-further (suc n) seed fits =
-    at 16 ∙ random_bit-further n (shifted seed) (shifted-below seed fits)
-    ∙ (λ i. (random_bit (shifted seed) n + sym (at 2) i + sym (at 3) i + sym (at 5) i) % 2)
-  where
-    at : (k : ℕ) → random_bit seed (suc n + k) ≡ random_bit (shifted seed) (n + k)
-    at k = let later : suc n + k ≡ suc (n + k) = omega arith in ap (random_bit seed) later
+register_bits : (j seed k i : ℕ) → i < 4 * suc j → i < 16 → random_bit seed (4 * k + i) ≡ bit_at (seed_after k seed) i
+register_bits zero seed k i few h = first_bits seed k i (omega arith)
+register_bits (suc j) seed k i few h = elim (cases_lt i 4) [
+  | inl low ↦ first_bits seed k i low
+  | inr high ↦ ap (random_bit seed) (omega arith) ∙ register_bits j seed (suc k) (i - 4) (omega arith) (omega arith)
+      ∙ low_bit (seed_after k seed) (i - 4) (omega arith) ∙ ap (bit_at (seed_after k seed)) (omega arith)
+]
 
 pub Begins-some : (seed : ℕ) → seed < 2 ^ 16 → (x : ℕ → ℕ) × Begins seed x
-Begins-some seed fits = (random_bit seed, record { own = λ n h. random_bit-own n seed h; further = λ n. random_bit-further n seed fits })
+Begins-some seed fits = (
+  random_bit seed,
+  record {
+    own = λ n h. bit n 0 n (omega arith) h;
+    further = λ n. bit (n + 16) (suc (n / 4)) (12 + n % 4) (omega arith) (omega arith)
+        ∙ high_bit (seed_after (n / 4) seed) (n % 4) (seed_after-below (n / 4) seed fits) (omega arith)
+        ∙ (λ t. (sym (bit n (n / 4) (n % 4) (omega arith) (omega arith)) t
+        + sym (bit (n + 2) (n / 4) (n % 4 + 2) (omega arith) (omega arith)) t
+        + sym (bit (n + 3) (n / 4) (n % 4 + 3) (omega arith) (omega arith)) t
+        + sym (bit (n + 5) (n / 4) (n % 4 + 5) (omega arith) (omega arith)) t) % 2);
+  },
+)
+  where
+    bit : (n k i : ℕ) → n ≡ 4 * k + i → i < 16 → random_bit seed n ≡ bit_at (seed_after k seed) i
+    bit n k i is h = ap (random_bit seed) is ∙ register_bits 3 seed k i (omega arith) h
 
 Begins-same : (seed : ℕ) (x y : ℕ → ℕ) → ((n : ℕ) → x n ≡ y n) → Begins seed x → Begins seed y
 Begins-same seed x y same b = subst (Begins seed) (λ i n. same n i) b
@@ -126,32 +119,19 @@ next_offset-Begins seed x b =
     λ i. next_bit-Begins seed x 0 (omega arith) b i + 2 * next_bit-Begins seed x 1 (omega arith) b i + 4 * next_bit-Begins seed x 2
     (omega arith) b i + 8 * next_bit-Begins seed x 3 (omega arith) b i
 
--- after one bit is drawn, the register begins the sequence from bit 1 on
-shifted-Begins : (seed : ℕ) (x : ℕ → ℕ) → seed < 2 ^ 16 → Begins seed x → Begins (shifted seed) (λ n. x (1 + n))
-shifted-Begins seed x fits b = record {
-  own = λ n h. elim (cases_lt n 15) [
-    | inl low ↦ b.own (1 + n) (omega arith) ∙ sym (bit_at-shifted seed n (1 + n) low (omega arith))
-    | inr last ↦ let is : n ≡ 15 = omega arith in
-        ap (λ k. x (1 + k)) is ∙ sym (next_bit-Begins seed x 0 (omega arith) b) ∙ sym (last_bit seed fits)
-        ∙ ap (bit_at (shifted seed)) (sym is)
+-- after a draw the register begins the sequence from bit 4 on
+next_seed-Begins : (seed : ℕ) (x : ℕ → ℕ) → seed < 2 ^ 16 → Begins seed x → Begins (next_seed seed) (λ n. x (4 + n))
+next_seed-Begins seed x fits b = record {
+  own = λ n h. elim (cases_lt n 12) [
+    | inl low ↦ b.own (4 + n) (omega arith) ∙ sym (low_bit seed n low)
+    | inr high ↦ ap x (omega arith) ∙ sym (next_bit-Begins seed x (n - 12) (omega arith) b)
+        ∙ sym (high_bit seed (n - 12) fits (omega arith)) ∙ ap (bit_at (next_seed seed)) (omega arith)
   ];
-  further = λ n. ap x (omega arith) ∙ b.further (1 + n) ∙ (λ i. (x (1 + n) + x (after 2 n i) + x (after 3 n i) + x (after 5 n i)) % 2);
+  further = λ n. ap x (omega arith) ∙ b.further (4 + n) ∙ (λ i. (x (4 + n) + x (after 2 n i) + x (after 3 n i) + x (after 5 n i)) % 2);
 }
   where
-    after : (k n : ℕ) → 1 + n + k ≡ 1 + (n + k)
+    after : (k n : ℕ) → 4 + n + k ≡ 4 + (n + k)
     after k n = omega arith
-
--- after IRG has drawn four bits, the register begins the sequence from bit 4 on
-next_seed-Begins : (seed : ℕ) (x : ℕ → ℕ) → seed < 2 ^ 16 → Begins seed x → Begins (next_seed seed) (λ n. x (4 + n))
-next_seed-Begins seed x fits b =
-    let one = shifted-Begins seed x fits b in
-    let two = shifted-Begins (shifted seed) (λ n. x (1 + n)) (shifted-below _ fits) one in
-    let three = shifted-Begins (shifted (shifted seed)) (λ n. x (1 + (1 + n))) (shifted-below _ (shifted-below _ fits)) two in
-    let four =
-    shifted-Begins (shifted (shifted (shifted seed))) (λ n. x (1 + (1 + (1 + n))))
-    (shifted-below _ (shifted-below _ (shifted-below _ fits))) three in
-    subst (λ s. Begins s (λ n. x (4 + n))) (sym (next_seed-bits seed))
-    (Begins-same _ (λ n. x (1 + (1 + (1 + (1 + n))))) (λ n. x (4 + n)) (λ n. ap x (omega arith)) four)
 
 pub seed_after-Begins : (k seed : ℕ) (x : ℕ → ℕ) → seed < 2 ^ 16 → Begins seed x →
     (seed_after k seed < 2 ^ 16) × Begins (seed_after k seed) (λ n. x (4 * k + n))

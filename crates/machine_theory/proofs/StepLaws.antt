@@ -197,3 +197,5 @@ choose_more tag offset exclude other below other_below free =
     ∙ ap (λ k. get_or (allowed_after tag exclude) k 0) (sym (mod-add-mod offset (length (allowed_after tag exclude)) 1))
     ∙ sym (next_in_turn tag exclude (offset % length (allowed_after tag exclude)) within)
     ∙ ap (next_allowed exclude) (sym (choose_at tag offset exclude some))
+
+pub ruleset steps = (next_allowed_here, next_allowed_on, choose_zero_free, choose_zero_excluded, choose_one, choose_more)

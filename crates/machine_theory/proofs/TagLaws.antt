@@ -1,5 +1,5 @@
 -- A chosen tag is an allowed one.
-use Rattle.std.proofs.Common.{◌≡◌, ◌≢◌, ℕ, zero, suc, ◌+◌, ◌-◌, ◌%◌, ◌^◌, ◌<◌, Bool, true, false, not, cond, List, [], ◌∷◌, length, get_or, refl, sym, ap, ◌∙◌, subst, inl, inr, arith, ◌⊎◌}
+use Rattle.std.proofs.Common.{◌≡◌, ◌≢◌, ℕ, zero, suc, ◌+◌, ◌-◌, ◌*◌, ◌%◌, ◌^◌, ◌<◌, Bool, true, false, not, cond, List, [], ◌∷◌, length, get_or, refl, sym, ap, ◌∙◌, subst, inl, inr, arith, ◌⊎◌}
 use Rattle.std.specs.List.{filter, range_with_len, All}
 use Rattle.std.specs.Int.{bit_at}
 use Rattle.std.specs.Prelude.{◌==◌, ◌||◌, bit_or}
@@ -10,7 +10,8 @@ use Rattle.std.proofs.lemmas.Nat.{mod_below}
 use Rattle.std.proofs.lemmas.Nat.Bits.{bit_at_or, bit_at-pow_same, bit_at-pow_other, bit_at-lt}
 use Rattle.machine_theory.specs.Tags.{is_excluded, tags_after, allowed_after, choose_tag}
 use Rattle.machine_theory.specs.Seed.{next_offset}
-use Rattle.machine_theory.specs.Instructions.{drawn_tag}
+use Rattle.machine_theory.specs.Address.{logical_tag, with_tag}
+use Rattle.machine_theory.specs.Instructions.{drawn_tag, addg, subg}
 
 -- a filter that passes an element keeps at least one
 filter_keeps : {X : Type 0} (p : X → Bool) (xs : List X) (i : ℕ) (d : X) → i < length xs → p (get_or xs i d) ≡ true →
@@ -132,6 +133,19 @@ pub choose_tag-one : (tag steps : ℕ) → tag < 16 → (choose_tag tag steps 1 
 choose_tag-one tag steps in_range =
     let a = choose_tag_allowed tag steps 1 1 in_range (omega arith) refl in
     (a.below, not_the_one 0 (choose_tag tag steps 1) a.free)
+
+logical_tag-chosen : (address from steps : ℕ) → logical_tag (with_tag address (choose_tag (logical_tag from) steps 1)) ≢ 0
+logical_tag-chosen address from steps e =
+    let t = choose_tag-one (logical_tag from) steps (omega arith) in
+    t.1 (omega (arith, t.0))
+
+pub addg-some : (xn u6 u4 : ℕ) → logical_tag (addg xn u6 u4) ≢ 0
+unfolding addg
+addg-some xn u6 u4 = logical_tag-chosen ((xn + 16 * u6) % 2 ^ 64) xn u4
+
+pub subg-some : (xn u6 u4 : ℕ) → logical_tag (subg xn u6 u4) ≢ 0
+unfolding subg
+subg-some xn u6 u4 = logical_tag-chosen ((xn + (2 ^ 64 - 16 * u6)) % 2 ^ 64) xn u4
 
 -- ---- draws among the tags of one parity
 

@@ -21,10 +21,6 @@ next_offset seed = next_bit seed 0 + 2 * next_bit seed 1 + 4 * next_bit seed 2 +
 unfoldable pub next_seed : ℕ → ℕ
 next_seed seed = seed / 16 + 2 ^ 12 * next_offset seed
 
--- the register once one bit is drawn: bits 1 to 16
-abbrev pub shifted : ℕ → ℕ
-shifted seed = seed / 2 + 2 ^ 15 * next_bit seed 0
-
 -- the register after IRG has drawn this many times
 abbrev pub seed_after : ℕ → ℕ → ℕ
 seed_after zero seed = seed

@@ -2,7 +2,6 @@
 //! freed first leaves first.
 #![tactic(auto)]
 
-pub mod laws;
 mod quarantine;
 
 pub use quarantine::Quarantine;

@@ -25,7 +25,7 @@ pub null_or_tagged : (stored : Stored) → IsStored stored → AreNullOrTagged s
 null_or_tagged stored i =
     subst (λ (r : Replay). AreNullOrTagged r.variables)
     (laws.stored_part i.layout i.seed i.quarantine i.events ∙ sym (replay_is stored i))
-    (laws.variables i.layout i.seed i.quarantine i.events i.partition)
+    (laws.null_or_tagged _ (laws.run_is_sound i.layout i.seed i.quarantine i.events i.partition).sound)
 
 pub IsStored-after : (stored : Stored) (e : Event) → IsStored stored → IsStored (stored_after stored e)
 IsStored-after stored e i = record {

@@ -3,11 +3,11 @@ use Rattle.std.proofs.Common.{◌≡◌, ℕ, ◌+◌, List, [], ◌∷◌, ◌+
 use Rattle.std.specs.Prelude.{zip}
 use Rattle.class_table.specs.Layout.{Partition}
 use Rattle.heap_theory.specs.declared.event.Event.{Event}
-use Rattle.heap_theory.specs.Report.{report, report_line, report_lines}
+use Rattle.heap_theory.specs.Report.{report, report_line, report_lines, totals_text}
 use Rattle.heap_theory.specs.Replay.{Replay, Answer, answer_of, first_replay, answers, replay_of}
 use Rattle.heap_theory.specs.Totals.{totals_of, totals_after}
 use Rattle.replay_core.proofs.TheoryLemmas as laws
-use Rattle.replay_core.specs.ReplayState.{LinesOfNone, LinesOfOneMore, ReportIsLinesAndTotals, StepsAreEvents, StoredOfNone, StoredOfOneMore, first_stored, lines_of, stored_after, stored_of}
+use Rattle.replay_core.specs.ReplayState.{first_stored, lines_of, stored_after, stored_of}
 use Rattle.heap_theory.proofs.LayoutStays.{layout_of_run}
 
 stored_replay : (layout : Partition) (seed quarantine : ℕ) (events : List Event) →
@@ -22,12 +22,13 @@ zip-push [] (b ∷ ys) x y long = absurd (omega arith)
 zip-push (a ∷ xs) [] x y long = absurd (omega arith)
 zip-push (a ∷ xs) (b ∷ ys) x y long = ap (λ rest. (a, b) ∷ rest) (zip-push xs ys x y (omega arith))
 
-pub stored_of_none : StoredOfNone
+pub stored_of_none : (layout : Partition) (seed quarantine : ℕ) → stored_of layout seed quarantine [] ≡ first_stored layout seed quarantine
 unfolding stored_of first_stored replay_of answers
 stored_of_none layout seed quarantine =
     λ i. record { replay = first_replay layout seed quarantine; totals = laws.no_totals_first layout.classes i }
 
-pub stored_of_one_more : StoredOfOneMore
+pub stored_of_one_more : (layout : Partition) (seed quarantine : ℕ) (events : List Event) (event : Event) →
+    stored_of layout seed quarantine (events ++ event ∷ []) ≡ stored_after (stored_of layout seed quarantine events) event
 unfolding stored_of stored_after
 stored_of_one_more layout seed quarantine events e =
     let first : Replay = first_replay layout seed quarantine in
@@ -48,17 +49,20 @@ length-zip [] ys long = refl
 length-zip (x ∷ xs) [] long = absurd (omega arith)
 length-zip (x ∷ xs) (y ∷ ys) long = omega (arith, length-zip xs ys (omega arith))
 
-pub steps_are_events : StepsAreEvents
+pub steps_are_events : (layout : Partition) (seed quarantine : ℕ) (events : List Event) →
+    (stored_of layout seed quarantine events).totals.events ≡ length events
 unfolding stored_of totals_of
 steps_are_events layout seed quarantine events =
     length-zip events (answers (first_replay layout seed quarantine) events)
     (laws.as_many_answers (first_replay layout seed quarantine) events)
 
-pub lines_of_none : LinesOfNone
+pub lines_of_none : (layout : Partition) (seed quarantine : ℕ) → lines_of layout seed quarantine [] ≡ []
 unfolding lines_of answers report_lines
 lines_of_none layout seed quarantine = refl
 
-pub lines_of_one_more : LinesOfOneMore
+pub lines_of_one_more : (layout : Partition) (seed quarantine : ℕ) (events : List Event) (event : Event) →
+    let before = stored_of layout seed quarantine events in lines_of layout seed quarantine (events ++ event ∷ [])
+    ≡ lines_of layout seed quarantine events ++ report_line (before.totals.events + 1) (answer_of before.replay event)
 unfolding lines_of
 lines_of_one_more layout seed quarantine events e =
     let first : Replay = first_replay layout seed quarantine in
@@ -70,6 +74,7 @@ lines_of_one_more layout seed quarantine events e =
     ∙ ap (λ r. report_lines 1 given ++ report_line ((stored_of layout seed quarantine events).totals.events + 1) (answer_of r e))
     (stored_replay layout seed quarantine events)
 
-pub report_is_lines_and_totals : ReportIsLinesAndTotals
+pub report_is_lines_and_totals : (layout : Partition) (seed quarantine : ℕ) (events : List Event) → report layout seed quarantine events
+    ≡ lines_of layout seed quarantine events ++ totals_text (stored_of layout seed quarantine events).totals
 unfolding report lines_of stored_of
 report_is_lines_and_totals layout seed quarantine events = refl

@@ -1,9 +1,9 @@
 -- What is stored of a run: the heap, the variables and the totals. How often a slot was given out, and from which giving-out a variable has
 -- its address, is not stored.
-use Rattle.std.specs.Prelude.{◌≡◌, ℕ, ◌+◌, List, [], ◌∷◌, ◌++◌, length, zip}
+use Rattle.std.specs.Prelude.{◌≡◌, ℕ, List, zip}
 use Rattle.class_table.specs.Layout.{Partition, IsPartition}
 use Rattle.heap_theory.specs.declared.event.Event.{Event}
-use Rattle.heap_theory.specs.Report.{report, report_line, report_lines, totals_text}
+use Rattle.heap_theory.specs.Report.{report_lines}
 use Rattle.heap_theory.specs.Replay.{Replay, replay_after, answer_of, first_replay, answers, replay_of}
 use Rattle.heap_theory.specs.Totals.{Totals, no_totals, totals_of, totals_after}
 
@@ -41,37 +41,3 @@ pub record IsStored (stored : Stored) : Type 0 where
   pub events : List Event
   pub partition : IsPartition layout
   pub stored_is : stored ≡ stored_of layout seed quarantine events
-
--- ---- the laws
-
-abbrev pub StoredOfNone : Type 0
-StoredOfNone = (layout : Partition) (seed quarantine : ℕ) → stored_of layout seed quarantine [] ≡ first_stored layout seed quarantine
-
--- What is stored after one more event follows from the event and from what was stored before it.
-abbrev pub StoredOfOneMore : Type 0
-StoredOfOneMore =
-    (layout : Partition) (seed quarantine : ℕ) (events : List Event) (event : Event) →
-    stored_of layout seed quarantine (events ++ event ∷ []) ≡ stored_after (stored_of layout seed quarantine events) event
-
-abbrev pub StepsAreEvents : Type 0
-StepsAreEvents =
-    (layout : Partition) (seed quarantine : ℕ) (events : List Event) →
-    (stored_of layout seed quarantine events).totals.events ≡ length events
-
-abbrev pub LinesOfNone : Type 0
-LinesOfNone = (layout : Partition) (seed quarantine : ℕ) → lines_of layout seed quarantine [] ≡ []
-
--- What is stored of the events before an event determines its line,
-abbrev pub LinesOfOneMore : Type 0
-LinesOfOneMore =
-    (layout : Partition) (seed quarantine : ℕ) (events : List Event) (event : Event) → let before =
-    stored_of layout seed quarantine events in
-    lines_of layout seed quarantine (events ++ event ∷ []) ≡
-    lines_of layout seed quarantine events ++ report_line (before.totals.events + 1) (answer_of before.replay event)
-
--- and the lines of totals.
-abbrev pub ReportIsLinesAndTotals : Type 0
-ReportIsLinesAndTotals =
-    (layout : Partition) (seed quarantine : ℕ) (events : List Event) →
-    report layout seed quarantine events ≡ lines_of layout seed quarantine events
-    ++ totals_text (stored_of layout seed quarantine events).totals

@@ -1,28 +1,35 @@
 //! What holds for every replay. Each law is the contract of a call that does nothing. The laws of whole runs come from `heap_theory`. A
 //! `Replay` is what is stored of some run (`law_reached`), so they hold for it.
-ghost use Rattle.replay_core.specs.ReplayState.{IsStored, LinesOfNone, LinesOfOneMore, ReportIsLinesAndTotals, StepsAreEvents, StoredOfNone, StoredOfOneMore};
+ghost use Rattle.class_table.specs.Layout.{Partition};
+ghost use Rattle.heap_theory.specs.Replay.{answer_of};
+ghost use Rattle.heap_theory.specs.Report.{report, report_line, totals_text};
+ghost use Rattle.heap_theory.specs.declared.event.Event.{Event};
+ghost use Rattle.replay_core.specs.ReplayState.{IsStored, first_stored, lines_of, stored_after, stored_of};
+ghost use Rattle.std.specs.Prelude.{◌≡◌, ◌+◌, ◌++◌, [], ◌∷◌, List, ℕ};
 
 use crate::replay::Replay;
 pub use heap_theory::laws::hardening::{
     law_bookkeeping, law_chunk_tags, law_copied_pointer, law_delay, law_freed, law_inside,
     law_life, law_neighbours, law_own_pointer,
 };
-pub use heap_theory::laws::run::{law_faults, law_run, law_states, law_totals};
+pub use heap_theory::laws::run::{law_accesses, law_states};
 
-/// What is stored of the run of no events, and of a run with one more event. So steps from a new replay on give what is stored of the run
-/// of all their events.
-pub fn law_stored()
-    ensures none { StoredOfNone }
-    ensures one_more { StoredOfOneMore }
-    ensures steps { StepsAreEvents }
-{}
-
-/// What is stored before an event determines its line of the report, and what is stored after all events determines the lines of totals.
-/// So the lines that steps from a new replay on write, and then its totals, are the report.
+/// What is stored of a run with one more event follows from the event and from what was stored before it, and so does that event's line of
+/// the report. What is stored after all events determines the lines of totals. So the lines that steps from a new replay on write, and then
+/// its totals, are the report.
 pub fn law_report()
-    ensures none { LinesOfNone }
-    ensures one_more { LinesOfOneMore }
-    ensures whole { ReportIsLinesAndTotals }
+    ensures first { (layout : Partition) (seed quarantine : ℕ) →
+        stored_of layout seed quarantine [] ≡ first_stored layout seed quarantine }
+    ensures stored { (layout : Partition) (seed quarantine : ℕ) (events : List Event) (event : Event) →
+        stored_of layout seed quarantine (events ++ event ∷ []) ≡ stored_after (stored_of layout seed quarantine events) event }
+    ensures none { (layout : Partition) (seed quarantine : ℕ) → lines_of layout seed quarantine [] ≡ [] }
+    ensures one_more { (layout : Partition) (seed quarantine : ℕ) (events : List Event) (event : Event) →
+        let before = stored_of layout seed quarantine events in
+        lines_of layout seed quarantine (events ++ event ∷ []) ≡
+        lines_of layout seed quarantine events ++ report_line (before.totals.events + 1) (answer_of before.replay event) }
+    ensures whole { (layout : Partition) (seed quarantine : ℕ) (events : List Event) →
+        report layout seed quarantine events ≡ lines_of layout seed quarantine events
+        ++ totals_text (stored_of layout seed quarantine events).totals }
 {}
 
 impl Replay {

@@ -115,7 +115,7 @@ module _ {h : Heap} {frees : ℕ} {p : Parts} {counters : List ℕ} (held : IsAt
       (t.taken.was ∙ plus) in
       let request : slot_for_request h n ≡ Ok s =
       request_served h n number _ (Some s) few numbered listed
-      (laws.front_given h k.queue k.lists number _ s rest k.sound agree listed first.0) in
+      (laws.front_given h k.queue k.lists number _ k.sound agree listed s rest first.0) in
       let freed =
       list_slot k number s (within_lists k number within) (subst (λ list. Contains list s) (sym first.0) (Contains-head s rest)) in
       record {

@@ -1,12 +1,11 @@
 -- What the proofs of this crate cite of the theory below it.
 -- every change keeps a heap sound
-pub use Rattle.heap_theory.proofs.LawLemmas.{first_heap_is_sound as first_sound}
+pub use Rattle.heap_theory.proofs.FirstHeap.{IsSoundHeap-first as first_sound}
 pub use Rattle.heap_theory.proofs.HeapKept.{IsSoundHeap-given_out as given_out_sound, IsSoundHeap-freed as freed_sound, IsSoundHeap-resized as resized_sound, IsSoundHeap-written as written_sound}
 -- what is chosen
 pub use Rattle.heap_theory.proofs.Lookups.{slot_for_request-is as request, chunk_at-is as chunk}
 pub use Rattle.heap_theory.proofs.Pointers.{slot_of_pointer-iff as pointer, lowest_fresh-first as first_fresh, lowest_fresh-none as none_fresh}
-pub use Rattle.heap_theory.proofs.LawLemmas.{front_of_list_is_given as front_given}
-pub use Rattle.heap_theory.proofs.Front.{lowest_fresh_is_given as fresh_given}
+pub use Rattle.heap_theory.proofs.Front.{front_is_given as front_given, lowest_fresh_is_given as fresh_given}
 -- queue and lists
 pub use Rattle.heap_theory.proofs.QueueAndLists.{agree_first, agree_taken as front_taken, agree_fresh as fresh_taken, agree_resized as resized_out, agree_over as memory_without_marks, agree_freed as queues}
 pub use Rattle.heap_theory.proofs.Releasing.{release as releases}

@@ -1,6 +1,5 @@
 //! What holds for every heap. Each law is the contract of a call that does nothing. The laws of whole runs come from `heap_theory`.
 ghost use Rattle.heap_theory.specs.Hardening.{ChunksAreTagged, ParitiesDiffer};
-ghost use Rattle.heap_theory.specs.HeaderLaws.{HeadersAreSpared};
 ghost use Rattle.heap_theory.specs.Sound.{IsSoundHeap};
 
 use crate::heap::Heap;
@@ -9,12 +8,6 @@ pub use heap_theory::laws::hardening::{
     law_life, law_neighbours, law_own_pointer,
 };
 pub use heap_theory::laws::headers::law_header_words;
-
-/// An access that succeeds under a tag other than 0 touches no header. So under such a tag no load reads a header's words, and no store
-/// changes them.
-pub fn law_headers_spared()
-    ensures { HeadersAreSpared }
-{}
 
 impl Heap {
     /// Headers, slack and tails have tag 0. The chunk granules of a slot share one tag: the slot's tag while it is live, and after its free

@@ -1,8 +1,8 @@
 -- Texts that are cut at their newlines.
-use Rattle.std.proofs.Common.{◌≡◌, ℕ, Bool, true, false, cond, List, [], ◌∷◌, ◌++◌, refl, sym, ap, ◌∙◌, append_assoc, eqb-true}
+use Rattle.std.proofs.Common.{◌≡◌, ℕ, Bool, true, false, cond, List, [], ◌∷◌, ◌++◌, refl, sym, ap, ◌∙◌, append_assoc}
 use Rattle.std.proofs.lemmas.List.Elements.{All-head, All-tail}
 use Rattle.std.specs.List.{onto_first}
-use Rattle.line_text.specs.Lines.{lines, is_newline, IsLine, text_of}
+use Rattle.line_text.specs.Lines.{lines, is_newline, IsLine}
 use Rattle.trace_reader.specs.Reading.{Cut, cut, going_on, bytes_in_front, line_in_front}
 
 abbrev is_other : ℕ → Type 0
@@ -84,21 +84,3 @@ lines-cut (b ∷ text) = go (is_newline b) (lines-cut text) (cut text).whole (cu
         ++ last_lines (cond v (line_in_front [] (cut text)) (going_on (b ∷ []) (cut text))).unfinished
     go true e ls rest is = ap (λ (t : List (List ℕ)). [] ∷ t) e
     go false e ls rest is = ap (onto_first b) e ∙ onto (cut text).whole (cut text).unfinished
-
--- ---- a text is its whole lines and the unfinished one
-
-pub text_of-cut : (text : List ℕ) → text_of (cut text).whole ++ (cut text).unfinished ≡ text
-unfolding cut
-text_of-cut [] = refl
-text_of-cut (b ∷ text) = go (is_newline b) refl (text_of-cut text)
-  where
-    onto : (ls : List (List ℕ)) (rest : List ℕ) →
-        text_of (bytes_in_front (b ∷ []) ls rest).whole ++ (bytes_in_front (b ∷ []) ls rest).unfinished ≡ b ∷ (text_of ls ++ rest)
-    onto [] rest = refl
-    onto (line ∷ ls) rest = refl
-
-    go : (v : Bool) → is_newline b ≡ v → text_of (cut text).whole ++ (cut text).unfinished ≡ text
-        → text_of (cond v (line_in_front [] (cut text)) (going_on (b ∷ []) (cut text))).whole
-        ++ (cond v (line_in_front [] (cut text)) (going_on (b ∷ []) (cut text))).unfinished ≡ b ∷ text
-    go true newline e = rw (eqb-true b 10 newline) (ap (λ (t : List ℕ). 10 ∷ t) e)
-    go false newline e = onto (cut text).whole (cut text).unfinished ∙ ap (λ (t : List ℕ). b ∷ t) e

@@ -18,7 +18,7 @@ use Rattle.trace_reader.specs.TraceLine.{event_of_line}
 use Rattle.trace_reader.specs.TraceText.{Trace, no_lines, trace_from, with_line}
 use Rattle.line_text.proofs.LawLemmas.{equal_is_prefix, prefix_of_prefix}
 use Rattle.trace_reader.proofs.Cutting.{cut-ended}
-use Rattle.trace_reader.proofs.Feeding.{fed-append}
+use Rattle.trace_reader.proofs.Feeding.{pieces_are_joined}
 use Rattle.trace_reader.proofs.Reaching.{IsPrefix-fed, IsPrefix-finished, came, fed_at-line, fields, is_open_at, open_at}
 use Rattle.trace_reader.proofs.Traces.{event_of_line-long, trace_from-one}
 
@@ -127,7 +127,7 @@ fed-ended old line open_now is_line = go old.state open_now
 pub fed-after : (old : Reading) (line after : List ℕ) → is_open old ≡ true → IsLine line →
     fed old (line ++ 10 ∷ after) ≡ fed (line_ended old line) after
 fed-after old line after open_now is_line =
-    ap (fed old) (sym (append_assoc line (10 ∷ []) after)) ∙ sym (fed-append old (line ++ 10 ∷ []) after)
+    ap (fed old) (sym (append_assoc line (10 ∷ []) after)) ∙ sym (pieces_are_joined old (line ++ 10 ∷ []) after)
     ∙ ap (λ (r : Reading). fed r after) (fed-ended old line open_now is_line)
 
 pub is_open-ended : (old : Reading) (line : List ℕ) → is_open old ≡ true → Ok tt ≡ answer_of (line_ended old line).state →

@@ -74,17 +74,17 @@ fed_in-append Finished a b = refl
 pub added-added : (a b : List Event) (r : Reading) → added (a ++ b) r ≡ added a (added b r)
 added-added a b r = ap (λ (es : List Event). record { events = es; state = r.state }) (append_assoc a b r.events)
 
-pub fed-append : (r : Reading) (a b : List ℕ) → fed (fed r a) b ≡ fed r (a ++ b)
+pub pieces_are_joined : (r : Reading) (a b : List ℕ) → fed (fed r a) b ≡ fed r (a ++ b)
 unfolding fed
-fed-append r a b =
+pieces_are_joined r a b =
     added-added r.events (fed_in r.state a).events (fed_in (fed_in r.state a).state b) ∙ ap (added r.events) (fed_in-append r.state a b)
 
 -- ---- events that wait have no part in it
 
-pub fed-added : (events : List Event) (r : Reading) (piece : List ℕ) → fed (added events r) piece ≡ added events (fed r piece)
+pub fed_after_events : (events : List Event) (r : Reading) (piece : List ℕ) → fed (added events r) piece ≡ added events (fed r piece)
 unfolding fed
-fed-added events r piece = added-added events r.events (fed_in r.state piece)
+fed_after_events events r piece = added-added events r.events (fed_in r.state piece)
 
-pub finished-added : (events : List Event) (r : Reading) → finished (added events r) ≡ added events (finished r)
+pub finished_after_events : (events : List Event) (r : Reading) → finished (added events r) ≡ added events (finished r)
 unfolding finished
-finished-added events r = added-added events r.events (finished_in r.state)
+finished_after_events events r = added-added events r.events (finished_in r.state)

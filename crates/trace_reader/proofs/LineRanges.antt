@@ -172,5 +172,5 @@ few_from number (line ∷ ls) low = go (event_of_line number line) (few_events n
     go (Ok event) few next = omega (arith, next (omega (arith, few)))
     go (Err fault) few next = omega (arith, low)
 
-pub few_events_of : (text : List ℕ) → length (trace_of text).events ≤ 1000000
-few_events_of text = omega (arith, few_from 1 (lines text) (omega arith))
+pub events_are_few : (text : List ℕ) → length (trace_of text).events ≤ 1000000
+events_are_few text = omega (arith, few_from 1 (lines text) (omega arith))

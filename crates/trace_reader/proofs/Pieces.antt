@@ -10,15 +10,15 @@ use Rattle.trace_reader.specs.TraceText.{Trace, trace_from, trace_of}
 use Rattle.trace_reader.specs.Reading.{Cut, Reading, added, cut, fed, fed_all, finished, finished_in, last_line, nothing_read, reading_of_cut, state_after, whole_reading}
 use Rattle.trace_reader.specs.Reading.State.{Open, Failed}
 use Rattle.trace_reader.proofs.Cutting.{going_on-nil, last_lines, lines-cut}
-use Rattle.trace_reader.proofs.Feeding.{fed-append}
-use Rattle.trace_reader.proofs.LineRanges.{few_events_of}
+use Rattle.trace_reader.proofs.Feeding.{pieces_are_joined}
+use Rattle.trace_reader.proofs.LineRanges.{events_are_few}
 use Rattle.trace_reader.proofs.Reaching.{IsPrefix-finished}
 use Rattle.trace_reader.proofs.Traces.{followed, followed_by, trace_from-append, trace_from-long, trace_from-none, trace_from-one}
 
 fed_all-fed : (r : Reading) (a : List ℕ) (pieces : List (List ℕ)) → fed_all (fed r a) pieces ≡ fed r (a ++ concat pieces)
 fed_all-fed r a [] = ap (fed r) (sym (append-nil a))
 fed_all-fed r a (piece ∷ pieces) =
-    ap (λ (x : Reading). fed_all x pieces) (fed-append r a piece) ∙ fed_all-fed r (a ++ piece) pieces
+    ap (λ (x : Reading). fed_all x pieces) (pieces_are_joined r a piece) ∙ fed_all-fed r (a ++ piece) pieces
     ∙ ap (fed r) (append_assoc a piece (concat pieces))
 
 fed_all-concat : (pieces : List (List ℕ)) → fed_all nothing_read pieces ≡ fed nothing_read (concat pieces)
@@ -50,9 +50,9 @@ at_end n c t None is = go (ltb 80 (length c.unfinished)) refl
     go false short = rw (last_line-trace n c.unfinished) refl
 
 -- a text in one piece
-pub whole_text : (text : List ℕ) → finished (fed nothing_read text) ≡ whole_reading (trace_of text)
+pub one_piece_is_the_text : (text : List ℕ) → finished (fed nothing_read text) ≡ whole_reading (trace_of text)
 unfolding fed finished
-whole_text text =
+one_piece_is_the_text text =
     let c = cut text in
     let t = trace_from 1 c.whole in
     let n = 0 + length c.whole in
@@ -63,12 +63,12 @@ whole_text text =
     ∙ sym (ap (λ (ls : List (List ℕ)). whole_reading (trace_from 1 ls)) (lines-cut text)
     ∙ ap whole_reading (trace_from-append 1 c.whole (last_lines c.unfinished)))
 
-pub in_pieces : (pieces : List (List ℕ)) → finished (fed_all nothing_read pieces) ≡ whole_reading (trace_of (concat pieces))
-in_pieces pieces = ap finished (fed_all-concat pieces) ∙ whole_text (concat pieces)
+pub pieces_are_the_text : (pieces : List (List ℕ)) → finished (fed_all nothing_read pieces) ≡ whole_reading (trace_of (concat pieces))
+pieces_are_the_text pieces = ap finished (fed_all-concat pieces) ∙ one_piece_is_the_text (concat pieces)
 
-pub few_in_pieces : (pieces : List (List ℕ)) → length (fed_all nothing_read pieces).events ≤ 1000000
-few_in_pieces pieces =
+pub pieces_have_few_events : (pieces : List (List ℕ)) → length (fed_all nothing_read pieces).events ≤ 1000000
+pieces_have_few_events pieces =
     let all = fed_all nothing_read pieces in
     let more = IsPrefix-finished all in
-    let same : (finished all).events ≡ (trace_of (concat pieces)).events = ap (λ (r : Reading). r.events) (in_pieces pieces) in
-    omega (arith, few_events_of (concat pieces), ap length (sym more.is ∙ same), length-append all.events more.after)
+    let same : (finished all).events ≡ (trace_of (concat pieces)).events = ap (λ (r : Reading). r.events) (pieces_are_the_text pieces) in
+    omega (arith, events_are_few (concat pieces), ap length (sym more.is ∙ same), length-append all.events more.after)

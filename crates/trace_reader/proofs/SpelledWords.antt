@@ -1,5 +1,5 @@
 -- What the words of an event spell, read one after the other.
-use Rattle.std.proofs.Common.{◌≡◌, ℕ, ℤ, List, [], ◌∷◌, ◌++◌, append_assoc, refl, ap, ◌∙◌, false, Result, Ok, arith, length, ne_eqb, codes, nat_abs, ◌≤◌, eqb}
+use Rattle.std.proofs.Common.{◌≡◌, ℕ, ℤ, List, [], ◌∷◌, ◌++◌, append_assoc, refl, ap, ◌∙◌, false, Result, Ok, arith, length, ne_eqb, codes, nat_abs, ◌≤◌}
 use Rattle.line_text.specs.Lines.{words}
 use Rattle.line_text.specs.Numbers.{number_of}
 use Rattle.line_text.specs.Signed.{signed_of}

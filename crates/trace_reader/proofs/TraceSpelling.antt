@@ -66,8 +66,8 @@ spelled_lines number (line ∷ ls) events is =
     few_more number low [] few = omega (arith, low)
     few_more number low (e ∷ es) few = omega (arith, few (omega arith))
 
-pub spelled-trace_of : (text : List ℕ) (events : List Event) → trace_of text ≡ whole events → SpellsTrace text events
-spelled-trace_of text events is =
+pub trace_is_spelled : (text : List ℕ) (events : List Event) → trace_of text ≡ whole events → SpellsTrace text events
+trace_is_spelled text events is =
     let s = spelled_lines 1 (lines text) events is in
     record { few = few events s.few; ranges = s.ranges; spelled = subst (IsTextOf text) s.spelled (text_is_its_lines text) }
   where
@@ -93,14 +93,14 @@ full_lines (e ∷ es) ranges =
     All-cons IsFullLine (event_line e) (map event_line es) (event_line-is_line e (All-head IsInRange e es ranges), event_line-some e)
     (full_lines es (All-tail IsInRange e es ranges))
 
-pub trace_of-spelled : (text : List ℕ) (events : List Event) → SpellsTrace text events → trace_of text ≡ whole events
-trace_of-spelled text events spells =
+pub spelled_trace_is_read : (text : List ℕ) (events : List Event) → SpellsTrace text events → trace_of text ≡ whole events
+spelled_trace_is_read text events spells =
     let same : lines text ≡ map event_line events =
     full_lines_are_read (map event_line events) text (full_lines events spells.ranges) spells.spelled in
     rw same (read_lines 1 events spells.ranges (omega (arith, spells.few)))
 
-pub one_trace : (text : List ℕ) (a b : List Event) → SpellsTrace text a → SpellsTrace text b → a ≡ b
-one_trace text a b of_a of_b = ap (λ (t : Trace). t.events) (sym (trace_of-spelled text a of_a) ∙ trace_of-spelled text b of_b)
+pub text_spells_one_trace : (text : List ℕ) (a b : List Event) → SpellsTrace text a → SpellsTrace text b → a ≡ b
+text_spells_one_trace text a b of_a of_b = ap (λ (t : Trace). t.events) (sym (spelled_trace_is_read text a of_a) ∙ spelled_trace_is_read text b of_b)
 
 -- ---- the events before a fault
 
@@ -120,19 +120,6 @@ events_before number (line ∷ ls) at fault is = go (event_of_line number line) 
     go (Ok e) is next = omega (arith, next is)
     go (Err f) is next = omega (arith, ap number_of_fault is)
 
-pub fault_is_after : (text : List ℕ) (at : ℕ) (fault : TraceFault) → (trace_of text).fault ≡ Some (at, fault) →
+pub fault_is_after_its_events : (text : List ℕ) (at : ℕ) (fault : TraceFault) → (trace_of text).fault ≡ Some (at, fault) →
     at ≡ suc (length (trace_of text).events)
-fault_is_after text at fault is = omega (arith, events_before 1 (lines text) at fault is)
-
-ranges_from : (number : ℕ) (ls : List (List ℕ)) → All IsInRange (trace_from number ls).events
-unfolding trace_from
-ranges_from number [] = All-nil IsInRange
-ranges_from number (line ∷ ls) = go (event_of_line number line) (IfOk-event_of_line number line) (ranges_from (suc number) ls)
-  where
-    go : (r : Result Event TraceFault) → IfOk r IsInRange → All IsInRange (trace_from (suc number) ls).events →
-        All IsInRange (with_line number r (trace_from (suc number) ls)).events
-    go (Ok e) is others = All-cons IsInRange e (trace_from (suc number) ls).events is others
-    go (Err f) is others = All-nil IsInRange
-
-pub events_in_range : (text : List ℕ) → All IsInRange (trace_of text).events
-events_in_range text = ranges_from 1 (lines text)
+fault_is_after_its_events text at fault is = omega (arith, events_before 1 (lines text) at fault is)

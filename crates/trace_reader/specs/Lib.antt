@@ -1,4 +1,3 @@
-pub mod Laws
 pub mod Reached
 pub mod Reading
 pub mod FaultText

@@ -11,17 +11,23 @@ ghost use Rattle.heap_theory.specs.Hardening.{
   PointersAreCopied,
   ReuseIsDelayed,
 };
-ghost use Rattle.heap_theory.specs.Laws.{AfterEveryRun, AtEveryEvent};
 ghost use Rattle.heap_theory.specs.declared.event.Event.TheVariants.{Addg, Subg};
+ghost use Rattle.heap_theory.specs.Calls.{free_step, freed};
+ghost use Rattle.heap_theory.specs.Lookups.{chunk_at};
 ghost use Rattle.heap_theory.specs.OwnPointers.{
-  FreeAcceptsOwnPointers,
+  FreeAccepts,
+  GivesOwnPointers,
+  IsNullOrOwn,
+  IsOwnPointer,
   LiveVariablesAreAccepted,
-  OwnPointerFreesChunk,
-  OwnPointerNamesChunk,
-  OwnPointersAreGiven,
-  OwnPointersStay,
-  ReallocAcceptsOwnPointers,
+  ReallocAccepts,
+  StaysOwnPointer,
 };
+ghost use Rattle.heap_theory.specs.Run.{AfterEveryRun, AtEveryEvent};
+ghost use Rattle.heap_theory.specs.Sound.{IsSoundHeap};
+ghost use Rattle.heap_theory.specs.State.State.{Live};
+ghost use Rattle.heap_theory.specs.State.{Heap, IsSlot, pointer_to, state_at};
+ghost use Rattle.std.specs.Prelude.{◌≡◌, ◌↔◌, Ok, ℕ};
 
 /// No chunk granule has tag 0. A chunk granule of an even slot and one of an odd slot never have the same tag.
 pub fn law_chunk_tags()
@@ -43,13 +49,16 @@ pub fn law_inside()
 /// `free` and `realloc` accept the pointer that was given out for a live chunk, and act on that chunk. They accept no other pointer but
 /// null. Malloc, calloc and realloc give out such a pointer, and it remains one until a free or a realloc of it. So a variable whose
 /// generation is live has one.
+#[tactic(auto, using(crate::proofs::OwnPointers::own_pointers))]
 pub fn law_own_pointer()
-    ensures free { FreeAcceptsOwnPointers }
-    ensures realloc { ReallocAcceptsOwnPointers }
-    ensures named { OwnPointerNamesChunk }
-    ensures freed { OwnPointerFreesChunk }
-    ensures given { OwnPointersAreGiven }
-    ensures stays { OwnPointersStay }
+    ensures free { (heap : Heap) (p : ℕ) → IsSoundHeap heap → FreeAccepts heap p ↔ IsNullOrOwn heap p }
+    ensures realloc { (heap : Heap) (p n : ℕ) → IsSoundHeap heap → ReallocAccepts heap p n ↔ IsNullOrOwn heap p }
+    ensures named { (heap : Heap) (s n tag : ℕ) → IsSoundHeap heap → IsSlot heap s → state_at heap s ≡ Live n tag →
+        chunk_at heap (pointer_to heap s) ≡ Ok (record { slot = s; size = n }) }
+    ensures freed { (heap : Heap) (s n tag : ℕ) → IsSoundHeap heap → IsSlot heap s → state_at heap s ≡ Live n tag →
+        free_step heap (pointer_to heap s) ≡ record { heap = freed heap s n; answer = Ok tt } }
+    ensures given { (heap : Heap) → IsSoundHeap heap → GivesOwnPointers heap }
+    ensures stays { (heap : Heap) (s p : ℕ) → IsSoundHeap heap → IsOwnPointer heap s p → StaysOwnPointer heap s p }
     ensures variables { AfterEveryRun LiveVariablesAreAccepted }
 {}
 

@@ -1,16 +1,12 @@
-ghost use Rattle.machine_theory.specs.Access.{IsMapped, IsTagFault, access_fault, is_mapped};
+ghost use Rattle.machine_theory.specs.Access.{IsMapped, IsTagFault, access_fault};
 ghost use Rattle.machine_theory.specs.Address.{Touches, logical_tag};
 ghost use Rattle.machine_theory.specs.Memory.{Granule, tag_at};
 ghost use Rattle.machine_theory.specs.declared.fault.Fault.TheVariants.{TagCheck, Unmapped};
-ghost use Rattle.std.specs.Prelude.{◌≡◌, ◌≢◌, ◌↔◌, ◌<◌, IsSome, IsTrue, List, None, Some, length, ℕ};
-
-/// An access passes the test exactly if it is mapped.
-pub fn law_mapped()
-    ensures { (granules address len : ℕ) → IsTrue (is_mapped granules address len) ↔ IsMapped granules address len }
-{}
+ghost use Rattle.std.specs.Prelude.{◌≡◌, ◌≢◌, ◌↔◌, ◌<◌, IsSome, List, None, Some, length, ℕ};
 
 /// An access is a tag fault exactly if it is mapped and touches a granule whose tag differs from the pointer's. The fault names the lowest
 /// such granule.
+#[tactic(auto, using(crate::proofs::AccessLaws::access_laws))]
 pub fn law_access()
     ensures unmapped { (memory : List Granule) (address len : ℕ) → (IsMapped (length memory) address len → ⊥) →
         access_fault memory address len ≡ Some Unmapped }

@@ -1,8 +1,8 @@
-ghost use Rattle.machine_theory.specs.Instructions.{drawn_tag};
 ghost use Rattle.machine_theory.specs.Tags.{choose_tag, is_excluded, next_allowed};
-ghost use Rattle.std.specs.Prelude.{◌≡◌, ◌≢◌, ◌+◌, ◌%◌, ◌<◌, ◌^◌, IsFalse, IsTrue, bit_or, ℕ};
+ghost use Rattle.std.specs.Prelude.{◌≡◌, ◌+◌, ◌%◌, ◌<◌, IsFalse, IsTrue, ℕ};
 
 /// A chosen tag is never an excluded one, unless all sixteen are excluded; then it is 0.
+#[tactic(auto, using(crate::proofs::TagLaws::choose_tag_allowed, crate::proofs::TagLaws::choose_tag_none))]
 pub fn law_choose_tag()
     ensures allowed { (tag offset exclude other : ℕ) → tag < 16 → other < 16 → IsFalse (is_excluded exclude other) →
         IsFalse (is_excluded exclude (choose_tag tag offset exclude)) }
@@ -12,18 +12,9 @@ pub fn law_choose_tag()
         choose_tag tag offset exclude ≡ 0 }
 {}
 
-/// If the mask of IRG excludes the tags of one parity and one more tag, the drawn tag is of the other parity, and neither 0 nor that one
-/// more tag.
-pub fn law_parity()
-    ensures odd { (tag seed last : ℕ) → tag < 16 →
-        let drawn = drawn_tag tag seed (bit_or 0x5555 (2 ^ last)) in (drawn < 16) × (drawn % 2 ≡ 1) × (drawn ≢ last) }
-    ensures even { (tag seed last : ℕ) → tag < 16 →
-        let drawn = drawn_tag tag seed (bit_or 0xAAAB (2 ^ last)) in
-        (drawn < 16) × (drawn % 2 ≡ 0) × (0 < drawn) × (drawn ≢ last) }
-{}
-
 /// Steps from tag to tag, each one up modulo 16 and then on while the tag is excluded, choose the same tag, as in the Arm ARM's
 /// ChooseNonExcludedTag.
+#[tactic(auto, using(crate::proofs::StepLaws::steps))]
 pub fn law_steps()
     // a step goes to the next allowed tag
     ensures here { (tag exclude : ℕ) → IsFalse (is_excluded exclude ((tag + 1) % 16)) →

@@ -1,5 +1,11 @@
-use Rattle.replay_core.proofs.LawLemmas.{lines_of_none, lines_of_one_more, report_is_lines_and_totals}
+use Rattle.replay_core.proofs.StoredMore.{lines_of_none, lines_of_one_more, report_is_lines_and_totals, stored_of_none, stored_of_one_more}
 use Rattle.replay_core.proofs.laws.law_report.Goals as goal
+
+pub returns-clause-first : goal.returns-clause-first
+returns-clause-first c = stored_of_none
+
+pub returns-clause-stored : goal.returns-clause-stored
+returns-clause-stored c = stored_of_one_more
 
 pub returns-clause-none : goal.returns-clause-none
 returns-clause-none c = lines_of_none

@@ -1,7 +1,7 @@
 use Rattle.std.proofs.Common.{◌≤◌, ◌+◌, refl, sym, ap, ◌∙◌, arith}
 use Rattle.machine_theory.specs.Memory.{written}
 use Rattle.machine_theory.proofs.ChangeLaws.{written-append, written-none}
-use Rattle.machine_theory.proofs.LawLemmas.{other_bytes}
+use Rattle.machine_theory.proofs.ByteLaws.{other_bytes}
 use Rattle.tagged_heap.proofs.BytesInParts.{bytes_at-none, copied_more, copied_long}
 use Rattle.tagged_heap.proofs.bytes.copy.Goals as goal
 

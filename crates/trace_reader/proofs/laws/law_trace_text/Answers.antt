@@ -1,5 +1,4 @@
-use Rattle.trace_reader.proofs.LawLemmas.{events_are_few, events_are_in_range, fault_is_after_its_events}
-use Rattle.trace_reader.proofs.LawLemmas.{spelled_trace_is_read, text_spells_one_trace, trace_is_spelled}
+use Rattle.trace_reader.proofs.TraceSpelling.{fault_is_after_its_events, spelled_trace_is_read, text_spells_one_trace, trace_is_spelled}
 use Rattle.trace_reader.proofs.laws.law_trace_text.Goals as goal
 
 pub returns-clause-spelled : goal.returns-clause-spelled
@@ -13,9 +12,3 @@ returns-clause-one c = text_spells_one_trace
 
 pub returns-clause-fault : goal.returns-clause-fault
 returns-clause-fault c = fault_is_after_its_events
-
-pub returns-clause-few : goal.returns-clause-few
-returns-clause-few c = events_are_few
-
-pub returns-clause-range : goal.returns-clause-range
-returns-clause-range c = events_are_in_range

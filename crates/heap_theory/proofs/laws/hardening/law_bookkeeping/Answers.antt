@@ -1,10 +1,9 @@
-use Rattle.heap_theory.proofs.Hardened.{bookkeeping_out_of_reach}
-use Rattle.heap_theory.proofs.LawLemmas.{variables_are_null_or_tagged}
+use Rattle.heap_theory.proofs.Hardened.{bookkeeping_out_of_reach, null_or_tagged}
 use Rattle.heap_theory.proofs.RunKept.{IsRunWith-run}
 use Rattle.heap_theory.proofs.laws.hardening.law_bookkeeping.Goals as goal
 
 pub returns-clause-variables : goal.returns-clause-variables
-returns-clause-variables c = variables_are_null_or_tagged
+returns-clause-variables c = λ layout seed quarantine events is. null_or_tagged _ (IsRunWith-run layout seed quarantine events is).sound
 
 pub returns-clause-faults : goal.returns-clause-faults
 returns-clause-faults c =

@@ -2,7 +2,6 @@
 use Rattle.std.proofs.Common.{◌≡◌, length, refl, sym, ap, ◌∙◌, subst, inl, inr}
 use Rattle.std.specs.Prelude.{OnOk}
 use Rattle.machine_theory.specs.Access.{access_fault, ok_unless, loaded}
-use Rattle.heap_theory.proofs.HeaderWords.{class_number-is}
 use Rattle.heap_theory.proofs.HeadersAgree.{header_words_stay}
 use Rattle.tagged_heap.specs.HeapFields.{state_of}
 use Rattle.tagged_heap.proofs.PayloadWritten.{tagged_access, load_seen, fault_cases}
@@ -29,5 +28,5 @@ returns-clause-ok c =
 
 pub returns-clause-headers : goal.returns-clause-headers
 returns-clause-headers c =
-    header_words_stay class_number-is c.args.self.now.state c.args.self.now.state
+    header_words_stay c.args.self.now.state c.args.self.now.state
     (record { layout = refl; states = refl; total = refl; quarantine = refl })

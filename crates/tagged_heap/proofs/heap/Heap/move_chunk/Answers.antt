@@ -3,7 +3,7 @@ use Rattle.std.proofs.Common.{◌≡◌, refl, sym, ap, arith}
 use Rattle.heap_theory.specs.Calls.{moved}
 use Rattle.class_table.specs.Sizes.{chunk_granules}
 use Rattle.heap_theory.specs.State.{chunk_granules_of, state_at}
-use Rattle.machine_theory.proofs.LawLemmas.{bytes_under_tags}
+use Rattle.machine_theory.proofs.ByteLaws.{bytes_under_tags}
 use Rattle.tagged_heap.proofs.TheoryLemmas as laws
 use Rattle.tagged_heap.proofs.CallSteps.{payload_given, live_apart, chunk_stays, chunk_written, same_slot}
 use Rattle.tagged_heap.proofs.heap.Heap.move_chunk.Goals as goal

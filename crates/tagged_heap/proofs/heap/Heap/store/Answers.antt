@@ -6,7 +6,6 @@ use Rattle.machine_theory.specs.Access.{access_fault, ok_unless, stored}
 use Rattle.machine_theory.specs.Address.{byte_of, place_of}
 use Rattle.machine_theory.specs.Machine.{Machine}
 use Rattle.heap_theory.specs.HeapInMemory.{HaveSameSlots}
-use Rattle.heap_theory.proofs.HeaderWords.{class_number-is}
 use Rattle.heap_theory.proofs.HeadersAgree.{header_words_stay}
 use Rattle.tagged_heap.specs.HeapFields.{state_of, seen, parts_of}
 use Rattle.tagged_heap.specs.HeapAtRest.{HeapAndFrees, shown_heap, IsAtRest}
@@ -76,7 +75,7 @@ returns-clause-ok c = elim (fault_cases (access_fault c.self.inside.machine.memo
 pub returns-clause-headers : goal.returns-clause-headers
 returns-clause-headers c =
     rw (← c.self.view_is)
-    (header_words_stay class_number-is (state_of c.self.inside) (around c c.store.new.self).state
+    (header_words_stay (state_of c.self.inside) (around c c.store.new.self).state
     (elim (fault_cases (access_fault c.self.inside.machine.memory c.args.address (length c.args.bytes.now))) [
       | inl none ↦ same (seen c.self.inside) (is_stored c none).shown
       | inr some ↦ rw (machine_stays c some.0 some.1) (record { layout = refl; states = refl; total = refl; quarantine = refl })
