@@ -1,14 +1,9 @@
 -- Offsets as numbers with a sign.
 use Rattle.std.proofs.Common.{◌≤◌, arith, ℤ, nat_abs, pos, negsuc}
-use Rattle.std.specs.Int.{w32, w64}
+use Rattle.std.specs.Int.{w64}
 use Rattle.std.specs.Prelude.{FitsSigned}
 
 -- an offset of an access fits 64 bits with its sign
 pub fits_signed : (z : ℤ) → nat_abs z ≤ 1048576 → FitsSigned w64 z
 fits_signed (pos n) near = record { sfits = omega arith }
 fits_signed (negsuc n) near = record { sfits = omega arith }
-
--- and 32 bits
-pub fits_narrow : (z : ℤ) → nat_abs z ≤ 1048576 → FitsSigned w32 z
-fits_narrow (pos n) near = record { sfits = omega arith }
-fits_narrow (negsuc n) near = record { sfits = omega arith }

@@ -1,15 +1,11 @@
 -- What the words of an event spell, read one after the other.
-use Rattle.std.proofs.Common.{◌≡◌, ℕ, ℤ, List, [], ◌∷◌, ◌++◌, append_assoc, refl, ap, ◌∙◌, false, Result, Ok, arith, length, ne_eqb, codes, nat_abs, ◌≤◌}
+use Rattle.std.proofs.Common.{◌≡◌, ℕ, ℤ, List, [], ◌∷◌, ◌++◌, append_assoc, refl, ap, ◌∙◌, false, Result, Ok, arith, length, ne_eqb, codes}
 use Rattle.line_text.specs.Lines.{words}
 use Rattle.line_text.specs.Numbers.{number_of}
 use Rattle.line_text.specs.Signed.{signed_of}
 use Rattle.line_text.specs.Hexadecimal.{hex_of}
 use Rattle.heap_theory.specs.declared.event.Event.{Event}
 use Rattle.heap_theory.specs.declared.event.Event.TheVariants.{Malloc, Calloc, Realloc, Free, Load, Store, Addg, Subg}
-use Rattle.std.specs.Int.{w32}
-use Rattle.std.specs.Prelude.{FitsSigned, IfOk}
-use Rattle.trace_reader.proofs.LineRanges.{IfOk-offset_of}
-use Rattle.trace_reader.proofs.Offsets.{fits_narrow}
 use Rattle.trace_reader.specs.OnePass.{AreAfter, AreRead, IsRead}
 use Rattle.trace_reader.specs.declared.fault.TraceFault.{TraceFault}
 use Rattle.trace_reader.specs.TraceLine.{byte_of, event_named, event_of_words, free_of, is_empty_word, load_of, move_of, number_from, offset_of, request_of, store_of}
@@ -44,13 +40,6 @@ request_read ws more left v n event a b none = record {
 pub free_read : (ws left : List (List ℕ)) (v : ℕ) → IsRead (number_from 0 1023) ws left v → left ≡ [] → AreRead free_of ws (Free v)
 free_read ws left v a none =
     record { is = rw (a.words, none) (rw a.is refl); full = rw (a.words, none) (rw (full_number 0 1023 a.word v a.is) refl) }
-
--- an offset that is read fits 32 bits
-pub offset_fits : (ws left : List (List ℕ)) (off : ℤ) → IsRead offset_of ws left off → FitsSigned w32 off
-offset_fits ws left off read =
-    let range : IfOk (offset_of read.word) (λ z. nat_abs z ≤ 1048576) = IfOk-offset_of read.word in
-    let near : nat_abs off ≤ 1048576 = rw read.is at range in
-    fits_narrow off near
 
 pub load_read : (ws more third left : List (List ℕ)) (v len : ℕ) (off : ℤ)
     → IsRead (number_from 0 1023) ws more v → IsRead offset_of more third off → IsRead (number_from 1 64) third left len → left ≡ []
