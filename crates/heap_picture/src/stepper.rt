@@ -2,7 +2,7 @@
 ghost use Rattle.std.specs.Prelude.{◌≡◌, ◌<◌, ◌≤◌, ◌+◌, ◌^◌, length, drop, slice_get, IfOk, IsTrue, false, true};
 ghost use Rattle.heap_theory.specs.Replay.{Replay as Replayed, first_replay, replay_of};
 ghost use Rattle.tagged_heap.specs.Config.{IsConfig, layout_for};
-ghost use Rattle.heap_picture.specs.Picture.{AreFewEvents, IsDrawn, after_one};
+ghost use Rattle.heap_picture.specs.Picture.{AreFewEvents, IsDrawn};
 ghost use Rattle.trace_reader.specs.TraceLine.{most_events};
 
 use crate::drawing::draw;
@@ -21,6 +21,8 @@ pub struct Stepper {
 }
 
 impl Stepper {
+    ghost use Rattle.heap_picture.specs.Pictured.{goes_on};
+
     /// Before the first event.
     #[tactic(auto, unfolding(replay_core::specs::ReplayState::first_stored))]
     pub fn new(
@@ -42,7 +44,7 @@ impl Stepper {
     /// Performs the next event. Returns whether there was one.
     #[tactic(auto, unfolding(replay_core::specs::ReplayState::stored_after, heap_theory::specs::Totals::totals_after))]
     pub fn step(&mut self) -> bool
-        ensures { after_one self.old.replay.replay self.old.reader.events self.new.replay.replay self.new.reader.events result }
+        ensures { goes_on self.old self.new result }
     {
         let Some(event) = self.reader.next_event() else {
             return false;
