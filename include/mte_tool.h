@@ -79,6 +79,47 @@ size_t mte_tool_read(mte_tool_text *text, size_t from, uint8_t *room, size_t len
 /* Frees the memory of a text, and leaves the empty text. Null is let pass. */
 void mte_tool_free(mte_tool_text *text);
 
+/* ---- score, tune and check over arrays, for a caller that has no text */
+
+/* the most classes of a table */
+#define MTE_TOOL_MOST_CLASSES 32
+
+/* A profile: `length` sizes in bytes, ascending, from 0 to 16368, each requested as often as its count says, 1 to 1000000000 times. Both
+   pointers may be null if `length` is 0. */
+typedef struct mte_tool_profile_arrays {
+    const uint32_t *sizes;
+    const uint32_t *counts;
+    size_t length;
+} mte_tool_profile_arrays;
+
+/* The answer of such a call. What the call does not give is 0. */
+typedef struct mte_tool_numbers {
+    uint32_t end;     /* MTE_TOOL_DONE and so on */
+    uint32_t fault;   /* the code of the refusal: of the classes 20 (more than 32), 21 (not from 2 to 1024), 22 (not ascending); of an entry of
+                         the profile 30 (the size is above 16368), 31 (not ascending), 32 (the count is out of range); of a sheet 39 to 47 */
+    uint64_t at;      /* the index of the first faulty entry of the profile, from 0 on; or the least size without a class, in bytes */
+    uint64_t waste;   /* what the table wastes on the profile, in bytes */
+    uint32_t classes; /* how many classes the tuned table has */
+    uint32_t places;  /* how many numbers each row of its certificate has, 0 to 1023 and at most one for each size */
+} mte_tool_numbers;
+
+/* What the table of `class_count` classes, in granules of 16 bytes, wastes on a profile. MTE_TOOL_NO: a size has no class, and `at` is the
+   least one. */
+mte_tool_numbers mte_tool_score_arrays(const uint16_t *classes, size_t class_count, mte_tool_profile_arrays profile);
+
+/* The table of least waste for a profile, of at most `limit` classes that are multiples of `step`. `classes` has room for `class_room` of
+   them, `limit` or more, or that is MTE_TOOL_MISUSE. The certificate is `limit` rows of `places` numbers each. They are put into `rows`, row
+   after row, if `row_room` is at least limit * places; else `rows` stays as it is. limit * length is always enough, and 0 and null let the
+   certificate go. Neither array may overlap another one. After any end but MTE_TOOL_DONE both are as they were. */
+mte_tool_numbers mte_tool_tune_arrays(mte_tool_options options, mte_tool_profile_arrays profile, uint16_t *classes, size_t class_room,
+                                      uint64_t *rows, size_t row_room);
+
+/* The verdict on a sheet for a profile, whoever made it: `class_count` classes, made for these options, with the waste that it claims and
+   the `row_count` numbers of its certificate. MTE_TOOL_DONE: no table wastes less. MTE_TOOL_NO: it is refused, and `fault` says by which
+   condition. MTE_TOOL_MISUSE: the numbers of the certificate can't be cut in `limit` rows of one length. */
+mte_tool_numbers mte_tool_check_arrays(mte_tool_options options, const uint16_t *classes, size_t class_count, uint64_t waste,
+                                       const uint64_t *rows, size_t row_count, mte_tool_profile_arrays profile);
+
 /* ---- the heap itself, for whoever tests an allocator against the model (docs/HEAP.md) */
 
 /* A heap that the library holds for its caller. It begins as MTE_TOOL_HEAP, which holds none, and mte_tool_heap_close makes it that again.

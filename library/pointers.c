@@ -1,5 +1,5 @@
-/* The functions of mte_tool.h: each looks for null pointers, and then calls the proved function of crates/mte_c or crates/mte_heap. Nothing
-   here is proved. */
+/* The functions of mte_tool.h: each looks for null pointers, and then calls the proved function of crates/mte_c, crates/mte_arrays or
+   crates/mte_heap. Nothing here is proved. */
 #include "../include/mte_tool.h"
 
 /* the proved functions; a slice is a pointer and a length */
@@ -16,6 +16,12 @@ mte_tool_ending mte_c_run(mte_tool_options, const uint8_t *, size_t, mte_tool_te
 uint32_t mte_c_append(const uint8_t *, size_t, mte_tool_text *);
 size_t mte_c_read(mte_tool_text *, size_t, uint8_t *, size_t);
 void mte_c_free(mte_tool_text *);
+mte_tool_numbers mte_arrays_score(const uint16_t *, size_t, const uint32_t *, size_t, const uint32_t *, size_t);
+mte_tool_numbers mte_arrays_tune(uint8_t, uint8_t, const uint32_t *, size_t, const uint32_t *, size_t, uint16_t *, size_t, uint64_t *,
+                                 size_t);
+mte_tool_numbers mte_arrays_check(uint8_t, uint8_t, uint64_t, const uint16_t *, size_t, const uint64_t *, size_t, const uint32_t *, size_t,
+                                  const uint32_t *, size_t);
+
 typedef struct heap_settings {
     uint32_t granules;
     uint32_t quarantine;
@@ -86,10 +92,43 @@ void mte_tool_free(mte_tool_text *text) {
     if (text) mte_c_free(text);
 }
 
-/* ---- the heap */
+/* ---- arrays */
 
+static const mte_tool_numbers misused_numbers = {MTE_TOOL_MISUSE, 0, 0, 0, 0, 0};
 /* where an empty array stands */
-static const uint16_t no_classes;
+static uint64_t no_numbers;
+
+static int is_whole(mte_tool_profile_arrays profile) {
+    return !is_missing(profile.sizes, profile.length) && !is_missing(profile.counts, profile.length);
+}
+
+static const uint32_t *numbers_or_none(const uint32_t *numbers) {
+    return numbers ? numbers : (const uint32_t *)&no_numbers;
+}
+
+/* the two slices of a profile */
+#define SLICES(profile) numbers_or_none(profile.sizes), profile.length, numbers_or_none(profile.counts), profile.length
+
+mte_tool_numbers mte_tool_score_arrays(const uint16_t *classes, size_t class_count, mte_tool_profile_arrays profile) {
+    if (is_missing(classes, class_count) || !is_whole(profile)) return misused_numbers;
+    return mte_arrays_score(classes ? classes : (const uint16_t *)&no_numbers, class_count, SLICES(profile));
+}
+
+mte_tool_numbers mte_tool_tune_arrays(mte_tool_options options, mte_tool_profile_arrays profile, uint16_t *classes, size_t class_room,
+                                      uint64_t *rows, size_t row_room) {
+    uint64_t no_row;
+    if (!classes || is_missing(rows, row_room) || !is_whole(profile)) return misused_numbers;
+    return mte_arrays_tune(options.limit, options.step, SLICES(profile), classes, class_room, rows ? rows : &no_row, row_room);
+}
+
+mte_tool_numbers mte_tool_check_arrays(mte_tool_options options, const uint16_t *classes, size_t class_count, uint64_t waste,
+                                       const uint64_t *rows, size_t row_count, mte_tool_profile_arrays profile) {
+    if (is_missing(classes, class_count) || is_missing(rows, row_count) || !is_whole(profile)) return misused_numbers;
+    return mte_arrays_check(options.limit, options.step, waste, classes ? classes : (const uint16_t *)&no_numbers, class_count,
+                            rows ? rows : &no_numbers, row_count, SLICES(profile));
+}
+
+/* ---- the heap */
 
 static const mte_tool_outcome misused_heap = {MTE_TOOL_MISUSE, 0, 0, 0, 0, 0, 0};
 
@@ -101,7 +140,7 @@ static uint32_t request(size_t size) {
 mte_tool_outcome mte_tool_heap_new(mte_tool_heap *heap, mte_tool_options options, const uint16_t *classes, size_t class_count) {
     heap_settings settings = {options.granules, options.quarantine, options.seed};
     if (!heap || is_missing(classes, class_count)) return misused_heap;
-    return mte_heap_new(settings, classes ? classes : &no_classes, class_count, heap);
+    return mte_heap_new(settings, classes ? classes : (const uint16_t *)&no_numbers, class_count, heap);
 }
 
 mte_tool_outcome mte_tool_heap_malloc(mte_tool_heap *heap, size_t size) {

@@ -10,7 +10,7 @@ import subprocess
 import sys
 
 # those that scripts/library links
-LIBRARY = ("mte_c", "mte_heap")
+LIBRARY = ("mte_c", "mte_arrays", "mte_heap")
 ROOT = os.path.dirname(os.path.dirname(os.path.dirname(os.path.realpath(__file__))))
 
 

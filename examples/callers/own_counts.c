@@ -1,0 +1,39 @@
+/* A table for counts that the program has itself, without any text between: own_counts LIMIT < SIZES
+   SIZES is one size in bytes for each request. It prints the classes in bytes and what they waste, after the checker has confirmed that no
+   table of at most LIMIT classes wastes less. */
+#include <mte_tool.h>
+#include <stdio.h>
+#include <stdlib.h>
+
+enum { LARGEST = 16368 };
+
+int main(int count, char **words) {
+    static uint32_t counted[LARGEST + 1], sizes[LARGEST + 1], counts[LARGEST + 1];
+    mte_tool_profile_arrays profile = {sizes, counts, 0};
+    mte_tool_options options = MTE_TOOL_OPTIONS((uint8_t)(count == 2 ? atoi(words[1]) : 0));
+    uint16_t classes[MTE_TOOL_MOST_CLASSES];
+    mte_tool_numbers tuned, checked;
+    uint64_t *rows;
+    size_t room;
+    uint32_t size, i;
+    while (scanf("%u", &size) == 1)
+        if (size <= LARGEST) counted[size]++; /* larger ones are not for the classes */
+    for (size = 0; size <= LARGEST; size++)
+        if (counted[size]) {
+            sizes[profile.length] = size;
+            counts[profile.length++] = counted[size];
+        }
+    room = options.limit * profile.length;
+    if (!(rows = malloc((room + 1) * sizeof *rows))) return 3;
+    tuned = mte_tool_tune_arrays(options, profile, classes, MTE_TOOL_MOST_CLASSES, rows, room);
+    if (tuned.end != MTE_TOOL_DONE) {
+        fprintf(stderr, "end %u, fault %u at entry %llu\n", tuned.end, tuned.fault, (unsigned long long)tuned.at);
+        return 2;
+    }
+    checked = mte_tool_check_arrays(options, classes, tuned.classes, tuned.waste, rows, (size_t)options.limit * tuned.places, profile);
+    free(rows);
+    if (checked.end != MTE_TOOL_DONE) return 1;
+    for (i = 0; i < tuned.classes; i++) printf("%u ", classes[i] * 16u);
+    printf("waste %llu\n", (unsigned long long)tuned.waste);
+    return 0;
+}
