@@ -13,8 +13,9 @@ use crate::heap::Heap;
 use crate::next_slot::take_slot;
 use crate::slot_changes::give_out;
 use crate::tags::chunk_granules;
-use class_table::{GRANULE_BYTES, LARGEST_COUNTED, Layout};
+use class_table::{LARGEST_COUNTED, Layout};
 use heap_theory::NullCause;
+use machine_theory::GRANULE_BYTES;
 
 /// The number of the class that serves a request of `n` bytes, or why none does.
 pub(crate) fn class_number_for(layout: &Layout, n: u32) -> Result<usize, NullCause>

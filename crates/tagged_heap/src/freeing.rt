@@ -19,9 +19,10 @@ use crate::read_header::header;
 use crate::slot_changes::retire;
 use chunk_header::{Header, State, write};
 use class_lists::ClassLists;
-use class_table::{GRANULE_BYTES, Layout, Slot};
+use class_table::{Layout, Slot};
 use granule_memory::Memory;
 use heap_theory::FreeError;
+use machine_theory::GRANULE_BYTES;
 use quarantine_core::Quarantine;
 use tag_machine::logical_tag;
 
@@ -99,7 +100,7 @@ impl Heap {
         let Chunk { slot, place, .. } = chunk;
         let Slot { start, class } = place;
         retire(&mut self.machine, &self.layout, slot, start, self.total);
-        let bytes = GRANULE_BYTES * class;
+        let bytes = GRANULE_BYTES as u32 * class;
         let memory = self.machine.memory_mut();
         self.quarantine.put(memory, &self.layout, slot, bytes);
         release_oldest(memory, &self.layout, &mut self.quarantine, &mut self.lists);

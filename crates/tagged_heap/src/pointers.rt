@@ -1,18 +1,18 @@
 //! Pointers and the slots that they name.
 ghost use Rattle.class_table.specs.Layout.{slot_count, slot_of};
 ghost use Rattle.heap_theory.specs.State.{payload_place};
-ghost use Rattle.machine_theory.specs.Address.{place_of, region_start, with_tag};
+ghost use Rattle.machine_theory.specs.Address.{place_of, region_start};
 ghost use Rattle.std.specs.Prelude.{◌≡◌, ◌+◌, ◌*◌, ◌^◌, ◌<◌, IfNone, IfSome, ℕ};
 
 use class_table::Layout;
-use tag_machine::{GRANULE_BYTES, REGION_START, place_of, with_tag};
+use machine_theory::GRANULE_BYTES;
+use tag_machine::{REGION_START, place_of};
 
-/// The address, under this tag, of the payload of the slot whose header is granule `start`.
-pub(crate) fn payload_address(start: u32, tag: u8) -> u64
-    requires tag { tag < 16 }
-    ensures { result ≡ with_tag (region_start + GRANULE_BYTES * (start + 1)) tag }
+/// The address, with tag 0, of the payload of the slot whose header is granule `start`.
+pub(crate) fn payload_place(start: u32) -> u64
+    ensures { result ≡ region_start + GRANULE_BYTES * (start + 1) }
 {
-    with_tag(REGION_START + GRANULE_BYTES * (u64::from(start) + 1), tag)
+    REGION_START + GRANULE_BYTES * (u64::from(start) + 1)
 }
 
 /// The slot whose payload begins at the pointer's place, and the granule of its header. `None` if there is no such slot or bits 63 to 60 of

@@ -13,8 +13,8 @@ use crate::bytes::copy;
 use crate::freeing::Chunk;
 use crate::heap::Heap;
 use crate::slot_changes::resize;
-use class_table::GRANULE_BYTES;
 use heap_theory::{NullCause, ReallocError};
+use machine_theory::GRANULE_BYTES;
 
 impl Heap {
     /// Changes the size of the chunk at `p` to `n` bytes, and returns the chunk's address. The chunk stays in place, under its tag, if `n`

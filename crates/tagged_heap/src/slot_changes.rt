@@ -11,7 +11,7 @@ ghost use Rattle.std.specs.Prelude.{◌≡◌};
 ghost use Rattle.tagged_heap.specs.Chunks.{HasRoom, given_header, retired_header, tag_for};
 ghost use Rattle.heap_theory.specs.Region.{region_of, header_in};
 
-use crate::pointers::payload_address;
+use crate::pointers::payload_place;
 use crate::read_header::header;
 use crate::tags::{chunk_granules, draw, exclude, tag_chunk};
 use chunk_header::{Header, State, write};
@@ -43,7 +43,8 @@ pub(crate) fn give_out(
     ensures memory { IsMemory machine.new.memory }
 {
     let before = header(machine.memory(), layout, slot, place.start);
-    let tag = draw(machine, exclude(slot, before.tag));
+    let payload = payload_place(place.start);
+    let (tag, address) = draw(machine, payload, exclude(slot, before.tag));
     let after = Header {
         state: State::Live,
         size: n as u16,
@@ -54,7 +55,7 @@ pub(crate) fn give_out(
     };
     write(machine.memory_mut(), place.start, &after);
     tag_chunk(machine, place, n, tag);
-    payload_address(place.start, tag)
+    address
 }
 
 /// Resizes the chunk of the live slot that lies at `place` to `n` bytes, under the tag that it has. The slot must have room for them.
@@ -96,7 +97,7 @@ pub(crate) fn retire(machine: &mut Machine, layout: &Layout, slot: u32, start: u
     ensures memory { IsMemory machine.new.memory }
 {
     let before = header(machine.memory(), layout, slot, start);
-    let other = draw(machine, exclude(slot, before.tag));
+    let (other, _) = draw(machine, 0, exclude(slot, before.tag));
     let after = Header {
         state: State::Quarantined,
         next: 0,

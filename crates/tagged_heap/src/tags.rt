@@ -1,6 +1,7 @@
 //! The tags of chunks: how one is drawn, and the granules that get it.
 ghost use Rattle.class_table.specs.Sizes.{largest_counted, chunk_granules};
 ghost use Rattle.heap_theory.specs.Calls.{chunk_tagged, parity_exclude};
+ghost use Rattle.machine_theory.specs.Address.{with_tag};
 ghost use Rattle.machine_theory.specs.Instructions.{drawn_tag};
 ghost use Rattle.machine_theory.specs.Memory.{tagged, IsMemory};
 ghost use Rattle.machine_theory.specs.Seed.{next_seed};
@@ -28,16 +29,17 @@ pub(crate) fn exclude(slot: u32, last: u8) -> u16
     parity | 1 << last
 }
 
-/// Draws a tag that is not excluded, by one IRG.
+/// Draws a tag that is not excluded, by one IRG. Returns the tag, and the address with it.
 #[tactic(auto, unfolding(machine_theory::specs::Instructions::drawn_tag))]
-pub(crate) fn draw(machine: &mut Machine, exclude: u16) -> u8
-    ensures tag { result ≡ drawn_tag machine.old.tag machine.old.seed exclude }
-    ensures below { result < 16 }
-    ensures register { machine.new ≡ record machine.old { seed = next_seed machine.old.seed; tag = result } }
+pub(crate) fn draw(machine: &mut Machine, address: u64, exclude: u16) -> (u8, u64)
+    ensures tag { result.0 ≡ drawn_tag machine.old.tag machine.old.seed exclude }
+    ensures below { result.0 < 16 }
+    ensures address { result.1 ≡ with_tag address (drawn_tag machine.old.tag machine.old.seed exclude) }
+    ensures register { machine.new ≡ record machine.old { seed = next_seed machine.old.seed; tag = result.0 } }
 {
+    let tagged = machine.irg(address, u64::from(exclude));
     // the tag that IRG chose is in the register
-    machine.irg(0, u64::from(exclude));
-    machine.rgsr().0
+    (machine.rgsr().0, tagged)
 }
 
 /// Gives the granules of the chunk for a request of `n` bytes this tag, and the rest of the slot's payload tag 0.
