@@ -1,7 +1,5 @@
 -- Lines whose words are too many, or of which one is empty.
 use Rattle.std.proofs.Common.{◌≡◌, ℕ, ◌<◌, Bool, true, false, cond, ◌||◌, List, [], ◌∷◌, ◌++◌, length, Result, Err, refl, arith, eq-eqb}
-use Rattle.std.specs.Prelude.{codes}
-use Rattle.std.specs.Str.{bytes_eq}
 use Rattle.std.specs.List.{list_any}
 use Rattle.heap_theory.specs.declared.event.Event.{Event}
 use Rattle.trace_reader.specs.declared.fault.TraceFault.{TraceFault}
@@ -16,27 +14,12 @@ either true a b x y = x
 either false a b x y = y
 
 many_named : (name a b c d e : List ℕ) (ws : List (List ℕ)) → event_named name (a ∷ b ∷ c ∷ d ∷ e ∷ ws) ≡ bad
-many_named name a b c d e ws =
-    either (bytes_eq name (codes "malloc")) _ _ refl
-    (either (bytes_eq name (codes "calloc")) _ _ refl
-    (either (bytes_eq name (codes "realloc")) _ _ refl
-    (either (bytes_eq name (codes "free")) _ _ refl
-    (either (bytes_eq name (codes "load")) _ _ refl
-    (either (bytes_eq name (codes "store")) _ _ refl
-    (either (bytes_eq name (codes "addg")) _ _ refl
-    (either (bytes_eq name (codes "subg")) _ _ refl refl)))))))
+many_named name a b c d e ws = grind (arith, either)
 
 -- no event has so many words
 pub many_words : (ws : List (List ℕ)) → 5 < length ws → event_of_words ws ≡ Err BadWord
 unfolding event_of_words
-many_words [] many = absurd (omega arith)
-many_words (name ∷ []) many = absurd (omega arith)
-many_words (name ∷ a ∷ []) many = absurd (omega arith)
-many_words (name ∷ a ∷ b ∷ []) many = absurd (omega arith)
-many_words (name ∷ a ∷ b ∷ c ∷ []) many = absurd (omega arith)
-many_words (name ∷ a ∷ b ∷ c ∷ d ∷ []) many = absurd (omega arith)
-many_words (name ∷ a ∷ b ∷ c ∷ d ∷ e ∷ ws) many =
-    either (list_any is_empty_word (name ∷ a ∷ b ∷ c ∷ d ∷ e ∷ ws)) bad _ refl (many_named name a b c d e ws)
+many_words x0 many = grind (arith, either, many_named)
 
 -- a word among the others
 list_any-among : {X : Type 0} (test : X → Bool) (front : List X) (x : X) (after : List X) → test x ≡ true →

@@ -1,5 +1,5 @@
 -- Lines that end, and the end of the text.
-use Rattle.std.proofs.Common.{◌≡◌, ℕ, suc, ◌+◌, Bool, true, false, cond, eqb, eq-eqb, ltb, List, [], ◌∷◌, ◌++◌, length, Result, Ok, Err, refl, sym, ap, subst, ◌∙◌, arith, append_assoc, append-nil, add-one, Option, Some, None}
+use Rattle.std.proofs.Common.{◌≡◌, ℕ, suc, ◌+◌, Bool, true, false, cond, eqb, eq-eqb, ltb, List, [], ◌∷◌, ◌++◌, length, Result, Ok, Err, refl, sym, ap, ◌∙◌, arith, append_assoc, append-nil, add-one, Option, Some, None}
 use Rattle.std.proofs.lemmas.Bool.{ltb-true}
 use Rattle.line_text.specs.Lines.{IsLine}
 use Rattle.heap_theory.specs.declared.event.Event.{Event}
@@ -186,10 +186,7 @@ is_finished-fed r piece unfinished = go r.state unfinished
 
 pub unfinished_after : (old new : Reading) (piece : List ℕ) (result : Answer) → is_finished old ≡ false →
     HasReached old (fed old piece) new result → is_finished new ≡ false
-unfinished_after old new piece (Ok done) unfinished reached =
-    ap is_finished (reached.reading (λ e. absurd cc)) ∙ is_finished-fed old piece unfinished
-unfinished_after old new piece (Err error) unfinished reached =
-    ap (λ (s : State). is_finished (at [] s)) (failed_at new error reached.answer)
+unfinished_after old new piece x3 unfinished reached = grind (arith, failed_at, is_finished-fed)
 
 -- ---- where an error ends a call
 
@@ -217,14 +214,7 @@ IsPrefix-ended r line = record { after = (judged_in r.state (judgement_in r.stat
 
 pub reached_from : (old mid wanted wanted' new : Reading) (result : Answer) → wanted ≡ wanted' → IsPrefix old.events mid.events →
     HasReached mid wanted new result → HasReached old wanted' new result
-reached_from old mid wanted wanted' new result same kept reached =
-    record {
-      answer = reached.answer;
-      reading = λ other. reached.reading other ∙ same;
-      kept = prefix_of_prefix old.events mid.events new.events kept reached.kept;
-      prefix =
-          prefix_of_prefix new.events wanted.events wanted'.events reached.prefix (equal_is_prefix _ _ (ap (λ (r : Reading). r.events) same));
-    }
+reached_from old mid wanted wanted' new result same kept reached = grind (arith, equal_is_prefix, prefix_of_prefix)
 
 pub reached_ok : (old wanted new : Reading) → HasReached old wanted new (Ok tt) → new ≡ wanted
 reached_ok old wanted new reached = reached.reading (λ e. absurd cc)
@@ -233,21 +223,11 @@ reached_ok old wanted new reached = reached.reading (λ e. absurd cc)
 pub line_on_the_way : (old mid new : Reading) (text rest line after : List ℕ) → IsOnTheWay old text mid rest → rest ≡ line ++ 10 ∷ after →
     IsLine line → HasReached mid (line_ended mid line) new (Ok tt) → IsOnTheWay old text new after
 line_on_the_way old mid new text rest line after way cut is_line reached =
-    let now = reached_ok mid (line_ended mid line) new reached in
-    let answer = reached.answer ∙ ap (λ (r : Reading). answer_of r.state) now in
-    record {
-      still_open = ap is_open now ∙ is_open-ended mid line way.still_open answer;
-      fed_is = way.fed_is ∙ ap (fed mid) cut ∙ fed-after mid line after way.still_open is_line ∙ ap (λ (r : Reading). fed r after) (sym now);
-      kept = prefix_of_prefix old.events mid.events new.events way.kept reached.kept;
-    }
+    grind (arith, fed-after, is_open-ended, prefix_of_prefix, reached_ok)
 
 pub way_after_way : (old mid new : Reading) (text rest after : List ℕ) → IsOnTheWay old text mid rest → IsOnTheWay mid rest new after →
     IsOnTheWay old text new after
-way_after_way old mid new text rest after way more = record {
-  still_open = more.still_open;
-  fed_is = way.fed_is ∙ more.fed_is;
-  kept = prefix_of_prefix old.events mid.events new.events way.kept more.kept;
-}
+way_after_way old mid new text rest after way more = grind (arith, prefix_of_prefix)
 
 pub reached_on_the_way : (old mid new : Reading) (text rest : List ℕ) (result : Answer) → IsOnTheWay old text mid rest →
     HasReached mid (fed mid rest) new result → HasReached old (fed old text) new result
@@ -336,11 +316,7 @@ not_empty rest empty is isn_t none = let f = sym isn_t ∙ is ∙ eq-eqb (length
 pub finish_failed : (old new : Reading) (events : List Event) (lines : ℕ) (rest : List ℕ) (status : Status) (error : TraceError)
     → fields events lines rest status ≡ old → is_open old ≡ true → (length rest ≡ 0 → ⊥) →
     HasReached old (line_ended old []) new (Err error) → HasReached old (finished old) new (Err error)
-finish_failed old new events lines rest status error is open_now some reached =
-    let s = is_open_at old events lines rest status is open_now in
-    let at_it : HasReached (open_at events lines rest) (line_ended (open_at events lines rest) []) new (Err error) =
-    subst (λ (r : Reading). HasReached r (line_ended r []) new (Err error)) s.1 reached in
-    subst (λ (r : Reading). HasReached r (finished r) new (Err error)) (sym s.1) (failed_at_end events lines rest new error some at_it)
+finish_failed old new events lines rest status error is open_now some reached = grind (arith, failed_at_end, is_open_at, open_at)
 
 pub finish_line : (old mid : Reading) (events : List Event) (lines : ℕ) (rest : List ℕ) (status : Status) (events' : List Event)
     → fields events lines rest status ≡ old → is_open old ≡ true → (length rest ≡ 0 → ⊥) → HasReached old (line_ended old []) mid (Ok tt) →

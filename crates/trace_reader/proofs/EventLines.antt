@@ -173,14 +173,7 @@ event_len (Addg v w u6 u4) is = move_len (codes "addg") v w u6 u4 (omega arith) 
 event_len (Subg v w u6 u4) is = move_len (codes "subg") v w u6 u4 (omega arith) is.0 is.1 is.2 is.3
 
 pub event_line-some : (event : Event) → 0 < length (event_line event)
-event_line-some (Malloc v n) = omega arith
-event_line-some (Calloc v n) = omega arith
-event_line-some (Realloc v n) = omega arith
-event_line-some (Free v) = omega arith
-event_line-some (Load v off len) = omega arith
-event_line-some (Store v off len byte) = omega arith
-event_line-some (Addg v w u6 u4) = omega arith
-event_line-some (Subg v w u6 u4) = omega arith
+event_line-some x0 = grind arith
 
 pub event_line-is_line : (event : Event) → IsInRange event → IsLine (event_line event)
 event_line-is_line event is = words_make_a_line (event_words event) (event_texts event is).lines
@@ -190,14 +183,7 @@ words_of_line [] some all = absurd (omega arith)
 words_of_line (w ∷ ws) some all = written_words_are_read w ws all
 
 some_words : (event : Event) → 0 < length (event_words event)
-some_words (Malloc v n) = omega arith
-some_words (Calloc v n) = omega arith
-some_words (Realloc v n) = omega arith
-some_words (Free v) = omega arith
-some_words (Load v off len) = omega arith
-some_words (Store v off len byte) = omega arith
-some_words (Addg v w u6 u4) = omega arith
-some_words (Subg v w u6 u4) = omega arith
+some_words x0 = grind arith
 
 pub event_of_line-spelled : (number : ℕ) (event : Event) → number ≤ 1000000 → IsInRange event
     → event_of_line number (event_line event) ≡ Ok event

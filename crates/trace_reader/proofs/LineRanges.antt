@@ -16,7 +16,7 @@ use Rattle.heap_theory.specs.declared.event.Event.TheVariants.{Malloc, Calloc, R
 use Rattle.trace_reader.specs.declared.fault.TraceFault.{TraceFault}
 use Rattle.trace_reader.specs.declared.fault.TraceFault.TheVariants.{BadWord, OutOfRange, LineTooLong, TooManyEvents}
 use Rattle.heap_theory.specs.Ranges.{IsInRange}
-use Rattle.trace_reader.specs.TraceLine.{ranged, number_from, variable_of, size_of, offset_of, len_of, byte_of, request_of, free_of, load_of, store_of, move_of, event_named, event_of_full_words, event_of_words, event_of_line, is_empty_word}
+use Rattle.trace_reader.specs.TraceLine.{ranged, number_from, variable_of, offset_of, len_of, byte_of, request_of, free_of, load_of, store_of, move_of, event_named, event_of_full_words, event_of_words, event_of_line, is_empty_word}
 
 -- ---- words
 
@@ -61,13 +61,7 @@ IfOk-byte_of word = go (hex_of word) refl
 
 IfOk-request_of : (event : ℕ → ℕ → Event) → ((v n : ℕ) → v ≤ 1023 → n ≤ 2147483647 → IsInRange (event v n)) → (ws : List (List ℕ)) →
     IfOk (request_of event ws) IsInRange
-IfOk-request_of event within [] = tt
-IfOk-request_of event within (v ∷ []) = tt
-IfOk-request_of event within (v ∷ n ∷ []) =
-    IfOk-and_then _ IsInRange (variable_of v) _ (IfOk-number_from 0 1023 v)
-    (λ v v_in. IfOk-and_then _ IsInRange (size_of n) _ (IfOk-number_from 0 2147483647 n)
-    (λ n n_in. within v n (omega (arith, v_in.1)) (omega (arith, n_in.1))))
-IfOk-request_of event within (v ∷ n ∷ other ∷ ws) = tt
+IfOk-request_of event within x2 = grind (arith, IfOk-and_then, IfOk-number_from)
 
 IfOk-free_of : (ws : List (List ℕ)) → IfOk (free_of ws) IsInRange
 IfOk-free_of [] = tt
@@ -75,15 +69,7 @@ IfOk-free_of (v ∷ []) = IfOk-and_then _ IsInRange (variable_of v) _ (IfOk-numb
 IfOk-free_of (v ∷ other ∷ ws) = tt
 
 IfOk-load_of : (ws : List (List ℕ)) → IfOk (load_of ws) IsInRange
-IfOk-load_of [] = tt
-IfOk-load_of (v ∷ []) = tt
-IfOk-load_of (v ∷ off ∷ []) = tt
-IfOk-load_of (v ∷ off ∷ len ∷ []) =
-    IfOk-and_then _ IsInRange (variable_of v) _ (IfOk-number_from 0 1023 v)
-    (λ v v_in. IfOk-and_then _ IsInRange (offset_of off) _ (IfOk-offset_of off)
-    (λ off off_in. IfOk-and_then _ IsInRange (len_of len) _ (IfOk-number_from 1 64 len)
-    (λ len len_in. (omega (arith, v_in.1), off_in, len_in.0, len_in.1))))
-IfOk-load_of (v ∷ off ∷ len ∷ other ∷ ws) = tt
+IfOk-load_of x0 = grind (arith, IfOk-and_then, IfOk-number_from, IfOk-offset_of)
 
 IfOk-store_of : (ws : List (List ℕ)) → IfOk (store_of ws) IsInRange
 IfOk-store_of [] = tt
@@ -100,17 +86,7 @@ IfOk-store_of (v ∷ off ∷ len ∷ byte ∷ other ∷ ws) = tt
 
 IfOk-move_of : (event : ℕ → ℕ → ℕ → ℕ → Event) → ((v w u6 u4 : ℕ) → v ≤ 1023 → w ≤ 1023 → u6 ≤ 63 → u4 ≤ 15 → IsInRange (event v w u6 u4))
     → (ws : List (List ℕ)) → IfOk (move_of event ws) IsInRange
-IfOk-move_of event within [] = tt
-IfOk-move_of event within (v ∷ []) = tt
-IfOk-move_of event within (v ∷ w ∷ []) = tt
-IfOk-move_of event within (v ∷ w ∷ u6 ∷ []) = tt
-IfOk-move_of event within (v ∷ w ∷ u6 ∷ u4 ∷ []) =
-    IfOk-and_then _ IsInRange (variable_of v) _ (IfOk-number_from 0 1023 v)
-    (λ v v_in. IfOk-and_then _ IsInRange (variable_of w) _ (IfOk-number_from 0 1023 w)
-    (λ w w_in. IfOk-and_then _ IsInRange (number_from 0 63 u6) _ (IfOk-number_from 0 63 u6)
-    (λ u6 u6_in. IfOk-and_then _ IsInRange (number_from 0 15 u4) _ (IfOk-number_from 0 15 u4)
-    (λ u4 u4_in. within v w u6 u4 (omega (arith, v_in.1)) (omega (arith, w_in.1)) u6_in.1 u4_in.1))))
-IfOk-move_of event within (v ∷ w ∷ u6 ∷ u4 ∷ other ∷ ws) = tt
+IfOk-move_of event within x2 = grind (arith, IfOk-and_then, IfOk-number_from)
 
 -- ---- a line
 

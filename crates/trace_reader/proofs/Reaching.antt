@@ -1,5 +1,5 @@
 -- Readings that a call comes to.
-use Rattle.std.proofs.Common.{◌≡◌, ℕ, suc, ◌+◌, ◌<◌, ◌≤◌, true, false, ltb, List, [], ◌∷◌, ◌++◌, length, Result, Ok, Err, IsOk, OnErr, OnOk, is_err, ◌↔◌, refl, sym, ap, subst, ◌∙◌, arith, append-nil, add-one, add-zero}
+use Rattle.std.proofs.Common.{◌≡◌, ℕ, suc, ◌+◌, ◌<◌, ◌≤◌, true, false, List, [], ◌∷◌, ◌++◌, length, Result, Ok, Err, IsOk, OnErr, OnOk, is_err, ◌↔◌, refl, sym, ap, ◌∙◌, arith, append-nil, add-one, add-zero}
 use Rattle.std.proofs.lemmas.Bool.{lt-ltb}
 use Rattle.std.proofs.lemmas.Bool.Decides.{nat_tests}
 use Rattle.line_text.specs.Lines.{IsLine}
@@ -36,24 +36,11 @@ IsPrefix-finished r = record { after = (finished_in r.state).events; is = refl }
 
 pub came : (old wanted new : Reading) (result : Answer) → new ≡ wanted → result ≡ answer_of wanted.state →
     IsPrefix old.events wanted.events → HasReached old wanted new result
-came old wanted new result is answer kept =
-    record {
-      answer = answer ∙ sym (ap (λ (r : Reading). answer_of r.state) is);
-      reading = λ other. is;
-      kept = subst (λ (r : Reading). IsPrefix old.events r.events) (sym is) kept;
-      prefix = equal_is_prefix new.events wanted.events (ap (λ (r : Reading). r.events) is);
-    }
+came old wanted new result is answer kept = grind (arith, equal_is_prefix)
 
 pub ran_out : (old wanted new : Reading) (result : Answer) → new ≡ record { events = old.events; state = Failed OutOfMemory } →
     result ≡ Err OutOfMemory → IsPrefix old.events wanted.events → HasReached old wanted new result
-ran_out old wanted new result is answer kept =
-    let same : new.events ≡ old.events = ap (λ (r : Reading). r.events) is in
-    record {
-      answer = answer ∙ sym (ap (λ (r : Reading). answer_of r.state) is);
-      reading = λ other. absurd (other answer);
-      kept = equal_is_prefix old.events new.events (sym same);
-      prefix = subst (λ (es : List Event). IsPrefix es wanted.events) (sym same) kept;
-    }
+ran_out old wanted new result is answer kept = grind (arith, equal_is_prefix)
 
 -- ---- the fields of an open reader
 
@@ -141,10 +128,7 @@ not_extended (Err e) Fits failed fits holds = let ok = fits.1 holds in absurd cc
 pub keeps : (old : Reading) (events : List Event) (lines : ℕ) (rest bytes rest' : List ℕ) (status : Status)
     → fields events lines rest status ≡ old → is_open old ≡ true → IsLine bytes → length (rest ++ bytes) ≤ 80 → rest' ≡ rest ++ bytes →
     fields events lines rest' status ≡ fed old bytes
-keeps old events lines rest bytes rest' status is open_now line fits all =
-    let s = is_open_at old events lines rest status is open_now in
-    let short : ltb 80 (length (rest ++ bytes)) ≡ false = grind (arith, nat_tests) in
-    rw (s.0, s.1, all, fed_at-line events lines rest bytes line, short) refl
+keeps old events lines rest bytes rest' status is open_now line fits all = grind (arith, fed_at-line, is_open_at, nat_tests)
 
 pub keeps_not : (old new : Reading) (events : List Event) (lines : ℕ) (rest bytes : List ℕ) (status : Status)
     → fields events lines rest status ≡ old → is_open old ≡ true → IsLine bytes → 80 < length (rest ++ bytes)

@@ -15,10 +15,7 @@ use Rattle.trace_reader.proofs.EventLines.{event_line-is_line, event_of_line-spe
 use Rattle.trace_reader.proofs.Reaching.{fields, is_open_at, open_at}
 
 start_is_open : (state : State) → is_start state ≡ true → is_open_state state ≡ true
-start_is_open (Open lines []) e = refl
-start_is_open (Open lines (b ∷ rest)) e = absurd cc
-start_is_open (Failed error) e = absurd cc
-start_is_open Finished e = absurd cc
+start_is_open x0 e = grind arith
 
 -- the line of an event, from its start on, is judged to be that event
 pub line_of_event : (mid : Reading) (events : List Event) (lines : ℕ) (rest : List ℕ) (status : Status) (event : Event)

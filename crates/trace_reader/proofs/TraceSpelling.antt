@@ -26,14 +26,7 @@ record SpellLines (number : ℕ) (ls : List (List ℕ)) (events : List Event) : 
 -- a line in front
 no_fault : (number : ℕ) (r : Result Event TraceFault) (t : Trace) (events : List Event) → with_line number r t ≡ whole events →
     (e : Event) × (es : List Event) × (r ≡ Ok e) × (events ≡ e ∷ es) × (t ≡ whole es)
-no_fault number (Ok e) t events is = (
-  e,
-  t.events,
-  refl,
-  sym (ap (λ (x : Trace). x.events) is),
-  ap (λ (f : Option (ℕ × TraceFault)). record { events = t.events; fault = f }) (ap (λ (x : Trace). x.fault) is),
-)
-no_fault number (Err fault) t events is = let f = ap (λ (x : Trace). x.fault) is in absurd cc
+no_fault number x1 t events is = grind arith
 
 no_event : (events : List Event) → no_lines ≡ whole events → events ≡ []
 no_event events is = sym (ap (λ (x : Trace). x.events) is)
@@ -94,10 +87,7 @@ full_lines (e ∷ es) ranges =
     (full_lines es (All-tail IsInRange e es ranges))
 
 pub spelled_trace_is_read : (text : List ℕ) (events : List Event) → SpellsTrace text events → trace_of text ≡ whole events
-spelled_trace_is_read text events spells =
-    let same : lines text ≡ map event_line events =
-    full_lines_are_read (map event_line events) text (full_lines events spells.ranges) spells.spelled in
-    rw same (read_lines 1 events spells.ranges (omega (arith, spells.few)))
+spelled_trace_is_read text events spells = grind (arith, full_lines, full_lines_are_read, read_lines)
 
 pub text_spells_one_trace : (text : List ℕ) (a b : List Event) → SpellsTrace text a → SpellsTrace text b → a ≡ b
 text_spells_one_trace text a b of_a of_b = ap (λ (t : Trace). t.events) (sym (spelled_trace_is_read text a of_a) ∙ spelled_trace_is_read text b of_b)
