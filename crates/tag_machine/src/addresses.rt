@@ -1,5 +1,5 @@
 //! Tags, places and granules of addresses.
-ghost use Rattle.machine_theory.specs.Address.{aligned, byte_of, granule_of, logical_tag, place_of, region_start, with_tag};
+ghost use Rattle.machine_theory.specs.Address.{aligned, granule_of, logical_tag, place_of, region_start, with_tag};
 ghost use Rattle.std.specs.Prelude.{◌≡◌, ◌+◌, ◌-◌, ◌*◌, ◌<◌, ◌≤◌};
 
 use machine_theory::{GRANULE_BYTES, MOST_GRANULES, REGION_START};
@@ -35,14 +35,6 @@ pub(crate) fn aligned(address: u64) -> u64
     ensures { result ≡ aligned address }
 {
     address & !(GRANULE_BYTES - 1)
-}
-
-/// The number of the byte at the address's place, counted from the region's start.
-pub(crate) fn byte_of(address: u64) -> usize
-    requires { region_start ≤ place_of address }
-    ensures { result ≡ byte_of (place_of address) }
-{
-    (place_of(address) - REGION_START) as usize
 }
 
 /// The number of the granule that holds the address's place.

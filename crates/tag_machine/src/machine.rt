@@ -4,7 +4,7 @@ ghost use Rattle.machine_theory.specs.Machine.{IsRegister};
 ghost use Rattle.std.specs.Borrow.{sem};
 ghost use Rattle.std.specs.Prelude.{◌≡◌, ◌≢◌, ◌↔◌, ◌≤◌, IsTrue, OnErr, OnOk, length};
 
-use crate::addresses::{aligned, byte_of, granule_of, logical_tag, with_tag};
+use crate::addresses::{aligned, granule_of, logical_tag, with_tag};
 use crate::checks::{check_access, check_tag_store, is_mapped};
 use crate::draws::{next_offset, next_seed};
 use crate::tag_choice::choose_tag;
@@ -153,8 +153,8 @@ impl Machine {
         ensures ok { OnOk result (buf.new ≡ loaded self.now.memory address (length buf.old)) }
         ensures err { OnErr result (buf.new ≡ buf.old) }
     {
-        check_access(&self.memory, address, buf.len() as u64)?;
-        self.memory.read_bytes(byte_of(address), buf);
+        let at = check_access(&self.memory, address, buf.len() as u64)?;
+        self.memory.read_bytes(at, buf);
         Ok(())
     }
 
@@ -165,8 +165,8 @@ impl Machine {
         ensures ok { OnOk result (self.new ≡ record self.old { memory = stored self.old.memory address bytes.now }) }
         ensures err { OnErr result (self.new ≡ self.old) }
     {
-        check_access(&self.memory, address, bytes.len() as u64)?;
-        self.memory.write_bytes(byte_of(address), bytes);
+        let at = check_access(&self.memory, address, bytes.len() as u64)?;
+        self.memory.write_bytes(at, bytes);
         Ok(())
     }
 
