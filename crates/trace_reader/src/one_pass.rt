@@ -134,7 +134,7 @@ fn access(end: u8, text: &[u8]) -> Option<(u16, i32, u8, &[u8])>
 {
     let (v, text) = variable(b' ', text)?;
     let (off, text) = offset(text)?;
-    let (len, after) = number(1, Event::LONGEST_ACCESS, end, text)?;
+    let (len, after) = short_number(1, Event::LONGEST_ACCESS, end, text)?;
     Some((v, off, len as u8, after))
 }
 
@@ -147,8 +147,8 @@ fn move_pointer(text: &[u8]) -> Option<(u16, u16, u8, u8, &[u8])>
 {
     let (v, text) = variable(b' ', text)?;
     let (w, text) = variable(b' ', text)?;
-    let (u6, text) = number(0, Event::FARTHEST_MOVE, b' ', text)?;
-    let (u4, after) = number(0, Event::LARGEST_TAG_STEP, b'\n', text)?;
+    let (u6, text) = short_number(0, Event::FARTHEST_MOVE, b' ', text)?;
+    let (u4, after) = short_number(0, Event::LARGEST_TAG_STEP, b'\n', text)?;
     Some((v, w, u6 as u8, u4 as u8, after))
 }
 
@@ -188,6 +188,31 @@ fn number(low: u32, high: u32, end: u8, text: &[u8]) -> Option<(u32, &[u8])>
     } else {
         None
     }
+}
+
+// a number from `low` to `high` that has two digits or one, as each up to 99 has
+#[inline(always)]
+fn short_number(low: u32, high: u32, end: u8, text: &[u8]) -> Option<(u32, &[u8])>
+    ensures spelled { IfSome result (λ x. text.now ≡ decimal x.0 ++ end ∷ x.1.now) }
+    ensures low { IfSome result (λ x. low ≤ x.0) }
+    ensures high { IfSome result (λ x. x.0 ≤ high) }
+{
+    let (n, after) = short_digits(end, text)?;
+    if low <= n && n <= high {
+        Some((n, after))
+    } else {
+        None
+    }
+}
+
+#[inline(always)]
+fn short_digits(end: u8, text: &[u8]) -> Option<(u32, &[u8])>
+    ensures { IfSome result (λ x. text.now ≡ decimal x.0 ++ end ∷ x.1.now) }
+{
+    if let Some(found) = two_digits(end, text) {
+        return Some(found);
+    }
+    one_digit(end, text)
 }
 
 // The number of at most `DIGITS` digits in front of a text, up to the byte `end`. Most numbers of a trace have three digits or two: there
@@ -245,6 +270,21 @@ fn two_digits(end: u8, text: &[u8]) -> Option<(u32, &[u8])>
         return None;
     }
     Some((tens * 10 + ones, &text[3..]))
+}
+
+// a number of one digit
+#[inline(always)]
+fn one_digit(end: u8, text: &[u8]) -> Option<(u32, &[u8])>
+    ensures { IfSome result (λ x. text.now ≡ decimal x.0 ++ end ∷ x.1.now) }
+{
+    if text.len() < 2 || text[1] != end {
+        return None;
+    }
+    let value = digit_of(text[0]);
+    if value > 9 {
+        return None;
+    }
+    Some((value, &text[2..]))
 }
 
 // A number of at most `DIGITS` digits. The loop has a constant length, so the compiler unrolls it.
