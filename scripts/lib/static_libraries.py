@@ -53,9 +53,12 @@ def crates_below(crate, known):
 
 
 def are_left(crate):
-    """Whether `rt ci` has just left each library below the crate."""
-    return bool(os.environ.get("MTE_AFTER_CI")) and all(
-        os.path.exists(f"{ROOT}/crates/{name}/out/rlib/{name}.rlib/format") for name in crates_below(crate, libraries()))
+    """Whether `rt ci` has just left each library below the crate. What it built has no stamp; a library with one was there before it ran."""
+    def is_left(name):
+        place = f"{ROOT}/crates/{name}/out/rlib"
+        return os.path.exists(f"{place}/{name}.rlib/format") and not os.path.exists(f"{place}/stamp")
+
+    return bool(os.environ.get("MTE_AFTER_CI")) and all(map(is_left, crates_below(crate, libraries())))
 
 
 def is_cheap(crate):
