@@ -32,6 +32,9 @@ static PAIRS: [[u8; 2]; 256] = [
     *b"fc", *b"fd", *b"fe", *b"ff",
 ];
 
+// how many bytes have their digits written without a loop
+const STRIDE: usize = 8;
+
 // writes bytes
 pub(crate) fn put(text: &mut [u8], at: usize, bytes: &[u8]) -> usize
     requires { at + length bytes.now ≤ length text.old }
@@ -56,6 +59,21 @@ pub(crate) fn put_number(text: &mut [u8], at: usize, number: u64) -> usize
 
 // writes two digits for each byte
 pub(crate) fn put_hex(text: &mut [u8], at: usize, bytes: &[u8]) -> usize
+    requires { at + 2 * length bytes.now ≤ length text.old }
+    ensures end { result ≡ at + 2 * length bytes.now }
+    ensures text { take result text.new ≡ take at text.old ++ flat_map hex bytes.now }
+{
+    let mut end = at;
+    let whole = bytes.len() / STRIDE;
+    for k in 0..whole {
+        end = put_pairs(text, end, &bytes[STRIDE * k..STRIDE * k + STRIDE]);
+    }
+    put_pairs(text, end, &bytes[STRIDE * whole..])
+}
+
+// The same, inlined. If the number of bytes is a constant, the compiler writes the digits without a loop.
+#[inline(always)]
+fn put_pairs(text: &mut [u8], at: usize, bytes: &[u8]) -> usize
     requires { at + 2 * length bytes.now ≤ length text.old }
     ensures end { result ≡ at + 2 * length bytes.now }
     ensures text { take result text.new ≡ take at text.old ++ flat_map hex bytes.now }

@@ -1,7 +1,7 @@
 use Rattle.std.proofs.Common.{◌≡◌, ◌+◌, ◌*◌, ◌++◌, take}
 use Rattle.std.specs.List.{flat_map}
 use Rattle.line_text.specs.Hexadecimal.{hex}
-use Rattle.replay_core.proofs.put.put_hex.Given as goal
+use Rattle.replay_core.proofs.put.put_pairs.Given as goal
 
 abbrev pub invariant-loop-byte : goal.invariant-loop-byte
 invariant-loop-byte l = record {
