@@ -54,6 +54,9 @@ pub(crate) fn put_number(text: &mut [u8], at: usize, number: u64) -> usize
     ensures end { result ≤ at + 20 }
     ensures text { take result text.new ≡ take at text.old ++ decimal number }
 {
+    if number < 10 {
+        return put(text, at, &[b'0' + number as u8]);
+    }
     put(text, at, Buffer::new().format(number).as_bytes())
 }
 
