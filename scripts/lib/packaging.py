@@ -102,8 +102,8 @@ def source(name):
 
 
 def stripped(tree, name):
-    """An object without what only a debugger reads."""
-    run(["strip", "-D", "--strip-unneeded", "--remove-section=.comment", "--remove-section=.note", tree.path(name)])
+    """An object without what only a debugger reads. Its comments stay: the program's name the logic that it was proved in."""
+    run(["strip", "-D", "--strip-unneeded", tree.path(name)])
 
 
 def put_program(tree, parts):
@@ -313,6 +313,8 @@ def stage(folder, parts):
 def write_tar(tree, path, name, time):
     """The tree without its folder `usr`, below one folder of this name: it can be unpacked anywhere."""
     def as_root(entry):
+        if entry.isreg():
+            entry.mode = 0o755 if entry.mode & 0o100 else 0o644
         entry.uid = entry.gid = 0
         entry.uname = entry.gname = "root"
         entry.mtime = time
@@ -321,6 +323,7 @@ def write_tar(tree, path, name, time):
     with open(path, "wb") as file, gzip.GzipFile("", "wb", 9, file, time) as packed:
         with tarfile.open(fileobj=packed, mode="w", format=tarfile.GNU_FORMAT) as tar:
             tar.add(os.path.join(tree.root, "usr"), name, recursive=False, filter=as_root)
+            tar.add(source("LICENSE"), f"{name}/LICENSE", filter=as_root)  # Debian has its text elsewhere
             for entry in tree.entries():
                 if entry.startswith("usr/"):
                     tar.add(os.path.join(tree.root, entry), f"{name}/{entry.removeprefix('usr/')}", recursive=False, filter=as_root)
