@@ -2,7 +2,7 @@
 
    library_calls PIECE FOLDER COUNT    makes the calls 0 to COUNT-1 of the folder, with inputs in pieces of PIECE bytes (0: whole)
    library_calls threads FOLDER COUNT  the same in 16 threads at once
-   library_calls refuse FOLDER COUNT   each call with each growth of memory refused in turn
+   library_calls refuse FOLDER COUNT   each call with each growth of memory refused in turn; then the calls over arrays, and a new heap
 
    A call N has the files N.call (command, limit, step, granules, seed, quarantine, end, fault, line), N.input and N.want, the text that it
    has to leave. The first call that goes wrong ends the run with status 1. */
@@ -143,6 +143,44 @@ static void refuse(const call *c, int number) {
     printf("%s %ld\n", c->command, calls_refused);
 }
 
+/* the same for `tune` and `check` over arrays, and for a new heap */
+static mte_tool_numbers tune_and_check(void) {
+    static const uint32_t sizes[] = {16, 32, 48}, counts[] = {1, 1, 1};
+    mte_tool_profile_arrays profile = {sizes, counts, 3};
+    mte_tool_options options = MTE_TOOL_OPTIONS(2);
+    uint16_t classes[2];
+    uint64_t rows[6];
+    mte_tool_numbers tuned = mte_tool_tune_arrays(options, profile, classes, 2, rows, 6);
+    if (tuned.end != MTE_TOOL_DONE) return tuned;
+    return mte_tool_check_arrays(options, classes, tuned.classes, tuned.waste, rows, 6, profile);
+}
+
+static uint32_t new_heap(void) {
+    static const uint16_t classes[] = {2, 4};
+    mte_tool_options options = MTE_TOOL_OPTIONS(2);
+    mte_tool_heap heap = MTE_TOOL_HEAP;
+    uint32_t end = mte_tool_heap_new(&heap, options, classes, 2).end;
+    if (heap.live != (end == MTE_TOOL_DONE)) exit(1);
+    mte_tool_heap_close(&heap);
+    return end;
+}
+
+static void refuse_others(void) {
+    int which;
+    for (which = 0; which < 2; which++)
+        for (refused_growth = 1;; refused_growth++) {
+            uint32_t end;
+            growths = live = 0;
+            end = which ? new_heap() : tune_and_check().end;
+            if (live || end != (growths < refused_growth ? MTE_TOOL_DONE : MTE_TOOL_OUT_OF_MEMORY)) {
+                printf("%s: growth %ld refused: end %u, %ld blocks live\n", which ? "heap" : "arrays", refused_growth, end, live);
+                exit(1);
+            }
+            if (growths < refused_growth) break;
+        }
+    refused_growth = 0;
+}
+
 static call *calls;
 static int count;
 
@@ -168,6 +206,7 @@ int main(int argc, char **argv) {
         for (i = 0; i < count; i++)
             if (!strcmp(argv[1], "refuse")) refuse(&calls[i], i);
             else test(&calls[i], i, (size_t)atol(argv[1]));
+        if (!strcmp(argv[1], "refuse")) refuse_others();
     }
     for (i = 0; i < count; i++) __real_free(calls[i].input), __real_free(calls[i].want);
     __real_free(calls);
