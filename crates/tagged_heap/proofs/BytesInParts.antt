@@ -1,5 +1,5 @@
 -- Bytes that are written and read in parts.
-use Rattle.std.proofs.Common.{◌≡◌, ℕ, zero, suc, ◌+◌, ◌≤◌, ◌⊎◌, List, [], ◌∷◌, ◌++◌, length, map, take, drop, refl, sym, ap, ◌∙◌, subst, inl, inr, arith, min, length-append, length-drop, length-take}
+use Rattle.std.proofs.Common.{◌≡◌, ℕ, zero, suc, ◌+◌, ◌≤◌, ◌⊎◌, List, [], ◌∷◌, ◌++◌, length, map, take, drop, refl, ap, ◌∙◌, subst, arith, min, length-append, length-drop, length-take}
 use Rattle.std.proofs.Math.Seq.{take-append_seam}
 use Rattle.std.specs.List.{range_with_len}
 use Rattle.std.proofs.lemmas.List.{map-append}
@@ -49,15 +49,4 @@ module _
 
   pub copied_more : (from + count ≤ to) ⊎ (to + count ≤ from) → new ≡ written (to + done) (take len (read ++ drop len piece)) now →
       new ≡ written to (bytes_at m from (done + len)) m
-  copied_more apart is =
-      let done_long : length (bytes_at m from done) ≡ done = length-bytes_at m from done in
-      let outside : (from + done + len ≤ to) ⊎ (to + length (bytes_at m from done) ≤ from + done) =
-      elim apart [ inl before ↦ inl (omega arith) | inr after ↦ inr (omega (arith, done_long)) ] in
-      let read_old : read ≡ bytes_at m (from + done) len =
-      read_is ∙ ap (bytes_at now (from + done)) piece_long ∙ ap (λ x. bytes_at x (from + done) len) before
-      ∙ other_bytes to (from + done) len (bytes_at m from done) m outside in
-      is ∙ ap (λ bytes. written (to + done) bytes now) (front_is ∙ read_old)
-      ∙ ap (written (to + done) (bytes_at m (from + done) len)) before
-      ∙ ap (λ k. written (to + k) (bytes_at m (from + done) len) (written to (bytes_at m from done) m)) (sym done_long)
-      ∙ in_parts to (bytes_at m from done) (bytes_at m (from + done) len) m
-      ∙ ap (λ bytes. written to bytes m) (sym (bytes_at-append m from done len))
+  copied_more apart is = grind (arith, bytes_at-append, front_is, length-bytes_at, piece_long)

@@ -1,6 +1,6 @@
 -- What a call makes of a heap, by what is chosen for it.
 use Rattle.std.proofs.Common.{◌≡◌, ℕ, ◌<◌, List, refl, ap, ◌∙◌, inl, inr, Ok, Err, ◌≢◌, ◌+◌, ◌⊎◌, true, false, sym, subst, arith, Result}
-use Rattle.heap_theory.specs.Calls.{given_out, with_payload, move_with, moved, payload_bytes, next_tag, free_step, realloc_step}
+use Rattle.heap_theory.specs.Calls.{given_out, with_payload, move_with, moved, payload_bytes, free_step, realloc_step}
 use Rattle.heap_theory.specs.Lookups.{slot_for_request, Chunk, IsReusable}
 use Rattle.class_table.specs.Sizes.{chunk_granules}
 use Rattle.heap_theory.specs.State.{Heap, slot_in, state_at, is_fresh, pointer_to, is_released}
@@ -9,7 +9,7 @@ use Rattle.std.specs.Result.{result_map_both, result_ok, IsErrAnd}
 use Rattle.std.proofs.lemmas.List.{get_or-set_other}
 use Rattle.heap_theory.specs.declared.refusal.NullCause.{NullCause}
 use Rattle.heap_theory.specs.declared.refusal.ReallocError.TheVariants.{Null}
-use Rattle.heap_theory.specs.State.State.{Fresh, Live}
+use Rattle.heap_theory.specs.State.State.{Live}
 use Rattle.machine_theory.specs.Memory.{Granule, bytes_at, tagged}
 use Rattle.tagged_heap.specs.HeapAtRest.{HeapAndFrees}
 use Rattle.tagged_heap.specs.Chunks.{IsChunk}
@@ -65,10 +65,7 @@ pub record IsMove (old new : HeapAndFrees) (chunk : Chunk) (n : ℕ) (r : Result
 
 pub moves : (old new : HeapAndFrees) (chunk : Chunk) (n : ℕ) (r : Result ℕ NullCause) → IfOk r (IsMoved old chunk n new) →
     IfErr r (λ cause. slot_for_request old.state n ≡ Err cause) → OnErr r (new ≡ old) → IsMove old new chunk n r
-moves old new chunk n (Ok p) ok err same =
-    record { answer = rw (ok.1, ok.2) refl; state = rw (ok.1, ok.3) refl; counted = rw (ok.1, ok.3) refl }
-moves old new chunk n (Err cause) ok err same =
-    record { answer = rw err refl; state = rw (err, same) refl; counted = rw (err, same) (omega arith) }
+moves old new chunk n x4 ok err same = grind arith
 
 -- ---- the parts of a move
 
@@ -93,10 +90,7 @@ live_apart h r s size tag live reusable is = free reusable.free
 -- so a live chunk stays one while another slot is given out and written
 pub chunk_stays : (h : Heap) (s n : ℕ) (chunk : Found) → IsChunk h chunk → IsReusable h s → IsChunk (given_out h s n) chunk
 unfolding given_out
-chunk_stays h s n chunk is reusable =
-    let apart = live_apart h chunk.slot s chunk.size is.live.0 is.live.1 reusable in
-    let live = get_or-set_other h.states s chunk.slot (Live n (next_tag h s)) Fresh apart ∙ is.live.1 in
-    record { slot = is.slot; start = is.start; class = is.class; number = is.number; live = (is.live.0, live) }
+chunk_stays h s n chunk is reusable = grind (arith, get_or-set_other, live_apart)
 
 pub chunk_written : (h : Heap) (s : ℕ) (bytes : List ℕ) (chunk : Found) → IsChunk h chunk → IsChunk (with_payload h s bytes) chunk
 unfolding with_payload

@@ -29,19 +29,11 @@ module _ (h : Heap) (sound : IsSoundHeap h) (counters : List ℕ) (f : AreFirstF
 
   pub lowest_counted : slice_index counters number < first_slot h.layout (number + 1) →
       lowest_fresh h (slice_index h.layout.classes number) ≡ Some (slice_index counters number)
-  lowest_counted below =
-      let own = counted below in
-      laws.first_fresh h (slice_index h.layout.classes number) (slice_index counters number) own.0 own.1 own.2
-      (λ r less class.
-      f.given number r in_counters (omega (arith, own.0)) class less)
+  lowest_counted below = grind (arith, counted, in_counters, laws.first_fresh)
 
   pub lowest_none : first_slot h.layout (number + 1) ≤ slice_index counters number →
       lowest_fresh h (slice_index h.layout.classes number) ≡ None
-  lowest_none above =
-      laws.none_fresh h (slice_index h.layout.classes number)
-      (λ r in_range class.
-      let own = share_of_slot h.layout number r sound.partition.table within in_range class in
-      f.given number r in_counters in_range class (omega (arith, own.to)))
+  lowest_none above = grind (arith, in_counters, share_of_slot, laws.none_fresh)
 
   -- the lowest fresh slot is given out
   pub counters_step : (s : ℕ) (state : State) (memory : List Granule) (total seed tag : ℕ) → s < length h.states →
@@ -78,14 +70,7 @@ module _ (h : Heap) (sound : IsSoundHeap h) (counters : List ℕ) (f : AreFirstF
       -- each counter is as it was, but for the one
       by : (P : ℕ → ℕ → Type 0) → P number (s + 1) → ((n : ℕ) → n ≢ number → n < length counters → P n (slice_index counters n)) →
           (n : ℕ) → n < length (slice_set counters number (s + 1)) → P n (slice_index (slice_set counters number (s + 1)) n)
-      by P one others n inside = elim (cases_eq n number) [
-        | inl is ↦
-            subst (λ n. P n (slice_index (slice_set counters number (s + 1)) n)) (sym is)
-            (subst (P number) (sym (get_or-set_same counters number (s + 1) 0 in_counters)) one)
-        | inr other ↦
-            subst (P n) (sym (get_or-set_other counters number n (s + 1) 0 other))
-            (others n other (subst (λ k. n < k) (length-set counters number (s + 1)) inside))
-      ]
+      by x0 one others n inside = grind (arith, get_or-set_other, get_or-set_same, in_counters, length-set)
 
       -- a slot of another class is not the one
       another : (n r : ℕ) → n ≢ number → n < length counters → (slot_in h r).class ≡ slice_index h.layout.classes n → r ≢ s

@@ -54,12 +54,7 @@ request_refused h n Exhausted none = absurd none
 pub request_served : (h : Heap) (n number class : ℕ) (found : Option ℕ) → n ≤ 16368 → class_number_for h.layout.classes n ≡ Some number →
     slice_get h.layout.classes number ≡ Some class → slot_for h class ≡ found → slot_for_request h n ≡ ok_or found Exhausted
 unfolding slot_for_request
-request_served h n number class found few numbered listed given =
-    let is : class_for h.layout.classes n ≡ Some class =
-    laws.class_by_number n h.layout.classes ∙ ap (λ o. option_and_then (slice_get h.layout.classes) o) numbered ∙ listed in
-    ap (slot_in_class h) (cond-false (nat_lt largest_counted n) (Err Large) (ok_or (class_for h.layout.classes n) NoClass) (le-ltb _ _ few)
-    ∙ ap (λ o. ok_or o NoClass) is)
-    ∙ ap (λ o. ok_or o Exhausted) given
+request_served h n number class found few numbered listed given = grind (arith, cond-false, le-ltb, listed, laws.class_by_number)
 
 -- ---- which slot
 
@@ -169,11 +164,7 @@ module _ {h : Heap} {frees : ℕ} {p : Parts} {counters : List ℕ} (held : IsAt
   -- it is one of the class's slots
   pub taken_class : {m1 : List Granule} {fronts' counters' : List ℕ} (s : ℕ) → IsTaken h p held.kept m1 fronts' counters' s n →
       IsClassOf h.layout s number
-  taken_class s t =
-      let found = sym t.given.class ∙ laws.class_by_number n h.layout.classes
-      ∙ ap (λ o. option_and_then (slice_get h.layout.classes) o) numbered ∙ listed in
-      let class : (slot_in h s).class ≡ slice_index h.layout.classes number = cc in
-      share_of_slot h.layout number s held.kept.sound.partition.table within t.given.reusable.in_range class
+  taken_class s t = grind (arith, listed, share_of_slot, laws.class_by_number)
 
   -- neither is there
   pub exhausted : {m1 : List Granule} {fronts' counters' : List ℕ} →
@@ -221,15 +212,7 @@ module _ {h : Heap} {frees : ℕ} {p : Parts} {counters : List ℕ} (held : IsAt
     {fronts counters' : List ℕ} {s n : ℕ}
     (t : IsTaken h p held.kept m1 fronts counters' s n) where
   pub taken_room : n ≤ 16368 → HasRoom h.layout m1 s n
-  taken_room few = record {
-    slot = t.given.reusable.in_range;
-    region = sym (length-without_headers h.layout m1) ∙ ap length t.before.seen_is ∙ held.kept.sound.long;
-    inside = held.kept.sound.slots.inside s t.given.reusable.in_range;
-    memory_is = t.memory_is;
-    size = few;
-    room = t.given.room;
-    header = subst (λ (x : Header). x.class < 32) (sym t.before.own) (class_few h s held.kept.sound t.given.reusable.in_range);
-  }
+  taken_room few = grind (arith, class_few, length-without_headers)
 
   drawn_is : tag_for h.layout (record { memory = m1; seed = h.seed; tag = h.tag }) s ≡ next_tag h s
   drawn_is = ap (λ (x : Header). drawn_tag h.tag h.seed (bit_or (parity_exclude s) (2 ^ x.tag))) t.before.own

@@ -70,13 +70,7 @@ module _ {h : Heap} {p : Parts} (k : IsKept h p) {g s : ℕ} (before : ℕ) (the
   size_is = ap (λ (x : TheHeader). x.size) (k.headers.headers s in_range)
 
   pub size_few : (header_in (region_of h.layout p.memory) s).size ≤ 16368
-  size_few =
-      omega (
-        arith,
-        size_is,
-        size_of-most (state_at h s) (slot_in h s).class (k.sound.tagged s in_range).room
-            (class_most h s k.sound in_range),
-      )
+  size_few = grind (arith, class_most, in_range, size_is, size_of-most)
 
   module _ (other : before ≢ 0) where
     payload_kind : cond (is_among (payload_start (slot_in h s)) (chunk_granules_of (state_at h s)) g) (kind_of_chunk (state_at h s)) Tail ≡
@@ -95,7 +89,4 @@ module _ {h : Heap} {p : Parts} (k : IsKept h p) {g s : ℕ} (before : ℕ) (the
 
     pub chunk_granule_kind : before ≤ chunk_granules (header_in (region_of h.layout p.memory) s).size →
         kind_by (header_in (region_of h.layout p.memory) s).standing ≡ place_kind h g
-    chunk_granule_kind within =
-        ap (λ (x : TheHeader). kind_by x.standing) (k.headers.headers s in_range)
-        ∙ chunk_kind k.from (payload_start (slot_in h s)) g (state_at h s) (omega (arith, other, at))
-        (omega (arith, ap chunk_granules size_is, at)) ∙ payload_kind
+    chunk_granule_kind within = grind (arith, chunk_kind, in_range, payload_kind, size_is)

@@ -1,11 +1,11 @@
 -- The chunk of a live slot is resized in place.
-use Rattle.std.proofs.Common.{◌≡◌, ℕ, ◌<◌, List, refl, sym, ap, ◌∙◌}
+use Rattle.std.proofs.Common.{arith, ◌≡◌, ℕ, ◌<◌, List, refl, sym, ap}
 use Rattle.machine_theory.specs.Machine.{Machine}
 use Rattle.machine_theory.specs.Memory.{IsMemory}
 use Rattle.heap_theory.specs.Calls.{chunk_tagged, resized}
 use Rattle.heap_theory.specs.Header.{Header, with_header}
 use Rattle.class_table.specs.Sizes.{chunk_granules}
-use Rattle.heap_theory.specs.State.{Heap, slot_in, state_at, is_fresh, last_tag, IsSlot, is_dead}
+use Rattle.heap_theory.specs.State.{Heap, slot_in, state_at, is_fresh, last_tag, IsSlot}
 use Rattle.heap_theory.specs.State.State.{Live}
 use Rattle.tagged_heap.proofs.TheoryLemmas as laws
 use Rattle.tagged_heap.specs.Representation.{header_from, Parts}
@@ -19,12 +19,7 @@ module _ {h : Heap} {frees : ℕ} {p : Parts} {counters : List ℕ} (held : IsAt
     (room : chunk_granules n < (slot_in h s).class) where
   header_is : record (header_in (region_of h.layout p.memory) s) { size = n }
       ≡ header_from h.layout held.kept.from s (Live n (last_tag (state_at h s))) 0
-  header_is =
-      ap (λ (x : Header). record x { size = n })
-      (held.kept.headers.headers s in_range
-      ∙ ap (header_from h.layout held.kept.from s (state_at h s)) (held.kept.headers.unlinked s in_range (ap is_dead live))
-      ∙ ap (λ x. header_from h.layout held.kept.from s x 0) live)
-      ∙ ap (λ x. header_from h.layout held.kept.from s (Live n (last_tag x)) 0) (sym live)
+  header_is = grind arith
 
   -- what resizing makes of the machine
   abbrev pub IsResizedBy : Machine → Type 0

@@ -83,15 +83,7 @@ module _ {h : Heap} {p : Parts} (k : IsKept h p) where
   list_slot number s within there = list_dead h _ k.from (list_of k.lists number) s (k.agree.freed number within) there
 
   pub has_room : (s n : ℕ) → IsSlot h s → n ≤ 16368 → chunk_granules n < (slot_in h s).class → HasRoom h.layout p.memory s n
-  has_room s n in_range few room = record {
-    slot = in_range;
-    region = region_is;
-    inside = k.sound.slots.inside s in_range;
-    memory_is = k.memory_is;
-    size = few;
-    room = room;
-    header = subst (λ (x : Header). x.class < 32) (sym (k.headers.headers s in_range)) (class_few h s k.sound in_range);
-  }
+  has_room s n in_range few room = grind (arith, class_few, region_is)
 
   -- ---- the parts show the heap
 

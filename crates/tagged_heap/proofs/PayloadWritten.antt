@@ -1,10 +1,9 @@
 -- Bytes that are written outside all headers keep a heap, and are seen as they are written.
 use Rattle.std.proofs.Common.{◌≡◌, ◌≢◌, ◌⊎◌, ℕ, ◌+◌, ◌-◌, ◌*◌, ◌/◌, ◌<◌, ◌≤◌, true, false, List, length, max, refl, sym, ap, ◌∙◌, subst, inl, inr, arith, Some, None, Option}
 use Rattle.std.specs.Prelude.{All}
-use Rattle.std.proofs.lemmas.Bool.{cases_lt, cases_order, cases_Bool, cond-false, false≢true}
+use Rattle.std.proofs.lemmas.Bool.{cases_lt, cases_order, cond-false, false≢true}
 use Rattle.machine_theory.specs.declared.fault.Fault.{Fault}
-use Rattle.machine_theory.specs.declared.fault.Fault.TheVariants.{Unmapped}
-use Rattle.machine_theory.specs.Access.{access_fault, is_mapped, loaded, tag_fault, touched}
+use Rattle.machine_theory.specs.Access.{access_fault, is_mapped, loaded}
 use Rattle.machine_theory.specs.Address.{logical_tag, place_of, region_start, byte_of}
 use Rattle.machine_theory.specs.Memory.{Granule, bytes_at, written}
 use Rattle.machine_theory.proofs.AccessLaws.{IsMapped-from}
@@ -68,14 +67,7 @@ module _ {h : Heap} {frees : ℕ} {p : Parts} {counters : List ℕ} (held : IsAt
       }
 
   pub written_held : IsAtRest (record h { memory = written i bytes h.memory }) frees (record p { memory = new }) counters
-  written_held = record {
-    kept = subst (λ memory. IsKept (record h { memory = written i bytes h.memory }) (record p { memory = memory })) (sym is) kept_written;
-    rests = held.rests;
-    fresh =
-        record { long = held.fresh.long; from = held.fresh.from; to = held.fresh.to; given = held.fresh.given; fresh = held.fresh.fresh };
-    total = held.total;
-    fits = held.fits;
-  }
+  written_held = grind (arith, kept_written)
 
   pub written_shown : shown_heap h.layout p.quarantine.limit new h.total h.seed h.tag ≡ record h { memory = written i bytes h.memory }
   written_shown = shown_is written_held.kept h.total h.seed h.tag refl refl refl
@@ -89,14 +81,7 @@ payload_within k s bytes within room = omega (arith, k.sound.slots.inside s with
 
 payload_outside : (layout : Partition) (s : ℕ) (bytes : List ℕ) → AreInOrder layout → s < slot_count layout →
     length bytes + 16 ≤ 16 * (slot_of layout s).class → AreOutsideHeaders layout (16 * payload_start (slot_of layout s)) bytes
-payload_outside layout s bytes order in_s room r in_r =
-    elim (cases_order r s) [
-      | inl is ↦
-          let same : (slot_of layout r).start ≡ (slot_of layout s).start = ap (λ n. (slot_of layout n).start) is in
-          inr (omega (arith, same))
-      | inr (inl less) ↦ inr (omega (arith, order.apart r s less in_s))
-      | inr (inr more) ↦ inl (omega (arith, order.apart s r more in_r))
-    ]
+payload_outside layout s bytes order in_s room r in_r = grind (arith, cases_order, same)
 
 -- A memory in which the payload of a slot begins with these bytes, and which is else as another: they fit in.
 pub record HasPayload (layout : Partition) (memory new : List Granule) (s : ℕ) (bytes : List ℕ) : Type 0 where
@@ -121,42 +106,19 @@ module _ {h : Heap} {frees : ℕ} {p : Parts} {counters : List ℕ} (held : IsAt
 
 not_header : (layout : Partition) (s g : ℕ) → AreInOrder layout → s < slot_count layout → (slot_of layout s).start < g →
     g < end_of (slot_of layout s) → is_header_granule layout g ≡ false
-not_header layout s g order in_s from to = elim (cases_Bool (is_header_granule layout g)) [
-  | inl is ↦
-      let r = header_starts layout g is in
-      elim (cases_lt r.0 s) [
-        | inl less ↦ absurd (omega (arith, order.apart r.0 s less in_s, order.wide r.0 r.1, r.2))
-        | inr more ↦ elim (cases_lt s r.0) [
-          | inl less ↦ absurd (omega (arith, order.apart s r.0 less r.1, r.2))
-          | inr not_less ↦
-              let same : r.0 ≡ s = omega arith in
-              let start : (slot_of layout r.0).start ≡ (slot_of layout s).start = ap (λ n. (slot_of layout n).start) same in
-              absurd (omega (arith, start, r.2))
-        ]
-      ]
-  | inr not ↦ not
-]
+not_header layout s g order in_s from to = grind (arith, cases_lt, header_starts, same)
 
 pub payload_seen : (layout : Partition) (m : List Granule) (s n : ℕ) → AreInOrder layout → s < slot_count layout →
     n + 16 ≤ 16 * (slot_of layout s).class →
     bytes_at (without_headers layout m) (16 * payload_start (slot_of layout s)) n ≡ bytes_at m (16 * payload_start (slot_of layout s)) n
-payload_seen layout m s n order in_s room =
-    let from = 16 * payload_start (slot_of layout s) in
-    bytes_at_agree (without_headers layout m) m from n
-    (λ k within. laws.byte_seen layout m (from + k) (not_header layout s ((from + k) / 16) order in_s (omega arith) (omega arith)))
+payload_seen layout m s n order in_s room = grind (arith, bytes_at_agree, not_header, laws.byte_seen)
 
 -- ---- an access that succeeds under another tag than 0 touches no header
 
 pub mapped_of : (memory : List Granule) (address len : ℕ) → access_fault memory address len ≡ None →
     is_mapped (length memory) address len ≡ true
 unfolding access_fault
-mapped_of memory address len none = elim (cases_Bool (is_mapped (length memory) address len)) [
-  | inl is ↦ is
-  | inr not ↦
-      let unmapped =
-      cond-false (is_mapped (length memory) address len) (tag_fault memory (logical_tag address) (touched address len)) (Some Unmapped) not
-      in cc
-]
+mapped_of memory address len none = grind (arith, cond-false)
 
 pub tagged_access : {h : Heap} {p : Parts} (k : IsKept h p) (address len : ℕ) → IsTaggedOrUnmapped h address len →
     access_fault p.memory address len ≡ None → logical_tag address ≢ 0
@@ -183,11 +145,7 @@ module _ {h : Heap} {p : Parts} (k : IsKept h p) (address len : ℕ) (tagged : l
 
   -- so it reads what is seen
   pub load_seen : loaded p.memory address len ≡ loaded h.memory address len
-  load_seen =
-      let from = byte_of (place_of address) in
-      bytes_at_agree p.memory (without_headers h.layout p.memory) from len
-      (λ k within. sym (laws.byte_seen h.layout p.memory (from + k) (no_header (from + k) (omega arith) (omega arith))))
-      ∙ ap (λ m. loaded m address len) k.seen
+  load_seen = grind (arith, bytes_at_agree, no_header, laws.byte_seen)
 
 -- and leaves all headers where it writes
 pub access_outside : {h : Heap} {p : Parts} (k : IsKept h p) (address : ℕ) (bytes : List ℕ) → 1 ≤ length bytes → logical_tag address ≢ 0 →

@@ -58,10 +58,7 @@ module _ {h : Heap} {p : Parts} (k : IsKept h p) {q1 : Queue} {m1 : List Granule
       subst (λ n. (header_in (region_of h.layout m1) s).class < n) (sym k.agree.long) (slice_get_within h.layout.classes _ _ class_found)
 
   pub can_be_listed : HasFront p.fronts (header_in (region_of h.layout m1) s).class
-  can_be_listed = record {
-    few = omega (arith, class_is, class_few h s k.sound out.slot);
-    listed = subst (λ n. (header_in (region_of h.layout m1) s).class < n) (sym k.listed.long) in_lists;
-  }
+  can_be_listed = grind (arith, class_few, class_is, in_lists)
 
   -- ---- it goes to the front of the class's list
 

@@ -48,10 +48,7 @@ module _ (h : Heap) (n : ℕ) where
       IsLegalTable 1 h.layout.classes →
       slice_get h.layout.classes number ≡ Some slot.class → IfOk r (λ k. (n ≤ 16368) × (class_number_for h.layout.classes n ≡ Some k)) →
       IfErr r (IsCauseFor h.layout.classes n) → result_eq nat_eq cause_eq r (Ok number) ≡ is_class_of slot (class_for_request h n)
-  stays_is slot number cause_eq (Ok k) legal at ok err =
-      let there = position-Some (serves n) h.layout.classes k 0 ok.1 in
-      same_test h.layout.classes slot k number legal there.0 at ∙ sym (ap (is_class_of slot) (class_for_is (Ok k) ok err))
-  stays_is slot number cause_eq (Err e) legal at ok err = sym (ap (is_class_of slot) (class_for_is (Err e) ok err))
+  stays_is slot number cause_eq x3 legal at ok err = grind (arith, class_for_is, position-Some, same_test)
 
   pub room_in_class : (slot : Slot) (number : ℕ) (cause_eq : NullCause → NullCause → Bool) (r : Result ℕ NullCause) → 2 ≤ slot.class →
       slice_get h.layout.classes number ≡ Some slot.class → IfOk r (λ k. (n ≤ 16368) × (class_number_for h.layout.classes n ≡ Some k)) →

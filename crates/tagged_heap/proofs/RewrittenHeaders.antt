@@ -1,5 +1,5 @@
 -- Headers of slots in a memory that changes.
-use Rattle.std.proofs.Common.{◌≡◌, ℕ, ◌<◌, List, length, sym, ap, ◌∙◌, subst}
+use Rattle.std.proofs.Common.{arith, ◌≡◌, ℕ, ◌<◌, List, length, ap, ◌∙◌}
 use Rattle.std.specs.Prelude.{slice_set}
 use Rattle.std.proofs.lemmas.List.{get_or-set_same, get_or-set_other}
 use Rattle.machine_theory.specs.Memory.{Granule, IsMemory, tagged}
@@ -7,7 +7,7 @@ use Rattle.class_table.specs.Layout.{Partition, IsPartition, slot_of, slot_count
 use Rattle.chunk_header.specs.HeaderWrite.{WritesHeader}
 use Rattle.chunk_header.specs.Links.{SetsLink}
 use Rattle.heap_theory.specs.Header.{Header, FitsWords, with_header}
-use Rattle.heap_theory.specs.Region.{Region, header_in, headers_of, no_header, region_of}
+use Rattle.heap_theory.specs.Region.{Region, header_in, headers_of, region_of}
 use Rattle.heap_theory.specs.State.{without_headers}
 use Rattle.heap_theory.proofs.Regions.{length-headers_of, region_of-header, region_of-read, region_of-tagged}
 use Rattle.tagged_heap.specs.Representation.{IsRewritten}
@@ -16,13 +16,7 @@ use Rattle.tagged_heap.specs.Representation.{IsRewritten}
 pub as_rewritten : (layout : Partition) (old new : List Granule) (s : ℕ) (header : Header) (seen : List Granule) → s < slot_count layout →
     region_of layout new ≡ record { headers = slice_set (headers_of layout old) s header; granules = seen } →
     IsRewritten layout old new s header seen
-as_rewritten layout old new s header seen within set = record {
-  own =
-      ap (λ (x : Region). header_in x s) set
-      ∙ get_or-set_same (headers_of layout old) s header no_header (subst (λ n. s < n) (sym (length-headers_of layout old)) within);
-  others = λ r inside other. ap (λ (x : Region). header_in x r) set ∙ get_or-set_other (headers_of layout old) s r header no_header other;
-  seen_is = ap (λ (x : Region). x.granules) set;
-}
+as_rewritten layout old new s header seen within set = grind (arith, get_or-set_other, get_or-set_same, length-headers_of)
 
 pub written_header : (layout : Partition) (m : List Granule) (s : ℕ) (header : Header) → IsMemory m → IsPartition layout →
     length m ≡ layout.granules → s < slot_count layout → FitsWords header →
@@ -46,11 +40,7 @@ link_set {layout} {old} {new} {s} {next} set within =
 
 pub then_written : {layout : Partition} {a b c x y : List Granule} {s : ℕ} {one other : Header} → IsRewritten layout a b s one x →
     IsRewritten layout b c s other y → IsRewritten layout a c s other y
-then_written first second = record {
-  own = second.own;
-  others = λ r inside other. second.others r inside other ∙ first.others r inside other;
-  seen_is = second.seen_is;
-}
+then_written first second = grind arith
 
 pub then_tagged : {layout : Partition} {a b x : List Granule} {s : ℕ} {header : Header} → (first count tag : ℕ) →
     IsRewritten layout a b s header x → IsRewritten layout a (tagged first count tag b) s header (tagged first count tag x)
