@@ -1,6 +1,2 @@
--- The law as a lemma, for the proofs of the crates above.
-use Rattle.class_fitter.specs.Laws.{OneFit}
-use Rattle.class_fitter.proofs.OneFit.{one-fit}
-
-pub one_fit : OneFit
-one_fit = one-fit
+-- What the proofs of the crates above cite: there is one fit.
+pub use Rattle.class_fitter.proofs.OneFit.{one_fit}

@@ -1,22 +1,9 @@
 -- Rows of which one number is set.
 use Rattle.std.proofs.Common.{◌≡◌, ◌≢◌, ℕ, suc, ◌-◌, ◌<◌, ◌≤◌, List, [], length, slice_index, slice_index_or, slice_set, arith, ap, sym, ◌∙◌, inl, inr}
-use Rattle.std.specs.Prelude.{Vec}
-use Rattle.std.specs.Vec.{with_item}
-use Rattle.std.specs.declared.alloc.Global.{Global}
 use Rattle.std.proofs.lemmas.Bool.{cases_order}
-use Rattle.std.proofs.lemmas.List.{get_or-map, get_or-set_other, get_or-set_same, length-map, length-set, map-set}
+use Rattle.std.proofs.lemmas.List.{get_or-set_other, get_or-set_same, length-set}
 use Rattle.std.proofs.lemmas.List.Elements.{All-from_get_or}
-use Rattle.potential_check.specs.Lists.{lists_of}
 use Rattle.tuner_theory.specs.Rows.{HasShape, number_at}
-
--- one number of one vector
-pub set-lists : (rows : List (Vec ℕ Global)) (k place x : ℕ) (d : Vec ℕ Global) → k < length rows
-    → lists_of (slice_set rows k (with_item (slice_index_or rows k d) place x))
-    ≡ slice_set (lists_of rows) k (slice_set (slice_index_or (lists_of rows) k []) place x)
-set-lists rows k place x d lt =
-    map-set (λ (v : Vec ℕ Global). v.items) rows k (with_item (slice_index_or rows k d) place x)
-    ∙ ap (λ (row : List ℕ). slice_set (lists_of rows) k (slice_set row place x))
-    (sym (get_or-map (λ (v : Vec ℕ Global). v.items) rows k d [] lt))
 
 module _ (rows : List (List ℕ)) (limit d : ℕ) (shape : HasShape rows limit d) (k place v : ℕ) (lt : k < limit) (in_row : place < d) where
   abbrev after : List (List ℕ)
@@ -78,10 +65,3 @@ module _ (rows : List (List ℕ)) (limit d : ℕ) (shape : HasShape rows limit d
           ∙ shape.row_lengths m [] (omega (arith, within, length-set rows k (slice_set (slice_index_or rows k []) place v)))
     ]);
   }
-
--- a row of a vector of vectors
-pub row-read : (rows : List (Vec ℕ Global)) (k : ℕ) (d : Vec ℕ Global) (row : List ℕ) → k < length (lists_of rows)
-    → row ≡ (slice_index_or rows k d).items → row ≡ slice_index_or (lists_of rows) k []
-row-read rows k d row lt is =
-    let inside : k < length rows = omega (arith, lt, length-map rows (λ (v : Vec ℕ Global). v.items)) in
-    is ∙ sym (get_or-map (λ (v : Vec ℕ Global). v.items) rows k d [] inside)

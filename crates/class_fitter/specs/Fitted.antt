@@ -3,10 +3,10 @@ use Rattle.std.specs.Prelude.{◌≡◌, ℕ, List}
 use Rattle.potential_check.specs.declared.fit.Fit.{Fit as Written}
 use Rattle.tuner_theory.specs.Fits.{Fit, IsFitVerdict}
 use Rattle.tuner_theory.specs.Footprint.{IsFitted, footprint_of}
-use Rattle.tuner_theory.specs.FootprintLaws.{AreFittedRows}
 use Rattle.tuner_theory.specs.Histories.{peaks}
 use Rattle.tuner_theory.specs.Rows.{HasShape, number_at}
 use Rattle.tuner_theory.specs.Spans.{places}
+use Rattle.tuner_theory.specs.Tuned.{AreFittedRows}
 use Rattle.tuner_theory.specs.declared.verdict.Verdict.TheVariants.{Optimal}
 
 -- A fit, and how many span footprints were asked for to make it.

@@ -1,6 +1,6 @@
 ghost use Rattle.std.specs.Prelude.{◌≡◌, ◌^◌, ◌<◌, ◌≤◌, IfOk, OnErr, OnOk};
 ghost use Rattle.footprint_check.specs.CallCounts.{span_count};
-ghost use Rattle.potential_check.specs.Lists.{lists_of};
+ghost use Rattle.tuner_theory.specs.Lists.{lists_of};
 ghost use Rattle.tuner_theory.specs.Rows.{IsFilled};
 
 use crate::place::fill_place;

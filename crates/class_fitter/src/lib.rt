@@ -4,7 +4,6 @@
 
 mod filling;
 mod fitting;
-pub mod laws;
 mod place;
 
 pub use filling::fill_places;

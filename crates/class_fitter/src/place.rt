@@ -2,7 +2,7 @@
 ghost use Rattle.std.specs.Prelude.{◌≡◌, ℕ, ◌+◌, ◌^◌, ◌<◌, ◌≤◌, [], length, slice_index, slice_index_or, slice_set};
 ghost use Rattle.class_fitter.specs.PlaceByPlace.{AreCostsFrom, AreRowsSoFar, IsPlaceFilled, end_cost};
 ghost use Rattle.class_table.specs.declared.table.TheConstants.{MOST_CLASSES};
-ghost use Rattle.potential_check.specs.Lists.{lists_of};
+ghost use Rattle.tuner_theory.specs.Lists.{lists_of};
 ghost use Rattle.tuner_theory.specs.Rows.{IsLeastEnd};
 
 /// Fills a place in all rows and ends. Those of the later places must be filled.

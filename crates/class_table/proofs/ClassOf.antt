@@ -7,8 +7,8 @@ use Rattle.std.proofs.lemmas.Bool.{cases_lt}
 use Rattle.std.proofs.lemmas.List.FromFn.{length-map-range_with_len, get_or-map-range_with_len}
 use Rattle.std.proofs.lemmas.Option.{slice_get-get_or}
 use Rattle.class_table.specs.Layout.{Partition, Slot, IsClassOf, share_of, slot_count, slot_of, first_slot}
-use Rattle.class_table.proofs.FirstSlots.{first_slot-suc, first_slot-le, first_slot-most}
-use Rattle.class_table.proofs.Slots.{place_of, slot_of-class, slot_count-classes}
+use Rattle.class_table.proofs.FirstSlots.{first_slot-suc, first_slots_ascend, first_slot-most}
+use Rattle.class_table.proofs.Slots.{place_of, slot_of-class, slots_of_classes_are_all}
 
 -- the first slots of all classes, and the number of slots after them
 abbrev pub firsts_of : Partition → List ℕ
@@ -25,7 +25,7 @@ get_or-firsts_of layout number d within =
 pub firsts_of-ascending : (layout : Partition) → IsNonDecreasingBy (λ first. first) (firsts_of layout)
 firsts_of-ascending layout a b d le within =
     let long = length-firsts_of layout in
-    rw (get_or-firsts_of layout a d (omega arith), get_or-firsts_of layout b d (omega arith)) (first_slot-le layout a b le)
+    rw (get_or-firsts_of layout a d (omega arith), get_or-firsts_of layout b d (omega arith)) (first_slots_ascend layout a b le)
 
 pub class_of_point : (layout : Partition) (slot point : ℕ) → slot < slot_count layout → point ≤ length (firsts_of layout) →
     ((k d : ℕ) → k < length (firsts_of layout) → k < point → get_or (firsts_of layout) k d ≤ slot) →
@@ -33,7 +33,7 @@ pub class_of_point : (layout : Partition) (slot point : ℕ) → slot < slot_cou
     (1 ≤ point) × IsClassOf layout slot (point - 1)
 class_of_point layout slot point within bound below above =
     let long = length-firsts_of layout in
-    let all = slot_count-classes layout in
+    let all = slots_of_classes_are_all layout in
     let some : 1 ≤ point = elim (cases_lt 0 point) [
       | inl some ↦ some
       | inr none ↦
@@ -61,12 +61,12 @@ class_of_point layout slot point within bound below above =
     )
 
 -- the slot, by the number of its class
-pub slot_of-number : (layout : Partition) (slot number : ℕ) → IsClassOf layout slot number →
+pub slot_by_its_class : (layout : Partition) (slot number : ℕ) → IsClassOf layout slot number →
     slot_of layout slot ≡ record {
       start = share_of layout * number + get_or layout.classes number 0 * (slot - first_slot layout number);
       class = get_or layout.classes number 0;
     }
-slot_of-number layout slot number is =
+slot_by_its_class layout slot number is =
     let next = first_slot-suc layout number is.within in
     let place : slot ≡ first_slot layout number + (slot - first_slot layout number) = omega (arith, is.from) in
     ap (slot_of layout) place ∙ slot_of-class layout number (slot - first_slot layout number) is.within (omega (arith, is.from, is.to))
@@ -75,15 +75,15 @@ pub class_is : (layout : Partition) (slot number : ℕ) → IsClassOf layout slo
     slice_get layout.classes number ≡ Some (slot_of layout slot).class
 class_is layout slot number is =
     slice_get-get_or layout.classes number 0 is.within
-    ∙ ap Some (sym (ap (λ (slot : Slot). slot.class) (slot_of-number layout slot number is)))
+    ∙ ap Some (sym (ap (λ (slot : Slot). slot.class) (slot_by_its_class layout slot number is)))
 
 -- each slot has a class
-pub class_of_each : (layout : Partition) (slot : ℕ) → slot < slot_count layout → (number : ℕ) × IsClassOf layout slot number
-class_of_each layout slot within =
+pub each_slot_has_a_class : (layout : Partition) (slot : ℕ) → slot < slot_count layout → (number : ℕ) × IsClassOf layout slot number
+each_slot_has_a_class layout slot within =
     let place = place_of layout slot within in
     let next = first_slot-suc layout place.number place.within in
     (place.number, record { within = place.within; from = omega (arith, place.is); to = omega (arith, place.is, place.fits, next) })
 
 -- and the slots that have one are slots of the layout
-pub slot_of_class_within : (layout : Partition) (slot number : ℕ) → IsClassOf layout slot number → slot < slot_count layout
-slot_of_class_within layout slot number is = omega (arith, is.to, first_slot-most layout (number + 1))
+pub slots_of_classes_are_slots : (layout : Partition) (slot number : ℕ) → IsClassOf layout slot number → slot < slot_count layout
+slots_of_classes_are_slots layout slot number is = omega (arith, is.to, first_slot-most layout (number + 1))

@@ -3,7 +3,7 @@ use Rattle.std.proofs.Common.{ℕ, ◌/◌, ◌<◌, ◌≤◌, List, length, ar
 use Rattle.class_table.specs.Counts.{AreAtMost}
 use Rattle.class_table.specs.Layout.{Partition, IsPartition, slot_count}
 use Rattle.class_table.proofs.FirstSlots.{first_slot-few}
-use Rattle.class_table.proofs.Slots.{slot_count-classes}
+use Rattle.class_table.proofs.Slots.{slots_of_classes_are_all}
 
 -- those that are at most m are at most n
 pub at_most_more : (numbers : List ℕ) (m n count : ℕ) → m ≤ n → AreAtMost numbers m count → AreAtMost numbers n count
@@ -15,4 +15,4 @@ at_most_more numbers m n count more known = record {
 -- each slot has its place in the table of counts
 pub place_of_count : (layout : Partition) (slot : ℕ) → IsPartition layout → slot < slot_count layout → slot / 128 < 1024
 place_of_count layout slot is within =
-    omega (arith, slot_count-classes layout, first_slot-few layout (length layout.classes) is)
+    omega (arith, slots_of_classes_are_all layout, first_slot-few layout (length layout.classes) is)

@@ -7,7 +7,7 @@ use Rattle.std.proofs.lemmas.List.Quantifiers.{position-Some}
 use Rattle.std.proofs.lemmas.List.Sums.{position_or_len_is}
 use Rattle.class_table.specs.Layout.{Partition, Slot, no_slot, end_of, slots_of, slot_count, slot_of, Covers, covers, slot_over}
 use Rattle.class_table.specs.Tables.{IsLegalTable}
-use Rattle.class_table.proofs.Slots.{in_order}
+use Rattle.class_table.proofs.Slots.{legal_slots_are_in_order}
 
 pub Covers-true : (slot : Slot) (granule : ℕ) → covers slot granule ≡ true → Covers slot granule
 Covers-true slot granule test =
@@ -20,13 +20,13 @@ true-Covers slot granule it = and_from _ _ (le-leb slot.start granule it.from) (
 one_covers : (step : ℕ) (layout : Partition) (granule s r : ℕ) → IsLegalTable step layout.classes → r < s → s < slot_count layout →
     Covers (slot_of layout s) granule → Covers (slot_of layout r) granule → ⊥
 one_covers step layout granule s r legal before within at_s at_r =
-    let apart : end_of (slot_of layout r) ≤ (slot_of layout s).start = (in_order step layout legal).apart r s before within in
+    let apart : end_of (slot_of layout r) ≤ (slot_of layout s).start = (legal_slots_are_in_order step layout legal).apart r s before within in
     omega (arith, at_s.from, at_r.to)
 
-pub slot_over-covers : (step : ℕ) (layout : Partition) (granule s : ℕ) → IsLegalTable step layout.classes →
+pub one_slot_covers : (step : ℕ) (layout : Partition) (granule s : ℕ) → IsLegalTable step layout.classes →
     (slot_over layout granule ≡ Some s) ↔ ((s < slot_count layout) × Covers (slot_of layout s) granule)
 unfolding slot_over
-slot_over-covers step layout granule s legal = (found, finds)
+one_slot_covers step layout granule s legal = (found, finds)
   where
     found : slot_over layout granule ≡ Some s → (s < slot_count layout) × Covers (slot_of layout s) granule
     found is =

@@ -1,6 +1,6 @@
 -- The line at which a text is refused as a class line is its first fault.
 use Rattle.std.proofs.Common.{◌≡◌, ℕ, List, [], ◌∷◌, length, take, Result, Ok, Err, refl, sym, ap, ◌∙◌, arith, ◌⊎◌, inl, inr}
-use Rattle.std.specs.Prelude.{IsErr}
+use Rattle.std.specs.Prelude.{IsErr, ◌↔◌}
 use Rattle.line_text.specs.FirstFault.{IsFirstFault}
 use Rattle.line_text.specs.Lines.{lines}
 use Rattle.class_table.specs.ClassLine.{BeginsWithTable, SpellsTable, class_line, table_of_lines, table_of_line, table_of}
@@ -8,7 +8,7 @@ use Rattle.class_table.specs.Tables.{IsLegalTable}
 use Rattle.class_table.specs.declared.fault.TableError.{TableError}
 use Rattle.class_table.specs.declared.fault.TableError.TheVariants.{BadLine}
 use Rattle.class_table.proofs.Legal.{no_classes_are_legal}
-use Rattle.class_table.proofs.Spelled.{line_is_its_text, lines-spelled, line-table_of_line, spelled-table_of, table_of_line-legal}
+use Rattle.class_table.proofs.Spelled.{line_is_its_text, lines-spelled, read_line_is_spelled, table_is_spelled, table_line_is_read}
 
 -- what is read is not refused
 read_or_refused : (read : Result (List ℕ) TableError) (table : List ℕ) → IsErr read → read ≡ Ok table → ⊥
@@ -35,7 +35,7 @@ read-begins : (text line table : List ℕ) → take 1 (lines text) ≡ line ∷ 
     → table_of_line line ≡ Ok table
 read-begins text line table first begins =
     let same = same_line line (class_line table) (sym first ∙ begins.line) in
-    ap table_of_line same ∙ table_of_line-legal table begins.legal
+    ap table_of_line same ∙ table_line_is_read table begins.legal
 
 -- ---- line 1
 
@@ -51,32 +51,28 @@ first_line_fault text none = record {
 }
 
 -- A missing line is a fault.
-pub first_fault-missing : (text : List ℕ) → lines text ≡ [] → IsFirstFault BeginsWithTable text 1
-first_fault-missing text missing = first_line_fault text none
+pub missing_line_is_first_fault : (text : List ℕ) → lines text ≡ [] → IsFirstFault BeginsWithTable text 1
+missing_line_is_first_fault text missing = first_line_fault text none
   where
     none : (other table : List ℕ) → BeginsWithTable other table → take 1 (lines other) ≡ take 1 (lines text) → ⊥
     none other table begins alike =
         let no_line : [] ≡ class_line table ∷ [] = sym (ap (take 1) missing) ∙ sym alike ∙ begins.line in
         absurd cc
 
--- A line that is refused is one,
-pub first_fault-refused : (text line : List ℕ) → take 1 (lines text) ≡ line ∷ [] → IsErr (table_of_line line)
-    → IsFirstFault BeginsWithTable text 1
-first_fault-refused text line first refused = first_line_fault text none
+-- A line is one exactly if it is refused.
+pub first_fault_is_refused : (text line : List ℕ) → take 1 (lines text) ≡ line ∷ []
+    → IsErr (table_of_line line) ↔ IsFirstFault BeginsWithTable text 1
+first_fault_is_refused text line first = (refused_is, is_refused (table_of_line line) refl)
   where
-    none : (other table : List ℕ) → BeginsWithTable other table → take 1 (lines other) ≡ take 1 (lines text) → ⊥
-    none other table begins alike =
-        read_or_refused (table_of_line line) table refused (read-begins other line table (alike ∙ first) begins)
+    refused_is : IsErr (table_of_line line) → IsFirstFault BeginsWithTable text 1
+    refused_is refused = first_line_fault text (λ other table begins alike.
+        read_or_refused (table_of_line line) table refused (read-begins other line table (alike ∙ first) begins))
 
--- and only such a one.
-pub refused-first_fault : (text line : List ℕ) → take 1 (lines text) ≡ line ∷ [] → IsFirstFault BeginsWithTable text 1
-    → IsErr (table_of_line line)
-refused-first_fault text line first is_first = go (table_of_line line) refl
-  where
-    go : (read : Result (List ℕ) TableError) → table_of_line line ≡ read → IsErr read
-    go (Err fault) is = refl
-    go (Ok table) is =
-        let spelled = line-table_of_line line table is in
+    is_refused : (read : Result (List ℕ) TableError) → table_of_line line ≡ read → IsFirstFault BeginsWithTable text 1
+        → IsErr (table_of_line line)
+    is_refused (Err fault) is is_first = rw is refl
+    is_refused (Ok table) is is_first =
+        let spelled = read_line_is_spelled line table is in
         let begins = first ∙ ap (λ line. line ∷ []) spelled.0 in
         absurd (is_first.none text table (record { legal = spelled.1; line = begins }) refl)
 
@@ -95,7 +91,7 @@ alone text first = record {
 second_line_fault : (text line second table : List ℕ) (ls : List (List ℕ)) → lines text ≡ line ∷ second ∷ ls
     → table_of_line line ≡ Ok table → IsFirstFault SpellsTable text 2
 second_line_fault text line second table ls is read =
-    let spelled = line-table_of_line line table read in
+    let spelled = read_line_is_spelled line table read in
     let spells = spells-class_line table spelled.1 in
     record {
       some = omega arith;
@@ -111,9 +107,9 @@ abbrev IsFaulty : List ℕ → TableError → Type 0
 IsFaulty text fault = IsFirstFault SpellsTable text 1 ⊎ ((fault ≡ BadLine) × IsFirstFault SpellsTable text 2)
 
 -- A text that is refused has its first fault at line 1 or at line 2.
-pub first_fault-refused_text : (text : List ℕ) (fault : TableError) → table_of text ≡ Err fault → IsFaulty text fault
+pub refused_text_has_first_fault : (text : List ℕ) (fault : TableError) → table_of text ≡ Err fault → IsFaulty text fault
 unfolding table_of
-first_fault-refused_text text fault refused = go (lines text) refl refused
+refused_text_has_first_fault text fault refused = go (lines text) refl refused
   where
     bad_line : (line second : List ℕ) (ls : List (List ℕ)) → table_of_lines (line ∷ second ∷ ls) ≡ Err fault → fault ≡ BadLine
     bad_line line second ls e = cc
@@ -122,17 +118,17 @@ first_fault-refused_text text fault refused = go (lines text) refl refused
         → (read : Result (List ℕ) TableError) → table_of_line line ≡ read → IsFaulty text fault
     two_lines line second ls is bad (Ok table) read = inr (bad, second_line_fault text line second table ls is read)
     two_lines line second ls is bad (Err other) read =
-        inl (alone text (first_fault-refused text line (ap (take 1) is) (rw read refl)))
+        inl (alone text ((first_fault_is_refused text line (ap (take 1) is)).0 (rw read refl)))
 
     go : (ls : List (List ℕ)) → lines text ≡ ls → table_of_lines ls ≡ Err fault → IsFaulty text fault
-    go [] is e = inl (alone text (first_fault-missing text is))
-    go (line ∷ []) is e = inl (alone text (first_fault-refused text line (ap (take 1) is) (rw e refl)))
+    go [] is e = inl (alone text (missing_line_is_first_fault text is))
+    go (line ∷ []) is e = inl (alone text ((first_fault_is_refused text line (ap (take 1) is)).0 (rw e refl)))
     go (line ∷ second ∷ ls) is e = two_lines line second ls is (bad_line line second ls e) (table_of_line line) refl
 
 -- A text with a first fault is refused.
-pub refused_text-first_fault : (text : List ℕ) (n : ℕ) → IsFirstFault SpellsTable text n → IsErr (table_of text)
-refused_text-first_fault text n first = go (table_of text) refl
+pub faulty_text_is_refused : (text : List ℕ) (n : ℕ) → IsFirstFault SpellsTable text n → IsErr (table_of text)
+faulty_text_is_refused text n first = go (table_of text) refl
   where
     go : (read : Result (List ℕ) TableError) → table_of text ≡ read → IsErr read
     go (Err fault) is = refl
-    go (Ok table) is = absurd (first.none text table (spelled-table_of text table is) refl)
+    go (Ok table) is = absurd (first.none text table (table_is_spelled text table is) refl)

@@ -13,8 +13,8 @@ pub first_slot-suc : (layout : Partition) (number : ℕ) → number < length lay
     first_slot layout (number + 1) ≡ first_slot layout number + share_of layout / get_or layout.classes number 0
 first_slot-suc layout number within = sum_by_more (λ class. share_of layout / class) layout.classes number 0 within
 
-pub first_slot-le : (layout : Partition) (a b : ℕ) → a ≤ b → first_slot layout a ≤ first_slot layout b
-first_slot-le layout a b le =
+pub first_slots_ascend : (layout : Partition) (a b : ℕ) → a ≤ b → first_slot layout a ≤ first_slot layout b
+first_slots_ascend layout a b le =
     subst (λ classes. sum_by (λ class. share_of layout / class) classes ≤ first_slot layout b) (take-take a b layout.classes le)
     (sum_by-take-le (λ class. share_of layout / class) (take b layout.classes) a)
 

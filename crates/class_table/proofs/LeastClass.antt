@@ -46,8 +46,8 @@ least_of step classes n (Some number) legal found = least_at step classes n numb
 first_place : (n : ℕ) (classes : List ℕ) → class_for classes n ≡ slice_get classes (position_or_len (serves n) classes)
 first_place n classes = find_at (serves n) classes
 
-pub class_at_number : (n : ℕ) (classes : List ℕ) → class_for classes n ≡ option_and_then (slice_get classes) (class_number_for classes n)
-class_at_number n classes =
+pub number_gives_class : (n : ℕ) (classes : List ℕ) → class_for classes n ≡ option_and_then (slice_get classes) (class_number_for classes n)
+number_gives_class n classes =
     let place = position_or_len (serves n) classes in
     elim (cases_lt place (length classes)) [
       | inl within ↦ let test : ltb place (length classes) ≡ true = lt-ltb place (length classes) within in rw test (first_place n classes)
@@ -61,32 +61,32 @@ numbered : (classes : List ℕ) (class : ℕ) (number : Option ℕ) → option_a
 numbered classes class None e = absurd cc
 numbered classes class (Some k) e = (k, refl, e)
 
-pub least_class : (step n class : ℕ) (classes : List ℕ) → IsLegalTable step classes → class_for classes n ≡ Some class →
+pub first_is_least : (step n class : ℕ) (classes : List ℕ) → IsLegalTable step classes → class_for classes n ≡ Some class →
     IsLeastServing classes n class
-least_class step n class classes legal found =
-    let at = numbered classes class (class_number_for classes n) (sym (class_at_number n classes) ∙ found) in
+first_is_least step n class classes legal found =
+    let at = numbered classes class (class_number_for classes n) (sym (number_gives_class n classes) ∙ found) in
     let least = least_at step classes n at.0 legal at.1 in
     subst (IsLeastServing classes n) (get_or_from_slice_get classes at.0 class 0 at.2) least.1
 
-pub none_serving : (n : ℕ) (classes : List ℕ) → class_for classes n ≡ None → All (λ class. serves n class ≡ false) classes
-none_serving n [] none = All-nil (λ class. serves n class ≡ false)
-none_serving n (class ∷ classes) none = go (serves n class) refl (none_serving n classes)
+pub no_class_serves : (n : ℕ) (classes : List ℕ) → class_for classes n ≡ None → All (λ class. serves n class ≡ false) classes
+no_class_serves n [] none = All-nil (λ class. serves n class ≡ false)
+no_class_serves n (class ∷ classes) none = go (serves n class) refl (no_class_serves n classes)
   where
     go : (test : Bool) → serves n class ≡ test → (class_for classes n ≡ None → All (λ c. serves n c ≡ false) classes) →
         All (λ c. serves n c ≡ false) (class ∷ classes)
     go true e others = let f = rw e at none in absurd cc
     go false e others = All-cons (λ c. serves n c ≡ false) class classes e (others (rw e at none))
 
--- a class serves a request exactly where it has the granules that the request needs
-pub serving-need : (n class : ℕ) → 2 ≤ class → (serves n class ≡ true) ↔ (need_of n ≤ class)
-serving-need n class two = (
+-- `serving_is_need`: a class serves a request exactly where it has the granules that the request needs
+pub serving_is_need : (n class : ℕ) → 2 ≤ class → (serves n class ≡ true) ↔ (need_of n ≤ class)
+serving_is_need n class two = (
   λ serving. let fits = leb-true n _ serving in omega (arith, fits),
   λ needs. le-leb n _ (omega arith),
 )
 
 pub none_of : (classes : List ℕ) (n : ℕ) (number : Option ℕ) → number ≡ class_number_for classes n →
     IfNone number (All (λ class. serves n class ≡ false) classes)
-none_of classes n None none = none_serving n classes (class_at_number n classes ∙ ap (option_and_then (slice_get classes)) (sym none))
+none_of classes n None none = no_class_serves n classes (number_gives_class n classes ∙ ap (option_and_then (slice_get classes)) (sym none))
 none_of classes n (Some number) found = tt
 
 -- ---- the number of a size's class is how many classes are too small

@@ -31,9 +31,9 @@ next_above step low k [] above within = absurd (omega arith)
 next_above step low zero (class ∷ classes) above within = class_above step class 0 classes above.3 (omega arith)
 next_above step low (suc k) (class ∷ classes) above within = next_above step class k classes above.3 (omega arith)
 
-pub legal-from_classes : (step low : ℕ) (classes : List ℕ) → 1 ≤ low → length classes ≤ 32 → AreClassesAbove step low classes →
+pub legal_table_of_classes : (step low : ℕ) (classes : List ℕ) → 1 ≤ low → length classes ≤ 32 → AreClassesAbove step low classes →
     IsLegalTable step classes
-legal-from_classes step low classes one few above = record {
+legal_table_of_classes step low classes one few above = record {
   few = few;
   in_range = λ k d within. let here = class_in step low k d classes above within in (omega (arith, one, here.0), here.1);
   ascending = λ k within.
@@ -43,7 +43,7 @@ legal-from_classes step low classes one few above = record {
 }
 
 pub no_classes_are_legal : IsLegalTable 1 []
-no_classes_are_legal = legal-from_classes 1 1 [] (omega arith) (omega arith) tt
+no_classes_are_legal = legal_table_of_classes 1 1 [] (omega arith) (omega arith) tt
 
 -- ---- and back
 
@@ -60,8 +60,8 @@ classes_from step low (class ∷ classes) first up range fits = (
       (λ k d within. fits (suc k) d (omega arith)),
 )
 
-pub classes-from_legal : (step : ℕ) (classes : List ℕ) → IsLegalTable step classes → AreClassesAbove step 1 classes
-classes-from_legal step classes legal =
+pub classes_of_legal_table : (step : ℕ) (classes : List ℕ) → IsLegalTable step classes → AreClassesAbove step 1 classes
+classes_of_legal_table step classes legal =
     classes_from step 1 classes (λ k within. let r = legal.in_range k 0 within in omega (arith, r.0))
     (AllPairs-from_increasing classes legal.ascending) legal.in_range legal.fitting
 

@@ -59,8 +59,8 @@ numbers_of-decimals (n ∷ ns) small =
     rw (laws.read n (All-head (λ n. n < 2 ^ 64) n ns small), numbers_of-decimals ns (All-tail (λ n. n < 2 ^ 64) n ns small)) refl
 
 -- The line is one,
-pub named_line-is_line : (name ns : List ℕ) → IsName name → AreSmall ns → IsLine (named_line name ns)
-named_line-is_line name ns is_name small =
+pub named_line_is_line : (name ns : List ℕ) → IsName name → AreSmall ns → IsLine (named_line name ns)
+named_line_is_line name ns is_name small =
     laws.makes_line (name ∷ map decimal ns) (All-cons IsLine name (map decimal ns) is_name.line (decimals-lines ns small))
 
 -- not an empty one,
@@ -68,19 +68,19 @@ named_line-some : (name ns : List ℕ) → IsName name → 0 < length (named_lin
 named_line-some name [] is_name = is_name.some
 named_line-some name (n ∷ ns) is_name = omega (arith, length-append name (32 ∷ line_of (map decimal (n ∷ ns))))
 
-pub named_line-full : (name ns : List ℕ) → IsName name → AreSmall ns → IsFullLine (named_line name ns)
-named_line-full name ns is_name small = (named_line-is_line name ns is_name small, named_line-some name ns is_name)
+pub named_line_is_full : (name ns : List ℕ) → IsName name → AreSmall ns → IsFullLine (named_line name ns)
+named_line_is_full name ns is_name small = (named_line_is_line name ns is_name small, named_line-some name ns is_name)
 
 -- and these are its words,
-pub words-named_line : (name ns : List ℕ) → IsName name → AreSmall ns → words (named_line name ns) ≡ name ∷ map decimal ns
-words-named_line name ns is_name small =
+pub words_of_named_line : (name ns : List ℕ) → IsName name → AreSmall ns → words (named_line name ns) ≡ name ∷ map decimal ns
+words_of_named_line name ns is_name small =
     laws.written_words name (map decimal ns) (All-cons IsWord name (map decimal ns) is_name.word (decimals-words ns small))
 
 -- which are read as the numbers.
-pub numbers_in-named_line : (name ns : List ℕ) → IsName name → AreSmall ns → numbers_in name (named_line name ns) ≡ Some ns
-numbers_in-named_line name ns is_name small =
+pub named_numbers_are_read : (name ns : List ℕ) → IsName name → AreSmall ns → numbers_in name (named_line name ns) ≡ Some ns
+named_numbers_are_read name ns is_name small =
     let same : bytes_eq name name ≡ true = (bytes_eq-Decides name name).1 refl in
-    rw (words-named_line name ns is_name small, same) (numbers_of-decimals ns small)
+    rw (words_of_named_line name ns is_name small, same) (numbers_of-decimals ns small)
 
 -- ---- from a line to its numbers
 
@@ -114,8 +114,8 @@ decimals-numbers_of (w ∷ ws) ns e small =
     decimals_more w ws n others ns word after first.4
 
 -- A line that is read as these numbers is their line.
-pub line-numbers_in : (name line ns : List ℕ) → numbers_in name line ≡ Some ns → AreSmall ns → line ≡ named_line name ns
-line-numbers_in name line ns e small = sym (laws.line line) ∙ ap line_of (go (words line) e)
+pub line_of_read_numbers : (name line ns : List ℕ) → numbers_in name line ≡ Some ns → AreSmall ns → line ≡ named_line name ns
+line_of_read_numbers name line ns e small = sym (laws.line line) ∙ ap line_of (go (words line) e)
   where
     go : (ws : List (List ℕ)) → option_and_then numbers_of (words_after name ws) ≡ Some ns → ws ≡ name ∷ map decimal ns
     go [] e = absurd cc

@@ -2,7 +2,7 @@
 use Rattle.std.proofs.Common.{◌≡◌, ℕ, ◌+◌, ◌-◌, ◌*◌, ◌/◌, ◌%◌, ◌<◌, ◌≤◌, length, get_or, Option, Some, None, refl, sym, ◌∙◌, ap, subst, arith}
 use Rattle.std.proofs.lemmas.Nat.{mul-le, div-add-mod', div-mul-add, mod-mul-add, mod_below}
 use Rattle.class_table.specs.Layout.{Partition, IsPartition, Slot, end_of, share_of, slot_count, slot_of, first_slot, Covers, slot_over}
-use Rattle.class_table.proofs.Covering.{slot_over-covers}
+use Rattle.class_table.proofs.Covering.{one_slot_covers}
 use Rattle.class_table.proofs.FirstSlots.{first_slot-suc, first_slot-most}
 use Rattle.class_table.proofs.Slots.{Place, place_of, slot_of-class}
 
@@ -44,7 +44,7 @@ none_over layout granule is none = by (slot_over layout granule) refl
   where
     by : (found : Option ℕ) → slot_over layout granule ≡ found → None ≡ found
     by None was = refl
-    by (Some s) was = let at = (slot_over-covers 1 layout granule s is.table).0 was in absurd (none s at.0 at.1)
+    by (Some s) was = let at = (one_slot_covers 1 layout granule s is.table).0 was in absurd (none s at.0 at.1)
 
 pub none_without_share : (layout : Partition) (granule : ℕ) → IsPartition layout → share_of layout ≡ 0 → None ≡ slot_over layout granule
 none_without_share layout granule is no_share = none_over layout granule is (λ s within at.
@@ -107,7 +107,7 @@ some_in_share layout granule s is within fits place =
     let wide : 2 ≤ class = (is.table.in_range number 0 within).0 in
     let less : granule % share % class < class = mod_below (granule % share) class (omega arith) in
     let inside : s < slot_count layout = omega (arith, first_slot-suc layout number within, first_slot-most layout (number + 1)) in
-    sym ((slot_over-covers 1 layout granule s is.table).1 (inside, record { from = omega arith; to = omega arith }))
+    sym ((one_slot_covers 1 layout granule s is.table).1 (inside, record { from = omega arith; to = omega arith }))
 
 -- which begins so many granules before
 pub place_in_share : (layout : Partition) (granule : ℕ) → granule / share_of layout < length layout.classes →

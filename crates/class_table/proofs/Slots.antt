@@ -103,8 +103,8 @@ spread_apart a b (slot ∷ slots) zero (suc r) spread before within = (spread_at
 spread_apart a b (slot ∷ slots) (suc s) (suc r) spread before within =
     spread_apart (end_of slot) b slots s r spread.2 (omega arith) (omega arith)
 
-pub in_order : (step : ℕ) (layout : Partition) → IsLegalTable step layout.classes → AreInOrder layout
-in_order step layout legal =
+pub legal_slots_are_in_order : (step : ℕ) (layout : Partition) → IsLegalTable step layout.classes → AreInOrder layout
+legal_slots_are_in_order step layout legal =
     let spread = spread_slots step layout legal in
     record {
       inside = λ s within. (spread_at 0 layout.granules (slots_of layout) s spread within).before;
@@ -135,9 +135,9 @@ length-slots_of_classes first share (class ∷ classes) =
     ∙ ap (λ n. share / class + n) (length-slots_of_classes (first + share) share classes)
     ∙ sym (sum_by-cons (λ class. share / class) class classes)
 
-pub slot_count-classes : (layout : Partition) → slot_count layout ≡ first_slot layout (length layout.classes)
+pub slots_of_classes_are_all : (layout : Partition) → slot_count layout ≡ first_slot layout (length layout.classes)
 unfolding slots_of
-slot_count-classes layout =
+slots_of_classes_are_all layout =
     length-slots_of_classes 0 (share_of layout) layout.classes
     ∙ ap (sum_by (λ class. share_of layout / class)) (sym (take_all (length layout.classes) layout.classes (omega arith)))
 
@@ -215,16 +215,16 @@ place_of layout s within =
     (subst (λ n. s < n) (length-slots_of_classes 0 (share_of layout) layout.classes) within) in
     record { number = place.number; k = place.k; within = place.within; fits = place.fits; is = place.is }
 
-pub class_of_slot : (layout : Partition) (s : ℕ) → s < slot_count layout → Contains layout.classes (slot_of layout s).class
-class_of_slot layout s within =
+pub slots_have_classes : (layout : Partition) (s : ℕ) → s < slot_count layout → Contains layout.classes (slot_of layout s).class
+slots_have_classes layout s within =
     let place = place_of layout s within in
     let slot = slot_of-class layout place.number place.k place.within place.fits in
     let class : (slot_of layout s).class ≡ get_or layout.classes place.number 0 =
     ap (λ s. (slot_of layout s).class) place.is ∙ ap (λ (slot : Slot). slot.class) slot in
     subst (Contains layout.classes) (sym class) (Contains-get_or layout.classes place.number 0 place.within)
 
-pub slot_is_small : (step : ℕ) (layout : Partition) (s : ℕ) → IsLegalTable step layout.classes → s < slot_count layout →
+pub slots_have_at_most_1024_granules : (step : ℕ) (layout : Partition) (s : ℕ) → IsLegalTable step layout.classes → s < slot_count layout →
     (slot_of layout s).class ≤ 1024
-slot_is_small step layout s table within =
+slots_have_at_most_1024_granules step layout s table within =
     (All-contains IsBlockSize layout.classes (slot_of layout s).class table.in_range
-    (class_of_slot layout s within)).1
+    (slots_have_classes layout s within)).1

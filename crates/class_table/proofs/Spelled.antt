@@ -11,13 +11,13 @@ use Rattle.class_table.specs.NamedLines.{numbers_in}
 use Rattle.class_table.specs.Sizes.{IsBlockSize}
 use Rattle.class_table.specs.Tables.{IsLegalTable}
 use Rattle.class_table.specs.declared.fault.TableError.{TableError}
-use Rattle.class_table.proofs.Legal.{classes-from_no_fault, legal-from_classes, classes-from_legal, no_fault-from_classes}
-use Rattle.class_table.proofs.NamedLines.{AreSmall, IsName, line-numbers_in, named_line-full, numbers_in-named_line, plain_name}
+use Rattle.class_table.proofs.Legal.{classes-from_no_fault, legal_table_of_classes, classes_of_legal_table, no_fault-from_classes}
+use Rattle.class_table.proofs.NamedLines.{AreSmall, IsName, line_of_read_numbers, named_line_is_full, named_numbers_are_read, plain_name}
 
 -- ---- classes
 
-pub of_classes : (classes table : List ℕ) → table_of_classes classes ≡ Ok table → (classes ≡ table) × IsLegalTable 1 table
-of_classes classes table e = go (ltb 32 (length classes)) refl (fault_from 0 classes) refl
+pub faultless_is_legal : (classes table : List ℕ) → table_of_classes classes ≡ Ok table → (classes ≡ table) × IsLegalTable 1 table
+faultless_is_legal classes table e = go (ltb 32 (length classes)) refl (fault_from 0 classes) refl
   where
     go : (many : Bool) → ltb 32 (length classes) ≡ many → (fault : Option TableError) → fault_from 0 classes ≡ fault →
         (classes ≡ table) × IsLegalTable 1 table
@@ -26,12 +26,12 @@ of_classes classes table e = go (ltb 32 (length classes)) refl (fault_from 0 cla
     go false h None k =
         let same : classes ≡ table = (let f = rw (h, k) at e in cc) in
         let few = ltb-false 32 (length classes) h in
-        (same, rw (← same) (legal-from_classes 1 1 classes (omega arith) few (classes-from_no_fault classes k)))
+        (same, rw (← same) (legal_table_of_classes 1 1 classes (omega arith) few (classes-from_no_fault classes k)))
 
-pub faultless : (classes : List ℕ) → IsLegalTable 1 classes → table_of_classes classes ≡ Ok classes
-faultless classes legal =
+pub legal_is_faultless : (classes : List ℕ) → IsLegalTable 1 classes → table_of_classes classes ≡ Ok classes
+legal_is_faultless classes legal =
     let few : ltb 32 (length classes) ≡ false = le-ltb 32 (length classes) legal.few in
-    rw (few, no_fault-from_classes classes (classes-from_legal 1 classes legal)) refl
+    rw (few, no_fault-from_classes classes (classes_of_legal_table 1 classes legal)) refl
 
 -- ---- what is spelled is read
 
@@ -43,7 +43,7 @@ classes_are_small table legal =
     All-weaker IsBlockSize (λ n. n < 2 ^ 64) (λ class within. omega (arith, within.1)) table legal.in_range
 
 pub class_line_is_full : (table : List ℕ) → IsLegalTable 1 table → IsFullLine (class_line table)
-class_line_is_full table legal = named_line-full (codes "classes") table classes_is_a_name (classes_are_small table legal)
+class_line_is_full table legal = named_line_is_full (codes "classes") table classes_is_a_name (classes_are_small table legal)
 
 -- a line is the text of itself, without a newline at the end
 pub line_is_its_text : (line : List ℕ) → IsTextOf line (line ∷ [])
@@ -57,45 +57,45 @@ pub lines-spelled : (text table : List ℕ) → SpellsTable text table → lines
 lines-spelled text table spells = one_line text (class_line table) (class_line_is_full table spells.legal) spells.line
 
 -- The line of a table is read as that table,
-pub table_of_line-legal : (table : List ℕ) → IsLegalTable 1 table → table_of_line (class_line table) ≡ Ok table
+pub table_line_is_read : (table : List ℕ) → IsLegalTable 1 table → table_of_line (class_line table) ≡ Ok table
 unfolding table_of_line
-table_of_line-legal table legal =
-    rw (numbers_in-named_line (codes "classes") table classes_is_a_name (classes_are_small table legal)) (faultless table legal)
+table_line_is_read table legal =
+    rw (named_numbers_are_read (codes "classes") table classes_is_a_name (classes_are_small table legal)) (legal_is_faultless table legal)
 
 -- and so is a text of that line.
-pub table_of-spelled : (text table : List ℕ) → SpellsTable text table → table_of text ≡ Ok table
+pub spelled_table_is_read : (text table : List ℕ) → SpellsTable text table → table_of text ≡ Ok table
 unfolding table_of
-table_of-spelled text table spells = rw (lines-spelled text table spells) (table_of_line-legal table spells.legal)
+spelled_table_is_read text table spells = rw (lines-spelled text table spells) (table_line_is_read table spells.legal)
 
 -- ---- what is read is spelled so
 
 of_numbers : (numbers : Option (List ℕ)) (table : List ℕ) → table_of_numbers numbers ≡ Ok table →
     (numbers ≡ Some table) × IsLegalTable 1 table
 of_numbers None table e = absurd cc
-of_numbers (Some ns) table e = let parts = of_classes ns table e in (ap Some parts.0, parts.1)
+of_numbers (Some ns) table e = let parts = faultless_is_legal ns table e in (ap Some parts.0, parts.1)
 
 -- What is read as a table is its line,
-pub line-table_of_line : (line table : List ℕ) → table_of_line line ≡ Ok table → (line ≡ class_line table) × IsLegalTable 1 table
+pub read_line_is_spelled : (line table : List ℕ) → table_of_line line ≡ Ok table → (line ≡ class_line table) × IsLegalTable 1 table
 unfolding table_of_line
-line-table_of_line line table e =
+read_line_is_spelled line table e =
     let parts = of_numbers (numbers_in (codes "classes") line) table e in
-    (line-numbers_in (codes "classes") line table parts.0 (classes_are_small table parts.1), parts.1)
+    (line_of_read_numbers (codes "classes") line table parts.0 (classes_are_small table parts.1), parts.1)
 
 of_lines : (text : List ℕ) (ls : List (List ℕ)) (table : List ℕ) → IsTextOf text ls →
     table_of_lines ls ≡ Ok table → SpellsTable text table
 of_lines text [] table same e = absurd cc
 of_lines text (line ∷ other ∷ ls) table same e = absurd cc
 of_lines text (line ∷ []) table same e =
-    let read = line-table_of_line line table e in
+    let read = read_line_is_spelled line table e in
     record { legal = read.1; line = subst (λ line. IsTextOf text (line ∷ [])) read.0 same }
 
 -- and a text that is read as one spells it.
-pub spelled-table_of : (text table : List ℕ) → table_of text ≡ Ok table → SpellsTable text table
+pub table_is_spelled : (text table : List ℕ) → table_of text ≡ Ok table → SpellsTable text table
 unfolding table_of
-spelled-table_of text table e = of_lines text (lines text) table (laws.text text) e
+table_is_spelled text table e = of_lines text (lines text) table (laws.text text) e
 
 -- a line alone is a text of that line, or of none where it is empty: no table either
-pub table_of-line : (line : List ℕ) → IsLine line → table_of line ≡ table_of_line line
+pub line_alone_is_read : (line : List ℕ) → IsLine line → table_of line ≡ table_of_line line
 unfolding table_of table_of_line lines words
-table_of-line [] is_line = refl
-table_of-line (b ∷ line) is_line = rw (one_line (b ∷ line) (b ∷ line) (is_line, omega arith) (line_is_its_text (b ∷ line))) refl
+line_alone_is_read [] is_line = refl
+line_alone_is_read (b ∷ line) is_line = rw (one_line (b ∷ line) (b ∷ line) (is_line, omega arith) (line_is_its_text (b ∷ line))) refl

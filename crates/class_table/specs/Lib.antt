@@ -1,9 +1,7 @@
 pub mod ClassLine
 pub mod Counts
 pub mod Faults
-pub mod Laws
 pub mod Layout
-pub mod LayoutLaws
 pub mod LayoutView
 pub mod FaultText
 pub mod NamedLines

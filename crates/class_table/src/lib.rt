@@ -6,7 +6,6 @@ mod counts;
 mod fault;
 pub mod laws;
 mod layout;
-pub mod layout_laws;
 mod sizes;
 mod table;
 

@@ -3,7 +3,6 @@ pub mod SourceChanges
 pub mod CallCounts
 pub mod Halves
 pub mod LeastEnds
-pub mod OneCount
 pub mod OneSheet
 pub mod ReadOff
 pub mod Rows

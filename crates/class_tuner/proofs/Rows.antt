@@ -1,14 +1,15 @@
 -- Rows of least costs, one after another.
-use Rattle.std.proofs.Common.{◌≡◌, ℕ, zero, suc, ◌+◌, ◌-◌, ◌<◌, ◌≤◌, List, [], ◌∷◌, ◌++◌, length, length-append, slice_index, get_or, arith, refl, ap, sym, subst, ◌∙◌, inl, inr}
+use Rattle.std.proofs.Common.{◌≡◌, ℕ, zero, suc, ◌+◌, ◌-◌, ◌<◌, ◌≤◌, List, [], ◌∷◌, ◌++◌, length, length-append, slice_index, get_or, arith, refl, ap, subst, ◌∙◌, inl, inr}
 use Rattle.std.specs.Prelude.{Vec, slice_index_or}
 use Rattle.std.specs.declared.alloc.Global.{Global}
 use Rattle.std.proofs.lemmas.Bool.{cases_lt}
-use Rattle.std.proofs.lemmas.List.{get_or_append_left, get_or-map, get_or_past}
+use Rattle.std.proofs.lemmas.List.{get_or_append_left, get_or_past}
 use Rattle.std.proofs.lemmas.List.Elements.{All-push}
 use Rattle.std.proofs.Math.Seq.{get_or-append_seam}
-use Rattle.class_tuner.specs.Filling.{IsFilledWithin}
-use Rattle.potential_check.specs.Lists.{lists_of}
-use Rattle.tuner_theory.specs.Rows.{HasShape, IsFilled, IsLeastEnd, number_at}
+use Rattle.class_tuner.specs.Filling.{IsFilledWithin, IsLeastAt}
+use Rattle.tuner_theory.specs.Lists.{lists_of}
+use Rattle.tuner_theory.specs.Rows.{HasShape, IsFilled, number_at}
+use Rattle.tuner_theory.proofs.Lists.{row-read_at}
 use Rattle.tuner_theory.proofs.Sheets.{rows-end}
 
 -- ---- numbers in rows
@@ -34,14 +35,9 @@ shape-one row d len = shape-pushed [] row 0 d (record { row_count = refl; row_le
 
 -- ---- one row
 
--- at place i, `number` is the least cost, and `end` has it, where the row before has the numbers `before`
-record IsLeastOver (cost : ℕ → ℕ → ℕ) (d : ℕ) (before : ℕ → ℕ) (i number end : ℕ) : Type 0 where
-  least : IsLeastEnd (λ j. cost i j + before j) i d end
-  is : number ≡ cost i end + before end
-
 least-same : (cost : ℕ → ℕ → ℕ) (d : ℕ) (before before' : ℕ → ℕ) (i number number' end end' : ℕ)
-    → ((j : ℕ) → before' j ≡ before j) → number' ≡ number → end' ≡ end → IsLeastOver cost d before i number end →
-    IsLeastOver cost d before' i number' end'
+    → ((j : ℕ) → before' j ≡ before j) → number' ≡ number → end' ≡ end → IsLeastAt cost d before i number end →
+    IsLeastAt cost d before' i number' end'
 least-same cost d before before' i number number' end end' same same_number same_end l =
     rw (same_number, same_end) (record {
       least = record {
@@ -50,7 +46,7 @@ least-same cost d before before' i number number' end end' same same_number same
         least = λ m lt le. omega (arith, same end, same m, l.least.least m lt le);
         first = λ m lt lt_end. omega (arith, same end, same m, l.least.first m lt lt_end);
       };
-      is = omega (arith, l.is, same end);
+      number_is = omega (arith, l.number_is, same end);
     })
 
 -- ---- rows
@@ -81,12 +77,12 @@ filled-more cost d k rows ends row end one f row_len end_len within = record {
           number_at-old rows row 1 i (omega arith) (omega (arith, f.rows_shape.row_count)) ∙ old.0,
           number_at-old ends end 1 i (omega arith) (omega (arith, f.ends_shape.row_count)) ∙ old.1,
         );
-    later_row = λ m i some few lt. let l = later m i some few lt in (l.least, l.is);
+    later_row = λ m i some few lt. let l = later m i some few lt in (l.least, l.number_is);
   };
 }
   where
     later : (m i : ℕ) → 1 ≤ m → m < suc k → i < d
-        → IsLeastOver cost d (number_at (rows ++ row ∷ []) m) i (number_at (rows ++ row ∷ []) (suc m) i)
+        → IsLeastAt cost d (number_at (rows ++ row ∷ []) m) i (number_at (rows ++ row ∷ []) (suc m) i)
         (number_at (ends ++ end ∷ []) (suc m) i)
     later m i some few lt =
         let before : (j : ℕ) → number_at (rows ++ row ∷ []) m j ≡ number_at rows m j =
@@ -96,7 +92,7 @@ filled-more cost d k rows ends row end one f row_len end_len within = record {
               least-same cost d (number_at rows m) (number_at (rows ++ row ∷ []) m) i _ _ _ _ before
               (number_at-old rows row (suc m) i (omega arith) (omega (arith, f.rows_shape.row_count)))
               (number_at-old ends end (suc m) i (omega arith) (omega (arith, f.ends_shape.row_count)))
-              (record { least = old.0; is = old.1 }))
+              (record { least = old.0; number_is = old.1 }))
           | inr past ↦ (let last : m ≡ k = omega arith in
               let new = within i (omega arith) lt in
               let at_last : (j : ℕ) → number_at (rows ++ row ∷ []) m j ≡ slice_index (slice_index_or rows (k - 1) []) j =
@@ -104,7 +100,7 @@ filled-more cost d k rows ends row end one f row_len end_len within = record {
               least-same cost d (slice_index (slice_index_or rows (k - 1) [])) (number_at (rows ++ row ∷ []) m) i _ _ _ _ at_last
               (number_at-new rows row m i (omega (arith, f.rows_shape.row_count)))
               (number_at-new ends end m i (omega (arith, f.ends_shape.row_count)))
-              (record { least = new.least; is = new.number_is }))
+              new)
         ]
 
 -- no number is above the largest cost of a span to the last place
@@ -129,17 +125,11 @@ filled-small cost d limit bound rows ends f small k j one le =
 
 -- ---- rows in vectors
 
-lists-length : (vectors : List (Vec ℕ Global)) → length (lists_of vectors) ≡ length vectors
-lists-length [] = refl
-lists-length (v ∷ vs) = ap suc (lists-length vs)
-
 -- a row that was read, by its vector
 pub row-read : (cost : ℕ → ℕ → ℕ) (d limit k : ℕ) (rows : List (Vec ℕ Global)) (ends : List (List ℕ)) (v : Vec ℕ Global) (row : List ℕ) →
     k < limit
     → IsFilled cost d limit (lists_of rows) ends → v ≡ slice_index_or rows k v → row ≡ v.items → row ≡ slice_index_or (lists_of rows) k []
-row-read cost d limit k rows ends v row lt f at is =
-    let inside : k < length rows = omega (arith, f.rows_shape.row_count, lists-length rows) in
-    is ∙ (ap (λ (v : Vec ℕ Global). v.items) at ∙ sym (get_or-map (λ (v : Vec ℕ Global). v.items) rows k v [] inside))
+row-read cost d limit k rows ends v row lt f at is = row-read_at rows k v row (omega (arith, f.rows_shape.row_count)) at is
 
 pub filled-pushed : (cost : ℕ → ℕ → ℕ) (d k : ℕ) (rows ends rows' ends' : List (List ℕ)) (row end before : List ℕ) → 1 ≤ k
     → IsFilled cost d k rows ends → length row ≡ d → length end ≡ d

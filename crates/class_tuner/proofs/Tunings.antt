@@ -5,12 +5,13 @@ use Rattle.class_table.specs.Tables.{IsLegalTable}
 use Rattle.class_table.specs.declared.table.TheConstants.{MOST_CLASSES}
 use Rattle.class_tuner.specs.Tuned.{IsTuned}
 use Rattle.potential_check.specs.Spanned.{IsSpanned, Spanned}
+use Rattle.tuner_theory.specs.Best.{IsCanonical}
+use Rattle.tuner_theory.specs.Intervals.{IsSumOfIntervals}
 use Rattle.tuner_theory.specs.Rows.{IsFilled, number_at}
-use Rattle.tuner_theory.specs.Spans.{places, span_waste}
+use Rattle.tuner_theory.specs.Spans.{places, span_waste, waste_between}
 use Rattle.tuner_theory.specs.Tuned.{AreTunedRows, tuned_table}
 use Rattle.tuner_theory.specs.Waste.{waste_of}
-use Rattle.tuner_theory.proofs.LawLemmas.{least_rows_are_valid, tuned_rows_are_rests, tuned_sheet_is_optimal}
-use Rattle.tuner_theory.proofs.LawLemmas.{tuned_table_is_canonical, tuned_table_wastes}
+use Rattle.tuner_theory.proofs.LawLemmas.{least_rows_are_valid, rows-canonical, rows-optimal_by, step-positive, tuned_rows_are_rests, waste-sum}
 
 -- a table that is legal for any step is legal for step 1
 legal-for_one : (step : ℕ) (classes : List ℕ) → IsLegalTable step classes → IsLegalTable 1 classes
@@ -26,25 +27,30 @@ module _ (s : Spanned) (limit : ℕ) (rows ends : List (List ℕ)) (spanned : Is
   tuned-rows : AreTunedRows s.counts s.step limit (number_at rows) (number_at ends)
   tuned-rows = record { is_step = spanned.is_step; are_counts = spanned.are_counts; some = some; few = few; least = filled.least }
 
+  sums : IsSumOfIntervals (waste_of s.counts) (waste_between s.counts s.step) s.counts s.step
+  sums = waste-sum s.counts s.step (step-positive s.step spanned.is_step)
+
+  made : IsCanonical s.counts s.step limit (tuned_table s.counts s.step limit (number_at ends))
+      × (waste_of s.counts (tuned_table s.counts s.step limit (number_at ends)) ≡ number_at rows limit 0)
+  made = rows-canonical _ _ s.counts s.step limit (number_at rows) (number_at ends) sums tuned-rows
+
   pub tuned-legal : IsLegalTable 1 (tuned_table s.counts s.step limit (number_at ends))
-  tuned-legal =
-      legal-for_one s.step (tuned_table s.counts s.step limit (number_at ends))
-      (tuned_table_is_canonical s.counts s.step limit (number_at rows) (number_at ends) tuned-rows).best.candidate.legal
+  tuned-legal = legal-for_one s.step (tuned_table s.counts s.step limit (number_at ends)) made.0.best.candidate.legal
 
   pub tuned-sheet : (table : List ℕ) (waste : ℕ) → table ≡ tuned_table s.counts s.step limit (number_at ends)
       → waste ≡ number_at rows limit 0
       → IsTuned s.counts s.step limit (record { table = table; limit = limit; step = s.step; waste = waste; rows = rows })
   tuned-sheet table waste table_is waste_is =
       let all : waste ≡ waste_of s.counts (tuned_table s.counts s.step limit (number_at ends)) =
-      waste_is ∙ sym (tuned_table_wastes s.counts s.step limit (number_at rows) (number_at ends) tuned-rows) in
+      waste_is ∙ sym made.1 in
       rw (table_is, all) (record {
-        canonical = tuned_table_is_canonical s.counts s.step limit (number_at rows) (number_at ends) tuned-rows;
+        canonical = made.0;
         for_limit = refl;
         for_step = refl;
         wasted = refl;
         shape = filled.rows_shape;
-        rests = λ k i one le lt. tuned_rows_are_rests s.counts s.step limit (number_at rows) (number_at ends) k i tuned-rows one le lt;
+        rests = λ k i one le lt. tuned_rows_are_rests s.counts s.step limit (number_at rows) (number_at ends) tuned-rows k i one le lt;
         valid = least_rows_are_valid (span_waste s.counts s.step) (places s.counts s.step) limit (number_at rows) (number_at ends)
             filled.least;
-        optimal = tuned_sheet_is_optimal s.counts s.step limit rows (number_at ends) tuned-rows filled.rows_shape;
+        optimal = rows-optimal_by _ (waste_between s.counts) s.counts s.step limit rows (number_at ends) sums tuned-rows filled.rows_shape;
       })

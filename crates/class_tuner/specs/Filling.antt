@@ -37,15 +37,15 @@ AreEndsBetween cost d before start stop low high = (i : ℕ) → start ≤ i →
 
 -- ---- what is filled
 
--- `end` is the least end of place i, and `number` its cost.
-pub record IsLeastAt (cost : ℕ → ℕ → ℕ) (d : ℕ) (before : List ℕ) (i number end : ℕ) : Type 0 where
-  pub least : IsLeastEnd (end_cost cost before i) i d end
-  pub number_is : number ≡ end_cost cost before i end
+-- `end` is the least end of place i, and `number` its cost, where the row before has the numbers `before`.
+pub record IsLeastAt (cost : ℕ → ℕ → ℕ) (d : ℕ) (before : ℕ → ℕ) (i number end : ℕ) : Type 0 where
+  pub least : IsLeastEnd (λ j. cost i j + before j) i d end
+  pub number_is : number ≡ cost i end + before end
 
 -- From place start to below stop, the row has the least costs, and `ends` their least ends.
 abbrev pub IsFilledWithin : (ℕ → ℕ → ℕ) → ℕ → List ℕ → List ℕ → List ℕ → ℕ → ℕ → Type 0
 IsFilledWithin cost d before row ends start stop =
-    (i : ℕ) → start ≤ i → i < stop → IsLeastAt cost d before i (slice_index row i) (slice_index ends i)
+    (i : ℕ) → start ≤ i → i < stop → IsLeastAt cost d (slice_index before) i (slice_index row i) (slice_index ends i)
 
 -- Before start and from stop on nothing is changed.
 abbrev pub IsKeptOutside : List ℕ → List ℕ → ℕ → ℕ → Type 0

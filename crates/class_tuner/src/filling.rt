@@ -2,7 +2,7 @@ ghost use Rattle.std.specs.Prelude.{◌≡◌, ◌+◌, ◌-◌, ◌*◌, ◌^�
 ghost use Rattle.class_tuner.specs.CallCounts.{bits, calls_of, most_calls, tried_in_row};
 ghost use Rattle.class_tuner.specs.Filling.{IsFirstRow, IsNextRow, IsSmallRow};
 ghost use Rattle.class_tuner.specs.SourceChanges.{OnlyCounts};
-ghost use Rattle.potential_check.specs.Lists.{lists_of};
+ghost use Rattle.tuner_theory.specs.Lists.{lists_of};
 ghost use Rattle.tuner_theory.specs.Rows.{IsFilled, number_at};
 
 use crate::cost_source::CostSource;

@@ -1,6 +1,6 @@
 //! One row by halving. The middle place comes first. By the law on spans that cross, a later place has no earlier least end. So the places
 //! before the middle need only the ends up to its least end, and the places after it only the ends from there on.
-ghost use Rattle.std.specs.Prelude.{◌≡◌, ◌+◌, ◌-◌, ◌*◌, ◌^◌, ◌≤◌};
+ghost use Rattle.std.specs.Prelude.{◌≡◌, ◌+◌, ◌-◌, ◌*◌, ◌^◌, ◌≤◌, slice_index};
 ghost use Rattle.class_tuner.specs.CallCounts.{AreCallsForPart};
 ghost use Rattle.class_tuner.specs.Filling.{AreEndsBetween, IsEndBetween, IsFilledWithin, IsLeastAt, IsPart, IsSmallRow, KeepsOutside};
 ghost use Rattle.class_tuner.specs.SourceChanges.{OnlyCounts};
@@ -69,7 +69,8 @@ fn least_end<C: CostSource>(
     requires window { IsWindowAfter place low high (C.place_count costs.old) }
     requires between { IsEndBetween (C.cost costs.old) (C.place_count costs.old) before.now place low high }
     requires room { C.call_count costs.old + (high - low) + 1 ≤ 2 ^ 63 }
-    ensures least { IsLeastAt (C.cost costs.old) (C.place_count costs.old) before.now place result.0 result.1 }
+    ensures least { let row = slice_index before.now in
+        IsLeastAt (C.cost costs.old) (C.place_count costs.old) row place result.0 result.1 }
     ensures inside { (low ≤ result.1) × (result.1 ≤ high) }
     ensures counted { C.call_count costs.new ≡ C.call_count costs.old + (high - low) + 1 }
     ensures only_counts { OnlyCounts C.CostSource costs.old costs.new }

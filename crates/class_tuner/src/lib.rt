@@ -6,7 +6,6 @@ mod cost_source;
 mod costs;
 mod filling;
 mod halving;
-pub mod laws;
 mod read_off;
 mod tuning;
 

@@ -1,6 +1,6 @@
 ghost use Rattle.std.specs.Prelude.{◌≡◌, ◌≤◌};
 ghost use Rattle.class_table.specs.Tables.{IsLegalTable};
-ghost use Rattle.potential_check.specs.Lists.{lists_of};
+ghost use Rattle.tuner_theory.specs.Lists.{lists_of};
 ghost use Rattle.tuner_theory.specs.Rows.{AreLaterEnds, number_at};
 ghost use Rattle.tuner_theory.specs.Spans.{places};
 ghost use Rattle.tuner_theory.specs.Tuned.{tuned_table};

@@ -3,5 +3,4 @@ pub mod CallCounts
 pub mod RowConditions
 pub mod Snapshots
 pub mod UpTo
-pub mod Vectors
 pub mod Verdicts

@@ -10,7 +10,7 @@ use Rattle.tuner_theory.specs.Footprint.{blocks_between, footprint_between, span
 use Rattle.tuner_theory.specs.Histories.{most}
 use Rattle.tuner_theory.specs.Spans.{counted_up_to, need_at, places, rounded_need}
 use Rattle.tuner_theory.proofs.FootprintLawLemmas.{span_footprints_fit}
-use Rattle.tuner_theory.proofs.LawLemmas.{places_ascend}
+use Rattle.tuner_theory.proofs.LawLemmas.{places_ascend, step-positive}
 use Rattle.tuner_theory.proofs.Sums.{sum_split}
 
 -- ---- blocks between by two sums
@@ -53,7 +53,7 @@ module _ (snapshots : List (List ℕ)) (counts : List ℕ) (step : ℕ) (sums : 
       )
 
   needs-up : (i j : ℕ) → i < j → j ≤ places counts step → need_at counts step i ≤ need_at counts step j
-  needs-up i j lt le = omega (arith, places_ascend counts step i j holds.is_step lt le)
+  needs-up i j lt le = omega (arith, places_ascend counts step (step-positive step holds.is_step) i j lt le)
 
   -- the sums of a snapshot ascend
   pub sums-size : (t : ℕ) → t < length snapshots → length (slice_index_or sums t []) ≡ places counts step + 1

@@ -1,4 +1,3 @@
 pub mod CallCounts
-pub mod Laws
 pub mod RowConditions
 pub mod SnapshotSums

@@ -1,7 +1,7 @@
 //! The rows of a fit, and the order in which they are tested.
 ghost use Rattle.std.specs.Prelude.{◌≡◌, ◌↔◌, IfOk, IsTrue};
 ghost use Rattle.potential_check.specs.FitView.{fit_of};
-ghost use Rattle.potential_check.specs.Lists.{lists_of};
+ghost use Rattle.tuner_theory.specs.Lists.{lists_of};
 ghost use Rattle.potential_check.specs.Spanned.{IsSpanned};
 ghost use Rattle.tuner_theory.specs.Fits.{IsFitVerdict, MeetsOnHistory};
 ghost use Rattle.tuner_theory.specs.Histories.{AreSnapshots, peaks};

@@ -1,6 +1,6 @@
 ghost use Rattle.std.specs.Prelude.{◌≡◌, ◌+◌, IfOk, refl};
 ghost use Rattle.std.proofs.Common.{add-zero, add_assoc, ap, sym};
-ghost use Rattle.potential_check.specs.Lists.{lists_of};
+ghost use Rattle.tuner_theory.specs.Lists.{lists_of};
 ghost use Rattle.potential_check.specs.Spanned.{IsSpanned};
 ghost use Rattle.tuner_theory.specs.Footprint.{span_footprint};
 ghost use Rattle.tuner_theory.specs.Histories.{AreSnapshots, peaks};

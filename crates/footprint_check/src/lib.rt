@@ -4,7 +4,6 @@
 mod checker;
 mod fit_rows;
 mod history_spans;
-pub mod laws;
 mod row_tests;
 mod snapshot_sums;
 mod span_costs;

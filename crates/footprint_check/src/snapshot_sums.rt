@@ -1,6 +1,6 @@
 ghost use Rattle.std.specs.Prelude.{◌≡◌, ℕ, ◌+◌, ◌*◌, ◌^◌, ◌<◌, ◌≤◌, length, slice_index, slice_index_or, IfOk};
 ghost use Rattle.footprint_check.specs.SnapshotSums.{AreMostBlocks, HoldsHistory, IsRaised};
-ghost use Rattle.potential_check.specs.Lists.{lists_of};
+ghost use Rattle.tuner_theory.specs.Lists.{lists_of};
 ghost use Rattle.tuner_theory.specs.Footprint.{span_footprint};
 ghost use Rattle.tuner_theory.specs.Spans.{counted_up_to, need_at, places};
 ghost use Rattle.potential_check.specs.Spanned.{AreSumsUpTo, IsSpanned};

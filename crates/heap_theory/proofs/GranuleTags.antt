@@ -4,7 +4,7 @@ use Rattle.std.specs.Prelude.{nat_le, nat_lt}
 use Rattle.std.proofs.lemmas.Bool.{cases_lt, eqb-true, eqb-false, and_cases, leb-false, ltb-false}
 use Rattle.machine_theory.specs.Memory.{tag_at, is_among}
 use Rattle.class_table.specs.Layout.{Slot, Covers, slot_over}
-use Rattle.class_table.specs.LayoutLaws.{OneSlotCovers}
+use Rattle.class_table.proofs.LawLemmas.{one_slot_covers}
 use Rattle.heap_theory.specs.Hardening.{IsBookkeeping, IsChunkGranule, IsPayloadGranule, ChunksAreTagged, ParitiesDiffer}
 use Rattle.heap_theory.specs.GranuleKinds.{kind_of_chunk, kind_in_slot, kind_at, place_kind}
 use Rattle.heap_theory.specs.Sound.{IsTagOf, IsTaggedSlot, IsSoundHeap}
@@ -26,15 +26,15 @@ in_slot_tag : (h : Heap) (s g : ℕ) → Covers (slot_in h s) g → IsTaggedSlot
     IsBookkeeping (kind_in_slot (slot_in h s) (state_at h s) g) → tag_at h.memory g ≡ 0
 in_slot_tag h s g c t book = grind (arith, eqb-false, eqb-true, no_chunk, not_among)
 
-pub bookkeeping_tag : OneSlotCovers → (h : Heap) (g : ℕ) → IsSoundHeap h → IsBookkeeping (place_kind h g) → tag_at h.memory g ≡ 0
+pub bookkeeping_tag : (h : Heap) (g : ℕ) → IsSoundHeap h → IsBookkeeping (place_kind h g) → tag_at h.memory g ≡ 0
 unfolding place_kind
-bookkeeping_tag one_covers h g sound book = by_slot (slot_over h.layout g) refl book
+bookkeeping_tag h g sound book = by_slot (slot_over h.layout g) refl book
   where
     by_slot : (o : Option ℕ) → slot_over h.layout g ≡ o → IsBookkeeping (kind_at h o g) → tag_at h.memory g ≡ 0
     by_slot None was book =
-        sound.slack g (λ s within c. let some = sym was ∙ (one_covers 1 h.layout g s sound.partition.table).1 (within, c) in absurd cc)
+        sound.slack g (λ s within c. let some = sym was ∙ (one_slot_covers 1 h.layout g s sound.partition.table).1 (within, c) in absurd cc)
     by_slot (Some s) was book =
-        let at = (one_covers 1 h.layout g s sound.partition.table).0 was in in_slot_tag h s g at.1 (sound.tagged s at.0) book
+        let at = (one_slot_covers 1 h.layout g s sound.partition.table).0 was in in_slot_tag h s g at.1 (sound.tagged s at.0) book
 
 -- ---- the tags of payloads
 

@@ -60,7 +60,7 @@ module _ (w : Run) (sound : IsSoundRun w) where
   bookkeeping_out_of_reach v off len address g a within t book = elim (sound.variables v).null_or_tagged [
     | inl null ↦ absurd (null_never_touches v off len address g a within t null)
     | inr tagged ↦ other_tag_faults v off len address g a within t
-        (λ same. tagged (sym same ∙ bookkeeping_tag laws.one_slot_covers w.replay.heap g sound.heap book))
+        (λ same. tagged (sym same ∙ bookkeeping_tag w.replay.heap g sound.heap book))
   ]
 
   -- ---- neighbours

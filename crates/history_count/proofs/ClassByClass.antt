@@ -16,7 +16,7 @@ use Rattle.tuner_theory.specs.Intervals.{cost_above}
 use Rattle.tuner_theory.specs.Profiles.{AreCounts, greatest_count}
 use Rattle.tuner_theory.specs.Spans.{rounded_need}
 use Rattle.tuner_theory.specs.Waste.{sum_below}
-use Rattle.tuner_theory.proofs.Footprint.{footprint-sum}
+use Rattle.tuner_theory.proofs.Footprint.{footprint_is_sum}
 use Rattle.tuner_theory.proofs.Rounding.{fits-rounded, rounded-fits, rounded-positive}
 use Rattle.tuner_theory.proofs.Sums.{sum_below-more, sum_none}
 use Rattle.history_count.specs.Histories.{blocks_from}
@@ -113,7 +113,7 @@ module _ (snapshots : List (List ℕ)) (table : List ℕ) (are : AreSnapshots sn
   taken-none = record {
     low = 1;
     cut = cut-none;
-    summed = omega (arith, (footprint-sum snapshots 1 (omega arith) are).sum table legal);
+    summed = omega (arith, (footprint_is_sum snapshots 1 (omega arith) are).sum table legal);
     small = omega arith;
     inside = omega arith;
     before = λ within. omega (arith, (legal.in_range 0 0 within).0);

@@ -1,34 +1,12 @@
 -- The counts of one size in all snapshots, and what is left where they are set.
 use Rattle.std.proofs.Common.{◌≡◌, ◌≢◌, ℕ, zero, suc, ◌+◌, ◌<◌, ◌≤◌, List, [], ◌∷◌, length, get_or, set, take, refl, sym, ap, ◌∙◌, arith}
-use Rattle.std.specs.Prelude.{All, Vec, slice_index_or, slice_set}
-use Rattle.std.specs.Vec.{with_item}
-use Rattle.std.specs.declared.alloc.Global.{Global}
+use Rattle.std.specs.Prelude.{All}
 use Rattle.std.proofs.lemmas.Grind.{same_number_lists}
-use Rattle.std.proofs.lemmas.List.{get_or-map, get_or-set_other, get_or-set_same, length-set, map-set}
+use Rattle.std.proofs.lemmas.List.{get_or-set_other, get_or-set_same, length-set}
 use Rattle.std.proofs.lemmas.List.Elements.{All-cons, All-head, All-nil, All-set, All-tail}
 use Rattle.class_table.specs.Sizes.{largest_counted}
 use Rattle.tuner_theory.specs.Profiles.{AreCounts, greatest_count}
-use Rattle.history_count.specs.Histories.{counts_of, lists_of, with_counts}
-
-pub lists-length : (vectors : List (Vec ℕ Global)) → length (lists_of vectors) ≡ length vectors
-lists-length [] = refl
-lists-length (v ∷ vs) = ap suc (lists-length vs)
-
--- one count of one snapshot
-pub set-lists : (rows : List (Vec ℕ Global)) (k place x : ℕ) (d : Vec ℕ Global) → k < length rows
-    → lists_of (slice_set rows k (with_item (slice_index_or rows k d) place x))
-    ≡ slice_set (lists_of rows) k (slice_set (slice_index_or (lists_of rows) k []) place x)
-set-lists rows k place x d lt =
-    map-set (λ (v : Vec ℕ Global). v.items) rows k (with_item (slice_index_or rows k d) place x)
-    ∙ ap (λ (row : List ℕ). slice_set (lists_of rows) k (slice_set row place x))
-    (sym (get_or-map (λ (v : Vec ℕ Global). v.items) rows k d [] lt))
-
--- a snapshot that was read
-pub row-read_at : (rows : List (Vec ℕ Global)) (k : ℕ) (v : Vec ℕ Global) (row : List ℕ) → k < length (lists_of rows)
-    → v ≡ slice_index_or rows k v → row ≡ v.items → row ≡ slice_index_or (lists_of rows) k []
-row-read_at rows k v row lt at is =
-    let inside : k < length rows = omega (arith, lt, lists-length rows) in
-    is ∙ ap (λ (v : Vec ℕ Global). v.items) at ∙ sym (get_or-map (λ (v : Vec ℕ Global). v.items) rows k v [] inside)
+use Rattle.history_count.specs.Histories.{counts_of, with_counts}
 
 -- ---- the snapshots with other counts of one size
 

@@ -1,21 +1,19 @@
 -- The line at which a text is refused as a history is its first fault.
 use Rattle.std.proofs.Common.{◌≡◌, ℕ, suc, ◌+◌, ◌-◌, ◌≤◌, ◌⊎◌, max, List, [], ◌∷◌, length, take, Option, Some, None, Result, Ok, Err}
 use Rattle.std.proofs.Common.{refl, sym, ap, ◌∙◌, arith, inl, inr, append-nil}
-use Rattle.std.specs.Prelude.{All}
+use Rattle.std.specs.Prelude.{All, ◌↔◌}
 use Rattle.std.proofs.lemmas.Bool.{cases_lt}
 use Rattle.std.proofs.lemmas.List.Elements.{All-cons, All-nil, All-take}
 use Rattle.line_text.specs.FirstFault.{IsFirstFault}
 use Rattle.line_text.specs.Lines.{IsLine, lines, text_of, words}
-use Rattle.line_text.proofs.LawLemmas.{text_laws as laws}
-use Rattle.profile_count.proofs.LawLemmas.{IsLineByLine, first_fault_is_a_refusal, refusal_has_its_place, refusal_is_first_fault}
+use Rattle.line_text.proofs.LawLemmas.{IsLineByLine, first_fault_is_a_refusal, refusal_has_its_place, refusal_is_first_fault, text_laws as laws}
 use Rattle.history_count.specs.Histories.{History}
-use Rattle.history_count.specs.HistoryText.{Entry, Reading, SpellsHistory, first_reading, history_after, history_from, history_of, history_of_lines, next_entry, snapshots_line, snapshots_of, with_entry}
-use Rattle.history_count.specs.Laws.{IsRefusedAt}
+use Rattle.history_count.specs.HistoryText.{Entry, IsRefusedAt, Reading, SpellsHistory, first_reading, history_after, history_from, history_of, history_of_lines, next_entry, snapshots_line, snapshots_of, with_entry}
 use Rattle.history_count.specs.declared.fault.HistoryFault.{HistoryFault}
 use Rattle.history_count.specs.declared.fault.HistoryFault.TheVariants.{BadSnapshots}
 use Rattle.history_count.proofs.LineByLine.{first_line_read, line_faulty, line_read, no_line}
-use Rattle.history_count.proofs.ReadIsSpelled.{spelled-history_of}
-use Rattle.history_count.proofs.SpelledIsRead.{history_of-spelled, snapshots_line-full, snapshots_of-line}
+use Rattle.history_count.proofs.ReadIsSpelled.{history_is_spelled}
+use Rattle.history_count.proofs.SpelledIsRead.{spelled_history_is_read, snapshots_line-full, snapshots_of-line}
 
 -- ---- one reading of all lines: before the first line there is none
 
@@ -103,19 +101,19 @@ reads = record { at_line = next_line; at_end = no_more; goes_on = goes_on }
 -- ---- the first fault
 
 spelled : (text : List ℕ) (h : History) → read_from 1 start (lines text) ≡ Ok h → SpellsHistory text h
-spelled text h is = spelled-history_of text h (all_lines (lines text) ∙ is)
+spelled text h is = history_is_spelled text h (all_lines (lines text) ∙ is)
 
 read : (text : List ℕ) (h : History) → SpellsHistory text h → read_from 1 start (lines text) ≡ Ok h
-read text h spells = sym (all_lines (lines text)) ∙ history_of-spelled text h spells
+read text h spells = sym (all_lines (lines text)) ∙ spelled_history_is_read text h spells
 
-pub first_fault-refused : (text : List ℕ) (n : ℕ) → IsRefusedAt n text → IsFirstFault SpellsHistory text n
-first_fault-refused text n refused =
-    refusal_is_first_fault read_from reads SpellsHistory start spelled read text n refused.0 (sym (all_lines (lines text)) ∙ refused.1)
-
-pub refused-first_fault : (text : List ℕ) (n : ℕ) → IsFirstFault SpellsHistory text n → IsRefusedAt n text
-refused-first_fault text n first =
-    let refused = first_fault_is_a_refusal read_from reads SpellsHistory start spelled read text n first in
-    (refused.0, all_lines (lines text) ∙ refused.1)
+pub first_fault_is_refused : (text : List ℕ) (n : ℕ) → IsRefusedAt n text ↔ IsFirstFault SpellsHistory text n
+first_fault_is_refused text n = (
+  λ refused. refusal_is_first_fault read_from reads SpellsHistory start spelled read text n refused.0
+      (sym (all_lines (lines text)) ∙ refused.1),
+  λ first.
+      let refused = first_fault_is_a_refusal read_from reads SpellsHistory start spelled read text n first in
+      (refused.0, all_lines (lines text) ∙ refused.1),
+)
 
 -- ---- a fault after the first line
 
@@ -150,8 +148,8 @@ is_later text n fault later e = go (lines text) refl e
     go (line ∷ ls) parts e = after line ls parts (snapshots_of (words line)) refl e
 
 -- The line of a fault is there, unless it is the first,
-pub within-refused : (text : List ℕ) (n : ℕ) → IsRefusedAt n text → n ≤ max 1 (length (lines text))
-within-refused text n refused =
+pub refused_line_is_there : (text : List ℕ) (n : ℕ) → IsRefusedAt n text → n ≤ max 1 (length (lines text))
+refused_line_is_there text n refused =
     elim (cases_lt 1 n) [
       | inr first ↦ omega arith
       | inl later ↦ (let is = is_later text n refused.0 later refused.1 in
@@ -167,19 +165,19 @@ within-refused text n refused =
     read_or_refused h fault e = absurd cc
 
 -- and the lines before it alone spell a history, where there are some.
-pub front-refused : (text : List ℕ) (n : ℕ) → 2 ≤ n → IsRefusedAt n text
+pub lines_before_it_spell : (text : List ℕ) (n : ℕ) → 2 ≤ n → IsRefusedAt n text
     → (h : History) × SpellsHistory (text_of (take (n - 1) (lines text))) h
-front-refused text n later refused =
+lines_before_it_spell text n later refused =
     let is = is_later text n refused.0 later refused.1 in
     let at = refusal_has_its_place history_from later_reads is.others 2 (first_reading is.count) n refused.0 is.refused in
     let k = at.0 in
     let before : n - 1 ≡ suc k = omega (arith, at.1) in
     let front = take (n - 1) (lines text) in
-    let are : lines (text_of front) ≡ front = laws.written_lines front (All-take IsLine (n - 1) (lines text) (laws.lines text)) in
+    let are : lines (text_of front) ≡ front = laws.written_lines front (All-take IsLine (n - 1) (lines text) (laws.all_lines text)) in
     let parts : front ≡ is.line ∷ take k is.others = rw (before, is.parts) refl in
     let rest : history_from 2 (first_reading is.count) (take k is.others) ≡ Ok at.2.reached.history =
     ap (history_from 2 (first_reading is.count)) (sym (append-nil (take k is.others))) ∙ at.2.before []
     ∙ no_line (2 + k) at.2.reached [] refl in
     let read : history_of (text_of front) ≡ Ok at.2.reached.history =
     first_line_read (text_of front) is.line (take k is.others) is.count (are ∙ parts) is.counted ∙ rest in
-    (at.2.reached.history, spelled-history_of (text_of front) at.2.reached.history read)
+    (at.2.reached.history, history_is_spelled (text_of front) at.2.reached.history read)

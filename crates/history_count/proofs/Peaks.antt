@@ -7,7 +7,7 @@ use Rattle.std.proofs.lemmas.List.{get_or-set_other, get_or-set_same, length-rep
 use Rattle.std.proofs.lemmas.List.Elements.{All-cons, All-from_get_or, All-head, All-nil, All-tail}
 use Rattle.class_table.specs.Sizes.{largest_counted}
 use Rattle.profile_count.specs.Counts.{nothing_counted as no_requests, with_count, zeros}
-use Rattle.profile_count.proofs.LawLemmas.{each_is_zero, zeros_are_counts}
+use Rattle.profile_count.proofs.LawLemmas.{each_is_zero, length-zeros, zeros_are_counts}
 use Rattle.tuner_theory.specs.Histories.{most, peaks}
 use Rattle.tuner_theory.specs.Profiles.{AreCounts, Profile, greatest_count}
 use Rattle.tuner_theory.specs.declared.most_snapshots.TheConstants.{MOST_SNAPSHOTS}
@@ -45,10 +45,6 @@ greatest-small [] small = omega arith
 greatest-small (c ∷ cs) small = omega (arith, small 0 c (omega arith), greatest-small cs (λ k d lt. small (suc k) d (omega arith)))
 
 -- ---- nothing counted
-
-pub zeros-length : (n : ℕ) → length (zeros n) ≡ n
-unfolding zeros
-zeros-length n = length-replicate n 0
 
 pub zeros-small : (n : ℕ) → All (λ count. count ≤ greatest_count) (zeros n)
 zeros-small n = All-from_get_or (λ count. count ≤ greatest_count) (zeros n) 0 (λ k within. rw (each_is_zero n k) (omega arith))
@@ -106,7 +102,7 @@ pub holds-empty : (count : ℕ) → 1 ≤ count → count ≤ MOST_SNAPSHOTS →
 holds-empty count some few = record {
   is_history = record {
     snapshots = record { some = omega (arith, empty-length count); few = omega (arith, empty-length count); counts = empty-counts count };
-    large_size = zeros-length count ∙ sym (empty-length count);
+    large_size = length-zeros count ∙ sym (empty-length count);
     large = zeros-small count;
   };
   peaks = same_profile _ _ (sym (peaks-empty count));

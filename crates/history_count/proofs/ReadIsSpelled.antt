@@ -16,10 +16,11 @@ use Rattle.history_count.specs.HistoryText.{Entry, Reading, SpellsHistory, count
 use Rattle.history_count.specs.declared.fault.HistoryFault.{HistoryFault}
 use Rattle.history_count.specs.declared.line.Subject.{Subject}
 use Rattle.history_count.specs.declared.line.Subject.TheVariants.{Large, Size}
+use Rattle.profile_count.proofs.LawLemmas.{length-zeros}
 use Rattle.history_count.proofs.Columns.{counts_of-other, counts_of-same, with_counts-length}
 use Rattle.history_count.proofs.EntryLines.{IsNext, entry_line, entry_line-read}
 use Rattle.history_count.proofs.OpenReadings.{IsOpen, is_open-first, is_open-size, size_entry}
-use Rattle.history_count.proofs.Peaks.{empty-length, zeros-length, zeros-small}
+use Rattle.history_count.proofs.Peaks.{empty-length, zeros-small}
 use Rattle.history_count.proofs.SizeLines.{counts_lines-none, counts_lines-some, size_lines-counted, size_lines-none, size_lines-passed, size_lines_from, zeros-none}
 
 -- After a reading, lines spell a history: what it counts from the next size on, and its large blocks. Below that size it counts what was
@@ -42,7 +43,7 @@ spells_rest-nil r is_open =
     record {
       is_history = record {
         snapshots = is_open.snapshots;
-        large_size = ap length is_open.large ∙ zeros-length count;
+        large_size = ap length is_open.large ∙ length-zeros count;
         large = rw is_open.large (zeros-small count);
       };
       size = refl;
@@ -175,8 +176,8 @@ snapshots-read line count e = go (words line) refl e
         named true f = numbered first second parts ((bytes_eq-Decides first (codes "snapshots")).0 f) (number_of second) refl (rw f at e)
 
 -- What is read as a history is its text.
-pub spelled-history_of : (text : List ℕ) (h : History) → history_of text ≡ Ok h → SpellsHistory text h
-spelled-history_of text h e = go (lines text) refl e
+pub history_is_spelled : (text : List ℕ) (h : History) → history_of text ≡ Ok h → SpellsHistory text h
+history_is_spelled text h e = go (lines text) refl e
   where
     after : (line : List ℕ) (ls : List (List ℕ)) → lines text ≡ line ∷ ls → (o : Option ℕ) → snapshots_of (words line) ≡ o
         → history_after o ls ≡ Ok h → SpellsHistory text h

@@ -12,11 +12,12 @@ use Rattle.tuner_theory.specs.declared.most_snapshots.TheConstants.{MOST_SNAPSHO
 use Rattle.history_count.specs.Histories.{History, IsHistory, counts_of}
 use Rattle.history_count.specs.HistoryText.{Entry, Reading, SpellsHistory, counts_lines, first_reading, history_from, history_lines, history_of, is_some_counted, size_lines, snapshots_line, snapshots_of, with_entry}
 use Rattle.history_count.specs.declared.line.Subject.TheVariants.{Large}
+use Rattle.profile_count.proofs.LawLemmas.{length-zeros}
 use Rattle.history_count.proofs.Columns.{counts_of-length, counts_of-other, counts_of-same, same_snapshots, with_counts-length}
 use Rattle.history_count.proofs.EntryLines.{IsNext, entry_line, entry_line-full, entry_of-line}
 use Rattle.history_count.proofs.LineByLine.{first_line_read, line_read, no_line}
 use Rattle.history_count.proofs.OpenReadings.{IsOpen, is_open-first, is_open-size, size_entry}
-use Rattle.history_count.proofs.Peaks.{counts-small, empty-length, zeros-length}
+use Rattle.history_count.proofs.Peaks.{counts-small, empty-length}
 use Rattle.history_count.proofs.SizeLines.{counts_lines-none, counts_lines-some, same_nothing, size_lines-counted, size_lines-zero, zeros-none}
 
 -- ---- lines are read one by one
@@ -40,7 +41,7 @@ history_from-large_lines number r h is_open is_history same = go (is_some_counte
     go : (counted : Bool) → is_some_counted h.large ≡ counted → history_from number r (counts_lines (codes "large") h.large) ≡ Ok h
     go false none =
         let size : length r.history.large ≡ length h.large =
-        ap length is_open.large ∙ zeros-length (length r.history.snapshots) ∙ ap length same ∙ sym is_history.large_size in
+        ap length is_open.large ∙ length-zeros (length r.history.snapshots) ∙ ap length same ∙ sym is_history.large_size in
         let nothing : is_some_counted r.history.large ≡ false = rw is_open.large (zeros-none (length r.history.snapshots)) in
         let large : r.history.large ≡ h.large = same_nothing r.history.large h.large size nothing none in
         rw (counts_lines-none (codes "large") h.large none)
@@ -173,8 +174,8 @@ module _ (count : ℕ) (some : 1 ≤ count) (few : count ≤ MOST_SNAPSHOTS) whe
       ) refl
 
 -- The text of a history is read as that history.
-pub history_of-spelled : (text : List ℕ) (h : History) → SpellsHistory text h → history_of text ≡ Ok h
-history_of-spelled text h spells =
+pub spelled_history_is_read : (text : List ℕ) (h : History) → SpellsHistory text h → history_of text ≡ Ok h
+spelled_history_is_read text h spells =
     let is = spells.history in
     let count = length h.snapshots in
     let sizes = size_lines-full h.snapshots (largest_counted + 1) 0 (omega arith) is.snapshots.counts in

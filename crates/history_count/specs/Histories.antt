@@ -1,6 +1,5 @@
 -- Histories as they are read: the snapshots, and how many large blocks were live at each of them.
-use Rattle.std.specs.Prelude.{◌≡◌, ℕ, ◌+◌, ◌-◌, ◌≤◌, max, List, [], ◌∷◌, Vec, length, map, replicate, slice_index, slice_set, All}
-use Rattle.std.specs.declared.alloc.Global.{Global}
+use Rattle.std.specs.Prelude.{◌≡◌, ℕ, ◌+◌, ◌-◌, ◌≤◌, max, List, [], ◌∷◌, length, map, replicate, slice_index, slice_set, All}
 use Rattle.class_table.specs.Sizes.{largest_counted}
 use Rattle.profile_count.specs.Counts.{zeros}
 use Rattle.tuner_theory.specs.Histories.{AreSnapshots, peaks}
@@ -49,7 +48,3 @@ blocks_from from end snapshot = sum_below (slice_index snapshot) end - sum_below
 pub record HoldsHistory (history : History) (kept : Profile) : Type 0 where
   pub is_history : IsHistory history
   pub peaks : kept ≡ peak_profile history.snapshots
-
--- Vectors as lists.
-abbrev pub lists_of : List (Vec ℕ Global) → List (List ℕ)
-lists_of vectors = map (λ (v : Vec ℕ Global). v.items) vectors

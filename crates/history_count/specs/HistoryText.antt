@@ -161,6 +161,10 @@ history_of_lines (line ∷ ls) = history_after (snapshots_of (words line)) ls
 abbrev pub history_of : List ℕ → Result History (ℕ × HistoryFault)
 history_of text = history_of_lines (lines text)
 
+-- The text is refused as a history at this line.
+abbrev pub IsRefusedAt : ℕ → List ℕ → Type 0
+IsRefusedAt n text = (fault : HistoryFault) × (history_of text ≡ Err (n, fault))
+
 -- What a reader returned is what the definition says, unless memory ran out.
 abbrev pub GivesHistory : Result History HistoryError → Result History (ℕ × HistoryFault) → Type 0
 GivesHistory (Ok history) read = read ≡ Ok history

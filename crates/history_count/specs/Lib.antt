@@ -1,5 +1,4 @@
 pub mod FaultText
 pub mod Histories
 pub mod HistoryText
-pub mod Laws
 pub mod LineView

@@ -2,7 +2,8 @@
 //! it.
 ghost use Rattle.std.specs.Prelude.{◌≡◌, ◌<◌, ◌≤◌, ◌+◌, ◌-◌, ◌*◌, ◌^◌, ℕ, length, slice_index};
 ghost use Rattle.class_table.specs.Sizes.{IsBlockSize};
-ghost use Rattle.history_count.specs.Histories.{blocks_from, lists_of};
+ghost use Rattle.history_count.specs.Histories.{blocks_from};
+ghost use Rattle.tuner_theory.specs.Lists.{lists_of};
 ghost use Rattle.tuner_theory.specs.Footprint.{footprint_of};
 ghost use Rattle.tuner_theory.specs.Histories.{AreSnapshots, most};
 ghost use Rattle.tuner_theory.specs.Profiles.{AreCounts};

@@ -5,7 +5,8 @@ ghost use Rattle.tuner_theory.specs.Footprint.{footprint_of};
 ghost use Rattle.tuner_theory.specs.Histories.{peaks};
 ghost use Rattle.tuner_theory.specs.Profiles.{AreCounts, IsCounted, greatest_count};
 ghost use Rattle.tuner_theory.specs.Waste.{Serves};
-ghost use Rattle.history_count.specs.Histories.{IsHistory, greatest_of, lists_of, nothing_counted, peak_profile, with_counts};
+ghost use Rattle.history_count.specs.Histories.{IsHistory, greatest_of, nothing_counted, peak_profile, with_counts};
+ghost use Rattle.tuner_theory.specs.Lists.{lists_of};
 
 use crate::footprint::table_bytes;
 use class_table::{ClassTable, LARGEST_COUNTED};
@@ -30,7 +31,8 @@ pub struct History {
 }
 
 impl Model for History {
-    ghost use Rattle.history_count.specs.Histories.{History as Counted, HoldsHistory, lists_of};
+    ghost use Rattle.history_count.specs.Histories.{History as Counted, HoldsHistory};
+    ghost use Rattle.tuner_theory.specs.Lists.{lists_of};
 
     ghost Value = { Counted };
 

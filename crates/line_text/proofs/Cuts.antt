@@ -36,11 +36,11 @@ cut_at byte bytes i found =
 
 -- ---- a text and its lines
 
-pub lines-ended : (line text : List ℕ) → IsLine line → lines (line ++ 10 ∷ text) ≡ line ∷ lines text
+pub line_in_front_is_read : (line text : List ℕ) → IsLine line → lines (line ++ 10 ∷ text) ≡ line ∷ lines text
 unfolding lines
-lines-ended [] text all = refl
-lines-ended (b ∷ line) text all =
-    rw (All-head (λ x. is_newline x ≡ false) b line all, lines-ended line text (All-tail (λ x. is_newline x ≡ false) b line all)) refl
+line_in_front_is_read [] text all = refl
+line_in_front_is_read (b ∷ line) text all =
+    rw (All-head (λ x. is_newline x ≡ false) b line all, line_in_front_is_read line text (All-tail (λ x. is_newline x ≡ false) b line all)) refl
 
 pub line_alone : (line : List ℕ) → 0 < length line → IsLine line → lines line ≡ line ∷ []
 unfolding lines
@@ -51,7 +51,7 @@ line_alone (b ∷ c ∷ line) some all =
     (ap (onto_first b) (line_alone (c ∷ line) (omega arith) (All-tail (λ x. is_newline x ≡ false) b (c ∷ line) all)))
 
 pub lines_at : (text : List ℕ) (i : ℕ) → IsFirstByte (is_byte 10) text (Some i) → lines text ≡ take i text ∷ lines (drop (i + 1) text)
-lines_at text i found = ap lines (cut_at 10 text i found) ∙ lines-ended (take i text) (drop (i + 1) text) (lacks_before 10 text i found)
+lines_at text i found = ap lines (cut_at 10 text i found) ∙ line_in_front_is_read (take i text) (drop (i + 1) text) (lacks_before 10 text i found)
 
 pub lines-nil : (text : List ℕ) → length text ≡ 0 → lines text ≡ []
 unfolding lines
@@ -63,7 +63,7 @@ pub lines-text_of : (ls : List (List ℕ)) (text : List ℕ) → All IsLine ls �
 lines-text_of [] text all = refl
 lines-text_of (line ∷ ls) text all =
     rw (flat_map-cons, append_assoc, append_assoc)
-    (lines-ended line (text_of ls ++ text) (All-head IsLine line ls all)
+    (line_in_front_is_read line (text_of ls ++ text) (All-head IsLine line ls all)
     ∙ ap (λ (t : List (List ℕ)). line ∷ t) (lines-text_of ls text (All-tail IsLine line ls all)))
 
 -- a byte in front of the first part, where the byte is not the one at which the parts were cut
@@ -73,10 +73,10 @@ All-onto_first cut b (part ∷ parts) other all =
     All-cons (Lacks cut) (b ∷ part) parts (All-cons (λ x. eqb x cut ≡ false) b part other (All-head (Lacks cut) part parts all))
     (All-tail (Lacks cut) part parts all)
 
-pub All-lines : (text : List ℕ) → All IsLine (lines text)
+pub lines_are_lines : (text : List ℕ) → All IsLine (lines text)
 unfolding lines
-All-lines [] = All-nil _
-All-lines (b ∷ text) = go (is_newline b) refl (All-lines text)
+lines_are_lines [] = All-nil _
+lines_are_lines (b ∷ text) = go (is_newline b) refl (lines_are_lines text)
   where
     go : (v : Bool) → is_newline b ≡ v → All IsLine (lines text) → All IsLine (cond v ([] ∷ lines text) (onto_first b (lines text)))
     go true e all = All-cons IsLine [] (lines text) (All-nil _) all
@@ -95,10 +95,10 @@ IsTextOf-newline : (text : List ℕ) (ls : List (List ℕ)) → IsTextOf text ls
 IsTextOf-newline text ls (inl e) = inl (rw flat_map-cons (ap (λ (t : List ℕ). 10 ∷ t) e))
 IsTextOf-newline text ls (inr e) = inr (rw flat_map-cons (ap (λ (t : List ℕ). 10 ∷ t) e))
 
-pub IsTextOf-lines : (text : List ℕ) → IsTextOf text (lines text)
+pub text_is_its_lines : (text : List ℕ) → IsTextOf text (lines text)
 unfolding lines
-IsTextOf-lines [] = inl refl
-IsTextOf-lines (b ∷ text) = go (is_newline b) refl (IsTextOf-lines text)
+text_is_its_lines [] = inl refl
+text_is_its_lines (b ∷ text) = go (is_newline b) refl (text_is_its_lines text)
   where
     go : (v : Bool) → is_newline b ≡ v → IsTextOf text (lines text) →
         IsTextOf (b ∷ text) (cond v ([] ∷ lines text) (onto_first b (lines text)))
@@ -116,33 +116,24 @@ pub words_last : (line : List ℕ) → IsFirstByte (is_byte 32) line None → wo
 unfolding words
 words_last line none = slice_split_none is_space line (lacks_all 32 line none)
 
-pub line_of-words : (line : List ℕ) → line_of (words line) ≡ line
+pub line_is_its_words : (line : List ℕ) → line_of (words line) ≡ line
 unfolding words
-line_of-words line = join_with_byte-slice_split 32 line
+line_is_its_words line = join_with_byte-slice_split 32 line
 
-pub words-line_of : (w : List ℕ) (ws : List (List ℕ)) → All IsWord (w ∷ ws) → words (line_of (w ∷ ws)) ≡ w ∷ ws
+pub written_words_are_read : (w : List ℕ) (ws : List (List ℕ)) → All IsWord (w ∷ ws) → words (line_of (w ∷ ws)) ≡ w ∷ ws
 unfolding words
-words-line_of w [] all = slice_split_none is_space w (All-head IsWord w [] all)
-words-line_of w (v ∷ ws) all =
+written_words_are_read w [] all = slice_split_none is_space w (All-head IsWord w [] all)
+written_words_are_read w (v ∷ ws) all =
     slice_split_at is_space w 32 (line_of (v ∷ ws)) (All-head IsWord w (v ∷ ws) all) refl
-    ∙ ap (λ (t : List (List ℕ)). w ∷ t) (words-line_of v ws (All-tail IsWord w (v ∷ ws) all))
-
-pub All-words : (line : List ℕ) → All IsWord (words line)
-unfolding words
-All-words [] = All-cons IsWord [] [] (All-nil _) (All-nil _)
-All-words (b ∷ line) = go (is_space b) refl (All-words line)
-  where
-    go : (v : Bool) → is_space b ≡ v → All IsWord (words line) → All IsWord (cond v ([] ∷ words line) (onto_first b (words line)))
-    go true e all = All-cons IsWord [] (words line) (All-nil _) all
-    go false e all = All-onto_first 32 b (words line) e all
+    ∙ ap (λ (t : List (List ℕ)). w ∷ t) (written_words_are_read v ws (All-tail IsWord w (v ∷ ws) all))
 
 -- words that hold no newline make a line
-pub IsLine-line_of : (ws : List (List ℕ)) → All IsLine ws → IsLine (line_of ws)
-IsLine-line_of [] all = All-nil _
-IsLine-line_of (w ∷ []) all = All-head IsLine w [] all
-IsLine-line_of (w ∷ v ∷ ws) all =
+pub words_make_a_line : (ws : List (List ℕ)) → All IsLine ws → IsLine (line_of ws)
+words_make_a_line [] all = All-nil _
+words_make_a_line (w ∷ []) all = All-head IsLine w [] all
+words_make_a_line (w ∷ v ∷ ws) all =
     All-append (λ b. is_newline b ≡ false) w (32 ∷ line_of (v ∷ ws)) (All-head IsLine w (v ∷ ws) all)
-    (All-cons (λ b. is_newline b ≡ false) 32 (line_of (v ∷ ws)) refl (IsLine-line_of (v ∷ ws) (All-tail IsLine w (v ∷ ws) all)))
+    (All-cons (λ b. is_newline b ≡ false) 32 (line_of (v ∷ ws)) refl (words_make_a_line (v ∷ ws) (All-tail IsLine w (v ∷ ws) all)))
 
 -- ---- where `next` goes on
 

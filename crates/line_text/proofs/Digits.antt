@@ -74,9 +74,9 @@ short_zero : (n k : ℕ) → (eqb k 1 || not (eqb n 48)) ≡ true → n ≡ 48 �
 short_zero n k e h = grind (arith, nat_tests)
 
 -- what is read as a number of at most 64 bits is its spelling
-pub decimal-number_of : (word : List ℕ) (n : ℕ) → n < 2 ^ 64 → number_of word ≡ Some n → word ≡ decimal n
+pub number_is_spelled : (word : List ℕ) (n : ℕ) → n < 2 ^ 64 → number_of word ≡ Some n → word ≡ decimal n
 unfolding number_of
-decimal-number_of word n small e =
+number_is_spelled word n small e =
     elim (cases_Bool (is_numeral word)) [
       | inl spelled ↦
           let s = spelled_parts word spelled in
@@ -89,9 +89,9 @@ decimal-number_of word n small e =
     ]
 
 -- and what is spelled so is read
-pub number_of-decimal : (n : ℕ) → n < 2 ^ 64 → number_of (decimal n) ≡ Some n
+pub spelled_number_is_read : (n : ℕ) → n < 2 ^ 64 → number_of (decimal n) ≡ Some n
 unfolding number_of
-number_of-decimal n small =
+spelled_number_is_read n small =
     let long : 0 < length (decimal n) = decimal_nonempty n small in
     let some : not (eqb (length (decimal n)) 0) ≡ true = rw (ne_eqb (length (decimal n)) 0 (omega arith)) refl in
     let first : (eqb (length (decimal n)) 1 || not (eqb (get_or (decimal n) 0 0) 48)) ≡ true = elim (cases_lt 0 n) [
@@ -110,7 +110,7 @@ other_byte c d e lt = let h = digit_is c e in ne_eqb c d (omega (arith, h))
 pub none_equal : (d : ℕ) → d < 48 → (ds : List ℕ) → list_all is_ascii_digit ds ≡ true → All (λ b. eqb b d ≡ false) ds
 none_equal d low ds all = All-from_get_or (λ b. eqb b d ≡ false) ds 0 (λ i lt. other_byte (get_or ds i 0) d (digit_at ds i all lt) low)
 
-pub decimal_is_a_word : (n : ℕ) → n < 2 ^ 64 → IsLine (decimal n) × IsWord (decimal n)
-decimal_is_a_word n small =
+pub spelled_number_is_a_word : (n : ℕ) → n < 2 ^ 64 → IsLine (decimal n) × IsWord (decimal n)
+spelled_number_is_a_word n small =
     let all = digits_decimal own n small in
     (none_equal 10 (omega arith) (decimal n) all, none_equal 32 (omega arith) (decimal n) all)

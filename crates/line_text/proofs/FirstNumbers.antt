@@ -10,7 +10,7 @@ use Rattle.std.proofs.lemmas.List.Folds.{prefix_len-append}
 use Rattle.std.proofs.lemmas.List.Splits.{slice_split_none, slice_split_at}
 use Rattle.line_text.specs.Lines.{words, line_of, is_space, IsWord}
 use Rattle.line_text.specs.Numbers.{number_of, short_number_of, leading_digits, leading_number_of}
-use Rattle.line_text.proofs.Cuts.{line_of-words}
+use Rattle.line_text.proofs.Cuts.{line_is_its_words}
 use Rattle.line_text.proofs.Digits.{none_equal}
 use Rattle.line_text.proofs.LeadingDigits.{are_digits, all_digits_lead}
 
@@ -34,9 +34,9 @@ record IsFirstOf (word line : List ℕ) : Type 0 where
 
 first_of : (line word : List ℕ) (ws : List (List ℕ)) → words line ≡ word ∷ ws → IsFirstOf word line
 first_of line word [] parts =
-    record { after = []; line_is = sym (line_of-words line) ∙ ap line_of parts ∙ sym (append-nil word); ends = inl refl }
+    record { after = []; line_is = sym (line_is_its_words line) ∙ ap line_of parts ∙ sym (append-nil word); ends = inl refl }
 first_of line word (w ∷ ws) parts =
-    record { after = 32 ∷ line_of (w ∷ ws); line_is = sym (line_of-words line) ∙ ap line_of parts; ends = inr refl }
+    record { after = 32 ∷ line_of (w ∷ ws); line_is = sym (line_is_its_words line) ∙ ap line_of parts; ends = inr refl }
 
 no_digit_first : (after : List ℕ) → (after ≡ []) ⊎ (slice_get after 0 ≡ Some 32) → prefix_len is_ascii_digit after ≡ 0
 no_digit_first [] ends = refl

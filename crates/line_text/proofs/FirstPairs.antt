@@ -9,7 +9,7 @@ use Rattle.std.proofs.lemmas.List.Sums.{take_while-cons}
 use Rattle.line_text.specs.Lines.{lines, words, line_of, is_newline, is_space, IsLine}
 use Rattle.line_text.specs.Numbers.{short_number_of, leading_digits, leading_number_of}
 use Rattle.line_text.specs.Pairs.{short_pair_of}
-use Rattle.line_text.proofs.Cuts.{line_of-words}
+use Rattle.line_text.proofs.Cuts.{line_is_its_words}
 use Rattle.line_text.proofs.Digits.{none_equal}
 use Rattle.line_text.proofs.FirstNumbers.{no_first_number, no_word_end, only_word, word_before, first_number_of}
 use Rattle.line_text.proofs.LeadingDigits.{are_digits}
@@ -114,7 +114,7 @@ more_words : (a b line : List ℕ) → short_pair_of (a ∷ b ∷ words line) �
 more_words a b line = go (words line) refl
   where
     go : (ws : List (List ℕ)) → words line ≡ ws → short_pair_of (a ∷ b ∷ ws) ≡ None
-    go [] none = let empty : line ≡ [] = sym (line_of-words line) ∙ ap line_of none in absurd (no_words (ap words (sym empty) ∙ none))
+    go [] none = let empty : line ≡ [] = sym (line_is_its_words line) ∙ ap line_of none in absurd (no_words (ap words (sym empty) ∙ none))
     go (w ∷ ws) parts = refl
 
 -- ---- the cases of a reader

@@ -1,20 +1,22 @@
 -- Lines are read from the text that they make; where they are not empty, also without its last newline.
-use Rattle.std.proofs.Common.{◌≡◌, ℕ, List, [], ◌∷◌, ◌++◌, length, Some, refl, sym, ap, ◌∙◌, arith, inl, inr, append_assoc, append-nil, length-append}
+use Rattle.std.proofs.Common.{◌≡◌, ℕ, List, [], ◌∷◌, ◌++◌, length, ◌<◌, Some, refl, sym, ap, ◌∙◌, arith, inl, inr, append_assoc, append-nil, length-append}
 use Rattle.std.specs.Prelude.{All}
 use Rattle.std.proofs.lemmas.Grind.{flat_map-append}
 use Rattle.std.proofs.lemmas.List.{append_cancel_right}
 use Rattle.std.proofs.lemmas.List.Concat.{flat_map-cons}
 use Rattle.std.proofs.lemmas.List.Elements.{All-pop, All-weaker}
-use Rattle.line_text.specs.Laws.{CutLinesAreRead, WrittenLinesAreRead}
 use Rattle.line_text.specs.Lines.{lines, text_of, ended, IsFullLine, IsLine, IsTextOf}
 use Rattle.line_text.proofs.Cuts.{line_alone, lines-text_of}
 
-pub lines-written : WrittenLinesAreRead
+-- lines that are written as a text are its lines,
+pub written_lines_are_read : (ls : List (List ℕ)) → All IsLine ls → lines (text_of ls) ≡ ls
 unfolding lines
-lines-written = λ ls all. simp append-nil at (lines-text_of ls [] all)
+written_lines_are_read ls all = simp append-nil at (lines-text_of ls [] all)
 
-pub lines-cut : CutLinesAreRead
-lines-cut = λ ls last all line some. rw (line_alone last some line) at (lines-text_of ls last all)
+-- and so they are where the last one, which is not empty, lacks its newline
+pub cut_lines_are_read : (ls : List (List ℕ)) (last : List ℕ) → All IsLine ls → IsLine last → 0 < length last
+    → lines (text_of ls ++ last) ≡ ls ++ last ∷ []
+cut_lines_are_read ls last all line some = rw (line_alone last some line) at (lines-text_of ls last all)
 
 -- lines, with the last one apart
 record LastApart (ls : List (List ℕ)) : Type 0 where
@@ -46,8 +48,8 @@ lines-short (line ∷ ls) text full e =
     let both = All-pop IsFullLine (line ∷ ls) apart.front (Some apart.last) apart.is full in
     let whole : ended text ≡ ended (text_of apart.front ++ apart.last) = e ∙ ap text_of apart.is ∙ text_of-last apart.front apart.last in
     let same : text ≡ text_of apart.front ++ apart.last = append_cancel_right text (text_of apart.front ++ apart.last) (10 ∷ []) whole in
-    ap lines same ∙ lines-cut apart.front apart.last (all_lines apart.front both.0) both.1.0 both.1.1 ∙ sym apart.is
+    ap lines same ∙ cut_lines_are_read apart.front apart.last (all_lines apart.front both.0) both.1.0 both.1.1 ∙ sym apart.is
 
-pub full_lines-read : (ls : List (List ℕ)) (text : List ℕ) → All IsFullLine ls → IsTextOf text ls → lines text ≡ ls
-full_lines-read ls text full (inl whole) = ap lines whole ∙ lines-written ls (all_lines ls full)
-full_lines-read ls text full (inr short) = lines-short ls text full short
+pub full_lines_are_read : (ls : List (List ℕ)) (text : List ℕ) → All IsFullLine ls → IsTextOf text ls → lines text ≡ ls
+full_lines_are_read ls text full (inl whole) = ap lines whole ∙ written_lines_are_read ls (all_lines ls full)
+full_lines_are_read ls text full (inr short) = lines-short ls text full short

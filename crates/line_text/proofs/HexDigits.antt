@@ -1,10 +1,11 @@
 -- Reading a byte of two digits, and the laws of its spelling.
-use Rattle.std.proofs.Common.{◌≡◌, ℕ, ◌+◌, ◌*◌, ◌/◌, ◌%◌, ◌<◌, ◌^◌, Bool, true, false, ◌&&◌, cond, List, [], ◌∷◌, Some, None, refl, ap, arith}
+use Rattle.std.proofs.Common.{rules, ◌≡◌, ℕ, ◌+◌, ◌*◌, ◌/◌, ◌%◌, ◌<◌, ◌^◌, Bool, true, false, ◌&&◌, cond, List, [], ◌∷◌, Some, None, refl, ap, arith}
 use Rattle.std.specs.Char.{digit_value, digit_char}
 use Rattle.std.proofs.lemmas.Bool.{and_parts, and_from}
 use Rattle.std.proofs.lemmas.Bool.Decides.{nat_tests}
 use Rattle.std.proofs.lemmas.Str.{digit_value-digit_char}
 use Rattle.line_text.specs.Hexadecimal.{is_hex_digit, hex_of, hex}
+use Rattle.line_text.specs.Lines.{IsLine, IsWord}
 
 -- ---- one digit
 
@@ -20,11 +21,11 @@ is_hex_digit-digit_char d lt = grind (arith, nat_tests)
 -- ---- the laws
 
 -- what is read is a byte, and the word is its spelling
-pub hex-hex_of : (word : List ℕ) (n : ℕ) → hex_of word ≡ Some n → (n < 2 ^ 8) × (word ≡ hex n)
+pub hex_is_spelled : (word : List ℕ) (n : ℕ) → hex_of word ≡ Some n → (n < 2 ^ 8) × (word ≡ hex n)
 unfolding hex_of
-hex-hex_of [] n e = absurd cc
-hex-hex_of (a ∷ []) n e = absurd cc
-hex-hex_of (a ∷ b ∷ []) n e = go (is_hex_digit a && is_hex_digit b) refl e
+hex_is_spelled [] n e = absurd cc
+hex_is_spelled (a ∷ []) n e = absurd cc
+hex_is_spelled (a ∷ b ∷ []) n e = go (is_hex_digit a && is_hex_digit b) refl e
   where
     go : (v : Bool) → (is_hex_digit a && is_hex_digit b) ≡ v → cond v (Some (16 * digit_value a + digit_value b)) None ≡ Some n
         → (n < 2 ^ 8) × (a ∷ b ∷ [] ≡ hex n)
@@ -37,13 +38,17 @@ hex-hex_of (a ∷ b ∷ []) n e = go (is_hex_digit a && is_hex_digit b) refl e
           rw (high, low, digit_char-digit_value a both.0, digit_char-digit_value b both.1) refl,
         )
     go false digits e = absurd cc
-hex-hex_of (a ∷ b ∷ c ∷ word) n e = absurd cc
+hex_is_spelled (a ∷ b ∷ c ∷ word) n e = absurd cc
 
 -- and what is spelled so is read
-pub hex_of-hex : (n : ℕ) → n < 2 ^ 8 → hex_of (hex n) ≡ Some n
+pub spelled_hex_is_read : (n : ℕ) → n < 2 ^ 8 → hex_of (hex n) ≡ Some n
 unfolding hex_of
-hex_of-hex n small =
+spelled_hex_is_read n small =
     let high = is_hex_digit-digit_char (n / 16) (omega arith) in
     let low = is_hex_digit-digit_char (n % 16) (omega arith) in
     rw (and_from _ _ high low, digit_value-digit_char (n / 16) (omega arith), digit_value-digit_char (n % 16) (omega arith))
     (ap Some (omega arith))
+
+-- the spelling is a word of a line
+pub spelled_hex_is_a_word : (n : ℕ) → n < 2 ^ 8 → IsLine (hex n) × IsWord (hex n)
+spelled_hex_is_a_word = search rules

@@ -10,7 +10,7 @@ use Rattle.std.proofs.lemmas.List.Sums.{prefix_len-le-length}
 use Rattle.std.proofs.lemmas.Bool.{and_right, cases_Bool, cases_lt, cond_both, le-leb, lt-leb}
 use Rattle.line_text.specs.Lines.{line_of, words}
 use Rattle.line_text.specs.Numbers.{near_number_of, number_of, short_number_of, leading_digits}
-use Rattle.line_text.proofs.Cuts.{line_of-words}
+use Rattle.line_text.proofs.Cuts.{line_is_its_words}
 use Rattle.line_text.proofs.FirstNumbers.{first_digits, first_number_of, no_first_number, no_word_end, not_digits, word_before}
 use Rattle.line_text.proofs.LeadingDigits.{a_number, are_digits, no_number, reaches}
 
@@ -76,7 +76,7 @@ pub near_some : (line : List ℕ) (size : ℕ) → IsNear line size → get_or (
     → (size ≡ 1) ⊎ (eqb (get_or (take 19 line) 0 0) 48 ≡ false) → near_number_of (words line) ≡ Some (digits_value 10 (take size line))
 near_some line size near space some first =
     let parts = near_word line size near space in
-    let whole : line_of (take size line ∷ words (drop (size + 1) line)) ≡ line = ap line_of (sym parts) ∙ line_of-words line in
+    let whole : line_of (take size line ∷ words (drop (size + 1) line)) ≡ line = ap line_of (sym parts) ∙ line_is_its_words line in
     let word : length (take size line) ≡ size = length-take-le size line (omega (arith, near.long, near.ended)) in
     let long : leb 19 (length line) ≡ true = le-leb 19 (length line) near.long in
     let few : leb (length (take size line)) 18 ≡ true = le-leb _ 18 (omega (arith, near.ended, word)) in
@@ -86,7 +86,7 @@ near_some line size near space some first =
 short_line : (line : List ℕ) (ws : List (List ℕ)) → words line ≡ ws → length line < 19 → near_number_of ws ≡ None
 short_line line [] parts short = refl
 short_line line (word ∷ ws) parts short =
-    let whole : line_of (word ∷ ws) ≡ line = ap line_of (sym parts) ∙ line_of-words line in
+    let whole : line_of (word ∷ ws) ≡ line = ap line_of (sym parts) ∙ line_is_its_words line in
     let not : leb 19 (length line) ≡ false = lt-leb 19 (length line) short in
     rw (whole, not) refl
 

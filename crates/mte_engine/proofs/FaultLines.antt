@@ -15,14 +15,13 @@ use Rattle.class_table.specs.declared.fault.TableError.{TableError}
 use Rattle.class_table.specs.declared.fault.TableError.TheVariants.{BadLine}
 use Rattle.class_table.proofs.LawLemmas.{class_line_is_full, first_fault_is_refused as table_fault_is_refused, missing_line_is_first_fault, no_classes_are_legal, read_line_is_spelled, table_line_is_read}
 use Rattle.profile_count.specs.Counts.{nothing_counted}
-use Rattle.profile_count.specs.Laws.{IsRefusedAt}
-use Rattle.profile_count.specs.ProfileText.{SpellsProfile, profile_from, profile_of, profile_of_lines}
+use Rattle.profile_count.specs.ProfileText.{IsRefusedAt, SpellsProfile, profile_from, profile_of, profile_of_lines}
 use Rattle.profile_count.specs.declared.fault.ProfileFault.{ProfileFault}
 use Rattle.profile_count.proofs.LawLemmas.{first_fault_is_refused as profile_fault_is_refused, lines_before_it_spell}
 use Rattle.profile_count.proofs.LawLemmas.{profile_is_spelled, refused_line_is_there, spelled_profile_is_read}
 use Rattle.potential_check.specs.Leading.{leading_lines, lines_after}
 use Rattle.potential_check.specs.SheetText.{SpellsSheet, sheet_of_lines}
-use Rattle.potential_check.proofs.LawLemmas.{sheet_is_spelled}
+use Rattle.potential_check.proofs.LawLemmas.{read_is_spelled}
 use Rattle.heap_theory.specs.declared.event.Event.{Event}
 use Rattle.tagged_heap.specs.declared.heap.Config.{Config}
 use Rattle.trace_reader.specs.TraceText.{trace_from}
@@ -30,11 +29,10 @@ use Rattle.trace_reader.specs.declared.fault.TraceFault.{TraceFault}
 use Rattle.tuner_theory.specs.Sheets.{Sheet}
 use Rattle.tuner_theory.specs.Profiles.{Profile as Counted}
 use Rattle.mte_engine.specs.Check.{sheet_and_profile}
-use Rattle.mte_engine.specs.FaultLines.{IsAtFirstFault, SpellsLeadingAnd, SpellsSheetAndProfile, SpellsTableAnd, SpellsTableAndProfile, line_of_fault}
+use Rattle.mte_engine.specs.FaultLines.{IsAtFirstFault, SpellsLeadingAnd, SpellsSheetAndProfile, SpellsTableAnd, line_of_fault}
 use Rattle.mte_engine.specs.Outcome.{Answer}
-use Rattle.mte_engine.specs.Parts.{profile_part}
+use Rattle.mte_engine.specs.Parts.{profile_part, table_and}
 use Rattle.mte_engine.specs.Replay.{replay_answer, replay_of_lines, report_on}
-use Rattle.mte_engine.specs.Score.{score_of, score_of_lines}
 use Rattle.mte_engine.specs.FaultText.{in_line, shown_input_fault}
 use Rattle.mte_engine.specs.Traces.{events_unless}
 use Rattle.mte_engine.specs.declared.engine.Status.TheVariants.{Done}
@@ -70,12 +68,46 @@ alike_after : (m : ℕ) (line : List ℕ) (ls rest : List (List ℕ)) → take (
 alike_after m line ls [] e = absurd cc
 alike_after m line ls (other ∷ rest) e = cc
 
--- ---- a table in front of another part
+-- the table of a text is refused at line 1
+pub table_refused : (text line : List ℕ) (ls : List (List ℕ)) (fault : TableError) → lines text ≡ line ∷ ls
+    → table_of_line line ≡ Err fault → IsFirstFault BeginsWithTable text 1
+table_refused text line ls fault parts read = (table_fault_is_refused text line (ap (take 1) parts)).0 (rw read refl)
 
--- a part that a text spells, which is spelled by the text's lines too, each with its newline
-module _ {A : Type 0} (Spells : List ℕ → A → Type 0)
-    (whole_lines : (text : List ℕ) (x : A) → Spells text x → Spells (text_of (lines text)) x)
-    (example : List ℕ) (value : A) (spelled_example : Spells example value) where
+-- ---- a part alone, or after a table
+
+-- A part of an input: what its lines are read as, with the number of the first faulty line and its fault, and what is reported of that.
+pub record IsPart {A F : Type 0} (Spells : List ℕ → A → Type 0) (read : List (List ℕ) → Result A (ℕ × F))
+    (part : ℕ → Result A (ℕ × F) → Result A InputFault) : Type 0 where
+  pub spelled : (text : List ℕ) (x : A) → read (lines text) ≡ Ok x → Spells text x
+  pub is_read : (text : List ℕ) (x : A) → Spells text x → read (lines text) ≡ Ok x
+  pub first : (text : List ℕ) (n : ℕ) (fault : F) → read (lines text) ≡ Err (n, fault) → IsFirstFault Spells text n
+  pub example : List ℕ
+  pub value : A
+  pub is_example : Spells example value
+  pub whole : (n : ℕ) (x : A) → part n (Ok x) ≡ Ok x
+  pub refused : (n : ℕ) (f : ℕ × F) (fault : InputFault) → part n (Err f) ≡ Err fault → line_of_fault fault ≡ Some (n + f.0)
+
+ok_or_err : {A E : Type 0} (x : A) (e : E) → (let r : Result A E = Ok x in r) ≡ Err e → ⊥
+ok_or_err x e is = cc
+
+module _ {A F : Type 0} (Spells : List ℕ → A → Type 0) (read : List (List ℕ) → Result A (ℕ × F))
+    (part : ℕ → Result A (ℕ × F) → Result A InputFault) (is_part : IsPart Spells read part) where
+  -- what a text spells is spelled by its lines, each with its newline
+  pub whole_lines : (text : List ℕ) (x : A) → Spells text x → Spells (text_of (lines text)) x
+  whole_lines text x spells =
+      let same = written_lines_are_read (lines text) (lines_are_lines text) in
+      is_part.spelled (text_of (lines text)) x (ap read same ∙ is_part.is_read text x spells)
+
+  -- the whole text
+  pub alone_at_first : (text : List ℕ) (fault : InputFault) → part 0 (read (lines text)) ≡ Err fault → IsAtFirstFault Spells text fault
+  alone_at_first text fault e = go (read (lines text)) refl e
+    where
+      go : (result : Result A (ℕ × F)) → read (lines text) ≡ result → part 0 result ≡ Err fault → IsAtFirstFault Spells text fault
+      go (Ok x) is e = absurd (ok_or_err x fault (sym (is_part.whole 0 x) ∙ e))
+      go (Err f) is e =
+          let number : 0 + f.0 ≡ f.0 = omega arith in
+          (f.0, is_part.refused 0 f fault e ∙ ap (λ (n : ℕ). Some n) number, is_part.first text f.0 f.1 is)
+
   -- the line of a table in front of it
   in_front : (line table text : List ℕ) (x : A) → IsLine line → table_of_line line ≡ Ok table → Spells text x
       → SpellsTableAnd Spells (line ++ 10 ∷ text) (table, x)
@@ -89,24 +121,24 @@ module _ {A : Type 0} (Spells : List ℕ → A → Type 0)
       }
 
   -- an input with a fault in its table has its first fault there
-  pub first_line : (text : List ℕ) → IsFirstFault BeginsWithTable text 1 → IsFirstFault (SpellsTableAnd Spells) text 1
+  first_line : (text : List ℕ) → IsFirstFault BeginsWithTable text 1 → IsFirstFault (SpellsTableAnd Spells) text 1
   first_line text first = record {
     some = first.some;
     within = first.within;
     before = (
-      class_line [] ++ 10 ∷ example,
-      ([], value),
-      in_front (class_line []) [] example value (class_line_is_full [] no_classes_are_legal).0
-          (table_line_is_read [] no_classes_are_legal) spelled_example,
+      class_line [] ++ 10 ∷ is_part.example,
+      ([], is_part.value),
+      in_front (class_line []) [] is_part.example is_part.value (class_line_is_full [] no_classes_are_legal).0
+          (table_line_is_read [] no_classes_are_legal) is_part.is_example,
       refl,
     );
     none = λ other parts spells alike. first.none other parts.0 spells.table alike;
   }
 
   -- the first fault of the lines after a table is that of the input, one line later
-  pub later_line : (text line table : List ℕ) (ls : List (List ℕ)) (m : ℕ) → lines text ≡ line ∷ ls
+  later_line : (text line table : List ℕ) (ls : List (List ℕ)) (m : ℕ) → lines text ≡ line ∷ ls
       → table_of_line line ≡ Ok table → IsFirstFault Spells (text_of ls) m → IsFirstFault (SpellsTableAnd Spells) text (suc m)
-  later_line text line table ls m parts read first =
+  later_line text line table ls m parts is_table first =
       let all : All IsLine (line ∷ ls) = rw parts at (lines_are_lines text) in
       let same : lines (text_of ls) ≡ ls = written_lines_are_read ls (All-tail IsLine line ls all) in
       let other = first.before.0 in
@@ -119,7 +151,7 @@ module _ {A : Type 0} (Spells : List ℕ → A → Type 0)
         before = (
           line ++ 10 ∷ other,
           (table, first.before.1),
-          in_front line table other first.before.1 is_line read first.before.2,
+          in_front line table other first.before.1 is_line is_table first.before.2,
           rw (before, parts, line_in_front_is_read line other is_line) (ap (λ (front : List (List ℕ)). line ∷ front) alike),
         );
         none = λ next spelled spells alike_next.
@@ -129,70 +161,60 @@ module _ {A : Type 0} (Spells : List ℕ → A → Type 0)
             first.none (text_of rest) spelled.1 spells.rest (rw (same, rest_lines) (sym after));
       }
 
--- a profile is spelled by its lines, each with its newline
-profile_lines : (text : List ℕ) (p : Counted) → SpellsProfile text p → SpellsProfile (text_of (lines text)) p
-profile_lines text p spells =
-    let same = written_lines_are_read (lines text) (lines_are_lines text) in
-    profile_is_spelled (text_of (lines text)) p (ap profile_of_lines same ∙ spelled_profile_is_read text p spells)
+  -- the part after a table
+  pub after_table_at_first : (text : List ℕ) (fault : InputFault) → table_and (λ ls. part 1 (read ls)) (lines text) ≡ Err fault
+      → IsAtFirstFault (SpellsTableAnd Spells) text fault
+  after_table_at_first text fault e = go (lines text) refl e
+    where
+      went_on : (table : List ℕ) (r : Result A InputFault) → ◌>>=◌ {B = List ℕ × A} r (λ x. Ok (table, x)) ≡ Err fault → r ≡ Err fault
+      went_on table (Ok x) e = absurd cc
+      went_on table (Err other) e = cc
+
+      after : (line table : List ℕ) (ls : List (List ℕ)) (result : Result A (ℕ × F)) → lines text ≡ line ∷ ls
+          → table_of_line line ≡ Ok table → read ls ≡ result → part 1 result ≡ Err fault → IsAtFirstFault (SpellsTableAnd Spells) text fault
+      after line table ls (Ok x) parts is_table is e = absurd (ok_or_err x fault (sym (is_part.whole 1 x) ∙ e))
+      after line table ls (Err f) parts is_table is e =
+          let number : 1 + f.0 ≡ suc f.0 = omega arith in
+          let all : All IsLine (line ∷ ls) = rw parts at (lines_are_lines text) in
+          let same : lines (text_of ls) ≡ ls = written_lines_are_read ls (All-tail IsLine line ls all) in (
+            suc f.0,
+            is_part.refused 1 f fault e ∙ ap (λ (n : ℕ). Some n) number,
+            later_line text line table ls f.0 parts is_table (is_part.first (text_of ls) f.0 f.1 (ap read same ∙ is)),
+          )
+
+      with_line : (line : List ℕ) (ls : List (List ℕ)) (result : Result (List ℕ) TableError) → lines text ≡ line ∷ ls
+          → table_of_line line ≡ result → table_and (λ ls. part 1 (read ls)) (line ∷ ls) ≡ Err fault
+          → IsAtFirstFault (SpellsTableAnd Spells) text fault
+      with_line line ls (Ok table) parts is e =
+          after line table ls (read ls) parts is refl (went_on table (part 1 (read ls)) (rw is at e))
+      with_line line ls (Err refused) parts is e =
+          let is_fault : fault ≡ Table refused = (let same = rw is at e in cc) in
+          (1, rw is_fault refl, first_line text (table_refused text line ls refused parts is))
+
+      go : (ls : List (List ℕ)) → lines text ≡ ls → table_and (λ ls. part 1 (read ls)) ls ≡ Err fault
+          → IsAtFirstFault (SpellsTableAnd Spells) text fault
+      go [] parts e =
+          let is_fault : fault ≡ Table BadLine = cc in
+          (1, rw is_fault refl, first_line text (missing_line_is_first_fault text parts))
+      go (line ∷ ls) parts e = with_line line ls (table_of_line line) parts refl e
+
+-- ---- a profile
 
 nothing_spelled : SpellsProfile [] nothing_counted
 unfolding lines profile_from
 nothing_spelled = profile_is_spelled [] nothing_counted refl
 
-first_of_profile : (text : List ℕ) → IsFirstFault BeginsWithTable text 1 → IsFirstFault SpellsTableAndProfile text 1
-first_of_profile = first_line SpellsProfile profile_lines [] nothing_counted nothing_spelled
-
--- the table of a text is refused at line 1
-pub table_refused : (text line : List ℕ) (ls : List (List ℕ)) (fault : TableError) → lines text ≡ line ∷ ls
-    → table_of_line line ≡ Err fault → IsFirstFault BeginsWithTable text 1
-table_refused text line ls fault parts read = (table_fault_is_refused text line (ap (take 1) parts)).0 (rw read refl)
-
--- ---- what is refused
-
-pub score_at_first : (text : List ℕ) (fault : InputFault) → score_of text ≡ Err fault
-    → IsAtFirstFault SpellsTableAndProfile text fault
-unfolding score_of
-score_at_first text fault e = go (lines text) refl e
-  where
-    after : (line table : List ℕ) (ls : List (List ℕ)) (read : Result Counted (ℕ × ProfileFault)) → lines text ≡ line ∷ ls
-        → table_of_line line ≡ Ok table → profile_of_lines ls ≡ read → score_of_lines (line ∷ ls) ≡ Err fault
-        → IsAtFirstFault SpellsTableAndProfile text fault
-    after line table ls (Ok p) parts is_table is_profile e = let none = rw (is_table, is_profile) at e in absurd cc
-    after line table ls (Err refused) parts is_table is_profile e =
-        let is_fault : fault ≡ Profile (1 + refused.0) refused.1 = (let same = rw (is_table, is_profile) at e in cc) in
-        let all : All IsLine (line ∷ ls) = rw parts at (lines_are_lines text) in
-        let same : lines (text_of ls) ≡ ls = written_lines_are_read ls (All-tail IsLine line ls all) in
-        let refused_text : profile_of (text_of ls) ≡ Err (refused.0, refused.1) = ap profile_of_lines same ∙ is_profile in
-        let first = (profile_fault_is_refused (text_of ls) refused.0).0 (refused.1, refused_text) in
-        let number : 1 + refused.0 ≡ suc refused.0 = omega arith in
-        let later =
-        later_line SpellsProfile profile_lines [] nothing_counted nothing_spelled text line table ls refused.0 parts is_table first in
-        (suc refused.0, rw is_fault (ap (λ (n : ℕ). Some n) number), later)
-
-    with_line : (line : List ℕ) (ls : List (List ℕ)) (read : Result (List ℕ) TableError) → lines text ≡ line ∷ ls
-        → table_of_line line ≡ read → score_of_lines (line ∷ ls) ≡ Err fault → IsAtFirstFault SpellsTableAndProfile text fault
-    with_line line ls (Ok table) parts is e = after line table ls (profile_of_lines ls) parts is refl e
-    with_line line ls (Err refused) parts is e =
-        let is_fault : fault ≡ Table refused = (let same = rw is at e in cc) in
-        (1, rw is_fault refl, first_of_profile text (table_refused text line ls refused parts is))
-
-    go : (ls : List (List ℕ)) → lines text ≡ ls → score_of_lines ls ≡ Err fault → IsAtFirstFault SpellsTableAndProfile text fault
-    go [] parts e =
-        let is_fault : fault ≡ Table BadLine = cc in
-        (1, rw is_fault refl, first_of_profile text (missing_line_is_first_fault text parts))
-    go (line ∷ ls) parts e = with_line line ls (table_of_line line) parts refl e
-
-pub tune_at_first : (text : List ℕ) (fault : InputFault) → profile_part 0 (profile_of text) ≡ Err fault
-    → IsAtFirstFault SpellsProfile text fault
-tune_at_first text fault e = go (profile_of text) refl e
-  where
-    go : (read : Result Counted (ℕ × ProfileFault)) → profile_of text ≡ read → profile_part 0 read ≡ Err fault
-        → IsAtFirstFault SpellsProfile text fault
-    go (Ok p) is e = absurd cc
-    go (Err refused) is e =
-        let is_fault : fault ≡ Profile (0 + refused.0) refused.1 = cc in
-        let number : 0 + refused.0 ≡ refused.0 = omega arith in
-        (refused.0, rw is_fault (ap (λ (n : ℕ). Some n) number), (profile_fault_is_refused text refused.0).0 (refused.1, is))
+pub profile_is_part : IsPart SpellsProfile profile_of_lines profile_part
+profile_is_part = record {
+  spelled = profile_is_spelled;
+  is_read = spelled_profile_is_read;
+  first = λ text n fault refused. (profile_fault_is_refused text n).0 (fault, refused);
+  example = [];
+  value = nothing_counted;
+  is_example = nothing_spelled;
+  whole = λ n x. refl;
+  refused = λ n f fault e. let is : fault ≡ Profile (n + f.0) f.1 = cc in rw is refl;
+}
 
 -- ---- a part in front of another part
 
@@ -264,13 +286,13 @@ after_sheet text sheet m read refused =
     let first = (profile_fault_is_refused (text_of rest) m).0 refused in
     let there : m ≤ length rest = rw rest_lines at (refused_line_is_there (text_of rest) m refused) in
     let before = lines_before_it_spell (text_of rest) m refused in
-    let is_sheet : SpellsSheet (text_of front) sheet = sheet_is_spelled (text_of front) sheet (ap sheet_of_lines front_lines ∙ read) in
+    let is_sheet : SpellsSheet (text_of front) sheet = read_is_spelled _ (text_of front) sheet (ap sheet_of_lines front_lines ∙ read) in
     let is_profile : SpellsProfile (text_of (take (m - 1) rest)) before.0 = rw rest_lines at before.1 in
     after_leading SpellsSheet SpellsProfile text sheet before.0 m is_sheet there is_profile first
 
 pub check_profile_at_first : (text : List ℕ) (n : ℕ) (fault : ProfileFault) → sheet_and_profile (lines text) ≡ Err (Profile n fault)
     → IsFirstFault SpellsSheetAndProfile text n
-unfolding sheet_and_profile lines_after
+unfolding lines_after
 check_profile_at_first text n fault e = go (sheet_of_lines (leading_lines (lines text))) refl
   where
     with_sheet : (sheet : Sheet) (read : Result Counted (ℕ × ProfileFault)) → sheet_of_lines (leading_lines (lines text)) ≡ Ok sheet

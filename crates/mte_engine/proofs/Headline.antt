@@ -1,5 +1,5 @@
 -- From a tuned sheet to the headline, by the laws of the crates below.
-use Rattle.std.proofs.Common.{◌≡◌, refl, sym, ◌∙◌}
+use Rattle.std.proofs.Common.{◌≡◌, ℕ, List, ◌++◌, refl, sym, ◌∙◌}
 use Rattle.class_table.specs.Tables.{rounding_loss}
 use Rattle.heap_theory.specs.Losses.{ServesEach, counted_sizes, requested_sizes}
 use Rattle.heap_theory.specs.Report.{report}
@@ -8,11 +8,19 @@ use Rattle.heap_theory.proofs.Losses.{LosesAtMostItsWaste-run}
 use Rattle.profile_count.proofs.LawLemmas.{serves_each_request, waste_is_the_sum_of_losses}
 use Rattle.tagged_heap.specs.Config.{layout_for}
 use Rattle.tuner_theory.specs.Best.{IsCandidate}
-use Rattle.mte_engine.specs.Laws.{TunedRunIsHeadline}
-use Rattle.mte_engine.specs.Run.{new_replay}
+use Rattle.mte_engine.specs.Run.{IsTunedRun, new_replay}
 use Rattle.mte_engine.specs.Traces.{profile_of_events}
+use Rattle.mte_engine.specs.Replay.{report_on}
+use Rattle.mte_engine.specs.declared.engine.Status.TheVariants.{Done}
+use Rattle.class_tuner.specs.Tuned.{IsTuned}
+use Rattle.heap_theory.specs.declared.event.Event.{Event}
+use Rattle.potential_check.specs.SheetText.{sheet_text}
+use Rattle.tagged_heap.specs.declared.heap.Config.{Config}
+use Rattle.tuner_theory.specs.Sheets.{Sheet}
 
-pub headline : TunedRunIsHeadline
+pub headline : (limit step : ℕ) (config : Config) (events : List Event) (sheet : Sheet)
+    → IsTuned (profile_of_events events).counts step limit sheet
+    → IsTunedRun limit step config events (record { text = sheet_text sheet ++ report_on config sheet.table events; status = Done })
 unfolding report
 headline limit step config events sheet tuned =
     let counts = (profile_of_events events).counts in

@@ -1,21 +1,16 @@
 -- An input that is refused for its history, or for the table before it, has its first fault in the line of the refusal.
-use Rattle.std.proofs.Common.{◌≡◌, ℕ, suc, ◌+◌, ◌-◌, ◌≤◌, Bool, true, false, List, [], ◌∷◌, ◌++◌, take, drop, length, codes}
+use Rattle.std.proofs.Common.{◌≡◌, ℕ, ◌+◌, ◌-◌, ◌≤◌, Bool, true, false, List, [], ◌∷◌, ◌++◌, take, drop, length, codes}
 use Rattle.std.proofs.Common.{Option, Some, None, Result, Ok, Err, inl, inr, refl, sym, ap, ◌∙◌, subst, arith}
 use Rattle.std.specs.Prelude.{All}
 use Rattle.std.proofs.lemmas.Bool.{cases_lt}
 use Rattle.std.proofs.lemmas.List.{append-nil, drop-append-le, drop_all, length-take, take-append-le, take-take, take_all}
-use Rattle.std.proofs.lemmas.List.Elements.{All-append, All-drop, All-take, All-tail}
+use Rattle.std.proofs.lemmas.List.Elements.{All-append, All-drop, All-take}
 use Rattle.line_text.specs.FirstFault.{IsFirstFault}
 use Rattle.line_text.specs.Lines.{lines, text_of, words, IsLine}
 use Rattle.line_text.specs.Numbers.{number_of}
 use Rattle.line_text.proofs.LawLemmas.{lines_are_lines, written_lines_are_read}
-use Rattle.class_table.specs.ClassLine.{BeginsWithTable, table_of_line}
-use Rattle.class_table.specs.declared.fault.TableError.{TableError}
-use Rattle.class_table.specs.declared.fault.TableError.TheVariants.{BadLine}
-use Rattle.class_table.proofs.LawLemmas.{missing_line_is_first_fault}
 use Rattle.history_count.specs.Histories.{History as CountedHistory, nothing_counted}
-use Rattle.history_count.specs.HistoryText.{SpellsHistory, history_from, history_of, history_of_lines}
-use Rattle.history_count.specs.Laws.{IsRefusedAt}
+use Rattle.history_count.specs.HistoryText.{IsRefusedAt, SpellsHistory, history_from, history_of, history_of_lines}
 use Rattle.history_count.specs.declared.fault.HistoryFault.{HistoryFault}
 use Rattle.history_count.proofs.LawLemmas.{first_fault_is_refused, history_is_spelled, lines_before_it_spell, refused_line_is_there, spelled_history_is_read}
 use Rattle.potential_check.specs.FitText.{SpellsFit, fit_of_lines}
@@ -24,19 +19,11 @@ use Rattle.potential_check.specs.Leading.{head_size, is_row_line, leading_lines,
 use Rattle.potential_check.proofs.LawLemmas.{fit_is_spelled}
 use Rattle.tuner_theory.specs.Fits.{Fit}
 use Rattle.mte_engine.specs.CheckFit.{fit_and_history}
-use Rattle.mte_engine.specs.FaultLines.{IsAtFirstFault, SpellsFitAndHistory, SpellsTableAndHistory}
-use Rattle.mte_engine.specs.Footprint.{table_and_history}
+use Rattle.mte_engine.specs.FaultLines.{SpellsFitAndHistory}
 use Rattle.mte_engine.specs.Parts.{history_part}
-use Rattle.mte_engine.specs.declared.fault.InputFault.{InputFault}
-use Rattle.mte_engine.specs.declared.fault.InputFault.TheVariants.{Table, History}
-use Rattle.mte_engine.proofs.FaultLines.{after_leading, first_line, later_line, none_later, table_refused}
+use Rattle.mte_engine.specs.declared.fault.InputFault.TheVariants.{History}
+use Rattle.mte_engine.proofs.FaultLines.{IsPart, after_leading, none_later, whole_lines}
 use Rattle.mte_engine.proofs.SheetLinesSettled.{leading_lines-lines, leading_lines-one_more, leading_lines-settled}
-
--- a history is spelled by its lines, each with its newline
-history_lines : (text : List ℕ) (h : CountedHistory) → SpellsHistory text h → SpellsHistory (text_of (lines text)) h
-history_lines text h spells =
-    let same = written_lines_are_read (lines text) (lines_are_lines text) in
-    history_is_spelled (text_of (lines text)) h (ap history_of_lines same ∙ spelled_history_is_read text h spells)
 
 -- the history of one snapshot that counts nothing
 shortest : List ℕ
@@ -54,55 +41,17 @@ shortest_is_no_row : is_row_line shortest ≡ false
 unfolding shortest words
 shortest_is_no_row = refl
 
--- ---- a history alone, or after a table
-
-pub fit_at_first : (text : List ℕ) (fault : InputFault) → history_part 0 (history_of text) ≡ Err fault
-    → IsAtFirstFault SpellsHistory text fault
-fit_at_first text fault e = go (history_of text) refl e
-  where
-    go : (read : Result CountedHistory (ℕ × HistoryFault)) → history_of text ≡ read → history_part 0 read ≡ Err fault
-        → IsAtFirstFault SpellsHistory text fault
-    go (Ok h) is e = absurd cc
-    go (Err refused) is e =
-        let is_fault : fault ≡ History (0 + refused.0) refused.1 = cc in
-        let number : 0 + refused.0 ≡ refused.0 = omega arith in
-        (refused.0, rw is_fault (ap (λ (n : ℕ). Some n) number), (first_fault_is_refused text refused.0).0 (refused.1, is))
-
-pub footprint_at_first : (text : List ℕ) (fault : InputFault) → table_and_history (lines text) ≡ Err fault
-    → IsAtFirstFault SpellsTableAndHistory text fault
-unfolding table_and_history
-footprint_at_first text fault e = go (lines text) refl e
-  where
-    first_of : IsFirstFault BeginsWithTable text 1 → IsFirstFault SpellsTableAndHistory text 1
-    first_of = first_line SpellsHistory history_lines shortest (nothing_counted 1) shortest_spelled text
-
-    after : (line table : List ℕ) (ls : List (List ℕ)) (read : Result CountedHistory (ℕ × HistoryFault)) → lines text ≡ line ∷ ls
-        → table_of_line line ≡ Ok table → history_of_lines ls ≡ read → table_and_history (line ∷ ls) ≡ Err fault
-        → IsAtFirstFault SpellsTableAndHistory text fault
-    after line table ls (Ok h) parts is_table is_history e = let none = rw (is_table, is_history) at e in absurd cc
-    after line table ls (Err refused) parts is_table is_history e =
-        let is_fault : fault ≡ History (1 + refused.0) refused.1 = (let same = rw (is_table, is_history) at e in cc) in
-        let all : All IsLine (line ∷ ls) = rw parts at (lines_are_lines text) in
-        let same : lines (text_of ls) ≡ ls = written_lines_are_read ls (All-tail IsLine line ls all) in
-        let refused_text : history_of (text_of ls) ≡ Err (refused.0, refused.1) = ap history_of_lines same ∙ is_history in
-        let first = (first_fault_is_refused (text_of ls) refused.0).0 (refused.1, refused_text) in
-        let number : 1 + refused.0 ≡ suc refused.0 = omega arith in
-        let later = later_line SpellsHistory history_lines shortest (nothing_counted 1) shortest_spelled text line table ls refused.0 parts
-        is_table first in
-        (suc refused.0, rw is_fault (ap (λ (n : ℕ). Some n) number), later)
-
-    with_line : (line : List ℕ) (ls : List (List ℕ)) (read : Result (List ℕ) TableError) → lines text ≡ line ∷ ls
-        → table_of_line line ≡ read → table_and_history (line ∷ ls) ≡ Err fault → IsAtFirstFault SpellsTableAndHistory text fault
-    with_line line ls (Ok table) parts is e = after line table ls (history_of_lines ls) parts is refl e
-    with_line line ls (Err refused) parts is e =
-        let is_fault : fault ≡ Table refused = (let same = rw is at e in cc) in
-        (1, rw is_fault refl, first_of (table_refused text line ls refused parts is))
-
-    go : (ls : List (List ℕ)) → lines text ≡ ls → table_and_history ls ≡ Err fault → IsAtFirstFault SpellsTableAndHistory text fault
-    go [] parts e =
-        let is_fault : fault ≡ Table BadLine = cc in
-        (1, rw is_fault refl, first_of (missing_line_is_first_fault text parts))
-    go (line ∷ ls) parts e = with_line line ls (table_of_line line) parts refl e
+pub history_is_part : IsPart SpellsHistory history_of_lines history_part
+history_is_part = record {
+  spelled = history_is_spelled;
+  is_read = spelled_history_is_read;
+  first = λ text n fault refused. (first_fault_is_refused text n).0 (fault, refused);
+  example = shortest;
+  value = nothing_counted 1;
+  is_example = shortest_spelled;
+  whole = λ n x. refl;
+  refused = λ n f fault e. let is : fault ≡ History (n + f.0) f.1 = cc in rw is refl;
+}
 
 -- ---- a history after a fit
 
@@ -169,7 +118,7 @@ first_after_fit text fit read is_fit first =
     ∙ ap (λ (front : List (List ℕ)). front ++ shortest ∷ []) (drop_all k (take k ls) (omega (arith, length-take k ls))) in
     let front : take k base ≡ take k ls = take-append-le k (take k ls) (shortest ∷ []) long ∙ take-take k k ls (omega arith) in
     let is_history : SpellsHistory (text_of (shortest ∷ [])) (nothing_counted 1) =
-    rw shortest_is_line at (history_lines shortest (nothing_counted 1) shortest_spelled) in
+    rw shortest_is_line at (whole_lines SpellsHistory history_of_lines history_part history_is_part shortest (nothing_counted 1) shortest_spelled) in
     record {
       some = omega arith;
       within = omega (arith, within);
@@ -221,7 +170,7 @@ after_fit text fit m read refused =
 
 pub check_fit_history_at_first : (text : List ℕ) (n : ℕ) (fault : HistoryFault) → fit_and_history (lines text) ≡ Err (History n fault)
     → IsFirstFault SpellsFitAndHistory text n
-unfolding fit_and_history lines_after
+unfolding lines_after
 check_fit_history_at_first text n fault e = go (fit_of_lines (leading_lines (lines text))) refl
   where
     with_fit : (fit : Fit) (read : Result CountedHistory (ℕ × HistoryFault)) → fit_of_lines (leading_lines (lines text)) ≡ Ok fit

@@ -4,14 +4,12 @@ pub mod Counting
 pub mod CountedLines
 pub mod FaultLines
 pub mod HistoryFaultLines
-pub mod FitAndHistory
 pub mod Headline
 pub mod SheetLinesSettled
 pub mod LineAndTrace
 pub mod Transfers
 pub mod Reporting
-pub mod SheetAndProfile
-pub mod TableAndHistory
-pub mod TableAndProfile
+pub mod LeadingAnd
+pub mod TableAnd
 pub mod TracePieces
 pub mod RunAnswers

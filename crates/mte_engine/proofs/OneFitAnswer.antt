@@ -1,11 +1,11 @@
 -- One answer of `fit` to an input, since a history has one fit.
-use Rattle.std.proofs.Common.{◌≡◌, ℕ, Ok, Err, ap, sym, subst, ◌∙◌}
+use Rattle.std.proofs.Common.{◌≡◌, ℕ, List, Result, Ok, Err, ap, sym, subst, ◌∙◌}
 use Rattle.class_fitter.proofs.LawLemmas.{one_fit}
 use Rattle.history_count.specs.Histories.{History}
 use Rattle.potential_check.specs.FitText.{fit_text}
 use Rattle.tuner_theory.specs.Fits.{Fit}
-use Rattle.mte_engine.specs.Fit.{IsFitText}
-use Rattle.mte_engine.specs.Laws.{FitHasOneAnswer}
+use Rattle.mte_engine.specs.Fit.{FitAnswers, IsFitText}
+use Rattle.mte_engine.specs.declared.fault.InputFault.{InputFault}
 use Rattle.mte_engine.specs.Outcome.{Answer}
 use Rattle.mte_engine.specs.declared.engine.Status.TheVariants.{Done}
 
@@ -14,7 +14,8 @@ one_text limit step history a b first second =
     let same = one_fit history.snapshots step limit first.fit second.fit first.fitted second.fitted in
     first.written ∙ ap (λ (f : Fit). record { text = fit_text f; status = Done }) same ∙ sym second.written
 
-pub one_answer : FitHasOneAnswer
+pub one_answer : (limit step : ℕ) (text : List ℕ) (a b : Result Answer InputFault) → FitAnswers limit step text a
+    → FitAnswers limit step text b → a ≡ b
 one_answer limit step text (Ok a) (Ok b) first second =
     let same : first.0 ≡ second.0 = (let read = sym first.1 ∙ second.1 in cc) in
     ap Ok (one_text limit step second.0 a b (subst (λ (h : History). IsFitText limit step h a) same first.2) second.2)

@@ -1,6 +1,5 @@
 -- The answers of `check`: the verdict on the sheet at the start of its input, for the profile after it.
 use Rattle.std.specs.Prelude.{◌≡◌, ℕ, List, ◌++◌, codes, length, Result, Ok, Err}
-use Rattle.line_text.specs.FirstFault.{◌>>=◌}
 use Rattle.line_text.specs.Lines.{lines, ended}
 use Rattle.potential_check.specs.Leading.{leading_lines, lines_after}
 use Rattle.potential_check.specs.SheetText.{sheet_of_lines}
@@ -13,7 +12,7 @@ use Rattle.tuner_theory.specs.declared.verdict.Refusal.{Refusal}
 use Rattle.tuner_theory.specs.declared.verdict.Verdict.{Verdict}
 use Rattle.tuner_theory.specs.declared.verdict.Verdict.TheVariants.{Optimal, Refused}
 use Rattle.mte_engine.specs.Outcome.{Answer}
-use Rattle.mte_engine.specs.Parts.{profile_part, sheet_part}
+use Rattle.mte_engine.specs.Parts.{both_parts, profile_part, sheet_part}
 use Rattle.mte_engine.specs.declared.engine.Status.TheVariants.{Done, No}
 use Rattle.mte_engine.specs.declared.fault.InputFault.{InputFault}
 
@@ -27,11 +26,10 @@ abbrev pub verdict_text : Verdict → Answer
 verdict_text verdict = verdict_text_by shown_refusal verdict
 
 -- The sheet at the start of these lines, and the profile after it.
-unfoldable pub sheet_and_profile : List (List ℕ) → Result (Sheet × Counted) InputFault
-sheet_and_profile ls = do
-  sheet ← sheet_part (sheet_of_lines (leading_lines ls))
-  profile ← profile_part (length (leading_lines ls)) (profile_of_lines (lines_after ls))
-  Ok (sheet, profile)
+abbrev pub sheet_and_profile : List (List ℕ) → Result (Sheet × Counted) InputFault
+sheet_and_profile ls =
+    both_parts (sheet_part (sheet_of_lines (leading_lines ls)))
+    (profile_part (length (leading_lines ls)) (profile_of_lines (lines_after ls)))
 
 -- The verdict on a sheet for a profile. `optimal` is written only where the sheet's table is a best one.
 pub record IsChecked (sheet : Sheet) (profile : Counted) (answer : Answer) : Type 0 where

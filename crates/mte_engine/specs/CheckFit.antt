@@ -16,7 +16,7 @@ use Rattle.mte_engine.specs.Parts.{both_parts, fit_part, history_part}
 use Rattle.mte_engine.specs.declared.fault.InputFault.{InputFault}
 
 -- The fit at the start of these lines, and the history after it.
-unfoldable pub fit_and_history : List (List ℕ) → Result (Fit × History) InputFault
+abbrev pub fit_and_history : List (List ℕ) → Result (Fit × History) InputFault
 fit_and_history ls =
     both_parts (fit_part (fit_of_lines (leading_lines ls)))
     (history_part (length (leading_lines ls)) (history_of_lines (lines_after ls)))

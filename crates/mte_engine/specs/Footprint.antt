@@ -15,9 +15,12 @@ abbrev pub measured : List ℕ → History → Answer
 measured table history =
     named_or_unserved (codes "footprint") (unserved_of (peaks history.snapshots) table) (footprint_of history.snapshots table)
 
+abbrev pub history_after_line : List (List ℕ) → Result History InputFault
+history_after_line ls = history_part 1 (history_of_lines ls)
+
 -- A class line, and then a history.
-unfoldable pub table_and_history : List (List ℕ) → Result (List ℕ × History) InputFault
-table_and_history ls = table_and (λ after. history_part 1 (history_of_lines after)) ls
+abbrev pub table_and_history : List (List ℕ) → Result (List ℕ × History) InputFault
+table_and_history ls = table_and history_after_line ls
 
 -- The answer is the footprint, or the first fault of the two.
 abbrev pub FootprintAnswers : List ℕ → Result Answer InputFault → Type 0

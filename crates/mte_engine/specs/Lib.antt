@@ -3,7 +3,6 @@ pub mod CheckFit
 pub mod FaultLines
 pub mod Fit
 pub mod Footprint
-pub mod Laws
 pub mod Transfer
 pub mod Outcome
 pub mod Parts
@@ -14,7 +13,6 @@ pub mod ReportLeft
 pub mod Run
 pub mod Score
 pub mod FaultText
-pub mod FormatNumbers
 pub mod Streams
 pub mod Traces
 pub mod TextLeft

@@ -1,41 +1,94 @@
 //! What holds for every answer of an engine. Each law is the contract of a function that does nothing.
-ghost use Rattle.mte_engine.specs.FormatNumbers.{AreCountNumbers, AreHeapNumbers, AreTableNumbers, AreTraceNumbers};
-ghost use Rattle.mte_engine.specs.Laws.{FitHasOneAnswer, RunHasOneAnswer, TuneHasOneAnswer, TunedRunIsHeadline};
-ghost use Rattle.mte_engine.specs.Laws.{CheckFitRefusesTheHistoryAtItsFirstFault, CheckRefusesTheProfileAtItsFirstFault};
-ghost use Rattle.mte_engine.specs.Laws.{FaultIsShownWithItsLine, FitRefusesAtTheFirstFault, FootprintRefusesAtTheFirstFault};
-ghost use Rattle.mte_engine.specs.Laws.{ReplayRefusesTheFirstLine, ScoreRefusesAtTheFirstFault, TuneRefusesAtTheFirstFault};
+ghost use Rattle.std.specs.Prelude.{◌≡◌, ℕ, List, ◌++◌, Err, Result, Some};
+ghost use Rattle.class_table.specs.ClassLine.{BeginsWithTable};
+ghost use Rattle.class_table.specs.Sizes.{largest_counted};
+ghost use Rattle.class_table.specs.declared.class_line.TheConstants.{LINE_BYTES};
+ghost use Rattle.class_table.specs.declared.fault.TableError.{TableError};
+ghost use Rattle.class_table.specs.declared.layout.TheConstants.{FEWEST_GRANULES, MOST_GRANULES};
+ghost use Rattle.class_table.specs.declared.sizes.TheConstants.{GRANULE_BYTES, LARGEST_CLASS, MOST_NEEDS, SMALLEST_CLASS};
+ghost use Rattle.class_table.specs.declared.table.TheConstants.{MOST_CLASSES};
+ghost use Rattle.class_tuner.specs.Tuned.{IsTuned};
+ghost use Rattle.heap_theory.specs.declared.event.Event.{Event};
+ghost use Rattle.heap_theory.specs.declared.event.TheConstants.Event.{FARTHEST_ACCESS, FARTHEST_MOVE, LARGEST_REQUEST};
+ghost use Rattle.heap_theory.specs.declared.event.TheConstants.Event.{LARGEST_TAG_STEP, LAST_VARIABLE, LONGEST_ACCESS};
+ghost use Rattle.history_count.specs.HistoryText.{SpellsHistory};
+ghost use Rattle.history_count.specs.declared.fault.HistoryFault.{HistoryFault};
+ghost use Rattle.line_text.specs.FirstFault.{IsFirstFault};
+ghost use Rattle.potential_check.specs.SheetText.{sheet_text};
+ghost use Rattle.profile_count.specs.ProfileText.{SpellsProfile};
+ghost use Rattle.profile_count.specs.declared.fault.ProfileFault.{ProfileFault};
+ghost use Rattle.tagged_heap.specs.declared.heap.Config.{Config};
+ghost use Rattle.tagged_heap.specs.declared.heap.TheConstants.Config.{MOST_QUARANTINE};
+ghost use Rattle.trace_reader.specs.TraceLine.{longest_line, most_events};
+ghost use Rattle.tuner_theory.specs.Profiles.{greatest_count};
+ghost use Rattle.tuner_theory.specs.Sheets.{Sheet};
+ghost use Rattle.tuner_theory.specs.declared.most_snapshots.TheConstants.{MOST_SNAPSHOTS};
+ghost use Rattle.mte_engine.specs.Check.{CheckAnswers};
+ghost use Rattle.mte_engine.specs.CheckFit.{CheckFitAnswers};
+ghost use Rattle.mte_engine.specs.FaultLines.{IsAtFirstFault, SpellsFitAndHistory, SpellsSheetAndProfile};
+ghost use Rattle.mte_engine.specs.FaultLines.{SpellsTableAndHistory, SpellsTableAndProfile, line_of_fault};
+ghost use Rattle.mte_engine.specs.FaultText.{in_line, shown_input_fault};
+ghost use Rattle.mte_engine.specs.Fit.{FitAnswers};
+ghost use Rattle.mte_engine.specs.Footprint.{FootprintAnswers};
+ghost use Rattle.mte_engine.specs.Outcome.{Answer};
+ghost use Rattle.mte_engine.specs.Replay.{ReplayAnswers, report_on};
+ghost use Rattle.mte_engine.specs.Run.{IsTunedRun, RunAnswers};
+ghost use Rattle.mte_engine.specs.Score.{ScoreAnswers};
+ghost use Rattle.mte_engine.specs.Traces.{profile_of_events};
+ghost use Rattle.mte_engine.specs.Tune.{TuneAnswers};
+ghost use Rattle.mte_engine.specs.declared.engine.Status.TheVariants.{Done};
+ghost use Rattle.mte_engine.specs.declared.fault.InputFault.{InputFault};
+ghost use Rattle.mte_engine.specs.declared.fault.InputFault.TheVariants.{History, Profile, Table};
 
 /// The headline holds for a sheet that is tuned for the profile of a trace, followed by the report on the replay over that sheet's table.
 pub fn law_headline()
-    ensures { TunedRunIsHeadline }
+    ensures { (limit step : ℕ) (config : Config) (events : List Event) (sheet : Sheet)
+        → IsTuned (profile_of_events events).counts step limit sheet
+        → let text = sheet_text sheet ++ report_on config sheet.table events in
+        IsTunedRun limit step config events (record { text = text; status = Done }) }
 {}
 
 /// What `tune`, `fit` and `run` write is one function of their input and options.
 #[tactic(auto, using(class_tuner::proofs::LawLemmas::one_sheet, crate::proofs::OneFitAnswer::one_answer))]
 pub fn law_one_answer()
-    ensures tune { TuneHasOneAnswer }
-    ensures fit { FitHasOneAnswer }
-    ensures run { RunHasOneAnswer }
+    ensures tune { (limit step : ℕ) (text : List ℕ) (a b : Result Answer InputFault)
+        → TuneAnswers limit step text a → TuneAnswers limit step text b → a ≡ b }
+    ensures fit { (limit step : ℕ) (text : List ℕ) (a b : Result Answer InputFault)
+        → FitAnswers limit step text a → FitAnswers limit step text b → a ≡ b }
+    ensures run { (limit step : ℕ) (config : Config) (text : List ℕ) (a b : Result Answer InputFault)
+        → RunAnswers limit step config text a → RunAnswers limit step config text b → a ≡ b }
 {}
 
 /// A fault in a class line, in a profile or in a history is shown with the line of the input's first fault. The profile or the history is
 /// the whole input, or follows a class line, or a sheet or a fit. Some input without a fault begins with the lines before that line. None
 /// begins with these lines and that line; if that line is missing, none has just these lines.
 pub fn law_fault_lines()
-    ensures shown { FaultIsShownWithItsLine }
-    ensures score { ScoreRefusesAtTheFirstFault }
-    ensures tune { TuneRefusesAtTheFirstFault }
-    ensures check { CheckRefusesTheProfileAtItsFirstFault }
-    ensures replay { ReplayRefusesTheFirstLine }
-    ensures footprint { FootprintRefusesAtTheFirstFault }
-    ensures fit { FitRefusesAtTheFirstFault }
-    ensures check_fit { CheckFitRefusesTheHistoryAtItsFirstFault }
+    ensures shown { (fault : InputFault) (n : ℕ) → line_of_fault fault ≡ Some n
+        → (name : List ℕ) × (shown_input_fault fault ≡ in_line name n) }
+    ensures score { (text : List ℕ) (fault : InputFault) → ScoreAnswers text (Err fault)
+        → IsAtFirstFault SpellsTableAndProfile text fault }
+    ensures tune { (limit step : ℕ) (text : List ℕ) (fault : InputFault) → TuneAnswers limit step text (Err fault)
+        → IsAtFirstFault SpellsProfile text fault }
+    ensures check { (text : List ℕ) (n : ℕ) (fault : ProfileFault) → CheckAnswers text (Err (Profile n fault))
+        → IsFirstFault SpellsSheetAndProfile text n }
+    ensures replay { (config : Config) (text : List ℕ) (fault : TableError)
+        → ReplayAnswers config text (Err (Table fault)) → IsAtFirstFault BeginsWithTable text (Table fault) }
+    ensures footprint { (text : List ℕ) (fault : InputFault) → FootprintAnswers text (Err fault)
+        → IsAtFirstFault SpellsTableAndHistory text fault }
+    ensures fit { (limit step : ℕ) (text : List ℕ) (fault : InputFault) → FitAnswers limit step text (Err fault)
+        → IsAtFirstFault SpellsHistory text fault }
+    ensures check_fit { (text : List ℕ) (n : ℕ) (fault : HistoryFault) → CheckFitAnswers text (Err (History n fault))
+        → IsFirstFault SpellsFitAndHistory text n }
 {}
 
 /// The numbers of the formats. Most definitions take them from the code's constants; here each stands as a number.
 pub fn law_numbers()
-    ensures tables { AreTableNumbers }
-    ensures counts { AreCountNumbers }
-    ensures traces { AreTraceNumbers }
-    ensures heap { AreHeapNumbers }
+    ensures classes { (MOST_CLASSES ≡ 32) × (SMALLEST_CLASS ≡ 2) × (LARGEST_CLASS ≡ 1024) × (LINE_BYTES ≡ 168) }
+    ensures sizes { (GRANULE_BYTES ≡ 16) × (largest_counted ≡ 16368) × (greatest_count ≡ 1000000000) }
+    ensures rows { (MOST_SNAPSHOTS ≡ 64) × (MOST_NEEDS ≡ 1023) }
+    ensures traces { (longest_line ≡ 80) × (most_events ≡ 1000000) }
+    ensures requests { (LAST_VARIABLE ≡ 1023) × (LARGEST_REQUEST ≡ 2147483647) }
+    ensures accesses { (FARTHEST_ACCESS ≡ 1048576) × (LONGEST_ACCESS ≡ 64) }
+    ensures steps { (FARTHEST_MOVE ≡ 63) × (LARGEST_TAG_STEP ≡ 15) }
+    ensures heap { (FEWEST_GRANULES ≡ 64) × (MOST_GRANULES ≡ 262144) × (MOST_QUARANTINE ≡ 4194304) }
 {}

@@ -7,21 +7,7 @@ use Rattle.line_text.specs.FirstFault.{◌>>=◌}
 use Rattle.line_text.specs.Lines.{lines, words}
 use Rattle.potential_check.specs.Leading.{GivesLeadingBy, IsLeadingOf, is_row_line, leading_lines, lines_after}
 use Rattle.class_table.specs.declared.table.TheConstants.{MOST_CLASSES}
-use Rattle.potential_check.specs.SheetText.{
-  Gives,
-  cost_in,
-  cost_number,
-  head_line_count,
-  head_of_lines,
-  is_named,
-  limit_in,
-  read_by,
-  row_in,
-  rows_from,
-  step_in,
-  table_in,
-  with_rows,
-}
+use Rattle.potential_check.specs.SheetText.{Gives, cost_in, cost_number, head_line_count, head_of_lines, is_named, limit_in, read_by, row_in, rows_from, step_in, table_in, with_rows}
 use Rattle.potential_check.specs.declared.cost.Cost.{Cost}
 use Rattle.class_table.specs.NamedLines.{words_after}
 use Rattle.potential_check.proofs.SheetLines.{line-step_in}

@@ -9,26 +9,7 @@ use Rattle.class_table.specs.Steps.{IsStep}
 use Rattle.line_text.specs.Lines.{IsTextOf, lines}
 use Rattle.line_text.proofs.LawLemmas.{text_laws as laws}
 use Rattle.class_table.specs.declared.table.TheConstants.{MOST_CLASSES}
-use Rattle.potential_check.specs.SheetText.{
-  IsRow,
-  IsWithinLimits,
-  SpellsBy,
-  cost_in,
-  cost_number,
-  head_of_lines,
-  is_named,
-  limit_in,
-  line_at,
-  lines_by,
-  read_by,
-  row_in,
-  rows_from,
-  step_at,
-  step_in,
-  step_lines,
-  table_in,
-  with_rows,
-}
+use Rattle.potential_check.specs.SheetText.{IsRow, IsWithinLimits, SpellsBy, cost_in, cost_number, head_of_lines, is_named, limit_in, line_at, lines_by, read_by, row_in, rows_from, step_at, step_in, step_lines, table_in, with_rows}
 use Rattle.potential_check.specs.declared.cost.Cost.{Cost}
 use Rattle.class_table.specs.NamedLines.{named_line}
 use Rattle.potential_check.specs.declared.reading.Head.{Head}
@@ -191,7 +172,7 @@ lines_read cost ls s e =
     subst (λ (t : Sheet). (ls ≡ lines_by cost t) × IsWithinLimits t) (same_sheet (with_rows head.0 rows) s e) read))
 
 -- What is read is spelled by the text, and is within the limits.
-pub spelled-read : (cost : Cost) (text : List ℕ) (s : Sheet) → read_by cost (lines text) ≡ Ok s → SpellsBy cost text s
-spelled-read cost text s e =
+pub read_is_spelled : (cost : Cost) (text : List ℕ) (s : Sheet) → read_by cost (lines text) ≡ Ok s → SpellsBy cost text s
+read_is_spelled cost text s e =
     let read = lines_read cost (lines text) s e in
     record { limits = read.1; spelled = subst (IsTextOf text) read.0 (laws.text text) }

@@ -4,32 +4,17 @@ use Rattle.std.specs.Option.{ok_or}
 use Rattle.class_table.specs.ClassLine.{class_line}
 use Rattle.class_table.proofs.LawLemmas.{IsName, class_line_is_full, named_line_is_line, no_classes_are_legal, words_of_named_line}
 use Rattle.line_text.specs.Lines.{IsLine, lines, text_of}
-use Rattle.line_text.specs.FirstFault.{◌>>=◌}
+use Rattle.line_text.specs.FirstFault.{◌>>=◌, IsFirstFault}
 use Rattle.line_text.proofs.LawLemmas.{one_first_fault, text_laws as laws}
-use Rattle.potential_check.specs.Laws.{FaultsAreFirst, FirstFaultsAreReported, ReadIsSpelled}
 use Rattle.class_table.specs.declared.table.TheConstants.{MOST_CLASSES}
-use Rattle.potential_check.specs.SheetText.{
-  SpellsBy,
-  cost_in,
-  cost_number,
-  head_of_lines,
-  is_named,
-  limit_in,
-  line_at,
-  read_by,
-  rows_from,
-  step_at,
-  table_in,
-  with_rows,
-  word_of,
-}
+use Rattle.potential_check.specs.SheetText.{SpellsBy, cost_in, cost_number, head_of_lines, is_named, limit_in, line_at, read_by, rows_from, step_at, table_in, with_rows, word_of}
 use Rattle.potential_check.specs.declared.cost.Cost.{Cost}
 use Rattle.class_table.specs.NamedLines.{named_line}
 use Rattle.potential_check.specs.declared.reading.Head.{Head}
 use Rattle.potential_check.proofs.FaultyReadings.{Lines, Reports, rows-report, reports-as, reports-line, reports-step}
-use Rattle.potential_check.proofs.ReadIsSpelled.{spelled-read}
+use Rattle.potential_check.proofs.ReadIsSpelled.{read_is_spelled}
 use Rattle.potential_check.proofs.SheetLines.{cost_in-line, limit_in-line, names, one_small, step_in-line, table_in-line}
-use Rattle.potential_check.proofs.SpelledIsRead.{read-spelled}
+use Rattle.potential_check.proofs.SpelledIsRead.{spelled_is_read}
 use Rattle.tuner_theory.specs.Sheets.{Sheet}
 
 abbrev rows_after : Head × Lines → Result Sheet ℕ
@@ -81,9 +66,10 @@ by_lines-report cost =
 
 -- ---- the first fault
 
-pub fault-first : (cost : Cost) → FaultsAreFirst (λ text. read_by cost (lines text)) (SpellsBy cost)
-fault-first cost text number e =
-    let at = (by_lines-report cost).fault (lines text) number (laws.lines text) (sym (read-by_lines cost (lines text)) ∙ e) in
+pub fault_is_first : (cost : Cost) (text : List ℕ) (number : ℕ) → read_by cost (lines text) ≡ Err number
+    → IsFirstFault (SpellsBy cost) text number
+fault_is_first cost text number e =
+    let at = (by_lines-report cost).fault (lines text) number (laws.all_lines text) (sym (read-by_lines cost (lines text)) ∙ e) in
     let sound = at.2.sound in
     let next : number ≡ suc at.0 = (let is = at.1 in omega arith) in
     let front : suc at.0 - 1 ≡ at.0 = omega arith in
@@ -96,19 +82,21 @@ fault-first cost text number e =
       before = (
         text_of sound.other,
         sound.value,
-        spelled-read cost (text_of sound.other) sound.value read,
+        read_is_spelled cost (text_of sound.other) sound.value read,
         rw (front, written) at.2.before,
       );
       none = λ other s spells same.
-          let read = read-spelled cost other s spells in
+          let read = spelled_is_read cost other s spells in
           let fault = read-by_lines cost (lines other) ∙ at.2.same (lines other) same in
           cc;
     })
 
 -- What reports only first faults reports each.
-pub first-fault : {A : Type 0} (read : List ℕ → Result A ℕ) (Spells : List ℕ → A → Type 0) → ReadIsSpelled read Spells
-    → FaultsAreFirst read Spells → FirstFaultsAreReported read Spells
-first-fault {A = A} read Spells spelled first text number is = go (read text) refl
+pub first_fault_is_reported : {A : Type 0} (read : List ℕ → Result A ℕ) (Spells : List ℕ → A → Type 0)
+    → ((text : List ℕ) (x : A) → read text ≡ Ok x → Spells text x)
+    → ((text : List ℕ) (number : ℕ) → read text ≡ Err number → IsFirstFault Spells text number)
+    → (text : List ℕ) (number : ℕ) → IsFirstFault Spells text number → read text ≡ Err number
+first_fault_is_reported {A = A} read Spells spelled first text number is = go (read text) refl
   where
     go : (r : Result A ℕ) → read text ≡ r → read text ≡ Err number
     go (Ok x) e = absurd (is.none text x (spelled text x e) refl)

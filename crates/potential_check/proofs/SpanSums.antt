@@ -4,9 +4,8 @@ use Rattle.std.proofs.lemmas.List.{get_or_default}
 use Rattle.std.proofs.Math.Nat.{mul-le-mul}
 use Rattle.class_table.specs.Sizes.{IsBlockSize, largest_counted}
 use Rattle.class_table.specs.declared.sizes.TheConstants.{GRANULE_BYTES}
-use Rattle.tuner_theory.proofs.LawLemmas.{place_is_class, places_ascend, sums_ascend, sums_fit, sums_give_waste}
+use Rattle.tuner_theory.proofs.LawLemmas.{HasNoUnderflow, place_is_class, places_ascend, step-positive, sums_ascend, sums_fit, sums_give_waste}
 use Rattle.potential_check.specs.Spanned.{HoldsSums, IsSpanned, Spanned}
-use Rattle.tuner_theory.specs.Laws.{HasNoUnderflow}
 use Rattle.tuner_theory.specs.Spans.{bytes_up_to, counted_up_to, distinct_needs, need_at, places, span_waste}
 
 -- the need that is kept for a place is a class
@@ -15,7 +14,7 @@ pub need-class : (counts : List ℕ) (step place need : ℕ) (needs counted byte
 need-class counts step zero need needs counted bytes held some le e = absurd (omega arith)
 need-class counts step (suc i) need needs counted bytes held some le e =
     let front : suc i - 1 ≡ i = omega arith in
-    let at = place_is_class counts step (suc i) held.is_step held.are_counts some le in
+    let at = place_is_class counts step (suc i) held.is_step (omega (arith, held.are_counts.sizes)) some le in
     let is : need ≡ need_at counts step (suc i) =
     e ∙ (ap (λ k. get_or needs k need) front
     ∙ (ap (λ (xs : List ℕ). get_or xs i need) held.needs_are ∙ get_or_default (distinct_needs counts step) i need 0 le)) in
@@ -34,13 +33,14 @@ pub span_sums : (s : Spanned) → IsSpanned s → (i j : ℕ) → i < j → j �
 span_sums s spanned i j lt le =
     let low = need_at s.counts s.step i in
     let high = need_at s.counts s.step j in
-    let up : low ≤ high = omega (arith, places_ascend s.counts s.step i j spanned.is_step lt le) in
-    let small = (place_is_class s.counts s.step j spanned.is_step spanned.are_counts (omega arith) le).0.1 in
+    let pos = step-positive s.step spanned.is_step in
+    let up : low ≤ high = omega (arith, places_ascend s.counts s.step pos i j lt le) in
+    let small = (place_is_class s.counts s.step j spanned.is_step (omega (arith, spanned.are_counts.sizes)) (omega arith) le).0.1 in
     let payload : GRANULE_BYTES * (high - 1) ≤ largest_counted = omega (arith, small) in
     let requests : counted_up_to s.counts s.step high - counted_up_to s.counts s.step low ≤ 2 ^ 44 =
     omega (arith, (sums_fit s.counts s.step high spanned.are_counts).0) in
     record {
-      no_underflow = sums_ascend s.counts s.step low high spanned.is_step up;
+      no_underflow = sums_ascend s.counts s.step pos low high up;
       fits = omega (arith, mul-le-mul payload requests);
-      waste_is = sym (sums_give_waste s.counts s.step low high spanned.is_step up);
+      waste_is = sym (sums_give_waste s.counts s.step pos low high up);
     }

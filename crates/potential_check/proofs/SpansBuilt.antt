@@ -7,7 +7,7 @@ use Rattle.std.proofs.Math.Nat.{mul-le-mul}
 use Rattle.class_table.specs.Sizes.{largest_counted, need_of}
 use Rattle.potential_check.specs.Spanned.{AreSumsUpTo, HoldsSums, last_need}
 use Rattle.tuner_theory.specs.Spans.{needs_below, rounded_need, with_need}
-use Rattle.tuner_theory.proofs.LawLemmas.{rounding_is_least}
+use Rattle.tuner_theory.proofs.LawLemmas.{rounding_is_least, step-positive}
 use Rattle.tuner_theory.proofs.Sums.{sum_below-more, sum_below-none, sum_bounded, sum_same}
 use Rattle.class_table.specs.Steps.{IsStep}
 use Rattle.tuner_theory.specs.Profiles.{AreCounts, greatest_count}
@@ -146,13 +146,13 @@ product-some (suc a) b some = omega arith
 module _ (counts : List ℕ) (step : ℕ) (is_step : IsStep step) where
   rounded-mono : (m n : ℕ) → m ≤ n → rounded_need step m ≤ rounded_need step n
   rounded-mono m n le =
-      let later = rounding_is_least step (need_of n) is_step in
+      let later = rounding_is_least step (need_of n) (step-positive step is_step) in
       let no_less : need_of m ≤ need_of n = omega arith in
-      (rounding_is_least step (need_of m) is_step).least (rounded_need step n) later.multiple (omega (arith, later.above))
+      (rounding_is_least step (need_of m) (step-positive step is_step)).least (rounded_need step n) later.multiple (omega (arith, later.above))
 
   rounded-positive : (n : ℕ) → 0 < rounded_need step n
   rounded-positive n =
-      let above = (rounding_is_least step (need_of n) is_step).above in
+      let above = (rounding_is_least step (need_of n) (step-positive step is_step)).above in
       let some : 0 < need_of n = omega arith in
       omega arith
 

@@ -9,24 +9,7 @@ use Rattle.class_table.proofs.LawLemmas.{class_line_is_full, named_line_is_full,
 use Rattle.line_text.specs.Lines.{IsFullLine, lines}
 use Rattle.line_text.proofs.LawLemmas.{text_laws as laws}
 use Rattle.class_table.specs.declared.table.TheConstants.{MOST_CLASSES}
-use Rattle.potential_check.specs.SheetText.{
-  IsRow,
-  IsWithinLimits,
-  SpellsBy,
-  cost_in,
-  cost_number,
-  head_of_lines,
-  limit_in,
-  line_at,
-  lines_by,
-  read_by,
-  rows_from,
-  step_at,
-  step_lines,
-  table_in,
-  with_rows,
-  word_of,
-}
+use Rattle.potential_check.specs.SheetText.{IsRow, IsWithinLimits, SpellsBy, cost_in, cost_number, head_of_lines, limit_in, line_at, lines_by, read_by, rows_from, step_at, step_lines, table_in, with_rows, word_of}
 use Rattle.potential_check.specs.declared.cost.Cost.{Cost}
 use Rattle.class_table.specs.NamedLines.{named_line}
 use Rattle.potential_check.specs.declared.reading.Head.{Head}
@@ -98,8 +81,8 @@ unfolding read_by
 read_on cost ls after head rows is_head is_rows = rw (is_head, ← add-one (cost_number head.step), is_rows) refl
 
 -- The text of what is within the limits is read as that.
-pub read-spelled : (cost : Cost) (text : List ℕ) (s : Sheet) → SpellsBy cost text s → read_by cost (lines text) ≡ Ok s
-read-spelled cost text s spells =
+pub spelled_is_read : (cost : Cost) (text : List ℕ) (s : Sheet) → SpellsBy cost text s → read_by cost (lines text) ≡ Ok s
+spelled_is_read cost text s spells =
     let within = spells.limits in
     let is : lines text ≡ lines_by cost s = laws.full_lines (lines_by cost s) text (lines-full cost s within) spells.spelled in
     let table = read_at 1 table_in (class_line s.table) _ s.table (table_in-line s.table within.table) in

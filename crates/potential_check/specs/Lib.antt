@@ -1,9 +1,7 @@
 pub mod FitText
 pub mod FitView
 pub mod RowConditions
-pub mod Laws
 pub mod Leading
-pub mod Lists
 pub mod PartsText
 pub mod SheetOnCounts
 pub mod SheetText

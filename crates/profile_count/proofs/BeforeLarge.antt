@@ -7,7 +7,7 @@ use Rattle.tuner_theory.specs.Profiles.{AreCounts, greatest_count}
 use Rattle.profile_count.specs.Counts.{nothing_counted, zeros}
 use Rattle.profile_count.specs.ProfileText.{Reading, IsNext, with_entry}
 use Rattle.profile_count.specs.declared.entry.Entry.TheVariants.{Size}
-use Rattle.profile_count.proofs.Zeros.{counts-zeros, get_or-zeros}
+use Rattle.profile_count.proofs.Zeros.{zeros_are_counts, each_is_zero}
 
 pub record IsOpen (reading : Reading) : Type 0 where
   pub counts : AreCounts reading.profile.counts
@@ -20,9 +20,9 @@ nothing_read = record { profile = nothing_counted; next = 0 }
 
 pub is_open-nothing_read : IsOpen nothing_read
 is_open-nothing_read = record {
-  counts = counts-zeros (zeros (largest_counted + 1)) refl;
+  counts = zeros_are_counts (zeros (largest_counted + 1)) refl;
   large = refl;
-  none = λ k from. get_or-zeros (largest_counted + 1) k;
+  none = λ k from. each_is_zero (largest_counted + 1) k;
 }
 
 -- where one count is set, the others stay

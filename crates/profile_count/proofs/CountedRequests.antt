@@ -8,7 +8,7 @@ use Rattle.class_table.specs.Sizes.{largest_counted}
 use Rattle.tuner_theory.specs.Profiles.{Profile}
 use Rattle.profile_count.specs.Counts.{count_for, nothing_counted, with_one_more, zeros}
 use Rattle.profile_count.specs.Requests.{CountsRequests, large_requests, profile_of_sizes, requests_below, requests_of, with_more}
-use Rattle.profile_count.proofs.Zeros.{counts-zeros, get_or-zeros}
+use Rattle.profile_count.proofs.Zeros.{zeros_are_counts, each_is_zero}
 
 -- ---- the counts of the sizes below a bound
 
@@ -67,9 +67,9 @@ same_parts : (a b : List ℕ) (c d : ℕ) → a ≡ b → c ≡ d →
 same_parts a b c d counts large = rw (counts, large) refl
 
 -- One request more gives the profile of all of them.
-pub with_one_more-profile_of_sizes : (sizes : List ℕ) (n : ℕ) →
+pub one_more_is_counted : (sizes : List ℕ) (n : ℕ) →
     with_one_more (profile_of_sizes sizes) n ≡ profile_of_sizes (sizes ++ n ∷ [])
-with_one_more-profile_of_sizes sizes n = go (leb n largest_counted) refl
+one_more_is_counted sizes n = go (leb n largest_counted) refl
   where
     go : (b : Bool) → leb n largest_counted ≡ b → with_one_more (profile_of_sizes sizes) n ≡ profile_of_sizes (sizes ++ n ∷ [])
     go true e =
@@ -87,31 +87,32 @@ nothing_counted-is : nothing_counted ≡ profile_of_sizes []
 nothing_counted-is =
     same_parts (zeros (largest_counted + 1)) (requests_below (largest_counted + 1) []) 0 0
     (requests_below-is (zeros (largest_counted + 1)) (largest_counted + 1) []
-    (counts-zeros (zeros (largest_counted + 1)) refl).sizes (λ k below. get_or-zeros (largest_counted + 1) k)) refl
+    (zeros_are_counts (zeros (largest_counted + 1)) refl).sizes (λ k below. each_is_zero (largest_counted + 1) k)) refl
 
 with_more-profile_of_sizes : (before sizes : List ℕ) → with_more (profile_of_sizes before) sizes ≡ profile_of_sizes (before ++ sizes)
 with_more-profile_of_sizes before [] = ap profile_of_sizes (sym (append-nil before))
 with_more-profile_of_sizes before (n ∷ sizes) =
-    ap (λ p. with_more p sizes) (with_one_more-profile_of_sizes before n)
+    ap (λ p. with_more p sizes) (one_more_is_counted before n)
     ∙ with_more-profile_of_sizes (before ++ n ∷ []) sizes
     ∙ ap profile_of_sizes (append_assoc before (n ∷ []) sizes)
 
 -- Requests that are added one by one to the empty profile give their profile.
-pub with_more-nothing_counted : (sizes : List ℕ) → with_more nothing_counted sizes ≡ profile_of_sizes sizes
-with_more-nothing_counted sizes = ap (λ p. with_more p sizes) nothing_counted-is ∙ with_more-profile_of_sizes [] sizes
+pub added_requests_are_counted : (sizes : List ℕ) → with_more nothing_counted sizes ≡ profile_of_sizes sizes
+added_requests_are_counted sizes = ap (λ p. with_more p sizes) nothing_counted-is ∙ with_more-profile_of_sizes [] sizes
 
 -- ---- what the profile has
 
-pub profile_of_sizes-counts : (sizes : List ℕ) → CountsRequests (profile_of_sizes sizes) sizes
-profile_of_sizes-counts sizes = record {
+-- `profile_counts_requests`: for each size the number of its requests, and the number of the large ones
+pub profile_counts_requests : (sizes : List ℕ) → CountsRequests (profile_of_sizes sizes) sizes
+profile_counts_requests sizes = record {
   size_count = length-requests_below (largest_counted + 1) sizes;
   each = λ n small. get_or-requests_below (largest_counted + 1) sizes n (omega arith);
   large = refl;
 }
 
 -- No count is above the number of all requests.
-pub count_for-le : (sizes : List ℕ) (n : ℕ) → count_for (profile_of_sizes sizes) n ≤ length sizes
-count_for-le sizes n = go (leb n largest_counted) refl
+pub counts_are_few : (sizes : List ℕ) (n : ℕ) → count_for (profile_of_sizes sizes) n ≤ length sizes
+counts_are_few sizes n = go (leb n largest_counted) refl
   where
     go : (b : Bool) → leb n largest_counted ≡ b → count_for (profile_of_sizes sizes) n ≤ length sizes
     go true e =

@@ -1,21 +1,20 @@
 -- The line at which a text is refused as a profile is its first fault.
 use Rattle.std.proofs.Common.{◌≡◌, ℕ, ◌+◌, ◌-◌, ◌≤◌, ◌⊎◌, List, [], ◌∷◌, length, take, Result, Ok, Err}
 use Rattle.std.proofs.Common.{refl, sym, ap, ◌∙◌, arith, inl, inr, append-nil}
+use Rattle.std.specs.Prelude.{◌↔◌}
 use Rattle.std.proofs.lemmas.Bool.{cases_lt}
 use Rattle.std.proofs.lemmas.List.Elements.{All-nil, All-take}
 use Rattle.line_text.specs.FirstFault.{IsFirstFault}
 use Rattle.line_text.specs.Lines.{lines, words, text_of, IsLine}
 use Rattle.tuner_theory.specs.Profiles.{Profile}
-use Rattle.line_text.proofs.LawLemmas.{text_laws as laws}
-use Rattle.profile_count.specs.Laws.{IsRefusedAt}
-use Rattle.profile_count.specs.ProfileText.{Reading, SpellsProfile, entry_of, profile_from, profile_of, with_entry}
+use Rattle.line_text.proofs.LawLemmas.{IsLineByLine, first_fault_is_a_refusal, refusal_has_its_place, refusal_is_first_fault, text_laws as laws}
+use Rattle.profile_count.specs.ProfileText.{IsRefusedAt, Reading, SpellsProfile, entry_of, profile_from, profile_of, with_entry}
 use Rattle.profile_count.specs.declared.entry.Entry.{Entry}
 use Rattle.profile_count.specs.declared.fault.ProfileFault.{ProfileFault}
 use Rattle.profile_count.proofs.LineByLine.{line_read, line_faulty, no_line}
-use Rattle.profile_count.proofs.LineFaults.{IsLineByLine, fault_at, first_fault-refusal, refusal-first_fault}
 use Rattle.profile_count.proofs.BeforeLarge.{nothing_read}
-use Rattle.profile_count.proofs.ReadIsSpelled.{spelled-profile_of}
-use Rattle.profile_count.proofs.SpelledIsRead.{profile_of-spelled}
+use Rattle.profile_count.proofs.ReadIsSpelled.{profile_is_spelled}
+use Rattle.profile_count.proofs.SpelledIsRead.{spelled_profile_is_read}
 
 abbrev Taken : Reading → List ℕ → Type 0
 Taken s line = (next : Reading) × ((n : ℕ) (ls : List (List ℕ)) → profile_from n s (line ∷ ls) ≡ profile_from (n + 1) next ls)
@@ -39,9 +38,9 @@ reads = record {
 }
 
 -- The line of a fault is there,
-pub within-refused : (text : List ℕ) (n : ℕ) → IsRefusedAt n text → n ≤ length (lines text)
-within-refused text n refused =
-    let at = fault_at profile_from reads (lines text) 1 nothing_read n refused.0 refused.1 in
+pub refused_line_is_there : (text : List ℕ) (n : ℕ) → IsRefusedAt n text → n ≤ length (lines text)
+refused_line_is_there text n refused =
+    let at = refusal_has_its_place profile_from reads (lines text) 1 nothing_read n refused.0 refused.1 in
     elim (cases_lt at.0 (length (lines text))) [
       | inl there ↦ omega (arith, at.1)
       | inr past ↦ read_or_refused at.2.reached.profile (n, refused.0) (sym (no_line n at.2.reached [] refl) ∙ at.2.missing past n)
@@ -51,23 +50,22 @@ within-refused text n refused =
     read_or_refused p fault e = absurd cc
 
 -- the lines before it alone spell a profile,
-pub front-refused : (text : List ℕ) (n : ℕ) → IsRefusedAt n text
+pub lines_before_it_spell : (text : List ℕ) (n : ℕ) → IsRefusedAt n text
     → (p : Profile) × SpellsProfile (text_of (take (n - 1) (lines text))) p
-front-refused text n refused =
-    let at = fault_at profile_from reads (lines text) 1 nothing_read n refused.0 refused.1 in
+lines_before_it_spell text n refused =
+    let at = refusal_has_its_place profile_from reads (lines text) 1 nothing_read n refused.0 refused.1 in
     let k = at.0 in
     let before : n - 1 ≡ k = omega (arith, at.1) in
     let front = take k (lines text) in
-    let are : lines (text_of front) ≡ front = laws.written_lines front (All-take IsLine k (lines text) (laws.lines text)) in
+    let are : lines (text_of front) ≡ front = laws.written_lines front (All-take IsLine k (lines text) (laws.all_lines text)) in
     let read : profile_of (text_of front) ≡ Ok at.2.reached.profile =
     ap (profile_from 1 nothing_read) (are ∙ sym (append-nil front)) ∙ at.2.before [] ∙ no_line (1 + k) at.2.reached [] refl in
-    (at.2.reached.profile, rw before (spelled-profile_of (text_of front) at.2.reached.profile read))
+    (at.2.reached.profile, rw before (profile_is_spelled (text_of front) at.2.reached.profile read))
 
--- and it is the first fault of the text.
-pub first_fault-refused : (text : List ℕ) (n : ℕ) → IsRefusedAt n text → IsFirstFault SpellsProfile text n
-first_fault-refused text n refused =
-    refusal-first_fault profile_from reads SpellsProfile nothing_read spelled-profile_of profile_of-spelled text n refused.0 refused.1
-
--- The first fault of a text is refused.
-pub refused-first_fault : (text : List ℕ) (n : ℕ) → IsFirstFault SpellsProfile text n → IsRefusedAt n text
-refused-first_fault = first_fault-refusal profile_from reads SpellsProfile nothing_read spelled-profile_of profile_of-spelled
+-- and it is the first fault of the text, which is always refused.
+pub first_fault_is_refused : (text : List ℕ) (n : ℕ) → IsRefusedAt n text ↔ IsFirstFault SpellsProfile text n
+first_fault_is_refused text n = (
+  λ refused. refusal_is_first_fault profile_from reads SpellsProfile nothing_read profile_is_spelled spelled_profile_is_read text n
+      refused.0 refused.1,
+  first_fault_is_a_refusal profile_from reads SpellsProfile nothing_read profile_is_spelled spelled_profile_is_read text n,
+)

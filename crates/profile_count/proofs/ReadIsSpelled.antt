@@ -112,7 +112,7 @@ spells_rest-read (line ∷ ls) number reading p is_open e =
         rw (read.2, after.0, ← after.1) (spells_rest-large reading count is_open read.1)
 
 -- What is read as a profile is its text.
-pub spelled-profile_of : (text : List ℕ) (p : Profile) → profile_of text ≡ Ok p → SpellsProfile text p
-spelled-profile_of text p e =
+pub profile_is_spelled : (text : List ℕ) (p : Profile) → profile_of text ≡ Ok p → SpellsProfile text p
+profile_is_spelled text p e =
     let rest = spells_rest-read (lines text) 1 nothing_read p is_open-nothing_read e in
     record { profile = rest.profile; spelled = subst (IsTextOf text) rest.spelled (laws.text text) }

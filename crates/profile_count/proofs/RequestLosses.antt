@@ -5,10 +5,9 @@ use Rattle.std.specs.Option.{option_map_or}
 use Rattle.std.proofs.lemmas.Bool.{cases_eq, cases_lt, eq-eqb, leb-true, le-leb, le-ltb, lt-leb, lt-ltb, ltb-true, ltb-false}
 use Rattle.std.proofs.lemmas.List.Elements.{All-from_get_or, All-head, All-tail, filter_agree, filter_passes}
 use Rattle.std.proofs.lemmas.List.Filters.{sum_by-filter_both}
-use Rattle.std.proofs.lemmas.List.Sums.{count_by-le-length, get_or-le-sum_by, sum_by-cons}
+use Rattle.std.proofs.lemmas.List.Sums.{get_or-le-sum_by, sum_by-cons}
 use Rattle.class_table.specs.Sizes.{counted_of, largest_counted, loss_of}
 use Rattle.class_table.specs.Tables.{class_for, loss_of_size, ServesSizes, rounding_loss}
-use Rattle.tuner_theory.specs.Profiles.{IsProfile, greatest_count}
 use Rattle.tuner_theory.specs.Waste.{Serves, sum_below, waste_at, waste_of}
 use Rattle.tuner_theory.proofs.Sums.{sum_none, sum_same, sum_split}
 use Rattle.profile_count.specs.Requests.{profile_of_sizes, requests_below, requests_of}
@@ -81,9 +80,9 @@ waste_of-requests_below top sizes classes =
     ∙ ap (sum_by (loss_of_size classes)) (filter_agree (λ n. ltb n (top + 1)) (λ n. leb n top) (λ n. ltb-suc n top) sizes)
 
 -- The waste is the sum of what the counted requests lose.
-pub waste_of-profile_of_sizes : (sizes classes : List ℕ)
+pub waste_is_the_sum_of_losses : (sizes classes : List ℕ)
     → waste_of (profile_of_sizes sizes).counts classes ≡ rounding_loss classes (counted_of sizes)
-waste_of-profile_of_sizes = waste_of-requests_below largest_counted
+waste_is_the_sum_of_losses = waste_of-requests_below largest_counted
 
 -- ---- serving
 
@@ -133,23 +132,6 @@ serves-requests_below top sizes classes = (each, served)
         (omega (arith, counted.1, get_or-requests_below (top + 1) sizes n below)) all
 
 -- A table serves the profile where each counted request has a class.
-pub serves-profile_of_sizes : (sizes classes : List ℕ)
+pub serves_each_request : (sizes classes : List ℕ)
     → Serves (profile_of_sizes sizes).counts classes ↔ ServesSizes classes (counted_of sizes)
-serves-profile_of_sizes = serves-requests_below largest_counted
-
--- ---- a profile
-
-few-requests_below : (n most : ℕ) (sizes : List ℕ) → length sizes ≤ most → All (λ count. count ≤ most) (requests_below n sizes)
-few-requests_below n most sizes few = All-from_get_or (λ count. count ≤ most) (requests_below n sizes) 0 (λ k within.
-    let counted = get_or-requests_below n sizes k (omega (arith, length-requests_below n sizes)) in
-    omega (arith, counted, count_by-le-length (λ size. eqb size k) sizes))
-
--- No count of few requests is too high for a profile.
-pub profile_of_sizes-is_profile : (sizes : List ℕ) → length sizes ≤ greatest_count → IsProfile (profile_of_sizes sizes)
-profile_of_sizes-is_profile sizes few = record {
-  counts = record {
-    sizes = length-requests_below (largest_counted + 1) sizes;
-    in_range = few-requests_below (largest_counted + 1) greatest_count sizes few;
-  };
-  large = omega (arith, count_by-le-length (λ size. ltb largest_counted size) sizes);
-}
+serves_each_request = serves-requests_below largest_counted

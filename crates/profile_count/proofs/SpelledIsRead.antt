@@ -117,8 +117,8 @@ large_lines-full (suc n) small =
     (All-cons IsFullLine (entry_line (Large (suc n))) [] (full_line (Large (suc n)) (refl, omega arith, small)) (All-nil IsFullLine))
 
 -- The text of a profile is read as that profile.
-pub profile_of-spelled : (text : List ℕ) (p : Profile) → SpellsProfile text p → profile_of text ≡ Ok p
-profile_of-spelled text p spells =
+pub spelled_profile_is_read : (text : List ℕ) (p : Profile) → SpellsProfile text p → profile_of text ≡ Ok p
+spelled_profile_is_read text p spells =
     let sizes = size_lines-full p.counts 0 (omega (arith, spells.profile.counts.sizes)) spells.profile.counts.in_range in
     let full = All-append IsFullLine (size_lines 0 p.counts) (large_lines p.large) sizes (large_lines-full p.large spells.profile.large) in
     let is : lines text ≡ profile_lines p = laws.full_lines (profile_lines p) text full spells.spelled in

@@ -13,13 +13,13 @@ pub small_term : (count loss : ℕ) → count ≤ greatest_count → loss ≤ la
 small_term count loss few small = omega (arith, mul-le-mul {n₂ = greatest_count} {m₂ = largest_counted} few small)
 
 -- from where on nothing is lost, the sum stays
-pub sum_below-rest : (f : ℕ → ℕ) (from end : ℕ) → from ≤ end → ((n : ℕ) → from ≤ n → f n ≡ 0) → sum_below f end ≡ sum_below f from
-sum_below-rest f from zero le none = ap (sum_below f) (omega arith)
-sum_below-rest f from (suc end) le none =
+pub sum_up_to_the_rest : (f : ℕ → ℕ) (from end : ℕ) → from ≤ end → ((n : ℕ) → from ≤ n → f n ≡ 0) → sum_below f end ≡ sum_below f from
+sum_up_to_the_rest f from zero le none = ap (sum_below f) (omega arith)
+sum_up_to_the_rest f from (suc end) le none =
     elim (cases_lt end from) [
       | inl there ↦ ap (sum_below f) (omega arith)
       | inr later ↦
-          let rest = sum_below-rest f from end later none in
+          let rest = sum_up_to_the_rest f from end later none in
           omega (arith, sum_below-more f end, none end later, rest)
     ]
 

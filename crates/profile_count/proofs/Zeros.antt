@@ -7,23 +7,23 @@ use Rattle.class_table.specs.Sizes.{largest_counted}
 use Rattle.profile_count.specs.Counts.{zeros}
 use Rattle.tuner_theory.specs.Profiles.{AreCounts, greatest_count}
 
-length-zeros : (n : ℕ) → length (zeros n) ≡ n
+pub length-zeros : (n : ℕ) → length (zeros n) ≡ n
 unfolding zeros
 length-zeros n = length-replicate n 0
 
 -- Each is 0, and so is what is read after the last.
-pub get_or-zeros : (n k : ℕ) → get_or (zeros n) k 0 ≡ 0
+pub each_is_zero : (n k : ℕ) → get_or (zeros n) k 0 ≡ 0
 unfolding zeros
-get_or-zeros n k = elim (cases_lt k n) [
+each_is_zero n k = elim (cases_lt k n) [
   | inl within ↦ get_or-replicate n k 0 0 within
   | inr past ↦ get_or_past (zeros n) k 0 (omega (arith, length-zeros n))
 ]
 
-pub counts-zeros : (items : List ℕ) → items ≡ zeros (largest_counted + 1) → AreCounts items
-counts-zeros items are =
+pub zeros_are_counts : (items : List ℕ) → items ≡ zeros (largest_counted + 1) → AreCounts items
+zeros_are_counts items are =
     let sizes : length items ≡ largest_counted + 1 = ap length are ∙ length-zeros (largest_counted + 1) in
     record {
       sizes = sizes;
       in_range = All-from_get_or (λ count. count ≤ greatest_count) items 0
-          (λ k within. rw (are, get_or-zeros) (omega arith));
+          (λ k within. rw (are, each_is_zero) (omega arith));
     }

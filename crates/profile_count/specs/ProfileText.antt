@@ -107,6 +107,10 @@ profile_of_lines ls = profile_from 1 (record { profile = nothing_counted; next =
 abbrev pub profile_of : List ℕ → Result Profile (ℕ × ProfileFault)
 profile_of text = profile_of_lines (lines text)
 
+-- The text is refused as a profile at this line.
+abbrev pub IsRefusedAt : ℕ → List ℕ → Type 0
+IsRefusedAt n text = (fault : ProfileFault) × (profile_of text ≡ Err (n, fault))
+
 -- What a reader returned is what the definition says, unless memory ran out.
 abbrev pub GivesProfile : Result Profile ProfileError → Result Profile (ℕ × ProfileFault) → Type 0
 GivesProfile (Ok profile) read = read ≡ Ok profile

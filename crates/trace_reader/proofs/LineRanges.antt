@@ -1,5 +1,5 @@
 -- The event of a line is in its ranges, and the line's number is not above the most events.
-use Rattle.line_text.proofs.LawLemmas.{hex_is_a_byte}
+use Rattle.line_text.proofs.LawLemmas.{hex_is_spelled}
 use Rattle.line_text.specs.FirstFault.{◌>>=◌}
 use Rattle.trace_reader.specs.TraceText.{trace_from, trace_of, with_line}
 use Rattle.std.proofs.Common.{◌≡◌, ℕ, ◌<◌, ◌≤◌, Bool, true, false, cond, ◌&&◌, leb, ltb, List, [], ◌∷◌, length, Option, Some, None, Result, Ok, Err, IfOk, ◌^◌, refl, arith, nat_abs, suc, ◌+◌}
@@ -55,7 +55,7 @@ IfOk-byte_of word = go (hex_of word) refl
   where
     go : (o : Option ℕ) → hex_of word ≡ o → IfOk (ranged (λ n. true) o) (λ n. n < 2 ^ 8)
     go None is = tt
-    go (Some n) is = hex_is_a_byte word n is
+    go (Some n) is = (hex_is_spelled word n is).0
 
 -- ---- the words after a name
 

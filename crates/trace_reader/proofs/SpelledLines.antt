@@ -42,7 +42,7 @@ spelled_offset word =
     (λ z is e. signed_is_spelled word z (fits_signed z (leb-true (nat_abs z) 1048576 e)) is)
 
 spelled_byte : (word : List ℕ) → IfOk (byte_of word) (λ n. word ≡ hex n)
-spelled_byte word = IfOk-ranged_of (λ n. word ≡ hex n) (λ n. true) (hex_of word) (λ n is e. hex_is_spelled word n is)
+spelled_byte word = IfOk-ranged_of (λ n. word ≡ hex n) (λ n. true) (hex_of word) (λ n is e. (hex_is_spelled word n is).1)
 
 -- ---- the words after a name
 

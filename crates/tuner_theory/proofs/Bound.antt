@@ -64,11 +64,11 @@ module _ (counts : List ℕ) (step : ℕ) (pos : 0 < step) (between : ℕ → �
       ]
 
 -- a table in question costs at least the first number of row `limit`
-pub potentials-bound_by : (cost : List ℕ → ℕ) (between : ℕ → ℕ → ℕ) (counts : List ℕ) (step limit : ℕ) (potential : ℕ → ℕ → ℕ)
+pub potentials_bound_costs : (cost : List ℕ → ℕ) (between : ℕ → ℕ → ℕ) (counts : List ℕ) (step limit : ℕ) (potential : ℕ → ℕ → ℕ)
     (classes : List ℕ) → 0 < step → IsSumOfIntervals cost between counts step
     → AreValidPotentials (span_cost between counts step) (places counts step) limit potential
     → IsCandidate counts step limit classes → potential limit 0 ≤ cost classes
-potentials-bound_by cost between counts step limit potential classes pos sums valid candidate =
+potentials_bound_costs cost between counts step limit potential classes pos sums valid candidate =
     omega (
       arith,
       sums.sum classes candidate.legal,

@@ -11,7 +11,7 @@ use Rattle.tuner_theory.specs.Spans.{need_at, places, rounded_need, span_waste}
 use Rattle.tuner_theory.specs.Profiles.{IsCounted}
 use Rattle.tuner_theory.specs.Waste.{sum_below, waste_at, waste_of}
 use Rattle.tuner_theory.proofs.Bound.{bound}
-use Rattle.tuner_theory.proofs.Needs.{Reaches, need_at-from, needs_ascend}
+use Rattle.tuner_theory.proofs.Needs.{Reaches, place_is_counted, places_ascend}
 use Rattle.tuner_theory.proofs.Rounding.{rounded-positive}
 use Rattle.tuner_theory.proofs.Sums.{sum_same}
 use Rattle.tuner_theory.proofs.Tables.{ServesAbove, class_for-later, waste-cost, waste_above, waste_above-costs}
@@ -82,8 +82,8 @@ module _ (counts : List ℕ) (step : ℕ) (pos : 0 < step) (i : ℕ) where
     reached = omega arith;
     last = λ j within below. elim (cases_lt i j) [
       | inr not ↦ not
-      | inl lt ↦ (let at = need_at-from counts step j (omega arith) within in
-          absurd (omega (arith, needs_ascend counts step pos i j lt within, at.2, rounded-positive step pos at.0)))
+      | inl lt ↦ (let at = place_is_counted counts step j (omega arith) within in
+          absurd (omega (arith, places_ascend counts step pos i j lt within, at.2, rounded-positive step pos at.0)))
     ];
   }
 

@@ -9,17 +9,16 @@ use Rattle.class_table.specs.Tables.{class_for}
 use Rattle.class_table.proofs.LawLemmas.{AreClassesAbove, class_above, classes_of_legal_table, legal_table_of_classes}
 use Rattle.tuner_theory.specs.Best.{IsBestBy, IsCandidate, IsCanonical, IsCanonicalBy, IsLexicographicallyAtMost, IsUsed}
 use Rattle.tuner_theory.specs.Intervals.{IsIntervalCost, IsSumOfIntervals, cost_above, span_cost}
-use Rattle.tuner_theory.specs.Tuned.{AreRowsBy, AreTunedRows, tuned_table}
+use Rattle.tuner_theory.specs.Tuned.{AreRowsBy, tuned_table}
 use Rattle.tuner_theory.specs.Rows.{AreLeastRows, table_of_ends}
 use Rattle.tuner_theory.specs.Spans.{need_at, places, rounded_need}
 use Rattle.tuner_theory.specs.Profiles.{IsCounted}
-use Rattle.tuner_theory.specs.Waste.{waste_of}
-use Rattle.tuner_theory.proofs.Bound.{bound, potentials-bound_by}
+use Rattle.tuner_theory.proofs.Bound.{bound, potentials_bound_costs}
 use Rattle.tuner_theory.proofs.Intervals.{span-least}
-use Rattle.tuner_theory.proofs.LeastRows.{ends-later, rows-valid}
-use Rattle.tuner_theory.proofs.Needs.{Reaches, need_at-from, needs_ascend, reach, reach-at, reach-covers, reach-one}
+use Rattle.tuner_theory.proofs.LeastRows.{ends_are_later, least_rows_are_valid}
+use Rattle.tuner_theory.proofs.Needs.{Reaches, place_is_counted, places_ascend, reach, reach-at, reach-covers, reach-one}
 use Rattle.tuner_theory.proofs.Rounding.{rounded-positive, step-positive}
-use Rattle.tuner_theory.proofs.Tables.{ServesAbove, ServesAbove-later, class_for-first, class_for-later, nothing-left, waste-sum}
+use Rattle.tuner_theory.proofs.Tables.{ServesAbove, ServesAbove-later, class_for-first, class_for-later, nothing-left}
 use Rattle.tuner_theory.proofs.TunedTable.{IsTableFor, next-above, table-tuned}
 
 -- ---- used classes
@@ -92,7 +91,7 @@ module _ (counts : List ℕ) (step : ℕ) (pos : 0 < step) where
       elim (cases_lt i j) [
         | inl lt ↦ lt
         | inr not ↦ absurd (elim (cases_lt j i) [
-          | inl back ↦ omega (arith, ri.reached, covered, needs_ascend counts step pos j i back ri.within)
+          | inl back ↦ omega (arith, ri.reached, covered, places_ascend counts step pos j i back ri.within)
           | inr other ↦ (let same : i ≡ j = omega arith in omega (arith, ri.reached, covered, ap (need_at counts step) same))
         ])
       ]
@@ -117,8 +116,8 @@ module _ (counts : List ℕ) (step : ℕ) (pos : 0 < step) (between : ℕ → �
   tuned-used (suc k) i low le r =
       cond_both (ltb i (places counts step)) _ _ (AreUsedAbove counts step low)
       (λ e. let j = ends (suc k) i in
-      let far = ends-later _ _ limit rows ends least (suc k) i (omega arith) le (ltb-true i (places counts step) e) in
-      let at = need_at-from counts step j (omega (arith, far.0)) far.1 in (
+      let far = ends_are_later _ _ limit rows ends least (suc k) i (omega arith) le (ltb-true i (places counts step) e) in
+      let at = place_is_counted counts step j (omega (arith, far.0)) far.1 in (
         (at.0, at.1, omega (arith, at.2, next-above counts step pos low i j r far.0 far.1), omega (arith, at.2)),
         tuned-used k j (need_at counts step j) (omega arith) (reach-at counts step pos j far.1),
       ))
@@ -153,7 +152,7 @@ module _ (counts : List ℕ) (step : ℕ) (pos : 0 < step) (between : ℕ → �
       let row = least.later_row (suc k) i (omega arith) (omega arith) (ltb-true i d e) in
       let end = ends (suc (suc k)) i in
       let rest : rows (suc k) j.0 ≤ cost_above between c cs =
-      bound counts step pos between cost limit rows (rows-valid _ _ _ rows ends least) cs (suc k) c j.0 (omega (arith, above.0)) j.1 above.3
+      bound counts step pos between cost limit rows (least_rows_are_valid _ _ _ rows ends least) cs (suc k) c j.0 (omega (arith, above.0)) j.1 above.3
       (omega arith) (omega arith) later in
       let first = span-least counts step pos between cost low c i j.0 r j.1 in
       elim (cases_lt (need_at counts step end) c) [
@@ -210,7 +209,7 @@ rows-canonical cost between counts step (suc k) rows ends sums tuned = (record {
           λ other question. omega (
             arith,
             costs,
-            potentials-bound_by cost between counts step (suc k) rows other pos sums (rows-valid _ _ _ rows ends tuned.least) question,
+            potentials_bound_costs cost between counts step (suc k) rows other pos sums (least_rows_are_valid _ _ _ rows ends tuned.least) question,
           );
     }
 
@@ -229,8 +228,8 @@ rows-canonical cost between counts step (suc k) rows ends sums tuned = (record {
         (used-from_all counts step pos other above used_too)
         (omega (arith, sums.sum other best_too.candidate.legal, costs, best_too.least table candidate))
 
-pub tuned-canonical : (counts : List ℕ) (step limit : ℕ) (rows ends : ℕ → ℕ → ℕ) → AreTunedRows counts step limit rows ends
-    → IsCanonical counts step limit (tuned_table counts step limit ends)
-    × (waste_of counts (tuned_table counts step limit ends) ≡ rows limit 0)
-tuned-canonical counts step limit rows ends tuned =
-    rows-canonical _ _ counts step limit rows ends (waste-sum counts step (step-positive step tuned.is_step)) tuned
+-- there is one canonical table
+pub one_canonical : (cost : List ℕ → ℕ) (counts : List ℕ) (step limit : ℕ) (a b : List ℕ) → IsCanonicalBy cost counts step limit a
+    → IsCanonicalBy cost counts step limit b → a ≡ b
+one_canonical cost counts step limit a b of_a of_b =
+    order-antisymmetric a b (of_a.least b of_b.best of_b.used) (of_b.least a of_a.best of_a.used)

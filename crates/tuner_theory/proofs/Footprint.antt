@@ -164,9 +164,9 @@ module _ (step : ℕ) (pos : 0 < step) where
       needed : (x v : ℕ) → 2 ≤ x → v ≡ cond (ltb 1 x) v 0
       needed x v two = grind (arith, nat_tests)
 
-pub footprint-sum : (snapshots : List (List ℕ)) (step : ℕ) → 0 < step → AreSnapshots snapshots
+pub footprint_is_sum : (snapshots : List (List ℕ)) (step : ℕ) → 0 < step → AreSnapshots snapshots
     → IsSumOfIntervals (footprint_of snapshots) (footprint_between snapshots step) (peaks snapshots) step
-footprint-sum snapshots step pos are = record {
+footprint_is_sum snapshots step pos are = record {
   interval = footprint-cost snapshots are step;
   sum = λ classes legal. let above = classes_of_legal_table step classes legal in
       footprint-all step pos snapshots classes above ∙ footprint-above step pos snapshots 1 classes (omega arith) above;

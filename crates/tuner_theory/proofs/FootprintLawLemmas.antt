@@ -1,5 +1,5 @@
--- The laws of the footprint as lemmas, for the proofs of the crates above.
-use Rattle.std.proofs.Common.{◌≡◌, ℕ, zero, suc, ◌+◌, ◌*◌, ◌<◌, ◌≤◌, ◌&&◌, Bool, true, false, List, [], ◌∷◌, length, slice_index, get_or, cond, ltb, leb, arith, refl, ap, sym, subst, ◌∙◌, inl, inr}
+-- What holds of footprints: how large they are, what one snapshot makes of them, and what larger histories do.
+use Rattle.std.proofs.Common.{◌≡◌, ℕ, zero, suc, ◌+◌, ◌*◌, ◌^◌, ◌<◌, ◌≤◌, ◌&&◌, Bool, true, false, List, [], ◌∷◌, length, slice_index, get_or, cond, ltb, leb, arith, refl, ap, sym, subst, ◌∙◌, inl, inr}
 use Rattle.std.specs.List.{AllZip}
 use Rattle.std.specs.Prelude.{All, sum_by}
 use Rattle.std.proofs.lemmas.Bool.{cases_lt, cond-false, cond-true, false≢true, le-leb, le-ltb, lt-ltb}
@@ -7,56 +7,34 @@ use Rattle.std.proofs.lemmas.Bool.Decides.{nat_tests}
 use Rattle.std.proofs.lemmas.List.{ext_get_or}
 use Rattle.std.proofs.lemmas.List.Sums.{sum_by-cons, sum_by-le}
 use Rattle.std.proofs.Math.Nat.{le-max_right, mul-le-mul, mul-le-mul_left, mul-le-mul_right}
-use Rattle.class_table.specs.Sizes.{largest_counted, loss_of}
+use Rattle.class_table.specs.Sizes.{granule_bytes, largest_counted, loss_of}
+use Rattle.class_table.specs.Steps.{IsStep}
+use Rattle.class_table.specs.Tables.{IsLegalTable}
 use Rattle.class_table.specs.declared.sizes.TheConstants.{LARGEST_CLASS}
 use Rattle.class_table.proofs.LawLemmas.{AreClassesAbove, classes_of_legal_table}
-use Rattle.tuner_theory.specs.Best.{IsCandidate, IsCanonicalBy}
-use Rattle.tuner_theory.specs.Fits.{sheet_of_fit}
-use Rattle.tuner_theory.specs.Footprint.{blocks, blocks_between, footprint_between, footprint_of, is_class_of}
-use Rattle.tuner_theory.specs.FootprintLaws.{CountsMore, FittedFitIsOptimal, FittedIsTuned, FittedTableIsCanonical, FittedTableTakes, FootprintFits, FootprintIsSum, OneFitted, OneSnapshot, OptimalFitIsLeast, PeaksAreCounts, PotentialsBoundCosts, SnapshotMore, SpanFootprintsFit}
-use Rattle.tuner_theory.specs.Histories.{most, peaks}
+use Rattle.tuner_theory.specs.Best.{IsCandidate, IsCanonical, IsCanonicalBy}
+use Rattle.tuner_theory.specs.Fits.{Fit, IsFitVerdict, sheet_of_fit}
+use Rattle.tuner_theory.specs.Footprint.{IsFitted, IsLeastFootprint, blocks, blocks_between, footprint_between, footprint_of, is_class_of, span_footprint}
+use Rattle.tuner_theory.specs.Histories.{AreSnapshots, most, peaks}
 use Rattle.tuner_theory.specs.Intervals.{cost_above}
 use Rattle.tuner_theory.specs.Profiles.{AreCounts, greatest_count}
-use Rattle.tuner_theory.specs.Spans.{need_at, rounded_need, waste_between}
-use Rattle.tuner_theory.specs.Waste.{sum_below, waste_of}
-use Rattle.tuner_theory.proofs.Bound.{potentials-bound_by}
-use Rattle.tuner_theory.proofs.Canonical.{order-antisymmetric, rows-canonical}
-use Rattle.tuner_theory.proofs.Footprint.{footprint-above, footprint-all, footprint-sum, peak-at, peaks-length}
-use Rattle.tuner_theory.proofs.Needs.{place-class}
+use Rattle.tuner_theory.specs.Spans.{need_at, places, rounded_need, waste_between}
+use Rattle.tuner_theory.specs.Waste.{Serves, sum_below, waste_of}
+use Rattle.tuner_theory.specs.declared.verdict.Verdict.TheVariants.{Optimal}
+use Rattle.tuner_theory.proofs.Footprint.{footprint-above, footprint-all, footprint_is_sum, peak-at, peaks-length}
+use Rattle.tuner_theory.proofs.Needs.{place_is_class}
 use Rattle.tuner_theory.proofs.Rounding.{rounded-fits, rounded-positive, step-positive}
-use Rattle.tuner_theory.proofs.Sheets.{optimal-best_by, rows-optimal_by}
+use Rattle.tuner_theory.proofs.Sheets.{optimal-best_by}
 use Rattle.tuner_theory.proofs.Spans.{count-small}
 use Rattle.tuner_theory.proofs.Sums.{sum_at_most, sum_balance, sum_bounded, sum_none, sum_same, sum_split}
 use Rattle.tuner_theory.proofs.Tables.{ServesAbove, ServesAbove-later, waste-sum}
 
-pub potentials_bound_costs : PotentialsBoundCosts
-potentials_bound_costs cost between counts step limit potential classes is_step sums valid =
-    potentials-bound_by cost between counts step limit potential classes (step-positive step is_step) sums valid
-
-pub footprint_is_sum : FootprintIsSum
-footprint_is_sum snapshots step is_step are = footprint-sum snapshots step (step-positive step is_step) are
-
-pub optimal_fit_is_least : OptimalFitIsLeast
+-- A fit that meets all conditions, and whose table is legal, has a table of least footprint, whoever wrote it.
+pub optimal_fit_is_least : (snapshots : List (List ℕ)) (fit : Fit) → AreSnapshots snapshots → IsLegalTable 1 fit.table
+    → IsFitVerdict snapshots fit Optimal → IsLeastFootprint snapshots fit.step fit.limit fit.table
 optimal_fit_is_least snapshots fit are legal meets =
-    optimal-best_by _ (footprint_between snapshots) (peaks snapshots) (sheet_of_fit fit) (λ step pos. footprint-sum snapshots step pos are)
+    optimal-best_by _ (footprint_between snapshots) (peaks snapshots) (sheet_of_fit fit) (λ step pos. footprint_is_sum snapshots step pos are)
     legal meets
-
-pub fitted_table_is_canonical : FittedTableIsCanonical
-fitted_table_is_canonical snapshots step limit rows ends are fitted =
-    (rows-canonical _ _ (peaks snapshots) step limit rows ends (footprint_is_sum snapshots step fitted.is_step are) fitted).0
-
-pub fitted_table_takes : FittedTableTakes
-fitted_table_takes snapshots step limit rows ends are fitted =
-    (rows-canonical _ _ (peaks snapshots) step limit rows ends (footprint_is_sum snapshots step fitted.is_step are) fitted).1
-
-pub fitted_fit_is_optimal : FittedFitIsOptimal
-fitted_fit_is_optimal snapshots step limit rows ends are fitted shape =
-    rows-optimal_by _ (footprint_between snapshots) (peaks snapshots) step limit rows ends
-    (footprint_is_sum snapshots step fitted.is_step are) fitted shape
-
-pub one_fitted : OneFitted
-one_fitted snapshots step limit a b of_a of_b =
-    order-antisymmetric a b (of_a.least b of_b.best of_b.used) (of_b.least a of_a.best of_a.used)
 
 -- ---- how large numbers are
 
@@ -69,7 +47,7 @@ masked-bounded : (b : Bool) (v bound : ℕ) → v ≤ bound → cond b v 0 ≤ b
 masked-bounded true v bound le = le
 masked-bounded false v bound le = omega arith
 
-pub peaks_are_counts : PeaksAreCounts
+pub peaks_are_counts : (snapshots : List (List ℕ)) → AreSnapshots snapshots → AreCounts (peaks snapshots)
 peaks_are_counts snapshots are = record {
   sizes = peaks-length snapshots;
   in_range = λ n d lt.
@@ -80,9 +58,10 @@ peaks_are_counts snapshots are = record {
       );
 }
 
-pub span_footprints_fit : SpanFootprintsFit
+pub span_footprints_fit : (snapshots : List (List ℕ)) (step i j : ℕ) → IsStep step → AreSnapshots snapshots → i < j
+    → j ≤ places (peaks snapshots) step → span_footprint snapshots step i j < 2 ^ 58
 span_footprints_fit snapshots step i j is_step are lt le =
-    let class = place-class (peaks snapshots) step j is_step (omega (arith, peaks-length snapshots)) (omega arith) le in
+    let class = place_is_class (peaks snapshots) step j is_step (omega (arith, peaks-length snapshots)) (omega arith) le in
     let counted = most-bounded (blocks_between step (need_at (peaks snapshots) step i) (need_at (peaks snapshots) step j))
     ((largest_counted + 1) * greatest_count) snapshots (λ k d within. at (get_or snapshots k d) (are.counts k d within)) in
     let size : 16 * need_at (peaks snapshots) step j ≤ 16 * LARGEST_CLASS = omega (arith, class.0.1) in
@@ -103,7 +82,9 @@ span_footprints_fit snapshots step i j is_step are lt le =
               (count-small s n counts)),
         )
 
-pub footprint_fits : FootprintFits
+-- The footprint of any legal table fits 64 bits (`footprint_fits`).
+pub footprint_fits : (snapshots : List (List ℕ)) (step : ℕ) (classes : List ℕ) → AreSnapshots snapshots → IsLegalTable step classes
+    → footprint_of snapshots classes < 2 ^ 63
 footprint_fits snapshots step classes are legal =
     omega (arith, sum_by-le (λ class. 16 * class * most (blocks classes class) snapshots) _ classes each, legal.few)
   where
@@ -198,7 +179,9 @@ module _ (counts : List ℕ) (step : ℕ) (pos : 0 < step) where
         held-above c cs (omega (arith, above.0)) above.3 (ServesAbove-later counts step pos low c cs one above.0 above.2 served),
       )
 
-pub one_snapshot : OneSnapshot
+pub one_snapshot : (counts classes : List ℕ) (step : ℕ) → IsStep step → IsLegalTable step classes → Serves counts classes
+    → footprint_of (counts ∷ []) classes
+    ≡ waste_of counts classes + sum_below (λ n. slice_index counts n * (n + granule_bytes)) (length counts)
 one_snapshot counts classes step is_step legal serves =
     let pos = step-positive step is_step in
     let above = classes_of_legal_table step classes legal in
@@ -241,7 +224,8 @@ canonical-greater cost greater counts step limit more classes by canonical = rec
       used;
 }
 
-pub fitted_is_tuned : FittedIsTuned
+pub fitted_is_tuned : (counts classes : List ℕ) (step limit : ℕ) → IsStep step → AreCounts counts
+    → IsFitted (counts ∷ []) step limit classes → IsCanonical counts step limit classes
 fitted_is_tuned counts classes step limit is_step are fitted =
     canonical-greater (waste_of counts) (footprint_of (counts ∷ [])) counts step limit
     (sum_below (λ n. slice_index counts n * (n + 16)) (length counts)) classes
@@ -254,7 +238,8 @@ sum-more : (f g : ℕ → ℕ) (classes : List ℕ) → ((class : ℕ) → f cla
 sum-more f g [] each = omega arith
 sum-more f g (c ∷ cs) each = omega (arith, sum_by-cons f c cs, sum_by-cons g c cs, each c, sum-more f g cs each)
 
-pub snapshot_more : SnapshotMore
+pub snapshot_more : (snapshot : List ℕ) (snapshots : List (List ℕ)) (classes : List ℕ)
+    → footprint_of snapshots classes ≤ footprint_of (snapshot ∷ snapshots) classes
 snapshot_more snapshot snapshots classes =
     sum-more _ _ classes (λ class. mul-le-mul_left (16 * class) (le-max_right (blocks classes class snapshot) _))
 
@@ -289,6 +274,7 @@ most-more classes class (f ∷ fs) [] each = absurd each
 most-more classes class (f ∷ fs) (m ∷ ms) each =
     omega (arith, blocks-more classes class f m each.0, most-more classes class fs ms each.1)
 
-pub counts_more : CountsMore
+pub counts_more : (fewer more : List (List ℕ)) (classes : List ℕ) → AllZip (λ f m. AllZip (λ a b. a ≤ b) f m) fewer more
+    → footprint_of fewer classes ≤ footprint_of more classes
 counts_more fewer more classes each =
     sum-more _ _ classes (λ class. mul-le-mul_left (16 * class) (most-more classes class fewer more each))

@@ -8,14 +8,13 @@ pub mod Footprint
 pub mod FootprintLawLemmas
 pub mod Intervals
 pub mod LeastRows
+pub mod Lists
 pub mod Needs
 pub mod RefusalCodes
 pub mod Rests
-pub mod RowLists
 pub mod Rounding
 pub mod Sheets
 pub mod Spans
 pub mod Sums
 pub mod Tables
 pub mod TunedTable
-pub mod Waste

@@ -6,7 +6,7 @@ use Rattle.tuner_theory.specs.Spans.{with_need, needs_below, distinct_needs, pla
 use Rattle.class_table.specs.Steps.{IsStep}
 use Rattle.class_table.specs.Sizes.{IsBlockSize, largest_counted}
 use Rattle.class_table.specs.declared.sizes.TheConstants.{MOST_NEEDS}
-use Rattle.tuner_theory.specs.Profiles.{IsCounted}
+use Rattle.tuner_theory.specs.Profiles.{AreCounts, IsCounted}
 use Rattle.tuner_theory.proofs.Rounding.{rounded-mono, rounded-multiple, rounded-positive, rounded-small, step-positive}
 
 -- ---- lists that ascend
@@ -131,33 +131,33 @@ module _ (counts : List ℕ) (step : ℕ) (pos : 0 < step) where
       cond_both (ltb 0 (slice_index counts m)) _ _ (Ascends 0)
       (λ e. Ascends-with_need 0 (rounded_need step m) _ before below (omega (arith, rounded-positive step pos m))) (λ e. before)
 
-  pub needs_ascend : (i j : ℕ) → i < j → j ≤ places counts step → need_at counts step i < need_at counts step j
-  needs_ascend i j lt le = Ascends-places 0 (distinct_needs counts step) i j (Ascends-needs (length counts)) lt le
+  pub places_ascend : (i j : ℕ) → i < j → j ≤ places counts step → need_at counts step i < need_at counts step j
+  places_ascend i j lt le = Ascends-places 0 (distinct_needs counts step) i j (Ascends-needs (length counts)) lt le
 
   pub need_at-mono : (i j : ℕ) → i ≤ j → j ≤ places counts step → need_at counts step i ≤ need_at counts step j
   need_at-mono i j ij le =
       elim (cases_lt i j) [
-        | inl lt ↦ omega (arith, needs_ascend i j lt le)
+        | inl lt ↦ omega (arith, places_ascend i j lt le)
         | inr not ↦ (let same : i ≡ j = omega arith in omega (arith, ap (need_at counts step) same))
       ]
 
 -- ---- places
 
-pub need_at-from : (counts : List ℕ) (step i : ℕ) → 0 < i → i ≤ places counts step
+pub place_is_counted : (counts : List ℕ) (step i : ℕ) → 0 < i → i ≤ places counts step
     → (n : ℕ) × IsCounted counts n × (rounded_need step n ≡ need_at counts step i)
-need_at-from counts step zero pos le = absurd (omega arith)
-need_at-from counts step (suc i) pos le = let b = needs-from counts step (length counts) i le in (b.0, (b.1, b.2), b.3)
+place_is_counted counts step zero pos le = absurd (omega arith)
+place_is_counted counts step (suc i) pos le = let b = needs-from counts step (length counts) i le in (b.0, (b.1, b.2), b.3)
 
-pub need_at-has : (counts : List ℕ) (step n : ℕ) → IsCounted counts n
+pub counted_has_place : (counts : List ℕ) (step n : ℕ) → IsCounted counts n
     → (i : ℕ) × (0 < i) × (i ≤ places counts step) × (need_at counts step i ≡ rounded_need step n)
-need_at-has counts step n counted =
+counted_has_place counts step n counted =
     let b = needs-has counts step (length counts) n counted.0 counted.1 in (suc b.0, omega arith, b.1.0, b.1.1)
 
 -- the need of a place: between a counted size and the largest class
-pub place-class : (counts : List ℕ) (step i : ℕ) → IsStep step → length counts ≤ largest_counted + 1 → 0 < i → i ≤ places counts step
+pub place_is_class : (counts : List ℕ) (step i : ℕ) → IsStep step → length counts ≤ largest_counted + 1 → 0 < i → i ≤ places counts step
     → IsBlockSize (need_at counts step i) × (need_at counts step i % step ≡ 0)
-place-class counts step i is_step small pos le =
-    let at = need_at-from counts step i pos le in
+place_is_class counts step i is_step small pos le =
+    let at = place_is_counted counts step i pos le in
     let multiple = rounded-multiple step (step-positive step is_step) at.0 in (
       (
         omega (arith, at.2, rounded-positive step (step-positive step is_step) at.0),
@@ -169,12 +169,12 @@ place-class counts step i is_step small pos le =
 -- there are fewer places than classes
 need_at-large : (counts : List ℕ) (step i : ℕ) → 0 < step → suc i ≤ places counts step → suc (suc i) ≤ need_at counts step (suc i)
 need_at-large counts step zero pos le =
-    let at = need_at-from counts step 1 (omega arith) le in omega (arith, at.2, rounded-positive step pos at.0)
+    let at = place_is_counted counts step 1 (omega arith) le in omega (arith, at.2, rounded-positive step pos at.0)
 need_at-large counts step (suc i) pos le =
-    omega (arith, need_at-large counts step i pos (omega arith), needs_ascend counts step pos (suc i) (suc (suc i)) (omega arith) le)
+    omega (arith, need_at-large counts step i pos (omega arith), places_ascend counts step pos (suc i) (suc (suc i)) (omega arith) le)
 
-pub few-places : (counts : List ℕ) (step : ℕ) → IsStep step → length counts ≤ largest_counted + 1 → places counts step ≤ MOST_NEEDS
-few-places counts step is_step small = few (places counts step) (omega arith)
+pub few_places : (counts : List ℕ) (step : ℕ) → IsStep step → AreCounts counts → places counts step ≤ MOST_NEEDS
+few_places counts step is_step are = few (places counts step) (omega arith)
   where
     few : (d : ℕ) → d ≤ places counts step → d ≤ MOST_NEEDS
     few zero le = omega arith
@@ -182,7 +182,7 @@ few-places counts step is_step small = few (places counts step) (omega arith)
         omega (
           arith,
           need_at-large counts step d (step-positive step is_step) le,
-          (place-class counts step (suc d) is_step small (omega arith) le).0.1,
+          (place_is_class counts step (suc d) is_step (omega (arith, are.sizes)) (omega arith) le).0.1,
         )
 
 -- ---- how far a number reaches
@@ -216,7 +216,7 @@ module _ (counts : List ℕ) (step : ℕ) (pos : 0 < step) where
   pub reach-covers : (x j n : ℕ) → Reaches counts step x (places counts step) j → IsCounted counts n
       → rounded_need step n ≤ x → rounded_need step n ≤ need_at counts step j
   reach-covers x j n r counted le =
-      let at = need_at-has counts step n counted in
+      let at = counted_has_place counts step n counted in
       let before : at.0 ≤ j = r.last at.0 at.2 (omega (arith, at.3)) in
       omega (arith, at.3, need_at-mono counts step pos at.0 j before r.within)
 
@@ -226,7 +226,7 @@ module _ (counts : List ℕ) (step : ℕ) (pos : 0 < step) where
     within = le;
     reached = omega arith;
     last = λ i within below. elim (cases_lt j i) [
-      | inl above ↦ absurd (omega (arith, needs_ascend counts step pos j i above within))
+      | inl above ↦ absurd (omega (arith, places_ascend counts step pos j i above within))
       | inr not ↦ not
     ];
   }
@@ -238,6 +238,6 @@ module _ (counts : List ℕ) (step : ℕ) (pos : 0 < step) where
     reached = omega arith;
     last = λ i le below. elim (cases_lt 0 i) [
       | inr none ↦ none
-      | inl some ↦ (let at = need_at-from counts step i some le in absurd (omega (arith, at.2, rounded-positive step pos at.0)))
+      | inl some ↦ (let at = place_is_counted counts step i some le in absurd (omega (arith, at.2, rounded-positive step pos at.0)))
     ];
   }

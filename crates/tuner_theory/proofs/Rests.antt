@@ -1,29 +1,25 @@
 -- The numbers of least rows are the least rests.
-use Rattle.std.proofs.Common.{◌≡◌, ℕ, zero, suc, ◌+◌, ◌<◌, ◌≤◌, max, List, length, arith}
+use Rattle.std.proofs.Common.{◌≡◌, ℕ, zero, suc, ◌<◌, ◌≤◌, max, List, arith}
 use Rattle.tuner_theory.specs.Rests.{IsRest, counts_above}
-use Rattle.tuner_theory.specs.Rows.{AreLeastRows, table_of_ends}
-use Rattle.tuner_theory.specs.Spans.{need_at, places, rounded_need, span_waste, waste_between}
+use Rattle.tuner_theory.specs.Rows.{table_of_ends}
+use Rattle.tuner_theory.specs.Tuned.{AreTunedRows}
+use Rattle.tuner_theory.specs.Spans.{need_at, places, rounded_need, waste_between}
 use Rattle.tuner_theory.specs.Waste.{waste_of}
-use Rattle.class_table.specs.Sizes.{largest_counted}
-use Rattle.class_table.specs.Steps.{IsStep}
-use Rattle.class_table.specs.declared.table.TheConstants.{MOST_CLASSES}
 use Rattle.class_table.proofs.LawLemmas.{legal_table_of_classes}
 use Rattle.tuner_theory.proofs.BoundRests.{counted-above, reach-low, rests-bound, waste-above}
-use Rattle.tuner_theory.proofs.LeastRows.{rows-valid}
+use Rattle.tuner_theory.proofs.LeastRows.{least_rows_are_valid}
 use Rattle.tuner_theory.proofs.Needs.{Reaches}
 use Rattle.tuner_theory.proofs.Rounding.{rounded-positive, step-positive}
 use Rattle.tuner_theory.proofs.Tables.{waste-cost, waste_above-costs}
 use Rattle.tuner_theory.proofs.TunedTable.{IsTableFor, table-tuned}
 
-module _ (counts : List ℕ) (step : ℕ) (is_step : IsStep step) (small : length counts ≤ largest_counted + 1)
-    (limit : ℕ) (few : limit ≤ MOST_CLASSES) (rows ends : ℕ → ℕ → ℕ)
-    (least : AreLeastRows (span_waste counts step) (places counts step) limit rows ends) where
+module _ (counts : List ℕ) (step limit : ℕ) (rows ends : ℕ → ℕ → ℕ) (tuned : AreTunedRows counts step limit rows ends) where
   rest-at : (k i : ℕ) → suc k ≤ limit → i < places counts step → IsRest counts step (suc k) i (rows (suc k) i)
   rest-at k i le lt = record {
     table = table;
     best = record {
       candidate = record {
-        legal = legal_table_of_classes step low table (omega arith) (omega (arith, is.few)) is.above;
+        legal = legal_table_of_classes step low table (omega arith) (omega (arith, is.few, tuned.few)) is.above;
         few = is.few;
         serving = λ n counted. let c = counted-above counts step i n counted in is.served n c.0 (over n c.1);
       };
@@ -31,14 +27,14 @@ module _ (counts : List ℕ) (step : ℕ) (is_step : IsStep step) (small : lengt
           omega (
             arith,
             wasted,
-            rests-bound counts step pos limit rows (rows-valid _ _ _ rows ends least) (suc k) i other le (omega arith) candidate,
+            rests-bound counts step pos limit rows (least_rows_are_valid _ _ _ rows ends tuned.least) (suc k) i other le (omega arith) candidate,
           );
     };
     wasted = wasted;
   }
     where
       pos : 0 < step
-      pos = step-positive step is_step
+      pos = step-positive step tuned.is_step
 
       low : ℕ
       low = max 1 (need_at counts step i)
@@ -50,7 +46,8 @@ module _ (counts : List ℕ) (step : ℕ) (is_step : IsStep step) (small : lengt
       table = table_of_ends (need_at counts step) ends (places counts step) (suc k) i
 
       is : IsTableFor (waste_between counts step) counts step (suc k) low (rows (suc k) i) table
-      is = table-tuned counts step is_step small _ (waste-cost counts step) limit rows ends least k i low le (omega arith) r
+      is = table-tuned counts step tuned.is_step (omega (arith, tuned.are_counts.sizes)) _ (waste-cost counts step) limit rows ends tuned.least
+          k i low le (omega arith) r
 
       wasted : waste_of (counts_above counts step i) table ≡ rows (suc k) i
       wasted =
@@ -59,6 +56,11 @@ module _ (counts : List ℕ) (step : ℕ) (is_step : IsStep step) (small : lengt
       over : (n : ℕ) → need_at counts step i < rounded_need step n → low < rounded_need step n
       over n h = omega (arith, rounded-positive step pos n)
 
-  pub rows-rests : (k i : ℕ) → 1 ≤ k → k ≤ limit → i < places counts step → IsRest counts step k i (rows k i)
-  rows-rests zero i one le lt = absurd (omega arith)
-  rows-rests (suc k) i one le lt = rest-at k i le lt
+  pub tuned_rows_are_rests : (k i : ℕ) → 1 ≤ k → k ≤ limit → i < places counts step → IsRest counts step k i (rows k i)
+  tuned_rows_are_rests zero i one le lt = absurd (omega arith)
+  tuned_rows_are_rests (suc k) i one le lt = rest-at k i le lt
+
+-- and a least rest is one number
+pub one_rest : (counts : List ℕ) (step k i v w : ℕ) → IsRest counts step k i v → IsRest counts step k i w → v ≡ w
+one_rest counts step k i v w a b =
+    omega (arith, a.wasted, b.wasted, a.best.least b.table b.best.candidate, b.best.least a.table a.best.candidate)

@@ -54,15 +54,15 @@ round_up-least need step other pos multiple le =
     let fewer : (need + step - 1) / step ≤ other / step = omega (arith, (div-lt_iff_lt-mul pos).1 below) in
     omega (arith, mul-le-mul_right step fewer, mul_comm step (other / step))
 
-pub rounding-least : (step need : ℕ) → 0 < step → IsLeastMultiple step need (round_up need step)
-rounding-least step need pos = record {
+pub rounding_is_least : (step need : ℕ) → 0 < step → IsLeastMultiple step need (round_up need step)
+rounding_is_least step need pos = record {
   multiple = mul-mod_left ((need + step - 1) / step) step;
   above = round_up-above need step pos;
   least = λ other multiple le. round_up-least need step other pos multiple le;
 }
 
-pub rounding-fits : (step need : ℕ) → IsStep step → need ≤ LARGEST_CLASS → round_up need step ≤ LARGEST_CLASS
-rounding-fits step need is_step le = round_up-least need step LARGEST_CLASS (step-positive step is_step) (largest-multiple step is_step) le
+pub rounding_fits : (step need : ℕ) → IsStep step → need ≤ LARGEST_CLASS → round_up need step ≤ LARGEST_CLASS
+rounding_fits step need is_step le = round_up-least need step LARGEST_CLASS (step-positive step is_step) (largest-multiple step is_step) le
 
 -- ---- rounded needs
 
@@ -82,15 +82,15 @@ fits-need : (n class : ℕ) → 2 ≤ class → n ≤ 16 * class - 16 → need_o
 fits-need n class two le = omega arith
 
 pub rounded-small : (step n : ℕ) → IsStep step → n ≤ largest_counted → rounded_need step n ≤ LARGEST_CLASS
-rounded-small step n is_step le = rounding-fits step (need_of n) is_step (need-small n le)
+rounded-small step n is_step le = rounding_fits step (need_of n) is_step (need-small n le)
 
 module _ (step : ℕ) (pos : 0 < step) where
   pub rounded-multiple : (n : ℕ) → rounded_need step n % step ≡ 0
-  rounded-multiple n = (rounding-least step (need_of n) pos).multiple
+  rounded-multiple n = (rounding_is_least step (need_of n) pos).multiple
 
   pub rounded-mono : (m n : ℕ) → m ≤ n → rounded_need step m ≤ rounded_need step n
   rounded-mono m n le =
-      let later = rounding-least step (need_of n) pos in
+      let later = rounding_is_least step (need_of n) pos in
       round_up-least (need_of m) step (rounded_need step n) pos later.multiple (omega (arith, need-mono m n le, later.above))
 
   pub rounded-positive : (n : ℕ) → SMALLEST_CLASS ≤ rounded_need step n

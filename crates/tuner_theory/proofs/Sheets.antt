@@ -3,19 +3,21 @@ use Rattle.std.proofs.Common.{◌≡◌, ℕ, ◌-◌, ◌<◌, List, [], length
 use Rattle.std.proofs.lemmas.Bool.{cases_lt}
 use Rattle.std.proofs.lemmas.List.{get_or_past}
 use Rattle.class_table.specs.Tables.{IsLegalTable}
-use Rattle.tuner_theory.specs.Best.{IsBestBy, IsCanonicalBy}
+use Rattle.tuner_theory.specs.Best.{IsBest, IsBestBy, IsCanonicalBy}
 use Rattle.tuner_theory.specs.Intervals.{IsSumOfIntervals, span_cost}
 use Rattle.tuner_theory.specs.Tuned.{AreRowsBy, tuned_table}
 use Rattle.tuner_theory.specs.Potentials.{AreValidPotentials}
 use Rattle.tuner_theory.specs.Rows.{HasShape, number_at}
-use Rattle.tuner_theory.specs.Sheets.{MeetsBy, Sheet}
-use Rattle.tuner_theory.specs.Spans.{places}
+use Rattle.tuner_theory.specs.Sheets.{IsVerdict, MeetsBy, Sheet}
+use Rattle.tuner_theory.specs.Spans.{places, waste_between}
 use Rattle.tuner_theory.specs.declared.verdict.Refusal.{Refusal}
 use Rattle.tuner_theory.specs.declared.verdict.Refusal.TheVariants.{OffStep, OverLimit, NotServing, WasteWrong, Shape, LastClass, StageDrop, Edge, NotTight}
-use Rattle.tuner_theory.proofs.Bound.{potentials-bound_by}
+use Rattle.tuner_theory.specs.declared.verdict.Verdict.TheVariants.{Optimal}
+use Rattle.tuner_theory.proofs.Bound.{potentials_bound_costs}
 use Rattle.tuner_theory.proofs.Canonical.{rows-canonical}
-use Rattle.tuner_theory.proofs.LeastRows.{rows-valid}
+use Rattle.tuner_theory.proofs.LeastRows.{least_rows_are_valid}
 use Rattle.tuner_theory.proofs.Rounding.{step-positive}
+use Rattle.tuner_theory.proofs.Tables.{waste-sum}
 
 -- past the rows' ends
 pub rows-end : (rows : List (List ℕ)) (limit d : ℕ) → HasShape rows limit d → (k : ℕ) → number_at rows k d ≡ 0
@@ -40,7 +42,7 @@ optimal-best_by cost between counts sheet sums legal meets = record {
     arith,
     meets WasteWrong,
     meets NotTight,
-    potentials-bound_by cost (between sheet.step) counts sheet.step sheet.limit (number_at sheet.rows) other pos (sums sheet.step pos)
+    potentials_bound_costs cost (between sheet.step) counts sheet.step sheet.limit (number_at sheet.rows) other pos (sums sheet.step pos)
         valid candidate,
   );
 }
@@ -57,6 +59,11 @@ optimal-best_by cost between counts sheet sums legal meets = record {
       at_end = rows-end sheet.rows sheet.limit (places counts sheet.step) (meets Shape);
     }
 
+-- so a sheet that meets them has one, whoever wrote it;
+pub optimal_is_best : (counts : List ℕ) (sheet : Sheet) → IsLegalTable 1 sheet.table → IsVerdict counts sheet Optimal
+    → IsBest counts sheet.step sheet.limit sheet.table
+optimal_is_best counts sheet legal meets = optimal-best_by _ (waste_between counts) counts sheet (waste-sum counts) legal meets
+
 -- and the table of least rows meets them.
 pub rows-optimal_by : (cost : List ℕ → ℕ) (between : ℕ → ℕ → ℕ → ℕ) (counts : List ℕ) (step limit : ℕ) (rows : List (List ℕ))
     (ends : ℕ → ℕ → ℕ) → IsSumOfIntervals cost (between step) counts step → AreRowsBy (between step) counts step limit (number_at rows) ends
@@ -70,7 +77,7 @@ rows-optimal_by cost between counts step limit rows ends sums tuned shape = meet
     canonical = rows-canonical cost (between step) counts step limit (number_at rows) ends sums tuned
 
     valid : AreValidPotentials (span_cost (between step) counts step) (places counts step) limit (number_at rows)
-    valid = rows-valid _ _ _ _ ends tuned.least
+    valid = least_rows_are_valid _ _ _ _ ends tuned.least
 
     table : List ℕ
     table = tuned_table counts step limit ends

@@ -5,13 +5,12 @@ use Rattle.std.proofs.lemmas.Bool.Decides.{nat_tests}
 use Rattle.std.proofs.lemmas.List.{get_or_past}
 use Rattle.std.proofs.Math.Nat.{mul-le-mul, mul-le-mul_left}
 use Rattle.class_table.specs.Sizes.{largest_counted, loss_of}
-use Rattle.tuner_theory.specs.Laws.{HasNoUnderflow}
 use Rattle.tuner_theory.specs.Spans.{bytes_up_to, counted_up_to, need_at, places, rounded_need, span_waste, waste_between}
 use Rattle.class_table.specs.Steps.{IsStep}
-use Rattle.class_table.specs.declared.sizes.TheConstants.{LARGEST_CLASS}
+use Rattle.class_table.specs.declared.sizes.TheConstants.{GRANULE_BYTES, LARGEST_CLASS}
 use Rattle.tuner_theory.specs.Profiles.{AreCounts, greatest_count}
 use Rattle.tuner_theory.specs.Waste.{sum_below}
-use Rattle.tuner_theory.proofs.Needs.{need_at-mono, place-class}
+use Rattle.tuner_theory.proofs.Needs.{need_at-mono, place_is_class}
 use Rattle.tuner_theory.proofs.Rounding.{rounded-fits, step-positive}
 use Rattle.tuner_theory.proofs.Sums.{sum_at_most, sum_balance, sum_bounded, sum_exchange, sum_none}
 
@@ -26,20 +25,20 @@ cross-at_one x a b c d u v ab bc cd uv = grind (arith, nat_tests)
 pub loss-mono : (count n c d : ℕ) → c ≤ d → count * loss_of n c ≤ count * loss_of n d
 loss-mono count n c d cd = mul-le-mul_left count (omega arith)
 
-pub needs-cross : (counts : List ℕ) (step a b c d : ℕ) → a ≤ b → b ≤ c → c ≤ d
+pub needs_cross : (counts : List ℕ) (step a b c d : ℕ) → a ≤ b → b ≤ c → c ≤ d
     → waste_between counts step a c + waste_between counts step b d ≤ waste_between counts step a d + waste_between counts step b c
-needs-cross counts step a b c d ab bc cd =
+needs_cross counts step a b c d ab bc cd =
     sum_exchange _ _ _ _ (length counts)
     (λ n lt. cross-at_one (rounded_need step n) a b c d _ _ ab bc cd (loss-mono (slice_index counts n) n c d cd))
 
-pub places-cross : (counts : List ℕ) (step a b c d : ℕ) → IsStep step → a ≤ b → b ≤ c → c ≤ d → d ≤ places counts step
+pub places_cross : (counts : List ℕ) (step a b c d : ℕ) → IsStep step → a ≤ b → b ≤ c → c ≤ d → d ≤ places counts step
     → span_waste counts step a c + span_waste counts step b d ≤ span_waste counts step a d + span_waste counts step b c
-places-cross counts step a b c d is_step ab bc cd le =
+places_cross counts step a b c d is_step ab bc cd le =
     let up = need_at-mono counts step (step-positive step is_step) in
-    needs-cross counts step _ _ _ _ (up a b ab (omega arith)) (up b c bc (omega arith)) (up c d cd le)
+    needs_cross counts step _ _ _ _ (up a b ab (omega arith)) (up b c bc (omega arith)) (up c d cd le)
 
-pub nothing-between : (counts : List ℕ) (step i : ℕ) → span_waste counts step i i ≡ 0
-nothing-between counts step i = sum_none _ (length counts) (λ n lt. none (rounded_need step n) (need_at counts step i) _)
+pub nothing_between : (counts : List ℕ) (step i : ℕ) → span_waste counts step i i ≡ 0
+nothing_between counts step i = sum_none _ (length counts) (λ n lt. none (rounded_need step n) (need_at counts step i) _)
   where
     none : (x y v : ℕ) → cond (ltb y x && leb x y) v 0 ≡ 0
     none x y v = grind (arith, nat_tests)
@@ -69,6 +68,12 @@ solved w bytes_low bytes_high counted_low counted_high k counted bytes balance =
     let scaled : k * (counted_high - counted_low) + k * counted_low ≡ k * counted_high = omega (arith, ap (λ z. k * z) apart) in
     (omega arith, omega arith)
 
+-- no subtraction in the computation by two sums goes below 0
+pub record HasNoUnderflow (high counted_low counted_high bytes_low bytes_high : ℕ) : Type 0 where
+  pub counted : counted_low ≤ counted_high
+  pub bytes : bytes_low ≤ bytes_high
+  pub held : bytes_high - bytes_low ≤ GRANULE_BYTES * (high - 1) * (counted_high - counted_low)
+
 module _ (counts : List ℕ) (step : ℕ) (pos : 0 < step) (low high : ℕ) (le : low ≤ high) where
   sums-balance : waste_between counts step low high + bytes_up_to counts step high + 16 * (high - 1) * counted_up_to counts step low
       ≡ 16 * (high - 1) * counted_up_to counts step high + bytes_up_to counts step low
@@ -91,14 +96,14 @@ module _ (counts : List ℕ) (step : ℕ) (pos : 0 < step) (low high : ℕ) (le 
   bytes-mono : bytes_up_to counts step low ≤ bytes_up_to counts step high
   bytes-mono = up_to-mono (λ n. slice_index counts n * n)
 
-  pub sums-waste : waste_between counts step low high
+  pub sums_give_waste : waste_between counts step low high
       ≡ 16 * (high - 1) * (counted_up_to counts step high - counted_up_to counts step low)
       - (bytes_up_to counts step high - bytes_up_to counts step low)
-  sums-waste = (solved _ _ _ _ _ (16 * (high - 1)) counted-mono bytes-mono sums-balance).0
+  sums_give_waste = (solved _ _ _ _ _ (16 * (high - 1)) counted-mono bytes-mono sums-balance).0
 
-  pub sums-ascend : HasNoUnderflow high (counted_up_to counts step low) (counted_up_to counts step high) (bytes_up_to counts step low)
+  pub sums_ascend : HasNoUnderflow high (counted_up_to counts step low) (counted_up_to counts step high) (bytes_up_to counts step low)
       (bytes_up_to counts step high)
-  sums-ascend = record {
+  sums_ascend = record {
     counted = counted-mono;
     bytes = bytes-mono;
     held = (solved _ _ _ _ _ (16 * (high - 1)) counted-mono bytes-mono sums-balance).1;
@@ -117,18 +122,18 @@ up_to-bounded counts step high bound f each =
     sum_bounded _ (length counts) bound
     (λ n lt. cond_both (leb (rounded_need step n) high) _ _ (λ v. v ≤ bound) (λ e. each n lt) (λ e. omega arith))
 
-pub sums-fit : (counts : List ℕ) (step high : ℕ) → AreCounts counts
+pub sums_fit : (counts : List ℕ) (step high : ℕ) → AreCounts counts
     → (counted_up_to counts step high < 2 ^ 44) × (bytes_up_to counts step high < 2 ^ 58)
-sums-fit counts step high are =
+sums_fit counts step high are =
     let counted = up_to-bounded counts step high greatest_count (slice_index counts) (λ n lt. count-small counts n are) in
     let bytes = up_to-bounded counts step high (greatest_count * largest_counted) (λ n. slice_index counts n * n)
     (λ n lt. let within : n ≤ largest_counted = omega (arith, are.sizes) in mul-le-mul (count-small counts n are) within) in
     (omega (arith, counted, are.sizes), omega (arith, bytes, are.sizes))
 
-pub spans-fit : (counts : List ℕ) (step i j : ℕ) → IsStep step → AreCounts counts → i < j → j ≤ places counts step →
+pub spans_fit : (counts : List ℕ) (step i j : ℕ) → IsStep step → AreCounts counts → i < j → j ≤ places counts step →
     span_waste counts step i j < 2 ^ 58
-spans-fit counts step i j is_step are lt le =
-    let class = place-class counts step j is_step (omega (arith, are.sizes)) (omega arith) le in
+spans_fit counts step i j is_step are lt le =
+    let class = place_is_class counts step j is_step (omega (arith, are.sizes)) (omega arith) le in
     let each = sum_bounded _ (length counts) (greatest_count * largest_counted) (λ n within. at_one n class.0.1) in
     omega (arith, each, are.sizes)
   where

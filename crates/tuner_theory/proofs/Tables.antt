@@ -11,7 +11,7 @@ use Rattle.tuner_theory.specs.Intervals.{IsIntervalCost, IsSumOfIntervals, cost_
 use Rattle.tuner_theory.specs.Spans.{need_at, places, rounded_need, waste_between}
 use Rattle.tuner_theory.specs.Profiles.{IsCounted}
 use Rattle.tuner_theory.specs.Waste.{sum_below, waste_at, waste_of}
-use Rattle.tuner_theory.proofs.Needs.{Reaches, need_at-from}
+use Rattle.tuner_theory.proofs.Needs.{Reaches, place_is_counted}
 use Rattle.tuner_theory.proofs.Rounding.{fits-rounded, rounded-fits, rounded-positive}
 use Rattle.tuner_theory.proofs.Spans.{loss-mono}
 use Rattle.tuner_theory.proofs.Sums.{sum_at_most, sum_none, sum_same, sum_split}
@@ -89,7 +89,7 @@ module _ (counts : List ℕ) (step : ℕ) (pos : 0 < step) where
   nothing-left low i [] none r served =
       elim (cases_lt 0 (places counts step)) [
         | inr no_place ↦ omega (arith, r.within)
-        | inl some ↦ (let end = need_at-from counts step (places counts step) some (omega arith) in
+        | inl some ↦ (let end = place_is_counted counts step (places counts step) some (omega arith) in
             elim (cases_lt low (need_at counts step (places counts step))) [
               | inl above ↦ absurd (false≢true (served end.0 end.1 (omega (arith, end.2))))
               | inr below ↦ omega (arith, r.within, r.last (places counts step) (omega arith) below)

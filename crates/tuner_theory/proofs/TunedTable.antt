@@ -8,7 +8,7 @@ use Rattle.tuner_theory.specs.Rows.{AreLeastRows, table_of_ends}
 use Rattle.tuner_theory.specs.Spans.{need_at, places, rounded_need}
 use Rattle.class_table.specs.Steps.{IsStep}
 use Rattle.class_table.proofs.LawLemmas.{AreClassesAbove}
-use Rattle.tuner_theory.proofs.Needs.{Reaches, need_at-has, need_at-mono, place-class, reach-at}
+use Rattle.tuner_theory.proofs.Needs.{Reaches, counted_has_place, need_at-mono, place_is_class, reach-at}
 use Rattle.tuner_theory.proofs.Rounding.{step-positive}
 use Rattle.tuner_theory.proofs.Intervals.{span-same}
 use Rattle.tuner_theory.proofs.Tables.{ServesAbove, class_for-first, class_for-later}
@@ -34,7 +34,7 @@ module _ (counts : List ℕ) (step : ℕ) (pos : 0 < step) (between : ℕ → �
     above = tt;
     few = omega arith;
     costs = refl;
-    served = λ n counted over. let at = need_at-has counts step n counted in
+    served = λ n counted over. let at = counted_has_place counts step n counted in
         absurd (omega (arith, at.3, need_at-mono counts step pos at.0 (places counts step) at.2 (omega arith), r.reached));
   }
 
@@ -45,7 +45,7 @@ module _ (counts : List ℕ) (step : ℕ) (pos : 0 < step) (between : ℕ → �
       → IsTableFor between counts step (suc k) low whole (need_at counts step j ∷ classes)
   table-cons k low i j rest whole classes is_step small one r lt le table e =
       let c = need_at counts step j in
-      let class = place-class counts step j is_step small (omega arith) le in
+      let class = place_is_class counts step j is_step small (omega arith) le in
       let over = next-above counts step pos low i j r lt le in
       record {
         above = (over, class.0.1, class.1, table.above);
@@ -91,7 +91,7 @@ module _ (counts : List ℕ) (step : ℕ) (is_step : IsStep step) (small : lengt
       (λ e. let lt = ltb-true i d e in
       let row = least.later_row (suc k) i (omega arith) (omega arith) lt in
       let j = ends (suc (suc k)) i in
-      let class = place-class counts step j is_step small (omega (arith, row.0.from)) row.0.to in
+      let class = place_is_class counts step j is_step small (omega (arith, row.0.from)) row.0.to in
       let later =
       table-tuned k j (need_at counts step j) (omega arith) (omega (arith, class.0.0)) (reach-at counts step pos j row.0.to) in
       table-cons counts step pos between cost (suc k) low i j (rows (suc k) j) (rows (suc (suc k)) i) _ is_step small one r row.0.from

@@ -1,10 +1,9 @@
 pub mod Best
 pub mod Fits
 pub mod Footprint
-pub mod FootprintLaws
 pub mod Histories
 pub mod Intervals
-pub mod Laws
+pub mod Lists
 pub mod Potentials
 pub mod Profiles
 pub mod Rests

@@ -1,5 +1,7 @@
 -- What a tuner makes for a profile: rows over its spans, and the table that they give.
 use Rattle.std.specs.Prelude.{ℕ, ◌≤◌, List}
+use Rattle.tuner_theory.specs.Footprint.{footprint_between}
+use Rattle.tuner_theory.specs.Histories.{peaks}
 use Rattle.tuner_theory.specs.Intervals.{span_cost}
 use Rattle.tuner_theory.specs.Rows.{AreLeastRows, table_of_ends}
 use Rattle.tuner_theory.specs.Spans.{need_at, places, waste_between}
@@ -18,6 +20,10 @@ pub record AreRowsBy (between : ℕ → ℕ → ℕ) (counts : List ℕ) (step l
 -- Least rows over the span wastes of a profile.
 abbrev pub AreTunedRows : List ℕ → ℕ → ℕ → (ℕ → ℕ → ℕ) → (ℕ → ℕ → ℕ) → Type 0
 AreTunedRows counts step limit rows ends = AreRowsBy (waste_between counts step) counts step limit rows ends
+
+-- Least rows over the span footprints of a history.
+abbrev pub AreFittedRows : List (List ℕ) → ℕ → ℕ → (ℕ → ℕ → ℕ) → (ℕ → ℕ → ℕ) → Type 0
+AreFittedRows snapshots step limit rows ends = AreRowsBy (footprint_between snapshots step) (peaks snapshots) step limit rows ends
 
 -- The table that they give, from the last row and place 0.
 abbrev pub tuned_table : List ℕ → ℕ → ℕ → (ℕ → ℕ → ℕ) → List ℕ

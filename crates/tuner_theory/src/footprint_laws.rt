@@ -1,64 +1,38 @@
 //! What holds for every history, table and fit. Each law is the contract of a function that does nothing.
-//! The proofs of a crate above cite the lemmas that the laws follow from.
-ghost use Rattle.tuner_theory.specs.FootprintLaws.{
-  CountsMore,
-  FittedFitIsOptimal,
-  FittedIsTuned,
-  FittedTableIsCanonical,
-  FittedTableTakes,
-  FootprintFits,
-  FootprintIsSum,
-  OneFitVerdict,
-  OneFitted,
-  OneSnapshot,
-  OptimalFitIsLeast,
-  PeaksAreCounts,
-  PotentialsBoundCosts,
-  SnapshotMore,
-  SpanFootprintsFit,
-};
-
-/// Valid potentials over any interval cost bound what every table in question costs, where a table costs what its intervals do together.
-pub fn law_potentials_bound_costs()
-    ensures { PotentialsBoundCosts }
-{}
-
-/// The footprint of a table is the sum of what the intervals of its classes take. So rows, potentials and their table serve it too.
-/// The peaks of a history are counts of a profile. What a span takes fits 64 bits, and so does the footprint of a legal table.
-pub fn law_footprint_by_intervals()
-    ensures sum { FootprintIsSum }
-    ensures counts { PeaksAreCounts }
-    ensures spans_fit { SpanFootprintsFit }
-    ensures tables_fit { FootprintFits }
-{}
+ghost use Rattle.std.specs.List.{AllZip};
+ghost use Rattle.std.specs.Prelude.{◌≡◌, ℕ, ◌+◌, ◌*◌, ◌≤◌, List, [], ◌∷◌, length, slice_index};
+ghost use Rattle.class_table.specs.Sizes.{granule_bytes};
+ghost use Rattle.class_table.specs.Steps.{IsStep};
+ghost use Rattle.class_table.specs.Tables.{IsLegalTable};
+ghost use Rattle.tuner_theory.specs.Best.{IsCanonical};
+ghost use Rattle.tuner_theory.specs.Fits.{Fit, IsFitVerdict};
+ghost use Rattle.tuner_theory.specs.Footprint.{IsFitted, IsLeastFootprint, footprint_of};
+ghost use Rattle.tuner_theory.specs.Histories.{AreSnapshots};
+ghost use Rattle.tuner_theory.specs.Profiles.{AreCounts};
+ghost use Rattle.tuner_theory.specs.Waste.{Serves, sum_below, waste_of};
+ghost use Rattle.tuner_theory.specs.declared.verdict.Verdict.TheVariants.{Optimal};
 
 /// A fit that meets all conditions, and whose table is legal, has a table of least footprint, whoever wrote it.
 pub fn law_optimal_fit_is_least()
-    ensures { OptimalFitIsLeast }
-{}
-
-/// A fit has one verdict.
-pub fn law_one_fit_verdict()
-    ensures { OneFitVerdict }
-{}
-
-/// The table that least rows give is the fitted one, and there is only one. It takes what they say, and its fit breaks no condition.
-pub fn law_fitted_table()
-    ensures canonical { FittedTableIsCanonical }
-    ensures takes { FittedTableTakes }
-    ensures optimal { FittedFitIsOptimal }
-    ensures one { OneFitted }
+    ensures { (snapshots : List (List ℕ)) (fit : Fit) → AreSnapshots snapshots → IsLegalTable 1 fit.table
+        → IsFitVerdict snapshots fit Optimal → IsLeastFootprint snapshots fit.step fit.limit fit.table }
 {}
 
 /// With one snapshot the footprint of a table that serves is its waste, the requested bytes, and a granule for each block. So the table of
 /// least footprint is the one of least waste.
 pub fn law_one_snapshot()
-    ensures footprint { OneSnapshot }
-    ensures table { FittedIsTuned }
+    ensures footprint { (counts classes : List ℕ) (step : ℕ) → IsStep step → IsLegalTable step classes
+        → Serves counts classes → footprint_of (counts ∷ []) classes
+        ≡ waste_of counts classes + sum_below (λ n. slice_index counts n * (n + granule_bytes)) (length counts) }
+    ensures table { (counts classes : List ℕ) (step limit : ℕ) → IsStep step → AreCounts counts
+        → IsFitted (counts ∷ []) step limit classes → IsCanonical counts step limit classes }
 {}
 
 /// Neither a snapshot more nor greater counts lower a footprint.
 pub fn law_larger_histories()
-    ensures snapshot { SnapshotMore }
-    ensures counts { CountsMore }
+    ensures snapshot { (snapshot : List ℕ) (snapshots : List (List ℕ)) (classes : List ℕ)
+        → footprint_of snapshots classes ≤ footprint_of (snapshot ∷ snapshots) classes }
+    ensures counts { (fewer more : List (List ℕ)) (classes : List ℕ)
+        → AllZip (λ f m. AllZip (λ a b. a ≤ b) f m) fewer more
+        → footprint_of fewer classes ≤ footprint_of more classes }
 {}

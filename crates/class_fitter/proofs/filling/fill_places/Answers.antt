@@ -4,7 +4,7 @@ use Rattle.class_fitter.specs.PlaceByPlace.{AreLeastRowsFrom}
 use Rattle.footprint_check.proofs.LawLemmas.{few_spans, spans_of_places}
 use Rattle.class_fitter.proofs.Places.{all-filled, rows-from}
 use Rattle.footprint_check.specs.CallCounts.{span_count}
-use Rattle.potential_check.specs.Lists.{lists_of}
+use Rattle.tuner_theory.specs.Lists.{lists_of}
 use Rattle.tuner_theory.specs.Rows.{number_at}
 use Rattle.class_fitter.proofs.filling.fill_places.Goals as goal
 

@@ -1,7 +1,7 @@
 use Rattle.std.proofs.Common.{◌≡◌, ◌+◌, ◌-◌, length}
 use Rattle.class_fitter.specs.PlaceByPlace.{AreLeastRowsFrom, AreRowsSoFar}
 use Rattle.footprint_check.specs.CallCounts.{span_count}
-use Rattle.potential_check.specs.Lists.{lists_of}
+use Rattle.tuner_theory.specs.Lists.{lists_of}
 use Rattle.tuner_theory.specs.Rows.{number_at}
 use Rattle.class_fitter.proofs.filling.fill_places.Given as goal
 

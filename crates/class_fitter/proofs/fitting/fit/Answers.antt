@@ -1,5 +1,5 @@
 use Rattle.class_fitter.proofs.Fits.{fit-legal, fit-made}
-use Rattle.potential_check.specs.Lists.{lists_of}
+use Rattle.tuner_theory.specs.Lists.{lists_of}
 use Rattle.tuner_theory.specs.Footprint.{span_footprint}
 use Rattle.tuner_theory.specs.Histories.{peaks}
 use Rattle.tuner_theory.specs.Rows.{IsFilled}

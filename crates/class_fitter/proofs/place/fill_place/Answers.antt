@@ -1,7 +1,7 @@
 use Rattle.std.proofs.Common.{◌≡◌, ◌-◌, [], length, slice_index, add-one, arith, ap, ◌∙◌}
-use Rattle.class_fitter.proofs.Numbers.{row-read}
+use Rattle.tuner_theory.proofs.Lists.{row-read}
 use Rattle.class_fitter.proofs.Places.{place-more, so_far-set}
-use Rattle.potential_check.specs.Lists.{lists_of}
+use Rattle.tuner_theory.specs.Lists.{lists_of}
 use Rattle.class_fitter.proofs.place.fill_place.Goals as goal
 
 pub least_end-number-requires-clause-costs : goal.least_end-number-requires-clause-costs

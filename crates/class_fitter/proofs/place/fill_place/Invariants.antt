@@ -1,5 +1,5 @@
 use Rattle.class_fitter.specs.PlaceByPlace.{AreRowsSoFar, IsPlaceFilled}
-use Rattle.potential_check.specs.Lists.{lists_of}
+use Rattle.tuner_theory.specs.Lists.{lists_of}
 use Rattle.class_fitter.proofs.place.fill_place.Given as goal
 
 abbrev pub invariant-loop-k : goal.invariant-loop-k

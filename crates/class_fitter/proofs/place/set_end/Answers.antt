@@ -1,4 +1,4 @@
-use Rattle.class_fitter.proofs.Numbers.{set-lists}
+use Rattle.tuner_theory.proofs.Lists.{set-lists}
 use Rattle.class_fitter.proofs.place.set_end.Goals as goal
 
 pub returns : goal.returns

@@ -1,4 +1,4 @@
-use Rattle.class_table.proofs.LawLemmas.{line_alone_is_read, read_line_is_spelled, spelled_table_is_read, table_is_spelled}
+use Rattle.class_table.proofs.Spelled.{line_alone_is_read, read_line_is_spelled, spelled_table_is_read, table_is_spelled}
 use Rattle.class_table.proofs.laws.law_class_line.Goals as goal
 
 pub returns-clause-read : goal.returns-clause-read

@@ -1,6 +1,6 @@
 use Rattle.std.proofs.Common.{[], ◌≡◌, ℕ, ◌+◌, ◌-◌, ◌^◌, add-one, arith, subst, ◌∙◌}
 use Rattle.class_tuner.specs.Filling.{IsFilledWithin}
-use Rattle.potential_check.specs.Lists.{lists_of}
+use Rattle.tuner_theory.specs.Lists.{lists_of}
 use Rattle.tuner_theory.specs.Rows.{IsFilled, number_at}
 use Rattle.class_tuner.proofs.SourceChanges.{OnlyCounts-more}
 use Rattle.class_tuner.proofs.CallCounts.{calls-more, room-left}

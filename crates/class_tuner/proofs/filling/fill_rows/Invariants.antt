@@ -1,7 +1,7 @@
 use Rattle.std.proofs.Common.{◌≡◌, ◌+◌, ◌≤◌}
 use Rattle.class_tuner.specs.CallCounts.{calls_of, most_calls}
 use Rattle.class_tuner.specs.SourceChanges.{OnlyCounts}
-use Rattle.potential_check.specs.Lists.{lists_of}
+use Rattle.tuner_theory.specs.Lists.{lists_of}
 use Rattle.tuner_theory.specs.Rows.{IsFilled, number_at}
 use Rattle.class_tuner.proofs.filling.fill_rows.Given as goal
 

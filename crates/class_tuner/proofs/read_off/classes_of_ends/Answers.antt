@@ -1,5 +1,5 @@
 use Rattle.std.proofs.Common.{◌-◌, ◌∷◌, [], length-append, ℕ, arith}
-use Rattle.potential_check.specs.Lists.{lists_of}
+use Rattle.tuner_theory.specs.Lists.{lists_of}
 use Rattle.tuner_theory.specs.Rows.{number_at}
 use Rattle.tuner_theory.specs.Spans.{need_at, places}
 use Rattle.class_tuner.proofs.ReadOff.{read-more, read-past}

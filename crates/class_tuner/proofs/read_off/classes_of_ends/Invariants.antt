@@ -1,5 +1,5 @@
 use Rattle.std.proofs.Common.{◌≡◌, ◌-◌, ◌≤◌, ◌++◌, length}
-use Rattle.potential_check.specs.Lists.{lists_of}
+use Rattle.tuner_theory.specs.Lists.{lists_of}
 use Rattle.tuner_theory.specs.Rows.{number_at, table_of_ends}
 use Rattle.tuner_theory.specs.Spans.{need_at, places}
 use Rattle.tuner_theory.specs.Tuned.{tuned_table}

@@ -1,4 +1,4 @@
-use Rattle.potential_check.specs.Lists.{lists_of}
+use Rattle.tuner_theory.specs.Lists.{lists_of}
 use Rattle.tuner_theory.proofs.LawLemmas.{ends_are_later}
 use Rattle.class_tuner.proofs.Tunings.{tuned-legal, tuned-sheet}
 use Rattle.class_tuner.proofs.tuning.sheet_of_rows.Goals as goal

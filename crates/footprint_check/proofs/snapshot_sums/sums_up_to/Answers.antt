@@ -30,7 +30,8 @@ add_up-total-requires-clause-order c =
       c.loop-place.invariant.start,
       c.from.ensures,
       c.need.ensures.need,
-      places_ascend s.counts s.step (c.loop-place.place - 1) c.loop-place.place c.places-place-end.ensures.valid.is_step (omega arith)
+      places_ascend s.counts s.step (step-positive s.step c.places-place-end.ensures.valid.is_step) (c.loop-place.place - 1) c.loop-place.place
+          (omega arith)
           (omega arith),
     )
 
@@ -51,7 +52,7 @@ loop-place-preserved c =
     let need = need_at s.counts s.step place in
     let is : c.from.result ≡ need = c.from.ensures ∙ c.need.ensures.need in
     let valid = c.places-place-end.ensures.valid in
-    let class = place_is_class s.counts s.step place valid.is_step valid.are_counts (omega arith) (omega arith) in
+    let class = place_is_class s.counts s.step place valid.is_step (omega (arith, valid.are_counts.sizes)) (omega arith) (omega arith) in
     let cut = counted-cut counts s.step (step-positive s.step valid.is_step) need (inr (class.0.0, class.1))
     (omega (arith, class.0.1, c.requires.sizes)) in
     let stop : 16 * c.from.result - 15 ≡ 16 * need - 15 = omega (arith, is) in

@@ -3,8 +3,9 @@ use Rattle.std.proofs.Math.Seq.{drop-cons}
 use Rattle.std.specs.Ordering.{nat_cmp, ord_max}
 use Rattle.std.proofs.lemmas.Bool.Decides.{nat_tests}
 use Rattle.tuner_theory.specs.Histories.{most}
-use Rattle.history_count.specs.Histories.{blocks_from, lists_of}
-use Rattle.history_count.proofs.Columns.{lists-length, row-read_at}
+use Rattle.history_count.specs.Histories.{blocks_from}
+use Rattle.tuner_theory.specs.Lists.{lists_of}
+use Rattle.tuner_theory.proofs.Lists.{lists-length, row-read_at}
 use Rattle.history_count.proofs.footprint.most_between.Goals as goal
 
 pub blocks_between-requires-clause-counts : goal.blocks_between-requires-clause-counts

@@ -1,6 +1,7 @@
 use Rattle.std.proofs.Common.{ap, ◌∙◌, arith}
 use Rattle.std.proofs.lemmas.Option.{get_or_from_slice_get, slice_get_within}
-use Rattle.history_count.specs.Histories.{blocks_from, lists_of}
+use Rattle.history_count.specs.Histories.{blocks_from}
+use Rattle.tuner_theory.specs.Lists.{lists_of}
 use Rattle.tuner_theory.specs.Histories.{most}
 use Rattle.history_count.proofs.ClassByClass.{taken-all, taken-more, taken-none, taken-order}
 use Rattle.history_count.proofs.footprint.table_bytes.Goals as goal

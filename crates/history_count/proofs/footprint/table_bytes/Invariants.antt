@@ -1,4 +1,4 @@
-use Rattle.history_count.specs.Histories.{lists_of}
+use Rattle.tuner_theory.specs.Lists.{lists_of}
 use Rattle.history_count.proofs.ClassByClass.{TakenSoFar}
 use Rattle.history_count.proofs.footprint.table_bytes.Given as goal
 

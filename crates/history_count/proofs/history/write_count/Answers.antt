@@ -1,4 +1,4 @@
-use Rattle.history_count.proofs.Columns.{set-lists}
+use Rattle.tuner_theory.proofs.Lists.{set-lists}
 use Rattle.history_count.proofs.history.write_count.Goals as goal
 
 pub returns : goal.returns

@@ -1,6 +1,8 @@
 use Rattle.std.proofs.Common.{◌≡◌, ℕ, ◌<◌, List, [], length, get_or, take_all, ap, sym, ◌∙◌, arith}
-use Rattle.history_count.specs.Histories.{lists_of, with_counts}
-use Rattle.history_count.proofs.Columns.{lists-length, with_counts-ahead, with_counts-more, with_counts-none}
+use Rattle.history_count.specs.Histories.{with_counts}
+use Rattle.tuner_theory.specs.Lists.{lists_of}
+use Rattle.history_count.proofs.Columns.{with_counts-ahead, with_counts-more, with_counts-none}
+use Rattle.tuner_theory.proofs.Lists.{lists-length}
 use Rattle.history_count.proofs.history.write_counts.Goals as goal
 
 pub loop-t-init : goal.loop-t-init

@@ -1,5 +1,6 @@
 use Rattle.std.proofs.Common.{◌≡◌, take}
-use Rattle.history_count.specs.Histories.{lists_of, with_counts}
+use Rattle.history_count.specs.Histories.{with_counts}
+use Rattle.tuner_theory.specs.Lists.{lists_of}
 use Rattle.history_count.proofs.history.write_counts.Given as goal
 
 abbrev pub invariant-loop-t : goal.invariant-loop-t

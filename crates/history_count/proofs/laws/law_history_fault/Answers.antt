@@ -1,4 +1,4 @@
-use Rattle.history_count.proofs.LawLemmas.{first_fault_is_refused, lines_before_it_spell, refused_line_is_there}
+use Rattle.history_count.proofs.FirstFaults.{first_fault_is_refused, lines_before_it_spell, refused_line_is_there}
 use Rattle.history_count.proofs.laws.law_history_fault.Goals as goal
 
 pub returns-clause-first : goal.returns-clause-first

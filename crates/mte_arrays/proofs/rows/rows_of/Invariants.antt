@@ -1,4 +1,4 @@
-use Rattle.potential_check.specs.Lists.{lists_of}
+use Rattle.tuner_theory.specs.Lists.{lists_of}
 use Rattle.mte_arrays.specs.Arrays.{AreRows}
 use Rattle.mte_arrays.proofs.rows.rows_of.Given as goal
 

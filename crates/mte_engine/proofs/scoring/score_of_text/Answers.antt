@@ -1,27 +1,32 @@
-use Rattle.std.proofs.Common.{sym, ◌∙◌, ap, Ok}
+use Rattle.std.proofs.Common.{sym, ◌∙◌}
 use Rattle.std.proofs.lemmas.Result.{err_from_is_err_and}
-use Rattle.mte_engine.proofs.TableAndProfile.{no_line, table_refused, profile_refused, both_read}
+use Rattle.mte_engine.specs.Score.{ScoreAnswers, profile_after_line}
+use Rattle.mte_engine.proofs.TableAnd.{both_read, no_line, rest_refused, table_refused}
 use Rattle.mte_engine.proofs.scoring.score_of_text.Goals as goal
 
 pub returns-in_default : goal.returns-in_default
-returns-in_default c = no_line c.args.text.now (sym c.lines_in-lines.ensures ∙ c.in_default.ensures.steps.0)
+returns-in_default c = no_line profile_after_line c.args.text.now (sym c.lines_in-lines.ensures ∙ c.in_default.ensures.steps.0)
 
 pub returns-in_err-table : goal.returns-in_err-table
 returns-in_err-table c =
     let p = err_from_is_err_and c.from_residual.result c.from_residual.ensures.1 in
     let parts = sym c.lines_in-lines.ensures ∙ c.in-Some.ensures.steps in
-    rw (p.1, p.2) (table_refused c.args.text.now c.in-Some.line.now c.next.new.self c.in_err-table.field-0.0 parts c.in_err-table.ensures)
+    rw (p.1, p.2) (table_refused profile_after_line c.args.text.now c.in-Some.line.now c.next.new.self parts (ScoreAnswers c.args.text.now)
+    (λ fault e. e) c.in_err-table.field-0.0 c.in_err-table.ensures)
 
 pub returns-in_err-profile : goal.returns-in_err-profile
 returns-in_err-profile c =
     let p = err_from_is_err_and c.from_residual-in_err-profile.result c.from_residual-in_err-profile.ensures.1 in
     let parts = sym c.lines_in-lines.ensures ∙ c.in-Some.ensures.steps in
-    rw (p.1, p.2) (profile_refused c.args.text.now c.in-Some.line.now c.in_ok-table.table c.rest.result.now c.next.new.self
-    c.in_err-profile.field-0.0
-    parts c.in_ok-table.ensures c.rest.ensures c.in_err-profile.ensures)
+    rw (p.1, p.2) (rest_refused profile_after_line c.args.text.now c.in-Some.line.now c.next.new.self parts (ScoreAnswers c.args.text.now)
+    (λ fault e. e) c.in_ok-table.table c.rest.result.now c.in_ok-table.ensures c.rest.ensures c.in_err-profile.field-0.0
+    c.in_err-profile.ensures)
 
 pub returns : goal.returns
 returns c =
-    let parts = sym c.lines_in-lines.ensures ∙ c.in-Some.ensures.steps in
-    both_read c.args.text.now c.in-Some.line.now c.in_ok-table.table c.rest.result.now c.next.new.self c.in_ok-profile.profile
-    parts c.in_ok-table.ensures c.rest.ensures c.in_ok-profile.ensures ∙ ap Ok (sym c.in_ok-score_of_profile.ensures)
+    let parts = sym c.lines_in-lines.ensures ∙ c.in-Some.ensures.steps in (
+      (c.in_ok-table.table, c.in_ok-profile.profile),
+      both_read profile_after_line c.args.text.now c.in-Some.line.now c.in_ok-table.table c.rest.result.now c.next.new.self
+          c.in_ok-profile.profile parts c.in_ok-table.ensures c.rest.ensures c.in_ok-profile.ensures,
+      c.in_ok-score_of_profile.ensures,
+    )

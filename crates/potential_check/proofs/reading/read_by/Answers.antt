@@ -1,7 +1,7 @@
 use Rattle.std.proofs.Common.{sym, ◌∙◌, arith}
 use Rattle.std.proofs.lemmas.Result.{err_from_is_err_and}
 use Rattle.potential_check.proofs.LeadingLines.{all_fault_given, all_read, line_after}
-use Rattle.potential_check.proofs.ReadIsSpelled.{spelled-read}
+use Rattle.potential_check.proofs.ReadIsSpelled.{read_is_spelled}
 use Rattle.potential_check.proofs.reading.read_by.Goals as goal
 
 pub returns-in_err-leading-clause-exact : goal.returns-in_err-leading-clause-exact
@@ -16,7 +16,7 @@ pub returns-in-None-clause-exact : goal.returns-in-None-clause-exact
 returns-in-None-clause-exact c = all_read _ _ _ _ _ c.in_ok-leading.ensures (sym c.lines_in.ensures ∙ c.in-None.ensures.steps.0)
 
 pub returns-in-None-clause-within : goal.returns-in-None-clause-within
-returns-in-None-clause-within c = (spelled-read _ c.args.text.now _ (returns-in-None-clause-exact c)).limits
+returns-in-None-clause-within c = (read_is_spelled _ c.args.text.now _ (returns-in-None-clause-exact c)).limits
 
 pub returns-in-Some-clause-exact : goal.returns-in-Some-clause-exact
 returns-in-Some-clause-exact c = line_after _ _ _ _ _ c.in_ok-leading.ensures _ _ (sym c.lines_in.ensures ∙ c.in-Some.ensures.steps)

@@ -1,7 +1,7 @@
 use Rattle.std.proofs.Common.{◌≡◌, ◌<◌, [], ◌∷◌, add-one, ◌++◌, refl, sym, ◌∙◌, length, arith, ap, length-append}
 use Rattle.std.proofs.lemmas.List.{length-map, map-append}
 use Rattle.class_table.specs.declared.table.TheConstants.{MOST_CLASSES}
-use Rattle.potential_check.specs.Lists.{lists_of}
+use Rattle.tuner_theory.specs.Lists.{lists_of}
 use Rattle.potential_check.proofs.LeadingLines.{drop-line, rows_of-row}
 use Rattle.potential_check.proofs.RowLines.{named_row, rows_from-full, rows_from-no_row, rows_from-more, rows_from-end}
 use Rattle.potential_check.proofs.reading.rows_in.Goals as goal

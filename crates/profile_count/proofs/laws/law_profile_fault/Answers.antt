@@ -1,4 +1,4 @@
-use Rattle.profile_count.proofs.LawLemmas.{first_fault_is_refused, lines_before_it_spell, refused_line_is_there}
+use Rattle.profile_count.proofs.FirstFaults.{first_fault_is_refused, lines_before_it_spell, refused_line_is_there}
 use Rattle.profile_count.proofs.laws.law_profile_fault.Goals as goal
 
 pub returns-clause-first : goal.returns-clause-first

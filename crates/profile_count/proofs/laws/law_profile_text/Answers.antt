@@ -1,4 +1,5 @@
-use Rattle.profile_count.proofs.LawLemmas.{profile_is_spelled, spelled_profile_is_read}
+use Rattle.profile_count.proofs.ReadIsSpelled.{profile_is_spelled}
+use Rattle.profile_count.proofs.SpelledIsRead.{spelled_profile_is_read}
 use Rattle.profile_count.proofs.laws.law_profile_text.Goals as goal
 
 pub returns-clause-read : goal.returns-clause-read

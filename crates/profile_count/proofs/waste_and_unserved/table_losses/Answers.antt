@@ -2,7 +2,7 @@ use Rattle.std.proofs.Common.{◌≤◌, length, sym, ◌∙◌, arith}
 use Rattle.tuner_theory.specs.Waste.{waste_at}
 use Rattle.tuner_theory.proofs.Sums.{sum_below-none}
 use Rattle.profile_count.proofs.FirstServing.{class_at, ends_ascend, next_class, next_ready, none_left, some_end}
-use Rattle.profile_count.proofs.Waste.{sum_below-rest, waste_in_class, waste_in_none}
+use Rattle.profile_count.proofs.Waste.{sum_up_to_the_rest, waste_in_class, waste_in_none}
 use Rattle.profile_count.proofs.waste_and_unserved.table_losses.Goals as goal
 
 pub loop-number-init : goal.loop-number-init
@@ -48,5 +48,5 @@ returns-clause-waste c =
     let i = c.loop-number.invariant in
     let all : length table ≤ c.loop-number.number = omega (arith, c.len-number-end.ensures.len) in
     i.summed
-    ∙ sym (sum_below-rest (waste_at counts table) c.loop-number.from (length counts) (omega (arith, i.inside, c.requires.sizes))
+    ∙ sym (sum_up_to_the_rest (waste_at counts table) c.loop-number.from (length counts) (omega (arith, i.inside, c.requires.sizes))
     (λ n le. waste_in_none counts table n (none_left c.loop-number.from n c.loop-number.number table i.ready all le)))

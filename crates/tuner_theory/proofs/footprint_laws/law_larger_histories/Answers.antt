@@ -1,4 +1,4 @@
-use Rattle.tuner_theory.proofs.FootprintLawLemmas.{snapshot_more, counts_more}
+use Rattle.tuner_theory.proofs.FootprintLawLemmas.{counts_more, snapshot_more}
 use Rattle.tuner_theory.proofs.footprint_laws.law_larger_histories.Goals as goal
 
 pub returns-clause-snapshot : goal.returns-clause-snapshot

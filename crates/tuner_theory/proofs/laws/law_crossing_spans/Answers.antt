@@ -1,4 +1,4 @@
-use Rattle.tuner_theory.proofs.LawLemmas.{needs_cross, nothing_between, places_cross}
+use Rattle.tuner_theory.proofs.Spans.{needs_cross, nothing_between, places_cross}
 use Rattle.tuner_theory.proofs.laws.law_crossing_spans.Goals as goal
 
 pub returns-clause-needs : goal.returns-clause-needs

@@ -1,8 +1,14 @@
-use Rattle.tuner_theory.proofs.LawLemmas.{potentials_bound, potentials_bound_rests}
+use Rattle.tuner_theory.proofs.Bound.{potentials_bound_costs}
+use Rattle.tuner_theory.proofs.BoundRests.{rests-bound}
+use Rattle.tuner_theory.proofs.Rounding.{step-positive}
+use Rattle.tuner_theory.proofs.Tables.{waste-sum}
 use Rattle.tuner_theory.proofs.laws.law_potentials_bound.Goals as goal
 
 pub returns-clause-bound : goal.returns-clause-bound
-returns-clause-bound c = potentials_bound
+returns-clause-bound c counts step limit potential classes is_step valid =
+    let pos = step-positive step is_step in
+    potentials_bound_costs _ _ counts step limit potential classes pos (waste-sum counts step pos) valid
 
 pub returns-clause-everywhere : goal.returns-clause-everywhere
-returns-clause-everywhere c = potentials_bound_rests
+returns-clause-everywhere c counts step limit potential k i classes is_step valid =
+    rests-bound counts step (step-positive step is_step) limit potential valid k i classes

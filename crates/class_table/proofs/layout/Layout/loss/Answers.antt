@@ -5,7 +5,7 @@ use Rattle.std.proofs.lemmas.Option.{slice_get-get_or}
 use Rattle.std.proofs.lemmas.Bool.{leb-true}
 use Rattle.class_table.specs.Layout.{Partition}
 use Rattle.class_table.specs.Sizes.{loss_of}
-use Rattle.class_table.proofs.LeastClass.{least_at, class_at_number}
+use Rattle.class_table.proofs.LeastClass.{least_at, number_gives_class}
 use Rattle.class_table.proofs.layout.Layout.loss.Goals as goal
 
 pub overflow_sub-result : goal.overflow_sub-result
@@ -22,7 +22,7 @@ returns-in-Some-clause-loss c =
     let classes : c.deref.result.now ≡ c.args.self.now.classes =
     c.deref.ensures.0 ∙ ap (λ (layout : Partition). layout.classes) c.self.view_is in
     let class =
-    class_at_number c.args.n c.args.self.now.classes
+    number_gives_class c.args.n c.args.self.now.classes
     ∙ ap (option_and_then (slice_get c.args.self.now.classes)) (sym c.in-Some.ensures.number)
     ∙ slice_get-get_or c.args.self.now.classes c.in-Some.number 0 c.in-Some.ensures.within in
     ap (λ bytes. bytes - c.args.n) c.payload_bytes.ensures
@@ -32,5 +32,5 @@ returns-in-Some-clause-loss c =
 pub returns-in-None-clause-loss : goal.returns-in-None-clause-loss
 returns-in-None-clause-loss c =
     sym (ap (λ class. option_map_or (loss_of c.args.n) class 0)
-    (class_at_number c.args.n c.args.self.now.classes
+    (number_gives_class c.args.n c.args.self.now.classes
     ∙ ap (option_and_then (slice_get c.args.self.now.classes)) (sym c.in-None.ensures.number)))

@@ -1,8 +1,8 @@
 use Rattle.std.proofs.Common.{sym, ◌∙◌, ap}
 use Rattle.class_table.specs.Layout.{first_slot}
-use Rattle.class_table.proofs.Slots.{slot_count-classes}
+use Rattle.class_table.proofs.Slots.{slots_of_classes_are_all}
 use Rattle.class_table.proofs.layout.Layout.slots.Goals as goal
 
 pub returns-clause-slots : goal.returns-clause-slots
 returns-clause-slots c =
-    c.first_slot.ensures.first ∙ ap (first_slot c.args.self.now) c.classes.ensures.classes ∙ sym (slot_count-classes c.args.self.now)
+    c.first_slot.ensures.first ∙ ap (first_slot c.args.self.now) c.classes.ensures.classes ∙ sym (slots_of_classes_are_all c.args.self.now)

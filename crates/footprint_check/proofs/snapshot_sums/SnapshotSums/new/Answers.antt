@@ -2,8 +2,8 @@ use Rattle.std.proofs.Common.{◌<◌, [], length, arith}
 use Rattle.footprint_check.specs.SnapshotSums.{HoldsHistory}
 use Rattle.footprint_check.proofs.Snapshots.{small-spans}
 use Rattle.footprint_check.proofs.UpTo.{first-all, first-more}
-use Rattle.footprint_check.proofs.Vectors.{lists-length, row-read_at}
-use Rattle.potential_check.specs.Lists.{lists_of}
+use Rattle.tuner_theory.proofs.Lists.{lists-length, row-read_at}
+use Rattle.tuner_theory.specs.Lists.{lists_of}
 use Rattle.footprint_check.proofs.snapshot_sums.SnapshotSums.new.Goals as goal
 
 pub sums_up_to-requires : goal.sums_up_to-requires

@@ -1,5 +1,5 @@
 use Rattle.footprint_check.proofs.UpTo.{AreSumsOfFirst}
-use Rattle.potential_check.specs.Lists.{lists_of}
+use Rattle.tuner_theory.specs.Lists.{lists_of}
 use Rattle.footprint_check.proofs.snapshot_sums.SnapshotSums.new.Given as goal
 
 abbrev pub invariant-loop-t : goal.invariant-loop-t

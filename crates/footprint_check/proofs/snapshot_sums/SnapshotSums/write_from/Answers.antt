@@ -2,9 +2,9 @@ use Rattle.std.proofs.Common.{◌≡◌, ℕ, ◌+◌, ◌*◌, ◌<◌, ◌≤�
 use Rattle.std.specs.Prelude.{Vec}
 use Rattle.std.specs.declared.alloc.Global.{Global}
 use Rattle.footprint_check.specs.declared.snapshot_sums.SnapshotSums.{SnapshotSums}
-use Rattle.footprint_check.proofs.Vectors.{lists-length, row-read_at}
+use Rattle.tuner_theory.proofs.Lists.{lists-length, row-read_at}
 use Rattle.footprint_check.proofs.Snapshots.{most-all, most-raised, scaled-all, scaled-more, span-fits, sums-ascend, sums-size}
-use Rattle.potential_check.specs.Lists.{lists_of}
+use Rattle.tuner_theory.specs.Lists.{lists_of}
 use Rattle.tuner_theory.specs.Spans.{need_at, places}
 use Rattle.footprint_check.proofs.snapshot_sums.SnapshotSums.write_from.Goals as goal
 

@@ -1,5 +1,5 @@
 use Rattle.footprint_check.specs.SnapshotSums.{AreMostBlocks, AreScaled}
-use Rattle.potential_check.specs.Lists.{lists_of}
+use Rattle.tuner_theory.specs.Lists.{lists_of}
 use Rattle.footprint_check.proofs.snapshot_sums.SnapshotSums.write_from.Given as goal
 
 abbrev pub invariant-loop-t : goal.invariant-loop-t

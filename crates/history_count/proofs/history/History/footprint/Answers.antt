@@ -1,6 +1,7 @@
 use Rattle.std.proofs.Common.{ap, ◌∙◌}
 use Rattle.tuner_theory.specs.Footprint.{footprint_of}
-use Rattle.history_count.specs.Histories.{History, lists_of}
+use Rattle.history_count.specs.Histories.{History}
+use Rattle.tuner_theory.specs.Lists.{lists_of}
 use Rattle.history_count.proofs.history.History.footprint.Goals as goal
 
 pub returns-clause-footprint : goal.returns-clause-footprint

@@ -1,5 +1,6 @@
 use Rattle.std.proofs.Common.{◌≡◌}
-use Rattle.history_count.specs.Histories.{empty_snapshots, lists_of}
+use Rattle.history_count.specs.Histories.{empty_snapshots}
+use Rattle.tuner_theory.specs.Lists.{lists_of}
 use Rattle.history_count.proofs.history.History.new.Given as goal
 
 abbrev pub invariant-loop : goal.invariant-loop

@@ -2,7 +2,8 @@ use Rattle.std.proofs.Common.{◌≡◌, ℕ, List, length, ap, sym, ◌∙◌, 
 use Rattle.std.specs.Prelude.{Vec}
 use Rattle.std.specs.declared.alloc.Global.{Global}
 use Rattle.std.proofs.lemmas.List.{with_items_is}
-use Rattle.history_count.specs.Histories.{History, lists_of, with_counts}
+use Rattle.history_count.specs.Histories.{History, with_counts}
+use Rattle.tuner_theory.specs.Lists.{lists_of}
 use Rattle.history_count.proofs.Peaks.{greatest-small, holds-set}
 use Rattle.history_count.proofs.history.History.set_counts.Goals as goal
 

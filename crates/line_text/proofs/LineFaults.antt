@@ -6,7 +6,9 @@ use Rattle.std.proofs.lemmas.List.{length-take, take-append-le, take-take}
 use Rattle.std.proofs.lemmas.List.Elements.{All-append, All-take}
 use Rattle.line_text.specs.FirstFault.{IsFirstFault}
 use Rattle.line_text.specs.Lines.{IsLine, lines, text_of}
-use Rattle.line_text.proofs.LawLemmas.{text_laws as laws, one_first_fault}
+use Rattle.line_text.proofs.Cuts.{lines_are_lines}
+use Rattle.line_text.proofs.FirstFaults.{one_first_fault}
+use Rattle.line_text.proofs.FullLines.{written_lines_are_read}
 
 -- ---- lists that begin alike
 
@@ -101,9 +103,9 @@ module _ {State Value Fault : Type 0} (from : ℕ → State → List (List ℕ) 
   HasItsPlace number s ls n fault = (k : ℕ) × (n ≡ number + k) × IsFaultAt number s ls fault k
 
   -- Where lines are refused, it is at a place of theirs, or at their end.
-  pub fault_at : (ls : List (List ℕ)) (number : ℕ) (s : State) (n : ℕ) (fault : Fault) → from number s ls ≡ Err (n, fault)
+  pub refusal_has_its_place : (ls : List (List ℕ)) (number : ℕ) (s : State) (n : ℕ) (fault : Fault) → from number s ls ≡ Err (n, fault)
       → HasItsPlace number s ls n fault
-  fault_at [] number s n fault e =
+  refusal_has_its_place [] number s n fault e =
       elim (reads.at_end s) [
         | inl ends ↦ absurd (read_or_refused ends.0 (n, fault) (sym (ends.1 number) ∙ e))
         | inr misses ↦ (let both = same_refusal (number, misses.0) (n, fault) (sym (misses.1 number) ∙ e) in
@@ -111,9 +113,9 @@ module _ {State Value Fault : Type 0} (from : ℕ → State → List (List ℕ) 
             let same : misses.0 ≡ fault = ap (λ (pair : ℕ × Fault). pair.1) both in
             (0, omega (arith, here), rw (← same) (faulty_end number s misses.0 misses.1)))
       ]
-  fault_at (line ∷ ls) number s n fault e =
+  refusal_has_its_place (line ∷ ls) number s n fault e =
       elim (reads.at_line s line) [
-        | inl takes ↦ (let later = fault_at ls (number + 1) takes.0 n fault (sym (takes.1 number ls) ∙ e) in
+        | inl takes ↦ (let later = refusal_has_its_place ls (number + 1) takes.0 n fault (sym (takes.1 number ls) ∙ e) in
             (suc later.0, omega (arith, later.1), faulty_later number s takes.0 line ls fault later.0 takes.1 later.2))
         | inr stops ↦ (let both = same_refusal (number, stops.0) (n, fault) (sym (stops.1 number ls) ∙ e) in
             let here : number ≡ n = ap (λ (pair : ℕ × Fault). pair.0) both in
@@ -127,17 +129,17 @@ module _ {State Value Fault : Type 0} (from : ℕ → State → List (List ℕ) 
   joined_lines : (k : ℕ) (text : List ℕ) (rest : List (List ℕ)) → All IsLine rest
       → lines (text_of (take k (lines text) ++ rest)) ≡ take k (lines text) ++ rest
   joined_lines k text rest are =
-      laws.written_lines (take k (lines text) ++ rest)
-      (All-append IsLine (take k (lines text)) rest (All-take IsLine k (lines text) (laws.lines text)) are)
+      written_lines_are_read (take k (lines text) ++ rest)
+      (All-append IsLine (take k (lines text)) rest (All-take IsLine k (lines text) (lines_are_lines text)) are)
 
   module _ (Spells : List ℕ → Value → Type 0) (start : State)
       (spelled : (text : List ℕ) (value : Value) → from 1 start (lines text) ≡ Ok value → Spells text value)
       (read : (text : List ℕ) (value : Value) → Spells text value → from 1 start (lines text) ≡ Ok value) where
     -- The line of a refusal is the first fault,
-    pub refusal-first_fault : (text : List ℕ) (n : ℕ) (fault : Fault) → from 1 start (lines text) ≡ Err (n, fault)
+    pub refusal_is_first_fault : (text : List ℕ) (n : ℕ) (fault : Fault) → from 1 start (lines text) ≡ Err (n, fault)
         → IsFirstFault Spells text n
-    refusal-first_fault text n fault refused =
-        let at = fault_at (lines text) 1 start n fault refused in
+    refusal_is_first_fault text n fault refused =
+        let at = refusal_has_its_place (lines text) 1 start n fault refused in
         let k = at.0 in
         let place : n ≡ suc k = omega (arith, at.1) in
         let front : n - 1 ≡ k = omega (arith, place) in
@@ -162,14 +164,14 @@ module _ {State Value Fault : Type 0} (from : ℕ → State → List (List ℕ) 
         }
 
     -- and the first fault is refused.
-    pub first_fault-refusal : (text : List ℕ) (n : ℕ) → IsFirstFault Spells text n
+    pub first_fault_is_a_refusal : (text : List ℕ) (n : ℕ) → IsFirstFault Spells text n
         → (fault : Fault) × (from 1 start (lines text) ≡ Err (n, fault))
-    first_fault-refusal text n first = go (from 1 start (lines text)) refl
+    first_fault_is_a_refusal text n first = go (from 1 start (lines text)) refl
       where
         go : (result : Result Value (ℕ × Fault)) → from 1 start (lines text) ≡ result
             → (fault : Fault) × (from 1 start (lines text) ≡ Err (n, fault))
         go (Ok value) is = absurd (first.none text value (spelled text value is) refl)
         go (Err fault) is =
-            let here = refusal-first_fault text fault.0 fault.1 is in
+            let here = refusal_is_first_fault text fault.0 fault.1 is in
             let same = one_first_fault Spells text fault.0 n here first in
             (fault.1, is ∙ ap (λ m. Err (m, fault.1)) same)

@@ -1,4 +1,4 @@
--- Vectors of vectors of numbers, as lists of lists.
+-- Vectors of vectors of numbers, as lists of lists: rows of a certificate, and snapshots of a history.
 use Rattle.std.specs.Prelude.{ℕ, List, Vec, map}
 use Rattle.std.specs.declared.alloc.Global.{Global}
 
