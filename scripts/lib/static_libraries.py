@@ -93,6 +93,7 @@ def build(crate, archive, toolchain):
     if os.path.exists(proved) and not subprocess.run(compiled, cwd=place, capture_output=True, stdin=subprocess.DEVNULL).returncode:
         return
     shutil.rmtree(proved, ignore_errors=True)
+    os.makedirs(os.path.dirname(proved), exist_ok=True)
     run([f"{kit()}/bin/rattle", "check", *words(crate), *over, *jobs(), "-o", proved], cwd=place)
     run(compiled, cwd=place)
 
