@@ -165,7 +165,9 @@ def put_library(tree, folder):
             tree.link(f"{LIBRARIES}/{name}", f"{LIBRARIES}/{os.readlink(path)}")
         elif os.path.isfile(path):
             tree.copy(path, f"{LIBRARIES}/{name}")
-            if ".so" in name:
+            if name.endswith(".a"):
+                run(["strip", "-D", "--strip-debug", tree.path(f"{LIBRARIES}/{name}")])
+            else:
                 stripped(tree, f"{LIBRARIES}/{name}")
     with open(f"{folder}/lib/pkgconfig/mte_tool.pc", encoding="utf-8") as file:
         text = file.read()
