@@ -1,19 +1,28 @@
 //! The engines: where a growth is refused, the sink is as it was.
 use super::support::{PROFILE, SHEET, refused_twice};
 use crate::tests::streams::{sink, source};
-use crate::tests::support::{HEAP, same};
+use crate::tests::support::same;
 use mte_engine::{
     MemorySink, Status, ToolFault, check, check_fit, fit, footprint, profile, replay, run, score,
     tune,
 };
+use replay_core::Config;
 use std::process::Abort;
 use std::test::Fail;
 
-const TRACE: &str = "malloc 1 16\nstore 1 16 1 aa\nmalloc 2 0\n";
+const TRACE: &str = "malloc 1 16\nstore 1 16 1 aa\nmalloc 2 0\nload 1 32 1\nfree 1\nload 1 0 1\n";
 
 const REPORT: &str =
-    "2 fault tag granule 2 memory 0 pointer 1 in header\nevents 3\nrequests 2\nnull large 0\nnull no-class 0\nnull exhausted 0\n\
-    faults tag 1\nfaults unmapped 0\nrefused frees 0\nloss 16\n";
+    "2 fault tag granule 2 memory 0 pointer 1 in header\n4 fault tag granule 3 memory 2 pointer 1 in other\n\
+    6 fault tag granule 1 memory 3 pointer 1 in dead\nevents 6\nrequests 2\nnull large 0\nnull no-class 0\nnull exhausted 0\n\
+    faults tag 3\nfaults unmapped 0\nrefused frees 0\nloss 16\n";
+
+// a heap of 64 granules with the seed 1, and a quarantine of 64 bytes
+const QUARANTINED: Config = Config {
+    granules: 64,
+    seed: 1,
+    quarantine: 64,
+};
 
 #[test]
 fn scoring(rt: HostRuntime) -> Result<(), Fail> {
@@ -101,8 +110,12 @@ fn checking_a_fit(rt: HostRuntime) -> Result<(), Fail> {
 fn profiling(rt: HostRuntime) -> Result<(), Fail> {
     for _attempt in 0..2 {
         let mut to = sink(rt.alloc())?;
-        let end = profile(rt.alloc(), &mut source(TRACE.as_bytes()), &mut to);
-        if answered(&rt, end, &to, "0 1\n16 1\n") {
+        let end = profile(
+            rt.alloc(),
+            &mut source(b"malloc 1 16368\ncalloc 2 16369\n"),
+            &mut to,
+        );
+        if answered(&rt, end, &to, "16368 1\nlarge 1\n") {
             return Ok(());
         }
     }
@@ -111,11 +124,16 @@ fn profiling(rt: HostRuntime) -> Result<(), Fail> {
 
 #[test]
 fn replaying(rt: HostRuntime) -> Result<(), Fail> {
-    let mut input = String::from_str(rt.alloc(), "classes 2\n")?;
+    let mut input = String::from_str(rt.alloc(), "classes 2 4\n")?;
     input.push_str(TRACE)?;
     for _attempt in 0..2 {
         let mut to = sink(rt.alloc())?;
-        let end = replay(rt.alloc(), HEAP, &mut source(input.as_bytes()), &mut to);
+        let end = replay(
+            rt.alloc(),
+            QUARANTINED,
+            &mut source(input.as_bytes()),
+            &mut to,
+        );
         if answered(&rt, end, &to, REPORT) {
             return Ok(());
         }
@@ -125,15 +143,18 @@ fn replaying(rt: HostRuntime) -> Result<(), Fail> {
 
 #[test]
 fn running(rt: HostRuntime) -> Result<(), Fail> {
-    let mut written = String::from_str(rt.alloc(), "classes 2\nlimit 1\nwaste 16\nrow 16\n")?;
+    let mut written = String::from_str(
+        rt.alloc(),
+        "classes 2\nlimit 2\nwaste 16\nrow 16\nrow 16\n",
+    )?;
     written.push_str(REPORT)?;
     for _attempt in 0..2 {
         let mut to = sink(rt.alloc())?;
         let end = run(
             rt.alloc(),
+            2,
             1,
-            1,
-            HEAP,
+            QUARANTINED,
             &mut source(TRACE.as_bytes()),
             &mut to,
         );
