@@ -7,8 +7,8 @@ use Rattle.mte_engine.specs.declared.engine.Status.TheVariants.{Done, No}
 use Rattle.mte_engine.specs.declared.fault.ToolFault.TheVariants.{OutOfMemory, Input, ReadFault, WriteFault}
 use Rattle.command_line.specs.declared.end.End.{End}
 use Rattle.command_line.specs.declared.end.End.TheVariants.{Shown, Refused, Ended}
-use Rattle.command_line.specs.declared.refusal.Refusal.{Refusal}
-use Rattle.command_line.specs.declared.refusal.Refusal.TheVariants.{OutOfMemory as NoMemory, Words, Options}
+use Rattle.command_words.specs.declared.refusal.Refusal.{Refusal}
+use Rattle.command_words.specs.declared.refusal.Refusal.TheVariants.{OutOfMemory as NoMemory, Words, Options}
 
 -- 0 where a command is done and where help was shown, 1 for a no, 2 for refused words and refused input, 3 where memory ran out, and for
 -- a failed read or write.

@@ -1,7 +1,2 @@
-pub mod Bounds
 pub mod Calls
 pub mod Exit
-pub mod FaultText
-pub mod AcceptedWords
-pub mod Spellings
-pub mod Words

@@ -1,21 +1,11 @@
-//! The command line of `mte_tool`: its words and what they mean, the standard streams, and how a run ends. It hands each command on to its
-//! engine in `mte_engine`, and is a library, so that its proofs cost less than those of a program.
+//! The command line of `mte_tool`: it runs the call that the words mean (`command_words`) by the call's engine (`mte_engine`), over the
+//! standard streams, and says how the run ends. It is a library, so that its proofs cost less than those of a program.
 #![tactic(auto)]
 
-mod call;
-mod commands;
 mod end;
-mod options;
 mod program;
-mod refusal;
-mod words;
+mod running;
 
-pub use call::Call;
-pub use commands::fit::Fit;
-pub use commands::replay::Replay;
-pub use commands::run::Run;
-pub use commands::tune::Tune;
 pub use end::End;
 pub use program::run;
-pub use refusal::{OptionFault, Refusal};
-pub use words::run_call_of;
+pub use running::{CallEnd, run_call, run_call_of};

@@ -4,9 +4,9 @@ ghost use Rattle.command_line.specs.Exit.{IsRefusedEnd};
 ghost use Rattle.command_line.specs.declared.end.End.TheVariants.{Ended};
 
 use crate::end::End;
-use crate::refusal::Refusal;
-use crate::words::{command, read_call, run_call_of};
+use crate::running::{CallEnd, run_call_of};
 use clap::error::ErrorKind;
+use command_words::{Refusal, command, read_call};
 use mte_engine::{Status, StreamSink, StreamSource, ToolFault};
 use std::io;
 use std::io::writer;
@@ -33,8 +33,9 @@ pub fn run<R: Env + AllocGlobal + Input + Print + Eprint>(rt: &R, at_terminal: b
     let mut source = StreamSource::new(rt.reader());
     let mut sink = StreamSink::new(writer(rt));
     match run_call_of(rt.alloc(), words.as_slice(), &mut source, &mut sink) {
-        Ok(end) => finish(rt, end),
-        Err(refusal) => refuse(rt, &refusal),
+        CallEnd::Done(status) => finish(rt, Ok(status)),
+        CallEnd::Failed(fault) => finish(rt, Err(fault)),
+        CallEnd::Refused(refusal) => refuse(rt, &refusal),
     }
 }
 

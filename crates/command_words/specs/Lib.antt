@@ -1,0 +1,6 @@
+pub mod Bounds
+pub mod Calls
+pub mod FaultText
+pub mod AcceptedWords
+pub mod Spellings
+pub mod Words

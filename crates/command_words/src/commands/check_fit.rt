@@ -1,0 +1,65 @@
+//! `check-fit`.
+ghost use Rattle.command_words.specs.AcceptedWords.{HasWords, check_fit_words};
+
+use crate::commands::shared_help::{About, about, described, help_text};
+use clap::Command;
+use std::alloc::Global;
+
+/// The command's name.
+pub const NAME: &str = "check-fit";
+
+const ABOUT: About = about!(
+    "Check whether a fit proves that its class table takes least over a history",
+    ", whoever wrote it."
+);
+
+const AFTER: &str = help_text!(
+    "\
+Standard input is a fit, and then a history:
+
+  classes C1 C2 ..   the table: up to 32 block sizes in granules of 16 bytes, from 2 to 1024,
+                     ascending
+  limit K            the most classes that a table may have, 1 to 32
+  step S             2, 4 or 8, where each class must be a multiple of it; no such line for 1
+  footprint F        the bytes that the table is said to take
+  row N1 N2 ..       K rows with a number for each distinct need; all `row` lines that follow at
+                     once belong to the fit
+",
+    history_lines,
+    "
+
+The output is one line:
+
+  optimal              the fit meets all conditions below: no table of at most K classes that are
+                       multiples of S, and that serves each counted size, takes less
+  refused CODE NAME    the first condition that the fit breaks; the exit status is 1
+
+A table may be one that takes least and its fit refused: the rows must prove it. The conditions:
+
+  39 OffStep           each class is a multiple of the step
+  40 OverLimit         the table has at most K classes
+  41 NotServing        each counted size has a class
+  49 FootprintWrong    the footprint is the table's over the history
+  43 Shape             there are K rows, with a number for each distinct need
+  44 LastClass         row 1, number i is at most what one class takes for all blocks but those of
+                       the i-1 smallest needs
+  45 StageDrop         no number is above the one at its place in the row before
+  46 Edge              no number is above what one class up to a later need takes, plus the number
+                       of the row before there
+  47 NotTight          the first number of row K is the footprint
+
+Example:
+  (mte_tool fit --limit 8 < app.history; cat app.history) | mte_tool check-fit
+writes `optimal`: a fit of `fit` proves that its table takes least.
+
+Refused input, exit status 2:
+  36 BadFit            a line of the fit has none of the forms above, or is missing",
+    history_refusals
+);
+
+/// The command's words.
+pub fn words<'a>(alloc: Global) -> Command<'a>
+    ensures { HasWords result check_fit_words }
+{
+    described(alloc, NAME, ABOUT, AFTER)
+}

@@ -1,0 +1,35 @@
+//! `profile`.
+ghost use Rattle.command_words.specs.AcceptedWords.{HasWords, profile_words};
+
+use crate::commands::shared_help::{About, about, described, help_text};
+use clap::Command;
+use std::alloc::Global;
+
+/// The command's name.
+pub const NAME: &str = "profile";
+
+const ABOUT: About = about!("Count how often a trace requests each size");
+
+const AFTER: &str = help_text!(
+    "Standard input is a trace, a line for each event:",
+    trace_lines,
+    "The output is a profile, the input of `tune`:
+
+  SIZE COUNT         a size of malloc, calloc and realloc, 0 to 16368, and how often it was
+                     requested, also where the heap would refuse it; sizes ascend
+  large COUNT        how often more than 16368 bytes were requested, if they were
+
+Example:
+  printf 'malloc 1 16\\nmalloc 2 40\\nfree 1\\ncalloc 1 16\\n' | mte_tool profile
+writes the lines `16 2` and `40 1`.
+
+Refused input, exit status 2:",
+    trace_refusals
+);
+
+/// The command's words.
+pub fn words<'a>(alloc: Global) -> Command<'a>
+    ensures { HasWords result profile_words }
+{
+    described(alloc, NAME, ABOUT, AFTER)
+}

@@ -1,0 +1,140 @@
+//! What the words of the commands share: their texts' place in clap, and the parts of the help that several of them have.
+ghost use Rattle.clap.specs.Words.{new_app};
+ghost use Rattle.command_words.specs.AcceptedWords.{HasWords};
+
+use clap::Command;
+use std::alloc::Global;
+
+/// What a command does.
+#[derive(Clone, Copy)]
+pub struct About {
+    /// The line in the list of commands, without a full stop.
+    pub line: &'static str,
+    /// The sentence that the command's own help begins with.
+    pub sentence: &'static str,
+}
+
+/// The words of a command that has no options yet: its name, and its help. `after` stands after the options in the command's own help.
+pub fn described<'a>(alloc: Global, name: &'a str, about: About, after: &'a str) -> Command<'a>
+    ensures { HasWords result (new_app name.now) }
+{
+    Command::new(alloc, name)
+        .about(about.line)
+        .long_about(about.sentence)
+        .after_help(after)
+}
+
+// What a command does, whose sentence is its line with an end. The end is a full stop, or what `end` says.
+macro_rules! about {
+    ($line:literal) => {
+        about!($line, ".")
+    };
+    ($line:literal, $end:literal) => {
+        About {
+            line: $line,
+            sentence: concat!($line, $end),
+        }
+    };
+}
+
+// A command's text after its options. A part of it is a literal, or a word for what several commands say:
+// - `class_line` and `profile_lines`: the forms of these lines (`check` says them in words of its own)
+// - `history_lines`: the forms of a history's lines
+// - `trace_lines`: the forms of a trace's lines
+// - `step_refusals`: the refusals of an option `--step`, with their head
+// - `class_line_refusals`: those of a class line
+// - `profile_refusals`, `history_refusals` and `trace_refusals`: those of a profile, of a history and of a trace, and the failures, which
+//   end the text
+macro_rules! help_text {
+    (@[$($done:tt)*]) => {
+        concat!($($done),*)
+    };
+    (@[$($done:tt)*], $($rest:tt)*) => {
+        help_text!(@[$($done)*] $($rest)*)
+    };
+    (@[$($done:tt)*] class_line $($rest:tt)*) => {
+        help_text!(@[$($done)*
+            "  classes C1 C2 ..   up to 32 block sizes in granules of 16 bytes, from 2 to 1024, ascending"] $($rest)*)
+    };
+    (@[$($done:tt)*] profile_lines $($rest:tt)*) => {
+        help_text!(@[$($done)*
+            "  SIZE COUNT         a size in bytes, 0 to 16368, and how often it was requested, 1 to 1000000000;
+                     sizes ascend
+  large COUNT        how often more than 16368 bytes were requested, if they were; it is the last
+                     line, and is not in the waste"] $($rest)*)
+    };
+    (@[$($done:tt)*] history_lines $($rest:tt)*) => {
+        help_text!(@[$($done)*
+            "  snapshots T        the number of moments at which blocks were counted, 1 to 64
+  SIZE N1 .. NT      a size in bytes, 0 to 16368, and how many blocks of it were live at each
+                     snapshot, 0 to 1000000000, not all of them 0; sizes ascend
+  large N1 .. NT     how many blocks of more than 16368 bytes were, if any; it is the last line, and
+                     is not in the footprint"] $($rest)*)
+    };
+    (@[$($done:tt)*] trace_lines $($rest:tt)*) => {
+        help_text!(@[$($done)* "
+
+  malloc V N            calloc V N            realloc V N           free V
+  load V OFF LEN        store V OFF LEN HH    addg V W U6 U4        subg V W U6 U4
+
+  V, W    variables that hold pointers, 0 to 1023
+  N       a size in bytes, 0 to 2147483647
+  OFF     an offset in bytes, -1048576 to 1048576
+  LEN     bytes to load or store, 1 to 64
+  HH      the byte that is stored, two hexadecimal digits
+  U6, U4  granules, 0 to 63, and tags, 0 to 15, by which a pointer is moved
+
+A line has at most 80 bytes, and there are at most 1000000 events. docs/FORMATS.md has the meaning
+of each event. "] $($rest)*)
+    };
+    (@[$($done:tt)*] step_refusals $($rest:tt)*) => {
+        help_text!(@[$($done)*
+            "Refused, exit status 2:
+  83 BadOption         the step is 3, 5, 6 or 7; nothing is read then"] $($rest)*)
+    };
+    (@[$($done:tt)*] class_line_refusals $($rest:tt)*) => {
+        help_text!(@[$($done)* "
+  20 TooMany           line 1 has more than 32 classes
+  21 OutOfRange        a class of line 1 is not from 2 to 1024
+  22 NotAscending      a class of line 1 is not above the one before it
+  23 BadLine           line 1 is no class line"] $($rest)*)
+    };
+    (@[$($done:tt)*] profile_refusals $($rest:tt)*) => {
+        help_text!(@[$($done)* "
+  30 BadLine           a line of the profile is none of its two forms, or its size is above 16368
+  31 NotAscending      a size is not above the one before it
+  32 CountOutOfRange   a count is not from 1 to 1000000000"] failures $($rest)*)
+    };
+    (@[$($done:tt)*] history_refusals $($rest:tt)*) => {
+        help_text!(@[$($done)* "
+  30 BadLine           a later line of the history is none of its two forms, or its size is above
+                       16368
+  31 NotAscending      a size is not above the one before it
+  32 CountOutOfRange   a number is above 1000000000, or all of a line are 0
+  34 BadSnapshots      the history's first line is not `snapshots T`, or is missing
+  35 WrongLength       a line does not have T numbers"] failures $($rest)*)
+    };
+    (@[$($done:tt)*] trace_refusals $($rest:tt)*) => {
+        help_text!(@[$($done)* "
+  70 BadWord           a line is no event, or has a word too many or too few
+  71 BadNumber         a word is no number of its kind, or not in its one spelling
+  72 OutOfRange        a number is not in its range
+  73 LineTooLong       a line has more than 80 bytes
+  74 TooManyEvents     there is a line after 1000000 events"] failures $($rest)*)
+    };
+    (@[$($done:tt)*] failures $($rest:tt)*) => {
+        help_text!(@[$($done)* "
+  80 InputTooLong      there are more than 67108864 bytes
+Failures, exit status 3:
+  1 OutOfMemory, 81 ReadFault, 82 WriteFault"] $($rest)*)
+    };
+    (@[$($done:tt)*] $part:tt $($rest:tt)*) => {
+        help_text!(@[$($done)* $part] $($rest)*)
+    };
+    ($($part:tt)+) => {
+        help_text!(@[] $($part)+)
+    };
+}
+
+pub(crate) use about;
+pub(crate) use help_text;

@@ -1,0 +1,17 @@
+//! The words of the command line of `mte_tool`, and the call that they mean. It stands on no engine, so that the words are proved beside the
+//! engines.
+#![tactic(auto)]
+
+mod call;
+mod commands;
+mod options;
+mod refusal;
+mod words;
+
+pub use call::Call;
+pub use commands::fit::Fit;
+pub use commands::replay::Replay;
+pub use commands::run::Run;
+pub use commands::tune::Tune;
+pub use refusal::{OptionFault, Refusal};
+pub use words::{command, read_call};

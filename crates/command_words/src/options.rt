@@ -1,0 +1,176 @@
+//! The options that commands share.
+ghost use Rattle.std.specs.Prelude.{ℕ, ◌<◌, ◌^◌, MatchOption, MatchResult};
+ghost use Rattle.clap.specs.Words.{found_of, rows_of};
+ghost use Rattle.command_words.specs.Calls.{HasConfig, HasLimit, HasNumber, HasNumberIn, HasSeed, HasStep, IsRead};
+ghost use Rattle.command_words.specs.AcceptedWords.{IsOption, granules_rule, limit_rule, number_rule, quarantine_rule, seed_rule, step_rule};
+
+use crate::refusal::OptionFault;
+use clap::{Arg, ArgMatches, value_parser};
+use class_table::{FEWEST_GRANULES, MOST_CLASSES, MOST_GRANULES, is_step};
+use std::alloc::Global;
+use tagged_heap::Config;
+
+// An option whose value is a number within bounds. In the code, its name, its bounds and its help stand here alone.
+#[derive(Clone, Copy)]
+struct NumberOption {
+    name: &'static str,
+    value_name: &'static str,
+    least: u32,
+    most: u32,
+    help: &'static str,
+}
+
+const LIMIT: NumberOption = NumberOption {
+    name: "limit",
+    value_name: "K",
+    least: 1,
+    most: MOST_CLASSES as u32,
+    help: "The most classes that the table may have, 1 to 32",
+};
+
+const STEP: NumberOption = NumberOption {
+    name: "step",
+    value_name: "S",
+    least: 1,
+    most: 8,
+    help: "Each class is a multiple of S granules: 1, 2, 4 or 8",
+};
+
+const GRANULES: NumberOption = NumberOption {
+    name: "granules",
+    value_name: "R",
+    least: FEWEST_GRANULES,
+    most: MOST_GRANULES,
+    help: "The granules of the heap's region, 64 to 262144",
+};
+
+const SEED: NumberOption = NumberOption {
+    name: "seed",
+    value_name: "N",
+    least: 1,
+    most: 65_535,
+    help: "What the random tags begin with, 1 to 65535",
+};
+
+const QUARANTINE: NumberOption = NumberOption {
+    name: "quarantine",
+    value_name: "Q",
+    least: 0,
+    most: Config::MOST_QUARANTINE,
+    help: "Bytes of freed blocks held back from reuse, 0 to 4194304",
+};
+
+impl NumberOption {
+    // the option for clap, which refuses numbers outside the bounds
+    fn arg<'a>(self, alloc: Global) -> Arg<'a>
+        ensures { IsOption result (number_rule self.name.now (self.least, self.most)) }
+    {
+        Arg::new(alloc, self.name)
+            .long(self.name)
+            .value_name(self.value_name)
+            .value_parser(value_parser!(u32).range(self.least as i64..=self.most as i64))
+            .help(self.help)
+    }
+
+    // The number of the option, which must be within its bounds. clap has refused any other number before; its contract doesn't say so, so
+    // the function tests again.
+    fn number_in(self, options: &ArgMatches<'_>) -> Result<u32, OptionFault>
+        ensures { IsRead (HasNumberIn (rows_of (found_of options.now)) self.name.now (self.least, self.most)) result }
+    {
+        let Some(n) = number(options, self.name) else {
+            return Err(OptionFault::BadOption);
+        };
+        if self.least <= n && n <= self.most {
+            Ok(n)
+        } else {
+            Err(OptionFault::BadOption)
+        }
+    }
+}
+
+/// The option for the most classes, 1 to 32. It is required.
+pub fn limit<'a>(alloc: Global) -> Arg<'a>
+    ensures { IsOption result limit_rule }
+{
+    LIMIT.arg(alloc).required(true)
+}
+
+/// The option for the step, 1 to 8. The default is 1.
+pub fn step<'a>(alloc: Global) -> Arg<'a>
+    ensures { IsOption result step_rule }
+{
+    STEP.arg(alloc).default_value("1")
+}
+
+/// The option for the heap's size in granules, 64 to 262144. The default is 65536.
+pub fn granules<'a>(alloc: Global) -> Arg<'a>
+    ensures { IsOption result granules_rule }
+{
+    GRANULES.arg(alloc).default_value("65536")
+}
+
+/// The option for the seed of the random tags, 1 to 65535. The default is 1.
+pub fn seed<'a>(alloc: Global) -> Arg<'a>
+    ensures { IsOption result seed_rule }
+{
+    SEED.arg(alloc).default_value("1")
+}
+
+/// The option for the limit of the quarantine in bytes, 0 to 4194304. The default is 65536.
+pub fn quarantine<'a>(alloc: Global) -> Arg<'a>
+    ensures { IsOption result quarantine_rule }
+{
+    QUARANTINE.arg(alloc).default_value("65536")
+}
+
+/// The most classes that the options allow. `BadOption` if they name no number from 1 to 32.
+pub fn limit_of(options: &ArgMatches<'_>) -> Result<u8, OptionFault>
+    ensures { IsRead (HasLimit (rows_of (found_of options.now))) result }
+{
+    match LIMIT.number_in(options) {
+        Ok(limit) => Ok(limit as u8),
+        Err(fault) => Err(fault),
+    }
+}
+
+/// The step of the options. `BadOption` if it is not 1, 2, 4 or 8.
+pub fn step_of(options: &ArgMatches<'_>) -> Result<u8, OptionFault>
+    ensures { IsRead (HasStep (rows_of (found_of options.now))) result }
+{
+    match STEP.number_in(options) {
+        Ok(step) if is_step(step as u8) => Ok(step as u8),
+        Ok(_) => Err(OptionFault::BadOption),
+        Err(fault) => Err(fault),
+    }
+}
+
+/// The heap's configuration by the options. `BadOption` if one of them is outside its range.
+pub fn config_of(options: &ArgMatches<'_>) -> Result<Config, OptionFault>
+    ensures { MatchResult result
+        (HasConfig (rows_of (found_of options.now)))
+        (λ _. (config : Config) → HasConfig (rows_of (found_of options.now)) config → ⊥) }
+{
+    Ok(Config {
+        granules: GRANULES.number_in(options)?,
+        seed: seed_of(options)?,
+        quarantine: QUARANTINE.number_in(options)?,
+    })
+}
+
+fn seed_of(options: &ArgMatches<'_>) -> Result<u16, OptionFault>
+    ensures { IsRead (HasSeed (rows_of (found_of options.now))) result }
+{
+    match SEED.number_in(options) {
+        Ok(seed) => Ok(seed as u16),
+        Err(fault) => Err(fault),
+    }
+}
+
+// the number that an option has
+fn number(options: &ArgMatches<'_>, name: &str) -> Option<u32>
+    ensures { MatchOption result
+        ((n : ℕ) → n < 2 ^ 32 → HasNumber (rows_of (found_of options.now)) name.now n → ⊥)
+        (HasNumber (rows_of (found_of options.now)) name.now) }
+{
+    options.get_one::<u32>(name)
+}
