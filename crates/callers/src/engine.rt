@@ -1,0 +1,32 @@
+//! A caller of an engine, from a slice to a vector.
+ghost use Rattle.std.specs.Prelude.{◌≡◌, IfOk, Ok};
+ghost use Rattle.mte_engine.specs.Outcome.{Answer, AnswersInput};
+ghost use Rattle.mte_engine.specs.Tune.{AreTuneOptions, TuneAnswers};
+ghost use Rattle.mte_engine.specs.declared.engine.Status.{Status};
+
+use mte_engine::{MemorySink, MemorySource, ToolFault, tune};
+use std::alloc::Global;
+
+/// The sheet that `tune` writes for a profile, both as texts. The options are `tune`'s. The errors are those of the engine: `Input` with the
+/// first fault of the profile, or `OutOfMemory`; as the sink is memory, `WriteFault` means that memory ran out too.
+pub fn tuned_sheet(alloc: Global, limit: u8, step: u8, profile: &[u8]) -> Result<Vec<u8>, ToolFault>
+    requires { AreTuneOptions limit step }
+    ensures { IfOk result (λ text. (answer : Answer)
+        × AnswersInput (TuneAnswers limit step) profile.now (Ok answer) × (answer.text ≡ text.items)) }
+{
+    let mut source = MemorySource {
+        rest: profile,
+        most: usize::MAX,
+        until_failure: None,
+        reads: 0,
+        failed: 0,
+    };
+    let mut sink = MemorySink {
+        text: Vec::new(alloc),
+        most: usize::MAX,
+        until_failure: None,
+        failed: 0,
+    };
+    tune(alloc, limit, step, &mut source, &mut sink)?;
+    Ok(sink.text)
+}
