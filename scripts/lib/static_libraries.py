@@ -9,6 +9,8 @@ import shutil
 import subprocess
 import sys
 
+from crate_list import CrateList
+
 # those that scripts/library links
 LIBRARY = ("mte_c", "mte_arrays", "mte_heap")
 ROOT = os.path.dirname(os.path.dirname(os.path.dirname(os.path.realpath(__file__))))
@@ -33,23 +35,8 @@ def run(words, **how):
     return done.stdout.decode(errors="replace")
 
 
-def libraries():
-    """The libraries that each crate stands on, from crates.txt."""
-    found = {}
-    with open(os.path.join(ROOT, "crates.txt"), encoding="utf-8") as lines:
-        for line in lines:
-            name, colon, below = line.partition(":")
-            if colon and not line.startswith("#"):
-                found[name.split()[0]] = below.split()
-    return found
-
-
-def crates_below(crate, known):
-    found = []
-    for name in known[crate]:
-        if name in known:
-            found += [below for below in [*crates_below(name, known), name] if below not in found]
-    return found
+def crates_below(crate):
+    return [name for name in CrateList(ROOT).below([crate]) if name != crate]
 
 
 def are_left(crate):
@@ -58,22 +45,22 @@ def are_left(crate):
         place = f"{ROOT}/crates/{name}/out/rlib"
         return os.path.exists(f"{place}/{name}.rlib/format") and not os.path.exists(f"{place}/stamp")
 
-    return bool(os.environ.get("MTE_AFTER_CI")) and all(map(is_left, crates_below(crate, libraries())))
+    return bool(os.environ.get("MTE_AFTER_CI")) and all(map(is_left, crates_below(crate)))
 
 
 def is_cheap(crate):
     """Whether the crate can be built without a proof of those below it: `rt ci` left their libraries, or `rt lib` kept them."""
-    return are_left(crate) or all(os.path.exists(f"{ROOT}/crates/{name}/out/rlib/stamp") for name in crates_below(crate, libraries()))
+    return are_left(crate) or all(os.path.exists(f"{ROOT}/crates/{name}/out/rlib/stamp") for name in crates_below(crate))
 
 
 def words(crate):
     """The crate, its kind and its libraries, for the compiler."""
-    known = libraries()
+    crates = CrateList(ROOT)
     said = ["--crate-name", crate, "src/lib.rt", "-L", f"dependency={kit()}/rlibs", "--crate-type", "staticlib"]
-    for name in ["std", *known[crate]]:
-        library = f"{ROOT}/crates/{name}/out/rlib/{name}.rlib" if name in known else f"{kit()}/rlibs/{name}.rlib"
+    for name in ["std", *crates.stands_on[crate]]:
+        library = f"{ROOT}/crates/{name}/out/rlib/{name}.rlib" if name in crates.stands_on else f"{kit()}/rlibs/{name}.rlib"
         said += ["--extern", f"{name}={library}"]
-    for name in crates_below(crate, known):
+    for name in crates_below(crate):
         said += ["-L", f"dependency={ROOT}/crates/{name}/out/rlib"]
     return [*said, "--antt-project", f"{kit()}/rattle/logic/antt-project.json"]
 
