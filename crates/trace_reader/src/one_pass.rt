@@ -21,6 +21,11 @@ const WINDOW: usize = 48;
 // the bytes of a word
 const WORD: usize = 4;
 
+// the copies of `first_event`: for events that are handed out at once, and for events that wait
+pub(crate) const AT_ONCE: u8 = 0;
+
+pub(crate) const KEPT: u8 = 1;
+
 // The first four letters of the events' names, as words: the first letter is the lowest byte.
 const MALL: u32 = 0x6c6c_616d;
 
@@ -39,8 +44,9 @@ const ADDG: u32 = 0x6764_6461;
 const SUBG: u32 = 0x6762_7573;
 
 // The event of the first line of a text, and the text after that line. `None` leaves the line to `line`, which finds an event or a fault.
+// Each caller has a `COPY` of its own: the compiler puts a function of this length into its caller only where it has no other.
 #[inline(always)]
-pub(crate) fn first_event(text: &[u8]) -> Option<(Event, &[u8])>
+pub(crate) fn first_event<const COPY: u8>(text: &[u8]) -> Option<(Event, &[u8])>
     ensures spelled { IfSome result (λ found. text.now ≡ event_line found.0 ++ 10 ∷ found.1.now) }
     ensures range { IfSome result (λ found. IsInRange found.0) }
 {

@@ -11,7 +11,7 @@ ghost use Rattle.trace_reader.specs.Reading.{fed, finished, is_finished, nothing
 use crate::event_queue::EventQueue;
 use crate::fault::{TraceError, TraceFault};
 use crate::line::{LONGEST_LINE, MOST_EVENTS, event_in};
-use crate::one_pass::first_event;
+use crate::one_pass::{AT_ONCE, KEPT, first_event};
 use crate::status::Status;
 use arrayvec::ArrayVec;
 use heap_theory::Event;
@@ -148,7 +148,7 @@ impl TraceReader {
         if self.lines == MOST_EVENTS {
             return None;
         }
-        let (event, after) = first_event(text)?;
+        let (event, after) = first_event::<AT_ONCE>(text)?;
         self.lines += 1;
         Some((event, after))
     }
@@ -173,7 +173,7 @@ impl TraceReader {
         if !self.rest.is_empty() {
             return Ok(rest);
         }
-        while let Some((event, after)) = first_event(rest) {
+        while let Some((event, after)) = first_event::<KEPT>(rest) {
             if self.lines == MOST_EVENTS {
                 break;
             }
