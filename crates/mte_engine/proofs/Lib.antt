@@ -7,7 +7,6 @@ pub mod HistoryFaultLines
 pub mod Headline
 pub mod SheetLinesSettled
 pub mod LineAndTrace
-pub mod Transfers
 pub mod Reporting
 pub mod LeadingAnd
 pub mod TableAnd

@@ -2,7 +2,7 @@
 use Rattle.std.proofs.Common.{◌≡◌, ℕ, ◌≤◌, false, ltb, List, ◌++◌, length, Option, Some, None, Result, Ok, Err, sym, ap, ◌∙◌, arith, append-nil, subst}
 use Rattle.std.specs.Io.KnownBytes.{Appends, Consumes, IsAtEnd}
 use Rattle.std.proofs.lemmas.Bool.{le-ltb}
-use Rattle.mte_engine.specs.Transfer.{most_input}
+use Rattle.byte_streams.specs.Transfer.{most_input}
 use Rattle.mte_engine.specs.Outcome.{Answer, AnswersInput, ReportsFor}
 use Rattle.mte_engine.specs.declared.engine.Status.{Status}
 use Rattle.mte_engine.specs.declared.fault.InputFault.{InputFault}

@@ -3,7 +3,6 @@ pub mod CheckFit
 pub mod FaultLines
 pub mod Fit
 pub mod Footprint
-pub mod Transfer
 pub mod Outcome
 pub mod Parts
 pub mod Profile
@@ -13,7 +12,5 @@ pub mod ReportLeft
 pub mod Run
 pub mod Score
 pub mod FaultText
-pub mod Streams
 pub mod Traces
-pub mod TextLeft
 pub mod Tune

@@ -2,14 +2,12 @@
 ghost use Rattle.std.specs.Prelude.{◌≡◌, IfOk};
 ghost use Rattle.mte_engine.specs.Check.{CheckAnswers, verdict_text};
 ghost use Rattle.mte_engine.specs.Outcome.{GivesAnswer, IsReady, Runs};
-ghost use Rattle.mte_engine.specs.TextLeft.{text_left};
+ghost use Rattle.byte_streams.specs.TextLeft.{text_left};
 
-use crate::byte_streams::{ByteSink, ByteSource};
 use crate::engine::{Engine, Status, run_engine};
 use crate::fault::{AnswerError, ToolFault};
-use crate::input::WholeText;
 use crate::input_parts::{read_leading, read_profile};
-use crate::output::Text;
+use byte_streams::{ByteSink, ByteSource, Text, WholeText};
 use potential_check::{Verdict, check as verdict_on};
 use std::alloc::{AllocError, Global};
 

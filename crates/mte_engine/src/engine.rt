@@ -3,11 +3,8 @@ ghost use Rattle.std.specs.Prelude.{[], IfOk, List, ℕ, Result};
 ghost use Rattle.mte_engine.specs.declared.fault.InputFault.{InputFault};
 ghost use Rattle.mte_engine.specs.Outcome.{Answer, GivesAnswer, IsReady, Runs};
 
-use crate::byte_streams::{ByteSink, ByteSource};
 use crate::fault::{AnswerError, ToolFault};
-use crate::input::Input;
-use crate::output::Output;
-use crate::transfer::{read_all, write_all};
+use byte_streams::{ByteSink, ByteSource, Input, Output, read_all, write_all};
 use std::alloc::{AllocError, Global};
 
 /// How an engine ended after it wrote its whole text.

@@ -3,10 +3,9 @@ ghost use Rattle.std.specs.Prelude.{◌≡◌, Some};
 ghost use Rattle.mte_engine.specs.Outcome.{fault_of_answer, fault_of_read};
 ghost use Rattle.mte_engine.specs.FaultText.{shown_fault, shown_input_fault};
 ghost use Rattle.mte_engine.specs.declared.fault.AnswerError.TheVariants.{OutOfMemory as NoMemoryToAnswer};
-ghost use Rattle.mte_engine.specs.declared.fault.ReadError.TheVariants.{OutOfMemory as NoMemoryToRead};
 ghost use Rattle.mte_engine.specs.declared.fault.ToolFault.TheVariants.{OutOfMemory, WriteFault};
 
-use crate::byte_streams::Failure;
+use byte_streams::{Failure, ReadError};
 use class_table::TableError;
 use history_count::HistoryFault;
 use profile_count::ProfileFault;
@@ -85,17 +84,6 @@ impl fmt::Display for ToolFault {
 
 impl std::error::Error for ToolFault {}
 
-/// Why the reading loop did not reach the end of an input.
-#[derive(Debug, Clone, Copy, PartialEq, Eq)]
-pub enum ReadError {
-    /// The allocator refused memory.
-    OutOfMemory,
-    /// There are more bytes than an input may have.
-    TooLong,
-    /// A read failed.
-    Failed,
-}
-
 /// Why an input has no answer.
 #[derive(Debug, Clone, Copy, PartialEq, Eq)]
 pub enum AnswerError {
@@ -141,14 +129,6 @@ impl From<Failure> for ToolFault {
 
     fn from(_failure: Failure) -> ToolFault {
         ToolFault::WriteFault
-    }
-}
-
-impl From<AllocError> for ReadError {
-    ghost from_gives = { λ _ error. error ≡ NoMemoryToRead };
-
-    fn from(_error: AllocError) -> ReadError {
-        ReadError::OutOfMemory
     }
 }
 

@@ -3,15 +3,13 @@ ghost use Rattle.std.specs.Prelude.{◌≡◌, IfOk};
 ghost use Rattle.mte_engine.specs.Check.{verdict_text_by};
 ghost use Rattle.mte_engine.specs.CheckFit.{CheckFitAnswers};
 ghost use Rattle.mte_engine.specs.Outcome.{GivesAnswer, IsReady, Runs};
-ghost use Rattle.mte_engine.specs.TextLeft.{text_left};
+ghost use Rattle.byte_streams.specs.TextLeft.{text_left};
 ghost use Rattle.tuner_theory.specs.RefusalText.{shown_fit_refusal};
 
-use crate::byte_streams::{ByteSink, ByteSource};
 use crate::engine::{Engine, Status, run_engine};
 use crate::fault::{AnswerError, ToolFault};
-use crate::input::WholeText;
 use crate::input_parts::{read_fit_first, read_history};
-use crate::output::Text;
+use byte_streams::{ByteSink, ByteSource, Text, WholeText};
 use footprint_check::check_fit as verdict_on;
 use potential_check::Verdict;
 use std::alloc::{AllocError, Global};

@@ -1,45 +1,38 @@
 //! The engines of the tool, each from a source of bytes to a sink of bytes: `score`, `tune` and `check` over profiles, `footprint`, `fit`
-//! and `check_fit` over histories, `profile`, `replay` and `run` over traces. A program gives an engine any `ByteSource` and `ByteSink`; this crate has a pair over memory and one over the
-//! readers and writers of std. Where source and sink know their bytes, the contracts say what an engine writes, and what it has written
-//! when a write fails. In every case they say when a failed read and a failed write are reported, and that after every fault but that of a
-//! write the sink is unchanged.
+//! and `check_fit` over histories, `profile`, `replay` and `run` over traces. A program gives an engine any `ByteSource` and `ByteSink`;
+//! `byte_streams`, of which this crate hands on what a caller needs, has a pair over memory and one over the readers and writers of std.
+//! Where source and sink know their bytes, the contracts say what an engine writes, and what it has written when a write fails. In every
+//! case they say when a failed read and a failed write are reported, and that after every fault but that of a write the sink is unchanged.
 #![tactic(auto)]
 
-mod byte_streams;
 mod checking;
 mod engine;
 mod fault;
 mod fit_checking;
 mod fitting;
-mod input;
 mod input_parts;
 pub mod laws;
 mod measuring;
-mod memory_streams;
-mod output;
 mod profiling;
-mod read_write_streams;
 mod replaying;
 mod report;
 mod running;
 mod scoring;
 mod trace_counting;
 mod trace_feeding;
-mod transfer;
 mod tuning;
 
-pub use byte_streams::{ByteSink, ByteSource, Failure};
+pub use byte_streams::{
+    ByteSink, ByteSource, Failure, MOST_INPUT, MemorySink, MemorySource, StreamSink, StreamSource,
+};
 pub use checking::check;
 pub use engine::Status;
 pub use fault::{InputFault, ToolFault};
 pub use fit_checking::check_fit;
 pub use fitting::fit;
 pub use measuring::footprint;
-pub use memory_streams::{MemorySink, MemorySource};
 pub use profiling::profile;
-pub use read_write_streams::{StreamSink, StreamSource};
 pub use replaying::replay;
 pub use running::run;
 pub use scoring::score;
-pub use transfer::MOST_INPUT;
 pub use tuning::tune;

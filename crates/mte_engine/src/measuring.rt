@@ -2,15 +2,13 @@
 ghost use Rattle.std.specs.Prelude.{◌≡◌, IfOk};
 ghost use Rattle.mte_engine.specs.Footprint.{FootprintAnswers, measured};
 ghost use Rattle.mte_engine.specs.Outcome.{GivesAnswer, IsReady, Runs};
-ghost use Rattle.mte_engine.specs.TextLeft.{text_left};
+ghost use Rattle.byte_streams.specs.TextLeft.{text_left};
 
-use crate::byte_streams::{ByteSink, ByteSource};
 use crate::engine::{Engine, Status, run_engine};
 use crate::fault::{AnswerError, InputFault, ToolFault};
-use crate::input::WholeText;
 use crate::input_parts::{read_history, read_table};
-use crate::output::Text;
 use crate::scoring::numbered_line;
+use byte_streams::{ByteSink, ByteSource, Text, WholeText};
 use class_table::{ClassTable, TableError};
 use history_count::History;
 use line_text::lines_in;

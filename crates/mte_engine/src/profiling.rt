@@ -1,18 +1,16 @@
 //! `profile`: how often each size is requested in a trace.
 ghost use Rattle.mte_engine.specs.Outcome.{GivesAnswer, IsReady, Runs};
 ghost use Rattle.mte_engine.specs.Profile.{ProfileAnswers};
-ghost use Rattle.mte_engine.specs.TextLeft.{text_left};
+ghost use Rattle.byte_streams.specs.TextLeft.{text_left};
 ghost use Rattle.mte_engine.specs.Traces.{KeepsCounts};
 ghost use Rattle.std.specs.Prelude.{◌≡◌, List, ℕ, false};
 ghost use Rattle.trace_reader.specs.Reading.{is_finished};
 
-use crate::byte_streams::{ByteSink, ByteSource};
 use crate::engine::{Engine, Status, run_engine};
 use crate::fault::{AnswerError, ToolFault};
-use crate::input::Input;
-use crate::output::Text;
 use crate::trace_counting::{count_lines, count_out, feed_counted};
 use crate::trace_feeding::end;
+use byte_streams::{ByteSink, ByteSource, Input, Text};
 use line_text::first_line;
 use profile_count::Profile;
 use std::alloc::{AllocError, Global};

@@ -7,13 +7,12 @@ ghost use Rattle.mte_engine.specs.Traces.{IsLineAndTrace, KeepsLineAndEvents};
 ghost use Rattle.std.specs.Prelude.{◌≡◌, List, ℕ, false};
 ghost use Rattle.trace_reader.specs.Reading.{is_finished};
 
-use crate::byte_streams::{ByteSink, ByteSource};
 use crate::engine::{Engine, Status, run_engine};
 use crate::fault::{AnswerError, ToolFault};
-use crate::input::Input;
 use crate::input_parts::read_table;
 use crate::report::Report;
 use crate::trace_feeding::{end, feed};
+use byte_streams::{ByteSink, ByteSource, Input};
 use line_text::first_line;
 use replay_core::Config;
 use std::alloc::{AllocError, Global};

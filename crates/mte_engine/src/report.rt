@@ -7,8 +7,8 @@ ghost use Rattle.mte_engine.specs.ReportFrom.{AreFewEvents, report_from, report_
 ghost use Rattle.trace_reader.specs.TraceLine.{most_events};
 ghost use Rattle.std.specs.Prelude.{◌≡◌, ◌+◌, ◌≤◌, ◌++◌, drop, length, take, vec_len, true, IfOk};
 
-use crate::output::Output;
 use arrayvec::ArrayVec;
+use byte_streams::Output;
 use class_table::ClassTable;
 use replay_core::{Config, LINE_ROOM, Replay, TOTALS_ROOM};
 use std::alloc::{AllocError, Global};

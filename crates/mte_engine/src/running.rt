@@ -8,13 +8,12 @@ ghost use Rattle.mte_engine.specs.Traces.{KeepsEvents};
 ghost use Rattle.std.specs.Prelude.{◌≡◌, List, ℕ, false};
 ghost use Rattle.trace_reader.specs.Reading.{is_finished};
 
-use crate::byte_streams::{ByteSink, ByteSource};
 use crate::engine::{Engine, Status, run_engine};
 use crate::fault::{AnswerError, ToolFault};
-use crate::input::Input;
 use crate::report::Report;
 use crate::trace_counting::count_all;
 use crate::trace_feeding::{end, feed};
+use byte_streams::{ByteSink, ByteSource, Input};
 use class_tuner::tune;
 use potential_check::write_sheet;
 use replay_core::Config;

@@ -3,14 +3,12 @@ ghost use Rattle.std.specs.Prelude.{◌≡◌, ◌++◌, ◌∷◌, [], IfOk};
 ghost use Rattle.std.specs.Fmt.{decimal};
 ghost use Rattle.mte_engine.specs.Outcome.{GivesAnswer, IsReady, Runs};
 ghost use Rattle.mte_engine.specs.Score.{ScoreAnswers, scored};
-ghost use Rattle.mte_engine.specs.TextLeft.{text_left};
+ghost use Rattle.byte_streams.specs.TextLeft.{text_left};
 
-use crate::byte_streams::{ByteSink, ByteSource};
 use crate::engine::{Engine, Status, run_engine};
 use crate::fault::{AnswerError, InputFault, ToolFault};
-use crate::input::WholeText;
 use crate::input_parts::{read_profile, read_table};
-use crate::output::Text;
+use byte_streams::{ByteSink, ByteSource, Text, WholeText};
 use class_table::{ClassTable, TableError};
 use itoa::Buffer;
 use line_text::lines_in;

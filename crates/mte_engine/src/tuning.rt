@@ -1,14 +1,12 @@
 //! `tune`: the class table of least waste for a profile, with its certificate.
 ghost use Rattle.mte_engine.specs.Outcome.{GivesAnswer, IsReady, Runs};
-ghost use Rattle.mte_engine.specs.TextLeft.{text_left};
+ghost use Rattle.byte_streams.specs.TextLeft.{text_left};
 ghost use Rattle.mte_engine.specs.Tune.{AreTuneOptions, TuneAnswers};
 
-use crate::byte_streams::{ByteSink, ByteSource};
 use crate::engine::{Engine, Status, run_engine};
 use crate::fault::{AnswerError, ToolFault};
-use crate::input::WholeText;
 use crate::input_parts::read_profile;
-use crate::output::Text;
+use byte_streams::{ByteSink, ByteSource, Text, WholeText};
 use potential_check::write_sheet;
 use std::alloc::{AllocError, Global};
 

@@ -2,7 +2,7 @@ use Rattle.std.proofs.Common.{◌≡◌, ◌∙◌, ap, List, ℕ, ◌++◌}
 use Rattle.potential_check.specs.FitView.{fit_of}
 use Rattle.potential_check.specs.FitText.{fit_text}
 use Rattle.potential_check.specs.declared.fit.Fit.{Fit}
-use Rattle.mte_engine.specs.TextLeft.{text_left}
+use Rattle.byte_streams.specs.TextLeft.{text_left}
 use Rattle.mte_engine.specs.declared.engine.Status.TheVariants.{Done}
 use Rattle.mte_engine.proofs.fitting.fit_text.Goals as goal
 

@@ -1,4 +1,4 @@
-use Rattle.mte_engine.specs.TextLeft.{text_left}
+use Rattle.byte_streams.specs.TextLeft.{text_left}
 use Rattle.std.proofs.Common.{◌≡◌, ap, ◌∙◌, List, ℕ, ◌++◌}
 use Rattle.profile_count.specs.ProfileText.{profile_text}
 use Rattle.std.proofs.lemmas.Result.{err_from_is_err_and}

@@ -2,7 +2,7 @@ use Rattle.std.proofs.Common.{◌≡◌, ◌∙◌, ap, List, ℕ, ◌++◌}
 use Rattle.potential_check.specs.SheetView.{sheet_of}
 use Rattle.potential_check.specs.SheetText.{sheet_text}
 use Rattle.potential_check.specs.declared.sheet.Sheet.{Sheet}
-use Rattle.mte_engine.specs.TextLeft.{text_left}
+use Rattle.byte_streams.specs.TextLeft.{text_left}
 use Rattle.mte_engine.specs.declared.engine.Status.TheVariants.{Done}
 use Rattle.mte_engine.proofs.tuning.tune_text.Goals as goal
 

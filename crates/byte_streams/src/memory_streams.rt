@@ -1,7 +1,7 @@
 //! A source and a sink over memory. Either can be set to fail at a call, and to move few bytes at a time.
 ghost use Rattle.std.specs.Prelude.{◌≡◌, ◌↔◌, ◌+◌, ℕ, Some, None, IsTrue};
 
-use crate::byte_streams::{ByteSink, ByteSource, Failure};
+use crate::streams::{ByteSink, ByteSource, Failure};
 
 /// The source over a slice.
 #[derive(Drop)]

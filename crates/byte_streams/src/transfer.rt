@@ -1,12 +1,12 @@
-//! The two loops of an engine: reading a whole input, and writing a whole text.
+//! The two loops: reading a whole input, and writing a whole text.
 ghost use Rattle.std.specs.Prelude.{◌≡◌, [], IfOk, vec_len};
-ghost use Rattle.mte_engine.specs.Streams.{HaveFewFailed};
-ghost use Rattle.mte_engine.specs.Transfer.{HasRead, HasWritten, IsReadFewTimes};
+ghost use Rattle.byte_streams.specs.Streams.{HaveFewFailed};
+ghost use Rattle.byte_streams.specs.Transfer.{HasRead, HasWritten, IsReadFewTimes};
 
-use crate::byte_streams::{ByteSink, ByteSource, Failure};
 use crate::fault::ReadError;
 use crate::input::Input;
 use crate::output::Output;
+use crate::streams::{ByteSink, ByteSource, Failure};
 use std::alloc::{AllocError, Global};
 
 /// The most bytes of an input.

@@ -1,10 +1,10 @@
--- What the two loops of an engine have done: reading a whole input, and writing a whole text.
+-- What the two loops have done: reading a whole input, and writing a whole text.
 use Rattle.std.specs.Prelude.{◌≡◌, ℕ, ◌+◌, ◌<◌, ◌≤◌, ◌^◌, List, ◌++◌, length, IfSome, Result, Ok, Err}
 use Rattle.std.specs.Io.KnownBytes.{Appends, Consumes, IsAtEnd}
-use Rattle.mte_engine.specs.Streams.{SinkState, SourceState}
-use Rattle.mte_engine.specs.declared.fault.ReadError.{ReadError}
-use Rattle.mte_engine.specs.declared.fault.ReadError.TheVariants.{OutOfMemory, TooLong, Failed}
-use Rattle.mte_engine.specs.declared.byte_streams.Failure.{Failure}
+use Rattle.byte_streams.specs.Streams.{SinkState, SourceState}
+use Rattle.byte_streams.specs.declared.fault.ReadError.{ReadError}
+use Rattle.byte_streams.specs.declared.fault.ReadError.TheVariants.{OutOfMemory, TooLong, Failed}
+use Rattle.byte_streams.specs.declared.streams.Failure.{Failure}
 
 -- The most bytes of an input.
 abbrev pub most_input : ℕ

@@ -1,7 +1,7 @@
 use Rattle.std.proofs.Common.{◌≡◌, ◌≤◌, ◌++◌, length, take, arith}
 use Rattle.std.proofs.lemmas.List.{length-take, length-append}
-use Rattle.mte_engine.proofs.Transfers.{consumes_more, piece_of}
-use Rattle.mte_engine.proofs.transfer.read_all.Goals as goal
+use Rattle.byte_streams.proofs.Transfers.{consumes_more, piece_of}
+use Rattle.byte_streams.proofs.transfer.read_all.Goals as goal
 
 pub loop-turn-preserved : goal.loop-turn-preserved
 loop-turn-preserved g c =

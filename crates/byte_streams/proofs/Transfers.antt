@@ -3,7 +3,7 @@ use Rattle.std.proofs.Common.{◌≡◌, ℕ, zero, suc, ◌<◌, ◌≤◌, Lis
 use Rattle.std.proofs.lemmas.List.{take-append-drop, take-append-le}
 use Rattle.std.proofs.Math.Seq.{take-append_seam}
 use Rattle.std.specs.Io.KnownBytes.{Appends, Consumes}
-use Rattle.mte_engine.specs.Streams.{failed_writes}
+use Rattle.byte_streams.specs.Streams.{failed_writes}
 
 -- ---- reading
 

@@ -1,6 +1,6 @@
 use Rattle.std.proofs.Common.{◌≡◌, ◌+◌, ◌^◌, ◌<◌, ◌≤◌, List, ℕ, length, vec_len}
 use Rattle.std.specs.Io.KnownBytes.{Consumes}
-use Rattle.mte_engine.proofs.transfer.read_all.Given as goal
+use Rattle.byte_streams.proofs.transfer.read_all.Given as goal
 
 abbrev pub invariant-loop-turn : goal.invariant-loop-turn
 invariant-loop-turn g l =

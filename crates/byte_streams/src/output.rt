@@ -1,4 +1,4 @@
-//! What an engine writes, piece by piece.
+//! What is written, piece by piece.
 ghost use Rattle.std.specs.Prelude.{◌≡◌, ◌≤◌, ◌++◌, List, ℕ, [], drop, length};
 
 /// A text in pieces. It takes no memory.
@@ -39,7 +39,7 @@ impl Text {
 }
 
 impl Output for Text {
-    ghost use Rattle.mte_engine.specs.TextLeft.{text_left};
+    ghost use Rattle.byte_streams.specs.TextLeft.{text_left};
 
     ghost rest = { text_left };
 

@@ -1,4 +1,4 @@
-//! What an engine keeps of its input while it reads.
+//! What is kept of an input while it is read.
 ghost use Rattle.std.specs.Prelude.{◌≡◌, ◌++◌, [], List, ℕ, OnOk};
 
 use std::alloc::{AllocError, Global};

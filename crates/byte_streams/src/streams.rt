@@ -1,7 +1,7 @@
 //! Sources and sinks of bytes.
 ghost use Rattle.std.specs.Prelude.{◌≡◌, ◌+◌, ◌^◌, ◌<◌, ◌≤◌, length, IfOk};
 ghost use Rattle.std.specs.Io.KnownBytes.{ReadConsumes, WriteAppends};
-ghost use Rattle.mte_engine.specs.Streams.{HaveFewFailed, SinkState, SourceState, failed_reads, failed_writes};
+ghost use Rattle.byte_streams.specs.Streams.{HaveFewFailed, SinkState, SourceState, failed_reads, failed_writes};
 
 /// A read or a write that failed.
 #[derive(Debug, Clone, Copy, PartialEq, Eq)]

@@ -1,7 +1,7 @@
 use Rattle.std.proofs.Common.{◌≡◌, ◌≤◌, ◌<◌, ◌++◌, length, take, ◌∙◌, arith}
-use Rattle.mte_engine.specs.declared.byte_streams.Failure.{Failure}
-use Rattle.mte_engine.proofs.Transfers.{appends_more, first_ready, no_failure, written_more}
-use Rattle.mte_engine.proofs.transfer.write_all.Goals as goal
+use Rattle.byte_streams.specs.declared.streams.Failure.{Failure}
+use Rattle.byte_streams.proofs.Transfers.{appends_more, first_ready, no_failure, written_more}
+use Rattle.byte_streams.proofs.transfer.write_all.Goals as goal
 
 pub loop-sink-preserved : goal.loop-sink-preserved
 loop-sink-preserved g c =

@@ -2,7 +2,7 @@
 //! of a slice or a vector all, of a file or a standard stream none.
 ghost use Rattle.std.specs.Prelude.{◌≡◌};
 
-use crate::byte_streams::{ByteSink, ByteSource, Failure};
+use crate::streams::{ByteSink, ByteSource, Failure};
 use std::io::{Read, Write};
 
 /// The source over a reader.
