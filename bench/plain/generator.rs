@@ -1,7 +1,7 @@
 //! Seeded events: chunks at 1,024 variables that are filled, read, resized and freed, and some
 //! calls that are refused.
 
-use crate::trace::Event;
+use crate::trace::{Event, Place};
 
 pub struct Generator {
     state: u64,
@@ -28,7 +28,7 @@ impl Generator {
         self.state = s;
         let v = (s & 1023) as u16;
         let k = s >> 10 & 15;
-        let n = ((s >> 14 & 1023) * (s >> 24 & 1023) >> 10) as u32;
+        let n = (((s >> 14 & 1023) * (s >> 24 & 1023)) >> 10) as u32;
         let c = (s >> 34 & 63) as u8;
         let d = (s >> 40 & 1023) as u32;
         let byte = (s >> 50 & 255) as u8;
@@ -37,7 +37,10 @@ impl Generator {
         if !self.held[place] {
             match e {
                 0 => return Event::Free { v },
-                1 => return Event::Load { v, off: 0, len: 8 },
+                1 => {
+                    let at = Place::new(v, 0);
+                    return Event::Load { at, len: 8 };
+                }
                 _ => {}
             }
             self.held[place] = true;
@@ -59,10 +62,11 @@ impl Generator {
         let len = if e < 8 { 1 + c } else { 1 + (c & 15) };
         let room = self.sizes[place].saturating_sub(len as u32);
         let off = (d % (room + 1) + if e == 31 { 16 } else { 0 }) as i32;
+        let at = Place::new(v, off);
         if k < 11 {
-            Event::Load { v, off, len }
+            Event::Load { at, len }
         } else {
-            Event::Store { v, off, len, byte }
+            Event::Store { at, len, byte }
         }
     }
 }

@@ -16,6 +16,7 @@ mod generator;
 mod heap;
 mod history;
 mod history_spans;
+mod lines;
 mod memory;
 mod options;
 mod profile;
@@ -31,6 +32,7 @@ use faults::{Fault, WRITE_FAULT};
 use generator::Generator;
 use heap::Settings;
 use history::History;
+use lines::each_line;
 use options::Options;
 use profile::Profile;
 use replay::Replay;
@@ -38,13 +40,10 @@ use score::read_classes;
 use sheet::{Sheet, FOOTPRINT, WASTE};
 use std::io::Write;
 use std::process::ExitCode;
-use text::{each_line, push_number, read_all, Scanner};
+use text::{push_number, read_all, Scanner, PIECE};
 use trace::Event;
 
 const EVENTS: usize = 1_000_000;
-
-// so many bytes of a long output are kept before they are written
-const PIECE: usize = 65_536;
 
 const NO: ExitCode = ExitCode::FAILURE;
 
@@ -216,15 +215,12 @@ fn write_verdict(refusal: Option<&str>, out: &mut impl Write) -> Result<ExitCode
 
 fn profile(out: &mut impl Write) -> Result<ExitCode, Fault> {
     let mut profile = Profile::new();
-    let mut events = 0;
-    let take = |line: &[u8]| {
-        if let Some(n) = Event::read(line)?.request() {
+    let take = |event: Event| {
+        if let Some(n) = event.request() {
             profile.add(n);
         }
-        events += 1;
-        (events <= EVENTS).then_some(())
     };
-    each_line(take, |line, number| faults::in_trace(line, number, 0))?;
+    each_event(take)?;
     let mut text = Vec::new();
     profile.write(&mut text);
     written(out, &text)
@@ -234,17 +230,24 @@ fn replay(options: &Options, out: &mut impl Write) -> Result<ExitCode, Fault> {
     let settings = options.heap()?;
     let mut classes = None;
     let mut events = Vec::new();
-    let take = |line: &[u8]| {
-        match classes {
-            None => classes = Some(read_classes(&mut Scanner::new(line))?),
-            Some(_) => push_event(line, &mut events)?,
-        }
-        Some(())
-    };
-    each_line(take, |line, number| match number {
-        1 => faults::in_class_line(Some(line)).expect("a class line that was refused is faulty"),
-        _ => faults::in_trace(line, number, 1),
-    })?;
+    each_line(
+        |text, number| {
+            if number == 1 {
+                let mut text = Scanner::new(text);
+                classes = Some(read_classes(&mut text)?);
+                return Some(text.passed());
+            }
+            let (event, len) = Event::read(text)?;
+            events.push(event);
+            (number <= EVENTS + 1).then_some(len)
+        },
+        |line, number| match number {
+            1 => {
+                faults::in_class_line(Some(line)).expect("a class line that was refused is faulty")
+            }
+            _ => faults::in_trace(line, number, 1),
+        },
+    )?;
     let classes = classes.ok_or_else(|| faults::in_scored(b""))?;
     write_report(&classes, &settings, &events, out)
 }
@@ -253,8 +256,7 @@ fn run(options: &Options, out: &mut impl Write) -> Result<ExitCode, Fault> {
     let settings = options.heap()?;
     let (limit, step) = (options.limit()?, options.step()?);
     let mut events = Vec::new();
-    let take = |line: &[u8]| push_event(line, &mut events);
-    each_line(take, |line, number| faults::in_trace(line, number, 0))?;
+    each_event(|event| events.push(event))?;
     let mut profile = Profile::new();
     for n in events.iter().filter_map(Event::request) {
         profile.add(n);
@@ -266,9 +268,16 @@ fn run(options: &Options, out: &mut impl Write) -> Result<ExitCode, Fault> {
     write_report(&sheet.classes, &settings, &events, out)
 }
 
-fn push_event(line: &[u8], events: &mut Vec<Event>) -> Option<()> {
-    events.push(Event::read(line)?);
-    (events.len() <= EVENTS).then_some(())
+// hands out the events of standard input
+fn each_event(mut take: impl FnMut(Event)) -> Result<(), Fault> {
+    each_line(
+        |text, number| {
+            let (event, len) = Event::read(text)?;
+            take(event);
+            (number <= EVENTS).then_some(len)
+        },
+        |line, number| faults::in_trace(line, number, 0),
+    )
 }
 
 fn write_report(

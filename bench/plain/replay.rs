@@ -1,10 +1,9 @@
 //! `replay`: the events of a trace on a heap, and the report on them.
 
-use crate::heap::{choose_tag, Heap, Reason, Settings, EXHAUSTED, LARGE, NO_CLASS};
+use crate::heap::{choose_tag, Heap, Reason, Settings};
 use crate::memory::{logical_tag, Fault, GRANULE, TAG_MASK};
-use crate::text::push_number;
-use crate::trace::{push_hex, Event};
-use std::ops::Range;
+use crate::text::{push_hex, push_number};
+use crate::trace::{Event, Place};
 
 #[derive(Default)]
 struct Totals {
@@ -21,7 +20,7 @@ struct Totals {
 
 pub struct Replay {
     heap: Heap,
-    variables: Vec<u64>,
+    variables: [u64; 1024],
     totals: Totals,
 }
 
@@ -29,12 +28,13 @@ impl Replay {
     pub fn new(classes: &[u32], settings: &Settings) -> Replay {
         Replay {
             heap: Heap::new(classes, settings),
-            variables: vec![0; 1024],
+            variables: [0; 1024],
             totals: Totals::default(),
         }
     }
 
     /// Replays an event, and appends its line to the report where it has one.
+    #[inline(always)]
     pub fn step(&mut self, event: &Event, report: &mut Vec<u8>) {
         self.totals.events += 1;
         match *event {
@@ -56,17 +56,12 @@ impl Replay {
                     self.refused(reason, report);
                 }
             }
-            Event::Load { v, off, len } => match self.access(v, off, len) {
-                Ok(bytes) => {
-                    push_number(report, self.totals.events);
-                    report.extend_from_slice(b" data ");
-                    push_hex(report, &self.heap.memory.region[bytes]);
-                    report.push(b'\n');
-                }
+            Event::Load { at, len } => match self.access(at, len) {
+                Ok(from) => self.loaded(from, len, report),
                 Err(fault) => self.fault(fault, report),
             },
-            Event::Store { v, off, len, byte } => match self.access(v, off, len) {
-                Ok(bytes) => self.heap.memory.region[bytes].fill(byte),
+            Event::Store { at, len, byte } => match self.access(at, len) {
+                Ok(from) => self.heap.memory.fill(from, usize::from(len), byte),
                 Err(fault) => self.fault(fault, report),
             },
             Event::Addg { v, w, u6, u4 } => {
@@ -107,10 +102,23 @@ impl Replay {
     }
 
     // where in the region a load or a store is
-    fn access(&self, v: u16, off: i32, len: u8) -> Result<Range<usize>, Fault> {
-        let address = self.variables[v as usize].wrapping_add(off as i64 as u64);
-        let from = self.heap.memory.check(address, len as u64)?;
-        Ok(from..from + len as usize)
+    fn access(&self, at: Place, len: u8) -> Result<usize, Fault> {
+        let address = self.variables[usize::from(at.v())].wrapping_add(at.off() as i64 as u64);
+        self.heap.memory.check(address, len)
+    }
+
+    fn loaded(&self, from: usize, len: u8, report: &mut Vec<u8>) {
+        push_number(report, self.totals.events);
+        report.extend_from_slice(b" data ");
+        let mut from = from;
+        let mut left = usize::from(len);
+        while left > 16 {
+            push_hex(report, self.heap.memory.sixteen(from), 16);
+            from += 16;
+            left -= 16;
+        }
+        push_hex(report, self.heap.memory.sixteen(from), left);
+        report.push(b'\n');
     }
 
     fn give(
@@ -134,16 +142,17 @@ impl Replay {
     }
 
     fn refused(&mut self, reason: Reason, report: &mut Vec<u8>) {
-        match reason {
-            LARGE => self.totals.null_large += 1,
-            NO_CLASS => self.totals.null_no_class += 1,
-            EXHAUSTED => self.totals.null_exhausted += 1,
-            _ => self.totals.refused_frees += 1,
-        }
+        let (total, words) = match reason {
+            Reason::Large => (&mut self.totals.null_large, &b" null large\n"[..]),
+            Reason::NoClass => (&mut self.totals.null_no_class, &b" null no-class\n"[..]),
+            Reason::Exhausted => (&mut self.totals.null_exhausted, &b" null exhausted\n"[..]),
+            Reason::Misplaced => (&mut self.totals.refused_frees, &b" refused misplaced\n"[..]),
+            Reason::NotLive => (&mut self.totals.refused_frees, &b" refused not-live\n"[..]),
+            Reason::WrongTag => (&mut self.totals.refused_frees, &b" refused wrong-tag\n"[..]),
+        };
+        *total += 1;
         push_number(report, self.totals.events);
-        report.push(b' ');
-        report.extend_from_slice(reason.as_bytes());
-        report.push(b'\n');
+        report.extend_from_slice(words);
     }
 
     fn fault(&mut self, fault: Fault, report: &mut Vec<u8>) {

@@ -1,65 +1,108 @@
 //! Events, a line for each.
 
-use crate::text::{hex_byte, number_in, push_number, words_of};
+use crate::lines::Line;
+use crate::text::{push_hex, push_number};
 
+/// Where an access is: a variable, and an offset from the address in it.
+#[derive(Clone, Copy)]
+pub struct Place(u32);
+
+/// An event, in eight bytes.
 #[derive(Clone, Copy)]
 pub enum Event {
     Malloc { v: u16, n: u32 },
     Calloc { v: u16, n: u32 },
     Realloc { v: u16, n: u32 },
     Free { v: u16 },
-    Load { v: u16, off: i32, len: u8 },
-    Store { v: u16, off: i32, len: u8, byte: u8 },
+    Load { at: Place, len: u8 },
+    Store { at: Place, len: u8, byte: u8 },
     Addg { v: u16, w: u16, u6: u8, u4: u8 },
     Subg { v: u16, w: u16, u6: u8, u4: u8 },
 }
 
-const MOST_LINE: usize = 80;
-const MOST_OFFSET: u64 = 1_048_576;
+const MOST_VARIABLE: u32 = 1023;
+const MOST_OFFSET: u32 = 1_048_576;
+
+impl Place {
+    pub fn new(v: u16, off: i32) -> Place {
+        Place(u32::from(v) << 22 | (off + MOST_OFFSET as i32) as u32)
+    }
+
+    pub fn v(self) -> u16 {
+        (self.0 >> 22) as u16
+    }
+
+    pub fn off(self) -> i32 {
+        (self.0 & 0x3f_ffff) as i32 - MOST_OFFSET as i32
+    }
+}
+
+// the first four letters of an event as the word that they are in a text
+const fn four(letters: &[u8; 4]) -> u32 {
+    u32::from_le_bytes(*letters)
+}
+
+const MALLOC: u32 = four(b"mall");
+const CALLOC: u32 = four(b"call");
+const REALLOC: u32 = four(b"real");
+const FREE: u32 = four(b"free");
+const LOAD: u32 = four(b"load");
+const STORE: u32 = four(b"stor");
+const ADDG: u32 = four(b"addg");
+const SUBG: u32 = four(b"subg");
 
 impl Event {
-    /// The event that a line spells.
-    pub fn read(line: &[u8]) -> Option<Event> {
-        if line.len() > MOST_LINE {
-            return None;
-        }
-        let mut words = words_of(line);
-        let name = words.next()?;
-        let v = number_in(words.next()?, 1023)? as u16;
-        let event = match name {
-            b"malloc" => Event::Malloc {
-                v,
-                n: size(&mut words)?,
-            },
-            b"calloc" => Event::Calloc {
-                v,
-                n: size(&mut words)?,
-            },
-            b"realloc" => Event::Realloc {
-                v,
-                n: size(&mut words)?,
-            },
-            b"free" => Event::Free { v },
-            b"load" => {
-                let (off, len) = range(&mut words)?;
-                Event::Load { v, off, len }
+    /// The event that the first line of a text spells, and how many bytes the line has with its
+    /// newline. A valid line has at most 26, and the text goes on for 40 bytes after it.
+    #[inline(always)]
+    pub fn read(text: &[u8]) -> Option<(Event, usize)> {
+        let mut line = Line::new(text)?;
+        let event = match u32::from_le_bytes(line.take()?) {
+            LOAD => {
+                line.expect(b" ")?;
+                let (at, len) = read_range(&mut line, b'\n')?;
+                Event::Load { at, len }
             }
-            b"store" => {
-                let (off, len) = range(&mut words)?;
-                let byte = hex_byte(words.next()?)?;
-                Event::Store { v, off, len, byte }
+            STORE => {
+                line.expect(b"e ")?;
+                let (at, len) = read_range(&mut line, b' ')?;
+                let byte = line.hex_byte()?;
+                line.expect(b"\n")?;
+                Event::Store { at, len, byte }
             }
-            b"addg" => {
-                let (w, u6, u4) = moves(&mut words)?;
+            MALLOC => {
+                line.expect(b"oc ")?;
+                let (v, n) = read_request(&mut line)?;
+                Event::Malloc { v, n }
+            }
+            FREE => {
+                line.expect(b" ")?;
+                let v = line.number(b'\n', MOST_VARIABLE)? as u16;
+                Event::Free { v }
+            }
+            REALLOC => {
+                line.expect(b"loc ")?;
+                let (v, n) = read_request(&mut line)?;
+                Event::Realloc { v, n }
+            }
+            CALLOC => {
+                line.expect(b"oc ")?;
+                let (v, n) = read_request(&mut line)?;
+                Event::Calloc { v, n }
+            }
+            ADDG => {
+                line.expect(b" ")?;
+                let (v, w, u6, u4) = read_moves(&mut line)?;
                 Event::Addg { v, w, u6, u4 }
             }
-            b"subg" => {
-                let (w, u6, u4) = moves(&mut words)?;
+            SUBG => {
+                line.expect(b" ")?;
+                let (v, w, u6, u4) = read_moves(&mut line)?;
                 Event::Subg { v, w, u6, u4 }
             }
             _ => return None,
         };
-        words.next().is_none().then_some(event)
+        Some((event, line.len()))
     }
 
     /// The size that the event requests.
@@ -77,13 +120,17 @@ impl Event {
             Event::Calloc { v, n } => push_words(text, b"calloc", &[v as i64, n as i64]),
             Event::Realloc { v, n } => push_words(text, b"realloc", &[v as i64, n as i64]),
             Event::Free { v } => push_words(text, b"free", &[v as i64]),
-            Event::Load { v, off, len } => {
-                push_words(text, b"load", &[v as i64, off as i64, len as i64])
+            Event::Load { at, len } => {
+                push_words(text, b"load", &[at.v() as i64, at.off() as i64, len as i64])
             }
-            Event::Store { v, off, len, byte } => {
-                push_words(text, b"store", &[v as i64, off as i64, len as i64]);
+            Event::Store { at, len, byte } => {
+                push_words(
+                    text,
+                    b"store",
+                    &[at.v() as i64, at.off() as i64, len as i64],
+                );
                 text.push(b' ');
-                push_hex(text, &[byte]);
+                push_hex(text, &[byte; 16], 1);
             }
             Event::Addg { v, w, u6, u4 } => {
                 push_words(text, b"addg", &[v as i64, w as i64, u6 as i64, u4 as i64])
@@ -96,24 +143,35 @@ impl Event {
     }
 }
 
-fn size<'a>(words: &mut impl Iterator<Item = &'a [u8]>) -> Option<u32> {
-    number_in(words.next()?, 2_147_483_647).map(|n| n as u32)
+#[inline(always)]
+fn read_request(line: &mut Line) -> Option<(u16, u32)> {
+    let v = line.number(b' ', MOST_VARIABLE)? as u16;
+    let n = line.number(b'\n', 2_147_483_647)?;
+    Some((v, n))
 }
 
-fn range<'a>(words: &mut impl Iterator<Item = &'a [u8]>) -> Option<(i32, u8)> {
-    let off = match words.next()? {
-        [b'-', digits @ ..] => -(number_in(digits, MOST_OFFSET).filter(|off| *off > 0)? as i32),
-        digits => number_in(digits, MOST_OFFSET)? as i32,
-    };
-    let len = number_in(words.next()?, 64).filter(|len| *len > 0)? as u8;
-    Some((off, len))
+// a variable, an offset and a length, and the byte after them
+#[inline(always)]
+fn read_range(line: &mut Line, after: u8) -> Option<(Place, u8)> {
+    let v = line.number(b' ', MOST_VARIABLE)? as u16;
+    let below = line.next()? == *b"-";
+    if below {
+        line.expect(b"-")?;
+    }
+    let off = line.number(b' ', MOST_OFFSET)? as i32;
+    let len = line.number(after, 64)? as u8;
+    if len == 0 || (below && off == 0) {
+        return None;
+    }
+    Some((Place::new(v, if below { -off } else { off }), len))
 }
 
-fn moves<'a>(words: &mut impl Iterator<Item = &'a [u8]>) -> Option<(u16, u8, u8)> {
-    let w = number_in(words.next()?, 1023)? as u16;
-    let u6 = number_in(words.next()?, 63)? as u8;
-    let u4 = number_in(words.next()?, 15)? as u8;
-    Some((w, u6, u4))
+fn read_moves(line: &mut Line) -> Option<(u16, u16, u8, u8)> {
+    let v = line.number(b' ', MOST_VARIABLE)? as u16;
+    let w = line.number(b' ', MOST_VARIABLE)? as u16;
+    let u6 = line.number(b' ', 63)? as u8;
+    let u4 = line.number(b'\n', 15)? as u8;
+    Some((v, w, u6, u4))
 }
 
 fn push_words(text: &mut Vec<u8>, name: &[u8], numbers: &[i64]) {
@@ -121,13 +179,5 @@ fn push_words(text: &mut Vec<u8>, name: &[u8], numbers: &[i64]) {
     for number in numbers {
         text.extend_from_slice(if *number < 0 { b" -" } else { b" " });
         push_number(text, number.unsigned_abs());
-    }
-}
-
-/// Appends two digits for each byte.
-pub fn push_hex(text: &mut Vec<u8>, bytes: &[u8]) {
-    for byte in bytes {
-        text.push(b"0123456789abcdef"[(byte >> 4) as usize]);
-        text.push(b"0123456789abcdef"[(byte & 15) as usize]);
     }
 }
