@@ -2,8 +2,9 @@
 """Proves the crates below a program side by side, before the program is built for the first time: `first_build.py FOLDER PROGRAM`.
 
 FOLDER is the repository, PROGRAM the crate of the program. rt works in a crate and all crates below it alone, so one call proves them all,
-in a copy that has no other crate. What it keeps is moved to the repository then, also if it is cut off, and rt goes on with it. Standard
-error counts the crates; standard output has what rt said.
+in a copy that has no other crate, one job each. The last crates of the chain, beside which nothing is left to prove, are then proved one
+after the other, by as many jobs as there are lanes. What rt keeps is moved to the repository, also if it is cut off, and rt goes on with it.
+Standard error counts the crates; standard output has what rt said.
 """
 
 import os
@@ -26,28 +27,68 @@ def lanes():
     return max(1, min(len(os.sched_getaffinity(0)), free // MEMORY_OF_A_PROOF))
 
 
-def prove(folder, how_many):
-    """Proves all crates of the copy, and returns rt's status."""
-    words = ["rt", "all", "check", "--jobs", str(lanes())]
-    done = 0
-    with subprocess.Popen(words, cwd=folder, stdin=subprocess.DEVNULL, stdout=subprocess.PIPE, stderr=subprocess.STDOUT) as run:
+def chain_above(below):
+    """The last crates, lowest first: each has all that is left below it, but for at most one."""
+    left, chain = dict(below), []
+    while left:
+        highest = max(left, key=lambda name: len(reach(left, name)))
+        if len(reach(left, highest)) < max(1, len(left) - 2):
+            break
+        chain.insert(0, highest)
+        del left[highest]
+    return chain
+
+
+def reach(below, name):
+    """The crates below a crate."""
+    found = set()
+    for it in below[name]:
+        found |= {it} | reach(below, it)
+    return found
+
+
+class Counter:
+    def __init__(self, how_many):
+        self.how_many, self.done = how_many, 0
+
+    def says(self, name):
+        self.done += 1
+        print(f"mte_tool: {self.done} of {self.how_many} {name}", file=sys.stderr, flush=True)
+
+
+def rt(words, folder, counter=None):
+    """Runs rt in a folder, and returns its status."""
+    with subprocess.Popen(["rt", *words], cwd=folder, stdin=subprocess.DEVNULL, stdout=subprocess.PIPE, stderr=subprocess.STDOUT) as run:
         for line in run.stdout:
             sys.stdout.buffer.write(line)
-            if line.startswith(b"== "):
-                done += 1
-                print(f"mte_tool: {done} of {how_many} {line[3:].decode().strip()}", file=sys.stderr, flush=True)
+            if counter and line.startswith(b"== "):
+                counter.says(line[3:].decode().strip())
     return run.returncode
+
+
+def prove(crates, below, folder):
+    """Proves the crates in a copy, and returns rt's status."""
+    chain, counter, jobs = chain_above(below), Counter(len(below)), ["--jobs", str(lanes())]
+    crates.copy([name for name in below if name not in chain], folder)
+    status = rt(["all", "check", *jobs], folder, counter)
+    crates.copy(chain, folder)
+    crates.list(below, folder)
+    for name in chain:
+        if status:
+            break
+        status = rt(["check", *jobs], os.path.join(folder, "crates", name))
+        counter.says(name)
+    return status
 
 
 def main(root, program):
     crates = CrateList(root)
-    names = list(crates.below([program]))
+    below = crates.below([program])
     folder = os.path.join(crates.folder(program), "out", "first_build")
     try:
-        crates.copy(names, folder)
-        return prove(folder, len(names))
+        return prove(crates, below, folder)
     finally:
-        for name in names:
+        for name in below:
             kept, place = os.path.join(folder, "crates", name, "out"), os.path.join(crates.folder(name), "out")
             for part in os.listdir(kept) if os.path.isdir(kept) else []:
                 if not os.path.exists(os.path.join(place, part)):
