@@ -1,0 +1,93 @@
+"""How the cost of a command grows with its input and with its options: what `bench --growth` measures."""
+
+import random
+from collections import namedtuple
+
+# mixed events that are the same in each series, but for the series of events
+EVENTS = 100_000
+
+# One row: what grows, what its cost is counted by, the values, and for each value a trial.
+Series = namedtuple("Series", "title unit values trials")
+
+# The words of a command, its input, what it is compared with (the same without what is counted), and how much is counted.
+Trial = namedtuple("Trial", "words given without count")
+
+TABLE = "classes 2 4 6 8 12 18 32 65\n"
+
+
+def all_series(events, seed):
+    """The series, over the lines of a trace of a million mixed events."""
+    mixed = "".join(events[:EVENTS])
+    return [
+        over_events("`profile`, events", ["profile"], "", events),
+        over_events("`replay`, events", ["replay"], TABLE, events),
+        over_events("`run --limit 8`, events", ["run", "--limit", "8"], "", events),
+        over_options("`replay`, granules", "--granules", [64, 1024, 16_384, 262_144], mixed),
+        over_options("`replay`, bytes of quarantine", "--quarantine", [0, 16_384, 262_144, 4_194_304], mixed, ["--granules", "262144"]),
+        over_tables(mixed),
+        over_live_blocks(mixed),
+        over_needs(seed),
+        over_limits(seed),
+    ]
+
+
+def over_events(title, words, before, events):
+    values = [10_000, 100_000, 1_000_000]
+    trials = [Trial(words, before + "".join(events[:count]), before, count) for count in values]
+    return Series(title, "event", values, trials)
+
+
+def over_options(title, name, values, mixed, others=()):
+    trials = [Trial(["replay", name, str(value), *others], TABLE + mixed, TABLE, EVENTS) for value in values]
+    return Series(title, "event", values, trials)
+
+
+def over_tables(mixed):
+    values = [1, 2, 8, 32]
+    tables = [f"classes {' '.join(str(2 + 63 * place // count) for place in range(1, count + 1))}\n" for count in values]
+    words = ["replay", "--granules", "262144"]
+    return Series("`replay`, classes", "event", values, [Trial(words, table + mixed, table, EVENTS) for table in tables])
+
+
+def over_live_blocks(mixed):
+    # the last variable is written over, so that its blocks stay; two classes have room for all of them
+    values = [0, 1_000, 10_000, 60_000]
+    tables = ["classes 2 65\n" + "malloc 1023 16\n" * count for count in values]
+    words = ["replay", "--granules", "262144"]
+    return Series("`replay`, live blocks besides", "event", values, [Trial(words, table + mixed, table, EVENTS) for table in tables])
+
+
+def profile_of(needs, chance):
+    return "".join(f"{16 * need - 16} {chance.randint(1, 10**9)}\n" for need in range(2, needs + 2))
+
+
+def over_needs(seed):
+    values = [16, 128, 1023]
+    trials = [Trial(["tune", "--limit", "8"], profile_of(count, random.Random(seed)), "", count) for count in values]
+    return Series("`tune --limit 8`, sizes that need other granules", "size", values, trials)
+
+
+def over_limits(seed):
+    values = [1, 4, 16, 32]
+    profile = profile_of(1023, random.Random(seed))
+    trials = [Trial(["tune", "--limit", str(limit)], profile, "", limit) for limit in values]
+    return Series("`tune` of 1,023 such sizes, classes", "class", values, trials)
+
+
+def print_table(program, events, seed, instructions, memory, write):
+    """Prints a row for each series. `write` makes a file of a text; the other two measure a command on a file."""
+    print("| What grows | values | before | for each | instructions | memory in MiB |")
+    print("|---|---:|---:|---|---:|---:|")
+    for series in all_series(events, seed):
+        rows = [measured(program, trial, instructions, memory, write) for trial in series.trials]
+        before, each, resident = (" / ".join(cells) for cells in zip(*rows))
+        values = " / ".join(f"{value:,}" for value in series.values)
+        print(f"| {series.title} | {values} | {before} | {series.unit} | {each} | {resident} |", flush=True)
+
+
+def measured(program, trial, instructions, memory, write):
+    command = [program, *trial.words]
+    given, without = write("given", trial.given), write("without", trial.without)
+    before = instructions(command, without)
+    each = (instructions(command, given) - before) / trial.count
+    return f"{before / 1e6:.2f} M", f"{each:,.0f}", f"{memory(command, given) / 2**20:.1f}"
