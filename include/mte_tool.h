@@ -20,7 +20,7 @@ extern "C" {
 enum {
     MTE_TOOL_DONE = 0,          /* the text is the answer */
     MTE_TOOL_NO = 1,            /* the text is the answer, and the verdict is no */
-    MTE_TOOL_REFUSED = 2,       /* the text is the first fault of the input, as "30 BadLine line 2" */
+    MTE_TOOL_REFUSED = 2,       /* the text is the first fault of the input, as "30 BadLine line 2", without a newline */
     MTE_TOOL_OUT_OF_MEMORY = 3, /* the text is empty */
     MTE_TOOL_BAD_OPTION = 4,    /* an option is out of its range; the text is empty */
     MTE_TOOL_MISUSE = 5         /* the call is not as it has to be: a pointer is null that must not be, or as the call says; nothing was done */
@@ -32,7 +32,8 @@ typedef struct mte_tool_ending {
     uint64_t line;  /* the line of the fault, from 1 on; 0 without one */
 } mte_tool_ending;
 
-/* The options. Each call reads its own: tune and fit the last two, replay the first three, run all. */
+/* The options. Each call reads its own, and the others may have any value: tune and fit read the last two, replay and
+   mte_tool_heap_new the first three, run all. */
 typedef struct mte_tool_options {
     uint32_t granules;   /* the granules of the heap, 64 to 262144 */
     uint32_t quarantine; /* the bytes of freed blocks that it holds back, 0 to 4194304 */
@@ -41,7 +42,8 @@ typedef struct mte_tool_options {
     uint8_t step;        /* the granules that each class is a multiple of: 1, 2, 4 or 8 */
 } mte_tool_options;
 
-/* The program's own defaults, with this limit. */
+/* The program's own defaults, with this limit; for a call that reads no limit, any number. In C++ a `limit` that is no constant has to be a
+   uint8_t. */
 #define MTE_TOOL_OPTIONS(limit) {65536, 65536, 1, (limit), 1}
 
 /* A text that the library holds for its caller. It begins as MTE_TOOL_TEXT, the empty text, and mte_tool_free makes it that again. `length`
@@ -68,12 +70,12 @@ mte_tool_ending mte_tool_profile(const uint8_t *input, size_t length, mte_tool_t
 mte_tool_ending mte_tool_replay(mte_tool_options options, const uint8_t *input, size_t length, mte_tool_text *text);
 mte_tool_ending mte_tool_run(mte_tool_options options, const uint8_t *input, size_t length, mte_tool_text *text);
 
-/* Appends a piece to a text, for an input that comes in pieces. MTE_TOOL_OUT_OF_MEMORY leaves the text as it was. `piece` may be null if
-   `length` is 0. */
+/* Appends a piece to a text, for an input that comes in pieces. Returns MTE_TOOL_DONE; or MTE_TOOL_OUT_OF_MEMORY or MTE_TOOL_MISUSE, which
+   leave the text as it was. `piece` may be null if `length` is 0. */
 uint32_t mte_tool_append(mte_tool_text *text, const uint8_t *piece, size_t length);
 
-/* Copies bytes of a text into the room, from the byte `from` on (the first is 0), as many as there are and as fit. Returns how many. `room`
-   may be null if `length` is 0. */
+/* Copies bytes of a text into the room, from the byte `from` on (the first is 0), as many as there are and as fit. Returns how many, and 0
+   for a misuse. No byte 0 is put after them. `room` may be null if `length` is 0. */
 size_t mte_tool_read(mte_tool_text *text, size_t from, uint8_t *room, size_t length);
 
 /* Frees the memory of a text, and leaves the empty text. Null is let pass. */
@@ -122,6 +124,18 @@ mte_tool_numbers mte_tool_check_arrays(mte_tool_options options, const uint16_t 
 
 /* ---- the heap itself, for whoever tests an allocator against the model (docs/HEAP.md) */
 
+/* Why the heap or the machine refused a call: the codes of an outcome. */
+enum {
+    MTE_TOOL_UNMAPPED = 50,   /* of a load or a store: a byte is not in the region, or one of the bits 60 to 63 of the address is 1 */
+    MTE_TOOL_TAG_FAULT = 52,  /* of a load or a store: a granule's tag differs from the address's */
+    MTE_TOOL_LARGE = 60,      /* of malloc, calloc and realloc: more than 16368 bytes */
+    MTE_TOOL_NO_CLASS = 61,   /* of these: no class of the table serves the size */
+    MTE_TOOL_EXHAUSTED = 62,  /* of these: no slot of the class is left */
+    MTE_TOOL_MISPLACED = 63,  /* of free and realloc: no chunk of a slot begins at the address */
+    MTE_TOOL_NOT_LIVE = 64,   /* of these: the chunk there is not live */
+    MTE_TOOL_WRONG_TAG = 65   /* of these: the address has another tag than the chunk */
+};
+
 /* A heap that the library holds for its caller. It begins as MTE_TOOL_HEAP, which holds none, and mte_tool_heap_close makes it that again.
    `live` is 1 if there is a heap, and may be read; both members are the library's own. A copy of the structure is the same heap: close one
    of them. Calls on different heaps are independent. */
@@ -135,14 +149,12 @@ typedef struct mte_tool_heap {
 /* What a call on a heap gave. What it does not give is 0. */
 typedef struct mte_tool_outcome {
     uint32_t end;         /* MTE_TOOL_DONE; MTE_TOOL_NO: the heap or the machine refused it, and `code` says why, and nothing changed */
-    uint32_t code;        /* of a request: 60 larger than 16368 bytes, 61 no class serves it, 62 no slot is left; of a pointer to be freed or
-                             resized: 63 not a slot's first byte, 64 not live, 65 another tag; of an access: 50 not in the region, 52 a tag
-                             that differs */
-    uint64_t value;       /* the address, with its tag in bits 56 to 59 */
-    uint32_t granule;     /* 52: the lowest granule whose tag differs, from the region's start */
-    uint8_t memory_tag;   /* 52: its tag */
-    uint8_t pointer_tag;  /* 52: the address's tag */
-    uint8_t granule_kind; /* 52: what that granule is: 0 slack, 1 a header, 2 a tail, 3 of a freed chunk, 4 of a live chunk */
+    uint32_t code;        /* MTE_TOOL_UNMAPPED and so on; of mte_tool_heap_new as in mte_tool_numbers */
+    uint64_t value;       /* of malloc, calloc, realloc and addg: the address, with its tag in bits 56 to 59 */
+    uint32_t granule;     /* of a tag fault: the lowest granule whose tag differs, from the region's start */
+    uint8_t memory_tag;   /* its tag */
+    uint8_t pointer_tag;  /* the address's tag */
+    uint8_t granule_kind; /* what that granule is: 0 slack, 1 a header, 2 a tail, 3 of a freed chunk, 4 of a live chunk */
 } mte_tool_outcome;
 
 /* Makes a heap over the table of `class_count` classes, in granules, ascending, from 2 to 1024. It reads the first three options. The ends:
@@ -157,7 +169,8 @@ mte_tool_outcome mte_tool_heap_calloc(mte_tool_heap *heap, size_t size);
 mte_tool_outcome mte_tool_heap_realloc(mte_tool_heap *heap, uint64_t address, size_t size);
 mte_tool_outcome mte_tool_heap_free(mte_tool_heap *heap, uint64_t address);
 
-/* Read and write 1 to 64 bytes from an address on; another length is MTE_TOOL_BAD_OPTION. No chunk has tag 0, so an address with it that lies
+/* Read and write 1 to 64 bytes from an address on; another length is MTE_TOOL_BAD_OPTION. The address of a further byte of a chunk is the
+   chunk's and a number of bytes, with the same tag. No chunk has tag 0, so an address with it that lies
    in the region is MTE_TOOL_MISUSE. After any end but MTE_TOOL_DONE the room and the region are as they were. */
 mte_tool_outcome mte_tool_heap_load(mte_tool_heap *heap, uint64_t address, uint8_t *room, size_t length);
 mte_tool_outcome mte_tool_heap_store(mte_tool_heap *heap, uint64_t address, const uint8_t *bytes, size_t length);

@@ -1,5 +1,5 @@
 /* check_sheet SHEET PROFILE: a step of a build that fails unless the sheet shows that its table is a best one for the profile.
-   cc check_sheet.c $(pkg-config --cflags --libs --static mte_tool) -o check_sheet */
+   cc -IDIR/include check_sheet.c DIR/lib/libmte_tool.a -o check_sheet, where DIR is that of scripts/library */
 #include <mte_tool.h>
 
 #include <stdio.h>

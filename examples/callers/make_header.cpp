@@ -1,5 +1,5 @@
 // make_header LIMIT < PROFILE > table.h: the best table of at most LIMIT classes, as an array for C++.
-// c++ make_header.cpp $(pkg-config --cflags --libs --static mte_tool) -o make_header
+// c++ -IDIR/include make_header.cpp DIR/lib/libmte_tool.a -o make_header, where DIR is that of scripts/library
 #include <mte_tool.h>
 
 #include <cstdlib>
