@@ -61,6 +61,7 @@ numbered : (classes : List ℕ) (class : ℕ) (number : Option ℕ) → option_a
 numbered classes class None e = absurd cc
 numbered classes class (Some k) e = (k, refl, e)
 
+-- `first_is_least` is there to be proved: it says what the definition, the first that serves, means
 pub first_is_least : (step n class : ℕ) (classes : List ℕ) → IsLegalTable step classes → class_for classes n ≡ Some class →
     IsLeastServing classes n class
 first_is_least step n class classes legal found =

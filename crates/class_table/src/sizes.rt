@@ -41,7 +41,7 @@ pub fn loss(n: u32, class: u16) -> u32
     payload_bytes(u32::from(class)) - n
 }
 
-// the bytes of a block of a class (in granules) after its header
+/// The bytes of a block of a class (in granules) after its header.
 pub(crate) fn payload_bytes(class: u32) -> u32
     requires { class < 2 ^ 16 }
     ensures { result ≡ GRANULE_BYTES * class - GRANULE_BYTES }

@@ -41,7 +41,7 @@ impl ClassTable {
         ClassTable::from_few(few)
     }
 
-    // The table of these classes. Errors are those of `from_classes`, but never `TooMany`.
+    /// The table of these classes. Errors are those of `from_classes`, but never `TooMany`.
     pub(crate) fn from_few(classes: ArrayVec<u16, MOST_CLASSES>) -> Result<ClassTable, TableError>
         ensures exact { Gives result (table_of_classes classes.items) }
         ensures legal { IfOk result (λ table. IsLegalTable 1 table) }

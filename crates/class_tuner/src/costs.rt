@@ -41,7 +41,7 @@ impl<'a> Costs<'a> {
         Ok(Costs::over(spans))
     }
 
-    // the costs of these spans
+    /// The costs of these spans.
     #[tactic(auto, using(tuner_theory::proofs::LawLemmas::few_places))]
     pub(crate) fn over(spans: Spans<'a>) -> Costs<'a>
         requires { IsSpanned spans }
@@ -53,7 +53,7 @@ impl<'a> Costs<'a> {
         Costs { lawful, calls: 0 }
     }
 
-    // the spans
+    /// The spans.
     pub(crate) fn spans(&self) -> &Spans<'a>
         ensures { result.now ≡ self.now.lawful.spans }
     {

@@ -13,12 +13,14 @@ use std::ops::Range;
 /// The window of ends from `low` to `high`, both included.
 #[derive(Clone, Copy)]
 pub(crate) struct Window {
+    /// The least end, a place.
     pub low: usize,
+    /// The greatest end, a place.
     pub high: usize,
 }
 
-// Fills a part of a row and of its ends, `before` being the row before it. The window has the least ends of the part's places.
-// The part and its window are two small structs: so they are passed in registers, and the compiler makes a loop of the last call.
+/// Fills a part of a row and of its ends, `before` being the row before it. The window has the least ends of the part's places.
+/// The part and its window are two small structs: so they are passed in registers, and the compiler makes a loop of the last call.
 pub(crate) fn fill_part<C: CostSource>(
     costs: &mut C,
     before: &[u64],

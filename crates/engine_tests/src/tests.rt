@@ -1,3 +1,4 @@
+//! The tests, by what they test; `support` has what they share.
 mod codes;
 mod engines;
 mod memory;

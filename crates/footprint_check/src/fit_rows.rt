@@ -15,7 +15,7 @@ use potential_check::{Fit, Rows, Spans};
 use std::alloc::{AllocError, Global};
 use tuner_theory::{Refusal, Verdict};
 
-// The verdict on a fit whose table meets its conditions. `spans` must be over the peaks of the snapshots, at the step of the fit.
+/// The verdict on a fit whose table meets its conditions. `spans` must be over the peaks of the snapshots, at the step of the fit.
 pub(crate) fn rows_verdict(
     alloc: Global,
     snapshots: &[Vec<u32>],

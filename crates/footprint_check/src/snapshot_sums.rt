@@ -12,8 +12,8 @@ use class_table::GRANULE_BYTES;
 use potential_check::Spans;
 use std::alloc::{AllocError, Global};
 
-// For each snapshot, how many of its blocks need at most the need at each place. The footprint of a span follows from two of these numbers
-// of each snapshot.
+/// For each snapshot, how many of its blocks need at most the need at each place. The footprint of a span follows from two of these numbers
+/// of each snapshot.
 #[derive(Drop)]
 pub(crate) struct SnapshotSums<'a> {
     snapshots: &'a [Vec<u32>],
@@ -26,7 +26,7 @@ pub(crate) struct SnapshotSums<'a> {
 }
 
 impl<'a> SnapshotSums<'a> {
-    // the sums of some snapshots, of which `spans` has the peaks
+    /// The sums of some snapshots, of which `spans` has the peaks.
     pub(crate) fn new(
         alloc: Global,
         snapshots: &'a [Vec<u32>],
@@ -49,14 +49,14 @@ impl<'a> SnapshotSums<'a> {
         })
     }
 
-    // how many places there are
+    /// How many places there are.
     pub(crate) fn places(&self) -> usize
         ensures { result ≡ places self.now.spans.now.counts self.now.spans.now.step }
     {
         self.spans.places()
     }
 
-    // writes the footprint of the span from place i to each later place
+    /// Writes the footprint of the span from place i to each later place.
     pub(crate) fn write_from(&self, i: usize, costs: &mut [u64])
         requires within { i < places self.now.spans.now.counts self.now.spans.now.step }
         requires size { length costs.old ≡ places self.now.spans.now.counts self.now.spans.now.step + 1 }

@@ -1,3 +1,4 @@
+//! A memory of granules with tags, in one region.
 ghost use Rattle.granule_memory.specs.Changes.{ChangesOnlyBytes, ChangesOnlyTags};
 ghost use Rattle.machine_theory.specs.Memory.{byte_at, bytes_at, new_granule, tag_at, tagged, word_at, written, Granule, IsMemory};
 ghost use Rattle.std.specs.Int.{to_le_bytes, w64};

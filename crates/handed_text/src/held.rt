@@ -3,5 +3,6 @@
 /// A text in memory.
 #[derive(Drop)]
 pub struct Held {
+    /// Its bytes.
     pub text: Vec<u8>,
 }

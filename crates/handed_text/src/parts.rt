@@ -7,8 +7,11 @@ use std::marker::Model;
 
 /// The pointer and the allocator of a box. They own what the box owned.
 pub struct BoxParts<T, A: Allocator> {
+    /// Where the value of the box is.
     pub ptr: *mut T,
+    /// What gave the room for it, and takes it back.
     pub alloc: A,
+    /// The value.
     pub ghost value: { T },
 }
 

@@ -2,9 +2,9 @@
 use Rattle.std.specs.Prelude.{◌≡◌, ℕ, ◌+◌, ◌<◌, ◌≤◌, ◌^◌, Bool, true, false, List, [], ◌∷◌, length, slice_index}
 use Rattle.machine_theory.specs.Memory.{tag_at}
 use Rattle.heap_theory.specs.GranuleKinds.{place_kind}
-use Rattle.heap_theory.specs.Replay.{Replay, replay_after}
+use Rattle.replay_theory.specs.Replay.{Replay, replay_after}
 use Rattle.heap_theory.specs.State.{Heap}
-use Rattle.heap_theory.specs.declared.event.Event.{Event}
+use Rattle.trace_event.specs.declared.event.Event.{Event}
 use Rattle.heap_theory.specs.declared.place_kind.PlaceKind.{PlaceKind}
 use Rattle.heap_theory.specs.declared.place_kind.PlaceKind.TheVariants.{Slack, Header, Tail, Dead, Other}
 use Rattle.replay_core.specs.ReplayState.{Stored}

@@ -1,6 +1,6 @@
 //! A replay that goes on event by event.
 ghost use Rattle.std.specs.Prelude.{◌≡◌, ◌<◌, ◌≤◌, ◌+◌, ◌^◌, length, drop, slice_get, IfOk, IsTrue, false, true};
-ghost use Rattle.heap_theory.specs.Replay.{Replay as Replayed, first_replay, replay_of};
+ghost use Rattle.replay_theory.specs.Replay.{Replay as Replayed, first_replay, replay_of};
 ghost use Rattle.tagged_heap.specs.Config.{IsConfig, layout_for};
 ghost use Rattle.heap_picture.specs.Picture.{AreFewEvents, IsDrawn};
 ghost use Rattle.trace_reader.specs.TraceLine.{most_events};
@@ -42,7 +42,7 @@ impl Stepper {
     }
 
     /// Performs the next event. Returns whether there was one.
-    #[tactic(auto, unfolding(replay_core::specs::ReplayState::stored_after, heap_theory::specs::Totals::totals_after))]
+    #[tactic(auto, unfolding(replay_core::specs::ReplayState::stored_after, replay_theory::specs::Totals::totals_after))]
     pub fn step(&mut self) -> bool
         ensures { goes_on self.old self.new result }
     {

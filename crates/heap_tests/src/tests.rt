@@ -1,3 +1,4 @@
+//! The tests, by what they test; `support` has what they share.
 mod heaps;
 mod machines;
 mod regions;

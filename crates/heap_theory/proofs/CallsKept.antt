@@ -9,9 +9,8 @@ use Rattle.machine_theory.specs.Address.{logical_tag}
 use Rattle.machine_theory.specs.Memory.{written}
 use Rattle.class_table.specs.Layout.{Partition, slot_count}
 use Rattle.heap_theory.specs.declared.refusal.FreeError.{FreeError}
-use Rattle.heap_theory.specs.Calls.{Step, next_tag, given_out, freed, resized, with_payload, payload_bytes, moved, malloc_with, malloc_step, calloc_with, calloc_step, free_with, free_step, stays_in_class, slot_if_moved, move_with, realloc_with, realloc_step}
+use Rattle.heap_theory.specs.Calls.{Step, next_tag, given_out, freed, resized, with_payload, payload_bytes, moved, malloc_with, malloc_step, calloc_with, calloc_step, free_with, free_step, stays_in_class, slot_if_moved, move_with, realloc_with, realloc_step, store_with, store_step}
 use Rattle.heap_theory.specs.Lookups.{Chunk, IsReusable, MayBeGiven, IsLiveChunk, slot_for_request, chunk_at}
-use Rattle.heap_theory.specs.Replay.{store_with, store_step}
 use Rattle.heap_theory.specs.Sound.{IsSoundHeap}
 use Rattle.class_table.specs.Sizes.{chunk_granules}
 use Rattle.heap_theory.specs.State.{State, Heap, state_at, last_tag, is_fresh}

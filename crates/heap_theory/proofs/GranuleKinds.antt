@@ -7,9 +7,7 @@ use Rattle.class_table.specs.Layout.{Covers, slot_over}
 use Rattle.heap_theory.proofs.TheoryLemmas as laws
 use Rattle.heap_theory.specs.declared.place_kind.PlaceKind.{PlaceKind}
 use Rattle.heap_theory.specs.declared.place_kind.PlaceKind.TheVariants.{Slack, Header, Tail, Dead as DeadChunk, Other}
-use Rattle.heap_theory.specs.Hardening.{IsChunkGranule, IsPayloadGranule}
-use Rattle.heap_theory.specs.Hardening.{IsOfItsKind}
-use Rattle.heap_theory.specs.GranuleKinds.{kind_of_chunk, kind_in_slot, kind_at, place_kind}
+use Rattle.heap_theory.specs.GranuleKinds.{IsChunkGranule, IsPayloadGranule, IsOfItsKind, kind_of_chunk, kind_in_slot, kind_at, place_kind}
 use Rattle.heap_theory.specs.Sound.{IsSoundHeap}
 use Rattle.heap_theory.specs.State.{State, Heap, IsLive, is_dead, slot_in, state_at, chunk_granules_of, payload_start, IsSlot}
 use Rattle.heap_theory.specs.State.State.{Fresh, Live, Dead}

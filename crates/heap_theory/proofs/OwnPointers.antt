@@ -10,13 +10,10 @@ use Rattle.class_table.specs.Layout.{Partition, slot_count, slot_of}
 use Rattle.heap_theory.specs.declared.refusal.FreeError.{FreeError}
 use Rattle.heap_theory.specs.declared.refusal.NullCause.{NullCause}
 use Rattle.heap_theory.specs.declared.refusal.ReallocError.{ReallocError}
-use Rattle.heap_theory.specs.Calls.{Step, given_out, freed, resized, with_payload, payload_bytes, moved, malloc_with, malloc_step, calloc_with, calloc_step, free_with, free_step, stays_in_class, move_with, realloc_with, as_realloc, realloc_step}
+use Rattle.heap_theory.specs.Calls.{Step, given_out, freed, resized, with_payload, payload_bytes, moved, malloc_with, malloc_step, calloc_with, calloc_step, free_with, free_step, stays_in_class, move_with, realloc_with, as_realloc, realloc_step, store_with, store_step}
 use Rattle.heap_theory.specs.Lookups.{Chunk, IsReusable, MayBeGiven, IsLiveChunk, slot_for_request, chunk_at}
-use Rattle.heap_theory.specs.Run.{Run}
-use Rattle.heap_theory.specs.OwnPointers.{IsOwnPointer, IsNullOrOwn, FreeAccepts, IsNotRefused, ReallocAccepts, LiveVariablesAreAccepted, GivesOwnPointers, StaysOwnPointer}
-use Rattle.heap_theory.specs.Replay.{store_with, store_step}
+use Rattle.heap_theory.specs.OwnPointers.{IsOwnPointer, IsNullOrOwn, FreeAccepts, IsNotRefused, ReallocAccepts, GivesOwnPointers, StaysOwnPointer}
 use Rattle.heap_theory.specs.Sound.{IsSoundHeap}
-use Rattle.heap_theory.specs.SoundRun.{IsSoundRun}
 use Rattle.class_table.specs.Sizes.{chunk_granules}
 use Rattle.heap_theory.specs.State.{State, Heap, IsLive, state_at, last_tag, payload_place, pointer_to, IsSlot}
 use Rattle.heap_theory.specs.State.State.{Fresh, Live, Dead}
@@ -328,10 +325,5 @@ realloc_own h q n p sound =
 
 pub gives_own : (heap : Heap) → IsSoundHeap heap → GivesOwnPointers heap
 gives_own h sound = grind (arith, calloc_own, malloc_own, realloc_own)
-
--- ---- the variables of a run
-
-pub live_variables : (w : Run) → IsSoundRun w → LiveVariablesAreAccepted w
-live_variables w sound v s time generation live = grind (arith, free_accepts, realloc_accepts)
 
 pub ruleset own_pointers = (free_accepts, realloc_accepts, own_chunk, frees_chunk, gives_own, stays_own)

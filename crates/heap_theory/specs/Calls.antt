@@ -1,6 +1,8 @@
--- The calls of the heap: how each changes it, and what each returns.
-use Rattle.std.specs.Prelude.{ℕ, ◌+◌, ◌-◌, ◌*◌, ◌^◌, ◌%◌, min, Bool, false, ◌==◌, if◌then◌else◌, List, replicate, bit_or, slice_set, Option, None, Result, Ok, Err}
+-- The calls of the heap: how each changes it, and what each returns; and what a store leaves.
+use Rattle.std.specs.Prelude.{ℕ, ◌+◌, ◌-◌, ◌*◌, ◌^◌, ◌%◌, min, Bool, false, ◌==◌, if◌then◌else◌, List, replicate, bit_or, slice_set, length, Option, Some, None, Result, Ok, Err}
 use Rattle.std.specs.Result.{result_map_both, result_ok}
+use Rattle.machine_theory.specs.declared.fault.Fault.{Fault}
+use Rattle.machine_theory.specs.Access.{access_fault, stored}
 use Rattle.machine_theory.specs.Instructions.{drawn_tag}
 use Rattle.machine_theory.specs.Memory.{Granule, tagged, written, bytes_at}
 use Rattle.machine_theory.specs.Seed.{next_seed}
@@ -143,3 +145,13 @@ as_realloc step = record { heap = step.heap; answer = result_map_both (λ p. p) 
 -- At null a new chunk; else the chunk at p gets n bytes, in place where they are of its class, and in another slot where not.
 unfoldable pub realloc_step : Heap → ℕ → ℕ → Step (Result ℕ ReallocError)
 realloc_step heap p n = if p == 0 then as_realloc (malloc_step heap n) else realloc_with heap p n (chunk_at heap p)
+
+-- ---- a store
+
+abbrev pub store_with : Heap → ℕ → List ℕ → Option Fault → Heap
+store_with heap address bytes None = record heap { memory = stored heap.memory address bytes }
+store_with heap address bytes (Some fault) = heap
+
+-- A store: nothing changes where the access is a fault.
+unfoldable pub store_step : Heap → ℕ → List ℕ → Heap
+store_step heap address bytes = store_with heap address bytes (access_fault heap.memory address (length bytes))

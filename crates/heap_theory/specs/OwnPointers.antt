@@ -2,10 +2,7 @@
 use Rattle.std.specs.Prelude.{◌≡◌, ◌≢◌, ◌⊎◌, ℕ, List, Result, Ok, Err, ⊤}
 use Rattle.heap_theory.specs.declared.refusal.ReallocError.{ReallocError}
 use Rattle.heap_theory.specs.declared.refusal.ReallocError.TheVariants.{Null, Refused}
-use Rattle.heap_theory.specs.Calls.{malloc_step, calloc_step, free_step, realloc_step}
-use Rattle.heap_theory.specs.Run.{Run}
-use Rattle.heap_theory.specs.Hardening.{HasGeneration, IsLiveGeneration}
-use Rattle.heap_theory.specs.Replay.{variable, store_step}
+use Rattle.heap_theory.specs.Calls.{malloc_step, calloc_step, free_step, realloc_step, store_step}
 use Rattle.heap_theory.specs.State.{Heap, IsLive, state_at, pointer_to, IsSlot}
 
 -- The own pointer of the live chunk in slot s: the address of its first byte, under the tag that the slot was given out with.
@@ -46,12 +43,3 @@ pub record StaysOwnPointer (heap : Heap) (s p : ℕ) : Type 0 where
   pub free : (q : ℕ) → q ≢ p → IsOwnPointer (free_step heap q).heap s p
   pub realloc : (q n : ℕ) → q ≢ p → IsOwnPointer (realloc_step heap q n).heap s p
   pub store : (address : ℕ) (bytes : List ℕ) → IsOwnPointer (store_step heap address bytes) s p
-
--- In a run, a variable whose generation is live has the own pointer of its chunk; so both calls accept it.
-pub record IsAcceptedVariable (run : Run) (v s : ℕ) : Type 0 where
-  pub own : IsOwnPointer run.replay.heap s (variable run.replay v)
-  pub by_free : FreeAccepts run.replay.heap (variable run.replay v)
-  pub by_realloc : (n : ℕ) → ReallocAccepts run.replay.heap (variable run.replay v) n
-
-abbrev pub LiveVariablesAreAccepted : Run → Type 0
-LiveVariablesAreAccepted run = (v s time : ℕ) → HasGeneration run v s time → IsLiveGeneration run s time → IsAcceptedVariable run v s

@@ -13,7 +13,7 @@ use class_table::{ClassTable, GRANULE_BYTES, LARGEST_COUNTED};
 use profile_count::class_end;
 use tuner_theory::GREATEST_COUNT;
 
-// the bytes that the classes of a table take, each by itself
+/// The bytes that the classes of a table take, each by itself.
 pub(crate) fn table_bytes(snapshots: &[Vec<u32>], table: &ClassTable) -> u64
     requires { AreSnapshots (lists_of snapshots.now) }
     ensures footprint { result ≡ footprint_of (lists_of snapshots.now) table.now }

@@ -1,3 +1,4 @@
+//! The counts of a history, and what follows from them alone.
 ghost use Rattle.std.specs.Prelude.{◌≡◌, ◌<◌, ◌≤◌, ◌^◌, ℕ, [], None, IsSome, IfOk, IfSome, IfNone, All, length, slice_index_or, slice_set};
 ghost use Rattle.class_table.specs.Tables.{class_for};
 ghost use Rattle.profile_count.specs.Counts.{unserved_of, zeros};
@@ -42,7 +43,7 @@ impl Model for History {
 }
 
 impl History {
-    // A history of so many snapshots that counts nothing. The only error is that the allocator refuses memory.
+    /// A history of so many snapshots that counts nothing. The only error is that the allocator refuses memory.
     pub(crate) fn new(alloc: Global, count: usize) -> Result<History, AllocError>
         requires some { 1 ≤ count }
         requires few { count ≤ MOST_SNAPSHOTS }
@@ -89,7 +90,7 @@ impl History {
         &self.large
     }
 
-    // Sets the counts of a size, one for each snapshot.
+    /// Sets the counts of a size, one for each snapshot.
     pub(crate) fn set_counts(&mut self, n: u32, counts: &[u32])
         requires size { n ≤ LARGEST_COUNTED }
         requires places { length counts.now ≡ length self.old.snapshots }
@@ -101,7 +102,7 @@ impl History {
         self.peaks.set_count(n, greatest(counts));
     }
 
-    // Sets the counts of the large blocks, one for each snapshot.
+    /// Sets the counts of the large blocks, one for each snapshot.
     pub(crate) fn set_large(&mut self, counts: &[u32])
         requires places { length counts.now ≡ length self.old.snapshots }
         requires in_range { All (λ count. count ≤ greatest_count) counts.now }

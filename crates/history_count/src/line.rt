@@ -28,7 +28,7 @@ pub(crate) enum Subject {
     Large,
 }
 
-// how many snapshots there are, by the first line
+/// How many snapshots there are, by the first line.
 pub(crate) fn snapshots_in(line: &[u8]) -> Option<usize>
     ensures count { result ≡ snapshots_of (words line.now) }
     ensures in_range { IfSome result (λ count. (1 ≤ count) × (count ≤ MOST_SNAPSHOTS)) }
@@ -43,8 +43,8 @@ pub(crate) fn snapshots_in(line: &[u8]) -> Option<usize>
     }
 }
 
-// What a later line counts. Its counts are then in `counts`, which has a place for each snapshot. `next` is the least size that may come,
-// and `is_ended` says whether the `large` line came.
+/// What a later line counts. Its counts are then in `counts`, which has a place for each snapshot. `next` is the least size that may come,
+/// and `is_ended` says whether the `large` line came.
 pub(crate) fn entry_in(
     next: u32,
     is_ended: bool,

@@ -1,3 +1,4 @@
+//! How a text spells a history.
 ghost use Rattle.history_count.specs.HistoryText.{GivesHistory, history_of};
 
 use crate::fault::{HistoryError, HistoryFault};

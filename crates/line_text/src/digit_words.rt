@@ -20,7 +20,7 @@ const FIRST_BYTES: u64 = 0x00ff_00ff_00ff_00ff;
 
 const FIRST_PAIRS: u64 = 0x0000_ffff_0000_ffff;
 
-// The value of the first eight bytes of a text, if all are digits.
+/// The value of the first eight bytes of a text, if all are digits.
 #[inline(always)]
 pub(crate) fn eight_digits(text: &[u8]) -> Option<u64>
     ensures digits { IfSome result (λ _. list_all is_ascii_digit (take 8 text.now) ≡ Bool.true) }
@@ -29,7 +29,7 @@ pub(crate) fn eight_digits(text: &[u8]) -> Option<u64>
     digits_in_eight(text.first_chunk::<8>()?)
 }
 
-// The value of the first four bytes of a text, if all are digits.
+/// The value of the first four bytes of a text, if all are digits.
 #[inline(always)]
 pub(crate) fn four_digits(text: &[u8]) -> Option<u32>
     ensures digits { IfSome result (λ _. list_all is_ascii_digit (take 4 text.now) ≡ Bool.true) }

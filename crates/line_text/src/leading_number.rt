@@ -6,7 +6,7 @@ ghost use Rattle.line_text.specs.Numbers.{AreLeading, leading_digits, leading_nu
 use crate::near_digits::near_digits;
 use crate::number::SHORT_DIGITS;
 
-// the number that the digits at the start of a text spell, and the text after them; `None` if they spell none or are more than 19
+/// The number that the digits at the start of a text spell, and the text after them; `None` if they spell none or are more than 19.
 #[inline(always)]
 pub(crate) fn leading_number(text: &[u8]) -> Option<(u64, &[u8])>
     ensures number { option_map (λ pair. pair.0) result ≡ leading_number_of text.now }

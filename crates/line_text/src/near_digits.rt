@@ -8,8 +8,8 @@ ghost use Rattle.line_text.specs.Numbers.{AreNear};
 use crate::digit_words::{eight_digits, four_digits};
 use crate::number::SHORT_DIGITS;
 
-// How many digits are at the start of these bytes, and their value; `None` if all bytes are digits.
-// The numbers of bytes below are constants. So the compiler unrolls the loop, and no byte costs a test for the end of the text.
+/// How many digits are at the start of these bytes, and their value; `None` if all bytes are digits.
+/// The numbers of bytes below are constants. So the compiler unrolls the loop, and no byte costs a test for the end of the text.
 #[inline(always)]
 pub(crate) fn near_digits(bytes: &[u8; SHORT_DIGITS]) -> Option<(usize, u64)>
     ensures { AreNear result bytes.now }

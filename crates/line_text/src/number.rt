@@ -19,7 +19,7 @@ pub enum Number {
     Value(u64),
 }
 
-// Every number of this many digits is below 2^64.
+/// Every number of this many digits is below 2^64.
 pub(crate) const SHORT_DIGITS: usize = 19;
 
 /// The number that a word of any length spells. Each number has one spelling: its decimal digits, without a leading 0 except in `0` itself.

@@ -6,7 +6,7 @@ ghost use Rattle.line_text.specs.Pairs.{short_pair_of};
 
 use crate::leading_number::leading_number;
 
-// the two numbers of the first line of a text, and the text after that line; `None` if the line is no such pair
+/// The two numbers of the first line of a text, and the text after that line; `None` if the line is no such pair.
 #[inline(always)]
 pub(crate) fn leading_pair(text: &[u8]) -> Option<((u64, u64), &[u8])>
     ensures numbers { option_map (λ found. found.0) result

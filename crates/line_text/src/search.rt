@@ -6,7 +6,8 @@ use memchr::memchr;
 // Up to this length a search byte by byte is faster. Most lines and words are no longer.
 const SCAN_BYTES: usize = 32;
 
-// Inlined, like its two callers `next`: a call for each word would take longer than most words do.
+/// The first place of a byte among these bytes.
+/// Inlined, like its two callers `next`: a call for each word would take longer than most words do.
 #[inline(always)]
 pub(crate) fn first_place(byte: u8, bytes: &[u8]) -> Option<usize>
     ensures { IsFirstByte (is_byte byte) bytes.now result }

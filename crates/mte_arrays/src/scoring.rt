@@ -34,7 +34,7 @@ pub fn score(
     }
 }
 
-// the table of these classes
+/// The table of these classes.
 pub(crate) fn table_of(classes: &[u16]) -> Result<ClassTable, ArrayError>
     ensures { GivesTable result (table_of_classes classes.now) }
 {

@@ -51,12 +51,15 @@ impl Options {
     }
 }
 
-/// How a call ended: the number of the end; the code of the fault and its line, or 0.
+/// How a call ended.
 #[repr(C)]
 #[derive(Clone, Copy)]
 pub struct Ending {
+    /// The number of the end, 0 to 4.
     pub end: u32,
+    /// The code of the fault, or 0.
     pub fault: u32,
+    /// The line of the fault, counted from 1, or 0.
     pub line: u64,
 }
 

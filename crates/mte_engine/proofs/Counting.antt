@@ -3,9 +3,9 @@ use Rattle.std.proofs.Common.{◌≡◌, ℕ, suc, ◌≤◌, List, [], ◌∷�
 use Rattle.std.specs.Prelude.{slice_get, Option}
 use Rattle.std.specs.List.{cons_option}
 use Rattle.std.proofs.lemmas.List.Elements.{filter_map-append}
-use Rattle.heap_theory.specs.Losses.{requested_sizes}
-use Rattle.heap_theory.specs.Totals.{request_size}
-use Rattle.heap_theory.specs.declared.event.Event.{Event}
+use Rattle.replay_theory.specs.Losses.{requested_sizes}
+use Rattle.replay_theory.specs.Totals.{request_size}
+use Rattle.trace_event.specs.declared.event.Event.{Event}
 
 pub first_of : {A : Type 0} (xs : List A) (x : A) → slice_get xs 0 ≡ Some x → xs ≡ x ∷ drop 1 xs
 first_of [] x e = cc

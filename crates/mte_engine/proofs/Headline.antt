@@ -1,10 +1,10 @@
 -- From a tuned sheet to the headline, by the laws of the crates below.
 use Rattle.std.proofs.Common.{◌≡◌, ℕ, List, ◌++◌, refl, sym, ◌∙◌}
 use Rattle.class_table.specs.Tables.{rounding_loss}
-use Rattle.heap_theory.specs.Losses.{ServesEach, counted_sizes, requested_sizes}
-use Rattle.heap_theory.specs.Report.{report}
-use Rattle.heap_theory.proofs.AccessAnswers.{accesses_are_answered}
-use Rattle.heap_theory.proofs.Losses.{LosesAtMostItsWaste-run}
+use Rattle.replay_theory.specs.Losses.{ServesEach, counted_sizes, requested_sizes}
+use Rattle.replay_theory.specs.Report.{report}
+use Rattle.replay_theory.proofs.AccessAnswers.{accesses_are_answered}
+use Rattle.replay_theory.proofs.Losses.{LosesAtMostItsWaste-run}
 use Rattle.profile_count.proofs.LawLemmas.{serves_each_request, waste_is_the_sum_of_losses}
 use Rattle.tagged_heap.specs.Config.{layout_for}
 use Rattle.tuner_theory.specs.Best.{IsCandidate}
@@ -13,7 +13,7 @@ use Rattle.mte_engine.specs.Traces.{profile_of_events}
 use Rattle.mte_engine.specs.Replay.{report_on}
 use Rattle.mte_engine.specs.declared.engine.Status.TheVariants.{Done}
 use Rattle.class_tuner.specs.Tuned.{IsTuned}
-use Rattle.heap_theory.specs.declared.event.Event.{Event}
+use Rattle.trace_event.specs.declared.event.Event.{Event}
 use Rattle.potential_check.specs.SheetText.{sheet_text}
 use Rattle.tagged_heap.specs.declared.heap.Config.{Config}
 use Rattle.tuner_theory.specs.Sheets.{Sheet}

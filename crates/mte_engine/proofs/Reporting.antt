@@ -2,10 +2,10 @@
 use Rattle.std.proofs.Common.{◌≡◌, ◌≤◌, ℕ, ◌+◌, ◌-◌, List, [], ◌∷◌, ◌++◌, length, take, drop, refl, sym, ap, ◌∙◌, append_assoc, append-nil, take_all, arith}
 use Rattle.std.proofs.lemmas.List.{drop-take}
 use Rattle.std.proofs.Math.Seq.{take-append_seam}
-use Rattle.heap_theory.specs.Report.{report, report_line, totals_text}
-use Rattle.heap_theory.specs.Replay.{answer_of}
-use Rattle.heap_theory.specs.Totals.{totals_after}
-use Rattle.heap_theory.specs.declared.event.Event.{Event}
+use Rattle.replay_theory.specs.Report.{report, report_line, totals_text}
+use Rattle.replay_theory.specs.Replay.{answer_of}
+use Rattle.replay_theory.specs.Totals.{totals_after}
+use Rattle.trace_event.specs.declared.event.Event.{Event}
 use Rattle.replay_core.specs.ReplayState.{Stored, first_stored, lines_of, stored_after, stored_of}
 use Rattle.replay_core.proofs.LawLemmas.{lines_of_none, lines_of_one_more, report_is_lines_and_totals, stored_of_none, stored_of_one_more}
 use Rattle.class_table.specs.Layout.{Partition}

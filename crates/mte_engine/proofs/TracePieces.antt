@@ -2,9 +2,9 @@
 use Rattle.std.proofs.Common.{◌≡◌, ℕ, ◌+◌, ◌≤◌, List, [], ◌∷◌, ◌++◌, length, Option, Some, None, Ok, Err, refl, sym, ap, ◌∙◌, arith, append-nil}
 use Rattle.std.proofs.lemmas.List.{length-append}
 use Rattle.std.proofs.lemmas.List.Elements.{filter_map-append}
-use Rattle.heap_theory.specs.Losses.{requested_sizes}
-use Rattle.heap_theory.specs.Totals.{request_size}
-use Rattle.heap_theory.specs.declared.event.Event.{Event}
+use Rattle.replay_theory.specs.Losses.{requested_sizes}
+use Rattle.replay_theory.specs.Totals.{request_size}
+use Rattle.trace_event.specs.declared.event.Event.{Event}
 use Rattle.profile_count.specs.Counts.{nothing_counted}
 use Rattle.profile_count.specs.ProfileText.{profile_text}
 use Rattle.profile_count.specs.Requests.{profile_of_sizes}

@@ -1,7 +1,7 @@
 -- The answers of `profile`: the profile of a trace.
 use Rattle.std.specs.Prelude.{◌≡◌, ℕ, List, Result, Ok}
 use Rattle.line_text.specs.FirstFault.{◌>>=◌}
-use Rattle.heap_theory.specs.declared.event.Event.{Event}
+use Rattle.trace_event.specs.declared.event.Event.{Event}
 use Rattle.profile_count.specs.ProfileText.{profile_text}
 use Rattle.trace_reader.specs.TraceText.{trace_of}
 use Rattle.mte_engine.specs.Outcome.{Answer}

@@ -4,8 +4,8 @@ use Rattle.line_text.specs.FirstFault.{◌>>=◌}
 use Rattle.line_text.specs.Lines.{lines}
 use Rattle.class_table.specs.ClassLine.{table_of_line}
 use Rattle.class_table.specs.declared.fault.TableError.TheVariants.{BadLine}
-use Rattle.heap_theory.specs.Report.{report}
-use Rattle.heap_theory.specs.declared.event.Event.{Event}
+use Rattle.replay_theory.specs.Report.{report}
+use Rattle.trace_event.specs.declared.event.Event.{Event}
 use Rattle.tagged_heap.specs.Config.{layout_for}
 use Rattle.tagged_heap.specs.declared.heap.Config.{Config}
 use Rattle.trace_reader.specs.TraceText.{trace_from}

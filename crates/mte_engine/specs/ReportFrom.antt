@@ -1,8 +1,8 @@
 -- What is still to be reported in a replay.
 use Rattle.std.specs.Prelude.{ℕ, ◌+◌, ◌≤◌, ◌^◌, Bool, true, false, List, [], ◌∷◌, ◌++◌, length}
-use Rattle.heap_theory.specs.Report.{report_line, totals_text}
-use Rattle.heap_theory.specs.Replay.{answer_of}
-use Rattle.heap_theory.specs.declared.event.Event.{Event}
+use Rattle.replay_theory.specs.Report.{report_line, totals_text}
+use Rattle.replay_theory.specs.Replay.{answer_of}
+use Rattle.trace_event.specs.declared.event.Event.{Event}
 use Rattle.replay_core.specs.ReplayState.{Stored, stored_after}
 
 -- The lines of the events that are still to come, and then the totals after all of them.

@@ -3,12 +3,12 @@
 use Rattle.std.specs.Prelude.{◌≡◌, ℕ, ◌≤◌, List, ◌++◌, length, zip, Result, Ok, Err}
 use Rattle.class_table.specs.Tables.{IsLegalTable, rounding_loss}
 use Rattle.class_tuner.specs.Tuned.{IsTuned}
-use Rattle.heap_theory.specs.AccessLaws.{AccessesAreAnswered}
-use Rattle.heap_theory.specs.Losses.{ServesEach, counted_sizes, refused_reallocs}
-use Rattle.heap_theory.specs.Report.{report_lines, totals_text}
-use Rattle.heap_theory.specs.Replay.{Replay, answers, first_replay, Answer as HeapAnswer}
-use Rattle.heap_theory.specs.Totals.{Totals, totals_of}
-use Rattle.heap_theory.specs.declared.event.Event.{Event}
+use Rattle.replay_theory.specs.AccessLaws.{AccessesAreAnswered}
+use Rattle.replay_theory.specs.Losses.{ServesEach, counted_sizes, refused_reallocs}
+use Rattle.replay_theory.specs.Report.{report_lines, totals_text}
+use Rattle.replay_theory.specs.Replay.{Replay, answers, first_replay, Answer as HeapAnswer}
+use Rattle.replay_theory.specs.Totals.{Totals, totals_of}
+use Rattle.trace_event.specs.declared.event.Event.{Event}
 use Rattle.potential_check.specs.SheetText.{sheet_text}
 use Rattle.tagged_heap.specs.Config.{layout_for}
 use Rattle.tagged_heap.specs.declared.heap.Config.{Config}

@@ -1,8 +1,8 @@
 -- The trace in an input, and what the engines over traces keep of it while they read.
 use Rattle.std.specs.Prelude.{◌≡◌, ℕ, ◌+◌, Bool, true, false, List, [], ◌∷◌, ◌++◌, Option, Some, None, Result, Ok, Err, ⊤, drop, slice_index_or}
 use Rattle.line_text.specs.Lines.{lines, IsLine}
-use Rattle.heap_theory.specs.Losses.{requested_sizes}
-use Rattle.heap_theory.specs.declared.event.Event.{Event}
+use Rattle.replay_theory.specs.Losses.{requested_sizes}
+use Rattle.trace_event.specs.declared.event.Event.{Event}
 use Rattle.profile_count.specs.Requests.{profile_of_sizes}
 use Rattle.trace_reader.specs.Reading.{Reading, State, fed, nothing_read}
 use Rattle.trace_reader.specs.Reading.State.{Failed, Finished}

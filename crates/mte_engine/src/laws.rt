@@ -8,9 +8,9 @@ ghost use Rattle.class_table.specs.declared.layout.TheConstants.{FEWEST_GRANULES
 ghost use Rattle.class_table.specs.declared.sizes.TheConstants.{GRANULE_BYTES, LARGEST_CLASS, MOST_NEEDS, SMALLEST_CLASS};
 ghost use Rattle.class_table.specs.declared.table.TheConstants.{MOST_CLASSES};
 ghost use Rattle.class_tuner.specs.Tuned.{IsTuned};
-ghost use Rattle.heap_theory.specs.declared.event.Event.{Event};
-ghost use Rattle.heap_theory.specs.declared.event.TheConstants.Event.{FARTHEST_ACCESS, FARTHEST_MOVE, LARGEST_REQUEST};
-ghost use Rattle.heap_theory.specs.declared.event.TheConstants.Event.{LARGEST_TAG_STEP, LAST_VARIABLE, LONGEST_ACCESS};
+ghost use Rattle.trace_event.specs.declared.event.Event.{Event};
+ghost use Rattle.trace_event.specs.declared.event.TheConstants.Event.{FARTHEST_ACCESS, FARTHEST_MOVE, LARGEST_REQUEST};
+ghost use Rattle.trace_event.specs.declared.event.TheConstants.Event.{LARGEST_TAG_STEP, LAST_VARIABLE, LONGEST_ACCESS};
 ghost use Rattle.history_count.specs.HistoryText.{SpellsHistory};
 ghost use Rattle.history_count.specs.declared.fault.HistoryFault.{HistoryFault};
 ghost use Rattle.line_text.specs.FirstFault.{IsFirstFault};

@@ -1,5 +1,5 @@
 //! The report of a replay, as an engine writes it.
-ghost use Rattle.heap_theory.specs.Report.{totals_text};
+ghost use Rattle.replay_theory.specs.Report.{totals_text};
 ghost use Rattle.mte_engine.specs.Replay.{report_on};
 ghost use Rattle.mte_engine.specs.declared.report.TheConstants.{BUFFER};
 ghost use Rattle.tagged_heap.specs.Config.{IsConfig};

@@ -83,7 +83,7 @@ fn score_of_profile(
     }
 }
 
-// the line of these words and a number, with its newline
+/// The line of these words and a number, with its newline.
 pub(crate) fn numbered_line(alloc: Global, words: &[u8], number: u64) -> Result<Text, AllocError>
     ensures { IfOk result (λ text. text_left text ≡ words.now ++ decimal number ++ 10 ∷ []) }
 {

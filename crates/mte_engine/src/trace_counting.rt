@@ -1,6 +1,6 @@
 //! Counting what the events of a trace request.
 ghost use Rattle.std.specs.Prelude.{◌≡◌, ◌++◌, ◌+◌, ◌<◌, ◌≤◌, List, ℕ, [], ◌∷◌, length, false, IfOk, OnOk};
-ghost use Rattle.heap_theory.specs.Losses.{requested_sizes};
+ghost use Rattle.replay_theory.specs.Losses.{requested_sizes};
 ghost use Rattle.profile_count.specs.Requests.{profile_of_sizes};
 ghost use Rattle.trace_reader.specs.TraceLine.{most_events};
 ghost use Rattle.tuner_theory.specs.Profiles.{greatest_count};

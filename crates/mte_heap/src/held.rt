@@ -5,5 +5,6 @@ use tagged_heap::Heap;
 /// A heap in memory.
 #[derive(Drop)]
 pub struct Held {
+    /// The heap that the calls on the handle change.
     pub heap: Heap,
 }

@@ -1,15 +1,17 @@
 ghost use Rattle.std.specs.Prelude.{◌≡◌};
 ghost use Rattle.potential_check.specs.SheetText.{word_of};
 
-// what a certificate is of: the waste in a sheet, the footprint in a fit
+/// What a certificate is of: the waste in a sheet, the footprint in a fit.
 #[derive(Clone, Copy)]
 pub(crate) enum Cost {
+    /// The bytes that rounding loses over a profile.
     Waste,
+    /// The bytes that all classes take, each at its greatest over a history.
     Footprint,
 }
 
 impl Cost {
-    // the first word of the line that states it
+    /// The first word of the line that states it.
     pub(crate) fn word(self) -> &'static [u8]
         ensures { result.now ≡ word_of self }
     {

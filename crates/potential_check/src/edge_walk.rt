@@ -10,7 +10,7 @@ use crate::row_conditions::{exceeds_edge, word_bound};
 use crate::spans::Spans;
 
 /// Whether each number of a row is within its edges, and exactly what one of them allows.
-// Not inlined: in a large caller the walk's values would be kept in memory.
+/// Not inlined: in a large caller the walk's values would be kept in memory.
 #[inline(never)]
 pub(crate) fn is_tight_row(spans: &Spans, before: &[u64], row: &[u64]) -> bool
     requires step { IsStep spans.now.step }

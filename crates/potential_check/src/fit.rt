@@ -23,7 +23,7 @@ pub struct Fit {
 }
 
 impl Fit {
-    // the fit of which this was read, with its footprint in the place of a sheet's waste
+    /// The fit of which this was read, with its footprint in the place of a sheet's waste.
     pub(crate) fn of_sheet(sheet: Sheet) -> Fit
         ensures { fit_of result ≡ fit_of_sheet (sheet_of sheet) }
     {

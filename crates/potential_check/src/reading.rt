@@ -1,3 +1,4 @@
+//! How a text spells a sheet or a fit, and a text that begins with one.
 ghost use Rattle.std.specs.Prelude.{◌≡◌, ℕ, ◌≤◌, ◌+◌, [], true, length, drop, IfNone, IfOk, IfSome};
 ghost use Rattle.std.specs.List.{take_while};
 ghost use Rattle.std.specs.Option.{ok_or, option_map};

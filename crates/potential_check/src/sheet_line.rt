@@ -10,22 +10,26 @@ use class_table::{ClassTable, MOST_CLASSES, MOST_NEEDS, is_step};
 use line_text::{Number, Words, number_in, words_in};
 use std::alloc::{AllocError, Global};
 
+/// The first word of the line with the limit of a sheet or a fit.
 pub(crate) const LIMIT: &[u8] = b"limit";
 
+/// The first word of the line with its step.
 pub(crate) const STEP: &[u8] = b"step";
 
+/// The first word of each line with a row.
 pub(crate) const ROW: &[u8] = b"row";
 
 // no table has more classes than this
 const MOST_LIMIT: u64 = MOST_CLASSES as u64;
 
-// the table that a line spells
+/// The table that a line spells.
 pub(crate) fn table_in(line: &[u8]) -> Option<ClassTable>
     ensures { result ≡ table_in line.now }
 {
     ClassTable::from_line(line).ok()
 }
 
+/// The limit that a line spells, 1 to 32 classes.
 pub(crate) fn limit_in(line: &[u8]) -> Option<u8>
     ensures { result ≡ limit_in line.now }
 {
@@ -35,7 +39,7 @@ pub(crate) fn limit_in(line: &[u8]) -> Option<u8>
     }
 }
 
-// the step that the words after the name spell, which is never 1
+/// The step that the words after the name spell, which is never 1.
 pub(crate) fn step_of_words(words: Words<'_>) -> Option<u8>
     ensures { result ≡ step_of_words words.entry }
 {
@@ -45,13 +49,14 @@ pub(crate) fn step_of_words(words: Words<'_>) -> Option<u8>
     }
 }
 
+/// The waste or the footprint that a line spells, in bytes.
 pub(crate) fn cost_in(cost: Cost, line: &[u8]) -> Option<u64>
     ensures { result ≡ cost_in cost line.now }
 {
     only_number(words_after(cost.word(), line)?)
 }
 
-// the numbers of a row, which are the words after the name
+/// The numbers of a row, which are the words after the name.
 pub(crate) fn row_of_words(
     alloc: Global,
     mut words: Words<'_>,
@@ -71,7 +76,7 @@ pub(crate) fn row_of_words(
     Ok(Some(row))
 }
 
-// the words of a line after this name, if it is the first word
+/// The words of a line after this name, if it is the first word.
 pub(crate) fn words_after<'a>(name: &[u8], line: &'a [u8]) -> Option<Words<'a>>
     ensures { result ≡ words_after name.now (words line.now) }
 {

@@ -1,3 +1,4 @@
+//! The texts of sheets and fits.
 ghost use Rattle.std.specs.Prelude.{◌≡◌, ◌≤◌, ◌++◌, length, map, OnOk, OnErr};
 ghost use Rattle.line_text.specs.Lines.{ended, text_of};
 ghost use Rattle.class_table.specs.ClassLine.{class_line};

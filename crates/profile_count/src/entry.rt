@@ -21,8 +21,8 @@ pub enum Entry {
     Large(u32),
 }
 
-// Takes the next line, and returns what it counts; `None` if no line is left. `next` is the least size that may come, `large` the count
-// of the `large` line, 0 if none came.
+/// Takes the next line, and returns what it counts; `None` if no line is left. `next` is the least size that may come, `large` the count
+/// of the `large` line, 0 if none came.
 #[inline(always)]
 pub(crate) fn next_entry(
     next: u32,
@@ -42,7 +42,7 @@ pub(crate) fn next_entry(
     Some(entry_in(next, large, lines.next()?))
 }
 
-// What a line counts. `next` is the least size that may come, `large` the count of the `large` line, 0 if none came.
+/// What a line counts. `next` is the least size that may come, `large` the count of the `large` line, 0 if none came.
 pub(crate) fn entry_in(next: u32, large: u32, line: &[u8]) -> Result<Entry, ProfileFault>
     ensures entry { result ≡ entry_of next large (words line.now) }
     ensures next { IfOk result (λ entry. IsNext next large entry) }

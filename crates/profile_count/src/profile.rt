@@ -1,3 +1,4 @@
+//! The counts of a profile, and what follows from them alone.
 ghost use Rattle.std.specs.Prelude.{◌≡◌, ◌↔◌, ◌<◌, ◌≤◌, ◌+◌, ◌^◌, ℕ, slice_index, None, IsErr, IsSome, IfOk, IfSome, IfNone, OnErr, OnOk};
 ghost use Rattle.class_table.specs.Tables.{class_for};
 ghost use Rattle.tuner_theory.specs.Profiles.{IsCounted, IsProfile};
@@ -81,7 +82,7 @@ impl Profile {
         self.counts[n as usize] = count;
     }
 
-    // Sets the count of the large requests.
+    /// Sets the count of the large requests.
     pub(crate) fn set_large(&mut self, count: u32)
         requires { count ≤ GREATEST_COUNT }
         ensures { self.new ≡ with_large self.old count }

@@ -1,3 +1,4 @@
+//! How a text spells a profile.
 ghost use Rattle.profile_count.specs.ProfileText.{GivesProfile, profile_of};
 
 use crate::entry::{Entry, next_entry};

@@ -9,7 +9,7 @@ ghost use Rattle.tuner_theory.specs.Waste.{sum_below, waste_of};
 use class_table::{ClassTable, GRANULE_BYTES, LARGEST_COUNTED};
 use tuner_theory::GREATEST_COUNT;
 
-// the least counted size that has no class
+/// The least counted size that has no class.
 pub(crate) fn first_unserved(counts: &[u32], table: &ClassTable) -> Option<u16>
     requires { length counts.now ≤ 65536 }
     ensures { result ≡ unserved_of counts.now table.now }
@@ -22,7 +22,7 @@ pub(crate) fn first_unserved(counts: &[u32], table: &ClassTable) -> Option<u16>
     None
 }
 
-// what the counted requests lose in the classes of their sizes
+/// What the counted requests lose in the classes of their sizes.
 pub(crate) fn table_losses(counts: &[u32], table: &ClassTable) -> u64
     requires { AreCounts counts.now }
     ensures waste { result ≡ waste_of counts.now table.now }

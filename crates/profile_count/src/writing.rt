@@ -1,3 +1,4 @@
+//! The text of a profile.
 ghost use Rattle.std.specs.Prelude.{◌≡◌, [], ◌∷◌, ◌++◌, OnOk, OnErr};
 ghost use Rattle.class_table.specs.NamedLines.{named_line};
 ghost use Rattle.line_text.specs.Lines.{ended, text_of};

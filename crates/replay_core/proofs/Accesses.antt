@@ -6,9 +6,8 @@ use Rattle.std.proofs.lemmas.Int.{to_z-of_z, fits_signed_from_abs}
 use Rattle.machine_theory.specs.declared.fault.Fault.{Fault}
 use Rattle.machine_theory.specs.Access.{IsMapped, access_fault, is_mapped, ok_unless, stored}
 use Rattle.machine_theory.specs.Address.{logical_tag, moved_by}
-use Rattle.heap_theory.specs.AccessLaws.{IsTaggedOrUnmapped}
-use Rattle.heap_theory.specs.Hardening.{IsNullOrTagged}
-use Rattle.heap_theory.specs.Replay.{store_with, store_step}
+use Rattle.heap_theory.specs.HeapTags.{IsTaggedOrUnmapped, IsNullOrTagged}
+use Rattle.heap_theory.specs.Calls.{store_with, store_step}
 use Rattle.heap_theory.specs.Sound.{IsSoundHeap}
 use Rattle.heap_theory.specs.State.{Heap}
 use Rattle.replay_core.proofs.TheoryLemmas as laws

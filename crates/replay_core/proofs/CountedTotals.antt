@@ -4,9 +4,9 @@ use Rattle.std.specs.Prelude.{All, is_some}
 use Rattle.std.specs.Option.{option_map_or}
 use Rattle.class_table.specs.Sizes.{loss_of, serves}
 use Rattle.class_table.specs.Tables.{IsLegalTable, class_for, loss_of_size}
-use Rattle.heap_theory.specs.declared.event.Event.{Event}
-use Rattle.heap_theory.specs.Replay.{Answer, is_large, is_no_class, is_exhausted, is_tag_fault, is_unmapped, is_refused, is_silent}
-use Rattle.heap_theory.specs.Totals.{Totals, is_request, request_size, loss_of_request, loss_of_event, one_if, totals_after, with_answer, with_request}
+use Rattle.trace_event.specs.declared.event.Event.{Event}
+use Rattle.replay_theory.specs.Replay.{Answer, is_large, is_no_class, is_exhausted, is_tag_fault, is_unmapped, is_refused, is_silent}
+use Rattle.replay_theory.specs.Totals.{Totals, is_request, request_size, loss_of_request, loss_of_event, one_if, totals_after, with_answer, with_request}
 use Rattle.replay_core.specs.TotalsBounds.{AreBounded}
 
 loss_of_size-le : (classes : List ℕ) (n : ℕ) → All (λ class. (2 ≤ class) × (class ≤ 1024)) classes → loss_of_size classes n ≤ 16368

@@ -1,10 +1,10 @@
 -- The types of the code, as the definitions see them.
 use Rattle.std.specs.Prelude.{◌≡◌, ℕ, ◌≤◌, List, length, take, ⊤}
-use Rattle.heap_theory.specs.Hardening.{AreNullOrTagged}
-use Rattle.heap_theory.specs.Replay.{Replay, Answer}
-use Rattle.heap_theory.specs.Replay.Answer.{Silent, Loaded, NotMapped, TagFault, NoPointer, NotFreed}
+use Rattle.replay_theory.specs.Hardening.{AreNullOrTagged}
+use Rattle.replay_theory.specs.Replay.{Replay, Answer}
+use Rattle.replay_theory.specs.Replay.Answer.{Silent, Loaded, NotMapped, TagFault, NoPointer, NotFreed}
 use Rattle.heap_theory.specs.State.{Heap}
-use Rattle.heap_theory.specs.Totals.{Totals}
+use Rattle.replay_theory.specs.Totals.{Totals}
 use Rattle.replay_core.specs.declared.answer.Answer.{Answer as TheAnswer}
 use Rattle.replay_core.specs.declared.answer.Answer.TheVariants.{Silent as ItIsSilent, Loaded as ItLoaded, NotMapped as ItIsNotMapped, TagFault as ItIsATagFault, NoPointer as ItHasNoPointer, NotFreed as ItIsNotFreed}
 use Rattle.replay_core.specs.declared.totals.Totals.{Totals as TheTotals}

@@ -1,26 +1,27 @@
 //! Loads and stores through a variable.
-ghost use Rattle.heap_theory.specs.AccessLaws.{IsTaggedOrUnmapped};
-ghost use Rattle.heap_theory.specs.Replay.{fault_answer, load_answer, store_answer, store_step};
+ghost use Rattle.heap_theory.specs.HeapTags.{IsTaggedOrUnmapped};
+ghost use Rattle.replay_theory.specs.Replay.{fault_answer, load_answer, store_answer};
+ghost use Rattle.heap_theory.specs.Calls.{store_step};
 ghost use Rattle.machine_theory.specs.Address.{moved_by};
 ghost use Rattle.replay_core.specs.TheoryValues.{FitsBuffer, shown};
 ghost use Rattle.std.specs.Prelude.{◌≡◌, ◌≤◌, List, replicate, ℕ};
 
 use crate::answer::Answer;
-use heap_theory::Event;
 use tag_machine::Fault;
 use tagged_heap::Heap;
+use trace_event::Event;
 
 /// The most bytes of an access.
 pub(crate) const LONGEST_ACCESS: usize = Event::LONGEST_ACCESS as usize;
 
-// The address `off` bytes after another one, modulo 2^64.
+/// The address `off` bytes after another one, modulo 2^64.
 pub(crate) fn moved_by(address: u64, off: i32) -> u64
     ensures { result ≡ moved_by address off }
 {
     address.wrapping_add_signed(i64::from(off))
 }
 
-// Loads `len` bytes into the first bytes of `bytes`. The address must have a tag other than 0, or the access must not be mapped.
+/// Loads `len` bytes into the first bytes of `bytes`. The address must have a tag other than 0, or the access must not be mapped.
 pub(crate) fn load(heap: &Heap, address: u64, len: u8, bytes: &mut [u8; LONGEST_ACCESS]) -> Answer
     requires len { (1 ≤ len) × (len ≤ LONGEST_ACCESS) }
     requires tagged { IsTaggedOrUnmapped heap.now.state address len }
@@ -33,8 +34,8 @@ pub(crate) fn load(heap: &Heap, address: u64, len: u8, bytes: &mut [u8; LONGEST_
     }
 }
 
-// Stores `len` bytes of this value. The address must have a tag other than 0, or the access must not be mapped.
-#[tactic(auto, unfolding(heap_theory::specs::Replay::store_step))]
+/// Stores `len` bytes of this value. The address must have a tag other than 0, or the access must not be mapped.
+#[tactic(auto, unfolding(heap_theory::specs::Calls::store_step))]
 pub(crate) fn store(heap: &mut Heap, address: u64, len: u8, byte: u8) -> Answer
     requires len { (1 ≤ len) × (len ≤ LONGEST_ACCESS) }
     requires tagged { IsTaggedOrUnmapped heap.old.state address len }

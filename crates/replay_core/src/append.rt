@@ -5,7 +5,7 @@ ghost use Rattle.std.specs.Prelude.{◌≡◌, ◌++◌, ◌+◌, ◌≤◌, len
 use arrayvec::ArrayVec;
 use itoa::Buffer;
 
-// appends bytes
+/// Appends bytes.
 pub(crate) fn append<const N: usize>(text: &mut ArrayVec<u8, N>, bytes: &[u8])
     requires { length text.old.items + length bytes.now ≤ N }
     ensures items { text.new.items ≡ text.old.items ++ bytes.now }
@@ -14,7 +14,7 @@ pub(crate) fn append<const N: usize>(text: &mut ArrayVec<u8, N>, bytes: &[u8])
     let _ = text.try_extend_from_slice(bytes);
 }
 
-// appends a number in decimal
+/// Appends a number in decimal.
 pub(crate) fn append_number<const N: usize>(text: &mut ArrayVec<u8, N>, number: u64)
     requires { length text.old.items + 20 ≤ N }
     ensures items { text.new.items ≡ text.old.items ++ decimal number }

@@ -1,9 +1,9 @@
 //! What an event requests, and the ranges of its numbers.
-ghost use Rattle.heap_theory.specs.Ranges.{IsAccessOf, IsInRange, IsMove, IsVariable};
-ghost use Rattle.heap_theory.specs.Totals.{request_size};
+ghost use Rattle.trace_event.specs.Ranges.{IsAccessOf, IsInRange, IsMove, IsVariable};
+ghost use Rattle.replay_theory.specs.Totals.{request_size};
 ghost use Rattle.std.specs.Prelude.{◌≡◌, ◌↔◌, IsTrue};
 
-use heap_theory::Event;
+use trace_event::Event;
 
 /// The bytes that an event requests, if it is a request: a malloc, a calloc or a realloc.
 pub fn request_size(event: &Event) -> Option<u32>

@@ -1,18 +1,18 @@
-//! What holds for every replay. Each law is the contract of a call that does nothing. The laws of whole runs come from `heap_theory`. A
+//! What holds for every replay. Each law is the contract of a call that does nothing. The laws of whole runs come from `replay_theory`. A
 //! `Replay` is what is stored of some run (`law_reached`), so they hold for it.
 ghost use Rattle.class_table.specs.Layout.{Partition};
-ghost use Rattle.heap_theory.specs.Replay.{answer_of};
-ghost use Rattle.heap_theory.specs.Report.{report, report_line, totals_text};
-ghost use Rattle.heap_theory.specs.declared.event.Event.{Event};
+ghost use Rattle.replay_theory.specs.Replay.{answer_of};
+ghost use Rattle.replay_theory.specs.Report.{report, report_line, totals_text};
+ghost use Rattle.trace_event.specs.declared.event.Event.{Event};
 ghost use Rattle.replay_core.specs.ReplayState.{IsStored, first_stored, lines_of, stored_after, stored_of};
 ghost use Rattle.std.specs.Prelude.{◌≡◌, ◌+◌, ◌++◌, [], ◌∷◌, List, ℕ};
 
 use crate::replay::Replay;
-pub use heap_theory::laws::hardening::{
+pub use replay_theory::laws::hardening::{
     law_bookkeeping, law_chunk_tags, law_copied_pointer, law_delay, law_freed, law_inside,
     law_life, law_neighbours, law_own_pointer,
 };
-pub use heap_theory::laws::run::{law_accesses, law_states};
+pub use replay_theory::laws::run::{law_accesses, law_states};
 
 /// What is stored of a run with one more event follows from the event and from what was stored before it, and so does that event's line of
 /// the report. What is stored after all events determines the lines of totals. So the lines that steps from a new replay on write, and then

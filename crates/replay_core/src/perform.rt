@@ -1,7 +1,7 @@
 //! What an event does to the heap and to the variables.
 ghost use Rattle.heap_theory.specs.Calls.{free_step, realloc_step};
-ghost use Rattle.heap_theory.specs.Ranges.{IsInRange};
-ghost use Rattle.heap_theory.specs.Replay.{answer_of, free_answer, malloc_answer, realloc_answer, replay_after};
+ghost use Rattle.trace_event.specs.Ranges.{IsInRange};
+ghost use Rattle.replay_theory.specs.Replay.{answer_of, free_answer, malloc_answer, realloc_answer, replay_after};
 ghost use Rattle.heap_theory.specs.Sound.{IsSoundHeap};
 ghost use Rattle.replay_core.specs.TheoryValues.{AreVariables, FitsBuffer, over, shown};
 ghost use Rattle.std.specs.Prelude.{◌≡◌, ◌+◌, ◌^◌, ◌<◌, ◌≤◌, List, length, slice_index, slice_set, ℕ};
@@ -9,11 +9,12 @@ ghost use Rattle.std.specs.Result.{result_unwrap_or};
 
 use crate::access::{LONGEST_ACCESS, load, moved_by, store};
 use crate::answer::Answer;
-use heap_theory::{Event, NullCause, ReallocError};
+use heap_theory::{NullCause, ReallocError};
 use tagged_heap::Heap;
+use trace_event::Event;
 
-// Performs the event. A load fills the first bytes of `bytes`.
-#[tactic(auto, unfolding(heap_theory::specs::Replay::replay_after, heap_theory::specs::Replay::heap_after, heap_theory::specs::Replay::variables_after, heap_theory::specs::Replay::answer_of))]
+/// Performs the event. A load fills the first bytes of `bytes`.
+#[tactic(auto, unfolding(replay_theory::specs::Replay::replay_after, replay_theory::specs::Replay::heap_after, replay_theory::specs::Replay::variables_after, replay_theory::specs::Replay::answer_of))]
 pub(crate) fn perform(
     heap: &mut Heap,
     variables: &mut [u64],

@@ -35,7 +35,7 @@ static PAIRS: [[u8; 2]; 256] = [
 // how many bytes have their digits written without a loop
 const STRIDE: usize = 8;
 
-// writes bytes
+/// Writes bytes.
 pub(crate) fn put(text: &mut [u8], at: usize, bytes: &[u8]) -> usize
     requires { at + length bytes.now ≤ length text.old }
     ensures end { result ≡ at + length bytes.now }
@@ -48,7 +48,7 @@ pub(crate) fn put(text: &mut [u8], at: usize, bytes: &[u8]) -> usize
     at + bytes.len()
 }
 
-// writes a number in decimal
+/// Writes a number in decimal.
 pub(crate) fn put_number(text: &mut [u8], at: usize, number: u64) -> usize
     requires { at + 20 ≤ length text.old }
     ensures end { result ≤ at + 20 }
@@ -60,7 +60,7 @@ pub(crate) fn put_number(text: &mut [u8], at: usize, number: u64) -> usize
     put(text, at, Buffer::new().format(number).as_bytes())
 }
 
-// writes two digits for each byte
+/// Writes two digits for each byte.
 pub(crate) fn put_hex(text: &mut [u8], at: usize, bytes: &[u8]) -> usize
     requires { at + 2 * length bytes.now ≤ length text.old }
     ensures end { result ≡ at + 2 * length bytes.now }

@@ -1,7 +1,7 @@
-ghost use Rattle.heap_theory.specs.Run.{Run, run_after};
-ghost use Rattle.heap_theory.specs.Ranges.{IsInRange};
-ghost use Rattle.heap_theory.specs.Report.{report_line};
-ghost use Rattle.heap_theory.specs.Replay.{answer_of};
+ghost use Rattle.replay_theory.specs.Run.{Run, run_after};
+ghost use Rattle.trace_event.specs.Ranges.{IsInRange};
+ghost use Rattle.replay_theory.specs.Report.{report_line};
+ghost use Rattle.replay_theory.specs.Replay.{answer_of};
 ghost use Rattle.replay_core.specs.ReplayState.{first_stored, stored_after};
 ghost use Rattle.tagged_heap.specs.Config.{IsConfig, layout_for};
 ghost use Rattle.std.specs.Prelude.{◌≡◌, ◌++◌, ◌+◌, ◌^◌, ◌<◌, ◌≤◌, IfOk, length, take};
@@ -13,15 +13,15 @@ use crate::report_line::write_line;
 use crate::totals::Totals;
 use arrayvec::ArrayVec;
 use class_table::{ClassTable, MOST_CLASSES};
-use heap_theory::Event;
 use std::alloc::{AllocError, Global};
 use std::marker::Model;
 use tagged_heap::{Config, Heap};
+use trace_event::Event;
 
 /// Room for any report line with its newline, in bytes.
 pub const LINE_ROOM: usize = 160;
 
-// How many variables a trace has.
+/// How many variables a trace has.
 pub(crate) const VARIABLES: usize = Event::LAST_VARIABLE as usize + 1;
 
 /// The replay of a trace: a heap, and the 1,024 variables that the events of the trace set and use.

@@ -1,6 +1,6 @@
 //! The report's line of an event.
-ghost use Rattle.heap_theory.specs.Report.{cause_word, error_word, kind_word, report_line};
-ghost use Rattle.heap_theory.specs.Replay.Answer.{Loaded, TagFault};
+ghost use Rattle.replay_theory.specs.Report.{cause_word, error_word, kind_word, report_line};
+ghost use Rattle.replay_theory.specs.Replay.Answer.{Loaded, TagFault};
 ghost use Rattle.line_text.specs.Lines.{ended, line_of};
 ghost use Rattle.replay_core.specs.TheoryValues.{FitsBuffer, shown};
 ghost use Rattle.std.specs.Fmt.{decimal};
@@ -12,9 +12,9 @@ use crate::put::{put, put_hex, put_number};
 use crate::replay::LINE_ROOM;
 use heap_theory::{FreeError, NullCause, PlaceKind};
 
-// Writes the line of the event of this number with its newline, or nothing if the event has no line, into a text at a place, where it has
-// room for any line. Returns where the line ends. `bytes` holds what was loaded.
-#[tactic(auto, unfolding(heap_theory::specs::Report::report_line))]
+/// Writes the line of the event of this number with its newline, or nothing if the event has no line, into a text at a place, where it has
+/// room for any line. Returns where the line ends. `bytes` holds what was loaded.
+#[tactic(auto, unfolding(replay_theory::specs::Report::report_line))]
 pub(crate) fn write_line(
     text: &mut [u8],
     at: usize,

@@ -1,7 +1,7 @@
 ghost use Rattle.class_table.specs.Sizes.{largest_counted};
 ghost use Rattle.class_table.specs.Tables.{IsLegalTable};
-ghost use Rattle.heap_theory.specs.Report.{total_line, totals_text};
-ghost use Rattle.heap_theory.specs.Totals.{totals_after, with_answer, with_request};
+ghost use Rattle.replay_theory.specs.Report.{total_line, totals_text};
+ghost use Rattle.replay_theory.specs.Totals.{totals_after, with_answer, with_request};
 ghost use Rattle.line_text.specs.Lines.{ended};
 ghost use Rattle.replay_core.specs.TotalsBounds.{AreBounded};
 ghost use Rattle.replay_core.specs.TheoryValues.{shown, totals_in};
@@ -12,8 +12,9 @@ use crate::append::{append, append_number};
 use crate::event_fields::request_size;
 use crate::replay::Replay;
 use arrayvec::ArrayVec;
-use heap_theory::{Event, NullCause};
+use heap_theory::NullCause;
 use tagged_heap::Heap;
+use trace_event::Event;
 
 /// Room for the lines of totals, in bytes.
 pub const TOTALS_ROOM: usize = 512;
@@ -42,6 +43,7 @@ pub struct Totals {
 }
 
 impl Totals {
+    /// Those of no event.
     pub(crate) const NONE: Totals = Totals {
         events: 0,
         requests: 0,
@@ -70,7 +72,7 @@ impl Totals {
         append_total(text, b"loss", self.loss);
     }
 
-    // Counts one more event on a heap, by its answer.
+    /// Counts one more event on a heap, by its answer.
     pub(crate) fn count(&mut self, heap: &Heap, event: &Event, answer: &Answer)
         requires few { self.old.events < 2 ^ 40 }
         requires bounded { AreBounded (totals_in self.old) }

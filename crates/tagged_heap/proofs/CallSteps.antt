@@ -4,7 +4,7 @@ use Rattle.heap_theory.specs.Calls.{given_out, with_payload, move_with, moved, p
 use Rattle.heap_theory.specs.Lookups.{slot_for_request, Chunk, IsReusable}
 use Rattle.class_table.specs.Sizes.{chunk_granules}
 use Rattle.heap_theory.specs.State.{Heap, slot_in, state_at, is_fresh, pointer_to, is_released}
-use Rattle.std.specs.Prelude.{MatchResult, IfOk, IfErr, OnErr, IsTrue, is_some, ◌↔◌}
+use Rattle.std.specs.Prelude.{MatchResult, IfOk, IfErr, OnErr, IsTrue, if◌then◌else◌, is_some, ◌↔◌}
 use Rattle.std.specs.Result.{result_map_both, result_ok, IsErrAnd}
 use Rattle.std.proofs.lemmas.List.{get_or-set_other}
 use Rattle.heap_theory.specs.declared.refusal.NullCause.{NullCause}
@@ -19,7 +19,6 @@ use Rattle.heap_theory.specs.declared.refusal.ReallocError.{ReallocError}
 use Rattle.heap_theory.proofs.OwnPointers.{free_accepts, realloc_accepts}
 use Rattle.heap_theory.specs.OwnPointers.{IsNotRefused, IsNullOrOwn}
 use Rattle.heap_theory.specs.Sound.{IsSoundHeap}
-use Rattle.heap_theory.specs.Totals.{one_if}
 
 -- ---- what a slot that is given out leaves
 
@@ -61,7 +60,7 @@ IsMoved old chunk n new p =
 pub record IsMove (old new : HeapAndFrees) (chunk : Chunk) (n : ℕ) (r : Result ℕ NullCause) : Type 0 where
   pub answer : result_map_both (λ p. p) Null r ≡ (move_with old.state chunk n (slot_for_request old.state n)).answer
   pub state : new.state ≡ (move_with old.state chunk n (slot_for_request old.state n)).heap
-  pub counted : new.frees ≡ old.frees + one_if (is_some (result_ok (slot_for_request old.state n)))
+  pub counted : new.frees ≡ old.frees + (if is_some (result_ok (slot_for_request old.state n)) then 1 else 0)
 
 pub moves : (old new : HeapAndFrees) (chunk : Chunk) (n : ℕ) (r : Result ℕ NullCause) → IfOk r (IsMoved old chunk n new) →
     IfErr r (λ cause. slot_for_request old.state n ≡ Err cause) → OnErr r (new ≡ old) → IsMove old new chunk n r

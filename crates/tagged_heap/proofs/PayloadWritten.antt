@@ -9,7 +9,7 @@ use Rattle.machine_theory.specs.Memory.{Granule, bytes_at, written}
 use Rattle.machine_theory.proofs.AccessLaws.{IsMapped-from}
 use Rattle.machine_theory.proofs.ByteLaws.{bytes_at_agree}
 use Rattle.class_table.specs.Layout.{Partition, AreInOrder, end_of, slot_count, slot_of}
-use Rattle.heap_theory.specs.AccessLaws.{IsTaggedOrUnmapped}
+use Rattle.heap_theory.specs.HeapTags.{IsTaggedOrUnmapped}
 use Rattle.heap_theory.specs.Calls.{with_payload}
 use Rattle.heap_theory.specs.Region.{Region, region_of, header_in, headers_of, next_in}
 use Rattle.heap_theory.specs.State.{Heap, state_at, payload_start, is_header_granule, without_headers}

@@ -1,5 +1,5 @@
 //! The calls that read and write the region, and that look at it.
-ghost use Rattle.heap_theory.specs.AccessLaws.{IsTaggedOrUnmapped};
+ghost use Rattle.heap_theory.specs.HeapTags.{IsTaggedOrUnmapped};
 ghost use Rattle.heap_theory.specs.HeapInMemory.{HeaderWordsStay, IsKeptIn};
 ghost use Rattle.heap_theory.specs.GranuleKinds.{place_kind};
 ghost use Rattle.heap_theory.specs.Region.{region_of};

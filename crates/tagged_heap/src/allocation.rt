@@ -68,7 +68,7 @@ impl Heap {
         Ok(given.address)
     }
 
-    // Gives out the slot for a request of n bytes, or says why there is none.
+    /// Gives out the slot for a request of n bytes, or says why there is none.
     pub(crate) fn allocate(&mut self, n: u32) -> Result<Given, NullCause>
         ensures slot { result_map_both (λ given. given.slot) (λ cause. cause) result
             ≡ slot_for_request self.old.state n }

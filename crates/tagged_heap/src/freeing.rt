@@ -61,7 +61,7 @@ impl Heap {
         Ok(())
     }
 
-    // The live chunk at p, or why there is none.
+    /// The live chunk at p, or why there is none.
     pub(crate) fn chunk(&self, p: u64) -> Result<Chunk, FreeError>
         ensures ok { IfOk result
             (λ chunk. chunk_at self.now.state p ≡ Ok (record { slot = chunk.slot; size = chunk.size })) }
@@ -90,7 +90,7 @@ impl Heap {
         })
     }
 
-    // Takes a live chunk back.
+    /// Takes a live chunk back.
     pub(crate) fn free_chunk(&mut self, chunk: Chunk)
         requires live { IsChunk self.old.state chunk }
         requires few { self.old.frees < 2 ^ 48 }

@@ -38,19 +38,19 @@ impl Config {
 /// `memory` says what stands in the headers and how they are linked.
 #[derive(Drop)]
 pub struct Heap {
-    // the region with its tags, and the register of random tags
+    /// The region with its tags, and the register of random tags.
     pub(crate) machine: Machine,
-    // where the slots lie in the region
+    /// Where the slots lie in the region.
     pub(crate) layout: Layout,
-    // the freed slots that are held back, oldest first
+    /// The freed slots that are held back, oldest first.
     pub(crate) quarantine: Quarantine,
-    // the released slots of each class
+    /// The released slots of each class.
     pub(crate) lists: ClassLists,
-    // for each class the first of its slots that was never given out
+    /// For each class the first of its slots that was never given out.
     pub(crate) counters: ArrayVec<u32, MOST_CLASSES>,
-    // the bytes of all blocks that were freed
+    /// The bytes of all blocks that were freed.
     pub(crate) total: u64,
-    // how many chunks were freed
+    /// How many chunks were freed.
     pub(crate) frees: u64,
 }
 

@@ -1,12 +1,8 @@
-//! What holds for every heap. Each law is the contract of a call that does nothing. The laws of whole runs come from `heap_theory`.
-ghost use Rattle.heap_theory.specs.Hardening.{ChunksAreTagged, ParitiesDiffer};
+//! What holds for every heap. Each law is the contract of a call that does nothing. The laws of whole runs are in `replay_theory`.
+ghost use Rattle.heap_theory.specs.HeapTags.{ChunksAreTagged, ParitiesDiffer};
 ghost use Rattle.heap_theory.specs.Sound.{IsSoundHeap};
 
 use crate::heap::Heap;
-pub use heap_theory::laws::hardening::{
-    law_bookkeeping, law_chunk_tags, law_copied_pointer, law_delay, law_freed, law_inside,
-    law_life, law_neighbours, law_own_pointer,
-};
 pub use heap_theory::laws::headers::law_header_words;
 
 impl Heap {

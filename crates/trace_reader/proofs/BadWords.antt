@@ -1,7 +1,7 @@
 -- Lines whose words are too many, or of which one is empty.
 use Rattle.std.proofs.Common.{◌≡◌, ℕ, ◌<◌, Bool, true, false, cond, ◌||◌, List, [], ◌∷◌, ◌++◌, length, Result, Err, refl, arith, eq-eqb}
 use Rattle.std.specs.List.{list_any}
-use Rattle.heap_theory.specs.declared.event.Event.{Event}
+use Rattle.trace_event.specs.declared.event.Event.{Event}
 use Rattle.trace_reader.specs.declared.fault.TraceFault.{TraceFault}
 use Rattle.trace_reader.specs.declared.fault.TraceFault.TheVariants.{BadWord}
 use Rattle.trace_reader.specs.TraceLine.{event_of_words, event_named, is_empty_word}

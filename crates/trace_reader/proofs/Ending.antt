@@ -2,7 +2,7 @@
 use Rattle.std.proofs.Common.{◌≡◌, ℕ, suc, ◌+◌, Bool, true, false, cond, eqb, eq-eqb, ltb, List, [], ◌∷◌, ◌++◌, length, Result, Ok, Err, refl, sym, ap, ◌∙◌, arith, append_assoc, append-nil, add-one, Option, Some, None}
 use Rattle.std.proofs.lemmas.Bool.{ltb-true}
 use Rattle.line_text.specs.Lines.{IsLine}
-use Rattle.heap_theory.specs.declared.event.Event.{Event}
+use Rattle.trace_event.specs.declared.event.Event.{Event}
 use Rattle.trace_reader.specs.declared.fault.TraceError.{TraceError}
 use Rattle.trace_reader.specs.declared.fault.TraceError.TheVariants.{Line}
 use Rattle.trace_reader.specs.declared.fault.TraceFault.{TraceFault}

@@ -9,9 +9,9 @@ use Rattle.std.proofs.lemmas.List.Elements.{All-nil, All-cons}
 use Rattle.line_text.proofs.LawLemmas.{spelled_hex_is_a_word, spelled_hex_is_read, spelled_number_is_a_word, spelled_number_is_read, spelled_signed_is_a_word, spelled_signed_is_read, words_make_a_line, written_words_are_read}
 use Rattle.line_text.specs.Hexadecimal.{hex}
 use Rattle.line_text.specs.Lines.{words, line_of, is_newline, is_space, IsLine, IsWord}
-use Rattle.heap_theory.specs.declared.event.Event.{Event}
-use Rattle.heap_theory.specs.declared.event.Event.TheVariants.{Malloc, Calloc, Realloc, Free, Load, Store, Addg, Subg}
-use Rattle.heap_theory.specs.Ranges.{IsInRange}
+use Rattle.trace_event.specs.declared.event.Event.{Event}
+use Rattle.trace_event.specs.declared.event.Event.TheVariants.{Malloc, Calloc, Realloc, Free, Load, Store, Addg, Subg}
+use Rattle.trace_event.specs.Ranges.{IsInRange}
 use Rattle.trace_reader.specs.OnePass.{AreRead, IsRead}
 use Rattle.trace_reader.specs.TraceLine.{number_from, offset_of, byte_of, event_line, event_of_words, event_of_line, event_words, move_of, move_words, request_of, request_words}
 use Rattle.trace_reader.proofs.LineRanges.{both_pass}

@@ -11,11 +11,11 @@ use Rattle.line_text.specs.Lines.{words, lines}
 use Rattle.line_text.specs.Numbers.{number_of}
 use Rattle.line_text.specs.Signed.{signed_of}
 use Rattle.line_text.specs.Hexadecimal.{hex_of}
-use Rattle.heap_theory.specs.declared.event.Event.{Event}
-use Rattle.heap_theory.specs.declared.event.Event.TheVariants.{Malloc, Calloc, Realloc, Addg, Subg}
+use Rattle.trace_event.specs.declared.event.Event.{Event}
+use Rattle.trace_event.specs.declared.event.Event.TheVariants.{Malloc, Calloc, Realloc, Addg, Subg}
 use Rattle.trace_reader.specs.declared.fault.TraceFault.{TraceFault}
 use Rattle.trace_reader.specs.declared.fault.TraceFault.TheVariants.{BadWord, OutOfRange, LineTooLong, TooManyEvents}
-use Rattle.heap_theory.specs.Ranges.{IsInRange}
+use Rattle.trace_event.specs.Ranges.{IsInRange}
 use Rattle.trace_reader.specs.TraceLine.{ranged, number_from, variable_of, offset_of, len_of, byte_of, request_of, free_of, load_of, store_of, move_of, event_named, event_of_full_words, event_of_words, event_of_line, is_empty_word}
 
 -- ---- words

@@ -5,7 +5,7 @@ use Rattle.std.proofs.lemmas.Bool.Decides.{nat_tests}
 use Rattle.line_text.specs.Lines.{IsLine}
 use Rattle.line_text.specs.Prefixes.{IsPrefix}
 use Rattle.line_text.proofs.LawLemmas.{equal_is_prefix}
-use Rattle.heap_theory.specs.declared.event.Event.{Event}
+use Rattle.trace_event.specs.declared.event.Event.{Event}
 use Rattle.trace_reader.specs.declared.fault.TraceError.{TraceError}
 use Rattle.trace_reader.specs.declared.fault.TraceError.TheVariants.{OutOfMemory, Line}
 use Rattle.trace_reader.specs.declared.fault.TraceFault.{TraceFault}

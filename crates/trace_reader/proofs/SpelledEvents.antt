@@ -1,8 +1,8 @@
 -- Lines that are read in one pass, since they spell events.
 use Rattle.std.proofs.Common.{◌+◌, add-one, ◌≡◌, ℕ, suc, ◌<◌, true, List, [], ◌∷◌, ◌++◌, Ok, Err, refl, sym, ap, subst, ◌∙◌, arith}
 use Rattle.line_text.proofs.LawLemmas.{prefix_of_prefix}
-use Rattle.heap_theory.specs.declared.event.Event.{Event}
-use Rattle.heap_theory.specs.Ranges.{IsInRange}
+use Rattle.trace_event.specs.declared.event.Event.{Event}
+use Rattle.trace_event.specs.Ranges.{IsInRange}
 use Rattle.trace_reader.specs.declared.fault.TraceError.{TraceError}
 use Rattle.trace_reader.specs.declared.status.Status.{Status}
 use Rattle.trace_reader.specs.Reached.{HasReached, IsOnTheWay}

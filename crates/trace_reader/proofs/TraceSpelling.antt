@@ -4,9 +4,9 @@ use Rattle.std.specs.Prelude.{All}
 use Rattle.std.proofs.lemmas.List.Elements.{All-nil, All-cons, All-head, All-tail}
 use Rattle.line_text.proofs.LawLemmas.{full_lines_are_read, text_is_its_lines}
 use Rattle.line_text.specs.Lines.{IsTextOf, lines, IsFullLine}
-use Rattle.heap_theory.specs.declared.event.Event.{Event}
+use Rattle.trace_event.specs.declared.event.Event.{Event}
 use Rattle.trace_reader.specs.declared.fault.TraceFault.{TraceFault}
-use Rattle.heap_theory.specs.Ranges.{IsInRange}
+use Rattle.trace_event.specs.Ranges.{IsInRange}
 use Rattle.trace_reader.specs.TraceLine.{event_line, event_of_line}
 use Rattle.trace_reader.specs.TraceText.{SpellsTrace, Trace, no_lines, trace_from, trace_of, with_line}
 use Rattle.trace_reader.proofs.EventLines.{event_line-is_line, event_line-some, event_of_line-spelled}

@@ -8,9 +8,9 @@ use Rattle.line_text.specs.Lines.{words, line_of}
 use Rattle.line_text.specs.Numbers.{number_of}
 use Rattle.line_text.specs.Signed.{signed_of}
 use Rattle.line_text.specs.Hexadecimal.{hex_of, hex}
-use Rattle.heap_theory.specs.declared.event.TheConstants.Event.{LAST_VARIABLE, LARGEST_REQUEST, LONGEST_ACCESS, FARTHEST_ACCESS, FARTHEST_MOVE, LARGEST_TAG_STEP}
-use Rattle.heap_theory.specs.declared.event.Event.{Event}
-use Rattle.heap_theory.specs.declared.event.Event.TheVariants.{Malloc, Calloc, Realloc, Free, Load, Store, Addg, Subg}
+use Rattle.trace_event.specs.declared.event.TheConstants.Event.{LAST_VARIABLE, LARGEST_REQUEST, LONGEST_ACCESS, FARTHEST_ACCESS, FARTHEST_MOVE, LARGEST_TAG_STEP}
+use Rattle.trace_event.specs.declared.event.Event.{Event}
+use Rattle.trace_event.specs.declared.event.Event.TheVariants.{Malloc, Calloc, Realloc, Free, Load, Store, Addg, Subg}
 use Rattle.trace_reader.specs.declared.fault.TraceFault.{TraceFault}
 use Rattle.trace_reader.specs.declared.fault.TraceFault.TheVariants.{BadWord, BadNumber, OutOfRange, LineTooLong, TooManyEvents}
 use Rattle.trace_reader.specs.declared.line.TheConstants.{LONGEST_LINE, MOST_EVENTS}

@@ -1,9 +1,9 @@
 //! The events that wait in a reader.
 ghost use Rattle.std.specs.Prelude.{◌≡◌, [], ◌∷◌, ◌++◌, drop, slice_get, OnErr, OnOk};
 
-use heap_theory::Event;
 use std::alloc::{AllocError, Global};
 use std::marker::Model;
+use trace_event::Event;
 
 /// Events that wait, in order. Those that were taken out keep their room until `pop` finds no event: so adding an event and taking one out
 /// each cost one test.
@@ -16,7 +16,7 @@ pub(crate) struct EventQueue {
 
 impl Model for EventQueue {
     ghost use Rattle.std.specs.Prelude.{◌≤◌, List, drop, length};
-    ghost use Rattle.heap_theory.specs.declared.event.Event.{Event as EventView};
+    ghost use Rattle.trace_event.specs.declared.event.Event.{Event as EventView};
 
     ghost Value = { List EventView };
 
@@ -26,7 +26,7 @@ impl Model for EventQueue {
 }
 
 impl EventQueue {
-    // no events; it takes no memory yet
+    /// No events; it takes no memory yet.
     pub(crate) fn new(alloc: Global) -> EventQueue
         ensures { result ≡ [] }
     {
@@ -36,14 +36,14 @@ impl EventQueue {
         }
     }
 
-    // the events that wait
+    /// The events that wait.
     pub(crate) fn as_slice(&self) -> &[Event]
         ensures { result.now ≡ self.now }
     {
         &self.events[self.taken..]
     }
 
-    // adds an event at the end
+    /// Adds an event at the end.
     #[inline(always)]
     pub(crate) fn push(&mut self, event: Event) -> Result<(), AllocError>
         ensures ok { OnOk result (self.new ≡ self.old ++ event ∷ []) }
@@ -56,7 +56,7 @@ impl EventQueue {
         Ok(())
     }
 
-    // takes out the first event
+    /// Takes out the first event.
     #[inline(always)]
     pub(crate) fn pop(&mut self) -> Option<Event>
         ensures event { result ≡ slice_get self.old 0 }

@@ -1,5 +1,5 @@
 //! What holds for every trace's text, and for every text that comes in pieces. Each law is the contract of a function that does nothing.
-ghost use Rattle.heap_theory.specs.declared.event.Event.{Event};
+ghost use Rattle.trace_event.specs.declared.event.Event.{Event};
 ghost use Rattle.std.specs.List.{concat};
 ghost use Rattle.std.specs.Prelude.{◌≡◌, ◌++◌, List, None, Some, length, suc, ℕ};
 ghost use Rattle.trace_reader.specs.Reading.{Reading, added, fed, fed_all, finished, nothing_read, whole_reading};

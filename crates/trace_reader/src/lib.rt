@@ -11,5 +11,5 @@ mod status;
 mod words;
 
 pub use fault::{TraceError, TraceFault};
-pub use heap_theory::Event;
 pub use reader::TraceReader;
+pub use trace_event::Event;

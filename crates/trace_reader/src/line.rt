@@ -1,20 +1,20 @@
 //! The event that a line spells, or its fault, found word by word. `one_pass` reads the lines that spell events, as far as it can: a change of
 //! an event's words must be made in both files and in `specs/TraceLine.antt`.
 ghost use Rattle.std.specs.Prelude.{◌≡◌, ◌≤◌, ℕ, IfOk, map};
-ghost use Rattle.heap_theory.specs.declared.event.Event.{Event as EventView};
-ghost use Rattle.heap_theory.specs.Ranges.{IsInRange};
+ghost use Rattle.trace_event.specs.declared.event.Event.{Event as EventView};
+ghost use Rattle.trace_event.specs.Ranges.{IsInRange};
 ghost use Rattle.line_text.specs.Lines.{words};
 ghost use Rattle.trace_reader.specs.TraceLine.{made, event_named, event_of_line, event_of_words, free_of, load_of, move_of, request_of, store_of, variable_of, len_of};
 
 use crate::fault::TraceFault;
 use crate::words::{are_full_words, byte_in, number_from, offset_in};
 use arrayvec::ArrayVec;
-use heap_theory::Event;
+use trace_event::Event;
 
-// the most bytes of a line, without its newline
+/// The most bytes of a line, without its newline.
 pub(crate) const LONGEST_LINE: usize = 80;
 
-// the most events of a trace, one for each line
+/// The most events of a trace, one for each line.
 pub(crate) const MOST_EVENTS: u32 = 1_000_000;
 
 // the first words of events
@@ -34,7 +34,7 @@ const ADDG: &[u8] = b"addg";
 
 const SUBG: &[u8] = b"subg";
 
-// the event that the line of this number spells, counted from 1, or the line's fault
+/// The event that the line of this number spells, counted from 1, or the line's fault.
 pub(crate) fn event_in(number: u32, line: &[u8]) -> Result<Event, TraceFault>
     ensures event { result ≡ event_of_line number line.now }
     ensures range { IfOk result (λ event. IsInRange event) }

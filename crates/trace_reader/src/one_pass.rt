@@ -3,14 +3,14 @@
 ghost use Rattle.std.specs.Prelude.{◌≡◌, ◌≤◌, ◌<◌, ◌+◌, ◌^◌, ◌++◌, ◌∷◌, [], IfSome, length, nat_abs};
 ghost use Rattle.std.specs.Int.{to_le_bytes, w32};
 ghost use Rattle.std.specs.Fmt.{decimal, signed_decimal};
-ghost use Rattle.heap_theory.specs.Ranges.{IsAccessOf, IsInRange, IsMove, IsRequest, IsVariable};
+ghost use Rattle.trace_event.specs.Ranges.{IsAccessOf, IsInRange, IsMove, IsRequest, IsVariable};
 ghost use Rattle.line_text.specs.Hexadecimal.{hex};
 ghost use Rattle.line_text.specs.Lines.{line_of};
 ghost use Rattle.std.specs.Prelude.{codes};
 ghost use Rattle.trace_reader.specs.TraceLine.{event_line};
 
-use heap_theory::Event;
 use line_text::hex_byte_in;
+use trace_event::Event;
 
 // A number of more digits is left to `line`.
 const DIGITS: usize = 8;
@@ -21,9 +21,10 @@ const WINDOW: usize = 48;
 // the bytes of a word
 const WORD: usize = 4;
 
-// the copies of `first_event`: for events that are handed out at once, and for events that wait
+/// The copy of `first_event` for events that are handed out at once.
 pub(crate) const AT_ONCE: u8 = 0;
 
+/// The copy for events that wait.
 pub(crate) const KEPT: u8 = 1;
 
 // The first four letters of the events' names, as words: the first letter is the lowest byte.
@@ -43,8 +44,8 @@ const ADDG: u32 = 0x6764_6461;
 
 const SUBG: u32 = 0x6762_7573;
 
-// The event of the first line of a text, and the text after that line. `None` leaves the line to `line`, which finds an event or a fault.
-// Each caller has a `COPY` of its own: the compiler puts a function of this length into its caller only where it has no other.
+/// The event of the first line of a text, and the text after that line. `None` leaves the line to `line`, which finds an event or a fault.
+/// Each caller has a `COPY` of its own: the compiler puts a function of this length into its caller only where it has no other.
 #[inline(always)]
 pub(crate) fn first_event<const COPY: u8>(text: &[u8]) -> Option<(Event, &[u8])>
     ensures spelled { IfSome result (λ found. text.now ≡ event_line found.0 ++ 10 ∷ found.1.now) }

@@ -1,7 +1,7 @@
 ghost use Rattle.std.specs.Prelude.{◌≡◌, ◌≢◌, ◌≤◌, [], ◌∷◌, ◌++◌, drop, length, slice_get, false, true, All, Err, IfNone, IfOk, IfSome, MatchResult, OnOk, is_ok};
 ghost use Rattle.line_text.specs.Lines.{IsLine, ended};
 ghost use Rattle.trace_reader.specs.declared.fault.TraceError.TheVariants.{OutOfMemory};
-ghost use Rattle.heap_theory.specs.Ranges.{IsInRange};
+ghost use Rattle.trace_event.specs.Ranges.{IsInRange};
 ghost use Rattle.line_text.specs.Prefixes.{IsPrefix};
 ghost use Rattle.trace_reader.specs.Reached.{HasReached, IsOnTheWay, answer_of};
 ghost use Rattle.trace_reader.specs.Reading.State.{Failed};
@@ -14,10 +14,10 @@ use crate::line::{LONGEST_LINE, MOST_EVENTS, event_in};
 use crate::one_pass::{AT_ONCE, KEPT, first_event};
 use crate::status::Status;
 use arrayvec::ArrayVec;
-use heap_theory::Event;
 use line_text::first_line;
 use std::alloc::Global;
 use std::marker::Model;
+use trace_event::Event;
 
 /// Reads a trace that comes in pieces of any size. It keeps the events that were not yet taken out, and of the text only the bytes of the
 /// unfinished line, at most 80.
@@ -34,7 +34,7 @@ pub struct TraceReader {
 
 impl Model for TraceReader {
     ghost use Rattle.std.specs.Prelude.{◌≤◌, All, length};
-    ghost use Rattle.heap_theory.specs.Ranges.{IsInRange};
+    ghost use Rattle.trace_event.specs.Ranges.{IsInRange};
     ghost use Rattle.trace_reader.specs.Reading.{Reading};
 
     ghost Value = { Reading };

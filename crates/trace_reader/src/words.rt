@@ -7,16 +7,16 @@ ghost use Rattle.trace_reader.specs.TraceLine.{byte_of, event_of_words, is_empty
 
 use crate::fault::TraceFault;
 use arrayvec::ArrayVec;
-use heap_theory::Event;
 use line_text::{Number, SignedNumber, hex_byte_in, number_in, signed_in, words_in};
+use trace_event::Event;
 
-// the most words that an event's line has
+/// The most words that an event's line has.
 pub(crate) const MOST_WORDS: usize = 5;
 
-// the most bytes between a variable's address and an access
+/// The most bytes between a variable's address and an access.
 pub(crate) const FARTHEST: u64 = Event::FARTHEST_ACCESS as u64;
 
-// Collects the words of a line, and returns whether they are at most five and none is empty. Every other line has a bad word.
+/// Collects the words of a line, and returns whether they are at most five and none is empty. Every other line has a bad word.
 pub(crate) fn are_full_words<'a>(line: &'a [u8], all: &mut ArrayVec<&'a [u8], MOST_WORDS>) -> bool
     requires { all.old.items ≡ [] }
     ensures words { IsTrue result → map (λ w. w.now) all.new.items ≡ words line.now }
@@ -32,7 +32,7 @@ pub(crate) fn are_full_words<'a>(line: &'a [u8], all: &mut ArrayVec<&'a [u8], MO
     true
 }
 
-// the number from `low` to `high` that a word spells
+/// The number from `low` to `high` that a word spells.
 pub(crate) fn number_from(low: u32, high: u32, word: &[u8]) -> Result<u32, TraceFault>
     ensures number { result ≡ number_from low high word.now }
     ensures most { IfOk result (λ n. n ≤ high) }
@@ -44,7 +44,7 @@ pub(crate) fn number_from(low: u32, high: u32, word: &[u8]) -> Result<u32, Trace
     }
 }
 
-// the offset of an access that a word spells
+/// The offset of an access that a word spells.
 pub(crate) fn offset_in(word: &[u8]) -> Result<i32, TraceFault>
     ensures { result ≡ offset_of word.now }
 {
@@ -55,7 +55,7 @@ pub(crate) fn offset_in(word: &[u8]) -> Result<i32, TraceFault>
     }
 }
 
-// the byte that a word spells
+/// The byte that a word spells.
 pub(crate) fn byte_in(word: &[u8]) -> Result<u8, TraceFault>
     ensures { result ≡ byte_of word.now }
 {

@@ -1,4 +1,4 @@
-ghost use Rattle.heap_theory.specs.Hardening.{IsOfItsKind};
+ghost use Rattle.heap_theory.specs.GranuleKinds.{IsOfItsKind};
 ghost use Rattle.heap_theory.specs.Sound.{IsSoundHeap};
 ghost use Rattle.heap_theory.specs.State.{Heap};
 ghost use Rattle.std.specs.Prelude.{ℕ};

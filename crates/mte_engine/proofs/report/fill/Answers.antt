@@ -1,5 +1,5 @@
 use Rattle.std.proofs.Common.{◌∙◌, sym, ap, refl, List, ◌∷◌, length, take, arith}
-use Rattle.heap_theory.specs.declared.event.Event.{Event}
+use Rattle.trace_event.specs.declared.event.Event.{Event}
 use Rattle.mte_engine.proofs.Counting.{first_of, none_left}
 use Rattle.mte_engine.proofs.Reporting.{events_after, reported_all, reported_more}
 use Rattle.mte_engine.proofs.report.fill.Goals as goal

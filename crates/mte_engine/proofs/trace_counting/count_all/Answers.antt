@@ -1,6 +1,6 @@
 use Rattle.std.proofs.Common.{◌<◌, [], length, take, arith, sym, ap, ◌∙◌}
 use Rattle.std.proofs.lemmas.List.{take_more, length-take}
-use Rattle.heap_theory.specs.Losses.{requested_sizes}
+use Rattle.replay_theory.specs.Losses.{requested_sizes}
 use Rattle.profile_count.specs.Requests.{profile_of_sizes}
 use Rattle.profile_count.proofs.LawLemmas.{added_requests_are_counted}
 use Rattle.mte_engine.specs.Traces.{profile_of_events}

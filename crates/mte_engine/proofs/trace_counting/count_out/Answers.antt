@@ -1,7 +1,7 @@
 use Rattle.std.proofs.Common.{◌≡◌, ◌<◌, List, ◌++◌, ◌∷◌, [], length, arith, sym, ap, ◌∙◌}
 use Rattle.std.proofs.lemmas.List.{length-append}
-use Rattle.heap_theory.specs.Losses.{requested_sizes}
-use Rattle.heap_theory.specs.declared.event.Event.{Event}
+use Rattle.replay_theory.specs.Losses.{requested_sizes}
+use Rattle.trace_event.specs.declared.event.Event.{Event}
 use Rattle.profile_count.specs.Requests.{profile_of_sizes}
 use Rattle.mte_engine.proofs.Counting.{first_of, length-requested_sizes, one_requested, one_taken}
 use Rattle.mte_engine.proofs.trace_counting.count_out.Goals as goal

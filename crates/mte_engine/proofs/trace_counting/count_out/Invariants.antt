@@ -1,6 +1,6 @@
 use Rattle.std.proofs.Common.{◌≡◌, ◌++◌, ◌+◌, ◌≤◌, List, ℕ, length}
-use Rattle.heap_theory.specs.Losses.{requested_sizes}
-use Rattle.heap_theory.specs.declared.event.Event.{Event}
+use Rattle.replay_theory.specs.Losses.{requested_sizes}
+use Rattle.trace_event.specs.declared.event.Event.{Event}
 use Rattle.profile_count.specs.Requests.{profile_of_sizes}
 use Rattle.mte_engine.proofs.trace_counting.count_out.Given as goal
 

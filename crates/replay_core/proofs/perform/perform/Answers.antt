@@ -1,8 +1,8 @@
 use Rattle.std.proofs.Common.{ap, subst, sym, ◌∙◌}
 use Rattle.std.specs.Prelude.{slice_index}
 use Rattle.machine_theory.specs.Address.{moved_by}
-use Rattle.heap_theory.specs.AccessLaws.{IsTaggedOrUnmapped}
-use Rattle.heap_theory.specs.Ranges.{IsInRange}
+use Rattle.heap_theory.specs.HeapTags.{IsTaggedOrUnmapped}
+use Rattle.trace_event.specs.Ranges.{IsInRange}
 use Rattle.replay_core.proofs.Accesses.{near_offset, tagged_or_not_mapped}
 use Rattle.replay_core.proofs.perform.perform.Goals as goal
 

@@ -1,5 +1,5 @@
 use Rattle.std.proofs.Common.{append_assoc}
-use Rattle.heap_theory.specs.Report.{report_line}
+use Rattle.replay_theory.specs.Report.{report_line}
 use Rattle.replay_core.proofs.report_line.write_data.Goals as goal
 
 pub returns-clause-text : goal.returns-clause-text

@@ -1,9 +1,9 @@
 use Rattle.std.proofs.Common.{ℕ, [], length, sym, ap, ◌∙◌, subst, arith}
 use Rattle.std.proofs.lemmas.List.{length-replicate}
 use Rattle.class_table.specs.Tables.{IsLegalTable}
-use Rattle.heap_theory.specs.Replay.{first_replay}
+use Rattle.replay_theory.specs.Replay.{first_replay}
 use Rattle.heap_theory.specs.State.{Heap, first_heap}
-use Rattle.heap_theory.specs.Totals.{no_totals}
+use Rattle.replay_theory.specs.Totals.{no_totals}
 use Rattle.tagged_heap.specs.Config.{layout_for}
 use Rattle.replay_core.specs.ReplayState.{first_stored}
 use Rattle.replay_core.proofs.StoredMore.{stored_of_none}

@@ -3,15 +3,15 @@ use Rattle.std.proofs.lemmas.List.{with_items_is}
 use Rattle.std.specs.Vec.{with_items}
 use Rattle.class_table.specs.Layout.{Partition}
 use Rattle.class_table.specs.Tables.{IsLegalTable}
-use Rattle.heap_theory.specs.Report.{report_line}
-use Rattle.heap_theory.specs.declared.event.Event.{Event}
-use Rattle.heap_theory.specs.Replay.{Replay, heap_after, replay_after, variables_after, answer_of}
-use Rattle.heap_theory.specs.Totals.{Totals, totals_after}
+use Rattle.replay_theory.specs.Report.{report_line}
+use Rattle.trace_event.specs.declared.event.Event.{Event}
+use Rattle.replay_theory.specs.Replay.{Replay, heap_after, replay_after, variables_after, answer_of}
+use Rattle.replay_theory.specs.Totals.{Totals, totals_after}
 use Rattle.heap_theory.specs.State.{Heap}
 use Rattle.replay_core.specs.ReplayFields.{stored}
 use Rattle.replay_core.specs.TheoryValues.{AreVariables, over, shown, totals_in}
 use Rattle.replay_core.specs.ReplayState.{Stored, IsStored, stored_after}
-use Rattle.heap_theory.proofs.LayoutStays.{layout_after}
+use Rattle.replay_theory.proofs.LayoutStays.{layout_after}
 use Rattle.replay_core.proofs.Reached.{null_or_tagged, sound_heap, IsStored-after, stored_in_parts, run_goes_on}
 use Rattle.replay_core.proofs.replay.Replay.step_at.Goals as goal
 use Rattle.replay_core.proofs.replay.Replay.step_at.Goals.{After-write_line}

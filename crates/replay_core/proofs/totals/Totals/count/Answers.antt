@@ -1,5 +1,5 @@
 use Rattle.std.proofs.Common.{[], ap, sym, subst, arith}
-use Rattle.heap_theory.specs.Totals.{Totals}
+use Rattle.replay_theory.specs.Totals.{Totals}
 use Rattle.replay_core.specs.TotalsBounds.{AreBounded}
 use Rattle.replay_core.specs.TheoryValues.{shown, totals_in}
 use Rattle.replay_core.proofs.CountedTotals.{AreBounded-after, counted_in_parts}

@@ -1,5 +1,5 @@
 use Rattle.std.proofs.Common.{codes}
-use Rattle.heap_theory.specs.Report.{total_line, totals_text}
+use Rattle.replay_theory.specs.Report.{total_line, totals_text}
 use Rattle.replay_core.proofs.Written.{nine_lines}
 use Rattle.replay_core.proofs.totals.Totals.write.Goals as goal
 

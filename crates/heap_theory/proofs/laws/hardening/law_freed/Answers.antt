@@ -1,6 +1,0 @@
-use Rattle.heap_theory.proofs.Hardened.{freed_faults}
-use Rattle.heap_theory.proofs.RunKept.{IsRunWith-run}
-use Rattle.heap_theory.proofs.laws.hardening.law_freed.Goals as goal
-
-pub returns : goal.returns
-returns c = λ layout seed quarantine events is. freed_faults _ (IsRunWith-run layout seed quarantine events is).sound

@@ -1,6 +1,0 @@
-use Rattle.heap_theory.proofs.Lives.{lives_on}
-use Rattle.heap_theory.proofs.RunKept.{IsRunWith-run}
-use Rattle.heap_theory.proofs.laws.hardening.law_life.Goals as goal
-
-pub returns : goal.returns
-returns c = λ layout seed quarantine events e is. lives_on _ e (IsRunWith-run layout seed quarantine events is).sound

@@ -1,7 +1,0 @@
-use Rattle.heap_theory.proofs.OwnPointers.{live_variables}
-use Rattle.heap_theory.proofs.RunKept.{IsRunWith-run}
-use Rattle.heap_theory.proofs.laws.hardening.law_own_pointer.Goals as goal
-
-pub returns-clause-variables : goal.returns-clause-variables
-returns-clause-variables c = λ layout seed quarantine events is.
-    live_variables _ (IsRunWith-run layout seed quarantine events is).sound

@@ -1,0 +1,161 @@
+-- When each answer of an access is given.
+use Rattle.std.proofs.Common.{◌≡◌, ◌≢◌, ℕ, ◌<◌, ◌∷◌, ◌++◌, [], true, not, List, length, refl, sym, ap, ◌∙◌, subst, inl, inr, arith, Some, None, Option}
+use Rattle.std.specs.Prelude.{◌↔◌, ◌==◌, replicate, slice_get, option_map, IsSome, ℤ}
+use Rattle.std.specs.List.{find}
+use Rattle.std.proofs.lemmas.Bool.{both_ways, cases_Bool, cases_eq, cond-true, cond-false, false≢true}
+use Rattle.std.proofs.lemmas.List.{length-replicate}
+use Rattle.machine_theory.specs.declared.fault.Fault.{Fault}
+use Rattle.machine_theory.specs.declared.fault.Fault.TheVariants.{Unmapped, TagCheck}
+use Rattle.machine_theory.specs.Access.{IsMapped, IsTagFault, access_fault, is_mapped, stored, tag_fault, touched, loaded}
+use Rattle.machine_theory.specs.Address.{logical_tag, moved_by, Touches}
+use Rattle.machine_theory.specs.Memory.{tag_at}
+use Rattle.replay_theory.proofs.TheoryLemmas as laws
+use Rattle.trace_event.specs.declared.event.Event.{Event}
+use Rattle.trace_event.specs.declared.event.Event.TheVariants.{Load, Store}
+use Rattle.heap_theory.specs.declared.place_kind.PlaceKind.{PlaceKind}
+use Rattle.replay_theory.specs.AccessLaws.{IsAnswerTo, AccessesAreAnswered}
+use Rattle.heap_theory.specs.GranuleKinds.{place_kind}
+use Rattle.replay_theory.specs.Replay.{Replay, Answer, IsFaultAnswer, is_tag_fault, variable, heap_after, replay_after, access_answer, answer_of, answers, replay_of}
+use Rattle.heap_theory.specs.Calls.{store_with, store_step}
+use Rattle.replay_theory.specs.Replay.Answer.{Silent, Loaded, NotMapped, TagFault, NoPointer, NotFreed}
+use Rattle.heap_theory.specs.State.{Heap}
+
+-- ---- which answers are faults
+
+tag_fault_faults : (a : Answer) → is_tag_fault a ≡ true → IsFaultAnswer a
+tag_fault_faults x0 is = grind arith
+
+-- what a tag fault says of the access; any other answer says nothing of one
+abbrev Names : Heap → ℕ → ℕ → Answer → Type 0
+Names h address len Silent = ⊥
+Names h address len (Loaded bytes) = ⊥
+Names h address len NotMapped = ⊥
+Names h address len (TagFault g m p kind) = IsTagFault h.memory address len g m p × (kind ≡ place_kind h g)
+Names h address len (NoPointer cause) = ⊥
+Names h address len (NotFreed error) = ⊥
+
+-- ---- the three answers of an access
+
+module _ (h : Heap) (address len : ℕ) (done : Answer) (no_fault : IsFaultAnswer done → ⊥) where
+  unmapped_answer : (IsMapped (length h.memory) address len → ⊥) → IsAnswerTo h address len done NotMapped
+  unmapped_answer never = grind arith
+
+  tag_answer : (g m p : ℕ) → IsTagFault h.memory address len g m p → IsAnswerTo h address len done (TagFault g m p (place_kind h g))
+  tag_answer g m p t = record {
+    unmapped = (λ is. absurd (subst (Names h address len) is (t, refl)), λ never. absurd (never t.mapped));
+    tag_fault = (λ is. (t.mapped, (g, t.touches, differs)), λ it. refl);
+    names = λ g' m' p' kind. (λ is. subst (Names h address len) is (t, refl), λ it. same g' m' p' kind it.0 it.1);
+    succeeds = (λ is. absurd (no_fault (subst IsFaultAnswer is refl)), λ it. absurd (differs (it.1 g t.touches)));
+  }
+    where
+      differs : tag_at h.memory g ≢ logical_tag address
+      differs is = t.differs (t.memory_tag_is ∙ is ∙ sym t.pointer_tag_is)
+
+      -- one granule is the lowest
+      same : (g' m' p' : ℕ) (kind : PlaceKind) → IsTagFault h.memory address len g' m' p' → kind ≡ place_kind h g' →
+          TagFault g m p (place_kind h g) ≡ TagFault g' m' p' kind
+      same g' m' p' kind u kind_is = grind arith
+
+  done_answer : IsMapped (length h.memory) address len → ((g : ℕ) → Touches address len g → tag_at h.memory g ≡ logical_tag address) →
+      IsAnswerTo h address len done done
+  done_answer mapped each = record {
+    unmapped = (λ is. absurd (no_fault (subst IsFaultAnswer (sym is) refl)), λ never. absurd (never mapped));
+    tag_fault = (λ is. absurd (no_fault (tag_fault_faults done is)), λ it. absurd (it.1.2 (each it.1.0 it.1.1)));
+    names = λ g m p kind. (λ is. absurd (no_fault (subst IsFaultAnswer (sym is) refl)), λ it. absurd (differs g m p it.0));
+    succeeds = (λ is. (mapped, each), λ it. refl);
+  }
+    where
+      differs : (g m p : ℕ) → IsTagFault h.memory address len g m p → ⊥
+      differs g m p t = t.differs (t.memory_tag_is ∙ each g t.touches ∙ sym t.pointer_tag_is)
+
+  pub access_is_answered : 0 < len → IsAnswerTo h address len done (access_answer h done (access_fault h.memory address len))
+  unfolding access_fault
+  access_is_answered some = elim (cases_Bool (is_mapped (length h.memory) address len)) [
+    | inl t ↦ by_tags (mapped_test.0 t) (find (λ g. not (tag_at h.memory g == logical_tag address)) (touched address len))
+        (cond-true (is_mapped (length h.memory) address len) tags (Some Unmapped) t)
+    | inr f ↦ subst Answers (sym (cond-false (is_mapped (length h.memory) address len) tags (Some Unmapped) f))
+        (unmapped_answer (λ mapped. both_ways _ f (mapped_test.1 mapped)))
+  ]
+    where
+      Answers : Option Fault → Type 0
+      Answers o = IsAnswerTo h address len done (access_answer h done o)
+
+      tags : Option Fault
+      tags = tag_fault h.memory (logical_tag address) (touched address len)
+
+      mapped_test : (is_mapped (length h.memory) address len ≡ true) ↔ IsMapped (length h.memory) address len
+      mapped_test = laws.mapped_test (length h.memory) address len
+
+      -- without a fault there is no granule of another tag
+      same_tag : access_fault h.memory address len ≡ None → (g : ℕ) → Touches address len g → tag_at h.memory g ≡ logical_tag address
+      same_tag is g touches = elim (cases_eq (tag_at h.memory g) (logical_tag address)) [
+        | inl same ↦ same
+        | inr differs ↦ absurd (false≢true (subst IsSome is (laws.other_tag_faults h.memory address len g touches differs)))
+      ]
+
+      by_tags : IsMapped (length h.memory) address len → (o : Option ℕ) →
+          access_fault h.memory address len ≡ option_map (λ g. TagCheck g (tag_at h.memory g) (logical_tag address)) o →
+          IsAnswerTo h address len done (access_answer h done (access_fault h.memory address len))
+      by_tags mapped None is = subst Answers (sym is) (done_answer mapped (same_tag is))
+      by_tags mapped (Some g) is = subst Answers (sym is)
+          (tag_answer g (tag_at h.memory g) (logical_tag address)
+          ((laws.tag_fault_names h.memory address len g (tag_at h.memory g) (logical_tag address) some).0 is))
+
+-- ---- loads and stores
+
+pub load_is_answered : (replay : Replay) (v : ℕ) (off : ℤ) (len : ℕ) → 0 < len → let address = moved_by (variable replay v) off in
+    let done = Loaded (loaded replay.heap.memory address len) in IsAnswerTo replay.heap address len done (answer_of replay (Load v off len))
+unfolding answer_of
+load_is_answered r v off len some = access_is_answered r.heap (moved_by (variable r v) off) len _ false≢true some
+
+pub store_is_answered : (replay : Replay) (v : ℕ) (off : ℤ) (len byte : ℕ) → 0 < len →
+    IsAnswerTo replay.heap (moved_by (variable replay v) off) len Silent (answer_of replay (Store v off len byte))
+unfolding answer_of
+store_is_answered r v off len byte some = access_is_answered r.heap (moved_by (variable r v) off) len Silent false≢true some
+
+-- a fault is not silent
+not_silent : (h : Heap) (fault : Fault) → access_answer h Silent (Some fault) ≡ Silent → ⊥
+not_silent h x1 is = grind arith
+
+pub store_is_done : (replay : Replay) (v : ℕ) (off : ℤ) (len byte : ℕ) → let address = moved_by (variable replay v) off in
+    let answer = answer_of replay (Store v off len byte) in let after = heap_after replay (Store v off len byte) in (answer ≡ Silent → after
+    ≡ record replay.heap { memory = stored replay.heap.memory address (replicate len byte) }) × (answer ≢ Silent → after ≡ replay.heap)
+unfolding answer_of heap_after store_step
+store_is_done r v off len byte =
+    rw length-replicate (by (access_fault r.heap.memory (moved_by (variable r v) off) len))
+  where
+    by : (o : Option Fault) →
+        (access_answer r.heap Silent o ≡ Silent →
+        store_with r.heap (moved_by (variable r v) off) (replicate len byte) o
+        ≡ record r.heap { memory = stored r.heap.memory (moved_by (variable r v) off) (replicate len byte) })
+        × (access_answer r.heap Silent o ≢ Silent → store_with r.heap (moved_by (variable r v) off) (replicate len byte) o ≡ r.heap)
+    by None = (λ silent. refl, λ fault. absurd (fault refl))
+    by (Some fault) = (λ silent. absurd (not_silent r.heap fault silent), λ other. refl)
+
+-- ---- whole traces
+
+pub answer_at : (first : Replay) (before : List Event) (e : Event) (after : List Event) →
+    slice_get (answers first (before ++ e ∷ after)) (length before) ≡ Some (answer_of (replay_of first before) e)
+unfolding answers replay_of
+answer_at first [] e after = refl
+answer_at first (event ∷ before) e after = answer_at (replay_after first event) before e after
+
+pub accesses_are_answered : (first : Replay) (events : List Event) → AccessesAreAnswered first events
+accesses_are_answered first events = record {
+  loads = λ before after v off len is some. (
+    answer_of (replay_of first before) (Load v off len),
+    at before after (Load v off len) is,
+    load_is_answered (replay_of first before) v off len some,
+  );
+  stores = λ before after v off len byte is some. (
+    answer_of (replay_of first before) (Store v off len byte),
+    at before after (Store v off len byte) is,
+    store_is_answered (replay_of first before) v off len byte some,
+  );
+}
+  where
+    at : (before after : List Event) (e : Event) → events ≡ before ++ e ∷ after →
+        slice_get (answers first events) (length before) ≡ Some (answer_of (replay_of first before) e)
+    at before after e is = ap (λ all. slice_get (answers first all) (length before)) is ∙ answer_at first before e after
+
+pub ruleset access_laws = (load_is_answered, store_is_answered, store_is_done, accesses_are_answered)

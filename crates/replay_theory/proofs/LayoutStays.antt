@@ -1,0 +1,74 @@
+-- The layout of a heap stays, whatever happens.
+use Rattle.std.proofs.Common.{◌≡◌, ℕ, Bool, true, false, cond, List, [], ◌∷◌, length, refl, ◌∙◌, Result, Ok, Err, Option, Some, None}
+use Rattle.std.specs.Prelude.{◌==◌, fold, replicate}
+use Rattle.machine_theory.specs.declared.fault.Fault.{Fault}
+use Rattle.machine_theory.specs.Access.{access_fault}
+use Rattle.machine_theory.specs.Address.{moved_by}
+use Rattle.class_table.specs.Layout.{Partition}
+use Rattle.trace_event.specs.declared.event.Event.{Event}
+use Rattle.trace_event.specs.declared.event.Event.TheVariants.{Malloc, Calloc, Realloc, Free, Load, Store, Addg, Subg}
+use Rattle.heap_theory.specs.declared.refusal.FreeError.{FreeError}
+use Rattle.heap_theory.specs.declared.refusal.NullCause.{NullCause}
+use Rattle.heap_theory.specs.Calls.{Step, given_out, freed, resized, with_payload, moved, malloc_with, malloc_step, calloc_with, calloc_step, free_with, free_step, stays_in_class, move_with, realloc_with, realloc_step, store_with, store_step}
+use Rattle.heap_theory.specs.Lookups.{Chunk, slot_for_request, chunk_at}
+use Rattle.replay_theory.specs.Replay.{Replay, variable, heap_after, replay_after, first_replay, replay_of}
+use Rattle.heap_theory.specs.State.{Heap, first_heap}
+
+malloc_layout : (h : Heap) (n : ℕ) (o : Result ℕ NullCause) → (malloc_with h n o).heap.layout ≡ h.layout
+unfolding given_out
+malloc_layout h n (Ok s) = refl
+malloc_layout h n (Err cause) = refl
+
+calloc_layout : (h : Heap) (n : ℕ) (o : Result ℕ NullCause) → (calloc_with h n o).heap.layout ≡ h.layout
+unfolding given_out with_payload
+calloc_layout h n (Ok s) = refl
+calloc_layout h n (Err cause) = refl
+
+free_layout : (h : Heap) (o : Result Chunk FreeError) → (free_with h o).heap.layout ≡ h.layout
+unfolding freed
+free_layout h (Ok chunk) = refl
+free_layout h (Err error) = refl
+
+move_layout : (h : Heap) (chunk : Chunk) (n : ℕ) (o : Result ℕ NullCause) → (move_with h chunk n o).heap.layout ≡ h.layout
+unfolding given_out with_payload freed moved
+move_layout h chunk n (Ok s) = refl
+move_layout h chunk n (Err cause) = refl
+
+either_layout : {A : Type 0} (layout : Partition) (b : Bool) (x y : Step A) → x.heap.layout ≡ layout → y.heap.layout ≡ layout →
+    (cond b x y).heap.layout ≡ layout
+either_layout layout true x y left right = left
+either_layout layout false x y left right = right
+
+chunk_layout : (h : Heap) (p n : ℕ) (o : Result Chunk FreeError) → (realloc_with h p n o).heap.layout ≡ h.layout
+unfolding resized
+chunk_layout h p n (Err error) = refl
+chunk_layout h p n (Ok chunk) = either_layout h.layout (stays_in_class h chunk n) _ _ refl (move_layout h chunk n (slot_for_request h n))
+
+store_layout : (h : Heap) (address : ℕ) (bytes : List ℕ) (o : Option Fault) → (store_with h address bytes o).layout ≡ h.layout
+store_layout h address bytes None = refl
+store_layout h address bytes (Some fault) = refl
+
+pub layout_after : (r : Replay) (e : Event) → (heap_after r e).layout ≡ r.heap.layout
+unfolding heap_after malloc_step calloc_step free_step realloc_step store_step
+layout_after r (Malloc v n) = malloc_layout r.heap n (slot_for_request r.heap n)
+layout_after r (Calloc v n) = calloc_layout r.heap n (slot_for_request r.heap n)
+layout_after r (Realloc v n) =
+    either_layout r.heap.layout (variable r v == 0) _ _ (malloc_layout r.heap n (slot_for_request r.heap n))
+    (chunk_layout r.heap (variable r v) n (chunk_at r.heap (variable r v)))
+layout_after r (Free v) = either_layout r.heap.layout (variable r v == 0) _ _ refl (free_layout r.heap (chunk_at r.heap (variable r v)))
+layout_after r (Load v off len) = refl
+layout_after r (Store v off len byte) =
+    store_layout r.heap (moved_by (variable r v) off) (replicate len byte)
+    (access_fault r.heap.memory (moved_by (variable r v) off) (length (replicate len byte)))
+layout_after r (Addg v w u6 u4) = refl
+layout_after r (Subg v w u6 u4) = refl
+
+layout_of_all : (r : Replay) (events : List Event) → (fold replay_after r events).heap.layout ≡ r.heap.layout
+unfolding replay_after
+layout_of_all r [] = refl
+layout_of_all r (e ∷ events) = layout_of_all (replay_after r e) events ∙ layout_after r e
+
+pub layout_of_run : (layout : Partition) (seed quarantine : ℕ) (events : List Event) →
+    (replay_of (first_replay layout seed quarantine) events).heap.layout ≡ layout
+unfolding replay_of first_replay first_heap
+layout_of_run layout seed quarantine events = layout_of_all (first_replay layout seed quarantine) events

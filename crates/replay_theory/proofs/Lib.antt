@@ -1,0 +1,13 @@
+pub mod AccessAnswers
+pub mod Answered
+pub mod CopiedPointers
+pub mod ExampleAnswers
+pub mod Hardened
+pub mod LayoutStays
+pub mod Lives
+pub mod Losses
+pub mod ReallocExamples
+pub mod RunKept
+pub mod TheoryLemmas
+pub mod VariablesKept
+pub mod WorkedExamples

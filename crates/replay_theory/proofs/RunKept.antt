@@ -1,0 +1,167 @@
+-- Each event keeps a run sound, so every run is.
+use Rattle.std.proofs.Common.{◌≡◌, ℕ, suc, ◌≤◌, List, [], ◌∷◌, length, get_or, set, refl, sym, ap, ◌∙◌, subst, inl, inr, arith, Some, None, Option}
+use Rattle.std.specs.Prelude.{fold, replicate}
+use Rattle.std.proofs.lemmas.Bool.{cases_eq, cases_lt}
+use Rattle.std.proofs.lemmas.List.{get_or-set_same, get_or-set_other, length-set, get_or_past, length-replicate}
+use Rattle.machine_theory.specs.Address.{moved_by}
+use Rattle.machine_theory.specs.Instructions.{addg, subg}
+use Rattle.class_table.specs.Layout.{Partition, IsPartition, slot_count}
+use Rattle.replay_theory.proofs.TheoryLemmas as laws
+use Rattle.trace_event.specs.declared.event.Event.{Event}
+use Rattle.trace_event.specs.declared.event.Event.TheVariants.{Malloc, Calloc, Realloc, Free, Load, Store, Addg, Subg}
+use Rattle.replay_theory.specs.Run.{Run, Generation, times_of, generation_of, slot_given, times_with, generations_after, run_after, first_run, run}
+use Rattle.replay_theory.specs.Replay.{Replay, variable, heap_after, variables_after, replay_after, first_replay}
+use Rattle.heap_theory.specs.Sound.{IsSoundHeap}
+use Rattle.replay_theory.specs.SoundRun.{IsSoundVariable, IsSoundRun}
+use Rattle.heap_theory.specs.State.{Heap, first_heap}
+use Rattle.heap_theory.proofs.CallsKept.{HeapChange, IsKept, IsKept-refl, IsKept-malloc, IsKept-calloc, IsKept-free, IsKept-realloc, IsKept-store, layout-given_out, quarantine-given_out}
+use Rattle.replay_theory.proofs.CopiedPointers.{IsSoundVariable-moved, addg-address, subg-address}
+use Rattle.heap_theory.proofs.FirstHeap.{IsSoundHeap-first, get_or-replicate_any}
+use Rattle.replay_theory.proofs.VariablesKept.{IsSoundVariable-other, IsSoundVariable-malloc, IsSoundVariable-calloc, IsSoundVariable-realloc}
+
+-- one variable is set, with its generation, and the others stay
+set_both : {X Y : Type 0} (P : X → Y → Type 0) (xs : List X) (ys : List Y) (v : ℕ) (x a : X) (y b : Y) → length ys ≡ length xs → P x y →
+    ((u : ℕ) → P (get_or xs u a) (get_or ys u b)) → (u : ℕ) → P (get_or (set xs v x) u a) (get_or (set ys v y) u b)
+set_both P xs ys v x a y b long new old u = elim (cases_eq u v) [
+  | inr not ↦ subst (λ z. P z (get_or (set ys v y) u b)) (sym (get_or-set_other xs v u x a not))
+      (subst (λ z. P (get_or xs u a) z) (sym (get_or-set_other ys v u y b not)) (old u))
+  | inl is ↦ subst (λ q. P (get_or (set xs v x) q a) (get_or (set ys v y) q b)) (sym is) (elim (cases_lt v (length xs)) [
+    | inl within ↦
+        subst (λ z. P z (get_or (set ys v y) v b)) (sym (get_or-set_same xs v x a within))
+        (subst (λ z. P x z) (sym (get_or-set_same ys v y b (omega arith))) new)
+    | inr past ↦ subst (λ z. P z (get_or (set ys v y) v b)) (past_same xs v x a past)
+        (subst (λ z. P (get_or xs v a) z) (past_same ys v y b (omega arith)) (old v))
+  ])
+]
+  where
+    past_same : {X : Type 0} (xs : List X) (v : ℕ) (x a : X) → length xs ≤ v → get_or xs v a ≡ get_or (set xs v x) v a
+    past_same xs v x a past =
+        get_or_past xs v a past ∙ sym (get_or_past (set xs v x) v a (subst (λ n. n ≤ v) (sym (length-set xs v x)) past))
+
+length-times_with : (w : Run) (o : Option ℕ) → length (times_with w o) ≡ length w.times
+length-times_with w None = refl
+length-times_with w (Some s) = length-set w.times s (suc (times_of w s))
+
+lengths_kept : (w : Run) (e : Event) → length w.generations ≡ length w.replay.variables →
+    length (generations_after w e) ≡ length (variables_after w.replay e)
+unfolding generations_after variables_after
+lengths_kept w x1 long = grind (arith, length-set)
+
+layout_kept : (h new : Heap) (o : Option ℕ) → HeapChange h new o → new.layout ≡ h.layout
+layout_kept h new None change = change.layout
+layout_kept h new (Some s) change = change.kept.layout ∙ layout-given_out h s change.n
+
+limit_kept : (h new : Heap) (o : Option ℕ) → HeapChange h new o → new.quarantine ≡ h.quarantine
+limit_kept h new None change = change.limit
+limit_kept h new (Some s) change = change.kept.limit ∙ quarantine-given_out h s change.n
+
+-- ---- all runs
+
+-- the limit of the quarantine is that of the first heap
+pub record IsRunWith (quarantine : ℕ) (w : Run) : Type 0 where
+  pub sound : IsSoundRun w
+  pub limit_is : w.replay.heap.quarantine ≡ quarantine
+
+-- what holds at first and is kept by each event holds of every run
+holds_of_runs : (P : Run → Type 0) (w : Run) (events : List Event) → P w → ((w : Run) (e : Event) → P w → P (run_after w e)) →
+    P (fold run_after w events)
+holds_of_runs P w [] first each = first
+holds_of_runs P w (e ∷ events) first each = holds_of_runs P (run_after w e) events (each w e first) each
+
+null_variable : (h : Heap) (times : List ℕ) (a : ℕ) (g : Option Generation) → a ≡ 0 → g ≡ None → IsSoundVariable h times a g
+null_variable h times a g null none =
+    subst (λ x. IsSoundVariable h times a x) (sym none) (record { null_or_tagged = inl null; follows = tt })
+
+module _ where
+  -- an event keeps the heap sound, and gives out a slot or leaves what was given out
+  pub IsKept-event : (r : Replay) (e : Event) → IsSoundHeap r.heap → IsKept r.heap (heap_after r e) (slot_given r e)
+  unfolding heap_after slot_given
+  IsKept-event r (Malloc v n) sound = IsKept-malloc r.heap n sound
+  IsKept-event r (Calloc v n) sound = IsKept-calloc r.heap n sound
+  IsKept-event r (Realloc v n) sound = IsKept-realloc r.heap (variable r v) n sound
+  IsKept-event r (Free v) sound = IsKept-free r.heap (variable r v) sound
+  IsKept-event r (Load v off len) sound = IsKept-refl r.heap sound
+  IsKept-event r (Store v off len byte) sound = IsKept-store r.heap (moved_by (variable r v) off) (replicate len byte) sound
+  IsKept-event r (Addg v x u6 u4) sound = IsKept-refl r.heap sound
+  IsKept-event r (Subg v x u6 u4) sound = IsKept-refl r.heap sound
+
+  module _ (w : Run) (e : Event) (sound : IsSoundRun w) where
+    kept : IsKept w.replay.heap (heap_after w.replay e) (slot_given w.replay e)
+    kept = IsKept-event w.replay e sound.heap
+
+    others : (u : ℕ) → IsSoundVariable (heap_after w.replay e) (times_with w (slot_given w.replay e)) (variable w.replay u)
+        (generation_of w u)
+    others u =
+        IsSoundVariable-other w sound (heap_after w.replay e) (slot_given w.replay e) (variable w.replay u) (generation_of w u) kept.change
+        (sound.variables u)
+
+  variables_kept : (w : Run) (e : Event) → IsSoundRun w → (u : ℕ) →
+      IsSoundVariable (heap_after w.replay e) (times_with w (slot_given w.replay e)) (get_or (variables_after w.replay e) u 0)
+      (get_or (generations_after w e) u None)
+  unfolding variables_after generations_after heap_after slot_given
+  variables_kept w (Malloc v n) sound u =
+      set_both (IsSoundVariable _ _) w.replay.variables w.generations v _ 0 _ None sound.generations (IsSoundVariable-malloc w sound n)
+      (others w (Malloc v n) sound) u
+  variables_kept w (Calloc v n) sound u =
+      set_both (IsSoundVariable _ _) w.replay.variables w.generations v _ 0 _ None sound.generations (IsSoundVariable-calloc w sound n)
+      (others w (Calloc v n) sound) u
+  variables_kept w (Realloc v n) sound u =
+      set_both (IsSoundVariable _ _) w.replay.variables w.generations v _ 0 _ None sound.generations (IsSoundVariable-realloc w sound v n)
+      (others w (Realloc v n) sound) u
+  variables_kept w (Free v) sound u = others w (Free v) sound u
+  variables_kept w (Load v off len) sound u = others w (Load v off len) sound u
+  variables_kept w (Store v off len byte) sound u = others w (Store v off len byte) sound u
+  variables_kept w (Addg v x u6 u4) sound u =
+      set_both (IsSoundVariable _ _) w.replay.variables w.generations v _ 0 _ None sound.generations
+      (IsSoundVariable-moved w.replay.heap w.times sound.heap addg laws.addg_tagged (addg-address w.replay.heap w.times sound.heap)
+      (variable w.replay x) u6 u4 (generation_of w x) (sound.variables x))
+      (others w (Addg v x u6 u4) sound) u
+  variables_kept w (Subg v x u6 u4) sound u =
+      set_both (IsSoundVariable _ _) w.replay.variables w.generations v _ 0 _ None sound.generations
+      (IsSoundVariable-moved w.replay.heap w.times sound.heap subg laws.subg_tagged (subg-address w.replay.heap w.times sound.heap)
+      (variable w.replay x) u6 u4 (generation_of w x) (sound.variables x))
+      (others w (Subg v x u6 u4) sound) u
+
+  pub IsSoundRun-run_after : (w : Run) (e : Event) → IsSoundRun w → IsSoundRun (run_after w e)
+  unfolding run_after replay_after
+  IsSoundRun-run_after w e sound =
+      let kept = kept w e sound in
+      record {
+        heap = kept.sound;
+        times = length-times_with w (slot_given w.replay e) ∙ sound.times
+            ∙ ap slot_count (sym (layout_kept w.replay.heap (heap_after w.replay e) (slot_given w.replay e) kept.change));
+        generations = lengths_kept w e sound.generations;
+        variables = variables_kept w e sound;
+      }
+
+  IsSoundRun-first : (layout : Partition) (seed quarantine : ℕ) → IsPartition layout → IsSoundRun (first_run layout seed quarantine)
+  unfolding first_run first_replay first_heap
+  IsSoundRun-first layout seed quarantine is = record {
+    heap = IsSoundHeap-first layout seed quarantine is;
+    times = length-replicate (slot_count layout) 0;
+    generations = length-replicate {A = Option Generation} 1024 None ∙ sym (length-replicate {A = ℕ} 1024 0);
+    variables =
+        λ v. null_variable (first_heap layout seed quarantine) (replicate (slot_count layout) 0) _ _ (get_or-replicate_any 1024 v 0)
+        (get_or-replicate_any 1024 v None);
+  }
+
+  IsRunWith-run_after : (quarantine : ℕ) (w : Run) (e : Event) → IsRunWith quarantine w → IsRunWith quarantine (run_after w e)
+  unfolding run_after replay_after
+  IsRunWith-run_after quarantine w e over =
+      let change = (kept w e over.sound).change in
+      record {
+        sound = IsSoundRun-run_after w e over.sound;
+        limit_is = limit_kept w.replay.heap (heap_after w.replay e) (slot_given w.replay e) change ∙ over.limit_is;
+      }
+
+  IsRunWith-first : (layout : Partition) (seed quarantine : ℕ) → IsPartition layout →
+      IsRunWith quarantine (first_run layout seed quarantine)
+  unfolding first_run first_replay first_heap
+  IsRunWith-first layout seed quarantine is = record { sound = IsSoundRun-first layout seed quarantine is; limit_is = refl }
+
+  pub IsRunWith-run : (layout : Partition) (seed quarantine : ℕ) (events : List Event) → IsPartition layout →
+      IsRunWith quarantine (run layout seed quarantine events)
+  unfolding run
+  IsRunWith-run layout seed quarantine events is =
+      holds_of_runs (IsRunWith quarantine) (first_run layout seed quarantine) events (IsRunWith-first layout seed quarantine is)
+      (IsRunWith-run_after quarantine)

@@ -1,0 +1,199 @@
+-- What is true of a variable stays true, and is true of the address that a call gives.
+use Rattle.std.proofs.Common.{◌≡◌, ◌≢◌, ℕ, suc, ◌*◌, ◌<◌, ◌≤◌, Bool, true, false, cond, List, length, get_or, set, refl, sym, ap, ◌∙◌, subst, inl, inr, arith, Some, None, Option, Result, Ok, Err}
+use Rattle.std.specs.Prelude.{◌==◌, slice_set, replicate}
+use Rattle.std.specs.Result.{result_ok, result_unwrap_or}
+use Rattle.std.proofs.lemmas.Bool.{cases_eq}
+use Rattle.std.proofs.lemmas.List.{get_or-set_same, get_or-set_other}
+use Rattle.machine_theory.specs.Address.{logical_tag, with_tag}
+use Rattle.class_table.specs.Layout.{Partition, slot_count, slot_of}
+use Rattle.replay_theory.proofs.TheoryLemmas as laws
+use Rattle.heap_theory.specs.declared.refusal.FreeError.{FreeError}
+use Rattle.heap_theory.specs.declared.refusal.ReallocError.{ReallocError}
+use Rattle.heap_theory.specs.Calls.{Step, next_tag, given_out, resized, with_payload, moved, malloc_with, malloc_step, calloc_with, calloc_step, stays_in_class, slot_if_moved, move_with, as_realloc, realloc_with, realloc_step}
+use Rattle.heap_theory.specs.Lookups.{Chunk, IsReusable, MayBeGiven, slot_for_request, chunk_at}
+use Rattle.replay_theory.specs.Run.{Run, Generation, times_of, generation_of, times_with, begun_or}
+use Rattle.replay_theory.specs.Replay.{variable}
+use Rattle.heap_theory.specs.Sound.{IsTagOf}
+use Rattle.replay_theory.specs.SoundRun.{IsAddressOf, IsSoundVariable, IsSoundRun}
+use Rattle.class_table.specs.Sizes.{chunk_granules}
+use Rattle.heap_theory.specs.State.{Heap, slot_in, state_at, last_tag, is_fresh, payload_place, pointer_to}
+use Rattle.heap_theory.specs.State.State.{Live}
+use Rattle.heap_theory.proofs.CallsKept.{KeepsGiven, KeepsGiven-refl, KeepsGiven-with_payload, KeepsGiven-resized, KeepsGiven-moved, HeapChange, state_at-given_out, state_at-given_out_other, layout-given_out}
+use Rattle.heap_theory.proofs.Lookups.{slot_for_request-cases, chunk_at-is}
+use Rattle.heap_theory.proofs.HeapKept.{in_states}
+use Rattle.heap_theory.proofs.Tags.{IsTagOf-next_tag, next_tag-differs}
+
+-- ---- addresses
+
+IsAddressOf-kept : (h new : Heap) (times : List ℕ) (a s m : ℕ) → KeepsGiven h new → IsAddressOf h times a s m → IsAddressOf new times a s m
+IsAddressOf-kept h new times a s m kept i = grind arith
+
+-- slot r is given out
+module _ (h : Heap) (times : List ℕ) (r n : ℕ) (tag_below : h.tag < 16) (within : r < length h.states) (in_times : r < length times) where
+  times_now : (t : ℕ) → get_or (set times r t) r 0 ≡ t
+  times_now t = get_or-set_same times r t 0 in_times
+
+  IsAddressOf-given_out : (a s m : ℕ) → IsAddressOf h times a s m →
+      IsAddressOf (given_out h r n) (slice_set times r (suc (get_or times r 0))) a s m
+  IsAddressOf-given_out a s m i = elim (cases_eq s r) [
+    | inr not ↦
+        let same : get_or (set times r (suc (get_or times r 0))) s 0 ≡ get_or times s 0 =
+        get_or-set_other times r s (suc (get_or times r 0)) 0 not in
+        let state : state_at (given_out h r n) s ≡ state_at h s = state_at-given_out_other h r n s not in
+        record {
+          in_range = in_range_now;
+          address_is = address_now;
+          tag = i.tag;
+          past = subst (λ t. m ≤ t) (sym same) i.past;
+          last = λ is. subst (λ x. (logical_tag a ≡ last_tag x) × (is_fresh x ≡ false)) (sym state) (i.last (is ∙ same));
+          last_but_one = λ is. subst (λ x. logical_tag a ≢ last_tag x) (sym state) (i.last_but_one (is ∙ same));
+        }
+    | inl same ↦
+        let now : get_or (set times r (suc (get_or times r 0))) s 0 ≡ suc (get_or times r 0) =
+        ap (λ q. get_or (set times r (suc (get_or times r 0))) q 0) same ∙ times_now (suc (get_or times r 0)) in
+        let before : m ≤ get_or times r 0 = subst (λ q. m ≤ get_or times q 0) same i.past in
+        let state : state_at (given_out h r n) s ≡ Live n (next_tag h r) =
+        ap (λ q. state_at (given_out h r n) q) same ∙ state_at-given_out h r n within in
+        let last_before : m ≡ get_or times r 0 → logical_tag a ≡ last_tag (state_at h r) =
+        λ is. subst (λ q. logical_tag a ≡ last_tag (state_at h q)) same (i.last (is ∙ ap (λ q. get_or times q 0) (sym same))).0 in
+        record {
+          in_range = in_range_now;
+          address_is = address_now;
+          tag = i.tag;
+          past = omega arith;
+          last = λ is. absurd (omega arith);
+          last_but_one = λ is tags. next_tag-differs h r tag_below (sym (ap last_tag state) ∙ sym tags ∙ last_before (omega arith));
+        }
+  ]
+    where
+      in_range_now : s < slot_count (given_out h r n).layout
+      in_range_now = subst (λ (layout : Partition). s < slot_count layout) (sym (layout-given_out h r n)) i.in_range
+
+      address_now : a ≡ with_tag (payload_place (slot_in (given_out h r n) s)) (logical_tag a)
+      address_now =
+          subst (λ (layout : Partition). a ≡ with_tag (payload_place (slot_of layout s)) (logical_tag a)) (sym (layout-given_out h r n))
+          i.address_is
+
+  -- the address that is given
+  IsAddressOf-new : r < slot_count h.layout →
+      IsAddressOf (given_out h r n) (slice_set times r (suc (get_or times r 0))) (pointer_to (given_out h r n) r) r (suc (get_or times r 0))
+  IsAddressOf-new in_range =
+      let is_tag : IsTagOf r (next_tag h r) = IsTagOf-next_tag h r tag_below in
+      let tag : last_tag (state_at (given_out h r n) r) ≡ next_tag h r = ap last_tag (state_at-given_out h r n within) in
+      let shown : logical_tag (pointer_to (given_out h r n) r) ≡ last_tag (state_at (given_out h r n) r) =
+      laws.tag_put (payload_place (slot_in (given_out h r n) r)) (last_tag (state_at (given_out h r n) r))
+      (subst (λ t. t < 16) (sym tag) is_tag.below) in
+      record {
+        in_range = subst (λ (layout : Partition). r < slot_count layout) (sym (layout-given_out h r n)) in_range;
+        address_is = ap (λ t. with_tag (payload_place (slot_in (given_out h r n) r)) t) (sym shown);
+        tag = subst (IsTagOf r) (sym (shown ∙ tag)) is_tag;
+        past = omega (arith, times_now (suc (get_or times r 0)));
+        last = λ _. (shown, ap is_fresh (state_at-given_out h r n within));
+        last_but_one = λ is. absurd (omega (arith, times_now (suc (get_or times r 0))));
+      }
+
+-- ---- variables
+
+IsSoundVariable-kept : (h new : Heap) (times : List ℕ) (a : ℕ) (g : Option Generation) → KeepsGiven h new → IsSoundVariable h times a g →
+    IsSoundVariable new times a g
+IsSoundVariable-kept h new times a None kept i = record { null_or_tagged = i.null_or_tagged; follows = tt }
+IsSoundVariable-kept h new times a (Some g) kept i =
+    record { null_or_tagged = i.null_or_tagged; follows = IsAddressOf-kept h new times a g.slot g.time kept i.follows }
+
+-- the variable of a request is right after its call: it has the answer, or where there is none this address
+abbrev pub IsRight : {E : Type 0} → Run → ℕ → Option Generation → Step (Result ℕ E) → Option ℕ → Type 0
+IsRight w address generation step given =
+    IsSoundVariable step.heap (times_with w given) (result_unwrap_or step.answer address) (begun_or w generation given)
+
+module _ (w : Run) (sound : IsSoundRun w) where
+  in_states_of : (s : ℕ) → IsReusable w.replay.heap s → s < length w.replay.heap.states
+  in_states_of s reusable = in_states w.replay.heap s sound.heap reusable.in_range
+
+  in_times_of : (s : ℕ) → IsReusable w.replay.heap s → s < length w.times
+  in_times_of s reusable = subst (λ n. s < n) (sym sound.times) reusable.in_range
+
+  -- a variable that an event does not set
+  pub IsSoundVariable-other : (new : Heap) (given : Option ℕ) (a : ℕ) (g : Option Generation) → HeapChange w.replay.heap new given →
+      IsSoundVariable w.replay.heap w.times a g → IsSoundVariable new (times_with w given) a g
+  IsSoundVariable-other new None a g change i = IsSoundVariable-kept w.replay.heap new w.times a g change i
+  IsSoundVariable-other new (Some s) a None change i = record { null_or_tagged = i.null_or_tagged; follows = tt }
+  IsSoundVariable-other new (Some s) a (Some g) change i = record {
+    null_or_tagged = i.null_or_tagged;
+    follows = IsAddressOf-kept (given_out w.replay.heap s change.n) new (times_with w (Some s)) a g.slot g.time change.kept
+        (IsAddressOf-given_out w.replay.heap w.times s change.n sound.heap.tag_below (in_states_of s change.given.reusable)
+        (in_times_of s change.given.reusable) a g.slot g.time i.follows);
+  }
+
+  -- a variable that an event sets to the address of a slot that it gives out
+  IsSoundVariable-new : (new : Heap) (s n : ℕ) → MayBeGiven w.replay.heap n s → KeepsGiven (given_out w.replay.heap s n) new →
+      IsSoundVariable new (times_with w (Some s)) (pointer_to (given_out w.replay.heap s n) s)
+      (Some (record { slot = s; time = suc (times_of w s) }))
+  IsSoundVariable-new new s n given kept =
+      let i =
+      IsAddressOf-new w.replay.heap w.times s n sound.heap.tag_below (in_states_of s given.reusable) (in_times_of s given.reusable)
+      given.reusable.in_range in
+      let some : 0 < logical_tag (pointer_to (given_out w.replay.heap s n) s) = i.tag.not_zero in
+      record {
+        null_or_tagged = inr (omega arith);
+        follows =
+            IsAddressOf-kept (given_out w.replay.heap s n) new (times_with w (Some s)) (pointer_to (given_out w.replay.heap s n) s) s
+            (suc (times_of w s)) kept i;
+      }
+
+  -- ---- what a call gives
+
+  none_given : {new : Heap} → IsSoundVariable new w.times 0 None
+  none_given = record { null_or_tagged = inl refl; follows = tt }
+
+  pub IsSoundVariable-malloc : (n : ℕ) →
+      IsRight w 0 None (malloc_step w.replay.heap n) (result_ok (slot_for_request w.replay.heap n))
+  unfolding malloc_step
+  IsSoundVariable-malloc n =
+      slot_for_request-cases w.replay.heap n sound.heap (λ r. IsRight w 0 None (malloc_with w.replay.heap n r) (result_ok r))
+      (λ cause. none_given)
+      (λ s given. IsSoundVariable-new (given_out w.replay.heap s n) s n given (KeepsGiven-refl (given_out w.replay.heap s n)))
+
+  pub IsSoundVariable-calloc : (n : ℕ) →
+      IsRight w 0 None (calloc_step w.replay.heap n) (result_ok (slot_for_request w.replay.heap n))
+  unfolding calloc_step
+  IsSoundVariable-calloc n =
+      let zeroes = replicate (16 * chunk_granules n) 0 in
+      slot_for_request-cases w.replay.heap n sound.heap (λ r. IsRight w 0 None (calloc_with w.replay.heap n r) (result_ok r))
+      (λ cause. none_given)
+      (λ s given. IsSoundVariable-new (with_payload (given_out w.replay.heap s n) s zeroes) s n given
+      (KeepsGiven-with_payload (given_out w.replay.heap s n) s zeroes))
+
+  pub IsSoundVariable-realloc : (v n : ℕ) →
+      IsRight w (variable w.replay v) (generation_of w v) (realloc_step w.replay.heap (variable w.replay v) n)
+      (cond (variable w.replay v == 0) (result_ok (slot_for_request w.replay.heap n))
+      (slot_if_moved w.replay.heap n (chunk_at w.replay.heap (variable w.replay v))))
+  unfolding realloc_step malloc_step
+  IsSoundVariable-realloc v n =
+      either (p == 0) _ _ _ _
+      (λ _. slot_for_request-cases h n sound.heap (λ r. After (as_realloc (malloc_with h n r)) (result_ok r)) (λ cause. sound.variables v)
+      (λ s given. IsSoundVariable-new (given_out h s n) s n given (KeepsGiven-refl (given_out h s n))))
+      (λ _. by_chunk (chunk_at h p) refl)
+    where
+      h : Heap
+      h = w.replay.heap
+
+      p : ℕ
+      p = variable w.replay v
+
+      After : Step (Result ℕ ReallocError) → Option ℕ → Type 0
+      After = IsRight w (variable w.replay v) (generation_of w v)
+
+      either : (b : Bool) (x y : Step (Result ℕ ReallocError)) (o q : Option ℕ) → (b ≡ true → After x o) → (b ≡ false → After y q) →
+          After (cond b x y) (cond b o q)
+      either true x y o q so not_so = so refl
+      either false x y o q so not_so = not_so refl
+
+      by_chunk : (r : Result Chunk FreeError) → chunk_at h p ≡ r → After (realloc_with h p n r) (slot_if_moved h n r)
+      by_chunk (Err error) was = sound.variables v
+      by_chunk (Ok chunk) was =
+          let c = chunk_at-is h p chunk was in
+          either (stays_in_class h chunk n) _ _ None _
+          (λ _. IsSoundVariable-kept h (resized h chunk.slot n) w.times p (generation_of w v)
+          (KeepsGiven-resized h chunk.slot n chunk.size _ (in_states h chunk.slot sound.heap c.in_range) c.live) (sound.variables v))
+          (λ _. slot_for_request-cases h n sound.heap (λ r. After (move_with h chunk n r) (result_ok r)) (λ cause. sound.variables v)
+          (λ s given. IsSoundVariable-new (moved h chunk s n) s n given (KeepsGiven-moved h p chunk s n sound.heap c given)))
