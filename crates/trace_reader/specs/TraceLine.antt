@@ -1,5 +1,5 @@
 -- A line of a trace: how an event is spelled, and which event, or which fault, a line is.
-use Rattle.std.specs.Prelude.{ℕ, ℤ, nat_abs, ◌&&◌, List, [], ◌∷◌, length, codes, Option, Some, None, Result, Ok, Err, nat_lt, nat_le, ◌==◌, if◌then◌else◌, Bool}
+use Rattle.std.specs.Prelude.{ℕ, ℤ, nat_abs, ◌&&◌, List, [], ◌∷◌, ◌++◌, length, codes, Option, Some, None, Result, Ok, Err, nat_lt, nat_le, ◌==◌, if◌then◌else◌, Bool}
 use Rattle.std.specs.Fmt.{decimal, signed_decimal}
 use Rattle.std.specs.List.{list_any}
 use Rattle.std.specs.Str.{bytes_eq}
@@ -44,6 +44,11 @@ event_words (Subg v w u6 u4) = move_words (codes "subg") v w u6 u4
 -- The line of an event.
 abbrev pub event_line : Event → List ℕ
 event_line event = line_of (event_words event)
+
+-- The lines of events, each with its newline.
+abbrev pub event_lines : List Event → List ℕ
+event_lines [] = []
+event_lines (event ∷ events) = event_line event ++ 10 ∷ event_lines events
 
 -- ---- reading a word
 

@@ -56,6 +56,14 @@ impl EventQueue {
         Ok(())
     }
 
+    /// Adds events at the end.
+    pub(crate) fn extend(&mut self, events: &[Event]) -> Result<(), AllocError>
+        ensures ok { OnOk result (self.new ≡ self.old ++ events.now) }
+        ensures err { OnErr result (self.new ≡ self.old) }
+    {
+        self.events.extend_from_slice(events)
+    }
+
     /// Takes out the first event.
     #[inline(always)]
     pub(crate) fn pop(&mut self) -> Option<Event>

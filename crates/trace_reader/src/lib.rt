@@ -1,6 +1,7 @@
 //! Traces: the events that the lines of a text spell, read from the text in pieces of any size.
 #![tactic(auto)]
 
+mod batch;
 mod event_queue;
 mod fault;
 pub mod laws;

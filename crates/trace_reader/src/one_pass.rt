@@ -174,12 +174,11 @@ fn offset(text: &[u8]) -> Option<(i32, &[u8])>
     ensures spelled { IfSome result (λ x. text.now ≡ signed_decimal x.0 ++ 32 ∷ x.1.now) }
     ensures range { IfSome result (λ x. nat_abs x.0 ≤ Event.FARTHEST_ACCESS) }
 {
-    if let Some(digits) = after_name(b"-", text) {
-        let (n, after) = number(1, Event::FARTHEST_ACCESS, b' ', digits)?;
-        return Some((-1 - (n - 1) as i32, after));
+    if let Some((n, after)) = number(0, Event::FARTHEST_ACCESS, b' ', text) {
+        return Some((n as i32, after));
     }
-    let (n, after) = number(0, Event::FARTHEST_ACCESS, b' ', text)?;
-    Some((n as i32, after))
+    let (n, after) = number(1, Event::FARTHEST_ACCESS, b' ', after_name(b"-", text)?)?;
+    Some((-1 - (n - 1) as i32, after))
 }
 
 // the number from `low` to `high` in front of a text, up to the byte `end`

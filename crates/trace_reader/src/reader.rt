@@ -1,4 +1,4 @@
-ghost use Rattle.std.specs.Prelude.{◌≡◌, ◌≢◌, ◌≤◌, [], ◌∷◌, ◌++◌, drop, length, slice_get, false, true, All, Err, IfNone, IfOk, IfSome, MatchResult, OnOk, is_ok};
+ghost use Rattle.std.specs.Prelude.{◌≡◌, ◌≢◌, ◌≤◌, ◌+◌, [], ◌∷◌, ◌++◌, drop, length, slice_get, false, true, All, Err, IfNone, IfOk, IfSome, MatchResult, OnOk, is_ok};
 ghost use Rattle.line_text.specs.Lines.{IsLine, ended};
 ghost use Rattle.trace_reader.specs.declared.fault.TraceError.TheVariants.{OutOfMemory};
 ghost use Rattle.trace_event.specs.Ranges.{IsInRange};
@@ -8,10 +8,11 @@ ghost use Rattle.trace_reader.specs.Reading.State.{Failed};
 ghost use Rattle.trace_reader.specs.TraceLine.{event_line};
 ghost use Rattle.trace_reader.specs.Reading.{fed, finished, is_finished, nothing_read, IsJudgementIn, is_at_start, is_open, line_ended, with_judged};
 
+use crate::batch::{BATCH, events_in_front};
 use crate::event_queue::EventQueue;
 use crate::fault::{TraceError, TraceFault};
 use crate::line::{LONGEST_LINE, MOST_EVENTS, event_in};
-use crate::one_pass::{AT_ONCE, KEPT, first_event};
+use crate::one_pass::{AT_ONCE, first_event};
 use crate::status::Status;
 use arrayvec::ArrayVec;
 use line_text::first_line;
@@ -169,18 +170,43 @@ impl TraceReader {
             (λ error. HasReached self.old (fed self.old text.now) self.new (Err error)) }
         ensures shorter { IfOk result (λ rest. length rest.now ≤ length text.now) }
     {
-        let mut rest = text;
         if !self.rest.is_empty() {
-            return Ok(rest);
+            return Ok(text);
         }
-        while let Some((event, after)) = first_event::<KEPT>(rest) {
-            if self.lines == MOST_EVENTS {
-                break;
+        let mut batch = [Event::Free { v: 0 }; BATCH];
+        let mut rest = text;
+        loop {
+            let (count, after) = self.take_batch(&mut batch, rest)?;
+            if count == 0 {
+                return Ok(after);
             }
-            self.add(Ok(event))?;
             rest = after;
         }
-        Ok(rest)
+    }
+
+    // Takes the events of the lines in front of a text, as many as a batch has room for and up to the first line that is not read in one
+    // pass. Returns how many they are, and the text after them.
+    #[inline(always)]
+    fn take_batch<'a>(
+        &mut self,
+        batch: &mut [Event; BATCH],
+        text: &'a [u8],
+    ) -> Result<(usize, &'a [u8]), TraceError>
+        requires { is_at_start self.old ≡ true }
+        ensures way { MatchResult result
+            (λ taken. IsOnTheWay self.old text.now self.new taken.1.now)
+            (λ error. HasReached self.old (fed self.old text.now) self.new (Err error)) }
+        ensures start { IfOk result (λ _. is_at_start self.new ≡ true) }
+        ensures shorter { IfOk result (λ taken. taken.0 + length taken.1.now ≤ length text.now) }
+    {
+        let room = (MOST_EVENTS - self.lines) as usize;
+        let (count, after) = events_in_front(batch, room.min(BATCH), text);
+        if self.events.extend(&batch[..count]).is_err() {
+            self.status = Status::Failed(TraceError::OutOfMemory);
+            return Err(TraceError::OutOfMemory);
+        }
+        self.lines += count as u32;
+        Ok((count, after))
     }
 
     // ends the unfinished line with these bytes and a newline
@@ -206,8 +232,7 @@ impl TraceReader {
         self.add(judged)
     }
 
-    // Keeps the event of the line that was judged, or stops at its fault. Inlined, so that an event of `take_events` costs no call.
-    #[inline(always)]
+    // keeps the event of the line that was judged, or stops at its fault
     fn add(&mut self, judged: Result<Event, TraceFault>) -> Result<(), TraceError>
         requires open { is_open self.old ≡ true }
         requires judged { IsJudgementIn self.old.state judged }

@@ -3,12 +3,12 @@ use Rattle.trace_reader.specs.Reached.{IsOnTheWay}
 use Rattle.trace_reader.specs.Reading.{is_at_start}
 use Rattle.trace_reader.proofs.reader.TraceReader.take_events.Given as goal
 
-abbrev pub invariant-loop-event : goal.invariant-loop-event
-invariant-loop-event l = record {
+abbrev pub invariant-loop-count : goal.invariant-loop-count
+invariant-loop-count l = record {
   way : IsOnTheWay l.fn.self l.text l.self l.rest;
   start : is_at_start l.self ≡ true;
   shorter : length l.rest ≤ length l.text;
 }
 
-abbrev pub decreases-loop-event : goal.decreases-loop-event
-decreases-loop-event l = length l.rest
+abbrev pub decreases-loop-count : goal.decreases-loop-count
+decreases-loop-count l = length l.rest
