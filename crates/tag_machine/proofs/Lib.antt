@@ -3,3 +3,4 @@ pub mod DrawnTags
 pub mod Choice
 pub mod Touched
 pub mod BitTables
+mod ChosenTags

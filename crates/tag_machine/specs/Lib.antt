@@ -1,2 +1,3 @@
 pub mod MaskBits
 pub mod Lending
+pub mod Rows

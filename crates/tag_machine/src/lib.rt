@@ -5,6 +5,7 @@
 
 mod addresses;
 mod checks;
+mod chosen_tags;
 mod draws;
 mod machine;
 mod mask_bits;

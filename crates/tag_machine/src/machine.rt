@@ -1,11 +1,15 @@
 ghost use Rattle.machine_theory.specs.Access.{IsMapped, access_fault, is_mapped, loaded, ok_unless, stored};
-ghost use Rattle.machine_theory.specs.Instructions.{addg, after_irg, gmi, irg, ldg, st2g, stg, stzg, subg, tag_store_fault};
+ghost use Rattle.machine_theory.specs.Address.{with_tag};
+ghost use Rattle.machine_theory.specs.Instructions.{addg, after_irg, drawn_tag, gmi, irg, ldg, st2g, stg, stzg, subg, tag_store_fault};
 ghost use Rattle.machine_theory.specs.Machine.{IsRegister};
+ghost use Rattle.machine_theory.specs.Seed.{next_seed};
+ghost use Rattle.tag_machine.specs.Rows.{row_mask};
 ghost use Rattle.std.specs.Borrow.{sem};
-ghost use Rattle.std.specs.Prelude.{◌≡◌, ◌≢◌, ◌↔◌, ◌≤◌, IsTrue, OnErr, OnOk, length};
+ghost use Rattle.std.specs.Prelude.{◌≡◌, ◌≢◌, ◌↔◌, ◌<◌, ◌≤◌, IsTrue, OnErr, OnOk, length};
 
 use crate::addresses::{aligned, granule_of, logical_tag, with_tag};
 use crate::checks::{check_access, check_tag_store, is_mapped};
+use crate::chosen_tags::chosen_in_row;
 use crate::draws::{next_offset, next_seed};
 use crate::tag_choice::choose_tag;
 use granule_memory::Memory;
@@ -61,6 +65,22 @@ impl Machine {
     {
         let exclude = (xm & 0xffff) as u16 | EXCLUDE;
         self.tag = choose_tag(self.tag, next_offset(self.seed), exclude);
+        self.seed = next_seed(self.seed);
+        with_tag(xn, self.tag)
+    }
+
+    /// IRG with the mask of a row (`row_mask`), 0 to 31: rows 0 to 15 exclude the even tags, rows 16 to 31 the odd ones and 0, and each the
+    /// tag that is the row modulo 16, too. The tag comes from a table.
+    #[tactic(auto, unfolding(machine_theory::specs::Instructions::drawn_tag))]
+    pub fn irg_in_row(&mut self, xn: u64, row: usize) -> u64
+        requires { row < 32 }
+        ensures answer { result ≡ with_tag xn (drawn_tag self.old.tag self.old.seed (row_mask row)) }
+        ensures register { self.new ≡ record self.old {
+          seed = next_seed self.old.seed;
+          tag = drawn_tag self.old.tag self.old.seed (row_mask row);
+        } }
+    {
+        self.tag = chosen_in_row(row, self.tag, next_offset(self.seed));
         self.seed = next_seed(self.seed);
         with_tag(xn, self.tag)
     }

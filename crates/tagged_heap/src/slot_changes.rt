@@ -13,7 +13,7 @@ ghost use Rattle.heap_theory.specs.Region.{region_of, header_in};
 
 use crate::pointers::payload_place;
 use crate::read_header::header;
-use crate::tags::{chunk_granules, draw, exclude, tag_chunk};
+use crate::tags::{chunk_granules, draw, tag_chunk};
 use chunk_header::{Header, State, write};
 use class_table::{Layout, Slot};
 use tag_machine::Machine;
@@ -44,7 +44,7 @@ pub(crate) fn give_out(
 {
     let before = header(machine.memory(), layout, slot, place.start);
     let payload = payload_place(place.start);
-    let (tag, address) = draw(machine, payload, exclude(slot, before.tag));
+    let (tag, address) = draw(machine, payload, slot, before.tag);
     let after = Header {
         state: State::Live,
         size: n as u16,
@@ -97,7 +97,7 @@ pub(crate) fn retire(machine: &mut Machine, layout: &Layout, slot: u32, start: u
     ensures memory { IsMemory machine.new.memory }
 {
     let before = header(machine.memory(), layout, slot, start);
-    let (other, _) = draw(machine, 0, exclude(slot, before.tag));
+    let (other, _) = draw(machine, 0, slot, before.tag);
     let after = Header {
         state: State::Quarantined,
         next: 0,

@@ -5,6 +5,7 @@ ghost use Rattle.machine_theory.specs.Address.{with_tag};
 ghost use Rattle.machine_theory.specs.Instructions.{drawn_tag};
 ghost use Rattle.machine_theory.specs.Memory.{tagged, IsMemory};
 ghost use Rattle.machine_theory.specs.Seed.{next_seed};
+ghost use Rattle.tag_machine.specs.Rows.{row_mask};
 ghost use Rattle.std.specs.Prelude.{◌≡◌, ◌+◌, ◌^◌, ◌<◌, ◌≤◌, bit_or, length};
 
 use class_table::{LARGEST_CLASS, Slot, need};
@@ -20,26 +21,30 @@ pub(crate) fn chunk_granules(n: u32) -> u32
     need(n) - 1
 }
 
-/// The tags that the slot of this number may not take: 0, those of the number's own parity, and `last`, its present or last tag.
-pub(crate) fn exclude(slot: u32, last: u8) -> u16
+/// Draws a tag that the slot of this number may take next, by one IRG: not 0, none of the number's own parity, and not `last`, its present or
+/// last tag. Returns the tag, and the address with it.
+#[inline(always)]
+pub(crate) fn draw(machine: &mut Machine, address: u64, slot: u32, last: u8) -> (u8, u64)
     requires { last < 16 }
-    ensures { result ≡ bit_or (parity_exclude slot) (2 ^ last) }
-{
-    let parity = if slot % 2 == 0 { 0x5555 } else { 0xAAAB };
-    parity | 1 << last
-}
-
-/// Draws a tag that is not excluded, by one IRG. Returns the tag, and the address with it.
-#[tactic(auto, unfolding(machine_theory::specs::Instructions::drawn_tag))]
-pub(crate) fn draw(machine: &mut Machine, address: u64, exclude: u16) -> (u8, u64)
-    ensures tag { result.0 ≡ drawn_tag machine.old.tag machine.old.seed exclude }
+    ensures tag { result.0
+        ≡ drawn_tag machine.old.tag machine.old.seed (bit_or (parity_exclude slot) (2 ^ last)) }
     ensures below { result.0 < 16 }
-    ensures address { result.1 ≡ with_tag address (drawn_tag machine.old.tag machine.old.seed exclude) }
+    ensures address { result.1
+        ≡ with_tag address (drawn_tag machine.old.tag machine.old.seed (bit_or (parity_exclude slot) (2 ^ last))) }
     ensures register { machine.new ≡ record machine.old { seed = next_seed machine.old.seed; tag = result.0 } }
 {
-    let tagged = machine.irg(address, u64::from(exclude));
+    let tagged = machine.irg_in_row(address, row(slot, last));
     // the tag that IRG chose is in the register
     (machine.rgsr().0, tagged)
+}
+
+// the row of the mask of what the slot of this number may not take, without 0
+fn row(slot: u32, last: u8) -> usize
+    requires { last < 16 }
+    ensures row { result < 32 }
+    ensures mask { row_mask result ≡ bit_or (parity_exclude slot) (2 ^ last) }
+{
+    16 * (slot % 2) as usize + usize::from(last)
 }
 
 /// Gives the granules of the chunk for a request of `n` bytes this tag, and the rest of the slot's payload tag 0.
