@@ -2,8 +2,8 @@ pub mod LawLemmas
 pub mod TheoryLemmas
 pub mod Accesses
 pub mod CountedTotals
-pub mod HexPairs
-mod HexParts
+mod DigitsOfBytes
 pub mod Reached
 pub mod StoredMore
+mod TwoDigits
 pub mod Written

@@ -2,3 +2,4 @@ pub mod TotalsBounds
 pub mod ReplayFields
 pub mod TheoryValues
 pub mod ReplayState
+pub mod TwoDigits

@@ -32,6 +32,8 @@ pub struct Replay {
     pub(crate) heap: Heap,
     pub(crate) variables: Vec<u64>,
     pub(crate) totals: Totals,
+    // Its first bytes are those that the last load read. One for each event would be zeroed for each.
+    pub(crate) loaded: [u8; LONGEST_ACCESS],
 }
 
 impl Model for Replay {
@@ -62,6 +64,7 @@ impl Replay {
             heap,
             variables,
             totals: Totals::NONE,
+            loaded: [0; LONGEST_ACCESS],
         })
     }
 
@@ -100,10 +103,9 @@ impl Replay {
         ensures stored { self.new ≡ stored_after self.old event.now }
         ensures run { (run : Run) → run.replay ≡ self.old.replay → (run_after run event.now).replay ≡ self.new.replay }
     {
-        let mut bytes = [0; LONGEST_ACCESS];
-        let answer = perform(&mut self.heap, &mut self.variables, event, &mut bytes);
+        let answer = perform(&mut self.heap, &mut self.variables, event, &mut self.loaded);
         self.totals.count(&self.heap, event, &answer);
-        write_line(text, at, self.totals.events, &answer, &bytes)
+        write_line(text, at, self.totals.events, &answer, &self.loaded)
     }
 
     /// How many events were performed.

@@ -12,6 +12,9 @@ use crate::put::{put, put_hex, put_number};
 use crate::replay::LINE_ROOM;
 use heap_theory::{FreeError, NullCause, PlaceKind};
 
+// How many bytes have their digits written at once. The longest access has whole strides.
+const STRIDE: usize = 16;
+
 /// Writes the line of the event of this number with its newline, or nothing if the event has no line, into a text at a place, where it has
 /// room for any line. Returns where the line ends. `bytes` holds what was loaded.
 #[tactic(auto, unfolding(replay_theory::specs::Report::report_line))]
@@ -29,7 +32,7 @@ pub(crate) fn write_line(
 {
     match *answer {
         Answer::Silent => at,
-        Answer::Loaded { len } => write_data(text, at, number, &bytes[..usize::from(len)]),
+        Answer::Loaded { len } => write_data(text, at, number, bytes, usize::from(len)),
         Answer::NotMapped => write_words(text, at, number, b"fault", b"unmapped"),
         Answer::TagFault {
             granule,
@@ -42,17 +45,24 @@ pub(crate) fn write_line(
     }
 }
 
-// the line of a load that succeeds
-fn write_data(text: &mut [u8], at: usize, number: u64, bytes: &[u8]) -> usize
+// The line of a load that succeeds, of the first `len` bytes.
+fn write_data(
+    text: &mut [u8],
+    at: usize,
+    number: u64,
+    bytes: &[u8; LONGEST_ACCESS],
+    len: usize,
+) -> usize
     requires room { at + LINE_ROOM ≤ length text.old }
-    requires few { length bytes.now ≤ LONGEST_ACCESS }
+    requires few { len ≤ LONGEST_ACCESS }
     ensures end { result ≤ at + LINE_ROOM }
-    ensures text { take result text.new ≡ take at text.old ++ report_line number (Loaded bytes.now) }
+    ensures text { take result text.new ≡ take at text.old ++ report_line number (Loaded (take len bytes.now)) }
 {
     let end = put_number(text, at, number);
     let end = put(text, end, b" data ");
-    let end = put_hex(text, end, bytes);
-    put(text, end, b"\n")
+    // the digits of whole strides; what they have past the last byte lies after the line
+    put_hex(text, end, &bytes[..STRIDE * len.div_ceil(STRIDE)]);
+    put(text, end + 2 * len, b"\n")
 }
 
 // the line of a tag fault
