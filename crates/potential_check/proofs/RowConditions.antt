@@ -1,10 +1,12 @@
 -- What is looked at row by row is what a sheet has to meet, and what it meets is the verdict.
-use Rattle.std.proofs.Common.{◌≡◌, ℕ, suc, ◌+◌, ◌-◌, ◌<◌, List, [], length, slice_index, arith, ap, rules, ◌∙◌}
-use Rattle.std.specs.Prelude.{◌↔◌, slice_index_or}
+use Rattle.std.proofs.Common.{◌≡◌, ℕ, zero, suc, ◌+◌, ◌-◌, ◌<◌, ◌≤◌, ◌^◌, List, [], length, slice_index, arith, ap, inl, inr, rules, sym, ◌∙◌}
+use Rattle.std.specs.Prelude.{◌↔◌, All, slice_index_or}
 use Rattle.std.specs.List.{AllAdjacentBelow}
-use Rattle.std.proofs.lemmas.List.{get_or_default}
-use Rattle.potential_check.specs.RowConditions.{EdgesHold, StageDropHolds}
-use Rattle.potential_check.specs.Spanned.{Spanned}
+use Rattle.std.proofs.lemmas.Bool.{cases_lt}
+use Rattle.std.proofs.lemmas.List.{get_or_default, get_or_past}
+use Rattle.potential_check.specs.RowConditions.{EdgesHold, IsBoundedRow, StageDropHolds}
+use Rattle.potential_check.specs.Spanned.{IsSpanned, Spanned}
+use Rattle.tuner_theory.proofs.LawLemmas.{spans_fit}
 use Rattle.tuner_theory.specs.Rows.{number_at}
 use Rattle.tuner_theory.specs.Sheets.{IsVerdict, Meets, MeetsBefore, Sheet}
 use Rattle.tuner_theory.specs.Spans.{places, span_waste}
@@ -72,6 +74,37 @@ module _ (s : Sheet) (spans : Spanned) (same : spans.step ≡ s.step) (shape : M
 
   pub edges-met : AllAdjacentBelow (EdgesHold spans) s.rows (length s.rows) ↔ Meets spans.counts s Edge
   edges-met = (edges-meet, meet-edges)
+
+  -- where no number of the first row is above the waste of one class, and no later one above that of the row before, all are bounded
+  number-bounded : IsSpanned spans → Meets spans.counts s LastClass → Meets spans.counts s StageDrop → (m i : ℕ) → m < length s.rows
+      → i < places spans.counts s.step → number_at s.rows (suc m) i ≤ 2 ^ 58
+  number-bounded spanned last drop zero i some within =
+      omega (
+        arith,
+        last i within,
+        spans_fit spans.counts s.step i (places spans.counts s.step) (rw same at spanned.is_step) spanned.are_counts within (omega arith),
+      )
+  number-bounded spanned last drop (suc m) i some within =
+      omega (
+        arith,
+        drop (suc m) i (omega arith) (omega (arith, shape.row_count)) within,
+        number-bounded spanned last drop m i (omega arith) within,
+      )
+
+  pub rows-bounded : Meets spans.counts s LastClass → Meets spans.counts s StageDrop → All (IsBoundedRow spans) s.rows
+  rows-bounded last drop m d lt =
+      let full : length (slice_index_or s.rows m d) ≡ places spans.counts spans.step = shape.row_lengths m d lt ∙ sym places-are in
+      record {
+        full = full;
+        bounded = λ spanned i. elim (cases_lt i (length (slice_index_or s.rows m d))) [
+          | inl within ↦ omega (
+            arith,
+            number-bounded spanned last drop m i lt (omega (arith, shape.row_lengths m d lt)),
+            number-is s.rows (suc m) m i d (omega arith) lt,
+          )
+          | inr past ↦ omega (arith, get_or_past (slice_index_or s.rows m d) i 0 past)
+        ];
+      }
 
 -- ---- the last test
 

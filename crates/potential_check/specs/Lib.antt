@@ -8,3 +8,4 @@ pub mod SheetText
 pub mod SheetView
 pub mod Spaced
 pub mod Spanned
+pub mod EdgeWalk

@@ -1,6 +1,6 @@
 -- What bounds the numbers of a certificate's rows: the first row by itself, a later row beside the row before it.
-use Rattle.std.specs.Prelude.{◌≡◌, ℕ, ◌+◌, ◌<◌, ◌≤◌, List, length, slice_index}
-use Rattle.potential_check.specs.Spanned.{Spanned}
+use Rattle.std.specs.Prelude.{◌≡◌, ℕ, ◌+◌, ◌<◌, ◌≤◌, ◌^◌, List, length, slice_index}
+use Rattle.potential_check.specs.Spanned.{IsSpanned, Spanned}
 use Rattle.tuner_theory.specs.Spans.{places, span_waste}
 
 -- No number is more than what one class for all needs above its place wastes.
@@ -10,6 +10,11 @@ pub record LastClassHolds (s : Spanned) (row : List ℕ) : Type 0 where
 -- No number is more than the one at its place in the row before.
 pub record StageDropHolds (before row : List ℕ) : Type 0 where
   pub each : (i : ℕ) → i < length row → slice_index row i ≤ slice_index before i
+
+-- A row with a number for each place. Where the counts are those of a profile, none is above 2^58.
+pub record IsBoundedRow (s : Spanned) (row : List ℕ) : Type 0 where
+  pub full : length row ≡ places s.counts s.step
+  pub bounded : IsSpanned s → (i : ℕ) → slice_index row i ≤ 2 ^ 58
 
 -- The most that a number at place i may be by its edge to a later place j:
 -- what one class for the needs above i up to j wastes, and the number of the row before at j.

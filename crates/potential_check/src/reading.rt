@@ -160,14 +160,17 @@ fn rows_in(alloc: Global, lines: &mut Lines<'_>, first: u64) -> Result<Rows, She
     ensures after { IfOk result (λ rows. lines.new ≡ drop (length rows) lines.old) }
 {
     let mut rows = Vec::new(alloc);
+    // mostly a row has as many numbers as the one before
+    let mut expected = 0;
     while let Some(words) = next_named(ROW, lines) {
         let number = first + rows.len() as u64;
         if rows.len() == MOST_ROWS {
             return Err(SheetError::Line(number));
         }
-        let Some(row) = row_of_words(alloc, words)? else {
+        let Some(row) = row_of_words(alloc, words, expected)? else {
             return Err(SheetError::Line(number));
         };
+        expected = row.len();
         rows.push(row).map_err(|_| SheetError::OutOfMemory)?;
     }
     Ok(Rows::new(rows))

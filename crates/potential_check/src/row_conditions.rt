@@ -1,9 +1,8 @@
 //! The conditions on the numbers of a sheet's rows. A number may have any 64 bits. So a sum with a number has 128 bits, or the code avoids
 //! the sum.
-ghost use Rattle.std.specs.Prelude.{◌≡◌, ◌↔◌, ℕ, ◌+◌, ◌<◌, ◌≤◌, ◌^◌, length, IsTrue};
-ghost use Rattle.std.specs.Option.{SomeIff};
+ghost use Rattle.std.specs.Prelude.{◌≡◌, ◌↔◌, ℕ, ◌+◌, ◌<◌, ◌≤◌, length, IsTrue};
 ghost use Rattle.class_table.specs.Steps.{IsStep};
-ghost use Rattle.potential_check.specs.RowConditions.{EdgesHold, EdgesHoldWithin, LastClassHolds, StageDropHolds, edge_bound};
+ghost use Rattle.potential_check.specs.RowConditions.{EdgesHold, EdgesHoldWithin, IsBoundedRow, LastClassHolds, StageDropHolds, edge_bound};
 ghost use Rattle.tuner_theory.specs.Spans.{places};
 
 use crate::edge_walk::is_tight_row;
@@ -39,7 +38,8 @@ pub(crate) fn stage_drop_holds(before: &[u64], row: &[u64]) -> bool
 
 /// Whether no number of a row is more than its edge to any later place allows.
 pub(crate) fn edges_hold(spans: &Spans, before: &[u64], row: &[u64]) -> bool
-    requires { length row.now ≡ places spans.now.counts spans.now.step }
+    requires before { IsBoundedRow spans.now before.now }
+    requires row { IsBoundedRow spans.now row.now }
     ensures { IsTrue result ↔ EdgesHold spans.now before.now row.now }
 {
     let last = spans.places();
@@ -105,28 +105,4 @@ fn edge_bound(spans: &Spans, before: &[u64], i: usize, j: usize) -> u128
     ensures { result ≡ edge_bound spans.now before.now i j }
 {
     u128::from(spans.waste(i, j)) + u128::from(number_in_row(before, j))
-}
-
-/// The most that a number at place `i` may be by its edge to place `j`. `None` if that is past 64 bits, so that every number is within the
-/// edge.
-#[inline(always)]
-pub(crate) fn word_bound(spans: &Spans, before: &[u64], i: usize, j: usize) -> Option<u64>
-    requires order { i < j }
-    requires within { j ≤ places spans.now.counts spans.now.step }
-    ensures { let bound = edge_bound spans.now before.now i j in SomeIff result (bound < 2 ^ 64) bound }
-{
-    spans.waste(i, j).checked_add(number_in_row(before, j))
-}
-
-/// Whether a number at place `i` is more than its edge to place `j` allows.
-#[inline(always)]
-pub(crate) fn exceeds_edge(number: u64, spans: &Spans, before: &[u64], i: usize, j: usize) -> bool
-    requires order { i < j }
-    requires within { j ≤ places spans.now.counts spans.now.step }
-    ensures { IsTrue result ↔ (edge_bound spans.now before.now i j < number) }
-{
-    match word_bound(spans, before, i, j) {
-        Some(bound) => number > bound,
-        None => false,
-    }
 }

@@ -56,14 +56,15 @@ pub(crate) fn cost_in(cost: Cost, line: &[u8]) -> Option<u64>
     only_number(words_after(cost.word(), line)?)
 }
 
-/// The numbers of a row, which are the words after the name.
+/// The numbers of a row, which are the words after the name. There is room at once for the number of them that is expected.
 pub(crate) fn row_of_words(
     alloc: Global,
     mut words: Words<'_>,
+    expected: usize,
 ) -> Result<Option<Vec<u64>>, AllocError>
     ensures { IfOk result (λ row. option_map (λ v. v.items) row ≡ row_of_words words.entry) }
 {
-    let mut row = Vec::new(alloc);
+    let mut row = Vec::with_capacity(alloc, expected)?;
     while let Some(read) = words.next_as_number() {
         let Number::Value(number) = read else {
             return Ok(None);

@@ -1,7 +1,7 @@
 //! A sheet with the spans of its profile, and the order in which its rows are tested.
 ghost use Rattle.std.specs.Prelude.{◌≡◌, ◌↔◌, All, length, IfNone, IfSome, IsTrue};
 ghost use Rattle.std.specs.List.{AllAdjacentBelow};
-ghost use Rattle.potential_check.specs.RowConditions.{EdgesHold, StageDropHolds};
+ghost use Rattle.potential_check.specs.RowConditions.{EdgesHold, IsBoundedRow, StageDropHolds};
 ghost use Rattle.potential_check.specs.SheetView.{sheet_of};
 ghost use Rattle.tuner_theory.specs.Sheets.{IsVerdict, Meets, MeetsBefore};
 ghost use Rattle.tuner_theory.specs.Spans.{places};
@@ -94,7 +94,9 @@ impl<'a> SheetOnSpans<'a> {
 
     // whether each later row is within its edges
     fn meets_edge(&self) -> bool
-        requires { Meets self.now.counts self.now.sheet Shape }
+        requires shape { Meets self.now.counts self.now.sheet Shape }
+        requires last { Meets self.now.counts self.now.sheet LastClass }
+        requires drop { Meets self.now.counts self.now.sheet StageDrop }
         ensures { IsTrue result ↔ Meets self.now.counts self.now.sheet Edge }
     {
         all_edges_hold(self.spans, &self.sheet.rows)
@@ -141,7 +143,7 @@ fn all_drops_hold(rows: &Rows) -> bool
 
 // whether no number of a later row is more than its edges allow
 fn all_edges_hold(spans: &Spans, rows: &Rows) -> bool
-    requires { All (λ row. length row ≡ places spans.now.counts spans.now.step) rows.now }
+    requires { All (IsBoundedRow spans.now) rows.now }
     ensures { IsTrue result ↔ AllAdjacentBelow (EdgesHold spans.now) rows.now (length rows.now) }
 {
     for index in 1..rows.len() {

@@ -109,8 +109,8 @@ impl<'a> Spans<'a> {
         payload * (requests - requests_before) - (bytes - bytes_before)
     }
 
-    // the number of requests counted up to a place
-    fn requests_up_to(&self, place: usize) -> u64
+    /// The number of requests counted up to a place.
+    pub(crate) fn requests_up_to(&self, place: usize) -> u64
         requires { place ≤ places self.now.counts self.now.step }
         ensures requests { let high = need_at self.now.counts self.now.step place in
             result ≡ counted_up_to self.now.counts self.now.step high }
@@ -119,8 +119,8 @@ impl<'a> Spans<'a> {
         self.counted[place]
     }
 
-    // how many bytes they asked for
-    fn bytes_up_to(&self, place: usize) -> u64
+    /// How many bytes they asked for.
+    pub(crate) fn bytes_up_to(&self, place: usize) -> u64
         requires { place ≤ places self.now.counts self.now.step }
         ensures { let high = need_at self.now.counts self.now.step place in
             result ≡ bytes_up_to self.now.counts self.now.step high }

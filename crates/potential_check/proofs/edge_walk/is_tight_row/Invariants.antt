@@ -1,11 +1,14 @@
-use Rattle.std.proofs.Common.{ℕ, ◌<◌, ◌≤◌, length}
+use Rattle.std.proofs.Common.{◌≡◌, ℕ, ◌<◌, ◌≤◌, length}
 use Rattle.potential_check.specs.RowConditions.{HasTightEnd}
+use Rattle.potential_check.specs.EdgeWalk.{IsEnd, IsStart}
 use Rattle.potential_check.proofs.TightEnds.{IsWalked}
 use Rattle.potential_check.proofs.edge_walk.is_tight_row.Given as goal
 use Rattle.tuner_theory.specs.Spans.{places}
 
 abbrev pub invariant-loop-place : goal.invariant-loop-place
 invariant-loop-place l = record {
-  walked : IsWalked l.spans l.before l.row l.place l.end;
+  walked : IsWalked l.spans l.before l.row l.place l.end.place;
   tight : (k : ℕ) → l.place ≤ k → k < length l.row → HasTightEnd l.spans l.before l.row k (places l.spans.counts l.spans.step);
+  end : IsEnd l.spans l.before l.end;
+  next : IsStart l.spans l.row l.next × (l.next.place ≡ l.place);
 }

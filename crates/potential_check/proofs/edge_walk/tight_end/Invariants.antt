@@ -1,14 +1,17 @@
-use Rattle.std.proofs.Common.{ℕ, ◌+◌, ◌<◌, ◌≤◌, slice_index}
+use Rattle.std.proofs.Common.{ℕ, ◌<◌, ◌≤◌, slice_index}
 use Rattle.potential_check.specs.RowConditions.{edge_bound}
+use Rattle.potential_check.specs.EdgeWalk.{IsEnd}
 use Rattle.potential_check.proofs.edge_walk.tight_end.Given as goal
 
-abbrev pub invariant-loop-bound : goal.invariant-loop-bound
-invariant-loop-bound l = record {
-  after : l.place < l.end;
-  upto : l.end ≤ l.last;
-  here : (j : ℕ) → l.end < j → j ≤ l.last → slice_index l.row l.place < edge_bound l.spans l.before l.place j;
-  next : (j : ℕ) → l.place + 1 < j → l.end ≤ j → j < l.last → slice_index l.row (l.place + 1) ≤ edge_bound l.spans l.before (l.place + 1) j;
+abbrev pub invariant-end : goal.invariant-end
+invariant-end l = record {
+  end : IsEnd l.spans l.before l.end;
+  after : l.start.place < l.end.place;
+  upto : l.end.place ≤ l.fn.last.place;
+  here : (j : ℕ) → l.end.place < j → j ≤ l.fn.last.place → slice_index l.row l.start.place < edge_bound l.spans l.before l.start.place j;
+  next : (j : ℕ) → l.next.place < j → l.end.place ≤ j → j < l.fn.last.place
+      → slice_index l.row l.next.place ≤ edge_bound l.spans l.before l.next.place j;
 }
 
-abbrev pub decreases-loop-bound : goal.decreases-loop-bound
-decreases-loop-bound l = l.end
+abbrev pub decreases-end : goal.decreases-end
+decreases-end l = l.end.place

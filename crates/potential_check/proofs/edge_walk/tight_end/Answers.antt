@@ -1,0 +1,44 @@
+use Rattle.std.proofs.Common.{◌≡◌, ◌<◌, ◌≤◌, slice_index, ap, arith, inl, inr}
+use Rattle.std.proofs.lemmas.Bool.{both_ways, cases_lt}
+use Rattle.potential_check.specs.RowConditions.{edge_bound}
+use Rattle.potential_check.proofs.edge_walk.tight_end.Goals as goal
+use Rattle.potential_check.proofs.edge_walk.tight_end.Goals.{else-next-end-via-then-next-end+else-exceeds_edge, else-next-end-via-else-next-end}
+
+pub end-preserved : goal.end-preserved
+end-preserved c =
+    let s = c.args.spans.now in
+    let before = c.args.before.now in
+    let row = c.args.row.now in
+    let place = c.args.start.place in
+    let later = c.args.next.place in
+    let old = c.end.end.place in
+    let new = c.end_at-end.result.place in
+    let down = c.end_at-end.ensures.place in
+    let sides = c.sides-number.ensures in
+    let less : slice_index row place < edge_bound s before place old =
+    omega (arith, sides.1, sides.2, c.if-number-bound.false, c.if-number-bound-2.false) in
+    let after : place < new = omega (arith, down, c.end.invariant.after, c.if-end-next.false, c.requires.next.1) in
+    let tested : later < new → slice_index row later ≤ edge_bound s before later new =
+    (λ lt. elim c.else-next-end.branch [
+      | else-next-end-via-then-next-end+else-exceeds_edge w ↦
+          omega (
+            arith,
+            λ (more : edge_bound s before later new < slice_index row later).
+                both_ways w.exceeds_edge.result w.if-exceeds_edge.false (w.exceeds_edge.ensures.1 more),
+          )
+      | else-next-end-via-else-next-end w ↦ absurd (omega (arith, w.if-next-end.false))
+    ]) in
+    record {
+      end = c.end_at-end.ensures.end;
+      after = after;
+      upto = omega (arith, down, c.end.invariant.upto);
+      here = λ j above upto. elim (cases_lt old j) [
+        | inl past ↦ c.end.invariant.here j past upto
+        | inr at ↦ (let same : j ≡ old = omega (arith, down) in omega (arith, ap (edge_bound s before place) same, less))
+      ];
+      next = λ j from above below. elim (cases_lt j old) [
+        | inl at ↦ (let same : j ≡ new = omega (arith, down) in
+            omega (arith, ap (edge_bound s before later) same, tested (omega arith)))
+        | inr past ↦ c.end.invariant.next j from past below
+      ];
+    }
