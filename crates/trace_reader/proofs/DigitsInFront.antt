@@ -13,7 +13,7 @@ first_digit [] d some is small = absurd (omega arith)
 first_digit (b ∷ text) d some is small = sym (decimal_digit d (omega (arith, small)) ∙ ap (λ (x : ℕ). x ∷ []) (sym is))
 
 -- and a digit more is that of ten times the number and the digit
-longer : (value d : ℕ) → 0 < value → d < 10 → value * 10 + d < 2 ^ 64 → decimal (value * 10 + d) ≡ decimal value ++ (48 + d) ∷ []
+pub longer : (value d : ℕ) → 0 < value → d < 10 → value * 10 + d < 2 ^ 64 → decimal (value * 10 + d) ≡ decimal value ++ (48 + d) ∷ []
 longer value d some small fits =
     let front : (value * 10 + d) / 10 ≡ value = omega arith in
     let last : (value * 10 + d) % 10 ≡ d = omega arith in

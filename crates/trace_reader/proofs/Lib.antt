@@ -13,5 +13,6 @@ pub mod SpelledEvents
 pub mod SpelledLines
 pub mod SpelledWords
 pub mod TraceSpelling
+pub mod ThreeDigits
 pub mod Traces
 pub mod WorkedExamples

@@ -21,6 +21,15 @@ const WINDOW: usize = 48;
 // the bytes of a word
 const WORD: usize = 4;
 
+// the digits of 100, the first digit the lowest byte
+const LEAST_DIGITS: u32 = 0x0030_3031;
+
+// What a digit is more than in 100, and this, make less than 128, and a larger value makes more.
+const ABOVE: u32 = 0x0076_7677;
+
+// the highest bit of each digit's byte, and all bits of the byte after them
+const HIGH_BITS: u32 = 0xff80_8080;
+
 /// The copy of `first_event` for events that are handed out at once.
 pub(crate) const AT_ONCE: u8 = 0;
 
@@ -164,6 +173,9 @@ fn variable(end: u8, text: &[u8]) -> Option<(u16, &[u8])>
     ensures spelled { IfSome result (λ x. text.now ≡ decimal x.0 ++ end ∷ x.1.now) }
     ensures range { IfSome result (λ x. IsVariable x.0) }
 {
+    if let Some((v, after)) = three_digits(end, text) {
+        return Some((v as u16, after));
+    }
     let (v, after) = number(0, Event::LAST_VARIABLE, end, text)?;
     Some((v as u16, after))
 }
@@ -215,8 +227,8 @@ fn short_number(low: u32, high: u32, end: u8, text: &[u8]) -> Option<(u32, &[u8]
 fn short_digits(end: u8, text: &[u8]) -> Option<(u32, &[u8])>
     ensures { IfSome result (λ x. text.now ≡ decimal x.0 ++ end ∷ x.1.now) }
 {
-    if let Some(found) = two_digits(end, text) {
-        return Some(found);
+    if text.len() > 2 && text[2] == end {
+        return two_digits(end, text);
     }
     one_digit(end, text)
 }
@@ -227,11 +239,13 @@ fn short_digits(end: u8, text: &[u8]) -> Option<(u32, &[u8])>
 fn digits(end: u8, text: &[u8]) -> Option<(u32, &[u8])>
     ensures { IfSome result (λ x. text.now ≡ decimal x.0 ++ end ∷ x.1.now) }
 {
-    if let Some(found) = three_digits(end, text) {
-        return Some(found);
+    if text.len() > 3 && text[3] == end {
+        if let Some(found) = three_digits(end, text) {
+            return Some(found);
+        }
     }
-    if let Some(found) = two_digits(end, text) {
-        return Some(found);
+    if text.len() > 2 && text[2] == end {
+        return two_digits(end, text);
     }
     some_digits(end, text)
 }
@@ -239,24 +253,26 @@ fn digits(end: u8, text: &[u8]) -> Option<(u32, &[u8])>
 // a number of three digits
 #[inline(always)]
 fn three_digits(end: u8, text: &[u8]) -> Option<(u32, &[u8])>
-    ensures { IfSome result (λ x. text.now ≡ decimal x.0 ++ end ∷ x.1.now) }
+    ensures spelled { IfSome result (λ x. text.now ≡ decimal x.0 ++ end ∷ x.1.now) }
+    ensures few { IfSome result (λ x. x.0 ≤ 999) }
 {
-    if text.len() < 4 || text[3] != end {
+    let bytes = text.first_chunk::<WORD>()?;
+    let value = three_in(u32::from_le_bytes(*bytes), end)?;
+    Some((value, &text[WORD..]))
+}
+
+// The number of three digits that a word spells, the first not 0, where its last byte is `end`. One subtraction takes 100 and `end` off: it
+// leaves digits, and nothing in the last byte, or a highest bit is set somewhere, there or with `ABOVE` added.
+#[inline(always)]
+fn three_in(word: u32, end: u8) -> Option<u32>
+    ensures spelled { IfSome result (λ value. to_le_bytes w32 word ≡ decimal value ++ end ∷ []) }
+    ensures few { IfSome result (λ value. value ≤ 999) }
+{
+    let digits = word.wrapping_sub(LEAST_DIGITS + u32::from(end) * 0x100_0000);
+    if (digits | digits.wrapping_add(ABOVE)) & HIGH_BITS != 0 {
         return None;
     }
-    let hundreds = digit_of(text[0]);
-    if hundreds == 0 || hundreds > 9 {
-        return None;
-    }
-    let tens = digit_of(text[1]);
-    if tens > 9 {
-        return None;
-    }
-    let ones = digit_of(text[2]);
-    if ones > 9 {
-        return None;
-    }
-    Some(((hundreds * 10 + tens) * 10 + ones, &text[4..]))
+    Some((digits % 256 + 1) * 100 + digits / 256 % 256 * 10 + digits / 65_536)
 }
 
 // a number of two digits
