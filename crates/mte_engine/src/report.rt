@@ -4,13 +4,14 @@ ghost use Rattle.mte_engine.specs.Replay.{report_on};
 ghost use Rattle.mte_engine.specs.declared.report.TheConstants.{BUFFER};
 ghost use Rattle.tagged_heap.specs.Config.{IsConfig};
 ghost use Rattle.mte_engine.specs.ReportFrom.{AreFewEvents, report_from, report_unless};
+ghost use Rattle.trace_event.specs.Ranges.{IsInRange};
 ghost use Rattle.trace_reader.specs.TraceLine.{most_events};
-ghost use Rattle.std.specs.Prelude.{◌≡◌, ◌+◌, ◌≤◌, ◌++◌, drop, length, take, vec_len, true, IfOk};
+ghost use Rattle.std.specs.Prelude.{◌≡◌, ◌+◌, ◌≤◌, ◌++◌, drop, length, take, vec_len, true, All, IfOk};
 
 use arrayvec::ArrayVec;
 use byte_streams::Output;
 use class_table::ClassTable;
-use replay_core::{Config, LINE_ROOM, Replay, TOTALS_ROOM};
+use replay_core::{Config, Event, LINE_ROOM, Replay, TOTALS_ROOM};
 use std::alloc::{AllocError, Global};
 use trace_reader::TraceReader;
 
@@ -105,16 +106,43 @@ fn fill(
     ensures some { result.0 ≤ from → result.1 ≡ true }
     ensures few { AreFewEvents replay.new reader.new.events }
 {
-    let full = text.len() - LINE_ROOM - TOTALS_ROOM;
-    let mut end = from;
-    // the label names the loop's invariant in proofs/
-    'lines: while end < full {
-        let Some(event) = reader.next_event() else {
-            return (write_totals(replay, text, end), true);
-        };
-        end = replay.step_at(&event, text, end);
+    let (end, done) = write_lines(replay, reader.events(), text, from);
+    let is_whole = done == reader.events().len();
+    reader.skip(done);
+    if is_whole {
+        return (write_totals(replay, text, end), true);
     }
     (end, false)
+}
+
+// Replays events in order and writes their lines into a text from byte `from` on, until the text is full or all events are replayed.
+// Returns where it ended, and how many events were replayed. They are read where they stand, so that a step takes no more of an event than
+// it needs.
+fn write_lines(
+    replay: &mut Replay,
+    events: &[Event],
+    text: &mut [u8],
+    from: usize,
+) -> (usize, usize)
+    requires few { AreFewEvents replay.old events.now }
+    requires range { All IsInRange events.now }
+    requires room { from + BUFFER ≤ length text.old }
+    ensures end { result.0 + TOTALS_ROOM ≤ length text.old }
+    ensures done { result.1 ≤ length events.now }
+    ensures report { take result.0 text.new ++ report_from replay.new (drop result.1 events.now)
+        ≡ take from text.old ++ report_from replay.old events.now }
+    ensures some { result.0 ≤ from → result.1 ≡ length events.now }
+    ensures few { AreFewEvents replay.new (drop result.1 events.now) }
+{
+    let full = text.len() - LINE_ROOM - TOTALS_ROOM;
+    let mut end = from;
+    let mut done = 0;
+    // the label names the loop's invariant in proofs/
+    'lines: while end < full && done < events.len() {
+        end = replay.step_at(&events[done], text, end);
+        done += 1;
+    }
+    (end, done)
 }
 
 // writes the totals, for which there must be room, and returns where they end

@@ -1,5 +1,5 @@
 //! The events that wait in a reader.
-ghost use Rattle.std.specs.Prelude.{◌≡◌, [], ◌∷◌, ◌++◌, drop, slice_get, OnErr, OnOk};
+ghost use Rattle.std.specs.Prelude.{◌≡◌, ◌≤◌, [], ◌∷◌, ◌++◌, drop, length, slice_get, OnErr, OnOk};
 
 use std::alloc::{AllocError, Global};
 use std::marker::Model;
@@ -78,5 +78,13 @@ impl EventQueue {
         let event = self.events[self.taken];
         self.taken += 1;
         Some(event)
+    }
+
+    /// Takes out the first `n` events.
+    pub(crate) fn skip(&mut self, n: usize)
+        requires { n ≤ length self.old }
+        ensures { self.new ≡ drop n self.old }
+    {
+        self.taken += n;
     }
 }

@@ -127,6 +127,15 @@ impl TraceReader {
         self.events.pop()
     }
 
+    /// Takes out the first `n` of the events that wait (`events`).
+    pub fn skip(&mut self, n: usize)
+        requires { n ≤ length self.old.events }
+        ensures events { self.new.events ≡ drop n self.old.events }
+        ensures state { self.new.state ≡ self.old.state }
+    {
+        self.events.skip(n);
+    }
+
     /// Whether the reader is open and stands at the start of a line: no line is unfinished. Then `read_event` may be called.
     pub fn is_at_start(&self) -> bool
         ensures { result ≡ is_at_start self.now }

@@ -1,0 +1,30 @@
+use Rattle.std.proofs.Common.{◌≡◌, ℕ, suc, ◌+◌, ◌<◌, ◌∙◌, ap, refl, List, ◌∷◌, drop, length, length-drop, get_or, take, arith}
+use Rattle.std.proofs.Math.Seq.{drop-cons}
+use Rattle.trace_event.specs.declared.event.Event.{Event}
+use Rattle.replay_core.specs.ReplayState.{Stored, stored_after}
+use Rattle.mte_engine.proofs.Reporting.{events_after, reported_more}
+use Rattle.mte_engine.proofs.report.write_lines.Goals as goal
+
+in_front : (events : List Event) (k : ℕ) (other : Event) → k < length events → drop k events ≡ get_or events k other ∷ drop (k + 1) events
+in_front events k other less =
+    let next : suc k ≡ k + 1 = omega arith in drop-cons events k other less ∙ ap (λ n. get_or events k other ∷ drop n events) next
+
+one_more : (before after : Stored) (event : Event) → after ≡ stored_after before event → after.totals.events ≡ before.totals.events + 1
+one_more before after event is = ap (λ (s : Stored). s.totals.events) is ∙ events_after before event
+
+pub lines-preserved : goal.lines-preserved
+lines-preserved c =
+    let inv = c.lines.invariant in
+    let events = c.args.events.now in
+    let k = c.lines.done in
+    let more = one_more c.lines.replay c.step_at-end.new.self _ c.step_at-end.ensures.stored in
+    record {
+      report =
+          reported_more (take c.lines.end c.lines.text) (take c.step_at-end.result c.step_at-end.new.text) _ c.lines.replay c.step_at-end.new.self
+          (drop k events) (drop (k + 1) events) _ (in_front events k _ c.if-done-events.true) refl c.step_at-end.ensures.stored
+          c.step_at-end.ensures.line
+          ∙ inv.report;
+      few = omega (arith, inv.few, more, length-drop k events, length-drop (k + 1) events);
+      done = omega arith;
+      room = omega (arith, c.lines-test.true, c.step_at-end.ensures.end);
+    }
