@@ -116,8 +116,7 @@ fn fill(
 }
 
 // Replays events in order and writes their lines into a text from byte `from` on, until the text is full or all events are replayed.
-// Returns where it ended, and how many events were replayed. They are read where they stand, so that a step takes no more of an event than
-// it needs.
+// Returns where it ended, and how many events were replayed.
 fn write_lines(
     replay: &mut Replay,
     events: &[Event],
@@ -139,7 +138,9 @@ fn write_lines(
     let mut done = 0;
     // the label names the loop's invariant in proofs/
     'lines: while end < full && done < events.len() {
-        end = replay.step_at(&events[done], text, end);
+        // a copy, whose kind is known on each path of a step
+        let event = events[done];
+        end = replay.step_at(&event, text, end);
         done += 1;
     }
     (end, done)

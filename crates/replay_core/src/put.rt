@@ -113,7 +113,7 @@ pub(crate) fn put_hex(text: &mut [u8], at: usize, bytes: &[u8]) -> usize
     end
 }
 
-// Computed, and not from a table, so that the compiler makes the digits of sixteen bytes at a time. Written as a sum, it takes less.
+// Computed, and not from a table, so that the compiler makes the digits of eight bytes at a time. Written as a sum, it takes less.
 #[inline(always)]
 fn hex_digit(value: u8) -> u8
     requires { value < 16 }
