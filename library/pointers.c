@@ -1,5 +1,4 @@
-/* The functions of mte_tool.h: each looks for null pointers, and then calls the proved function of crates/mte_c, crates/mte_arrays or
-   crates/mte_heap. Nothing here is proved. */
+/* The functions of mte_tool.h: each looks for null pointers, and then calls the proved function of crates/mte_c. Nothing here is proved. */
 #include "../include/mte_tool.h"
 
 /* the proved functions; a slice is a pointer and a length */

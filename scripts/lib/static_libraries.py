@@ -11,8 +11,6 @@ import sys
 
 from crate_list import CrateList
 
-# those that scripts/library links
-LIBRARY = ("mte_c", "mte_arrays", "mte_heap")
 ROOT = os.path.dirname(os.path.dirname(os.path.dirname(os.path.realpath(__file__))))
 
 

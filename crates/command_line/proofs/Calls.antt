@@ -5,8 +5,8 @@ use Rattle.command_words.specs.Calls.{HasConfig, IsCall}
 use Rattle.command_words.specs.declared.call.Call.{Call}
 use Rattle.command_words.specs.declared.call.Call.TheVariants.{Score, Tune, Check, Footprint, Fit, CheckFit, Profile, Replay, Run}
 use Rattle.command_line.specs.Calls.{IsValid}
-use Rattle.tagged_heap.specs.Config.{IsConfig}
-use Rattle.tagged_heap.specs.declared.heap.Config.{Config}
+use Rattle.heap_theory.specs.Config.{IsConfig}
+use Rattle.heap_theory.specs.declared.config.Config.{Config}
 
 valid_config : (options : List Row) (config : Config) → HasConfig options config → IsConfig config
 valid_config options config has = record {

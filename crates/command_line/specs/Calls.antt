@@ -18,7 +18,7 @@ use Rattle.command_words.specs.declared.call.Call.TheVariants.{Score, Tune, Chec
 use Rattle.command_words.specs.declared.refusal.Refusal.{Refusal}
 use Rattle.command_line.specs.declared.running.CallEnd.{CallEnd}
 use Rattle.command_line.specs.declared.running.CallEnd.TheVariants.{Done, Failed, Refused}
-use Rattle.tagged_heap.specs.Config.{IsConfig}
+use Rattle.heap_theory.specs.Config.{IsConfig}
 
 -- What each command's engine wants of its options.
 abbrev pub IsValid : Call → Type 0

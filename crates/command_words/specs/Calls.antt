@@ -22,7 +22,7 @@ use Rattle.command_words.specs.Spellings.{
 }
 use Rattle.command_words.specs.declared.call.Call.{Call}
 use Rattle.command_words.specs.declared.call.Call.TheVariants.{Score, Tune, Check, Footprint, Fit, CheckFit, Profile, Replay, Run}
-use Rattle.tagged_heap.specs.declared.heap.Config.{Config}
+use Rattle.heap_theory.specs.declared.config.Config.{Config}
 
 -- The option of this name has a value that spells the number: decimal digits, with or without a `+` before them.
 abbrev pub HasNumber : List Row → Text → ℕ → Type 0

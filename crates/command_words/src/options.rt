@@ -8,7 +8,7 @@ use crate::refusal::OptionFault;
 use clap::{Arg, ArgMatches, value_parser};
 use class_table::{FEWEST_GRANULES, MOST_CLASSES, MOST_GRANULES, is_step};
 use std::alloc::Global;
-use tagged_heap::Config;
+use heap_theory::Config;
 
 // An option whose value is a number within bounds. In the code, its name, its bounds and its help stand here alone.
 #[derive(Clone, Copy)]

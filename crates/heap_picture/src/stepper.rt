@@ -1,7 +1,7 @@
 //! A replay that goes on event by event.
 ghost use Rattle.std.specs.Prelude.{◌≡◌, ◌<◌, ◌≤◌, ◌+◌, ◌^◌, length, drop, slice_get, IfOk, IsTrue, false, true};
 ghost use Rattle.replay_theory.specs.Replay.{Replay as Replayed, first_replay, replay_of};
-ghost use Rattle.tagged_heap.specs.Config.{IsConfig, layout_for};
+ghost use Rattle.heap_theory.specs.Config.{IsConfig, layout_for};
 ghost use Rattle.heap_picture.specs.Picture.{AreFewEvents, IsDrawn};
 ghost use Rattle.trace_reader.specs.TraceLine.{most_events};
 

@@ -1,4 +1,5 @@
 pub mod Calls
+pub mod Config
 pub mod GranuleKinds
 pub mod Header
 pub mod HeapInMemory

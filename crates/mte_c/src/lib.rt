@@ -1,5 +1,6 @@
-//! The engines as functions for C: a static library. Each takes its input in two parts, of which the first is what `text` holds, and leaves
-//! the answer in `text`. `library/pointers.c` looks for null pointers before it calls them, and `include/mte_tool.h` declares that.
+//! The functions that C calls: a static library, with the engines here, and the calls over arrays and the heap in files of their own. An
+//! engine takes its input in two parts, of which the first is what `text` holds, and leaves the answer in `text`. `library/pointers.c` looks
+//! for null pointers before it calls them, and `include/mte_tool.h` declares that.
 #![tactic(auto)]
 
 ghost use Rattle.std.specs.Prelude.{◌≡◌, ◌++◌, [], drop, length, min, ◌-◌};
@@ -16,7 +17,10 @@ ghost use Rattle.mte_engine.specs.Replay.{ReplayAnswers};
 ghost use Rattle.mte_engine.specs.Run.{RunAnswers};
 ghost use Rattle.mte_engine.specs.Score.{ScoreAnswers};
 ghost use Rattle.mte_engine.specs.Tune.{AreTuneOptions, TuneAnswers};
-ghost use Rattle.tagged_heap.specs.Config.{IsConfig};
+ghost use Rattle.heap_theory.specs.Config.{IsConfig};
+
+mod arrays;
+mod heap;
 
 use handed_text::HandedText;
 use mte_calls::{DONE, Ending, OUT_OF_MEMORY, Options};

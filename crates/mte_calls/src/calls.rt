@@ -12,7 +12,7 @@ ghost use Rattle.mte_engine.specs.Replay.{ReplayAnswers};
 ghost use Rattle.mte_engine.specs.Run.{RunAnswers};
 ghost use Rattle.mte_engine.specs.Score.{ScoreAnswers};
 ghost use Rattle.mte_engine.specs.Tune.{AreTuneOptions, TuneAnswers};
-ghost use Rattle.tagged_heap.specs.Config.{IsConfig};
+ghost use Rattle.heap_theory.specs.Config.{IsConfig};
 
 use crate::ended::Ended;
 use crate::handing::{hand_out, new_sink};

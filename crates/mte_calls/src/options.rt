@@ -1,7 +1,7 @@
 //! Whether options are in their ranges.
 ghost use Rattle.std.specs.Prelude.{◌↔◌, IsTrue};
 ghost use Rattle.mte_engine.specs.Tune.{AreTuneOptions};
-ghost use Rattle.tagged_heap.specs.Config.{IsConfig};
+ghost use Rattle.heap_theory.specs.Config.{IsConfig};
 
 use class_table::{FEWEST_GRANULES, MOST_CLASSES, MOST_GRANULES, is_step};
 use replay_core::Config;

@@ -23,7 +23,7 @@ use Rattle.potential_check.specs.Leading.{leading_lines, lines_after}
 use Rattle.potential_check.specs.SheetText.{SpellsSheet, sheet_of_lines}
 use Rattle.potential_check.proofs.LawLemmas.{read_is_spelled}
 use Rattle.trace_event.specs.declared.event.Event.{Event}
-use Rattle.tagged_heap.specs.declared.heap.Config.{Config}
+use Rattle.heap_theory.specs.declared.config.Config.{Config}
 use Rattle.trace_reader.specs.TraceText.{trace_from}
 use Rattle.trace_reader.specs.declared.fault.TraceFault.{TraceFault}
 use Rattle.tuner_theory.specs.Sheets.{Sheet}

@@ -6,7 +6,7 @@ use Rattle.replay_theory.specs.Report.{report}
 use Rattle.replay_theory.proofs.AccessAnswers.{accesses_are_answered}
 use Rattle.replay_theory.proofs.Losses.{LosesAtMostItsWaste-run}
 use Rattle.profile_count.proofs.LawLemmas.{serves_each_request, waste_is_the_sum_of_losses}
-use Rattle.tagged_heap.specs.Config.{layout_for}
+use Rattle.heap_theory.specs.Config.{layout_for}
 use Rattle.tuner_theory.specs.Best.{IsCandidate}
 use Rattle.mte_engine.specs.Run.{IsTunedRun, new_replay}
 use Rattle.mte_engine.specs.Traces.{profile_of_events}
@@ -15,7 +15,7 @@ use Rattle.mte_engine.specs.declared.engine.Status.TheVariants.{Done}
 use Rattle.class_tuner.specs.Tuned.{IsTuned}
 use Rattle.trace_event.specs.declared.event.Event.{Event}
 use Rattle.potential_check.specs.SheetText.{sheet_text}
-use Rattle.tagged_heap.specs.declared.heap.Config.{Config}
+use Rattle.heap_theory.specs.declared.config.Config.{Config}
 use Rattle.tuner_theory.specs.Sheets.{Sheet}
 
 pub headline : (limit step : ℕ) (config : Config) (events : List Event) (sheet : Sheet)

@@ -5,7 +5,7 @@ use Rattle.std.proofs.lemmas.List.Elements.{All-nil}
 use Rattle.line_text.specs.Lines.{lines, words, IsLine}
 use Rattle.line_text.proofs.LawLemmas.{cut_lines_are_read, line_in_front_is_read}
 use Rattle.class_table.specs.ClassLine.{table_of_line}
-use Rattle.tagged_heap.specs.declared.heap.Config.{Config}
+use Rattle.heap_theory.specs.declared.config.Config.{Config}
 use Rattle.trace_reader.specs.Reading.{Reading, finished, whole_reading}
 use Rattle.trace_reader.specs.TraceText.{trace_of}
 use Rattle.trace_reader.proofs.LawLemmas.{one_piece_is_the_text}

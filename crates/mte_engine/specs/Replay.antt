@@ -6,8 +6,8 @@ use Rattle.class_table.specs.ClassLine.{table_of_line}
 use Rattle.class_table.specs.declared.fault.TableError.TheVariants.{BadLine}
 use Rattle.replay_theory.specs.Report.{report}
 use Rattle.trace_event.specs.declared.event.Event.{Event}
-use Rattle.tagged_heap.specs.Config.{layout_for}
-use Rattle.tagged_heap.specs.declared.heap.Config.{Config}
+use Rattle.heap_theory.specs.Config.{layout_for}
+use Rattle.heap_theory.specs.declared.config.Config.{Config}
 use Rattle.trace_reader.specs.TraceText.{trace_from}
 use Rattle.mte_engine.specs.Outcome.{Answer}
 use Rattle.mte_engine.specs.Parts.{table_part}

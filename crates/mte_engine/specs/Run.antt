@@ -10,8 +10,8 @@ use Rattle.replay_theory.specs.Replay.{Replay, answers, first_replay, Answer as 
 use Rattle.replay_theory.specs.Totals.{Totals, totals_of}
 use Rattle.trace_event.specs.declared.event.Event.{Event}
 use Rattle.potential_check.specs.SheetText.{sheet_text}
-use Rattle.tagged_heap.specs.Config.{layout_for}
-use Rattle.tagged_heap.specs.declared.heap.Config.{Config}
+use Rattle.heap_theory.specs.Config.{layout_for}
+use Rattle.heap_theory.specs.declared.config.Config.{Config}
 use Rattle.trace_reader.specs.TraceText.{trace_of}
 use Rattle.tuner_theory.specs.Sheets.{Sheet}
 use Rattle.mte_engine.specs.Outcome.{Answer}

@@ -1,7 +1,7 @@
 //! `replay`: the report on a trace, replayed on the tagged heap over a class table.
 ghost use Rattle.mte_engine.specs.Outcome.{GivesAnswer, IsReady, Runs};
 ghost use Rattle.mte_engine.specs.Replay.{ReplayAnswers};
-ghost use Rattle.tagged_heap.specs.Config.{IsConfig};
+ghost use Rattle.heap_theory.specs.Config.{IsConfig};
 ghost use Rattle.mte_engine.specs.ReportLeft.{report_left};
 ghost use Rattle.mte_engine.specs.Traces.{IsLineAndTrace, KeepsLineAndEvents};
 ghost use Rattle.std.specs.Prelude.{◌≡◌, List, ℕ, false};

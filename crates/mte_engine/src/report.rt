@@ -2,7 +2,7 @@
 ghost use Rattle.replay_theory.specs.Report.{totals_text};
 ghost use Rattle.mte_engine.specs.Replay.{report_on};
 ghost use Rattle.mte_engine.specs.declared.report.TheConstants.{BUFFER};
-ghost use Rattle.tagged_heap.specs.Config.{IsConfig};
+ghost use Rattle.heap_theory.specs.Config.{IsConfig};
 ghost use Rattle.mte_engine.specs.ReportFrom.{AreFewEvents, report_from, report_unless};
 ghost use Rattle.trace_event.specs.Ranges.{IsInRange};
 ghost use Rattle.trace_reader.specs.TraceLine.{most_events};

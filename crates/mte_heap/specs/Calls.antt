@@ -8,9 +8,9 @@ use Rattle.heap_theory.specs.State.{first_heap}
 use Rattle.machine_theory.specs.Access.{loaded}
 use Rattle.machine_theory.specs.Instructions.{addg}
 use Rattle.machine_theory.specs.declared.sizes.TheConstants.{FARTHEST_MOVE, LARGEST_TAG_STEP}
-use Rattle.tagged_heap.specs.Config.{IsConfig, layout_for}
+use Rattle.heap_theory.specs.Config.{IsConfig, layout_for}
 use Rattle.tagged_heap.specs.HeapAtRest.{HeapAndFrees}
-use Rattle.tagged_heap.specs.declared.heap.Config.{Config}
+use Rattle.heap_theory.specs.declared.config.Config.{Config}
 use Rattle.mte_heap.specs.Outcomes.{access_outcome, code_of_table, freed_outcome, is_done, plain, with_stored, with_value, pointer_outcome, resized_outcome}
 use Rattle.mte_heap.specs.declared.outcome.Outcome.{Outcome}
 use Rattle.mte_heap.specs.declared.settings.Settings.{Settings}

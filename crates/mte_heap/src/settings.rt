@@ -1,7 +1,7 @@
 //! How C sets a heap up.
 ghost use Rattle.std.specs.Prelude.{◌≡◌, ◌↔◌, IsTrue};
 ghost use Rattle.mte_heap.specs.Calls.{config_of};
-ghost use Rattle.tagged_heap.specs.Config.{IsConfig};
+ghost use Rattle.heap_theory.specs.Config.{IsConfig};
 
 use class_table::{FEWEST_GRANULES, MOST_GRANULES};
 use tagged_heap::Config;

@@ -3,7 +3,7 @@ ghost use Rattle.trace_event.specs.Ranges.{IsInRange};
 ghost use Rattle.replay_theory.specs.Report.{report_line};
 ghost use Rattle.replay_theory.specs.Replay.{answer_of};
 ghost use Rattle.replay_core.specs.ReplayState.{first_stored, stored_after};
-ghost use Rattle.tagged_heap.specs.Config.{IsConfig, layout_for};
+ghost use Rattle.heap_theory.specs.Config.{IsConfig, layout_for};
 ghost use Rattle.std.specs.Prelude.{◌≡◌, ◌++◌, ◌+◌, ◌^◌, ◌<◌, ◌≤◌, IfOk, length, take};
 
 use crate::access::LONGEST_ACCESS;

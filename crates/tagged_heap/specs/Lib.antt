@@ -1,6 +1,5 @@
 pub mod Chunks
 pub mod ClassSlots
-pub mod Config
 pub mod Frees
 pub mod HeapAtRest
 pub mod HeapFields

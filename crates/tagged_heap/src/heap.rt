@@ -2,7 +2,7 @@ ghost use Rattle.class_table.specs.Sizes.{largest_counted};
 ghost use Rattle.heap_theory.specs.State.{first_heap};
 ghost use Rattle.class_table.specs.Tables.{loss_of_size};
 ghost use Rattle.machine_theory.specs.Instructions.{addg, subg};
-ghost use Rattle.tagged_heap.specs.Config.{IsConfig, layout_for};
+ghost use Rattle.heap_theory.specs.Config.{IsConfig, layout_for};
 ghost use Rattle.std.specs.Prelude.{◌≡◌, ◌≤◌, IfOk};
 
 use crate::fresh_slots::{first_slots, write_fresh_headers};
@@ -10,27 +10,12 @@ use arrayvec::ArrayVec;
 use class_lists::ClassLists;
 use class_table::{ClassTable, Layout, MOST_CLASSES};
 use granule_memory::Memory;
+use heap_theory::Config;
 use machine_theory::{FARTHEST_MOVE, LARGEST_TAG_STEP};
 use quarantine_core::Quarantine;
 use std::alloc::{AllocError, Global};
 use std::marker::Model;
 use tag_machine::Machine;
-
-/// How a heap is set up.
-#[derive(Clone, Copy, Debug)]
-pub struct Config {
-    /// The granules of its region, 64 to 262,144.
-    pub granules: u32,
-    /// The seed of the random tags; not 0.
-    pub seed: u16,
-    /// The limit of the quarantine, 0 to `MOST_QUARANTINE`: the most bytes of freed blocks that it holds back from reuse.
-    pub quarantine: u32,
-}
-
-impl Config {
-    /// The greatest limit of a quarantine, in bytes.
-    pub const MOST_QUARANTINE: u32 = 4_194_304;
-}
 
 /// A heap over one region of tagged memory. It gives out chunks under random tags, and holds freed chunks in quarantine.
 ///

@@ -19,5 +19,5 @@ mod resizing;
 mod slot_changes;
 mod tags;
 
-pub use heap::{Config, Heap};
-pub use heap_theory::{FreeError, NullCause, PlaceKind, ReallocError};
+pub use heap::Heap;
+pub use heap_theory::{Config, FreeError, NullCause, PlaceKind, ReallocError};

@@ -11,7 +11,7 @@ use crate::options::{config_of, granules, limit, limit_of, quarantine, seed, ste
 use crate::refusal::OptionFault;
 use clap::{ArgMatches, Command};
 use std::alloc::{AllocError, Global};
-use tagged_heap::Config;
+use heap_theory::Config;
 
 /// The command's name.
 pub const NAME: &str = "run";

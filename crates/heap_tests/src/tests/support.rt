@@ -1,5 +1,5 @@
 //! What the tests share.
-ghost use Rattle.tagged_heap.specs.Config.{IsConfig};
+ghost use Rattle.heap_theory.specs.Config.{IsConfig};
 
 use std::fmt::Debug;
 use std::process::Abort;

@@ -1,6 +1,6 @@
 //! The engines with their options, as values, so that one table runs them all.
 ghost use Rattle.mte_engine.specs.Outcome.{IsReady};
-ghost use Rattle.tagged_heap.specs.Config.{IsConfig};
+ghost use Rattle.heap_theory.specs.Config.{IsConfig};
 
 use super::support::ended;
 use crate::tests::streams::{sink, source};

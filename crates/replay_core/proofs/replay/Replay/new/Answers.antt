@@ -4,7 +4,7 @@ use Rattle.class_table.specs.Tables.{IsLegalTable}
 use Rattle.replay_theory.specs.Replay.{first_replay}
 use Rattle.heap_theory.specs.State.{Heap, first_heap}
 use Rattle.replay_theory.specs.Totals.{no_totals}
-use Rattle.tagged_heap.specs.Config.{layout_for}
+use Rattle.heap_theory.specs.Config.{layout_for}
 use Rattle.replay_core.specs.ReplayState.{first_stored}
 use Rattle.replay_core.proofs.StoredMore.{stored_of_none}
 use Rattle.replay_core.proofs.replay.Replay.new.Goals as goal

@@ -2,8 +2,8 @@
 use Rattle.std.specs.Prelude.{◌≢◌, ℕ, ◌≤◌, List}
 use Rattle.class_table.specs.Layout.{Partition}
 use Rattle.class_table.specs.declared.layout.TheConstants.{FEWEST_GRANULES, MOST_GRANULES}
-use Rattle.tagged_heap.specs.declared.heap.Config.{Config}
-use Rattle.tagged_heap.specs.declared.heap.TheConstants.Config.{MOST_QUARANTINE}
+use Rattle.heap_theory.specs.declared.config.Config.{Config}
+use Rattle.heap_theory.specs.declared.config.TheConstants.Config.{MOST_QUARANTINE}
 
 -- A heap can be set up so: each number is in its range.
 pub record IsConfig (config : Config) : Type 0 where
