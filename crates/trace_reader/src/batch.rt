@@ -6,8 +6,8 @@ ghost use Rattle.trace_reader.specs.TraceLine.{event_lines};
 use crate::one_pass::{KEPT, first_event};
 use trace_event::Event;
 
-/// The most events of a batch.
-pub(crate) const BATCH: usize = 240;
+/// The most events of a batch. From 2,048 bytes on, the C library would clear it byte by byte.
+pub(crate) const BATCH: usize = 160;
 
 /// Reads the lines in front of a text that spell events into a batch, at most `most` and up to the first that is not read in one pass.
 /// Returns how many they are, and the text after them. A batch has a place of its own, so an event costs no test for room and no count in
