@@ -7,8 +7,8 @@ ghost use Rattle.command_words.specs.AcceptedWords.{IsOption, granules_rule, lim
 use crate::refusal::OptionFault;
 use clap::{Arg, ArgMatches, value_parser};
 use class_table::{FEWEST_GRANULES, MOST_CLASSES, MOST_GRANULES, is_step};
-use std::alloc::Global;
 use heap_theory::Config;
+use std::alloc::Global;
 
 // An option whose value is a number within bounds. In the code, its name, its bounds and its help stand here alone.
 #[derive(Clone, Copy)]

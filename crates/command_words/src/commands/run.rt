@@ -10,8 +10,8 @@ use crate::commands::shared_help::{About, described, help_text};
 use crate::options::{config_of, granules, limit, limit_of, quarantine, seed, step, step_of};
 use crate::refusal::OptionFault;
 use clap::{ArgMatches, Command};
-use std::alloc::{AllocError, Global};
 use heap_theory::Config;
+use std::alloc::{AllocError, Global};
 
 /// The command's name.
 pub const NAME: &str = "run";
