@@ -1,9 +1,9 @@
 -- The digits of the first bytes are the first digits.
-use Rattle.std.proofs.Common.{◌≡◌, ℕ, zero, suc, ◌+◌, ◌*◌, ◌≤◌, List, [], ◌∷◌, ◌++◌, ◌∙◌, length, take, refl, ap, sym, arith}
+use Rattle.std.proofs.Common.{◌≡◌, ℕ, zero, suc, ◌+◌, ◌*◌, ◌≤◌, List, [], ◌∷◌, ◌++◌, ◌∙◌, length, take, refl, ap, arith}
 use Rattle.std.specs.List.{flat_map}
 use Rattle.std.proofs.lemmas.List.{take-take}
-use Rattle.std.proofs.Math.Seq.{take-append-add}
 use Rattle.line_text.specs.Hexadecimal.{hex}
+use Rattle.replay_core.proofs.Written.{written_to}
 
 first_digits : (k : ℕ) (bytes : List ℕ) → take (2 * k) (flat_map hex bytes) ≡ flat_map hex (take k bytes)
 first_digits zero bytes = refl
@@ -16,6 +16,5 @@ pub digits_to : (bytes text front : List ℕ) (at len most : ℕ) → length fro
     take (at + 2 * most) text ≡ front ++ flat_map hex (take most bytes) →
     take (at + 2 * len) text ≡ front ++ flat_map hex (take len bytes)
 digits_to bytes text front at len most long fewer is =
-    sym (take-take (at + 2 * len) (at + 2 * most) text (omega arith)) ∙ ap (take (at + 2 * len)) is
-    ∙ rw (← long) (take-append-add front (flat_map hex (take most bytes)) (2 * len))
+    written_to text front (flat_map hex (take most bytes)) at (2 * len) (2 * most) long (omega (arith, fewer)) is
     ∙ ap (λ digits. front ++ digits) (first_digits len (take most bytes) ∙ ap (flat_map hex) (take-take len most bytes fewer))

@@ -1,5 +1,7 @@
 -- Texts that are written part by part.
-use Rattle.std.proofs.Common.{◌≡◌, ℕ, List, [], ◌∷◌, ◌++◌, codes, append_assoc}
+use Rattle.std.proofs.Common.{◌≡◌, ℕ, ◌+◌, ◌≤◌, List, [], ◌∷◌, ◌++◌, ◌∙◌, length, take, ap, sym, codes, append_assoc, arith}
+use Rattle.std.proofs.lemmas.List.{take-take}
+use Rattle.std.proofs.Math.Seq.{take-append-add}
 use Rattle.line_text.specs.Lines.{ended, line_of, text_of}
 
 pub tag_fault_line : (number granule memory pointer kind : List ℕ) (x0 x1 x2 x3 x4 x5 x6 x7 x8 x9 x10 : List ℕ) →
@@ -17,3 +19,9 @@ pub nine_lines : (a b c d e f g h i x0 x1 x2 x3 x4 x5 x6 x7 x8 x9 : List ℕ) �
     x9 ≡ text_of (a ∷ b ∷ c ∷ d ∷ e ∷ f ∷ g ∷ h ∷ i ∷ [])
 nine_lines a b c d e f g h i x0 x1 x2 x3 x4 x5 x6 x7 x8 x9 e0 e1 e2 e3 e4 e5 e6 e7 e8 e9 =
     rw (e9, e8, e7, e6, e5, e4, e3, e2, e1, e0) (simp append_assoc)
+
+-- a text that is right to the end of what was written is right to each place in it
+pub written_to : (text front bytes : List ℕ) (at len most : ℕ) → length front ≡ at → len ≤ most →
+    take (at + most) text ≡ front ++ bytes → take (at + len) text ≡ front ++ take len bytes
+written_to text front bytes at len most long fewer is =
+    sym (take-take (at + len) (at + most) text (omega arith)) ∙ ap (take (at + len)) is ∙ rw (← long) (take-append-add front bytes len)

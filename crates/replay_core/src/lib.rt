@@ -8,6 +8,7 @@ mod access;
 mod answer;
 mod append;
 mod event_fields;
+mod event_numbers;
 pub mod laws;
 mod perform;
 mod put;

@@ -41,12 +41,13 @@ pub(crate) fn perform(
         Event::Store { v, off, len, byte } => {
             store(heap, moved_by(variables[usize::from(v)], off), len, byte)
         }
-        Event::Addg { v, w, u6, u4 } => {
-            variables[usize::from(v)] = heap.addg(variables[usize::from(w)], u6, u4);
-            Answer::Silent
-        }
-        Event::Subg { v, w, u6, u4 } => {
-            variables[usize::from(v)] = heap.subg(variables[usize::from(w)], u6, u4);
+        // one arm, so that the compiler takes these fields apart here alone, and not for each event
+        Event::Addg { v, w, u6, u4 } | Event::Subg { v, w, u6, u4 } => {
+            let address = variables[usize::from(w)];
+            variables[usize::from(v)] = match event {
+                Event::Addg { .. } => heap.addg(address, u6, u4),
+                _ => heap.subg(address, u6, u4),
+            };
             Answer::Silent
         }
     }

@@ -79,9 +79,9 @@ fn put_below_100(text: &mut [u8], at: usize, number: usize) -> usize
     put(text, at, &two(number))
 }
 
-// writes the last four digits of a number
+/// Writes the last four digits of a number.
 #[inline(always)]
-fn put_four(text: &mut [u8], at: usize, number: usize) -> usize
+pub(crate) fn put_four(text: &mut [u8], at: usize, number: usize) -> usize
     requires room { at + 4 ≤ length text.old }
     requires small { number < 10000 }
     ensures end { result ≡ at + 4 }

@@ -8,6 +8,7 @@ ghost use Rattle.std.specs.Prelude.{◌≡◌, ◌++◌, ◌+◌, ◌^◌, ◌<�
 
 use crate::access::LONGEST_ACCESS;
 use crate::append::append;
+use crate::event_numbers::EventNumbers;
 use crate::perform::perform;
 use crate::report_line::write_line;
 use crate::totals::Totals;
@@ -34,6 +35,7 @@ pub struct Replay {
     pub(crate) totals: Totals,
     // Its first bytes are those that the last load read. One for each event would be zeroed for each.
     pub(crate) loaded: [u8; LONGEST_ACCESS],
+    pub(crate) numbers: EventNumbers,
 }
 
 impl Model for Replay {
@@ -65,6 +67,7 @@ impl Replay {
             variables,
             totals: Totals::NONE,
             loaded: [0; LONGEST_ACCESS],
+            numbers: EventNumbers::new(),
         })
     }
 
@@ -105,7 +108,14 @@ impl Replay {
     {
         let answer = perform(&mut self.heap, &mut self.variables, event, &mut self.loaded);
         self.totals.count(&self.heap, event, &answer);
-        write_line(text, at, self.totals.events, &answer, &self.loaded)
+        write_line(
+            text,
+            at,
+            &mut self.numbers,
+            self.totals.events,
+            &answer,
+            &self.loaded,
+        )
     }
 
     /// How many events were performed.

@@ -8,6 +8,7 @@ ghost use Rattle.std.specs.Prelude.{◌≡◌, ◌∷◌, ◌++◌, ◌+◌, ◌
 
 use crate::access::LONGEST_ACCESS;
 use crate::answer::Answer;
+use crate::event_numbers::EventNumbers;
 use crate::put::{put, put_hex, put_number};
 use crate::replay::LINE_ROOM;
 use heap_theory::{FreeError, NullCause, PlaceKind};
@@ -21,6 +22,7 @@ const STRIDE: usize = 8;
 pub(crate) fn write_line(
     text: &mut [u8],
     at: usize,
+    numbers: &mut EventNumbers,
     number: u64,
     answer: &Answer,
     bytes: &[u8; LONGEST_ACCESS],
@@ -32,14 +34,23 @@ pub(crate) fn write_line(
 {
     match *answer {
         Answer::Silent => at,
-        Answer::Loaded { len } => write_data(text, at, number, bytes, usize::from(len)),
+        Answer::Loaded { len } => write_data(text, at, numbers, number, bytes, usize::from(len)),
         Answer::NotMapped => write_words(text, at, number, b"fault", b"unmapped"),
         Answer::TagFault {
             granule,
             memory_tag,
             pointer_tag,
             kind,
-        } => write_tag_fault(text, at, number, granule, memory_tag, pointer_tag, kind),
+        } => write_tag_fault(
+            text,
+            at,
+            numbers,
+            number,
+            granule,
+            memory_tag,
+            pointer_tag,
+            kind,
+        ),
         Answer::NoPointer(cause) => write_words(text, at, number, b"null", cause_word(cause)),
         Answer::NotFreed(error) => write_words(text, at, number, b"refused", error_word(error)),
     }
@@ -49,6 +60,7 @@ pub(crate) fn write_line(
 fn write_data(
     text: &mut [u8],
     at: usize,
+    numbers: &mut EventNumbers,
     number: u64,
     bytes: &[u8; LONGEST_ACCESS],
     len: usize,
@@ -58,7 +70,7 @@ fn write_data(
     ensures end { result ≤ at + LINE_ROOM }
     ensures text { take result text.new ≡ take at text.old ++ report_line number (Loaded (take len bytes.now)) }
 {
-    let end = put_number(text, at, number);
+    let end = numbers.put_next(text, at, number);
     let end = put(text, end, b" data ");
     // the digits of whole strides; what they have past the last byte lies after the line
     put_hex(text, end, &bytes[..STRIDE * len.div_ceil(STRIDE)]);
@@ -69,6 +81,7 @@ fn write_data(
 fn write_tag_fault(
     text: &mut [u8],
     at: usize,
+    numbers: &mut EventNumbers,
     number: u64,
     granule: u32,
     memory_tag: u8,
@@ -80,7 +93,7 @@ fn write_tag_fault(
     ensures text { take result text.new
         ≡ take at text.old ++ report_line number (TagFault granule memory_tag pointer_tag kind) }
 {
-    let end = put_number(text, at, number);
+    let end = numbers.put_next(text, at, number);
     let end = put(text, end, b" fault tag granule ");
     let end = put_number(text, end, u64::from(granule));
     let end = put(text, end, b" memory ");

@@ -15,4 +15,4 @@ returns-clause-text c =
     let whole : take (at + 2 * most) c.put_hex.new.text ≡ front ++ flat_map hex (take most c.args.bytes.now) =
     rw (← (c.put_hex.ensures.end ∙ ap (λ n. at + 2 * n) long)) c.put_hex.ensures.text in
     let digits = digits_to c.args.bytes.now c.put_hex.new.text front at c.args.len most (length-take-le at c.put-end.new.text (omega arith)) (omega arith) whole in
-    rw (c.put.ensures.text, digits, c.put-end.ensures.text, c.put_number-end.ensures.text) (simp append_assoc)
+    rw (c.put.ensures.text, digits, c.put-end.ensures.text, c.put_next-end.ensures.text) (simp append_assoc)
