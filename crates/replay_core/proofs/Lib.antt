@@ -3,6 +3,7 @@ pub mod TheoryLemmas
 pub mod Accesses
 pub mod CountedTotals
 mod DigitsOfBytes
+mod HexLanes
 pub mod Reached
 pub mod StoredMore
 mod TwoDigits

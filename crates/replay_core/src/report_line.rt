@@ -9,12 +9,12 @@ ghost use Rattle.std.specs.Prelude.{◌≡◌, ◌∷◌, ◌++◌, ◌+◌, ◌
 use crate::access::LONGEST_ACCESS;
 use crate::answer::Answer;
 use crate::event_numbers::EventNumbers;
-use crate::put::{put, put_hex, put_number};
+use crate::put::{put, put_hex_strides, put_number};
 use crate::replay::LINE_ROOM;
 use heap_theory::{FreeError, NullCause, PlaceKind};
 
 // How many bytes have their digits written at once. The longest access has whole strides.
-const STRIDE: usize = 8;
+const STRIDE: usize = 16;
 
 /// Writes the line of the event of this number with its newline, or nothing if the event has no line, into a text at a place, where it has
 /// room for any line. Returns where the line ends. `bytes` holds what was loaded.
@@ -73,7 +73,7 @@ fn write_data(
     let end = numbers.put_next(text, at, number);
     let end = put(text, end, b" data ");
     // the digits of whole strides; what they have past the last byte lies after the line
-    put_hex(text, end, &bytes[..STRIDE * len.div_ceil(STRIDE)]);
+    put_hex_strides(text, end, &bytes[..STRIDE * len.div_ceil(STRIDE)]);
     put(text, end + 2 * len, b"\n")
 }
 
