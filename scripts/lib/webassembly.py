@@ -52,6 +52,40 @@ def llvm_module(crate, kept, folder):
     static_libraries.build(crate, f"{folder}/kept.a", toolchain)
 
 
+# The one instruction of x86 that the modules have by its name, and what stands for it: of sixteen bytes, for each of sixteen numbers the byte
+# at the number's low four bits, or 0 where its highest bit is set.
+SHUFFLE, SHUFFLED = "llvm.x86.ssse3.pshuf.b.128", "mte_shuffled"
+
+
+def shuffled():
+    """The definition of SHUFFLED, a byte at a time."""
+    lines = [f"define internal <16 x i8> @{SHUFFLED}(<16 x i8> %bytes, <16 x i8> %numbers) {{"]
+    made = "zeroinitializer"
+    for at in range(16):
+        lines += [
+            f"  %number{at} = extractelement <16 x i8> %numbers, i32 {at}",
+            f"  %low{at} = and i8 %number{at}, 15",
+            f"  %index{at} = zext i8 %low{at} to i32",
+            f"  %byte{at} = extractelement <16 x i8> %bytes, i32 %index{at}",
+            f"  %none{at} = icmp slt i8 %number{at}, 0",
+            f"  %put{at} = select i1 %none{at}, i8 0, i8 %byte{at}",
+            f"  %made{at} = insertelement <16 x i8> {made}, i8 %put{at}, i32 {at}",
+        ]
+        made = f"%made{at}"
+    return "\n".join([*lines, f"  ret <16 x i8> {made}", "}"])
+
+
+def without_x86(module):
+    """The module with a function in place of the instruction of x86. Another one of x86 is no module for WebAssembly."""
+    if f"@{SHUFFLE}" in module:
+        module = re.sub(rf"^declare [^\n]*@{re.escape(SHUFFLE)}\(.*$", lambda _: shuffled(), module, flags=re.M)
+        module = module.replace(f"@{SHUFFLE}", f"@{SHUFFLED}")
+    other = re.search(r"@(llvm\.x86\.[\w.]+)", module)
+    if other:
+        raise ValueError(f"the module has an instruction of x86, {other[1]}")
+    return module
+
+
 def as_wasm64(module, prefix, folder):
     """The module as text for wasm64: with its data layout, without the attributes of x86; it exports the functions of this prefix."""
     clang, text = f"{kit()}/toolchain/bin/clang", f"{folder}/module.ll"
@@ -64,6 +98,7 @@ def as_wasm64(module, prefix, folder):
         module = lines.read()
     module = re.sub(r"^target datalayout = .*$", re.search(r"^target datalayout = .*$", layout, re.M)[0], module, flags=re.M)
     module = re.sub(r"^target triple = .*$", f'target triple = "{THERE}"', module, flags=re.M)
+    module = without_x86(module)
     module = re.sub(r' ?"(probe-stack|stack-probe-size|target-cpu|target-features|tune-cpu)"="[^"]*"', "", module)
     exported = rf"^(define [^@\n]*@({prefix}\w*)\(.*\).*?) (#\d+ \{{|\{{)$"
     module, count = re.subn(exported, r'\1 "wasm-export-name"="\2" \3', module, flags=re.M)
