@@ -27,24 +27,15 @@ def lanes():
     return max(1, min(len(os.sched_getaffinity(0)), free // MEMORY_OF_A_PROOF))
 
 
-def chain_above(below):
+def chain_above(crates, below):
     """The last crates, lowest first: each has all that is left below it, but for at most one."""
-    left, chain = dict(below), []
-    while left:
-        highest = max(left, key=lambda name: len(reach(left, name)))
-        if len(reach(left, highest)) < max(1, len(left) - 2):
-            break
+    left, chain = list(below), []
+    while True:
+        highest = max(left, key=lambda name: len(crates.below([name])))
+        if len(crates.below([highest])) < max(2, len(left) - 1):
+            return chain
         chain.insert(0, highest)
-        del left[highest]
-    return chain
-
-
-def reach(below, name):
-    """The crates below a crate."""
-    found = set()
-    for it in below[name]:
-        found |= {it} | reach(below, it)
-    return found
+        left.remove(highest)
 
 
 class Counter:
@@ -68,7 +59,7 @@ def rt(words, folder, counter=None):
 
 def prove(crates, below, folder):
     """Proves the crates in a copy, and returns rt's status."""
-    chain, counter, jobs = chain_above(below), Counter(len(below)), ["--jobs", str(lanes())]
+    chain, counter, jobs = chain_above(crates, below), Counter(len(below)), ["--jobs", str(lanes())]
     crates.copy([name for name in below if name not in chain], folder)
     status = rt(["all", "check", *jobs], folder, counter)
     crates.copy(chain, folder)
