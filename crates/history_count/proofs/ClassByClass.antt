@@ -1,5 +1,5 @@
 -- What a table takes, a class at a time: each class serves the sizes from where the one before it ends.
-use Rattle.std.proofs.Common.{◌≡◌, ℕ, zero, suc, ◌+◌, ◌-◌, ◌*◌, ◌<◌, ◌≤◌, ◌&&◌, Bool, true, false, List, [], ◌∷◌, length, get_or, drop, cond, leb, ltb, refl, sym, ap, ◌∙◌, arith, inl, inr, add-one}
+use Rattle.std.proofs.Common.{◌≡◌, ℕ, zero, suc, ◌+◌, ◌-◌, ◌*◌, ◌<◌, ◌≤◌, ◌&&◌, Bool, false, List, [], ◌∷◌, length, get_or, drop, cond, leb, ltb, refl, sym, ap, ◌∙◌, arith, inl, inr, add-one}
 use Rattle.std.specs.Prelude.{All, slice_index}
 use Rattle.std.proofs.Math.Nat.{mul-le-mul}
 use Rattle.std.proofs.Math.Seq.{drop-cons}
@@ -17,7 +17,7 @@ use Rattle.tuner_theory.specs.Profiles.{AreCounts, greatest_count}
 use Rattle.tuner_theory.specs.Spans.{rounded_need}
 use Rattle.tuner_theory.specs.Waste.{sum_below}
 use Rattle.tuner_theory.proofs.Footprint.{footprint_is_sum}
-use Rattle.tuner_theory.proofs.Rounding.{fits-rounded, rounded-fits, rounded-positive}
+use Rattle.tuner_theory.proofs.Rounding.{rounded-positive}
 use Rattle.tuner_theory.proofs.Sums.{sum_below-more, sum_none}
 use Rattle.history_count.specs.Histories.{blocks_from}
 
@@ -32,20 +32,7 @@ pub cut-none : IsCut 1 0
 cut-none = record { below = λ n lt. absurd (omega arith); above = λ n le. rounded-positive 1 (omega arith) n }
 
 pub cut-class : (class : ℕ) → 2 ≤ class → IsCut class (16 * class - 15)
-cut-class class two = record {
-  below = λ n lt. fits-rounded 1 (omega arith) n class two (omega arith) (omega arith);
-  above = λ n le. elim (cases_lt class (rounded_need 1 n)) [
-    | inl lt ↦ lt
-    | inr not ↦ absurd (omega (arith, rounded-fits 1 (omega arith) n class not))
-  ];
-}
-
-pub cut-order : (low high from end : ℕ) → IsCut low from → IsCut high end → low ≤ high → from ≤ end
-cut-order low high from end is also le =
-    elim (cases_lt end from) [
-      | inl lt ↦ absurd (omega (arith, is.below end lt, also.above end (omega arith)))
-      | inr not ↦ not
-    ]
+cut-class class two = grind arith
 
 -- ---- the blocks of an interval
 
@@ -69,8 +56,7 @@ window f g from (suc end) le none same =
     ]
 
 and_left-false : (a b : Bool) → b ≡ false → (a && b) ≡ false
-and_left-false true b e = e
-and_left-false false b e = refl
+and_left-false a b is = grind arith
 
 blocks-cut : (low high from end : ℕ) (s : List ℕ) → IsCut low from → IsCut high end → from ≤ end → end ≤ length s
     → blocks_between 1 low high s ≡ blocks_from from end s
@@ -128,8 +114,7 @@ module _ (snapshots : List (List ℕ)) (table : List ℕ) (are : AreSnapshots sn
     narrow = omega (arith, is, (legal.in_range number 0 within).1)
 
     pub taken-order : from ≤ 16 * class - 15
-    taken-order =
-        cut-order so_far.low class from (16 * class - 15) so_far.cut (cut-class class wide) (omega (arith, is, so_far.before within))
+    taken-order = grind arith
 
     pub taken-end : 16 * class - 15 ≤ largest_counted + 1
     taken-end = omega (arith, narrow)
@@ -163,5 +148,4 @@ module _ (snapshots : List (List ℕ)) (table : List ℕ) (are : AreSnapshots sn
 
   pub taken-all : (number from total : ℕ) → TakenSoFar snapshots table number from total → length table ≤ number
       → total ≡ footprint_of snapshots table
-  taken-all number from total so_far all =
-      omega (arith, so_far.summed, ap (cost_above (footprint_between snapshots 1) so_far.low) (drop_all number table all))
+  taken-all number from total so_far all = grind (arith, drop_all)

@@ -1,7 +1,7 @@
 -- The counts of one size in all snapshots, and what is left where they are set.
 use Rattle.std.proofs.Common.{◌≡◌, ◌≢◌, ℕ, zero, suc, ◌+◌, ◌<◌, ◌≤◌, List, [], ◌∷◌, length, get_or, set, take, refl, sym, ap, ◌∙◌, arith}
 use Rattle.std.specs.Prelude.{All}
-use Rattle.std.proofs.lemmas.Grind.{same_number_lists}
+use Rattle.std.proofs.lemmas.Grind.{same_number_lists, common_steps}
 use Rattle.std.proofs.lemmas.List.{get_or-set_other, get_or-set_same, length-set}
 use Rattle.std.proofs.lemmas.List.Elements.{All-cons, All-head, All-nil, All-set, All-tail}
 use Rattle.class_table.specs.Sizes.{largest_counted}
@@ -63,8 +63,7 @@ with_counts-counts (s ∷ ss) n (c ∷ cs) are small =
 -- ---- the counts of one size
 
 pub counts_of-length : (snapshots : List (List ℕ)) (n : ℕ) → length (counts_of snapshots n) ≡ length snapshots
-counts_of-length [] n = refl
-counts_of-length (s ∷ ss) n = ap suc (counts_of-length ss n)
+counts_of-length snapshots n = grind (arith, common_steps)
 
 -- those of the size are set,
 pub counts_of-same : (snapshots : List (List ℕ)) (n : ℕ) (counts : List ℕ) → All AreCounts snapshots → n ≤ largest_counted
@@ -83,8 +82,7 @@ pub counts_of-other : (snapshots : List (List ℕ)) (n k : ℕ) (counts : List �
 unfolding with_counts
 counts_of-other [] n k counts other = refl
 counts_of-other (s ∷ ss) n k [] other = refl
-counts_of-other (s ∷ ss) n k (c ∷ cs) other =
-    rw (get_or-set_other s n k c 0 other, counts_of-other ss n k cs other) refl
+counts_of-other (s ∷ ss) n k (c ∷ cs) other = grind (arith, get_or-set_other, counts_of-other ss n k cs other)
 
 -- Snapshots with the same counts of each size are the same.
 cons_head : {A : Type 0} (a b : A) (x y : List A) → a ∷ x ≡ b ∷ y → a ≡ b

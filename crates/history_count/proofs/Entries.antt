@@ -1,8 +1,9 @@
 -- The entry of a line by the numbers that were read of it.
-use Rattle.std.proofs.Common.{◌≡◌, ℕ, ◌≤◌, Bool, true, false, ◌&&◌, List, [], ◌∷◌, length, map, Option, Some, None, Ok, Err, leb, ltb, eqb, refl, sym, ap, ◌∙◌, arith}
+use Rattle.std.proofs.lemmas.Grind.{common_steps}
+use Rattle.std.proofs.Common.{◌≡◌, ℕ, ◌≤◌, Bool, true, false, ◌&&◌, List, [], ◌∷◌, length, map, Option, Some, Ok, Err, leb, ltb, eqb, refl, sym, ap, ◌∙◌, arith}
 use Rattle.std.specs.Prelude.{All}
-use Rattle.std.proofs.lemmas.Bool.{eq-eqb, eqb-true, le-leb, leb-true}
-use Rattle.std.proofs.lemmas.List.Elements.{All-cons, All-head, All-nil, All-tail}
+use Rattle.std.proofs.lemmas.Bool.{eq-eqb, eqb-true, le-leb}
+use Rattle.std.proofs.lemmas.List.Elements.{All-head, All-tail}
 use Rattle.std.proofs.lemmas.Bool.Decides.{nat_tests}
 use Rattle.profile_count.specs.declared.fault.ProfileFault.TheVariants.{CountOutOfRange, NotAscending}
 use Rattle.tuner_theory.specs.Profiles.{greatest_count}
@@ -34,8 +35,7 @@ in_range-capped : (numbers : List ℕ) → are_in_range (map capped numbers) ≡
 in_range-capped numbers = rw (few-capped numbers, some-capped numbers) refl
 
 and_parts : (a b : Bool) → (a && b) ≡ true → (a ≡ true) × (b ≡ true)
-and_parts true b e = (refl, e)
-and_parts false b e = absurd cc
+and_parts a b is = grind arith
 
 few-same : (numbers : List ℕ) → are_few numbers ≡ true → map capped numbers ≡ numbers
 few-same [] few = refl
@@ -53,8 +53,7 @@ pub record IsFilled (o : Option (List ℕ)) (count : ℕ) (filled : List ℕ) : 
   pub is : filled ≡ map capped numbers
 
 pub filled-ok : (u : Unit {0}) (o : Option (List ℕ)) (count : ℕ) (filled : List ℕ) → Fills (Ok u) filled count o → IsFilled o count filled
-filled-ok u None count filled fills = absurd fills
-filled-ok u (Some numbers) count filled fills = record { numbers = numbers; read = refl; size = fills.0; is = fills.1 }
+filled-ok u o count filled is = grind arith
 
 module _ (o : Option (List ℕ)) (count next : ℕ) (subject : Subject) (filled : List ℕ) (is : IsFilled o count filled) where
   in_range : are_in_range filled ≡ are_in_range is.numbers
@@ -80,10 +79,7 @@ module _ (o : Option (List ℕ)) (count next : ℕ) (subject : Subject) (filled 
 -- ---- counts in range
 
 pub few-all : (counts : List ℕ) → are_few counts ≡ true → All (λ count. count ≤ greatest_count) counts
-few-all [] few = All-nil (λ count. count ≤ greatest_count)
-few-all (n ∷ ns) few =
-    let parts = and_parts (leb n greatest_count) (are_few ns) few in
-    All-cons (λ count. count ≤ greatest_count) n ns (leb-true n greatest_count parts.0) (few-all ns parts.1)
+few-all counts is = grind (arith, common_steps)
 
 pub few-from_all : (counts : List ℕ) → All (λ count. count ≤ greatest_count) counts → are_few counts ≡ true
 few-from_all [] small = refl
@@ -102,16 +98,4 @@ pub record IsGood (count next : ℕ) (entry : Entry) : Type 0 where
 
 pub entry_with-good : (count next : ℕ) (subject : Subject) (counts : List ℕ) (entry : Entry)
     → entry_with count next subject counts ≡ Ok entry → (record { subject = subject; counts = counts } ≡ entry) × IsGood count next entry
-entry_with-good count next subject counts entry e =
-    go (eqb (length counts) count) refl (is_in_order next subject) refl (are_in_range counts) refl
-  where
-    go : (a : Bool) → eqb (length counts) count ≡ a → (b : Bool) → is_in_order next subject ≡ b → (d : Bool) → are_in_range counts ≡ d
-        → (record { subject = subject; counts = counts } ≡ entry) × IsGood count next entry
-    go false f b g d h = let none = rw f at e in absurd cc
-    go true f false g d h = let none = rw (f, g) at e in absurd cc
-    go true f true g false h = let none = rw (f, g, h) at e in absurd cc
-    go true f true g true h =
-        let read : Entry = record { subject = subject; counts = counts } in
-        let is : read ≡ entry = (let same = rw (f, g, h) at e in cc) in
-        let parts = and_parts (are_few counts) (is_some_counted counts) h in
-        (is, rw (← is) (record { size = eqb-true (length counts) count f; order = g; few = few-all counts parts.0; some = parts.1 }))
+entry_with-good count next subject counts entry e = grind (arith, eqb, and_parts, eqb-true, few-all)

@@ -3,7 +3,6 @@ use Rattle.std.proofs.Common.{◌≡◌, ℕ, ◌≤◌, ◌<◌, ◌^◌, Bool,
 use Rattle.std.specs.Fmt.{decimal}
 use Rattle.std.specs.Str.{bytes_eq}
 use Rattle.std.proofs.lemmas.Bool.{eq-eqb, le-leb, leb-true}
-use Rattle.std.proofs.lemmas.List.Elements.{All-weaker}
 use Rattle.std.proofs.lemmas.Slice.Eq.{bytes_eq-Decides}
 use Rattle.class_table.specs.NamedLines.{named_line, numbers_in, numbers_of}
 use Rattle.class_table.specs.Sizes.{largest_counted}
@@ -12,7 +11,6 @@ use Rattle.line_text.specs.Lines.{IsFullLine, words}
 use Rattle.line_text.specs.Numbers.{number_of}
 use Rattle.line_text.proofs.LawLemmas.{text_laws as laws}
 use Rattle.profile_count.proofs.LawLemmas.{number_is_not_large}
-use Rattle.tuner_theory.specs.Profiles.{greatest_count}
 use Rattle.history_count.specs.HistoryText.{Entry, entry_of, entry_with_numbers, size_of, subject_of}
 use Rattle.history_count.specs.declared.line.Subject.{Subject}
 use Rattle.history_count.specs.declared.line.Subject.TheVariants.{Large, Size}
@@ -38,11 +36,7 @@ pub record IsNext (count next : ℕ) (entry : Entry) : Type 0 where
 
 decimal-some : (n : ℕ) → n < 2 ^ 64 → 0 < length (decimal n)
 unfolding number_of
-decimal-some n small = go (decimal n) (laws.read n small)
-  where
-    go : (word : List ℕ) → number_of word ≡ Some n → 0 < length word
-    go [] e = absurd cc
-    go (b ∷ word) e = omega arith
+decimal-some n small = grind (arith, laws)
 
 first_word-is_name : (subject : Subject) → IsSubject subject → IsName (first_word subject)
 first_word-is_name (Size size) is =
@@ -51,20 +45,14 @@ first_word-is_name (Size size) is =
 first_word-is_name Large is = plain_name (codes "large") refl (omega arith)
 
 subject_of-first_word : (subject : Subject) → IsSubject subject → subject_of (first_word subject) ≡ Some subject
-subject_of-first_word (Size size) is =
-    let read = laws.read size (omega (arith, is)) in
-    rw (number_is_not_large (decimal size) size read, read, le-leb size largest_counted is) refl
-subject_of-first_word Large is = refl
+subject_of-first_word subject is = grind (arith, laws, number_is_not_large, le-leb)
 
 counts-small : (count next : ℕ) (entry : Entry) → IsNext count next entry → AreSmall entry.counts
-counts-small count next entry is =
-    All-weaker (λ n. n ≤ greatest_count) (λ n. n < 2 ^ 64) (λ n small. omega (arith, small)) entry.counts is.good.few
+counts-small count next entry is = grind arith
 
 -- the numbers of the words after a name
 numbers_after : (name line : List ℕ) (ws : List (List ℕ)) → words line ≡ name ∷ ws → numbers_in name line ≡ numbers_of ws
-numbers_after name line ws is =
-    let same : bytes_eq name name ≡ true = (bytes_eq-Decides name name).1 refl in
-    rw (is, same) refl
+numbers_after name line ws is = grind (arith, bytes_eq-Decides)
 
 module _ (count next : ℕ) (entry : Entry) (is : IsNext count next entry) where
   name : IsName (first_word entry.subject)
@@ -106,15 +94,7 @@ same_subject : (a b : Subject) → Some a ≡ Some b → a ≡ b
 same_subject a b e = cc
 
 size_read : (first : List ℕ) (o : Option ℕ) (subject : Subject) → number_of first ≡ o → size_of o ≡ Some subject → IsFirst first subject
-size_read first None subject is e = absurd cc
-size_read first (Some size) subject is e = go (leb size largest_counted) refl
-  where
-    go : (few : Bool) → leb size largest_counted ≡ few → IsFirst first subject
-    go false f = let none = rw f at e in absurd cc
-    go true f =
-        let small : size ≤ largest_counted = leb-true size largest_counted f in
-        let same : Size size ≡ subject = same_subject (Size size) subject (rw f at e) in
-        rw (← same) (record { may_come = small; spelled = laws.spelled first size (omega (arith, small)) is })
+size_read first o subject is also = grind (arith, leb, leb-true, same_subject, laws)
 
 subject_read : (first : List ℕ) (subject : Subject) → subject_of first ≡ Some subject → IsFirst first subject
 subject_read first subject e = go (bytes_eq first (codes "large")) refl

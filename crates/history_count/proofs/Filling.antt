@@ -1,5 +1,5 @@
 -- Reading the numbers of a line, word by word, into their places.
-use Rattle.std.proofs.Common.{◌≡◌, ◌≢◌, ℕ, ◌+◌, ◌<◌, ◌≤◌, Bool, true, false, List, [], ◌∷◌, ◌++◌, length, map, set, take, drop, Option, Some, None, option_map, slice_get, refl, sym, ap, ◌∙◌, arith, append_assoc, append-nil, length-append}
+use Rattle.std.proofs.Common.{◌≡◌, ◌≢◌, ℕ, ◌+◌, ◌<◌, ◌≤◌, Bool, true, false, List, [], ◌∷◌, ◌++◌, length, map, set, take, drop, Option, Some, None, option_map, slice_get, refl, sym, ◌∙◌, arith, append_assoc, append-nil, length-append}
 use Rattle.std.proofs.lemmas.List.{length-set, map-append, take_all, take_more_set}
 use Rattle.class_table.specs.NamedLines.{numbers_of}
 use Rattle.line_text.specs.Numbers.{classified, number_of}
@@ -15,8 +15,7 @@ pub record IsNextWord (old new : List (List ℕ)) (read : Number) : Type 0 where
 
 pub next_word : (old new : List (List ℕ)) (read : Number) → Some read ≡ option_map (λ word. classified (number_of word)) (slice_get old 0)
     → new ≡ drop 1 old → IsNextWord old new read
-next_word [] new read number taken = absurd cc
-next_word (w ∷ ws) new read number taken = record { word = w; parts = ap (λ (rest : List (List ℕ)). w ∷ rest) (sym taken); says = cc }
+next_word old new read is also = grind arith
 
 abbrev no_read : Option Number
 no_read = None
@@ -42,11 +41,7 @@ pub record FillsSoFar (all rest : List (List ℕ)) (count place : ℕ) (is_too_l
 number_more : (front : List ℕ) (w : List ℕ) (rest : List (List ℕ)) (n : ℕ) → number_of w ≡ Some n
     → numbers_on front (w ∷ rest) ≡ numbers_on (front ++ n ∷ []) rest
 unfolding numbers_of
-number_more front w rest n is = rw is (go (numbers_of rest))
-  where
-    go : (p : Option (List ℕ)) → option_map (λ ns. front ++ ns) (option_map (λ ns. n ∷ ns) p) ≡ option_map (λ ns. front ++ n ∷ [] ++ ns) p
-    go None = refl
-    go (Some ns) = rw (append_assoc front (n ∷ []) ns) refl
+number_more front w rest n is = grind (arith, option_map, append_assoc)
 
 -- a word that is no number
 pub fills-no_number : (all rest new : List (List ℕ)) (count place : ℕ) (is_too_long : Bool) (filled w : List ℕ)
@@ -56,12 +51,10 @@ fills-no_number all rest new count place is_too_long filled w so_far parts none 
 
 -- the number that was read of a word
 pub read_number : (o : Option ℕ) (number : ℕ) → Some number ≡ option_map capped o → (n : ℕ) × (o ≡ Some n) × (number ≡ capped n)
-read_number None number e = absurd cc
-read_number (Some n) number e = (n, refl, cc)
+read_number o number is = grind arith
 
 pub no_number : (o : Option ℕ) (read : Option ℕ) → read ≡ None → read ≡ option_map capped o → o ≡ None
-no_number None read none e = refl
-no_number (Some n) read none e = absurd cc
+no_number o read is also = grind arith
 
 -- a number more than there are places for
 pub fills-over : (all rest new : List (List ℕ)) (count place : ℕ) (is_too_long : Bool) (filled w : List ℕ) (n : ℕ)
@@ -106,26 +99,11 @@ pub fills-all : (all rest : List (List ℕ)) (count place : ℕ) (is_too_long : 
     → FillsSoFar all rest count place is_too_long filled → rest ≡ [] → is_too_long ≡ false → count ≤ place
     → (numbers : List ℕ) × (numbers_of all ≡ Some numbers) × (length numbers ≡ count) × (filled ≡ map capped numbers)
 unfolding numbers_of
-fills-all all rest count place is_too_long filled so_far none short full =
-    let parts = so_far.short short in
-    let whole : take place filled ≡ filled = take_all place filled (omega (arith, so_far.size)) in (
-      so_far.front,
-      so_far.read ∙ rw (none, append-nil so_far.front) refl,
-      omega (arith, parts.0, so_far.within),
-      sym whole ∙ parts.1,
-    )
+fills-all all rest count place is_too_long filled so_far none short full = grind (arith, take_all, append-nil)
 
 -- or there are more or fewer numbers
 pub fills-other : (all rest : List (List ℕ)) (count place : ℕ) (is_too_long : Bool) (filled : List ℕ)
     → FillsSoFar all rest count place is_too_long filled → rest ≡ [] → (is_too_long ≡ false → place < count)
     → (numbers : List ℕ) × (numbers_of all ≡ Some numbers) × (length numbers ≢ count)
 unfolding numbers_of
-fills-other all rest count place is_too_long filled so_far none other = (
-  so_far.front,
-  so_far.read ∙ rw (none, append-nil so_far.front) refl,
-  differs is_too_long refl,
-)
-  where
-    differs : (b : Bool) → is_too_long ≡ b → length so_far.front ≢ count
-    differs true e same = omega (arith, so_far.long e, same)
-    differs false e same = omega (arith, (so_far.short e).0, other e, same)
+fills-other all rest count place is_too_long filled so_far none other = grind (arith, append-nil)

@@ -8,7 +8,7 @@ use Rattle.line_text.specs.FirstFault.{IsFirstFault}
 use Rattle.line_text.specs.Lines.{IsLine, lines, text_of, words}
 use Rattle.line_text.proofs.LawLemmas.{IsLineByLine, first_fault_is_a_refusal, refusal_has_its_place, refusal_is_first_fault, text_laws as laws}
 use Rattle.history_count.specs.Histories.{History}
-use Rattle.history_count.specs.HistoryText.{Entry, IsRefusedAt, Reading, SpellsHistory, first_reading, history_after, history_from, history_of, history_of_lines, next_entry, snapshots_line, snapshots_of, with_entry}
+use Rattle.history_count.specs.HistoryText.{Entry, IsRefusedAt, Reading, SpellsHistory, first_reading, history_from, history_of, history_of_lines, next_entry, snapshots_line, snapshots_of, with_entry}
 use Rattle.history_count.specs.declared.fault.HistoryFault.{HistoryFault}
 use Rattle.history_count.specs.declared.fault.HistoryFault.TheVariants.{BadSnapshots}
 use Rattle.history_count.proofs.LineByLine.{first_line_read, line_faulty, line_read, no_line}
@@ -30,12 +30,7 @@ read_from number None [] = Err (number, BadSnapshots)
 read_from number None (line ∷ ls) = read_count number (snapshots_of (words line)) ls
 
 all_lines : (ls : List (List ℕ)) → history_of_lines ls ≡ read_from 1 start ls
-all_lines [] = refl
-all_lines (line ∷ ls) = go (snapshots_of (words line))
-  where
-    go : (o : Option ℕ) → history_after o ls ≡ read_count 1 o ls
-    go None = refl
-    go (Some count) = refl
+all_lines ls = grind arith
 
 -- ---- line by line
 
@@ -129,23 +124,7 @@ same_refusal : (a b : ℕ × HistoryFault) → (let r : Result History (ℕ × H
 same_refusal a b e = cc
 
 is_later : (text : List ℕ) (n : ℕ) (fault : HistoryFault) → 2 ≤ n → history_of text ≡ Err (n, fault) → IsLater text n fault
-is_later text n fault later e = go (lines text) refl e
-  where
-    first_only : (n : ℕ) → 2 ≤ n → (f : HistoryFault) → (let r : Result History (ℕ × HistoryFault) = Err (1, f) in r) ≡ Err (n, fault)
-        → IsLater text n fault
-    first_only n later f e =
-        let same : 1 ≡ n = ap (λ (pair : ℕ × HistoryFault). pair.0) (same_refusal (1, f) (n, fault) e) in
-        absurd (omega arith)
-
-    after : (line : List ℕ) (ls : List (List ℕ)) → lines text ≡ line ∷ ls → (o : Option ℕ) → snapshots_of (words line) ≡ o
-        → history_after o ls ≡ Err (n, fault) → IsLater text n fault
-    after line ls parts None is e = first_only n later BadSnapshots e
-    after line ls parts (Some count) is e =
-        record { line = line; others = ls; count = count; parts = parts; counted = sym is; refused = e }
-
-    go : (ls : List (List ℕ)) → lines text ≡ ls → history_of_lines ls ≡ Err (n, fault) → IsLater text n fault
-    go [] parts e = first_only n later BadSnapshots e
-    go (line ∷ ls) parts e = after line ls parts (snapshots_of (words line)) refl e
+is_later text n fault later e = grind arith
 
 -- The line of a fault is there, unless it is the first,
 pub refused_line_is_there : (text : List ℕ) (n : ℕ) → IsRefusedAt n text → n ≤ max 1 (length (lines text))

@@ -1,5 +1,5 @@
 -- Reading a history line by line.
-use Rattle.std.proofs.Common.{◌≡◌, ℕ, ◌+◌, List, [], ◌∷◌, length, Some, Ok, Err, refl, sym, ap, ◌∙◌, add-one}
+use Rattle.std.proofs.Common.{◌≡◌, ℕ, ◌+◌, List, [], ◌∷◌, length, Some, Ok, Err, refl, add-one, arith}
 use Rattle.line_text.specs.Lines.{lines, words}
 use Rattle.history_count.specs.Histories.{History}
 use Rattle.history_count.specs.HistoryText.{Entry, Reading, entry_of, first_reading, history_from, history_of, next_entry, snapshots_of, with_entry}
@@ -37,6 +37,4 @@ pub entry_read : (r : Reading) (line : List ℕ) (places : ℕ) (given subject :
     → places ≡ length r.history.snapshots
     → entry_of places r.next r.is_ended (words line) ≡ Ok (record { subject = given; counts = counts })
     → given ≡ subject → next_entry r line ≡ Ok (record { subject = subject; counts = counts })
-entry_read r line places given subject counts size read is =
-    ap (λ n. entry_of n r.next r.is_ended (words line)) (sym size) ∙ read
-    ∙ ap (λ (s : Subject). Ok (record { subject = s; counts = counts })) is
+entry_read r line places given subject counts size read is = grind arith

@@ -1,6 +1,6 @@
 -- The peaks of snapshots, by the counts of each size.
-use Rattle.std.proofs.Common.{◌≡◌, ℕ, zero, suc, ◌+◌, ◌≤◌, false, List, [], ◌∷◌, ◌++◌, length, get_or, set, refl, sym, ap, ◌∙◌, arith, inl, inr}
-use Rattle.std.specs.Prelude.{All, replicate, slice_index}
+use Rattle.std.proofs.Common.{◌≡◌, ℕ, zero, suc, ◌+◌, ◌≤◌, false, List, [], ◌∷◌, ◌++◌, length, get_or, set, refl, sym, ◌∙◌, arith}
+use Rattle.std.specs.Prelude.{All, slice_index}
 use Rattle.std.proofs.lemmas.Bool.{cases_eq}
 use Rattle.std.proofs.lemmas.Grind.{same_number_lists}
 use Rattle.std.proofs.lemmas.List.{get_or-set_other, get_or-set_same, length-replicate, length-set, replicate-append-replicate}
@@ -27,17 +27,7 @@ peak-is snapshots n small = peak-at snapshots n 0 small ∙ most-greatest snapsh
 -- Where the counts of a size are set, its peak is the greatest of them.
 pub peaks-set : (snapshots : List (List ℕ)) (n : ℕ) (counts : List ℕ) → All AreCounts snapshots → n ≤ largest_counted
     → length counts ≡ length snapshots → peaks (with_counts snapshots n counts) ≡ set (peaks snapshots) n (greatest_of counts)
-peaks-set snapshots n counts are small size =
-    let before = peaks snapshots in
-    same_number_lists (peaks (with_counts snapshots n counts)) (set before n (greatest_of counts))
-    (peaks-length (with_counts snapshots n counts) ∙ sym (peaks-length snapshots) ∙ sym (length-set before n (greatest_of counts)))
-    (λ k lt. let low : k ≤ largest_counted = omega (arith, peaks-length (with_counts snapshots n counts)) in
-    peak-is (with_counts snapshots n counts) k low ∙ elim (cases_eq k n) [
-      | inl same ↦ rw same (ap greatest_of (counts_of-same snapshots n counts are small size)
-          ∙ sym (get_or-set_same before n (greatest_of counts) 0 (omega (arith, peaks-length snapshots))))
-      | inr other ↦ ap greatest_of (counts_of-other snapshots n k counts other) ∙ sym (peak-is snapshots k low)
-          ∙ sym (get_or-set_other before n k (greatest_of counts) 0 other)
-    ])
+peaks-set snapshots n counts are small size = grind (arith, same_number_lists, set, peaks-length, length-set, peak-is, cases_eq, counts_of-same, get_or-set_same, counts_of-other, get_or-set_other)
 
 -- the greatest of counts in range is in range
 pub greatest-small : (counts : List ℕ) → All (λ count. count ≤ greatest_count) counts → greatest_of counts ≤ greatest_count
@@ -53,8 +43,7 @@ zeros-small n = All-from_get_or (λ count. count ≤ greatest_count) (zeros n) 0
 pub empty-counts : (count : ℕ) → All AreCounts (empty_snapshots count)
 unfolding empty_snapshots
 empty-counts zero = All-nil AreCounts
-empty-counts (suc n) = All-cons AreCounts (zeros (largest_counted + 1)) (replicate n (zeros (largest_counted + 1)))
-    (zeros_are_counts (zeros (largest_counted + 1)) refl) (empty-counts n)
+empty-counts (suc n) = grind (arith, zeros_are_counts, empty-counts n)
 
 pub empty-none : empty_snapshots 0 ≡ []
 unfolding empty_snapshots
@@ -81,11 +70,7 @@ empty-nothing (suc m) n = rw each_is_zero (empty-nothing m n)
 
 -- and all peaks are 0.
 pub peaks-empty : (count : ℕ) → peaks (empty_snapshots count) ≡ zeros (largest_counted + 1)
-peaks-empty count =
-    same_number_lists (peaks (empty_snapshots count)) (zeros (largest_counted + 1))
-    (peaks-length (empty_snapshots count) ∙ sym (zeros_are_counts (zeros (largest_counted + 1)) refl).sizes)
-    (λ k lt. peak-is (empty_snapshots count) k (omega (arith, peaks-length (empty_snapshots count)))
-    ∙ greatest-empty count k ∙ sym (each_is_zero (largest_counted + 1) k))
+peaks-empty count = grind (arith, same_number_lists, peaks-length, zeros_are_counts, peak-is, greatest-empty, each_is_zero)
 
 -- ---- the counts of one size
 
@@ -99,34 +84,9 @@ counts-small (s ∷ ss) n are =
 -- ---- what a history keeps
 
 pub holds-empty : (count : ℕ) → 1 ≤ count → count ≤ MOST_SNAPSHOTS → HoldsHistory (nothing_counted count) no_requests
-holds-empty count some few = record {
-  is_history = record {
-    snapshots = record { some = omega (arith, empty-length count); few = omega (arith, empty-length count); counts = empty-counts count };
-    large_size = length-zeros count ∙ sym (empty-length count);
-    large = zeros-small count;
-  };
-  peaks = same_profile _ _ (sym (peaks-empty count));
-}
-  where
-    same_profile : (a b : List ℕ) → a ≡ b → (let p : Profile = record { counts = a; large = 0 } in p) ≡ record { counts = b; large = 0 }
-    same_profile a b e = rw e refl
+holds-empty count some few = grind (arith, empty-length, empty-counts, length-zeros, zeros-small, peaks-empty)
 
 pub holds-set : (h : History) (kept : Profile) (n : ℕ) (counts : List ℕ) → HoldsHistory h kept → n ≤ largest_counted
     → length counts ≡ length h.snapshots → All (λ count. count ≤ greatest_count) counts
     → HoldsHistory (record { snapshots = with_counts h.snapshots n counts; large = h.large }) (with_count kept n (greatest_of counts))
-holds-set h kept n counts holds small size few =
-    let are = holds.is_history.snapshots in
-    let same : length (with_counts h.snapshots n counts) ≡ length h.snapshots = with_counts-length h.snapshots n counts in
-    record {
-      is_history = record {
-        snapshots = record {
-          some = omega (arith, same, are.some);
-          few = omega (arith, same, are.few);
-          counts = with_counts-counts h.snapshots n counts are.counts few;
-        };
-        large_size = holds.is_history.large_size ∙ sym same;
-        large = holds.is_history.large;
-      };
-      peaks = ap (λ (p : Profile). with_count p n (greatest_of counts)) holds.peaks
-          ∙ ap (λ (l : List ℕ). record { counts = l; large = 0 }) (sym (peaks-set h.snapshots n counts are.counts small size));
-    }
+holds-set h kept n counts holds small size few = grind (arith, with_counts-length, with_counts-counts, peaks-set)

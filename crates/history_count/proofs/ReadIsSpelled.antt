@@ -1,18 +1,15 @@
 -- From a text that is read as a history to its spelling: line by line, the rest spells what is counted from there on.
-use Rattle.std.proofs.Common.{◌≡◌, ℕ, suc, ◌+◌, ◌-◌, ◌<◌, ◌≤◌, Bool, true, false, List, [], ◌∷◌, ◌++◌, length, Option, Some, None, Result, Ok, Err, codes, leb, refl, subst, sym, ap, ◌∙◌, arith}
+use Rattle.std.proofs.Common.{◌≡◌, ℕ, suc, ◌+◌, ◌-◌, ◌<◌, ◌≤◌, true, List, [], ◌∷◌, ◌++◌, length, Option, Some, None, Result, Ok, Err, codes, leb, refl, subst, ap, ◌∙◌, arith}
 use Rattle.std.specs.Fmt.{decimal}
-use Rattle.std.specs.Str.{bytes_eq}
 use Rattle.std.proofs.lemmas.Bool.{and_parts, leb-true}
 use Rattle.std.proofs.lemmas.Slice.Eq.{bytes_eq-Decides}
 use Rattle.class_table.specs.NamedLines.{named_line}
 use Rattle.class_table.specs.Sizes.{largest_counted}
-use Rattle.line_text.specs.Lines.{IsTextOf, line_of, lines, words}
-use Rattle.line_text.specs.Numbers.{number_of}
+use Rattle.line_text.specs.Lines.{IsTextOf, lines, words}
 use Rattle.line_text.proofs.LawLemmas.{text_laws as laws}
 use Rattle.tuner_theory.specs.declared.most_snapshots.TheConstants.{MOST_SNAPSHOTS}
-use Rattle.profile_count.specs.Counts.{zeros}
 use Rattle.history_count.specs.Histories.{History, IsHistory, counts_of}
-use Rattle.history_count.specs.HistoryText.{Entry, Reading, SpellsHistory, counts_lines, first_reading, history_after, history_from, history_lines, history_of, history_of_lines, is_snapshot_count, is_some_counted, next_entry, size_lines, snapshot_count, snapshots_line, snapshots_of, with_entry}
+use Rattle.history_count.specs.HistoryText.{Entry, Reading, SpellsHistory, counts_lines, first_reading, history_after, history_from, history_lines, history_of, history_of_lines, is_some_counted, next_entry, size_lines, snapshots_line, snapshots_of, with_entry}
 use Rattle.history_count.specs.declared.fault.HistoryFault.{HistoryFault}
 use Rattle.history_count.specs.declared.line.Subject.{Subject}
 use Rattle.history_count.specs.declared.line.Subject.TheVariants.{Large, Size}
@@ -38,18 +35,7 @@ no_size_lines r is_open = size_lines-none r.history.snapshots r.next (largest_co
 
 -- no line more spells what was read
 spells_rest-nil : (r : Reading) → IsOpen r → SpellsRest r [] r.history
-spells_rest-nil r is_open =
-    let count = length r.history.snapshots in
-    record {
-      is_history = record {
-        snapshots = is_open.snapshots;
-        large_size = ap length is_open.large ∙ length-zeros count;
-        large = rw is_open.large (zeros-small count);
-      };
-      size = refl;
-      kept = λ k below. refl;
-      spelled = rw (no_size_lines r is_open, is_open.large, counts_lines-none (codes "large") (zeros count) (zeros-none count)) refl;
-    }
+spells_rest-nil r is_open = grind (arith, length-zeros, zeros-small, no_size_lines, counts_lines-none, zeros-none)
 
 abbrev large_entry : List ℕ → Entry
 large_entry counts = record { subject = Large; counts = counts }
@@ -57,12 +43,7 @@ large_entry counts = record { subject = Large; counts = counts }
 -- a `large` line alone spells its counts
 spells_rest-large : (r : Reading) (counts : List ℕ) → IsOpen r → IsNext (length r.history.snapshots) r.next (large_entry counts)
     → SpellsRest r (entry_line (large_entry counts) ∷ []) (with_entry r (large_entry counts)).history
-spells_rest-large r counts is_open next = record {
-  is_history = record { snapshots = is_open.snapshots; large_size = next.good.size; large = next.good.few };
-  size = refl;
-  kept = λ k below. refl;
-  spelled = rw (no_size_lines r is_open, counts_lines-some (codes "large") counts next.good.some) refl;
-}
+spells_rest-large r counts is_open next = grind (arith, no_size_lines, counts_lines-some)
 
 -- the line of a size spells its counts, and that the sizes before it are not counted
 spells_rest-size : (r : Reading) (size : ℕ) (counts : List ℕ) (ls : List (List ℕ)) (h : History) → IsOpen r
@@ -98,13 +79,7 @@ nothing_after_large : (number : ℕ) (r : Reading) (ls : List (List ℕ)) (h : H
     → (ls ≡ []) × (r.history ≡ h)
 unfolding history_from
 nothing_after_large number r [] h ended e = (refl, same_history_read r.history h e)
-nothing_after_large number r (line ∷ ls) h ended e = go (next_entry r line) refl
-  where
-    go : (read : Result Entry HistoryFault) → next_entry r line ≡ read → (line ∷ ls ≡ []) × (r.history ≡ h)
-    go (Err fault) is = let none = rw is at e in absurd cc
-    go (Ok entry) is =
-        let open_still = (entry_line-read (length r.history.snapshots) r.next r.is_ended line entry is).open_still in
-        absurd cc
+nothing_after_large number r (line ∷ ls) h ended e = grind arith
 
 -- lines that are read as a history spell it
 spells_rest-read : (ls : List (List ℕ)) (number : ℕ) (r : Reading) (h : History) → IsOpen r → history_from number r ls ≡ Ok h
@@ -144,36 +119,7 @@ same_count : (a b : ℕ) → Some a ≡ Some b → a ≡ b
 same_count a b e = cc
 
 pub snapshots-read : (line : List ℕ) (count : ℕ) → snapshots_of (words line) ≡ Some count → IsReadCount line count
-snapshots-read line count e = go (words line) refl e
-  where
-    numbered : (first second : List ℕ) → words line ≡ first ∷ second ∷ [] → first ≡ codes "snapshots" → (o : Option ℕ)
-        → number_of second ≡ o → snapshot_count o ≡ Some count → IsReadCount line count
-    numbered first second parts name None f e = absurd cc
-    numbered first second parts name (Some n) f e = tested (is_snapshot_count n) refl
-      where
-        tested : (b : Bool) → is_snapshot_count n ≡ b → IsReadCount line count
-        tested false g = let none = rw g at e in absurd cc
-        tested true g =
-            let same : n ≡ count = same_count n count (rw g at e) in
-            let range = and_parts (leb 1 n) (leb n MOST_SNAPSHOTS) g in
-            let some = leb-true 1 n range.0 in
-            let few = leb-true n MOST_SNAPSHOTS range.1 in
-            let word : second ≡ decimal n = laws.spelled second n (omega (arith, few)) f in
-            rw (← same) (record {
-              some = some;
-              few = few;
-              spelled = sym (laws.line line) ∙ ap line_of parts ∙ rw (name, word) refl;
-            })
-
-    go : (ws : List (List ℕ)) → words line ≡ ws → snapshots_of ws ≡ Some count → IsReadCount line count
-    go [] parts e = absurd cc
-    go (first ∷ []) parts e = absurd cc
-    go (first ∷ second ∷ third ∷ ws) parts e = absurd cc
-    go (first ∷ second ∷ []) parts e = named (bytes_eq first (codes "snapshots")) refl
-      where
-        named : (b : Bool) → bytes_eq first (codes "snapshots") ≡ b → IsReadCount line count
-        named false f = let none = rw f at e in absurd cc
-        named true f = numbered first second parts ((bytes_eq-Decides first (codes "snapshots")).0 f) (number_of second) refl (rw f at e)
+snapshots-read line count e = grind (arith, same_count, and_parts, leb, leb-true, laws, bytes_eq-Decides)
 
 -- What is read as a history is its text.
 pub history_is_spelled : (text : List ℕ) (h : History) → history_of text ≡ Ok h → SpellsHistory text h

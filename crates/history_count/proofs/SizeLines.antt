@@ -12,8 +12,7 @@ use Rattle.history_count.specs.Histories.{counts_of}
 -- ---- counts that are all 0
 
 or_parts : (a b : Bool) → (a || b) ≡ false → (a ≡ false) × (b ≡ false)
-or_parts true b e = absurd cc
-or_parts false b e = (refl, e)
+or_parts a b is = grind arith
 
 pub zeros-none : (n : ℕ) → is_some_counted (zeros n) ≡ false
 unfolding zeros
@@ -65,8 +64,7 @@ module _ (snapshots : List (List ℕ)) where
   pub size_lines-none : (size more : ℕ) → ((k : ℕ) → size ≤ k → IsCountedAt k false) → size_lines snapshots size more ≡ []
   unfolding size_lines
   size_lines-none size zero none = refl
-  size_lines-none size (suc more) none =
-      size_lines-zero size more (none size (omega arith)) ∙ size_lines-none (suc size) more (λ k from. none k (omega arith))
+  size_lines-none size (suc more) none = grind (arith, size_lines-none (suc size) more (λ k from. none k (omega arith)))
 
   -- the lines from a size on
   abbrev pub size_lines_from : ℕ → List (List ℕ)

@@ -1,5 +1,6 @@
 -- Appending lines to a text, and words to a line.
-use Rattle.std.proofs.Common.{◌≡◌, ◌≢◌, ℕ, ◌+◌, List, [], ◌∷◌, ◌++◌, codes, map, take, get_or, Some, refl, sym, ap, ◌∙◌, append-nil, append_assoc, ne_eqb}
+use Rattle.std.proofs.lemmas.Grind.{common_steps}
+use Rattle.std.proofs.Common.{◌≡◌, ◌≢◌, ℕ, ◌+◌, List, [], ◌∷◌, ◌++◌, codes, map, take, get_or, Some, refl, sym, ap, ◌∙◌, append-nil, ne_eqb, arith}
 use Rattle.std.specs.Fmt.{decimal}
 use Rattle.std.specs.Prelude.{slice_get}
 use Rattle.std.proofs.lemmas.List.{map-append, take_more}
@@ -35,14 +36,12 @@ module _ (a b : List ℕ) (some : List (List ℕ)) (c : List ℕ) (rest : List (
   pub all_parts : (before after_a after_b after_some after_c after : List ℕ) → after_a ≡ before ++ ended a → after_b ≡ after_a ++ ended b
       → after_some ≡ after_b ++ text_of some → after_c ≡ after_some ++ ended c → after ≡ after_c ++ text_of rest
       → after ≡ before ++ text_of (a ∷ b ∷ some ++ c ∷ rest)
-  all_parts before after_a after_b after_some after_c after is_a is_b is_some is_c is =
-      rw (is, is_c, is_some, is_b, is_a, parts_text) (simp append_assoc)
+  all_parts before after_a after_b after_some after_c after is_a is_b is_some is_c is = grind (arith, common_steps)
 
 -- the step's line, which is there where the step is not 1
 pub step_part : (before after : List ℕ) (step : ℕ) → step ≢ 1 → after ≡ before ++ ended (named_line (codes "step") (step ∷ []))
     → after ≡ before ++ text_of (step_lines step)
-step_part before after step other is =
-    is ∙ rw (ne_eqb step 1 other) (ap (λ (text : List ℕ). before ++ text) (sym (append-nil (ended (named_line (codes "step") (step ∷ []))))))
+step_part before after step other is = grind (arith, ne_eqb, append-nil)
 
 pub no_step_part : (text : List ℕ) (step : ℕ) → step ≡ 1 → text ≡ text ++ text_of (step_lines step)
 no_step_part text step one = rw one (sym (append-nil text))

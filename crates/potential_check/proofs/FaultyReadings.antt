@@ -69,11 +69,7 @@ sound_after whole rest line s is_line same = record {
 module _ {C : Type 0} (number at : ℕ) (whole : Lines → Result C ℕ) (l : List ℕ) (ls : Lines) where
   -- The first line is faulty, whatever follows it.
   stops_here : Sound whole → number ≡ at → ((os : Lines) → whole (l ∷ os) ≡ Err at) → Reported number whole (l ∷ ls) at
-  stops_here sound here faulty = (0, omega (arith, here), record { within = omega arith; sound = sound; before = refl; same = none })
-    where
-      none : FaultOfAll whole (l ∷ ls) 1 at
-      none [] t = no_first l [] t
-      none (o ∷ os) t = rw ((same_first l o [] [] t).0) (faulty os)
+  stops_here sound here faulty = grind arith
 
   -- The first line has no fault, and what follows it is read so.
   reads_on : (rest : Lines → Result C ℕ) → IsLine l → ((os : Lines) → whole (l ∷ os) ≡ rest os) → Reported (suc number) rest ls at
@@ -209,8 +205,7 @@ module _ {B C : Type 0} (more : ℕ × Lines → Result B ℕ) (last : B → Res
   -- a first line of another name is left
   unnamed : (n : ℕ) (l : List ℕ) (ls other : Lines) → is_named (codes "step") l ≡ false → take (suc n) other ≡ l ∷ ls
       → step_then other ≡ (more (1, other) >>= last)
-  unnamed n l ls [] e t = no_first l ls t
-  unnamed n l ls (o ∷ os) e t = rw ((same_first l o ls (take n os) t).0, e) refl
+  unnamed n l ls other is also = grind arith
 
   pub reports-step : (line : List ℕ) (step : ℕ) → IsLine line → is_named (codes "step") line ≡ true → step_in line ≡ Some step
       → ((s : ℕ) → Reports (cost_number s) (λ ls. more (s, ls) >>= last)) → Reports 3 step_then

@@ -1,5 +1,5 @@
 -- Reading the head of a sheet, one line after the other.
-use Rattle.std.proofs.Common.{◌≡◌, ℕ, List, Option, Some, None, Result, Ok, Err, Bor, refl, MatchOption}
+use Rattle.std.proofs.Common.{◌≡◌, ℕ, List, Option, Some, None, Result, Ok, Err, Bor, refl, MatchOption, arith}
 use Rattle.std.specs.Iterator.{YieldsFirstBy}
 use Rattle.std.specs.Option.{ok_or}
 use Rattle.potential_check.specs.SheetText.{Gives, cost_in, cost_number, head_of_lines, limit_in, line_at, step_at, table_in}
@@ -20,18 +20,12 @@ IsRead reading line read = MatchOption line (read ≡ None) (λ x. read ≡ read
 pub line_at-some : {A : Type 0} (number : ℕ) (reading : List ℕ → Option A) (old new : List (List ℕ)) (line : Option (Bor (List ℕ)))
     (read : Option A) (x : A)
     → Gave old line new → IsRead reading line read → read ≡ Some x → line_at number reading old ≡ Ok (x, new)
-line_at-some number reading old new None read x gave is e = absurd cc
-line_at-some number reading old new (Some y) read x gave is e =
-    let found : reading y.now ≡ Some x = cc in
-    rw (gave, found) refl
+line_at-some number reading old new line read x is also too = grind arith
 
 pub line_at-none : {A : Type 0} (number : ℕ) (reading : List ℕ → Option A) (old new : List (List ℕ)) (line : Option (Bor (List ℕ)))
     (read : Option A)
     → Gave old line new → IsRead reading line read → read ≡ None → line_at number reading old ≡ Err number
-line_at-none number reading old new None read gave is e = rw gave.0 refl
-line_at-none number reading old new (Some y) read gave is e =
-    let none : reading y.now ≡ None = cc in
-    rw (gave, none) refl
+line_at-none number reading old new line read is also too = grind arith
 
 -- ---- a fault
 
@@ -39,9 +33,7 @@ line_at-none number reading old new (Some y) read gave is e =
 pub fault_given : {A B X : Type 0} (view : X → B) (result : Result X SheetError) (y e : SheetError) (read : Option A) (number : ℕ)
     (whole : Result B ℕ) → result ≡ Err y → y ≡ e
     → Err e ≡ ok_or read (Line number) → read ≡ None → whole ≡ Err number → Gives view result whole
-fault_given view result y e read number whole is same given none fault =
-    let line : e ≡ Line number = (let err = rw none at given in cc) in
-    rw (is, same, line) fault
+fault_given view result y e read number whole is same given none fault = grind arith
 
 -- ---- one line after the other
 

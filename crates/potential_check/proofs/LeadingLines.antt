@@ -1,16 +1,13 @@
 -- Lines that are read as a sheet or a fit in front of others, and what is read where there are no others.
-use Rattle.std.proofs.Common.{◌≡◌, ℕ, zero, suc, ◌+◌, ◌≤◌, add-one, add-zero, Bool, true, false, List, [], ◌∷◌, length, drop, Option, Some, None, Result, Ok, Err, inl, inr, ne_eqb, refl, sym, ap, ◌∙◌, arith, codes}
+use Rattle.std.proofs.Common.{◌≡◌, ℕ, zero, suc, ◌+◌, ◌≤◌, add-one, add-zero, Bool, true, false, List, [], ◌∷◌, length, drop, Option, Some, None, Result, Ok, Err, refl, sym, ap, ◌∙◌, arith, codes}
 use Rattle.std.specs.List.{take_while}
-use Rattle.std.proofs.lemmas.Bool.{cases_eq}
 use Rattle.std.proofs.lemmas.List.Sums.{take_while-cons}
 use Rattle.line_text.specs.FirstFault.{◌>>=◌}
-use Rattle.line_text.specs.Lines.{lines, words}
+use Rattle.line_text.specs.Lines.{lines}
 use Rattle.potential_check.specs.Leading.{GivesLeadingBy, IsLeadingOf, is_row_line, leading_lines, lines_after}
 use Rattle.class_table.specs.declared.table.TheConstants.{MOST_CLASSES}
 use Rattle.potential_check.specs.SheetText.{Gives, cost_in, cost_number, head_line_count, head_of_lines, is_named, limit_in, read_by, row_in, rows_from, step_in, table_in, with_rows}
 use Rattle.potential_check.specs.declared.cost.Cost.{Cost}
-use Rattle.class_table.specs.NamedLines.{words_after}
-use Rattle.potential_check.proofs.SheetLines.{line-step_in}
 use Rattle.potential_check.specs.declared.fault.SheetError.{SheetError}
 use Rattle.potential_check.specs.declared.fault.SheetError.TheVariants.{OutOfMemory, Line}
 use Rattle.potential_check.specs.declared.leading_sheet.LeadingSheet.{LeadingSheet}
@@ -41,11 +38,7 @@ drop-line [] ls new line (suc n) e parts = absurd cc
 drop-line (first ∷ all) ls new line (suc n) e parts = drop-line all ls new line n e parts
 
 no_row : (line : List ℕ) → is_row_line line ≡ false → row_in line ≡ None
-no_row line e = go (words_after (codes "row") (words line)) refl
-  where
-    go : (after : Option (List (List ℕ))) → words_after (codes "row") (words line) ≡ after → row_in line ≡ None
-    go None f = rw f refl
-    go (Some ws) f = let row = rw f at e in absurd cc
+no_row line e = grind arith
 
 -- a line after the rows is faulty
 abbrev unless_more : List (List ℕ) → ℕ → Result (List (List ℕ)) ℕ → Result (List (List ℕ)) ℕ
@@ -55,9 +48,7 @@ unless_more (line ∷ ls) number (Err fault) = Err fault
 
 one_row_more : (rest : List (List ℕ)) (number : ℕ) (row : List ℕ) (read : Result (List (List ℕ)) ℕ)
     → (unless_more rest (suc number) read >>= λ rows. Ok (row ∷ rows)) ≡ unless_more rest number (read >>= λ rows. Ok (row ∷ rows))
-one_row_more [] number row read = refl
-one_row_more (line ∷ ls) number row (Ok rows) = ap Err (omega arith)
-one_row_more (line ∷ ls) number row (Err fault) = refl
+one_row_more rest number row read = grind arith
 
 rows_from-all : (ls : List (List ℕ)) (number most : ℕ) →
     rows_from number most ls ≡ unless_more (rest_of ls) number (rows_from number most (rows_of ls))
@@ -95,23 +86,9 @@ rows_from-all (line ∷ ls) number (suc most) = go (rows_from-all ls (suc number
 pub rows_from-length : (ls : List (List ℕ)) (number most : ℕ) (rows : List (List ℕ)) → rows_from number most ls ≡ Ok rows →
     (length rows ≡ length ls) × (length rows ≤ most)
 unfolding rows_from
-rows_from-length [] number most rows e =
-    let none : [] ≡ rows = cc in
-    rw (← none) (refl, omega arith)
+rows_from-length [] number most rows e = grind arith
 rows_from-length (line ∷ ls) number zero rows e = absurd cc
-rows_from-length (line ∷ ls) number (suc most) rows e =
-    go (rows_from-length ls (suc number) most) (row_in line) refl (rows_from (suc number) most ls) refl
-  where
-    go : ((rows : List (List ℕ)) → rows_from (suc number) most ls ≡ Ok rows → (length rows ≡ length ls) × (length rows ≤ most))
-        → (o : Option (List ℕ)) → row_in line ≡ o → (r : Result (List (List ℕ)) ℕ) → rows_from (suc number) most ls ≡ r
-        → (length rows ≡ suc (length ls)) × (length rows ≤ suc most)
-    go others None f r g = let none = rw f at e in absurd cc
-    go others (Some row) f (Err fault) g = let none = rw (f, g) at e in absurd cc
-    go others (Some row) f (Ok more) g =
-        let is = rw (f, g) at e in
-        let same : row ∷ more ≡ rows = cc in
-        let rest = others more g in
-        rw (← same) (omega (arith, rest.0), omega (arith, rest.1))
+rows_from-length (line ∷ ls) number (suc most) rows e = grind (arith, rows_from-length ls (suc number) most)
 
 -- ---- the head
 
@@ -127,10 +104,7 @@ data Heading (cost : Cost) (ls : List (List ℕ)) : Type 0 where
 
 -- a step that is written is not 1, so the cost comes after its line
 pub cost_number-written : (line : List ℕ) (step : ℕ) → step_in line ≡ Some step → cost_number step ≡ head_line_count true
-cost_number-written line step e = elim (cases_eq step 1) [
-  | inl one ↦ absurd ((line-step_in line step e).2 one)
-  | inr other ↦ rw (ne_eqb step 1 other) refl
-]
+cost_number-written line step e = grind arith
 
 module _ (cost : Cost) (a b c : List ℕ) (xs : List (List ℕ)) where
   -- without a step line
@@ -178,27 +152,15 @@ module _ (cost : Cost) (a b c d : List ℕ) (xs : List (List ℕ)) where
 
 no_lines : leading_lines [] ≡ []
 unfolding leading_lines
-no_lines = go (is_named (codes "step") []) refl
-  where
-    go : (named : Bool) → is_named (codes "step") [] ≡ named → leading_lines [] ≡ []
-    go false e = rw e refl
-    go true e = rw e refl
+no_lines = grind arith
 
 one_line : (a : List ℕ) → leading_lines (a ∷ []) ≡ a ∷ []
 unfolding leading_lines
-one_line a = go (is_named (codes "step") []) refl
-  where
-    go : (named : Bool) → is_named (codes "step") [] ≡ named → leading_lines (a ∷ []) ≡ a ∷ []
-    go false e = rw e refl
-    go true e = rw e refl
+one_line a = grind arith
 
 two_lines : (a b : List ℕ) → leading_lines (a ∷ b ∷ []) ≡ a ∷ b ∷ []
 unfolding leading_lines
-two_lines a b = go (is_named (codes "step") []) refl
-  where
-    go : (named : Bool) → is_named (codes "step") [] ≡ named → leading_lines (a ∷ b ∷ []) ≡ a ∷ b ∷ []
-    go false e = rw e refl
-    go true e = rw e refl
+two_lines a b = grind arith
 
 same_fault : (cost : Cost) (ls : List (List ℕ)) (number : ℕ) → leading_lines ls ≡ ls → head_of_lines cost ls ≡ Err number → Heading cost ls
 same_fault cost ls number all e = Faulty number e (ap (head_of_lines cost) all ∙ e)
@@ -255,9 +217,7 @@ abbrev head_fault : ℕ → Result (Head × List (List ℕ)) ℕ
 head_fault number = Err number
 
 same_head : (h g : Head) (xs ys : List (List ℕ)) → head_and h xs ≡ head_and g ys → (h ≡ g) × (xs ≡ ys)
-same_head h g xs ys e =
-    let same : ◌≡◌ {A = Head × List (List ℕ)} (h, xs) (g, ys) = cc in
-    (ap (λ (p : Head × List (List ℕ)). p.0) same, ap (λ (p : Head × List (List ℕ)). p.1) same)
+same_head h g xs ys e = grind arith
 
 pub leading-faulty : (cost : Cost) (ls : List (List ℕ)) (number : ℕ) → head_of_lines cost ls ≡ head_fault number →
     read_by cost (leading_lines ls) ≡ Err number
@@ -294,8 +254,7 @@ module _ (cost : Cost) (ls : List (List ℕ)) (head : Head) (after : List (List 
 pub head_fault_given : {A : Type 0} (cost : Cost) (view : A → Head × List (List ℕ)) (ls : List (List ℕ)) (result : Result LeadingSheet SheetError)
     (y e : SheetError) → result ≡ Err y → y ≡ e
     → Gives view (Err e) (head_of_lines cost ls) → GivesLeadingBy cost ls result
-head_fault_given cost view ls result y OutOfMemory is same given = rw (is, same) tt
-head_fault_given cost view ls result y (Line number) is same given = rw (is, same) (leading-faulty cost ls number given)
+head_fault_given cost view ls result y e is also too = grind (arith, leading-faulty)
 
 pub row_fault_given : (cost : Cost) (ls : List (List ℕ)) (head : Head) (after : List (List ℕ)) (result : Result LeadingSheet SheetError)
     (y e : SheetError) → HeadIsFound cost ls head after
@@ -340,20 +299,11 @@ all_by_leading cost ls = elim (heading cost ls) [
 
 pub all_fault_given : (cost : Cost) (ls : List (List ℕ)) (result : Result Held SheetError) (y e : SheetError) → result ≡ Err y → y ≡ e →
     GivesLeadingBy cost ls (Err e) → Gives sheet_of result (read_by cost ls)
-all_fault_given cost ls result y OutOfMemory is same given = rw (is, same) tt
-all_fault_given cost ls result y (Line number) is same given = rw (is, same) (all_by_leading cost ls ∙ rw given (either (lines_after ls)))
-  where
-    either : (rest : List (List ℕ)) → unless_line rest (length (leading_lines ls)) (Err number) ≡ Err number
-    either [] = refl
-    either (line ∷ rest) = refl
+all_fault_given cost ls result y e is also too = grind (arith, all_by_leading)
 
 module _ (cost : Cost) (ls : List (List ℕ)) (s : Sheet) (count : ℕ) (after : List ℕ) (is : IsLeadingOf (read_by cost) ls s count after) where
   pub all_read : lines after ≡ [] → read_by cost ls ≡ Ok s
-  all_read none =
-      let rest : lines_after ls ≡ [] = sym is.after ∙ none in
-      all_by_leading cost ls ∙ rw (rest, is.read) refl
+  all_read none = grind (arith, all_by_leading)
 
   pub line_after : (new : List (List ℕ)) (line : List ℕ) → lines after ≡ line ∷ new → read_by cost ls ≡ Err (count + 1)
-  line_after new line some =
-      let rest : lines_after ls ≡ line ∷ new = sym is.after ∙ some in
-      all_by_leading cost ls ∙ rw (rest, is.read, is.size) refl
+  line_after new line some = grind (arith, all_by_leading)

@@ -1,11 +1,10 @@
 -- The line of a name and one number: it is read as this number, and no other line is.
-use Rattle.std.proofs.Common.{◌≡◌, ℕ, ◌<◌, ◌^◌, Bool, true, List, [], ◌∷◌, Option, Some, None, refl, sym, ◌∙◌}
+use Rattle.std.proofs.Common.{◌≡◌, ℕ, ◌<◌, ◌^◌, Bool, true, List, [], ◌∷◌, Option, Some, refl, sym, ◌∙◌, arith}
 use Rattle.std.specs.Prelude.{option_and_then}
 use Rattle.std.proofs.lemmas.List.Elements.{All-nil, All-cons}
-use Rattle.line_text.specs.Lines.{words}
-use Rattle.class_table.specs.NamedLines.{named_line, numbers_in, numbers_of, words_after}
+use Rattle.class_table.specs.NamedLines.{named_line, numbers_in}
 use Rattle.class_table.proofs.LawLemmas.{IsName, line_of_read_numbers, named_numbers_are_read}
-use Rattle.potential_check.specs.SheetText.{number_in, number_of_words, only_one, passing}
+use Rattle.potential_check.specs.SheetText.{number_in, only_one, passing}
 use Rattle.potential_check.proofs.RowNumbers.{passing-some}
 
 -- ---- from the number to the line
@@ -13,12 +12,7 @@ use Rattle.potential_check.proofs.RowNumbers.{passing-some}
 -- The number of a line, by the line's numbers
 pub number_in-numbers : (name : List ℕ) (test : ℕ → Bool) (line : List ℕ) →
     number_in name test line ≡ passing test (option_and_then only_one (numbers_in name line))
-number_in-numbers name test line = go (words_after name (words line))
-  where
-    go : (after : Option (List (List ℕ))) →
-        option_and_then (number_of_words test) after ≡ passing test (option_and_then only_one (option_and_then numbers_of after))
-    go None = refl
-    go (Some ws) = refl
+number_in-numbers name test line = grind arith
 
 pub number_in-named_line : (name : List ℕ) (test : ℕ → Bool) (n : ℕ) → IsName name → n < 2 ^ 64 → test n ≡ true →
     number_in name test (named_line name (n ∷ [])) ≡ Some n
@@ -30,10 +24,7 @@ number_in-named_line name test n is_name small passes =
 
 -- a single number
 one_number : (o : Option (List ℕ)) (n : ℕ) → option_and_then only_one o ≡ Some n → o ≡ Some (n ∷ [])
-one_number None n e = absurd cc
-one_number (Some []) n e = absurd cc
-one_number (Some (m ∷ k ∷ ns)) n e = absurd cc
-one_number (Some (m ∷ [])) n e = let same : m ≡ n = cc in rw same refl
+one_number o n is = grind arith
 
 pub line-number_in : (name : List ℕ) (test : ℕ → Bool) (line : List ℕ) (n : ℕ) → number_in name test line ≡ Some n →
     ((m : ℕ) → test m ≡ true → m < 2 ^ 64)

@@ -1,15 +1,14 @@
 -- What is read as a sheet or a fit is its text, line by line.
-use Rattle.std.proofs.Common.{◌≡◌, ℕ, zero, suc, ◌≤◌, Bool, true, false, List, [], ◌∷◌, ◌++◌, length, map, Option, Some, None, Result, Ok, Err, refl, subst, ap, ◌∙◌, arith, codes, ne_eqb}
+use Rattle.std.proofs.Common.{◌≡◌, ℕ, zero, suc, ◌≤◌, List, [], ◌∷◌, ◌++◌, length, map, Option, Some, Result, Ok, refl, subst, arith, codes, ne_eqb}
 use Rattle.std.specs.Option.{ok_or}
 use Rattle.std.specs.Prelude.{All}
-use Rattle.std.proofs.lemmas.List.Elements.{All-nil, All-cons}
 use Rattle.std.proofs.lemmas.Option.{some_pair_parts}
 use Rattle.line_text.specs.FirstFault.{◌>>=◌}
 use Rattle.class_table.specs.Steps.{IsStep}
 use Rattle.line_text.specs.Lines.{IsTextOf, lines}
 use Rattle.line_text.proofs.LawLemmas.{text_laws as laws}
 use Rattle.class_table.specs.declared.table.TheConstants.{MOST_CLASSES}
-use Rattle.potential_check.specs.SheetText.{IsRow, IsWithinLimits, SpellsBy, cost_in, cost_number, head_of_lines, is_named, limit_in, line_at, lines_by, read_by, row_in, rows_from, step_at, step_in, step_lines, table_in, with_rows}
+use Rattle.potential_check.specs.SheetText.{IsRow, IsWithinLimits, SpellsBy, cost_in, cost_number, head_of_lines, limit_in, line_at, lines_by, read_by, rows_from, step_at, step_lines, table_in, with_rows}
 use Rattle.potential_check.specs.declared.cost.Cost.{Cost}
 use Rattle.class_table.specs.NamedLines.{named_line}
 use Rattle.potential_check.specs.declared.reading.Head.{Head}
@@ -21,16 +20,13 @@ use Rattle.tuner_theory.specs.Sheets.{Sheet}
 -- what went on had been read
 went_on : {A B P : Type 0} (read : Result A ℕ) (more : A → Result B ℕ) (y : B) → (read >>= more) ≡ Ok y →
     ((x : A) → read ≡ Ok x → more x ≡ Ok y → P) → P
-went_on (Ok x) more y e then = then x refl e
-went_on (Err number) more y e then = absurd cc
+went_on read more y is also = grind arith
 
 abbrev ok_pair : {A B : Type 0} → A → B → Result (A × B) ℕ
 ok_pair a b = Ok (a, b)
 
 ok_pair_parts : {A B : Type 0} (a c : A) (b d : B) → ok_pair a b ≡ ok_pair c d → (a ≡ c) × (b ≡ d)
-ok_pair_parts {A = A} {B = B} a c b d e =
-    let same : ◌≡◌ {A = A × B} (a, b) (c, d) = cc in
-    (ap (λ (p : A × B). p.0) same, ap (λ (p : A × B). p.1) same)
+ok_pair_parts {A = A} {B = B} a c b d e = grind arith
 
 -- a line that was read
 record WasRead {A : Type 0} (reading : List ℕ → Option A) (ls after : List (List ℕ)) (x : A) : Type 0 where
@@ -40,60 +36,21 @@ record WasRead {A : Type 0} (reading : List ℕ → Option A) (ls after : List (
 
 was_read : {A : Type 0} (number : ℕ) (reading : List ℕ → Option A) (ls after : List (List ℕ)) (x : A) →
     line_at number reading ls ≡ Ok (x, after) → WasRead reading ls after x
-was_read {A = A} number reading [] after x e = absurd cc
-was_read {A = A} number reading (line ∷ ls) after x e = go (reading line) refl
-  where
-    go : (o : Option A) → reading line ≡ o → WasRead reading (line ∷ ls) after x
-    go None f = let none = rw f at e in absurd cc
-    go (Some y) f =
-        let parts = ok_pair_parts y x ls after (rw f at e) in
-        record { line = line; first = rw parts.1 refl; read = f ∙ ap Some parts.0 }
+was_read number reading ls after x is = grind arith
 
 -- ---- the lines
 
 -- a step that was read, and whose line is there where it is not 1
 step_read : (ls after : List (List ℕ)) (step : ℕ) → step_at ls ≡ Some (step, after) → (ls ≡ step_lines step ++ after) × IsStep step
-step_read [] after step e = let parts = some_pair_parts 1 step [] after e in rw (← parts.0, ← parts.1) (refl, refl)
-step_read (line ∷ ls) after step e = go (is_named (codes "step") line) refl
-  where
-    go : (named : Bool) → is_named (codes "step") line ≡ named → (line ∷ ls ≡ step_lines step ++ after) × IsStep step
-    go false f =
-        let parts = some_pair_parts 1 step (line ∷ ls) after (rw f at e) in
-        rw (← parts.0, ← parts.1) (refl, refl)
-    go true f = found (step_in line) refl
-      where
-        found : (o : Option ℕ) → step_in line ≡ o → (line ∷ ls ≡ step_lines step ++ after) × IsStep step
-        found None g = let none = rw (f, g) at e in absurd cc
-        found (Some s) g =
-            let parts = some_pair_parts s step ls after (rw (f, g) at e) in
-            let spelled = line-step_in line step (g ∙ ap Some parts.0) in
-            (rw (spelled.0, ne_eqb step 1 spelled.2, parts.1) refl, spelled.1)
+step_read ls after step is = grind (arith, some_pair_parts, line-step_in, ne_eqb)
 
 -- rows that were read
 rows_read : (ls : List (List ℕ)) (number most : ℕ) (rows : List (List ℕ)) → rows_from number most ls ≡ Ok rows
     → (ls ≡ map (named_line (codes "row")) rows) × (length rows ≤ most) × All IsRow rows
 unfolding rows_from
-rows_read [] number most rows e =
-    let none : [] ≡ rows = cc in
-    rw (← none) (refl, omega arith, All-nil IsRow)
+rows_read [] number most rows e = grind (arith, line-row_in, went_on)
 rows_read (line ∷ ls) number zero rows e = absurd cc
-rows_read (line ∷ ls) number (suc most) rows e = go (rows_read ls (suc number) most) (row_in line) refl
-  where
-    go : ((rows : List (List ℕ)) → rows_from (suc number) most ls ≡ Ok rows →
-        (ls ≡ map (named_line (codes "row")) rows) × (length rows ≤ most) × All IsRow rows)
-        → (o : Option (List ℕ)) → row_in line ≡ o →
-        (line ∷ ls ≡ map (named_line (codes "row")) rows) × (length rows ≤ suc most) × All IsRow rows
-    go others None f = let none = rw f at e in absurd cc
-    go others (Some row) f =
-        let spelled = line-row_in line row f in
-        went_on (rows_from (suc number) most ls) (λ more. Ok (row ∷ more)) rows (rw f at e) (λ more is_more is.
-        let same : row ∷ more ≡ rows = cc in
-        let rest = others more is_more in
-        rw (← same, spelled.0) (
-          ap (λ (after : List (List ℕ)). named_line (codes "row") row ∷ after) rest.0,
-          omega (arith, rest.1),
-          All-cons IsRow row more spelled.1 rest.2,
-        ))
+rows_read (line ∷ ls) number (suc most) rows e = grind (arith, line-row_in, went_on, rows_read ls (suc number) most)
 
 abbrev as_read : Sheet → Result Sheet ℕ
 as_read s = Ok s
@@ -122,8 +79,7 @@ whole_read cost ls after_table after_limit after_step after_cost s is_table is_l
     )
 
 step_was_read : (o : Option (ℕ × List (List ℕ))) (x : ℕ × List (List ℕ)) → ok_or {E = ℕ} o 3 ≡ Ok x → o ≡ Some x
-step_was_read None x e = absurd cc
-step_was_read (Some y) x e = let same : y ≡ x = cc in ap Some same
+step_was_read o x is = grind arith
 
 -- the lines in front of the rows
 record HeadParts (cost : Cost) (ls after : List (List ℕ)) (head : Head) : Type 0 where

@@ -1,5 +1,5 @@
 -- What is looked at row by row is what a sheet has to meet, and what it meets is the verdict.
-use Rattle.std.proofs.Common.{◌≡◌, ℕ, zero, suc, ◌+◌, ◌-◌, ◌<◌, ◌≤◌, ◌^◌, List, [], length, slice_index, arith, ap, inl, inr, rules, sym, ◌∙◌}
+use Rattle.std.proofs.Common.{◌≡◌, ℕ, zero, suc, ◌+◌, ◌<◌, ◌≤◌, ◌^◌, List, length, slice_index, arith, ap, inl, inr, rules, sym, ◌∙◌}
 use Rattle.std.specs.Prelude.{◌↔◌, All, slice_index_or}
 use Rattle.std.specs.List.{AllAdjacentBelow}
 use Rattle.std.proofs.lemmas.Bool.{cases_lt}
@@ -16,20 +16,11 @@ use Rattle.tuner_theory.specs.declared.verdict.Verdict.TheVariants.{Optimal, Ref
 -- row k, counted from 1, is the one at m, counted from 0
 number-is : (rows : List (List ℕ)) (k m i : ℕ) (d : List ℕ) → k ≡ m + 1 → m < length rows →
     number_at rows k i ≡ slice_index (slice_index_or rows m d) i
-number-is rows k m i d e lt =
-    let front : k - 1 ≡ m = omega arith in
-    ap (λ m. slice_index (slice_index_or rows m []) i) front ∙ ap (λ (row : List ℕ). slice_index row i) (get_or_default rows m [] d lt)
+number-is rows k m i d e lt = grind (arith, slice_index, get_or_default)
 
 module _ (s : Sheet) (spans : Spanned) (same : spans.step ≡ s.step) (shape : Meets spans.counts s Shape) where
   drops-meet : AllAdjacentBelow StageDropHolds s.rows (length s.rows) → Meets spans.counts s StageDrop
-  drops-meet all k i one few lt =
-      let next : k - 1 + 1 < length s.rows = omega (arith, shape.row_count) in
-      omega (
-        arith,
-        (all (k - 1) [] next).each i (omega (arith, shape.row_lengths (k - 1 + 1) [] next)),
-        number-is s.rows k (k - 1) i [] (omega arith) (omega arith),
-        number-is s.rows (suc k) (k - 1 + 1) i [] (omega arith) next,
-      )
+  drops-meet all k i one few lt = grind arith
 
   meet-drops : Meets spans.counts s StageDrop → AllAdjacentBelow StageDropHolds s.rows (length s.rows)
   meet-drops meets m d next = record {
@@ -51,15 +42,7 @@ module _ (s : Sheet) (spans : Spanned) (same : spans.step ≡ s.step) (shape : M
   places-are = ap (places spans.counts) same
 
   edges-meet : AllAdjacentBelow (EdgesHold spans) s.rows (length s.rows) → Meets spans.counts s Edge
-  edges-meet all k i j one few lt le =
-      let next : k - 1 + 1 < length s.rows = omega (arith, shape.row_count) in
-      omega (
-        arith,
-        (all (k - 1) [] next).each i j (omega (arith, shape.row_lengths (k - 1 + 1) [] next)) lt (omega (arith, places-are)),
-        waste-is i j,
-        number-is s.rows k (k - 1) j [] (omega arith) (omega arith),
-        number-is s.rows (suc k) (k - 1 + 1) i [] (omega arith) next,
-      )
+  edges-meet all k i j one few lt le = grind arith
 
   meet-edges : Meets spans.counts s Edge → AllAdjacentBelow (EdgesHold spans) s.rows (length s.rows)
   meet-edges meets m d next = record {
@@ -78,18 +61,8 @@ module _ (s : Sheet) (spans : Spanned) (same : spans.step ≡ s.step) (shape : M
   -- where no number of the first row is above the waste of one class, and no later one above that of the row before, all are bounded
   number-bounded : IsSpanned spans → Meets spans.counts s LastClass → Meets spans.counts s StageDrop → (m i : ℕ) → m < length s.rows
       → i < places spans.counts s.step → number_at s.rows (suc m) i ≤ 2 ^ 58
-  number-bounded spanned last drop zero i some within =
-      omega (
-        arith,
-        last i within,
-        spans_fit spans.counts s.step i (places spans.counts s.step) (rw same at spanned.is_step) spanned.are_counts within (omega arith),
-      )
-  number-bounded spanned last drop (suc m) i some within =
-      omega (
-        arith,
-        drop (suc m) i (omega arith) (omega (arith, shape.row_count)) within,
-        number-bounded spanned last drop m i (omega arith) within,
-      )
+  number-bounded spanned last drop zero i some within = grind (arith, spans_fit)
+  number-bounded spanned last drop (suc m) i some within = grind (arith, spans_fit, number-bounded spanned last drop m i (omega arith) within)
 
   pub rows-bounded : Meets spans.counts s LastClass → Meets spans.counts s StageDrop → All (IsBoundedRow spans) s.rows
   rows-bounded last drop m d lt =

@@ -1,7 +1,6 @@
 -- Reading the rows of a sheet, line by line.
-use Rattle.std.proofs.Common.{◌≡◌, ℕ, suc, ◌+◌, ◌-◌, ◌<◌, ◌≤◌, List, [], ◌∷◌, ◌++◌, length, Result, Ok, Err, Some, None, codes, true, refl, sym, ap, ◌∙◌, arith, length-append, append_assoc, append-nil}
+use Rattle.std.proofs.Common.{◌≡◌, ℕ, ◌+◌, ◌-◌, ◌<◌, ◌≤◌, List, [], ◌∷◌, ◌++◌, length, Result, Ok, Err, Some, None, codes, true, refl, ◌∙◌, arith, length-append, append_assoc, append-nil}
 use Rattle.class_table.specs.declared.table.TheConstants.{MOST_CLASSES}
-use Rattle.line_text.specs.FirstFault.{◌>>=◌}
 use Rattle.line_text.specs.Lines.{words}
 use Rattle.potential_check.specs.Leading.{is_row_line}
 use Rattle.class_table.specs.NamedLines.{words_after}
@@ -33,29 +32,14 @@ pub rows_from-no_row : (first : ℕ) (all rest new front : List (List ℕ)) (lin
     rest ≡ line ∷ new → length front < MOST_CLASSES
     → row_in line ≡ None → rows_from first MOST_CLASSES all ≡ Err (first + length front)
 unfolding rows_from
-rows_from-no_row first all rest new front line so_far parts room none =
-    let most : MOST_CLASSES - length front ≡ suc (MOST_CLASSES - suc (length front)) = omega arith in
-    so_far.read ∙ rw (parts, most, none) refl
+rows_from-no_row first all rest new front line so_far parts room none = grind arith
 
 -- a row more
 pub rows_from-more : (first : ℕ) (all rest new front : List (List ℕ)) (line row : List ℕ) → RowsSoFar first all rest front →
     rest ≡ line ∷ new → length front < MOST_CLASSES
     → row_in line ≡ Some row → RowsSoFar first all new (front ++ row ∷ [])
 unfolding rows_from
-rows_from-more first all rest new front line row so_far parts room is_row =
-    let most : MOST_CLASSES - length front ≡ suc (MOST_CLASSES - suc (length front)) = omega arith in
-    let longer : length (front ++ row ∷ []) ≡ suc (length front) = omega (arith, length-append front (row ∷ [])) in
-    let number : first + suc (length front) ≡ suc (first + length front) = omega arith in
-    record {
-      read =
-          so_far.read ∙ rw (parts, most, is_row, longer, number)
-          (go (rows_from (suc (first + length front)) (MOST_CLASSES - suc (length front)) new));
-      few = omega arith;
-    }
-  where
-    go : (r : Result (List (List ℕ)) ℕ) → after front (r >>= λ rows. Ok (row ∷ rows)) ≡ after (front ++ row ∷ []) r
-    go (Ok rows) = ap Ok (sym (append_assoc front (row ∷ []) rows))
-    go (Err number) = refl
+rows_from-more first all rest new front line row so_far parts room is_row = grind (arith, length-append, append_assoc)
 
 -- no line more
 pub rows_from-end : (first : ℕ) (all rest front : List (List ℕ)) → RowsSoFar first all rest front → rest ≡ [] →

@@ -1,7 +1,6 @@
 -- Each line of a sheet or a fit: it is read as what it spells, and no other line is.
-use Rattle.std.proofs.Common.{◌≡◌, ◌≢◌, ℕ, ◌<◌, ◌≤◌, ◌^◌, true, false, List, [], ◌∷◌, length, Option, Some, None, Result, Ok, Err, refl, ap, sym, ◌∙◌, arith, codes, leb}
+use Rattle.std.proofs.Common.{◌≡◌, ◌≢◌, ℕ, ◌<◌, ◌≤◌, ◌^◌, true, false, List, [], ◌∷◌, length, Some, Result, Ok, Err, refl, ap, ◌∙◌, arith, codes, leb}
 use Rattle.std.specs.List.{list_all}
-use Rattle.std.specs.Prelude.{option_and_then}
 use Rattle.std.proofs.lemmas.Bool.{and_from, and_parts, leb-true, le-leb, lt-ltb, ltb-true}
 use Rattle.std.proofs.lemmas.Bool.Decides.{nat_tests}
 use Rattle.std.proofs.lemmas.List.Elements.{All-nil, All-cons, All-head, All-tail, All-weaker}
@@ -12,10 +11,9 @@ use Rattle.class_table.specs.Tables.{IsLegalTable}
 use Rattle.class_table.specs.declared.fault.TableError.{TableError}
 use Rattle.class_table.specs.declared.sizes.TheConstants.{MOST_NEEDS}
 use Rattle.class_table.specs.declared.table.TheConstants.{MOST_CLASSES}
-use Rattle.line_text.specs.Lines.{words}
-use Rattle.class_table.proofs.LawLemmas.{AreSmall, IsName, line_of_read_numbers, named_numbers_are_read, plain_name, read_line_is_spelled, table_line_is_read, words_of_named_line}
-use Rattle.class_table.specs.NamedLines.{named_line, numbers_in, numbers_of, words_after}
-use Rattle.potential_check.specs.SheetText.{IsRow, cost_in, fits, is_limit, is_named, is_row, is_written_step, limit_in, passing, row_in, row_of_words, step_in, table_in, word_of}
+use Rattle.class_table.proofs.LawLemmas.{AreSmall, IsName, line_of_read_numbers, named_numbers_are_read, read_line_is_spelled, table_line_is_read, words_of_named_line}
+use Rattle.class_table.specs.NamedLines.{named_line, numbers_in}
+use Rattle.potential_check.specs.SheetText.{IsRow, cost_in, fits, is_limit, is_named, is_row, is_written_step, limit_in, passing, row_in, step_in, table_in, word_of}
 use Rattle.potential_check.specs.declared.cost.Cost.{Cost}
 use Rattle.potential_check.specs.declared.cost.Cost.TheVariants.{Waste, Footprint}
 use Rattle.potential_check.proofs.OneNumber.{line-number_in, number_in-named_line}
@@ -30,17 +28,8 @@ pub record AreNames : Type 0 where
   pub cost : (cost : Cost) → IsName (word_of cost)
   pub row : IsName (codes "row")
 
-cost_name : (cost : Cost) → IsName (word_of cost)
-cost_name Waste = plain_name (codes "waste") refl (omega arith)
-cost_name Footprint = plain_name (codes "footprint") refl (omega arith)
-
 pub names : AreNames
-names = record {
-  limit = plain_name (codes "limit") refl (omega arith);
-  step = plain_name (codes "step") refl (omega arith);
-  cost = cost_name;
-  row = plain_name (codes "row") refl (omega arith);
-}
+names = grind arith
 
 -- ---- the tests
 
@@ -72,8 +61,7 @@ row_passes : (ns : List ℕ) → IsRow ns → is_row ns ≡ true
 row_passes ns is = and_from (leb (length ns) MOST_NEEDS) (list_all fits ns) (le-leb (length ns) MOST_NEEDS is.0) (all_fit ns is.1)
 
 passed_row : (ns : List ℕ) → is_row ns ≡ true → IsRow ns
-passed_row ns e =
-    let both = and_parts (leb (length ns) MOST_NEEDS) (list_all fits ns) e in (leb-true (length ns) MOST_NEEDS both.0, fitted ns both.1)
+passed_row ns e = grind (arith, and_parts, leb, leb-true, fitted)
 
 -- ---- from what is spelled to the line
 
@@ -98,15 +86,10 @@ cost-not_step Footprint n small = rw (words_of_named_line (codes "footprint") (n
 
 -- a row, by the line's numbers
 row_in-numbers : (line : List ℕ) → row_in line ≡ passing is_row (numbers_in (codes "row") line)
-row_in-numbers line = go (words_after (codes "row") (words line))
-  where
-    go : (after : Option (List (List ℕ))) → option_and_then row_of_words after ≡ passing is_row (option_and_then numbers_of after)
-    go None = refl
-    go (Some ws) = refl
+row_in-numbers line = grind arith
 
 pub row_in-line : (ns : List ℕ) → IsRow ns → row_in (named_line (codes "row") ns) ≡ Some ns
-row_in-line ns is =
-    row_in-numbers (named_line (codes "row") ns) ∙ rw (named_numbers_are_read (codes "row") ns names.row is.1, row_passes ns is) refl
+row_in-line ns is = grind (arith, row_in-numbers, named_numbers_are_read, names, row_passes)
 
 pub table_in-line : (table : List ℕ) → IsLegalTable 1 table → table_in (class_line table) ≡ Some table
 table_in-line table legal = rw (table_line_is_read table legal) refl
@@ -128,15 +111,10 @@ line-step_in line s e =
 
 pub line-cost_in : (cost : Cost) (line : List ℕ) (n : ℕ) → cost_in cost line ≡ Some n
     → (line ≡ named_line (word_of cost) (n ∷ [])) × (n < 2 ^ 64)
-line-cost_in cost line n e =
-    let read = line-number_in (word_of cost) fits line n e (λ m f. ltb-true m (2 ^ 64) f) in
-    (read.0, ltb-true n (2 ^ 64) read.1)
+line-cost_in cost line n e = grind (arith, line-number_in, ltb-true)
 
 pub line-row_in : (line ns : List ℕ) → row_in line ≡ Some ns → (line ≡ named_line (codes "row") ns) × IsRow ns
-line-row_in line ns e =
-    let passed = passing-some is_row (numbers_in (codes "row") line) ns (sym (row_in-numbers line) ∙ e) in
-    let is = passed_row ns passed.1 in
-    (line_of_read_numbers (codes "row") line ns passed.0 is.1, is)
+line-row_in line ns e = grind (arith, passing-some, row_in-numbers, passed_row, line_of_read_numbers)
 
 pub line-table_in : (line table : List ℕ) → table_in line ≡ Some table → (line ≡ class_line table) × IsLegalTable 1 table
 line-table_in line table e = go (table_of_line line) refl

@@ -48,12 +48,7 @@ span_sums s spanned i j lt le =
 -- the payload at a place, for the requests up to any place
 pub payload_fits : (s : Spanned) → IsSpanned s → (place upto : ℕ) → 0 < place → place ≤ places s.counts s.step
     → GRANULE_BYTES * (need_at s.counts s.step place - 1) * counted_up_to s.counts s.step (need_at s.counts s.step upto) < 2 ^ 58
-payload_fits s spanned place upto some le =
-    let class = place_is_class s.counts s.step place spanned.is_step (omega (arith, spanned.are_counts.sizes)) some le in
-    let payload : GRANULE_BYTES * (need_at s.counts s.step place - 1) ≤ largest_counted = omega (arith, class.0.1) in
-    let requests : counted_up_to s.counts s.step (need_at s.counts s.step upto) ≤ 2 ^ 44 =
-    omega (arith, (sums_fit s.counts s.step (need_at s.counts s.step upto) spanned.are_counts).0) in
-    omega (arith, mul-le-mul payload requests)
+payload_fits s spanned place upto some le = grind (arith, place_is_class, sums_fit, mul-le-mul)
 
 -- a waste without differences of products
 pub record HasBalance (waste payload counted_low counted_high bytes_low bytes_high : ℕ) : Type 0 where
@@ -64,11 +59,7 @@ pub record HasBalance (waste payload counted_low counted_high bytes_low bytes_hi
 balanced : (waste payload counted_low counted_high bytes : ℕ) → counted_low ≤ counted_high
     → bytes ≤ payload * (counted_high - counted_low) → payload * (counted_high - counted_low) - bytes ≡ waste
     → payload * counted_high ≡ waste + (payload * counted_low + bytes)
-balanced waste payload counted_low counted_high bytes counted held is =
-    let apart : (counted_high - counted_low) + counted_low ≡ counted_high = omega arith in
-    let scaled : payload * (counted_high - counted_low) + payload * counted_low ≡ payload * counted_high =
-    omega (arith, ap (λ z. payload * z) apart) in
-    omega arith
+balanced waste payload counted_low counted_high bytes counted held is = grind arith
 
 pub span_balance : (s : Spanned) → IsSpanned s → (i j : ℕ) → i < j → j ≤ places s.counts s.step
     → HasBalance (span_waste s.counts s.step i j) (GRANULE_BYTES * (need_at s.counts s.step j - 1))

@@ -1,13 +1,13 @@
 -- The places of a profile and the sums up to each, as they grow size by size.
-use Rattle.std.proofs.Common.{◌≡◌, ℕ, zero, suc, ◌+◌, ◌-◌, ◌*◌, ◌<◌, ◌≤◌, List, [], ◌∷◌, ◌++◌, length, length-append, slice_index, cond, eqb, leb, ◌⊎◌, arith, refl, ap, sym, subst, inl, inr, ◌∙◌}
+use Rattle.std.proofs.lemmas.Grind.{common_steps}
+use Rattle.std.proofs.Common.{◌≡◌, ℕ, zero, suc, ◌+◌, ◌-◌, ◌*◌, ◌<◌, ◌≤◌, List, [], ◌∷◌, ◌++◌, length, length-append, slice_index, cond, leb, arith, refl, ap, sym, subst, ◌∙◌}
 use Rattle.std.proofs.lemmas.Bool.{cases_lt, cond_both, cond-false, cond-true, eq-eqb, le-leb, le-ltb, lt-leb, lt-ltb, ne_eqb}
 use Rattle.std.proofs.lemmas.List.{get_or_append_left}
 use Rattle.std.proofs.Math.Seq.{get_or-append_seam}
 use Rattle.std.proofs.Math.Nat.{mul-le-mul}
-use Rattle.class_table.specs.Sizes.{largest_counted, need_of}
+use Rattle.class_table.specs.Sizes.{largest_counted}
 use Rattle.potential_check.specs.Spanned.{AreSumsUpTo, HoldsSums, last_need}
 use Rattle.tuner_theory.specs.Spans.{needs_below, rounded_need, with_need}
-use Rattle.tuner_theory.proofs.LawLemmas.{rounding_is_least, step-positive}
 use Rattle.tuner_theory.proofs.Sums.{sum_below-more, sum_below-none, sum_bounded, sum_same}
 use Rattle.class_table.specs.Steps.{IsStep}
 use Rattle.tuner_theory.specs.Profiles.{AreCounts, greatest_count}
@@ -26,15 +26,12 @@ abbrev pub need_in : List ℕ → ℕ → ℕ
 need_in needs i = slice_index (0 ∷ needs) i
 
 last-in : (needs : List ℕ) → 0 < length needs → last_need needs ≡ slice_index needs (length needs - 1)
-last-in [] some = absurd (omega arith)
-last-in (x ∷ xs) some = let front : suc (length xs) - 1 ≡ length xs = omega arith in rw front refl
+last-in needs is = grind arith
 
 with_need-in : (need i : ℕ) (needs : List ℕ) → i < length needs → slice_index needs i ≡ need → with_need needs need ≡ needs
 with_need-in need i [] lt e = absurd (omega arith)
 with_need-in need zero (x ∷ xs) lt e = cond-true _ _ _ (eq-eqb x need e)
-with_need-in need (suc i) (x ∷ xs) lt e =
-    cond_both (eqb x need) _ _ (λ (ys : List ℕ). ys ≡ x ∷ xs) (λ _. refl)
-    (λ _. ap (λ (ys : List ℕ). x ∷ ys) (with_need-in need i xs (omega arith) e))
+with_need-in need (suc i) (x ∷ xs) lt e = grind (arith, with_need-in need i xs (omega arith) e)
 
 with_need-above : (need : ℕ) (needs : List ℕ) → ((i : ℕ) → i < length needs → slice_index needs i < need) →
     with_need needs need ≡ needs ++ need ∷ []
@@ -48,9 +45,7 @@ need_in-old : (needs : List ℕ) (need i : ℕ) → i ≤ length needs → need_
 need_in-old needs need i le = get_or_append_left (0 ∷ needs) (need ∷ []) 0 i (omega arith)
 
 need_in-new : (needs : List ℕ) (need : ℕ) → last_need (needs ++ need ∷ []) ≡ need
-need_in-new needs need =
-    let size : length (needs ++ need ∷ []) ≡ suc (length needs) = omega (arith, length-append {A = ℕ} needs (need ∷ [])) in
-    rw size (get_or-append_seam needs need [] 0)
+need_in-new needs need = grind (arith, common_steps)
 
 -- ---- what stands after the sizes below n
 
@@ -83,107 +78,52 @@ pub record HasPlace (counts : List ℕ) (step n : ℕ) (needs counted bytes : Li
 
 -- a sum up to a need that is below the one of size n, or f being 0 there
 sum_up_to-keeps : (f : ℕ → ℕ) (step n high : ℕ) → high < rounded_need step n → sum_up_to f step (suc n) high ≡ sum_up_to f step n high
-sum_up_to-keeps f step n high lt =
-    sum_below-more _ n ∙ omega (arith, cond-false {A = ℕ} _ (f n) 0 (lt-leb (rounded_need step n) high lt))
+sum_up_to-keeps f step n high lt = grind (arith, sum_below-more, cond-false, lt-leb)
 
 sum_up_to-skips : (f : ℕ → ℕ) (step n high : ℕ) → f n ≡ 0 → sum_up_to f step (suc n) high ≡ sum_up_to f step n high
-sum_up_to-skips f step n high none =
-    sum_below-more _ n ∙ omega (arith, cond_both (leb (rounded_need step n) high) (f n) 0 (λ v. v ≡ 0) (λ _. none) (λ _. refl))
+sum_up_to-skips f step n high none = grind (arith, sum_below-more, cond_both, leb)
 
 -- a sum up to a need that covers all
 sum_up_to-all : (f : ℕ → ℕ) (step n high : ℕ) → ((k : ℕ) → k < n → 0 < f k → rounded_need step k ≤ high) →
     sum_up_to f step n high ≡ sum_below f n
-sum_up_to-all f step n high covers = sum_same _ f n (λ k lt. whole k lt (cases_lt 0 (f k)))
-  where
-    whole : (k : ℕ) → k < n → (0 < f k) ⊎ (f k ≤ 0) → cond (leb (rounded_need step k) high) (f k) 0 ≡ f k
-    whole k lt (inl some) = cond-true _ _ _ (le-leb (rounded_need step k) high (covers k lt some))
-    whole k lt (inr none) = cond_both (leb (rounded_need step k) high) (f k) 0 (λ v. v ≡ f k) (λ _. refl) (λ _. omega arith)
+sum_up_to-all f step n high covers = grind (arith, sum_same, cases_lt, leb, cond-true, le-leb, cond_both)
 
 sums-skip : (f : ℕ → ℕ) (step n total : ℕ) (needs sums : List ℕ) → f n ≡ 0 → AreSumsBefore f step n needs sums total →
     AreSumsBefore f step (suc n) needs sums total
-sums-skip f step n total needs sums none s = record {
-  size = s.size;
-  sums_are = λ i lt. s.sums_are i lt ∙ sym (sum_up_to-skips f step n (need_in needs i) none);
-  total_is = omega (arith, s.total_is, sum_below-more f n, none);
-}
+sums-skip f step n total needs sums none s = grind (arith, sum_up_to-skips, sum_below-more)
 
 sums-add : (f : ℕ → ℕ) (step n total : ℕ) (needs sums : List ℕ) → ((i : ℕ) → i < length needs → need_in needs i < rounded_need step n)
     → AreSumsBefore f step n needs sums total → AreSumsBefore f step (suc n) needs sums (total + f n)
-sums-add f step n total needs sums below s = record {
-  size = s.size;
-  sums_are = λ i lt. s.sums_are i lt ∙ sym (sum_up_to-keeps f step n (need_in needs i) (below i lt));
-  total_is = omega (arith, s.total_is, sum_below-more f n);
-}
+sums-add f step n total needs sums below s = grind (arith, sum_up_to-keeps, sum_below-more)
 
 -- the total stands after the sums, as the sum up to the last need
 pub sums-pushed : (f : ℕ → ℕ) (step n total : ℕ) (needs sums : List ℕ) → ((k : ℕ) → k < n → 0 < f k → rounded_need step k ≤ last_need needs)
     → AreSumsBefore f step n needs sums total → (i : ℕ) → i ≤ length needs →
     slice_index (sums ++ total ∷ []) i ≡ sum_up_to f step n (need_in needs i)
-sums-pushed f step n total needs sums covers s i le =
-    elim (cases_lt i (length needs)) [
-      | inl lt ↦ get_or_append_left sums (total ∷ []) 0 i (omega (arith, s.size)) ∙ s.sums_are i lt
-      | inr not ↦ (let here : i ≡ length sums = omega (arith, s.size) in
-          let last : i ≡ length needs = omega arith in
-          (ap (slice_index (sums ++ total ∷ [])) here ∙ get_or-append_seam sums total [] 0)
-          ∙ ((s.total_is ∙ sym (sum_up_to-all f step n (last_need needs) covers))
-          ∙ ap (λ m. sum_up_to f step n (need_in needs m)) (sym last)))
-    ]
+sums-pushed f step n total needs sums covers s i le = grind (arith, cases_lt, get_or_append_left, slice_index, get_or-append_seam, sum_up_to-all)
 
 sums-new : (f : ℕ → ℕ) (step n total need : ℕ) (needs sums : List ℕ) → ((k : ℕ) → k < n → 0 < f k → rounded_need step k ≤ last_need needs)
     → AreSumsBefore f step n needs sums total → AreSumsBefore f step n (needs ++ need ∷ []) (sums ++ total ∷ []) total
-sums-new f step n total need needs sums covers s = record {
-  size = omega (arith, s.size, length-append {A = ℕ} sums (total ∷ []), length-append {A = ℕ} needs (need ∷ []));
-  sums_are = λ i lt.
-      let le : i ≤ length needs = omega (arith, length-append {A = ℕ} needs (need ∷ [])) in
-      sums-pushed f step n total needs sums covers s i le ∙ ap (sum_up_to f step n) (sym (need_in-old needs need i le));
-  total_is = s.total_is;
-}
+sums-new f step n total need needs sums covers s = grind (arith, length-append, sums-pushed, need_in-old)
 
 product-some : (a b : ℕ) → 0 < a * b → 0 < a
-product-some zero b some = absurd (let none : 0 * b ≡ 0 = omega arith in omega arith)
-product-some (suc a) b some = omega arith
+product-some a b is = grind arith
 
 module _ (counts : List ℕ) (step : ℕ) (is_step : IsStep step) where
   rounded-mono : (m n : ℕ) → m ≤ n → rounded_need step m ≤ rounded_need step n
-  rounded-mono m n le =
-      let later = rounding_is_least step (need_of n) (step-positive step is_step) in
-      let no_less : need_of m ≤ need_of n = omega arith in
-      (rounding_is_least step (need_of m) (step-positive step is_step)).least (rounded_need step n) later.multiple (omega (arith, later.above))
+  rounded-mono m n le = grind arith
 
   rounded-positive : (n : ℕ) → 0 < rounded_need step n
-  rounded-positive n =
-      let above = (rounding_is_least step (need_of n) (step-positive step is_step)).above in
-      let some : 0 < need_of n = omega arith in
-      omega arith
+  rounded-positive n = grind arith
 
   pub built-none : IsBuilt counts step 0 [] [] [] 0 0
-  built-none = record {
-    needs_are =
-        record {
-          needs_are = refl;
-          ascending = λ i lt. absurd (omega arith);
-          reached = λ m le. omega arith;
-          covered = λ k lt some. absurd (omega arith);
-        };
-    counted_are = record { size = refl; sums_are = λ i lt. absurd (omega arith); total_is = sym (sum_below-none (slice_index counts)) };
-    bytes_are =
-        record { size = refl; sums_are = λ i lt. absurd (omega arith); total_is = sym (sum_below-none (λ k. slice_index counts k * k)) };
-  }
+  built-none = grind (arith, sum_below-none, slice_index)
 
   module _ (n total total_bytes : ℕ) (needs counted bytes : List ℕ) where
     -- needs that cover size n too are those of the sizes up to it
     needs-kept : (all next : List ℕ) → all ≡ next → (0 < slice_index counts n → rounded_need step n ≤ last_need needs)
         → AreNeeds counts step n all needs → AreNeeds counts step (suc n) next needs
-    needs-kept all next same here are = record {
-      needs_are = are.needs_are ∙ same;
-      ascending = are.ascending;
-      reached = λ m le. are.reached m (omega arith);
-      covered = λ k lt some. elim (cases_lt k n) [
-        | inl before ↦ are.covered k before some
-        | inr not ↦ (let at : k ≡ n = omega arith in
-            omega (arith, ap (rounded_need step) at, here (omega (arith, ap (slice_index counts) at))))
-      ];
-    }
+    needs-kept all next same here are = grind arith
 
     -- a size that was not counted
     pub built-skip : slice_index counts n ≤ 0 → IsBuilt counts step n needs counted bytes total total_bytes
@@ -217,8 +157,7 @@ module _ (counts : List ℕ) (step : ℕ) (is_step : IsStep step) where
         }
       where
         some_place : (xs : List ℕ) → 0 < last_need xs → 0 < length xs
-        some_place [] lt = absurd (omega arith)
-        some_place (x ∷ xs) lt = omega arith
+        some_place xs is = grind arith
 
     -- a size with a new rounded need
     pub place-new : (last_need needs ≡ rounded_need step n → ⊥) → IsBuilt counts step n needs counted bytes total total_bytes
@@ -243,11 +182,7 @@ module _ (counts : List ℕ) (step : ℕ) (is_step : IsStep step) where
         }
       where
         below : last_need needs < rounded_need step n → (i : ℕ) → i ≤ length needs → need_in needs i < rounded_need step n
-        below lower i le =
-            elim (cases_lt i (length needs)) [
-              | inl lt ↦ omega (arith, b.needs_are.ascending i lt)
-              | inr not ↦ (let here : i ≡ length needs = omega arith in omega (arith, ap (need_in needs) here))
-            ]
+        below lower i le = grind arith
 
     -- its requests are added to the totals
     pub built-add : 0 < slice_index counts n → HasPlace counts step n needs counted bytes total total_bytes

@@ -55,15 +55,7 @@ read_at number reading line ls x e = rw e refl
 
 step_at-lines : (cost : Cost) (step stated : ℕ) (ls : List (List ℕ)) → IsStep step → stated < 2 ^ 64
     → step_at (step_lines step ++ named_line (word_of cost) (stated ∷ []) ∷ ls) ≡ Some (step, named_line (word_of cost) (stated ∷ []) ∷ ls)
-step_at-lines cost step stated ls is_step small = elim (cases_eq step 1) [
-  | inl one ↦ rw (one, cost-not_step cost stated small) refl
-  | inr other ↦
-      rw (
-        ne_eqb step 1 other,
-        step_in-line step is_step other,
-        words_of_named_line (codes "step") (step ∷ []) names.step (one_small step (step_small step is_step)),
-      ) refl
-]
+step_at-lines cost step stated ls is_step small = grind (arith, cases_eq, cost-not_step, ne_eqb, step_in-line, words_of_named_line, names, one_small, step_small)
 
 rows_from-lines : (rows : List (List ℕ)) (number most : ℕ) → length rows ≤ most → All IsRow rows →
     rows_from number most (map (named_line (codes "row")) rows) ≡ Ok rows

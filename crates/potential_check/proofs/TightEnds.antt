@@ -1,5 +1,5 @@
 -- The edges of the places from one on, as a walk down the ends has seen to them.
-use Rattle.std.proofs.Common.{◌≡◌, ℕ, ◌+◌, ◌<◌, ◌≤◌, List, length, slice_index, arith, ap, inl, inr, refl}
+use Rattle.std.proofs.Common.{◌≡◌, ℕ, ◌+◌, ◌<◌, ◌≤◌, List, length, slice_index, arith, ap, inl, inr}
 use Rattle.std.proofs.lemmas.Bool.{cases_lt}
 use Rattle.potential_check.specs.RowConditions.{EdgesHold, HasTightEnd, IsTightEnd, edge_bound}
 use Rattle.potential_check.specs.Spanned.{Spanned}
@@ -22,13 +22,7 @@ pub record IsWalked (s : Spanned) (before row : List ℕ) (i end : ℕ) : Type 0
 
 module _ (s : Spanned) (is_step : IsStep s.step) (before row : List ℕ) (full : length row ≡ places s.counts s.step) where
   pub walked-none : IsWalked s before row (length row) (places s.counts s.step)
-  walked-none = record {
-    within = omega (arith, full);
-    after = λ some. absurd (omega arith);
-    tight = λ some. absurd (omega arith);
-    last = λ none. refl;
-    hold = λ k j from within lt above upto. absurd (omega arith);
-  }
+  walked-none = grind arith
 
   -- more ends for the same places: where the first of them keeps within its edges there, all do
   pub walked-lower : (i end low : ℕ) → IsWalked s before row i end → i < length row
