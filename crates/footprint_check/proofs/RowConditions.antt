@@ -1,5 +1,5 @@
 -- The conditions on rows, one more row and one more place.
-use Rattle.std.proofs.Common.{◌≡◌, ℕ, suc, ◌+◌, ◌-◌, ◌<◌, ◌≤◌, List, [], length, slice_index, slice_index_or, arith, ap, sym, subst, ◌∙◌, inl, inr}
+use Rattle.std.proofs.Common.{◌≡◌, ℕ, suc, ◌+◌, ◌-◌, ◌<◌, ◌≤◌, List, [], length, slice_index, slice_index_or, arith, ap, sym, ◌∙◌, inl, inr}
 use Rattle.std.specs.Prelude.{◌↔◌, IsTrue}
 use Rattle.std.proofs.lemmas.Bool.{cases_lt}
 use Rattle.footprint_check.specs.RowConditions.{AreRowTests, DropsHoldAt, DropsHoldBefore, EdgeHoldsAt, EdgesHoldAt, EdgesHoldBefore, LastHoldsBefore}
@@ -17,50 +17,19 @@ module _ (costs : List ℕ) (rows : List (List ℕ)) (d i k number : ℕ) (befor
   next m e = let same : suc m ≡ k + 1 = omega (arith, e) in ap (λ n. number_at rows n i) same ∙ sym is
 
   pub edges-more : EdgesHoldAt costs rows d i k → EdgeHoldsAt costs before number i → EdgesHoldAt costs rows d i (k + 1)
-  edges-more old new = record {
-    each = λ m j some lt ij le. elim (cases_lt m k) [
-      | inl inside ↦ old.each m j some inside ij le
-      | inr not ↦ (let here : m ≡ k = omega arith in
-          omega (
-            arith,
-            next m here,
-            new.each j ij (omega (arith, size)),
-            at-before j,
-            ap (λ n. number_at rows n j) here,
-          ))
-    ];
-  }
+  edges-more old new = grind arith
 
   pub edges-one : (stop : ℕ) → k < stop → EdgesHoldAt costs rows d i stop → EdgeHoldsAt costs before number i
-  edges-one stop lt all = record {
-    each = λ j ij le. omega (arith, all.each k j one lt ij (omega (arith, size)), next k (omega arith), at-before j);
-  }
+  edges-one stop lt all = grind arith
 
 -- ---- one place more
 
 module _ (A B C : Type 0) (a b c : Type 0) (old : a ↔ A) (new : b ↔ B) (both : c ↔ (a × b)) where
   pub one-more : (A → B → C) → (C → A) → (C → B) → c ↔ C
-  one-more make left right = (
-    (λ h. make (old.0 (both.0 h).0) (new.0 (both.0 h).1)),
-    (λ h. both.1 (old.1 (left h), new.1 (right h))),
-  )
-
-last-more : (cost : ℕ → ℕ → ℕ) (d i : ℕ) (rows : List (List ℕ)) → LastHoldsBefore cost d rows i → number_at rows 1 i ≤ cost i d
-    → LastHoldsBefore cost d rows (i + 1)
-last-more cost d i rows old new = record {
-  each = λ m lt. elim (cases_lt m i) [
-    | inl inside ↦ old.each m inside
-    | inr not ↦ (let here : m ≡ i = omega arith in omega (arith, new, ap (number_at rows 1) here, ap (λ n. cost n d) here))
-  ];
-}
+  one-more make left right = grind arith
 
 drops-more : (i : ℕ) (rows : List (List ℕ)) → DropsHoldBefore rows i → DropsHoldAt rows i (length rows) → DropsHoldBefore rows (i + 1)
-drops-more i rows old new = record {
-  each = λ m lt. elim (cases_lt m i) [
-    | inl inside ↦ old.each m inside
-    | inr not ↦ (let here : i ≡ m = omega arith in subst (λ (n : ℕ). DropsHoldAt rows n (length rows)) here new)
-  ];
-}
+drops-more i rows old new = grind arith
 
 edges-place : (cost : ℕ → ℕ → ℕ) (costs : List ℕ) (d i : ℕ) (rows : List (List ℕ))
     → ((j : ℕ) → i < j → j ≤ d → slice_index costs j ≡ cost i j) → EdgesHoldBefore cost d rows i
@@ -83,14 +52,10 @@ module _ (cost : ℕ → ℕ → ℕ) (costs : List ℕ) (d i : ℕ) (rows : Lis
     (are : (j : ℕ) → i < j → j ≤ d → slice_index costs j ≡ cost i j) (a b c : Type 0) where
   pub last-both : (a ↔ LastHoldsBefore cost d rows i) → (b ↔ (number_at rows 1 i ≤ cost i d)) → (c ↔ (a × b))
       → c ↔ LastHoldsBefore cost d rows (i + 1)
-  last-both old new both =
-      one-more _ _ _ a b c old new both (last-more cost d i rows) (λ h. record { each = λ m lt. h.each m (omega arith) })
-      (λ h. h.each i (omega arith))
+  last-both old new both = grind arith
 
   pub drops-both : (a ↔ DropsHoldBefore rows i) → (b ↔ DropsHoldAt rows i (length rows)) → (c ↔ (a × b)) → c ↔ DropsHoldBefore rows (i + 1)
-  drops-both old new both =
-      one-more _ _ _ a b c old new both (drops-more i rows) (λ h. record { each = λ m lt. h.each m (omega arith) })
-      (λ h. h.each i (omega arith))
+  drops-both old new both = grind (arith, drops-more)
 
   pub edges-both : (a ↔ EdgesHoldBefore cost d rows i) → (b ↔ EdgesHoldAt costs rows d i (length rows)) → (c ↔ (a × b))
       → c ↔ EdgesHoldBefore cost d rows (i + 1)

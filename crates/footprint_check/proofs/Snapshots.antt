@@ -1,9 +1,9 @@
 -- Sums up to places, and the most blocks of intervals.
-use Rattle.std.proofs.Common.{◌≡◌, ℕ, zero, suc, ◌+◌, ◌-◌, ◌*◌, ◌^◌, ◌<◌, ◌≤◌, ◌&&◌, max, List, [], ◌∷◌, length, slice_index, slice_index_or, slice_set, cond, ltb, leb, arith, refl, ap, subst, ◌∙◌, inl, inr}
+use Rattle.std.proofs.lemmas.Grind.{common_steps}
+use Rattle.std.proofs.Common.{◌≡◌, ℕ, zero, suc, ◌+◌, ◌-◌, ◌*◌, ◌^◌, ◌<◌, ◌≤◌, ◌&&◌, max, List, [], ◌∷◌, length, slice_index, slice_index_or, slice_set, cond, ltb, leb, arith, ap, ◌∙◌, inl, inr}
 use Rattle.std.specs.Prelude.{take}
 use Rattle.std.proofs.lemmas.Bool.{cases_lt}
 use Rattle.std.proofs.lemmas.List.{get_or-set_other, get_or-set_same, length-set}
-use Rattle.std.proofs.Math.Nat.{mul_comm}
 use Rattle.std.proofs.lemmas.Bool.Decides.{nat_tests}
 use Rattle.footprint_check.specs.SnapshotSums.{AreMostBlocks, AreScaled, HoldsHistory, IsRaised}
 use Rattle.tuner_theory.specs.Footprint.{blocks_between, footprint_between, span_footprint}
@@ -37,20 +37,12 @@ most-take f (x ∷ xs) zero lt = omega arith
 most-take f (x ∷ xs) (suc t) lt = omega (arith, most-take f xs t (omega arith))
 
 pub take-all : (xs : List (List ℕ)) (t : ℕ) → t ≡ length xs → take t xs ≡ xs
-take-all [] zero e = refl
-take-all [] (suc t) e = refl
-take-all (x ∷ xs) zero e = absurd (omega arith)
-take-all (x ∷ xs) (suc t) e = ap (λ rest. x ∷ rest) (take-all xs t (omega arith))
+take-all xs t is = grind (arith, common_steps)
 
 module _ (snapshots : List (List ℕ)) (counts : List ℕ) (step : ℕ) (sums : List (List ℕ))
     (holds : HoldsHistory snapshots counts step sums) where
   pub small-spans : (i j : ℕ) → i < j → j ≤ places counts step → span_footprint snapshots step i j ≤ 2 ^ 60
-  small-spans i j lt le =
-      omega (
-        arith,
-        span_footprints_fit snapshots step i j holds.is_step holds.are lt
-            (subst (λ (c : List ℕ). j ≤ places c step) holds.counts_are le),
-      )
+  small-spans i j lt le = grind (arith, span_footprints_fit)
 
   needs-up : (i j : ℕ) → i < j → j ≤ places counts step → need_at counts step i ≤ need_at counts step j
   needs-up i j lt le = omega (arith, places_ascend counts step (step-positive step holds.is_step) i j lt le)
@@ -98,26 +90,17 @@ module _ (snapshots : List (List ℕ)) (counts : List ℕ) (step : ℕ) (sums : 
 
   pub most-all : (i t : ℕ) (numbers : List ℕ) → t ≡ length snapshots → AreMostBlocks snapshots counts step i t numbers
       → AreScaled snapshots counts step i (i + 1) numbers
-  most-all i t numbers all are = record {
-    size = are.size;
-    scaled = λ j ij lt. absurd (omega arith);
-    others = λ j ij from le. are.numbers_are j ij le
-        ∙ ap (most (blocks_between step (need_at counts step i) (need_at counts step j))) (take-all snapshots t all);
-  }
+  most-all i t numbers all are = grind (arith, take-all)
 
   -- what the spans take
   pub scaled-all : (i : ℕ) (numbers : List ℕ) → AreScaled snapshots counts step i (places counts step + 1) numbers → (j : ℕ) → i < j
       → j ≤ places counts step → slice_index numbers j ≡ span_footprint snapshots step i j
-  scaled-all i numbers are j ij le =
-      are.scaled j ij (omega arith)
-      ∙ ap (λ (c : List ℕ). footprint_between snapshots step (need_at c step i) (need_at c step j)) holds.counts_are
+  scaled-all i numbers are j ij le = grind arith
 
   span-product : (i j w : ℕ) (numbers : List ℕ) → AreScaled snapshots counts step i j numbers → i < j → j ≤ places counts step
       → w ≡ slice_index numbers j * (16 * need_at counts step j)
       → w ≡ footprint_between snapshots step (need_at counts step i) (need_at counts step j)
-  span-product i j w numbers are ij le product =
-      product ∙ ap (λ n. n * (16 * need_at counts step j)) (are.others j ij (omega arith) le)
-      ∙ mul_comm (most (blocks_between step (need_at counts step i) (need_at counts step j)) snapshots) (16 * need_at counts step j)
+  span-product i j w numbers are ij le product = grind arith
 
   pub span-fits : (i j w : ℕ) (numbers : List ℕ) → AreScaled snapshots counts step i j numbers → i < j → j ≤ places counts step
       → w ≡ slice_index numbers j * (16 * need_at counts step j) → w ≤ 2 ^ 60

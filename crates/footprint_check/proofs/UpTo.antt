@@ -1,5 +1,5 @@
 -- Sums of a snapshot up to a need, by the sizes that a class serves.
-use Rattle.std.proofs.Common.{◌≡◌, ℕ, zero, suc, ◌+◌, ◌-◌, ◌*◌, ◌%◌, ◌<◌, ◌≤◌, ◌⊎◌, ◌++◌, List, [], ◌∷◌, length, length-append, slice_index, slice_index_or, arith, ap, sym, subst, ◌∙◌, inl, inr}
+use Rattle.std.proofs.Common.{◌≡◌, ℕ, zero, suc, ◌+◌, ◌-◌, ◌*◌, ◌%◌, ◌<◌, ◌≤◌, ◌⊎◌, ◌++◌, List, [], ◌∷◌, length, length-append, slice_index, slice_index_or, arith, ap, ◌∙◌, inl, inr}
 use Rattle.std.specs.Prelude.{Vec}
 use Rattle.std.specs.declared.alloc.Global.{Global}
 use Rattle.std.proofs.lemmas.Bool.{cases_lt, cond-true, cond-false, le-leb, lt-leb}
@@ -10,7 +10,7 @@ use Rattle.tuner_theory.specs.Lists.{lists_of}
 use Rattle.potential_check.specs.Spanned.{AreSumsUpTo}
 use Rattle.class_table.specs.Sizes.{largest_counted}
 use Rattle.tuner_theory.specs.Profiles.{AreCounts, greatest_count}
-use Rattle.tuner_theory.specs.Spans.{counted_up_to, need_at, rounded_need}
+use Rattle.tuner_theory.specs.Spans.{counted_up_to, need_at}
 use Rattle.tuner_theory.specs.Waste.{sum_below}
 use Rattle.tuner_theory.proofs.Rounding.{fits-rounded, rounded-fits, rounded-positive}
 use Rattle.tuner_theory.proofs.Spans.{count-small}
@@ -38,21 +38,7 @@ IsClassOrNone step need = (need ≡ 0) ⊎ ((2 ≤ need) × (need % step ≡ 0))
 
 pub counted-cut : (counts : List ℕ) (step : ℕ) → 0 < step → (need : ℕ) → IsClassOrNone step need → 16 * need - 15 ≤ length counts
     → counted_up_to counts step need ≡ sum_below (slice_index counts) (16 * need - 15)
-counted-cut counts step pos need class le =
-    sum-cut _ (slice_index counts) (length counts) (16 * need - 15) le
-    (λ n lt. cond-true _ _ _ (le-leb (rounded_need step n) need (fits n lt class)))
-    (λ n from lt. cond-false _ _ _ (lt-leb (rounded_need step n) need (above n from)))
-  where
-    fits : (n : ℕ) → n < 16 * need - 15 → IsClassOrNone step need → rounded_need step n ≤ need
-    fits n lt (inl none) = absurd (omega arith)
-    fits n lt (inr is) = fits-rounded step pos n need is.0 is.1 (omega arith)
-
-    above : (n : ℕ) → 16 * need - 15 ≤ n → need < rounded_need step n
-    above n from =
-        elim (cases_lt need (rounded_need step n)) [
-          | inl lt ↦ lt
-          | inr not ↦ absurd (omega (arith, rounded-fits step pos n need not, rounded-positive step pos n))
-        ]
+counted-cut counts step pos need class le = grind (arith, sum-cut, slice_index, cond-true, le-leb, cond-false, lt-leb, fits-rounded, cases_lt, rounded-fits, rounded-positive)
 
 pub sum-small : (counts : List ℕ) (m : ℕ) → AreCounts counts → m ≤ largest_counted + 1
     → sum_below (slice_index counts) m ≤ (largest_counted + 1) * greatest_count
@@ -68,16 +54,7 @@ pub record AreSumsBefore (sum_up_to : ℕ → ℕ) (counts : List ℕ) (step pla
 pub sums-more : (sum_up_to : ℕ → ℕ) (counts : List ℕ) (step place total : ℕ) (sums : List ℕ)
     → AreSumsBefore sum_up_to counts step place sums
     → total ≡ sum_up_to (need_at counts step place) → AreSumsBefore sum_up_to counts step (place + 1) (sums ++ total ∷ [])
-sums-more sum_up_to counts step place total sums before is = record {
-  size = omega (arith, length-append {A = ℕ} sums (total ∷ []), before.size);
-  sums_are = λ i lt. elim (cases_lt i place) [
-    | inl inside ↦ get_or_append_left sums (total ∷ []) 0 i (omega (arith, before.size)) ∙ before.sums_are i inside
-    | inr not ↦ (let here : i ≡ length sums = omega (arith, before.size) in
-        let here' : place ≡ i = omega arith in
-        ap (slice_index (sums ++ total ∷ [])) here ∙ get_or-append_seam sums total [] 0 ∙ is
-        ∙ ap (λ p. sum_up_to (need_at counts step p)) here')
-  ];
-}
+sums-more sum_up_to counts step place total sums before is = grind (arith, length-append, cases_lt, get_or_append_left, slice_index, get_or-append_seam)
 
 -- the sums of the first t snapshots
 pub record AreSumsOfFirst (snapshots : List (List ℕ)) (counts : List ℕ) (step t : ℕ) (sums : List (List ℕ)) : Type 0 where
@@ -88,23 +65,8 @@ pub first-more : (snapshots : List (List ℕ)) (counts : List ℕ) (step t : ℕ
     → AreSumsOfFirst snapshots counts step t (lists_of sums)
     → AreSumsUpTo (counted_up_to (slice_index_or snapshots t []) step) counts step v.items
     → AreSumsOfFirst snapshots counts step (t + 1) (lists_of (sums ++ v ∷ []))
-first-more snapshots counts step t sums v before is =
-    rw (map-append (λ (w : Vec ℕ Global). w.items) sums (v ∷ [])) (record {
-      size = omega (arith, length-append {A = List ℕ} (lists_of sums) (v.items ∷ []), before.size);
-      each = λ k lt. elim (cases_lt k t) [
-        | inl inside ↦ subst (AreSumsUpTo (counted_up_to (slice_index_or snapshots k []) step) counts step)
-            (sym (get_or_append_left (lists_of sums) (v.items ∷ []) [] k (omega (arith, before.size)))) (before.each k inside)
-        | inr not ↦ (let here : k ≡ t = omega arith in
-            let last : k ≡ length (lists_of sums) = omega (arith, before.size) in
-            let row : slice_index_or (lists_of sums ++ v.items ∷ []) k [] ≡ v.items =
-            ap (λ m. slice_index_or (lists_of sums ++ v.items ∷ []) m []) last ∙ get_or-append_seam (lists_of sums) v.items [] [] in
-            rw (row, here) is)
-      ];
-    })
+first-more snapshots counts step t sums v before is = grind (arith, map-append, length-append, cases_lt, slice_index_or, get_or_append_left, get_or-append_seam)
 
 pub first-all : (snapshots : List (List ℕ)) (counts : List ℕ) (step t : ℕ) (sums : List (List ℕ)) → t ≡ length snapshots
     → AreSumsOfFirst snapshots counts step t sums → AreSnapshotSums snapshots counts step sums
-first-all snapshots counts step t sums all are = record {
-  size = are.size ∙ all;
-  each = λ k lt. are.each k (omega arith);
-}
+first-all snapshots counts step t sums all are = grind arith

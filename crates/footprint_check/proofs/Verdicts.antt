@@ -1,5 +1,5 @@
 -- The verdict on the rows of a fit whose table meets its conditions.
-use Rattle.std.proofs.Common.{◌≡◌, ℕ, ◌-◌, Bool, true, false, not, max, List, [], slice_index, slice_index_or, arith, refl, rules, ap, sym, ◌∙◌}
+use Rattle.std.proofs.Common.{◌≡◌, ℕ, Bool, true, false, not, max, List, arith, rules, sym, ◌∙◌}
 use Rattle.std.specs.Prelude.{◌↔◌, IsTrue}
 use Rattle.footprint_check.specs.RowConditions.{AreRowTests}
 use Rattle.footprint_check.specs.declared.row_tests.RowTests.{RowTests}
@@ -39,12 +39,10 @@ module _ (meets : Refusal → Type 0) (table : AreMetBefore meets Shape) where
 -- ---- by the tests of the rows
 
 holds : (b : Bool) → not b ≡ false → IsTrue b
-holds true e = refl
-holds false e = cc
+holds b is = grind arith
 
 fails : (b : Bool) → not b ≡ true → IsTrue b → ⊥
-fails true e t = cc
-fails false e t = cc
+fails b is also = grind arith
 
 module _ (snapshots : List (List ℕ)) (fit : Fit) (counts : List ℕ) (step : ℕ) (counts_are : counts ≡ peaks snapshots)
     (step_is : step ≡ fit.step) (cost : ℕ → ℕ → ℕ) (d given : ℕ) (tests : RowTests) (cost_is : cost ≡ span_footprint snapshots step)
@@ -91,9 +89,7 @@ module _ (snapshots : List (List ℕ)) (fit : Fit) (counts : List ℕ) (step : �
         edge-met = edge.0 (holds tests.edge edge_holds)
 
         bound : number ≡ number_at fit.rows fit.limit 0
-        bound =
-            let same : k - 1 ≡ fit.limit - 1 = omega arith in
-            number_is ∙ ap (λ index. slice_index (slice_index_or fit.rows index []) 0) same
+        bound = grind arith
 
         pub not-tight : (number ≡ fit.footprint → ⊥) → IsFitVerdict snapshots fit (Refused NotTight)
         not-tight other = refused-tight meets table shape last-met drop-met edge-met (λ met. other (bound ∙ met))

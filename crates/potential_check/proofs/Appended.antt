@@ -23,8 +23,7 @@ pub rows_text-more : (name : List ℕ) (rows : List (List ℕ)) (i : ℕ) (row :
 rows_text-more name rows i row is =
     let here : get_or rows i [] ≡ row = get_or_from_slice_get rows i row [] is in
     let more : take (i + 1) rows ≡ take i rows ++ row ∷ [] = take_more rows i [] (slice_get_within rows i row is) ∙ rw here refl in
-    rw (more, map-append, flat_map-append)
-    (ap (λ (line : List ℕ). text_of (map (named_line name) (take i rows)) ++ line) (append-nil (ended (named_line name row))))
+    grind (arith, map-append, flat_map-append, append-nil)
 
 -- ---- what is written, part by part
 

@@ -1,5 +1,5 @@
 -- The edges of a part of a row, from those of the parts on both sides of its middle place.
-use Rattle.std.proofs.Common.{ℕ, ◌+◌, ◌<◌, ◌≤◌, List, slice_index, arith, ap, inl, inr}
+use Rattle.std.proofs.Common.{ℕ, ◌+◌, ◌<◌, ◌≤◌, List, slice_index, arith, inl, inr}
 use Rattle.std.proofs.lemmas.Bool.{cases_order, cases_lt}
 use Rattle.potential_check.specs.RowConditions.{EdgesHoldWithin, edge_bound}
 use Rattle.potential_check.specs.Spanned.{Spanned}
@@ -21,12 +21,7 @@ module _ (s : Spanned) (is_step : IsStep s.step) (before row : List ℕ) (start 
       → EdgesHoldWithin s before row start stop low high
   edges-join within tight here left right = λ i j from below lt above upto.
       elim (cases_order i middle) [
-        | inl same ↦ omega (
-          arith,
-          ap (slice_index row) same,
-          ap (λ m. edge_bound s before m j) same,
-          tight.least j (omega arith) above upto,
-        )
+        | inl same ↦ grind arith
         | inr (inl earlier) ↦ elim (cases_lt end j) [
           | inl past ↦ omega (
             arith,

@@ -6,7 +6,6 @@ use Rattle.potential_check.specs.RowConditions.{edge_bound}
 use Rattle.potential_check.specs.Spanned.{Spanned}
 use Rattle.potential_check.specs.declared.edge_walk.End.{End}
 use Rattle.potential_check.specs.declared.edge_walk.Start.{Start}
-use Rattle.tuner_theory.specs.Spans.{counted_up_to, need_at, span_waste}
 
 pub record AreSides (s : Spanned) (before : List ℕ) (start : Start) (end : End) : Type 0 where
   pub product : end.payload * start.requests < 2 ^ 58
@@ -18,12 +17,4 @@ pub sides_are : (s : Spanned) (before row : List ℕ) (start : Start) (end : End
     → IsEnd s before end → AreSides s before start end
 sides_are s before row start end lt from to =
     let sums = span_balance s to.spanned start.place end.place lt to.within in
-    let balance : end.payload * counted_up_to s.counts s.step (need_at s.counts s.step end.place)
-    ≡ span_waste s.counts s.step start.place end.place + (end.payload * start.requests + (end.bytes - start.bytes)) =
-    rw (to.payload, to.bytes, from.requests, from.bytes) sums.balance in
-    record {
-      product = rw (to.payload, from.requests) (payload_fits s to.spanned end.place start.place (omega arith) to.within);
-      bytes = rw (to.bytes, from.bytes) sums.bytes;
-      bytes_fit = rw to.bytes sums.bytes_fit;
-      reach = omega (arith, to.reach, balance);
-    }
+    grind (arith, payload_fits)

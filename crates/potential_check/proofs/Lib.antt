@@ -2,7 +2,6 @@ pub mod Appended
 pub mod SpansBuilt
 pub mod EdgeHalves
 pub mod EdgeSides
-pub mod FaultyReadings
 pub mod FitLaws
 pub mod HeadLines
 pub mod LawLemmas

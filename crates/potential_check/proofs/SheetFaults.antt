@@ -1,95 +1,159 @@
 -- The number of a fault, of a sheet or a fit, is that of its first fault.
-use Rattle.std.proofs.Common.{◌≡◌, ℕ, suc, ◌-◌, ◌^◌, ◌<◌, true, List, [], ◌∷◌, Result, Ok, Err, refl, sym, ap, ◌∙◌, arith, codes}
-use Rattle.std.specs.Option.{ok_or}
+use Rattle.std.proofs.Common.{◌≡◌, ℕ, zero, suc, ◌+◌, ◌^◌, ◌<◌, ◌⊎◌, inl, inr, List, [], ◌∷◌, Option, Some, None, Result, Ok, Err, refl, ap, ◌∙◌, arith, codes}
+use Rattle.std.specs.Option.{ok_or, option_map}
+use Rattle.std.specs.Prelude.{All, if◌then◌else◌}
+use Rattle.std.proofs.lemmas.List.Elements.{All-cons, All-nil}
 use Rattle.class_table.specs.ClassLine.{class_line}
-use Rattle.class_table.proofs.LawLemmas.{IsName, class_line_is_full, named_line_is_line, no_classes_are_legal, words_of_named_line}
-use Rattle.line_text.specs.Lines.{IsLine, lines, text_of}
+use Rattle.class_table.proofs.LawLemmas.{IsName, class_line_is_full, named_line_is_line, no_classes_are_legal}
+use Rattle.line_text.specs.Lines.{IsLine, lines}
 use Rattle.line_text.specs.FirstFault.{◌>>=◌, IsFirstFault}
-use Rattle.line_text.proofs.LawLemmas.{one_first_fault, text_laws as laws}
+use Rattle.line_text.proofs.LawLemmas.{IsLineByLine, one_first_fault, refusal_is_first_fault}
 use Rattle.class_table.specs.declared.table.TheConstants.{MOST_CLASSES}
-use Rattle.potential_check.specs.SheetText.{SpellsBy, cost_in, cost_number, head_of_lines, is_named, limit_in, line_at, read_by, rows_from, step_at, table_in, with_rows, word_of}
+use Rattle.potential_check.specs.SheetText.{SpellsBy, cost_in, head_of_lines, is_named, limit_in, read_by, row_in, rows_from, step_in, table_in, with_rows, word_of}
 use Rattle.potential_check.specs.declared.cost.Cost.{Cost}
 use Rattle.class_table.specs.NamedLines.{named_line}
-use Rattle.potential_check.specs.declared.reading.Head.{Head}
-use Rattle.potential_check.proofs.FaultyReadings.{Lines, Reports, rows-report, reports-as, reports-line, reports-step}
+use Rattle.potential_check.proofs.LeadingLines.{cost_number-written}
 use Rattle.potential_check.proofs.ReadIsSpelled.{read_is_spelled}
-use Rattle.potential_check.proofs.SheetLines.{cost_in-line, limit_in-line, names, one_small, step_in-line, table_in-line}
+use Rattle.potential_check.proofs.SheetLines.{cost-not_step, cost_in-line, limit_in-line, names, one_small, table_in-line}
 use Rattle.potential_check.proofs.SpelledIsRead.{spelled_is_read}
 use Rattle.tuner_theory.specs.Sheets.{Sheet}
 
-abbrev rows_after : Head × Lines → Result Sheet ℕ
-rows_after p = rows_from (suc (cost_number p.0.step)) MOST_CLASSES p.1 >>= λ rows. Ok (with_rows p.0 rows)
+-- ---- one reading of all lines, which goes from place to place
 
-abbrev head_with : List ℕ → ℕ → ℕ → ℕ × Lines → Result (Head × Lines) ℕ
-head_with table limit step p = Ok (record { table = table; limit = limit; step = step; cost = p.0 }, p.1)
+-- What is read next, and what was read before. Rows are finished to a sheet, and there may be so many more.
+data Place : Type 0 where
+  Table : Place
+  Limit : List ℕ → Place
+  Step : List ℕ → ℕ → Place
+  CostOf : List ℕ → ℕ → ℕ → Place
+  Rows : (List (List ℕ) → Sheet) → ℕ → Place
 
-abbrev cost_after : Cost → List ℕ → ℕ → ℕ × Lines → Result (Head × Lines) ℕ
-cost_after cost table limit p = line_at (cost_number p.0) (cost_in cost) p.1 >>= head_with table limit p.0
+abbrev rows_after : List ℕ → ℕ → ℕ → ℕ → Place
+rows_after table limit step stated =
+    Rows (with_rows (record { table = table; limit = limit; step = step; cost = stated })) MOST_CLASSES
 
-abbrev step_after : Cost → List ℕ → ℕ × Lines → Result (Head × Lines) ℕ
-step_after cost table p = ok_or (step_at p.1) 3 >>= cost_after cost table p.0
+abbrev next : Cost → Place → List ℕ → Option Place
+next cost Table line = option_map Limit (table_in line)
+next cost (Limit table) line = option_map (Step table) (limit_in line)
+next cost (Step table limit) line =
+    if is_named (codes "step") line then option_map (CostOf table limit) (step_in line)
+    else option_map (rows_after table limit 1) (cost_in cost line)
+next cost (CostOf table limit step) line = option_map (rows_after table limit step) (cost_in cost line)
+next cost (Rows finish zero) line = None
+next cost (Rows finish (suc most)) line = option_map (λ row. Rows (λ rows. finish (row ∷ rows)) most) (row_in line)
 
-abbrev limit_after : Cost → List ℕ × Lines → Result (Head × Lines) ℕ
-limit_after cost p = line_at 2 limit_in p.1 >>= step_after cost p.0
+abbrev end_at : Place → Option Sheet
+end_at (Rows finish most) = Some (finish [])
+end_at place = None
 
-abbrev by_lines : Cost → Lines → Result Sheet ℕ
-by_lines cost ls = (line_at 1 table_in ls >>= limit_after cost) >>= rows_after
+abbrev Reading : Type 0
+Reading = Result Sheet (ℕ × Unit {0})
 
-read-by_lines : (cost : Cost) (ls : Lines) → read_by cost ls ≡ by_lines cost ls
-unfolding read_by head_of_lines
-read-by_lines cost ls = refl
+unfoldable read_from : Cost → ℕ → Place → List (List ℕ) → Reading
+read_from cost number place [] = ok_or (end_at place) (number, tt)
+read_from cost number place (line ∷ ls) = ok_or (next cost place line) (number, tt) >>= λ after. read_from cost (number + 1) after ls
 
 line_of_one : (name : List ℕ) (n : ℕ) → IsName name → n < 2 ^ 64 → IsLine (named_line name (n ∷ []))
 line_of_one name n is_name small = named_line_is_line name (n ∷ []) is_name (one_small n small)
 
-is_step_line : is_named (codes "step") (named_line (codes "step") (2 ∷ [])) ≡ true
-is_step_line = rw (words_of_named_line (codes "step") (2 ∷ []) names.step (one_small 2 (omega arith))) refl
+module _ (cost : Cost) where
+  -- It is the reading of a sheet or a fit.
+  abbrev numbered : Result Sheet ℕ → Reading
+  numbered (Ok s) = Ok s
+  numbered (Err number) = Err (number, tt)
 
-by_lines-report : (cost : Cost) → Reports 1 (by_lines cost)
-by_lines-report cost =
-    reports-line 1 table_in (limit_after cost) rows_after (class_line []) []
-    (class_line_is_full [] no_classes_are_legal).0 (table_in-line [] no_classes_are_legal)
-    (λ table.
-    reports-line 2 limit_in (step_after cost table) rows_after (named_line (codes "limit") (1 ∷ [])) 1
-    (line_of_one (codes "limit") 1 names.limit (omega arith)) (limit_in-line 1 (omega arith, omega arith))
-    (λ limit.
-    reports-step (cost_after cost table limit) rows_after (named_line (codes "step") (2 ∷ [])) 2
-    (line_of_one (codes "step") 2 names.step (omega arith)) (is_step_line)
-    (step_in-line 2 refl (λ one. omega arith))
-    (λ step.
-    reports-line (cost_number step) (cost_in cost) (head_with table limit step) rows_after (named_line (word_of cost) (0 ∷ [])) 0
-    (line_of_one (word_of cost) 0 (names.cost cost) (omega arith)) (cost_in-line cost 0 (omega arith))
-    (λ stated.
-    reports-as (suc (cost_number step)) (rows_from (suc (cost_number step)) MOST_CLASSES)
-    (with_rows (record { table = table; limit = limit; step = step; cost = stated }))
-    (rows-report MOST_CLASSES (suc (cost_number step)))))))
+  rows_read : (ls : List (List ℕ)) (number most : ℕ) (finish : List (List ℕ) → Sheet) →
+      read_from cost number (Rows finish most) ls ≡ numbered (rows_from number most ls >>= λ rows. Ok (finish rows))
+  unfolding read_from rows_from
+  rows_read [] number most finish = refl
+  rows_read (line ∷ ls) number zero finish = refl
+  rows_read (line ∷ ls) number (suc most) finish = grind (arith, rows_read ls (number + 1) most)
 
--- ---- the first fault
+  all_read : (ls : List (List ℕ)) → read_from cost 1 Table ls ≡ numbered (read_by cost ls)
+  unfolding read_from read_by head_of_lines rows_from
+  all_read [] = grind arith
+  all_read (a ∷ []) = grind arith
+  all_read (a ∷ b ∷ []) = grind arith
+  all_read (a ∷ b ∷ c ∷ []) = grind (arith, rows_read)
+  all_read (a ∷ b ∷ c ∷ d ∷ ls) = grind (arith, rows_read, cost_number-written)
 
-pub fault_is_first : (cost : Cost) (text : List ℕ) (number : ℕ) → read_by cost (lines text) ≡ Err number
-    → IsFirstFault (SpellsBy cost) text number
-fault_is_first cost text number e =
-    let at = (by_lines-report cost).fault (lines text) number (laws.all_lines text) (sym (read-by_lines cost (lines text)) ∙ e) in
-    let sound = at.2.sound in
-    let next : number ≡ suc at.0 = (let is = at.1 in omega arith) in
-    let front : suc at.0 - 1 ≡ at.0 = omega arith in
-    let written : lines (text_of sound.other) ≡ sound.other = laws.written_lines sound.other sound.all in
-    let read : read_by cost (lines (text_of sound.other)) ≡ Ok sound.value =
-    ap (read_by cost) written ∙ (read-by_lines cost sound.other ∙ sound.read) in
-    rw next (record {
-      some = omega arith;
-      within = omega (arith, at.2.within);
-      before = (
-        text_of sound.other,
-        sound.value,
-        read_is_spelled cost (text_of sound.other) sound.value read,
-        rw (front, written) at.2.before,
-      );
-      none = λ other s spells same.
-          let read = spelled_is_read cost other s spells in
-          let fault = read-by_lines cost (lines other) ∙ at.2.same (lines other) same in
-          cc;
-    })
+  -- ---- line by line
+
+  abbrev AtLine : Place → List ℕ → Type 0
+  AtLine place line =
+      ((after : Place) × ((n : ℕ) (ls : List (List ℕ)) → read_from cost n place (line ∷ ls) ≡ read_from cost (n + 1) after ls))
+      ⊎ ((fault : Unit {0}) × ((n : ℕ) (ls : List (List ℕ)) → read_from cost n place (line ∷ ls) ≡ Err (n, fault)))
+
+  at_line : (place : Place) (line : List ℕ) → AtLine place line
+  unfolding read_from
+  at_line place line = go (next cost place line) refl
+    where
+      go : (o : Option Place) → next cost place line ≡ o → AtLine place line
+      go None is = inr (tt, λ n ls. rw is refl)
+      go (Some after) is = inl (after, λ n ls. rw is refl)
+
+  abbrev AtEnd : Place → Type 0
+  AtEnd place =
+      ((s : Sheet) × ((n : ℕ) → read_from cost n place [] ≡ Ok s)) ⊎ ((fault : Unit {0}) × ((n : ℕ) → read_from cost n place [] ≡ Err (n, fault)))
+
+  at_end : (place : Place) → AtEnd place
+  unfolding read_from
+  at_end (Rows finish most) = inl (finish [], λ n. refl)
+  at_end place = inr (tt, λ n. refl)
+
+  -- some lines lead from each place to a sheet
+  abbrev GoesOn : Place → Type 0
+  GoesOn place = (ls : List (List ℕ)) × All IsLine ls × (s : Sheet) × ((n : ℕ) → read_from cost n place ls ≡ Ok s)
+
+  by_line : (place after : Place) (line : List ℕ) → IsLine line → next cost place line ≡ Some after → GoesOn after → GoesOn place
+  unfolding read_from
+  by_line place after line is_line is on = (line ∷ on.0, All-cons IsLine line on.0 is_line on.1, on.2, λ n. rw is (on.3 (n + 1)))
+
+  at_rows : (finish : List (List ℕ) → Sheet) (most : ℕ) → GoesOn (Rows finish most)
+  unfolding read_from
+  at_rows finish most = ([], All-nil IsLine, finish [], λ n. refl)
+
+  cost_line : List ℕ
+  cost_line = named_line (word_of cost) (0 ∷ [])
+
+  at_step : (table : List ℕ) (limit : ℕ) → GoesOn (Step table limit)
+  unfolding cost_line
+  at_step table limit =
+      by_line _ (rows_after table limit 1 0) cost_line (line_of_one (word_of cost) 0 (names.cost cost) (omega arith))
+      (rw (cost-not_step cost 0 (omega arith), cost_in-line cost 0 (omega arith)) refl) (at_rows _ MOST_CLASSES)
+
+  at_limit : (table : List ℕ) → GoesOn (Limit table)
+  at_limit table =
+      by_line _ (Step table 1) (named_line (codes "limit") (1 ∷ [])) (line_of_one (codes "limit") 1 names.limit (omega arith))
+      (rw (limit_in-line 1 (omega arith, omega arith)) refl) (at_step table 1)
+
+  goes_on : (place : Place) → GoesOn place
+  unfolding cost_line
+  goes_on Table =
+      by_line _ (Limit []) (class_line []) (class_line_is_full [] no_classes_are_legal).0 (rw (table_in-line [] no_classes_are_legal) refl)
+      (at_limit [])
+  goes_on (Limit table) = at_limit table
+  goes_on (Step table limit) = at_step table limit
+  goes_on (CostOf table limit step) =
+      by_line _ (rows_after table limit step 0) cost_line (line_of_one (word_of cost) 0 (names.cost cost) (omega arith))
+      (rw (cost_in-line cost 0 (omega arith)) refl) (at_rows _ MOST_CLASSES)
+  goes_on (Rows finish most) = at_rows finish most
+
+  reads : IsLineByLine (read_from cost)
+  reads = record { at_line = at_line; at_end = at_end; goes_on = goes_on }
+
+  -- ---- the first fault
+
+  spelled : (text : List ℕ) (s : Sheet) → read_from cost 1 Table (lines text) ≡ Ok s → SpellsBy cost text s
+  spelled text s e = read_is_spelled cost text s (grind (arith, all_read (lines text)))
+
+  read : (text : List ℕ) (s : Sheet) → SpellsBy cost text s → read_from cost 1 Table (lines text) ≡ Ok s
+  read text s spells = all_read (lines text) ∙ ap numbered (spelled_is_read cost text s spells)
+
+  pub fault_is_first : (text : List ℕ) (number : ℕ) → read_by cost (lines text) ≡ Err number → IsFirstFault (SpellsBy cost) text number
+  fault_is_first text number e =
+      refusal_is_first_fault (read_from cost) reads (SpellsBy cost) Table spelled read text number tt
+      (all_read (lines text) ∙ ap numbered e)
 
 -- What reports only first faults reports each.
 pub first_fault_is_reported : {A : Type 0} (read : List ℕ → Result A ℕ) (Spells : List ℕ → A → Type 0)

@@ -100,14 +100,12 @@ pub line-limit_in : (line : List ℕ) (k : ℕ) → limit_in line ≡ Some k
     → (line ≡ named_line (codes "limit") (k ∷ [])) × (1 ≤ k) × (k ≤ MOST_CLASSES)
 line-limit_in line k e =
     let read = line-number_in (codes "limit") is_limit line k e (λ m f. omega (arith, (passed_limit m f).1)) in
-    let within = passed_limit k read.1 in
-    (read.0, within.0, within.1)
+    grind (arith, passed_limit)
 
 pub line-step_in : (line : List ℕ) (s : ℕ) → step_in line ≡ Some s → (line ≡ named_line (codes "step") (s ∷ [])) × IsStep s × (s ≢ 1)
 line-step_in line s e =
     let read = line-number_in (codes "step") is_written_step line s e (λ m f. omega (arith, (passed_step m f).2)) in
-    let step = passed_step s read.1 in
-    (read.0, step.0, λ one. omega (arith, step.1))
+    grind (arith, passed_step)
 
 pub line-cost_in : (cost : Cost) (line : List ℕ) (n : ℕ) → cost_in cost line ≡ Some n
     → (line ≡ named_line (word_of cost) (n ∷ [])) × (n < 2 ^ 64)

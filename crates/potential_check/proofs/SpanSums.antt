@@ -1,12 +1,12 @@
 -- The need at a place and the waste of a span, by the sums that are kept.
-use Rattle.std.proofs.Common.{◌≡◌, ℕ, zero, suc, ◌+◌, ◌-◌, ◌*◌, ◌^◌, ◌<◌, ◌≤◌, List, get_or, arith, ap, sym, ◌∙◌}
+use Rattle.std.proofs.Common.{◌≡◌, ℕ, zero, suc, ◌+◌, ◌-◌, ◌*◌, ◌^◌, ◌<◌, ◌≤◌, List, get_or, arith, sym}
 use Rattle.std.proofs.lemmas.List.{get_or_default}
 use Rattle.std.proofs.Math.Nat.{mul-le-mul}
 use Rattle.class_table.specs.Sizes.{IsBlockSize, largest_counted}
 use Rattle.class_table.specs.declared.sizes.TheConstants.{GRANULE_BYTES}
 use Rattle.tuner_theory.proofs.LawLemmas.{HasNoUnderflow, place_is_class, places_ascend, step-positive, sums_ascend, sums_fit, sums_give_waste}
 use Rattle.potential_check.specs.Spanned.{HoldsSums, IsSpanned, Spanned}
-use Rattle.tuner_theory.specs.Spans.{bytes_up_to, counted_up_to, distinct_needs, need_at, places, span_waste}
+use Rattle.tuner_theory.specs.Spans.{bytes_up_to, counted_up_to, need_at, places, span_waste}
 
 -- the need that is kept for a place is a class
 pub need-class : (counts : List ℕ) (step place need : ℕ) (needs counted bytes : List ℕ) → HoldsSums counts step needs counted bytes
@@ -15,10 +15,7 @@ need-class counts step zero need needs counted bytes held some le e = absurd (om
 need-class counts step (suc i) need needs counted bytes held some le e =
     let front : suc i - 1 ≡ i = omega arith in
     let at = place_is_class counts step (suc i) held.is_step (omega (arith, held.are_counts.sizes)) some le in
-    let is : need ≡ need_at counts step (suc i) =
-    e ∙ (ap (λ k. get_or needs k need) front
-    ∙ (ap (λ (xs : List ℕ). get_or xs i need) held.needs_are ∙ get_or_default (distinct_needs counts step) i need 0 le)) in
-    (omega (arith, at.0.0, is), omega (arith, at.0.1, is))
+    grind (arith, get_or_default)
 
 -- the waste by the need at the span's end and the sums up to its two ends, each step of it a number of 64 bits
 pub record HasSpanSums (waste need counted_low counted_high bytes_low bytes_high : ℕ) : Type 0 where
@@ -65,8 +62,4 @@ pub span_balance : (s : Spanned) → IsSpanned s → (i j : ℕ) → i < j → j
     → HasBalance (span_waste s.counts s.step i j) (GRANULE_BYTES * (need_at s.counts s.step j - 1))
     (counted_up_to s.counts s.step (need_at s.counts s.step i)) (counted_up_to s.counts s.step (need_at s.counts s.step j))
     (bytes_up_to s.counts s.step (need_at s.counts s.step i)) (bytes_up_to s.counts s.step (need_at s.counts s.step j))
-span_balance s spanned i j lt le = let sums = span_sums s spanned i j lt le in record {
-  bytes = sums.no_underflow.bytes;
-  bytes_fit = (sums_fit s.counts s.step (need_at s.counts s.step j) spanned.are_counts).1;
-  balance = balanced _ _ _ _ _ sums.no_underflow.counted sums.no_underflow.held sums.waste_is;
-}
+span_balance s spanned i j lt le = let sums = span_sums s spanned i j lt le in grind (arith, sums_fit, balanced)

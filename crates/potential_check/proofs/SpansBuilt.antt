@@ -142,19 +142,7 @@ module _ (counts : List ℕ) (step : ℕ) (is_step : IsStep step) where
     pub place-same : last_need needs ≡ rounded_need step n → IsBuilt counts step n needs counted bytes total total_bytes
         → HasPlace counts step n needs counted bytes total total_bytes
     place-same last b =
-        let some : 0 < length needs = some_place needs (omega (arith, last, rounded-positive n)) in
-        record {
-          needs_are = record {
-            needs_are = sym (ap (λ (xs : List ℕ). with_need xs (rounded_need step n)) (sym b.needs_are.needs_are)
-                ∙ with_need-in (rounded_need step n) (length needs - 1) needs (omega arith) (sym (last-in needs some) ∙ last));
-            ascending = b.needs_are.ascending;
-            reached = b.needs_are.reached;
-            covered = b.needs_are.covered;
-          };
-          last_is = last;
-          counted_are = b.counted_are;
-          bytes_are = b.bytes_are;
-        }
+        grind (arith, some_place, with_need-in, last-in)
       where
         some_place : (xs : List ℕ) → 0 < last_need xs → 0 < length xs
         some_place xs is = grind arith
@@ -218,23 +206,13 @@ built-end counts step n total total_bytes needs counted bytes is_step are end b 
     sums : (f : ℕ → ℕ) (total : ℕ) (xs : List ℕ) → ((k : ℕ) → k < length counts → 0 < f k → 0 < slice_index counts k)
         → AreSumsBefore f step (length counts) needs xs total →
         AreSumsUpTo (sum_up_to f step (length counts)) counts step (xs ++ total ∷ [])
-    sums f total xs counted_too s = record {
-      size = omega (arith, s.size, length-append {A = ℕ} xs (total ∷ []), ap length all.needs_are.needs_are);
-      sums_are = λ i le.
-          sums-pushed f step (length counts) total needs xs (λ k lt some. all.needs_are.covered k lt (counted_too k lt some)) s i
-          (omega (arith, le, ap length all.needs_are.needs_are))
-          ∙ ap (λ (xs : List ℕ). sum_up_to f step (length counts) (need_in xs i)) all.needs_are.needs_are;
-    }
+    sums f total xs counted_too s = grind (arith, length-append, all, sums-pushed)
 
 pub built-small : (counts : List ℕ) (step n total total_bytes : ℕ) (needs counted bytes : List ℕ) → AreCounts counts
     → n ≤ largest_counted + 1 → IsBuilt counts step n needs counted bytes total total_bytes
     → (total ≤ n * greatest_count) × (total_bytes ≤ n * (greatest_count * largest_counted))
 built-small counts step n total total_bytes needs counted bytes are le b = (
-  omega (
-    arith,
-    b.counted_are.total_is,
-    sum_bounded (slice_index counts) n greatest_count (λ k lt. are.in_range k 0 (omega (arith, are.sizes))),
-  ),
+  grind (arith, sum_bounded),
   omega (
     arith,
     b.bytes_are.total_is,

@@ -37,8 +37,7 @@ module _ (s : Spanned) (is_step : IsStep s.step) (before row : List ℕ) (full :
         walked.hold k end from within (omega arith) (omega arith) walked.within,
         places_cross s.counts s.step i k j end is_step (omega arith) (omega arith) (omega arith) walked.within,
       )
-      | inr not ↦ (let same : k ≡ i = omega arith in
-          omega (arith, ap (slice_index row) same, ap (λ m. edge_bound s before m j) same, here j (omega arith) above below))
+      | inr not ↦ (grind arith)
     ]
   ]
 
