@@ -25,8 +25,7 @@ below-bits n = below-up_to n n (omega arith)
 
 -- one row more takes at most w calls more
 stage-count : (start calls more k limit w : ℕ) → calls ≤ start + k * w → more ≤ calls + w → k < limit → more ≤ start + limit * w
-stage-count start calls more k limit w before now lt =
-    omega (arith, before, now, mul-le-mul_right w (let next : k + 1 ≤ limit = omega arith in next))
+stage-count start calls more k limit w before now lt = grind arith
 
 pub calls-more : (start calls more k limit d : ℕ) → calls ≤ start + most_calls k d → more ≤ calls + ((d - 1) * bits d + d) → k < limit
     → more ≤ start + most_calls limit d

@@ -1,5 +1,5 @@
 -- The two halves of a part: where their least ends are, and how often the source is asked for them.
-use Rattle.std.proofs.Common.{◌≡◌, ℕ, suc, ◌+◌, ◌*◌, ◌^◌, ◌/◌, ◌<◌, ◌≤◌, List, slice_index, arith, ap}
+use Rattle.std.proofs.Common.{◌≡◌, ℕ, suc, ◌+◌, ◌*◌, ◌^◌, ◌/◌, ◌<◌, ◌≤◌, List, slice_index, arith}
 use Rattle.class_tuner.specs.Filling.{AreEndsBetween, end_cost}
 use Rattle.tuner_theory.specs.Rows.{IsLeastEnd}
 use Rattle.tuner_theory.specs.Spans.{IsCrossing}
@@ -29,5 +29,4 @@ half-digits n b lt = omega arith
 -- the steps between the halves
 pub count-halves : (n w wl wr nl nr b calls here left right : ℕ) → wl + wr ≡ w → nl + nr + 1 ≡ n → here ≤ w + 1
     → left ≤ calls + here + wl * b + nl → right ≤ left + wr * b + nr → right ≤ calls + w * suc b + n
-count-halves n w wl wr nl nr b calls here left right parts halves most l r =
-    let e : (wl + wr) * b ≡ w * b = ap (λ z. z * b) parts in omega arith
+count-halves n w wl wr nl nr b calls here left right parts halves most l r = grind arith

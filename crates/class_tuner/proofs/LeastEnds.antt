@@ -1,16 +1,11 @@
 -- The least end in a window, and the least end of a place.
 use Rattle.std.proofs.Common.{◌≡◌, ℕ, zero, suc, ◌+◌, ◌-◌, ◌<◌, ◌≤◌, arith, ap, subst, inl, inr}
-use Rattle.std.proofs.lemmas.Bool.{cases_lt, cases_order}
+use Rattle.std.proofs.lemmas.Bool.{cases_lt}
 use Rattle.tuner_theory.specs.Rows.{IsLeastEnd, IsLeastWithin}
 
 -- a window has one first least end
 pub one-least : (f : ℕ → ℕ) (low high a b : ℕ) → IsLeastWithin f low high a → IsLeastWithin f low high b → a ≡ b
-one-least f low high a b of_a of_b =
-    elim (cases_order a b) [
-      | inl same ↦ same
-      | inr (inl lt) ↦ absurd (omega (arith, of_b.first a of_a.from lt, of_a.least b of_b.from of_b.to))
-      | inr (inr gt) ↦ absurd (omega (arith, of_a.first b of_b.from gt, of_b.least a of_a.from of_a.to))
-    ]
+one-least f low high a b of_a of_b = grind arith
 
 same-cost : (f : ℕ → ℕ) (i j : ℕ) → i ≡ j → f i ≡ f j
 same-cost f i j e = ap f e

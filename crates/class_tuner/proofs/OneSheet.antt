@@ -1,7 +1,6 @@
 -- Sheets that are tuned for one profile, step and limit are the same, and so is the number of evaluations.
-use Rattle.std.proofs.Common.{◌≡◌, ℕ, zero, suc, ◌+◌, ◌<◌, ◌≤◌, List, arith, refl, sym, ◌∙◌}
+use Rattle.std.proofs.Common.{◌≡◌, ℕ, zero, suc, ◌<◌, ◌≤◌, List, arith, refl, sym, ◌∙◌}
 use Rattle.class_tuner.specs.Tuned.{AreEvaluations, IsTuned}
-use Rattle.class_tuner.proofs.LeastEnds.{one-least}
 use Rattle.class_tuner.proofs.Tried.{calls-same}
 use Rattle.tuner_theory.specs.Sheets.{Sheet}
 use Rattle.tuner_theory.specs.Rows.{AreLeastRows, number_at}
@@ -32,9 +31,7 @@ ends-same : (cost : ℕ → ℕ → ℕ) (d limit : ℕ) (rows a b : ℕ → ℕ
     → (k i : ℕ) → 1 ≤ k → k ≤ limit → i < d → a k i ≡ b k i
 ends-same cost d limit rows a b of_a of_b zero i one le lt = absurd (omega arith)
 ends-same cost d limit rows a b of_a of_b (suc zero) i one le lt = (of_a.first_row i le lt).1 ∙ sym (of_b.first_row i le lt).1
-ends-same cost d limit rows a b of_a of_b (suc (suc k)) i one le lt =
-    one-least (λ j. cost i j + rows (suc k) j) (suc i) d _ _ (of_a.later_row (suc k) i (omega arith) (omega arith) lt).0
-    (of_b.later_row (suc k) i (omega arith) (omega arith) lt).0
+ends-same cost d limit rows a b of_a of_b (suc (suc k)) i one le lt = grind arith
 
 -- `one_count`: the number of evaluations is determined
 pub one_count : (counts : List ℕ) (step limit : ℕ) (rows : List (List ℕ)) (a b : ℕ)

@@ -1,22 +1,17 @@
 -- A table that is read off class by class.
-use Rattle.std.proofs.Common.{◌≡◌, ℕ, zero, suc, ◌<◌, ◌≤◌, List, [], ◌∷◌, ◌++◌, refl, ap, sym, ◌∙◌, append_assoc}
-use Rattle.std.proofs.lemmas.Bool.{cond-false, cond-true, le-ltb, lt-ltb}
+use Rattle.std.proofs.Common.{◌≡◌, ℕ, suc, ◌<◌, ◌≤◌, List, [], ◌∷◌, ◌++◌, ap, sym, ◌∙◌, append_assoc, arith}
+use Rattle.std.proofs.lemmas.Bool.{cond-true, lt-ltb}
 use Rattle.tuner_theory.specs.Rows.{table_of_ends}
 
 module _ (need : ℕ → ℕ) (ends : ℕ → ℕ → ℕ) (d : ℕ) where
   -- one class more: k is 1 more than the rows that are left
   pub read-more : (k left i end class : ℕ) (classes all : List ℕ) → k ≡ suc left → i < d → end ≡ ends k i → class ≡ need end
       → classes ++ table_of_ends need ends d k i ≡ all → (classes ++ class ∷ []) ++ table_of_ends need ends d left end ≡ all
-  read-more k left i end class classes all next lt end_is class_is e =
-      let whole : table_of_ends need ends d (suc left) i ≡ need (ends (suc left) i) ∷ table_of_ends need ends d left (ends (suc left) i) =
-      cond-true _ _ _ (lt-ltb i d lt) in
-      let front = rw (next, whole) at e in
-      rw (append_assoc, class_is, end_is, next) front
+  read-more k left i end class classes all next lt end_is class_is e = grind (arith, cond-true, lt-ltb, append_assoc)
 
   -- past the last place nothing more is read
   nothing : (k i : ℕ) → d ≤ i → table_of_ends need ends d k i ≡ []
-  nothing zero i past = refl
-  nothing (suc k) i past = cond-false _ _ _ (le-ltb i d past)
+  nothing k i is = grind arith
 
   pub read-past : (k left i : ℕ) (classes all : List ℕ) → d ≤ i → classes ++ table_of_ends need ends d k i ≡ all →
       classes ++ table_of_ends need ends d left i ≡ all

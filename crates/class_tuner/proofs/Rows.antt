@@ -1,11 +1,10 @@
 -- Rows of least costs, one after another.
-use Rattle.std.proofs.Common.{◌≡◌, ℕ, zero, suc, ◌+◌, ◌-◌, ◌<◌, ◌≤◌, List, [], ◌∷◌, ◌++◌, length, length-append, slice_index, get_or, arith, refl, ap, subst, ◌∙◌, inl, inr}
+use Rattle.std.proofs.lemmas.Grind.{common_steps}
+use Rattle.std.proofs.Common.{◌≡◌, ℕ, zero, suc, ◌-◌, ◌<◌, ◌≤◌, List, [], ◌∷◌, ◌++◌, length, slice_index, arith, refl, ap, subst, ◌∙◌, inl, inr}
 use Rattle.std.specs.Prelude.{Vec, slice_index_or}
 use Rattle.std.specs.declared.alloc.Global.{Global}
 use Rattle.std.proofs.lemmas.Bool.{cases_lt}
 use Rattle.std.proofs.lemmas.List.{get_or_append_left, get_or_past}
-use Rattle.std.proofs.lemmas.List.Elements.{All-push}
-use Rattle.std.proofs.Math.Seq.{get_or-append_seam}
 use Rattle.class_tuner.specs.Filling.{IsFilledWithin, IsLeastAt}
 use Rattle.tuner_theory.specs.Lists.{lists_of}
 use Rattle.tuner_theory.specs.Rows.{HasShape, IsFilled, number_at}
@@ -20,49 +19,24 @@ number_at-old rows row k i one le = ap (λ (r : List ℕ). slice_index r i) (get
 
 pub number_at-new : (rows : List (List ℕ)) (row : List ℕ) (k i : ℕ) → length rows ≡ k
     → number_at (rows ++ row ∷ []) (suc k) i ≡ slice_index row i
-number_at-new rows row k i size =
-    let last : suc k - 1 ≡ length rows = omega arith in
-    ap (λ m. slice_index (get_or (rows ++ row ∷ []) m []) i) last ∙ ap (λ (r : List ℕ). slice_index r i) (get_or-append_seam rows row [] [])
+number_at-new rows row k i size = grind (arith, common_steps)
 
 shape-pushed : (rows : List (List ℕ)) (row : List ℕ) (k d : ℕ) → HasShape rows k d → length row ≡ d → HasShape (rows ++ row ∷ []) (suc k) d
-shape-pushed rows row k d shape len = record {
-  row_count = omega (arith, length-append {A = List ℕ} rows (row ∷ []), shape.row_count);
-  row_lengths = All-push (λ (r : List ℕ). length r ≡ d) rows row shape.row_lengths len;
-}
-
-shape-one : (row : List ℕ) (d : ℕ) → length row ≡ d → HasShape (row ∷ []) 1 d
-shape-one row d len = shape-pushed [] row 0 d (record { row_count = refl; row_lengths = λ k def lt. absurd (omega arith) }) len
+shape-pushed rows row k d shape len = grind (arith, common_steps)
 
 -- ---- one row
 
 least-same : (cost : ℕ → ℕ → ℕ) (d : ℕ) (before before' : ℕ → ℕ) (i number number' end end' : ℕ)
     → ((j : ℕ) → before' j ≡ before j) → number' ≡ number → end' ≡ end → IsLeastAt cost d before i number end →
     IsLeastAt cost d before' i number' end'
-least-same cost d before before' i number number' end end' same same_number same_end l =
-    rw (same_number, same_end) (record {
-      least = record {
-        from = l.least.from;
-        to = l.least.to;
-        least = λ m lt le. omega (arith, same end, same m, l.least.least m lt le);
-        first = λ m lt lt_end. omega (arith, same end, same m, l.least.first m lt lt_end);
-      };
-      number_is = omega (arith, l.number_is, same end);
-    })
+least-same cost d before before' i number number' end end' same same_number same_end l = grind arith
 
 -- ---- rows
 
 pub filled-first : (cost : ℕ → ℕ → ℕ) (d : ℕ) (row ends : List ℕ) → length row ≡ d → length ends ≡ d
     → ((i : ℕ) → i < d → slice_index row i ≡ cost i d) → ((i : ℕ) → i < d → slice_index ends i ≡ d)
     → IsFilled cost d 1 (row ∷ []) (ends ∷ [])
-filled-first cost d row ends row_len ends_len row_is ends_is = record {
-  rows_shape = shape-one row d row_len;
-  ends_shape = shape-one ends d ends_len;
-  least = record {
-    at_end = rows-end (row ∷ []) 1 d (shape-one row d row_len);
-    first_row = λ i some lt. (row_is i lt, ends_is i lt);
-    later_row = λ k i some few lt. absurd (omega arith);
-  };
-}
+filled-first cost d row ends row_len ends_len row_is ends_is = grind (arith, common_steps)
 
 filled-more : (cost : ℕ → ℕ → ℕ) (d k : ℕ) (rows ends : List (List ℕ)) (row end : List ℕ) → 1 ≤ k → IsFilled cost d k rows ends
     → length row ≡ d → length end ≡ d → IsFilledWithin cost d (slice_index_or rows (k - 1) []) row end 0 d

@@ -1,5 +1,5 @@
 -- A source that is asked again and again.
-use Rattle.std.proofs.Common.{◌≡◌, ℕ, ap, sym, ◌∙◌}
+use Rattle.std.proofs.Common.{◌≡◌, ℕ, ap, sym, ◌∙◌, arith}
 use Rattle.class_tuner.specs.SourceChanges.{OnlyCounts}
 use Rattle.class_tuner.specs.declared.cost_source.CostSource.{Ghosts}
 
@@ -12,8 +12,4 @@ module _ {S : Type 0} (source : Ghosts S) where
   -- two runs of calls change only the count, since each does
   pub OnlyCounts-more : ((s : S) (m n : ℕ) → source.with_calls (source.with_calls s m) n ≡ source.with_calls s n) → (old mid new : S)
       → OnlyCounts source old mid → OnlyCounts source mid new → OnlyCounts source old new
-  OnlyCounts-more keeps_last old mid new before now = record {
-    kept = now.kept ∙ (ap (λ s. source.with_calls s (source.call_count new)) before.kept ∙ keeps_last old _ _);
-    same_cost = now.same_cost ∙ before.same_cost;
-    same_places = now.same_places ∙ before.same_places;
-  }
+  OnlyCounts-more keeps_last old mid new before now = grind arith

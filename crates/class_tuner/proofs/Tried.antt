@@ -1,15 +1,14 @@
 -- How many ends are tried for a part of the places, half by half, and for rows, one by one.
 use Rattle.std.proofs.Common.{◌≡◌, ℕ, zero, suc, ◌+◌, ◌-◌, ◌/◌, ◌<◌, ◌≤◌, max, List, [], ◌∷◌, ◌++◌, length, slice_index, arith, refl, ap, sym, ◌∙◌, inl, inr}
-use Rattle.std.proofs.lemmas.Bool.{cases_lt, cond-false, cond-true, le-ltb, lt-ltb}
-use Rattle.class_tuner.specs.CallCounts.{bits, calls_of, ends_after, tried_in_row, tried_within}
+use Rattle.std.proofs.lemmas.Bool.{cases_lt, cond-true, lt-ltb}
+use Rattle.class_tuner.specs.CallCounts.{calls_of, ends_after, tried_in_row, tried_within}
 use Rattle.class_tuner.proofs.Rows.{number_at-new, number_at-old}
 use Rattle.tuner_theory.specs.Rows.{number_at}
 
 -- no place, no end
 pub tried-none : (end : ℕ → ℕ) (b start stop low high : ℕ) → stop ≤ start → tried_within end b start stop low high ≡ 0
 unfolding tried_within
-tried-none end zero start stop low high le = refl
-tried-none end (suc b) start stop low high le = cond-false _ _ _ (le-ltb start stop le)
+tried-none end b start stop low high is = grind arith
 
 -- a part by its middle place and its halves
 tried-halved : (end : ℕ → ℕ) (b start stop low high : ℕ) → start < stop → let middle : ℕ = start + (stop - start) / 2 in
@@ -47,17 +46,7 @@ pub tried-part : (end_left end : ℕ → ℕ) (b start stop low high first least
     first ≡ max low (middle + 1) → first ≤ high → end middle ≡ least → ((i : ℕ) → start ≤ i → i < middle → end_left i ≡ end i)
     → here ≡ calls + (high - first) + 1 → left ≡ here + tried_within end_left b start middle low least
     → right ≡ left + tried_within end b (middle + 1) stop least high → right ≡ calls + tried_within end (suc b) start stop low high
-tried-part end_left end b start stop low high first least calls here left right lt is_first room is same at_middle at_left at_right =
-    let middle : ℕ = start + (stop - start) / 2 in
-    let next : middle + 1 ≡ suc middle = omega arith in
-    omega (
-      arith,
-      tried-halved end b start stop low high lt,
-      tried-same end_left end b start middle low least same,
-      ap (λ e. tried_within end b start middle low e) is,
-      ap (λ e. tried_within end b (suc middle) stop e high) is,
-      ap (λ m. tried_within end b m stop least high) next,
-    )
+tried-part end_left end b start stop low high first least calls here left right lt is_first room is same at_middle at_left at_right = grind (arith, tried-halved, tried-same)
 
 -- ---- rows
 
@@ -67,13 +56,7 @@ pub calls-same : (ends ends' : ℕ → ℕ → ℕ) (d k : ℕ) → ((m i : ℕ)
 unfolding calls_of
 calls-same ends ends' d zero same = refl
 calls-same ends ends' d (suc zero) same = refl
-calls-same ends ends' d (suc (suc k)) same =
-    omega (
-      arith,
-      calls-same ends ends' d (suc k) (λ m i one le lt. same m i one (omega arith) lt),
-      tried-same (ends (suc (suc k))) (ends' (suc (suc k))) (bits d) 0 d 1 d
-          (λ i from below. same (suc (suc k)) i (omega arith) (omega arith) below),
-    )
+calls-same ends ends' d (suc (suc k)) same = grind (arith, tried-same, calls-same ends ends' d (suc k) (λ m i one le lt. same m i one (omega arith) lt))
 
 pub calls-first : (ends : ℕ → ℕ → ℕ) (d : ℕ) → calls_of ends d 1 ≡ d
 unfolding calls_of
@@ -85,19 +68,11 @@ calls-more ends d k = refl
 
 calls-row : (rows : List (List ℕ)) (row : List ℕ) (d k : ℕ) → length rows ≡ suc k
     → calls_of (number_at (rows ++ row ∷ [])) d (suc (suc k)) ≡ calls_of (number_at rows) d (suc k) + tried_in_row (slice_index row) d
-calls-row rows row d k size =
-    omega (
-      arith,
-      calls-more (number_at (rows ++ row ∷ [])) d k,
-      calls-same (number_at (rows ++ row ∷ [])) (number_at rows) d (suc k) (λ m i one le lt. number_at-old rows row m i one (omega arith)),
-      tried-same (number_at (rows ++ row ∷ []) (suc (suc k))) (slice_index row) (bits d) 0 d 1 d
-          (λ i from below. number_at-new rows row (suc k) i size),
-    )
+calls-row rows row d k size = grind (arith, calls-more, calls-same, number_at-old, tried-same, slice_index, number_at-new)
 
 -- one row more
 pub calls-pushed : (rows rows' : List (List ℕ)) (row : List ℕ) (d k start calls more : ℕ) → 1 ≤ k → length rows ≡ k
     → rows' ≡ rows ++ row ∷ [] → calls ≡ start + calls_of (number_at rows) d k → more ≡ calls + tried_in_row (slice_index row) d
     → more ≡ start + calls_of (number_at rows') d (suc k)
 calls-pushed rows rows' row d zero start calls more one size are before now = absurd (omega arith)
-calls-pushed rows rows' row d (suc k) start calls more one size are before now =
-    omega (arith, ap (λ (rs : List (List ℕ)). calls_of (number_at rs) d (suc (suc k))) are, calls-row rows row d k size)
+calls-pushed rows rows' row d (suc k) start calls more one size are before now = grind (arith, calls-row)

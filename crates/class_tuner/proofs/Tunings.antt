@@ -1,6 +1,5 @@
 -- What least rows over the spans of a profile make.
-use Rattle.std.proofs.Common.{◌≡◌, ℕ, ◌≤◌, List, refl, sym, ◌∙◌}
-use Rattle.std.proofs.Math.Nat.{mod-one}
+use Rattle.std.proofs.Common.{◌≡◌, ℕ, ◌≤◌, List, refl, sym, ◌∙◌, arith}
 use Rattle.class_table.specs.Tables.{IsLegalTable}
 use Rattle.class_table.specs.declared.table.TheConstants.{MOST_CLASSES}
 use Rattle.class_tuner.specs.Tuned.{IsTuned}
@@ -15,12 +14,7 @@ use Rattle.tuner_theory.proofs.LawLemmas.{least_rows_are_valid, rows-canonical, 
 
 -- a table that is legal for any step is legal for step 1
 legal-for_one : (step : ℕ) (classes : List ℕ) → IsLegalTable step classes → IsLegalTable 1 classes
-legal-for_one step classes legal = record {
-  few = legal.few;
-  in_range = legal.in_range;
-  ascending = legal.ascending;
-  fitting = λ k d within. mod-one _;
-}
+legal-for_one step classes legal = grind arith
 
 module _ (s : Spanned) (limit : ℕ) (rows ends : List (List ℕ)) (spanned : IsSpanned s) (some : 1 ≤ limit) (few : limit ≤ MOST_CLASSES)
     (filled : IsFilled (span_waste s.counts s.step) (places s.counts s.step) limit rows ends) where

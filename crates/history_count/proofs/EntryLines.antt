@@ -1,7 +1,6 @@
 -- The line of an entry: the entry is read from it, and from no other line.
-use Rattle.std.proofs.Common.{◌≡◌, ℕ, ◌≤◌, ◌<◌, ◌^◌, Bool, true, false, List, [], ◌∷◌, length, map, Option, Some, None, Ok, leb, refl, subst, sym, ap, ◌∙◌, arith, codes}
+use Rattle.std.proofs.Common.{◌≡◌, ℕ, ◌≤◌, ◌<◌, ◌^◌, Bool, false, List, [], ◌∷◌, length, map, Option, Some, Ok, refl, sym, ◌∙◌, arith, codes}
 use Rattle.std.specs.Fmt.{decimal}
-use Rattle.std.specs.Str.{bytes_eq}
 use Rattle.std.proofs.lemmas.Bool.{eq-eqb, le-leb, leb-true}
 use Rattle.std.proofs.lemmas.Slice.Eq.{bytes_eq-Decides}
 use Rattle.class_table.specs.NamedLines.{named_line, numbers_in, numbers_of}
@@ -11,7 +10,7 @@ use Rattle.line_text.specs.Lines.{IsFullLine, words}
 use Rattle.line_text.specs.Numbers.{number_of}
 use Rattle.line_text.proofs.LawLemmas.{text_laws as laws}
 use Rattle.profile_count.proofs.LawLemmas.{number_is_not_large}
-use Rattle.history_count.specs.HistoryText.{Entry, entry_of, entry_with_numbers, size_of, subject_of}
+use Rattle.history_count.specs.HistoryText.{Entry, entry_of, entry_with_numbers, subject_of}
 use Rattle.history_count.specs.declared.line.Subject.{Subject}
 use Rattle.history_count.specs.declared.line.Subject.TheVariants.{Large, Size}
 use Rattle.history_count.proofs.Entries.{IsGood, entry_with-good, few-from_all}
@@ -90,20 +89,8 @@ record IsFirst (first : List ℕ) (subject : Subject) : Type 0 where
   may_come : IsSubject subject
   spelled : first ≡ first_word subject
 
-same_subject : (a b : Subject) → Some a ≡ Some b → a ≡ b
-same_subject a b e = cc
-
-size_read : (first : List ℕ) (o : Option ℕ) (subject : Subject) → number_of first ≡ o → size_of o ≡ Some subject → IsFirst first subject
-size_read first o subject is also = grind (arith, leb, leb-true, same_subject, laws)
-
 subject_read : (first : List ℕ) (subject : Subject) → subject_of first ≡ Some subject → IsFirst first subject
-subject_read first subject e = go (bytes_eq first (codes "large")) refl
-  where
-    go : (named : Bool) → bytes_eq first (codes "large") ≡ named → IsFirst first subject
-    go true f =
-        let same : Large ≡ subject = same_subject Large subject (rw f at e) in
-        rw (← same) (record { may_come = tt; spelled = (bytes_eq-Decides first (codes "large")).0 f })
-    go false f = size_read first (number_of first) subject refl (rw f at e)
+subject_read first subject e = grind (arith, bytes_eq-Decides, leb-true, laws.spelled)
 
 -- A line that is read as an entry is its line; no `large` line came before it.
 pub record IsReadEntry (count next : ℕ) (is_ended : Bool) (line : List ℕ) (entry : Entry) : Type 0 where
@@ -111,34 +98,23 @@ pub record IsReadEntry (count next : ℕ) (is_ended : Bool) (line : List ℕ) (e
   pub next_is : IsNext count next entry
   pub spelled : line ≡ entry_line entry
 
+numbers-read : (count next : ℕ) (line first : List ℕ) (ws : List (List ℕ)) (subject : Subject) (counts : List ℕ) (entry : Entry) → words line ≡ first ∷ ws → subject_of first ≡ Some subject
+    → numbers_of ws ≡ Some counts → entry_with_numbers count next (Some subject) (Some counts) ≡ Ok entry
+    → IsReadEntry count next false line entry
+numbers-read count next line first ws subject counts entry parts f g e =
+    let good = entry_with-good count next subject counts entry e in
+    let read = subject_read first subject f in
+    grind (arith, numbers_after first line ws parts, counts-small count next entry, line_of_read_numbers first line counts)
+
 pub entry_line-read : (count next : ℕ) (is_ended : Bool) (line : List ℕ) (entry : Entry)
     → entry_of count next is_ended (words line) ≡ Ok entry → IsReadEntry count next is_ended line entry
-entry_line-read count next is_ended line entry e = go (words line) refl e
+entry_line-read count next is_ended line entry e = go (words line) refl
   where
-    after : (first : List ℕ) (ws : List (List ℕ)) → words line ≡ first ∷ ws → (o : Option Subject) → subject_of first ≡ o
-        → (p : Option (List ℕ)) → numbers_of ws ≡ p → entry_with_numbers count next o p ≡ Ok entry
-        → IsReadEntry count next false line entry
-    after first ws parts None f p g e = absurd cc
-    after first ws parts (Some subject) f None g e = absurd cc
-    after first ws parts (Some subject) f (Some counts) g e =
-        let good = entry_with-good count next subject counts entry e in
-        let read = subject_read first subject f in
-        let is : Entry = record { subject = subject; counts = counts } in
-        let next_is : IsNext count next entry =
-        record { subject = subst IsSubject (ap (λ (x : Entry). x.subject) good.0) read.may_come; good = good.1 } in
-        let few : AreSmall counts = subst AreSmall (ap (λ (x : Entry). x.counts) (sym good.0)) (counts-small count next entry next_is) in
-        let numbers : numbers_in first line ≡ Some counts = numbers_after first line ws parts ∙ g in
-        record {
-          open_still = refl;
-          next_is = next_is;
-          spelled = line_of_read_numbers first line counts numbers few ∙ ap (λ name. named_line name counts) read.spelled
-              ∙ ap entry_line good.0;
-        }
-
-    go : (ws : List (List ℕ)) → words line ≡ ws → entry_of count next is_ended ws ≡ Ok entry → IsReadEntry count next is_ended line entry
-    go [] parts e = absurd cc
-    go (first ∷ ws) parts e = ended is_ended refl
+    go : (ws : List (List ℕ)) → words line ≡ ws → IsReadEntry count next is_ended line entry
+    go [] parts = let none = rw parts at e in absurd cc
+    go (first ∷ ws) parts = by_numbers (subject_of first) refl (numbers_of ws) refl
       where
-        ended : (b : Bool) → is_ended ≡ b → IsReadEntry count next is_ended line entry
-        ended true f = let none = rw f at e in absurd cc
-        ended false f = rw f (after first ws parts (subject_of first) refl (numbers_of ws) refl (rw f at e))
+        by_numbers : (o : Option Subject) → subject_of first ≡ o → (p : Option (List ℕ)) → numbers_of ws ≡ p
+            → IsReadEntry count next is_ended line entry
+        by_numbers (Some subject) f (Some counts) g = grind (arith, numbers-read count next line first ws subject counts entry parts f g)
+        by_numbers o f p g = grind arith

@@ -1,15 +1,13 @@
 -- From a text that is read as a history to its spelling: line by line, the rest spells what is counted from there on.
 use Rattle.std.proofs.Common.{◌≡◌, ℕ, suc, ◌+◌, ◌-◌, ◌<◌, ◌≤◌, true, List, [], ◌∷◌, ◌++◌, length, Option, Some, None, Result, Ok, Err, codes, leb, refl, subst, ap, ◌∙◌, arith}
-use Rattle.std.specs.Fmt.{decimal}
 use Rattle.std.proofs.lemmas.Bool.{and_parts, leb-true}
 use Rattle.std.proofs.lemmas.Slice.Eq.{bytes_eq-Decides}
-use Rattle.class_table.specs.NamedLines.{named_line}
 use Rattle.class_table.specs.Sizes.{largest_counted}
 use Rattle.line_text.specs.Lines.{IsTextOf, lines, words}
 use Rattle.line_text.proofs.LawLemmas.{text_laws as laws}
 use Rattle.tuner_theory.specs.declared.most_snapshots.TheConstants.{MOST_SNAPSHOTS}
 use Rattle.history_count.specs.Histories.{History, IsHistory, counts_of}
-use Rattle.history_count.specs.HistoryText.{Entry, Reading, SpellsHistory, counts_lines, first_reading, history_after, history_from, history_lines, history_of, history_of_lines, is_some_counted, next_entry, size_lines, snapshots_line, snapshots_of, with_entry}
+use Rattle.history_count.specs.HistoryText.{Entry, Reading, SpellsHistory, counts_lines, first_reading, history_after, history_from, history_lines, history_of, history_of_lines, is_some_counted, next_entry, snapshots_line, snapshots_of, with_entry}
 use Rattle.history_count.specs.declared.fault.HistoryFault.{HistoryFault}
 use Rattle.history_count.specs.declared.line.Subject.{Subject}
 use Rattle.history_count.specs.declared.line.Subject.TheVariants.{Large, Size}
@@ -57,17 +55,7 @@ spells_rest-size r size counts ls h is_open next rest =
     let kept = λ (k : ℕ) (below : k < size). rest.kept k (omega arith) ∙ counts_of-other before size k counts (λ e. omega arith) in
     let passed = size_lines-passed h.snapshots r.next size order (omega (arith, next.subject))
     (λ k from below. ap is_some_counted (kept k below) ∙ is_open.none k from) in
-    let more : largest_counted + 1 - size ≡ suc (largest_counted + 1 - suc size) = omega (arith, next.subject) in
-    let counted = size_lines-counted h.snapshots size (largest_counted + 1 - suc size) (ap is_some_counted here ∙ next.good.some) in
-    let front : size_lines_from h.snapshots r.next ≡ named_line (decimal size) counts ∷ size_lines_from h.snapshots (suc size) =
-    passed ∙ ap (size_lines h.snapshots size) more ∙ counted
-    ∙ ap (λ ns. named_line (decimal size) ns ∷ size_lines_from h.snapshots (suc size)) here in
-    record {
-      is_history = rest.is_history;
-      size = rest.size ∙ with_counts-length before size counts;
-      kept = λ k below. kept k (omega (arith, order));
-      spelled = rw (front, rest.spelled) refl;
-    }
+    grind (arith, size_lines-counted h.snapshots size (largest_counted + 1 - suc size), with_counts-length)
 
 -- ---- all lines
 

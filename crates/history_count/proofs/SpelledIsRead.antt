@@ -1,7 +1,7 @@
 -- From the spelling of a history to the history that is read: size by size, the counts so far are the history's.
-use Rattle.std.proofs.Common.{◌≡◌, ℕ, zero, suc, ◌+◌, ◌<◌, ◌≤◌, ◌^◌, Bool, true, false, List, [], ◌∷◌, ◌++◌, length, Some, Ok, codes, refl, sym, ap, ◌∙◌, arith, inl, inr}
+use Rattle.std.proofs.Common.{◌≡◌, ℕ, zero, suc, ◌+◌, ◌<◌, ◌≤◌, ◌^◌, Bool, true, false, List, [], ◌∷◌, ◌++◌, length, Some, Ok, codes, refl, sym, ap, ◌∙◌, arith}
 use Rattle.std.specs.Prelude.{All}
-use Rattle.std.proofs.lemmas.Bool.{cases_eq, le-leb}
+use Rattle.std.proofs.lemmas.Bool.{le-leb}
 use Rattle.std.proofs.lemmas.List.Elements.{All-append, All-cons, All-nil}
 use Rattle.class_table.specs.Sizes.{largest_counted}
 use Rattle.class_table.proofs.LawLemmas.{named_line_is_full, plain_name, words_of_named_line}
@@ -40,18 +40,10 @@ history_from-large_lines number r h is_open is_history same = go (is_some_counte
   where
     go : (counted : Bool) → is_some_counted h.large ≡ counted → history_from number r (counts_lines (codes "large") h.large) ≡ Ok h
     go false none =
-        let size : length r.history.large ≡ length h.large =
-        ap length is_open.large ∙ length-zeros (length r.history.snapshots) ∙ ap length same ∙ sym is_history.large_size in
-        let nothing : is_some_counted r.history.large ≡ false = rw is_open.large (zeros-none (length r.history.snapshots)) in
-        let large : r.history.large ≡ h.large = same_nothing r.history.large h.large size nothing none in
-        rw (counts_lines-none (codes "large") h.large none)
-        (no_line number r [] refl ∙ ap Ok (rw (same, large) refl))
+        let large : r.history.large ≡ h.large = grind (arith, same_nothing, length-zeros, zeros-none) in
+        grind (arith, counts_lines-none, no_line)
     go true some =
-        let next : IsNext (length r.history.snapshots) r.next (large_entry h.large) =
-        record {
-          subject = tt;
-          good = record { size = is_history.large_size ∙ ap length (sym same); order = refl; few = is_history.large; some = some };
-        } in
+        let next : IsNext (length r.history.snapshots) r.next (large_entry h.large) = grind arith in
         rw (counts_lines-some (codes "large") h.large some)
         (history_from-entry_line number r (large_entry h.large) [] is_open.open_still next
         ∙ no_line (number + 1) (with_entry r (large_entry h.large)) [] refl
@@ -77,41 +69,17 @@ history_from-size_lines (suc more) size number r h is_open is_history count all 
         → (counted : Bool) → is_some_counted (counts_of h.snapshots size) ≡ counted
         → history_from number r (size_lines h.snapshots size (suc more) ++ counts_lines (codes "large") h.large) ≡ Ok h
     go others false none =
-        let lengths : length (counts_of r.history.snapshots size) ≡ length (counts_of h.snapshots size) =
-        counts_of-length r.history.snapshots size ∙ count ∙ sym (counts_of-length h.snapshots size) in
-        let here : counts_of r.history.snapshots size ≡ counts_of h.snapshots size =
-        same_nothing (counts_of r.history.snapshots size) (counts_of h.snapshots size) lengths (is_open.none size next) none in
+        let here : counts_of r.history.snapshots size ≡ counts_of h.snapshots size = grind (arith, same_nothing, counts_of-length, is_open.none size next) in
         rw (size_lines-zero h.snapshots size more none)
-        (others (suc size) number r h is_open is_history count (omega arith) (omega arith) (λ k below. elim (cases_eq k size) [
-          | inl is ↦ rw is here
-          | inr other ↦ same k (omega arith)
-        ]))
+        (others (suc size) number r h is_open is_history count (omega arith) (omega arith) (λ k below. grind arith))
     go others true some =
-        let counts = counts_of h.snapshots size in
-        let entry = size_entry size counts in
-        let long : length counts ≡ length r.history.snapshots = counts_of-length h.snapshots size ∙ sym count in
-        let small : size ≤ largest_counted = omega arith in
-        let may_come : IsNext (length r.history.snapshots) r.next entry =
-        record {
-          subject = small;
-          good = record {
-            size = long;
-            order = le-leb r.next size next;
-            few = counts-small h.snapshots size is_history.snapshots.counts;
-            some = some;
-          };
-        } in
-        let before = r.history.snapshots in
-        let agree : (k : ℕ) → k < suc size → counts_of (with_entry r entry).history.snapshots k ≡ counts_of h.snapshots k =
-        λ k below. elim (cases_eq k size) [
-          | inl is ↦ rw is (counts_of-same before size counts is_open.snapshots.counts small long)
-          | inr other ↦ counts_of-other before size k counts other ∙ same k (omega arith)
-        ] in
+        let entry = size_entry size (counts_of h.snapshots size) in
+        let may_come : IsNext (length r.history.snapshots) r.next entry = grind (arith, counts_of-length, le-leb, counts-small h.snapshots size is_history.snapshots.counts) in
         rw (size_lines-counted h.snapshots size more some)
         (history_from-entry_line number r entry (size_lines h.snapshots (suc size) more ++ counts_lines (codes "large") h.large)
         is_open.open_still may_come
-        ∙ others (suc size) (number + 1) (with_entry r entry) h (is_open-size r size counts is_open may_come) is_history
-        (with_counts-length before size counts ∙ count) (omega arith) (omega arith) agree)
+        ∙ others (suc size) (number + 1) (with_entry r entry) h (is_open-size r size (counts_of h.snapshots size) is_open may_come) is_history
+        (with_counts-length r.history.snapshots size (counts_of h.snapshots size) ∙ count) (omega arith) (omega arith) (λ k below. grind (arith, counts_of-same, counts_of-other, counts_of-length)))
 
 -- ---- the lines of a history are lines, and not empty
 
@@ -119,38 +87,18 @@ size_lines-full : (snapshots : List (List ℕ)) (more size : ℕ) → size + mor
     → All IsFullLine (size_lines snapshots size more)
 unfolding size_lines
 size_lines-full snapshots zero size within are = All-nil IsFullLine
-size_lines-full snapshots (suc more) size within are = go (size_lines-full snapshots more) (is_some_counted (counts_of snapshots size)) refl
+size_lines-full snapshots (suc more) size within are = go (is_some_counted (counts_of snapshots size)) refl (size_lines-full snapshots more (suc size) (omega arith) are)
   where
-    go : ((size : ℕ) → size + more ≤ largest_counted + 1 → All AreCounts snapshots → All IsFullLine (size_lines snapshots size more))
-        → (counted : Bool) → is_some_counted (counts_of snapshots size) ≡ counted → All IsFullLine (size_lines snapshots size (suc more))
-    go others false none = rw (size_lines-zero snapshots size more none) (others (suc size) (omega arith) are)
-    go others true some =
-        let counts = counts_of snapshots size in
-        let next : IsNext (length snapshots) 0 (size_entry size counts) =
-        record {
-          subject = omega arith;
-          good = record {
-            size = counts_of-length snapshots size;
-            order = le-leb 0 size (omega arith);
-            few = counts-small snapshots size are;
-            some = some;
-          };
-        } in
-        rw (size_lines-counted snapshots size more some)
-        (All-cons IsFullLine (entry_line (size_entry size counts)) (size_lines snapshots (suc size) more)
-        (entry_line-full (length snapshots) 0 (size_entry size counts) next) (others (suc size) (omega arith) are))
+    go : (counted : Bool) → is_some_counted (counts_of snapshots size) ≡ counted → All IsFullLine (size_lines snapshots (suc size) more) → All IsFullLine (size_lines snapshots size (suc more))
+    go false none rest = rw (size_lines-zero snapshots size more none) rest
+    go true some rest =
+        let next : IsNext (length snapshots) 0 (size_entry size (counts_of snapshots size)) =
+        grind (arith, counts_of-length, le-leb, counts-small snapshots size are) in
+        rw (size_lines-counted snapshots size more some) (All-cons IsFullLine _ _ (entry_line-full (length snapshots) 0 (size_entry size (counts_of snapshots size)) next) rest)
 
 large_lines-full : (h : History) → IsHistory h → All IsFullLine (counts_lines (codes "large") h.large)
-large_lines-full h is = go (is_some_counted h.large) refl
-  where
-    go : (counted : Bool) → is_some_counted h.large ≡ counted → All IsFullLine (counts_lines (codes "large") h.large)
-    go false none = rw (counts_lines-none (codes "large") h.large none) (All-nil IsFullLine)
-    go true some =
-        let next : IsNext (length h.snapshots) 0 (large_entry h.large) =
-        record { subject = tt; good = record { size = is.large_size; order = refl; few = is.large; some = some } } in
-        rw (counts_lines-some (codes "large") h.large some)
-        (All-cons IsFullLine (entry_line (large_entry h.large)) [] (entry_line-full (length h.snapshots) 0 (large_entry h.large) next)
-        (All-nil IsFullLine))
+large_lines-full h is =
+    grind (arith, counts_lines-none, counts_lines-some, All-cons IsFullLine, All-nil IsFullLine, entry_line-full (length h.snapshots) 0 (large_entry h.large))
 
 -- ---- the first line
 

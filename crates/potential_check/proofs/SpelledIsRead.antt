@@ -1,5 +1,5 @@
 -- The text of a sheet or a fit is read as that, line by line.
-use Rattle.std.proofs.Common.{◌≡◌, add-one, ℕ, zero, suc, ◌+◌, ◌<◌, ◌≤◌, ◌^◌, List, [], ◌∷◌, ◌++◌, length, map, Option, Some, Ok, refl, ap, ◌∙◌, arith, codes, ne_eqb, inl, inr}
+use Rattle.std.proofs.Common.{◌≡◌, ℕ, zero, suc, ◌<◌, ◌≤◌, ◌^◌, List, [], ◌∷◌, ◌++◌, length, map, Some, Ok, refl, arith, codes, ne_eqb, inl, inr}
 use Rattle.std.specs.Prelude.{All}
 use Rattle.std.proofs.lemmas.Bool.{cases_eq}
 use Rattle.std.proofs.lemmas.List.Elements.{All-nil, All-cons, All-head, All-tail, All-append}
@@ -9,11 +9,9 @@ use Rattle.class_table.proofs.LawLemmas.{class_line_is_full, named_line_is_full,
 use Rattle.line_text.specs.Lines.{IsFullLine, lines}
 use Rattle.line_text.proofs.LawLemmas.{text_laws as laws}
 use Rattle.class_table.specs.declared.table.TheConstants.{MOST_CLASSES}
-use Rattle.potential_check.specs.SheetText.{IsRow, IsWithinLimits, SpellsBy, cost_in, cost_number, head_of_lines, limit_in, line_at, lines_by, read_by, rows_from, step_at, step_lines, table_in, with_rows, word_of}
+use Rattle.potential_check.specs.SheetText.{IsRow, IsWithinLimits, SpellsBy, cost_number, head_of_lines, lines_by, read_by, rows_from, step_at, step_lines, word_of}
 use Rattle.potential_check.specs.declared.cost.Cost.{Cost}
 use Rattle.class_table.specs.NamedLines.{named_line}
-use Rattle.potential_check.specs.declared.reading.Head.{Head}
-use Rattle.potential_check.proofs.HeadLines.{all_read}
 use Rattle.potential_check.proofs.SheetLines.{cost-not_step, cost_in-line, limit_in-line, names, one_small, row_in-line, step_in-line, step_small, table_in-line}
 use Rattle.tuner_theory.specs.Sheets.{Sheet}
 
@@ -22,9 +20,10 @@ use Rattle.tuner_theory.specs.Sheets.{Sheet}
 rows-full : (rows : List (List ℕ)) → All IsRow rows → All IsFullLine (map (named_line (codes "row")) rows)
 rows-full [] all = All-nil IsFullLine
 rows-full (row ∷ rows) all =
-    All-cons IsFullLine (named_line (codes "row") row) (map (named_line (codes "row")) rows)
-    (named_line_is_full (codes "row") row names.row (All-head IsRow row rows all).1)
-    (rows-full rows (All-tail IsRow row rows all))
+    let is = All-head IsRow row rows all in
+    let rest = rows-full rows (All-tail IsRow row rows all) in
+    let line = named_line_is_full (codes "row") row names.row is.1 in
+    grind (arith, All-cons)
 
 step_lines-full : (step : ℕ) → IsStep step → All IsFullLine (step_lines step)
 step_lines-full step is_step = elim (cases_eq step 1) [
@@ -49,10 +48,6 @@ lines-full cost s within =
 
 -- ---- they are read one after the other
 
-read_at : {A : Type 0} (number : ℕ) (reading : List ℕ → Option A) (line : List ℕ) (ls : List (List ℕ)) (x : A) → reading line ≡ Some x →
-    line_at number reading (line ∷ ls) ≡ Ok (x, ls)
-read_at number reading line ls x e = rw e refl
-
 step_at-lines : (cost : Cost) (step stated : ℕ) (ls : List (List ℕ)) → IsStep step → stated < 2 ^ 64
     → step_at (step_lines step ++ named_line (word_of cost) (stated ∷ []) ∷ ls) ≡ Some (step, named_line (word_of cost) (stated ∷ []) ∷ ls)
 step_at-lines cost step stated ls is_step small = grind (arith, cases_eq, cost-not_step, ne_eqb, step_in-line, words_of_named_line, names, one_small, step_small)
@@ -62,26 +57,12 @@ rows_from-lines : (rows : List (List ℕ)) (number most : ℕ) → length rows �
 unfolding rows_from
 rows_from-lines [] number most few all = refl
 rows_from-lines (row ∷ rows) number zero few all = absurd (omega arith)
-rows_from-lines (row ∷ rows) number (suc most) few all =
-    rw (row_in-line row (All-head IsRow row rows all), rows_from-lines rows (suc number) most (omega arith) (All-tail IsRow row rows all))
-    refl
-
--- the rows after a head are read
-read_on : (cost : Cost) (ls after : List (List ℕ)) (head : Head) (rows : List (List ℕ)) → head_of_lines cost ls ≡ Ok (head, after)
-    → rows_from (cost_number head.step + 1) MOST_CLASSES after ≡ Ok rows → read_by cost ls ≡ Ok (with_rows head rows)
-unfolding read_by
-read_on cost ls after head rows is_head is_rows = rw (is_head, ← add-one (cost_number head.step), is_rows) refl
+rows_from-lines (row ∷ rows) number (suc most) few all = grind (arith, row_in-line, All-head IsRow row rows all, rows_from-lines rows (suc number) most (omega arith) (All-tail IsRow row rows all))
 
 -- The text of what is within the limits is read as that.
 pub spelled_is_read : (cost : Cost) (text : List ℕ) (s : Sheet) → SpellsBy cost text s → read_by cost (lines text) ≡ Ok s
+unfolding read_by head_of_lines
 spelled_is_read cost text s spells =
     let within = spells.limits in
-    let is : lines text ≡ lines_by cost s = laws.full_lines (lines_by cost s) text (lines-full cost s within) spells.spelled in
-    let table = read_at 1 table_in (class_line s.table) _ s.table (table_in-line s.table within.table) in
-    let limit = read_at 2 limit_in (named_line (codes "limit") (s.limit ∷ [])) _ s.limit (limit_in-line s.limit within.limit) in
-    let step = step_at-lines cost s.step s.waste (map (named_line (codes "row")) s.rows) within.step within.waste in
-    let stated =
-    read_at (cost_number s.step) (cost_in cost) (named_line (word_of cost) (s.waste ∷ [])) _ s.waste (cost_in-line cost s.waste within.waste)
-    in
-    let rows = rows_from-lines s.rows (cost_number s.step + 1) MOST_CLASSES within.few within.rows in
-    ap (read_by cost) is ∙ read_on cost _ _ _ s.rows (all_read cost _ _ _ table _ _ limit _ _ step _ _ stated) rows
+    rw (laws.full_lines (lines_by cost s) text (lines-full cost s within) spells.spelled)
+    (rw (table_in-line s.table within.table, limit_in-line s.limit within.limit, step_at-lines cost s.step s.waste (map (named_line (codes "row")) s.rows) within.step within.waste, cost_in-line cost s.waste within.waste, rows_from-lines s.rows (suc (cost_number s.step)) MOST_CLASSES within.few within.rows) refl)
