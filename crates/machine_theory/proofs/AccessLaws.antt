@@ -1,5 +1,5 @@
 -- Which accesses are faults, and which granule a tag fault names.
-use Rattle.std.proofs.Common.{◌≡◌, ◌≢◌, ◌⊎◌, ℕ, zero, suc, ◌+◌, ◌-◌, ◌*◌, ◌<◌, ◌≤◌, Bool, true, false, not, cond, List, length, refl, sym, ap, ◌∙◌, subst, inl, inr, arith, Some, None, Option}
+use Rattle.std.proofs.Common.{◌≡◌, ◌≢◌, ◌⊎◌, ℕ, zero, suc, ◌+◌, ◌-◌, ◌*◌, ◌<◌, ◌≤◌, Bool, true, false, not, cond, List, length, refl, ap, ◌∙◌, subst, inl, inr, arith, Some, None, Option}
 use Rattle.std.specs.List.{find, range_with_len}
 use Rattle.std.specs.Prelude.{◌==◌, ◌↔◌, IsSome, IsTrue, option_map}
 use Rattle.std.proofs.lemmas.Bool.{cases_Bool, false_from_ne_true, iff_false, cond-true, cond-false, eqb-true, eqb-false, cases_lt, not-true, not-false, and_parts, and_from, ltb-true, leb-true, lt-ltb, le-leb}
@@ -15,18 +15,10 @@ module _ (p : ℕ → Bool) where
       (a ≤ g) × (g < a + n) × (p g ≡ true) × ((k : ℕ) → a ≤ k → k < g → p k ≡ false)
   found zero a g e = cc
   found (suc n) a g e = elim (cases_Bool (p a)) [
-    | inl t ↦ let first : Some a ≡ Some g = subst (λ b. cond b (Some a) (find p (range_with_len (a + 1) n)) ≡ Some g) t e in
-        let same : a ≡ g = cc in (omega arith, omega arith, subst (λ x. p x ≡ true) same t, λ k from h. absurd (omega arith))
+    | inl t ↦ grind arith
     | inr f ↦
-        let r = found n (a + 1) g (subst (λ b. cond b (Some a) (find p (range_with_len (a + 1) n)) ≡ Some g) f e) in (
-          omega (arith, r.0),
-          omega (arith, r.1),
-          r.2,
-          λ k from h. elim (cases_lt a k) [
-            | inl later ↦ r.3 k (omega arith) h
-            | inr here ↦ subst (λ x. p x ≡ false) (omega arith) f
-          ],
-        )
+        let r = found n (a + 1) g (subst (λ b. cond b (Some a) (find p (range_with_len (a + 1) n)) ≡ Some g) f e) in
+        grind (arith, cases_lt)
   ]
 
   none_found : (n a : ℕ) → find p (range_with_len a n) ≡ None → (k : ℕ) → a ≤ k → k < a + n → p k ≡ false
@@ -41,14 +33,10 @@ module _ (p : ℕ → Bool) where
   ]
 
 pub IsMapped-from : (granules address len : ℕ) → is_mapped granules address len ≡ true → IsMapped granules address len
-IsMapped-from granules address len e =
-    let outer = and_parts _ _ e in
-    let inner = and_parts _ _ outer.0 in
-    record { plain = ltb-true _ _ inner.0; from = leb-true _ _ inner.1; to = leb-true _ _ outer.1 }
+IsMapped-from granules address len e = grind (arith, and_parts, ltb-true, leb-true)
 
 is_mapped-from : (granules address len : ℕ) → IsMapped granules address len → is_mapped granules address len ≡ true
-is_mapped-from granules address len m =
-    and_from _ _ (and_from _ _ (lt-ltb _ _ m.plain) (le-leb _ _ m.from)) (le-leb _ _ m.to)
+is_mapped-from granules address len m = grind (arith, and_from, lt-ltb, le-leb)
 
 pub mapped_test : (granules address len : ℕ) → IsTrue (is_mapped granules address len) ↔ IsMapped granules address len
 mapped_test granules address len = (IsMapped-from granules address len, is_mapped-from granules address len)
@@ -117,60 +105,28 @@ told memory address len some = elim (cases_Bool (is_mapped (length memory) addre
 pub touch_faults : (memory : List Granule) (address len g : ℕ) → Touches address len g → tag_at memory g ≢ logical_tag address →
     IsSome (access_fault memory address len)
 unfolding IsTold
-touch_faults memory address len g touches differs = elim (told memory address len (omega (arith, touches.1))) [
-  | inl t ↦ subst IsSome (sym t.1) refl
-  | inr (inl t) ↦ subst IsSome (sym t.2) refl
-  | inr (inr t) ↦ absurd (differs (t.0 g touches))
-]
+touch_faults memory address len g touches differs = grind (arith, told)
 
 -- a mapped access all of whose granules have the pointer's tag succeeds
 pub inside_succeeds : (memory : List Granule) (address len : ℕ) → 0 < len → IsMapped (length memory) address len →
     ((g : ℕ) → Touches address len g → tag_at memory g ≡ logical_tag address) → access_fault memory address len ≡ None
 unfolding IsTold
-inside_succeeds memory address len some mapped each = elim (told memory address len some) [
-  | inl t ↦ absurd (t.0 mapped)
-  | inr (inl t) ↦ absurd (t.1.differs (each t.0 t.1.touches))
-  | inr (inr t) ↦ t.1
-]
+inside_succeeds memory address len some mapped each = grind (arith, told)
 
 pub unmapped_is : (memory : List Granule) (address len : ℕ) → (IsMapped (length memory) address len → ⊥) →
     access_fault memory address len ≡ Some Unmapped
 unfolding access_fault
-unmapped_is memory address len never =
-    cond-false (is_mapped (length memory) address len) _ _
-    (false_from_ne_true _ (λ t. never (IsMapped-from (length memory) address len t)))
+unmapped_is memory address len never = grind (arith, cond-false, false_from_ne_true, IsMapped-from)
 
 pub tag_fault_names : (memory : List Granule) (address len g memory_tag pointer_tag : ℕ) → 0 < len →
     (access_fault memory address len ≡ Some (TagCheck g memory_tag pointer_tag)) ↔ IsTagFault memory address len g memory_tag pointer_tag
 unfolding IsTold
-tag_fault_names memory address len g m p some = elim (told memory address len some) [
-  | inl t ↦ (λ e. let clash = sym t.1 ∙ e in cc, λ f. absurd (t.0 f.mapped))
-  | inr (inr t) ↦ (λ e. let clash = sym t.1 ∙ e in cc, λ f. absurd (f.differs (f.memory_tag_is ∙ t.0 g f.touches ∙ sym f.pointer_tag_is)))
-  | inr (inl t) ↦ (λ e. renamed (sym t.2 ∙ e) t.1, λ f. t.2 ∙ same f t.1)
-]
-  where
-    renamed : {a b c : ℕ} → Some (TagCheck a b c) ≡ Some (TagCheck g m p) → IsTagFault memory address len a b c →
-        IsTagFault memory address len g m p
-    renamed {a} {b} {c} e t =
-        let one : a ≡ g = cc in let two : b ≡ m = cc in let three : c ≡ p = cc in
-        subst (λ x. IsTagFault memory address len g m x) three
-        (subst (λ x. IsTagFault memory address len g x c) two (subst (λ x. IsTagFault memory address len x b c) one t))
-
-    same : {k : ℕ} → IsTagFault memory address len g m p → IsTagFault memory address len k (tag_at memory k) (logical_tag address) →
-        Some (TagCheck k (tag_at memory k) (logical_tag address)) ≡ Some (TagCheck g m p)
-    same {k} f t =
-        let low : k ≤ g = t.least g f.touches (λ e. f.differs (f.memory_tag_is ∙ e ∙ sym f.pointer_tag_is)) in
-        let high : g ≤ k = f.least k t.touches t.differs in
-        let here : k ≡ g = omega arith in
-        λ i. Some (TagCheck (here i) ((ap (tag_at memory) here ∙ sym f.memory_tag_is) i) (sym f.pointer_tag_is i))
+tag_fault_names memory address len g m p some = grind (arith, told)
 
 -- an access sees the length and the tags alone
 pub access_fault_same : (memory other : List Granule) (address len : ℕ) → length other ≡ length memory →
     ((g : ℕ) → tag_at other g ≡ tag_at memory g) → access_fault other address len ≡ access_fault memory address len
 unfolding access_fault
-access_fault_same memory other address len long same =
-    λ i. cond (is_mapped (long i) address len)
-    (option_map (λ g. TagCheck g (same g i) (logical_tag address))
-    (find (λ g. not (same g i == logical_tag address)) (touched address len))) (Some Unmapped)
+access_fault_same memory other address len long same = grind arith
 
 pub ruleset access_laws = (unmapped_is, touch_faults, inside_succeeds, access_fault_same)

@@ -1,5 +1,5 @@
 -- Addresses: their tags and places, and what a short move leaves of them.
-use Rattle.std.proofs.Common.{◌≡◌, ℕ, ◌+◌, ◌<◌, ◌≤◌, ◌^◌, ℤ, pos, negsuc, arith}
+use Rattle.std.proofs.Common.{◌≡◌, ℕ, ◌+◌, ◌<◌, ◌≤◌, ◌^◌, ℤ, arith}
 use Rattle.std.specs.Prelude.{nat_abs}
 use Rattle.machine_theory.specs.Address.{Holds, logical_tag, moved_by, place_of, region_start, with_tag}
 
@@ -20,16 +20,13 @@ one_granule g k place a b = omega (arith, a.from, a.to, b.from, b.to)
 pub moved_tag : (address : ℕ) (offset : ℤ) (i : ℕ) → nat_abs offset ≤ 2 ^ 20 → i < 64 →
     region_start ≤ place_of (moved_by address offset) + i → place_of (moved_by address offset) < 2 ^ 37 →
     logical_tag (moved_by address offset) ≡ logical_tag address
-moved_tag address (pos n) i near few from to = omega (arith, near, few, from, to)
-moved_tag address (negsuc n) i near few from to = omega (arith, near, few, from, to)
+moved_tag address offset i near few from to = grind arith
 
 pub moved_plain : (address : ℕ) (offset : ℤ) → nat_abs offset ≤ 2 ^ 20 → address < 2 ^ 60 →
     region_start ≤ place_of (moved_by address offset) → place_of (moved_by address offset) < 2 ^ 37 → moved_by address offset < 2 ^ 60
-moved_plain address (pos n) near plain from to = omega (arith, near, plain, from, to)
-moved_plain address (negsuc n) near plain from to = omega (arith, near, plain, from, to)
+moved_plain address offset near plain from to = grind arith
 
 -- null is moved to no such place
 pub moved_null : (offset : ℤ) (i : ℕ) → nat_abs offset ≤ 2 ^ 20 → i < 64 →
     region_start ≤ place_of (moved_by 0 offset) + i → place_of (moved_by 0 offset) < 2 ^ 37 → ⊥
-moved_null (pos n) i near few from to = omega (arith, near, few, from, to)
-moved_null (negsuc n) i near few from to = omega (arith, near, few, from, to)
+moved_null offset i near few from to = grind arith

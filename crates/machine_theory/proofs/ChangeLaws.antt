@@ -1,5 +1,5 @@
 -- Changes of the memory, one after another.
-use Rattle.std.proofs.Common.{◌≡◌, ℕ, ◌+◌, ◌-◌, ◌*◌, ◌<◌, ◌≤◌, false, List, [], ◌++◌, map, length, get_or, refl, sym, ap, ◌∙◌, subst, inl, inr, ⊎_elim, arith, ◌⊎◌}
+use Rattle.std.proofs.Common.{◌≡◌, ℕ, ◌+◌, ◌-◌, ◌*◌, ◌<◌, ◌≤◌, false, List, [], ◌++◌, map, length, get_or, refl, sym, ◌∙◌, arith, ◌⊎◌}
 use Rattle.std.specs.Prelude.{slice_index}
 use Rattle.std.specs.List.{range_with_len}
 use Rattle.std.proofs.lemmas.List.{length-append, get_or_append_left, get_or-append_right}
@@ -25,8 +25,7 @@ unfolding each_granule
 each_granule_twice f g memory =
     fill_by_all (λ i. f i (g i (granule_at memory i))) (each_granule f (each_granule g memory)) (length memory) no_granule
     (length-each_granule f (each_granule g memory) ∙ length-each_granule g memory)
-    (λ k h. granule_at-each_granule f (each_granule g memory) k (subst (λ n. k < n) (sym (length-each_granule g memory)) h)
-    ∙ ap (f k) (granule_at-each_granule g memory k h))
+    (grind (arith, granule_at-each_granule, length-each_granule))
 
 -- two changes of the memory may be made in either order
 pub each_granule_either : (f g : ℕ → Granule → Granule) (memory : List Granule) → ((i : ℕ) (x : Granule) → f i (g i x) ≡ g i (f i x)) →
@@ -64,35 +63,16 @@ length-bytes_after i new g bytes = length-map-range_with_len (λ k. byte_after i
 
 pub byte-bytes_after : (i : ℕ) (new : List ℕ) (g : ℕ) (bytes : List ℕ) (k : ℕ) → k < length bytes →
     get_or (bytes_after i new g bytes) k 0 ≡ byte_after i new (16 * g + k) (get_or bytes k 0)
-byte-bytes_after i new g bytes k h =
-    get_or-map-range_with_len (λ k. byte_after i new (16 * g + k) (slice_index bytes k)) 0 (length bytes) k k 0 h (omega arith)
+byte-bytes_after i new g bytes k h = grind (arith, get_or-map-range_with_len)
 
 pub byte_after-inside : (i : ℕ) (new : List ℕ) (j old : ℕ) → i ≤ j → j < i + length new → byte_after i new j old ≡ get_or new (j - i) 0
-byte_after-inside i new j old from to =
-    cond-true (is_among i (length new) j) (slice_index new (j - i)) old (and_from _ _ (le-leb _ _ from) (lt-ltb _ _ to))
+byte_after-inside i new j old from to = grind (arith, cond-true, and_from, le-leb, lt-ltb)
 
 pub byte_after-outside : (i : ℕ) (new : List ℕ) (j old : ℕ) → (j < i) ⊎ (i + length new ≤ j) → byte_after i new j old ≡ old
-byte_after-outside i new j old out = cond-false (is_among i (length new) j) (slice_index new (j - i)) old
-    (⊎_elim (λ h. and_left _ _ (lt-leb _ _ h)) (λ h. and_right _ _ (le-ltb _ _ h)) out)
+byte_after-outside i new j old out = grind (arith, cond-false, and_left, lt-leb, and_right, le-ltb)
 
 byte_after-append : (i : ℕ) (a b : List ℕ) (j old : ℕ) → byte_after (i + length a) b j (byte_after i a j old) ≡ byte_after i (a ++ b) j old
-byte_after-append i a b j old =
-    let long : length (a ++ b) ≡ length a + length b = length-append a b in
-    elim (cases_lt j i) [
-      | inl before ↦ byte_after-outside (i + length a) b j (byte_after i a j old) (inl (omega arith))
-          ∙ byte_after-outside i a j old (inl before) ∙ sym (byte_after-outside i (a ++ b) j old (inl before))
-      | inr from ↦ elim (cases_lt j (i + length a)) [
-        | inl first ↦ byte_after-outside (i + length a) b j (byte_after i a j old) (inl first) ∙ byte_after-inside i a j old from first
-            ∙ sym (get_or_append_left a b 0 (j - i) (omega arith)) ∙ sym (byte_after-inside i (a ++ b) j old from (omega arith))
-        | inr second ↦ elim (cases_lt j (i + length a + length b)) [
-          | inl within ↦ byte_after-inside (i + length a) b j (byte_after i a j old) second within
-              ∙ ap (λ k. get_or b k 0) (omega arith) ∙ sym (get_or-append_right a b (length a) (j - i) 0 refl (omega arith))
-              ∙ sym (byte_after-inside i (a ++ b) j old from (omega arith))
-          | inr after ↦ byte_after-outside (i + length a) b j (byte_after i a j old) (inr after) ∙ byte_after-outside i a j old (inr second)
-              ∙ sym (byte_after-outside i (a ++ b) j old (inr (omega arith)))
-        ]
-      ]
-    ]
+byte_after-append i a b j old = grind (arith, length-append, cases_lt, byte_after-outside, byte_after-inside, get_or_append_left, get_or-append_right)
 
 bytes_after-append : (i : ℕ) (a b : List ℕ) (g : ℕ) (bytes : List ℕ) →
     bytes_after (i + length a) b g (bytes_after i a g bytes) ≡ bytes_after i (a ++ b) g bytes
@@ -100,16 +80,10 @@ bytes_after-append i a b g bytes =
     fill_by_all (λ k. byte_after i (a ++ b) (16 * g + k) (slice_index bytes k)) (bytes_after (i + length a) b g (bytes_after i a g bytes))
     (length bytes) 0
     (length-bytes_after (i + length a) b g (bytes_after i a g bytes) ∙ length-bytes_after i a g bytes)
-    (λ k h. byte-bytes_after (i + length a) b g (bytes_after i a g bytes) k (subst (λ n. k < n) (sym (length-bytes_after i a g bytes)) h)
-    ∙ ap (byte_after (i + length a) b (16 * g + k)) (byte-bytes_after i a g bytes k h)
-    ∙ byte_after-append i a b (16 * g + k) (get_or bytes k 0))
+    (grind (arith, byte-bytes_after, length-bytes_after, byte_after-append))
 
 -- bytes that are written in two parts
 pub written-append : (i : ℕ) (a b : List ℕ) (memory : List Granule) →
     written (i + length a) b (written i a memory) ≡ written i (a ++ b) memory
 unfolding written
-written-append i a b memory =
-    each_granule_twice (λ g x. record x { bytes = bytes_after (i + length a) b g x.bytes })
-    (λ g x. record x { bytes = bytes_after i a g x.bytes }) memory
-    ∙ each_granule_agree _ (λ g x. record x { bytes = bytes_after i (a ++ b) g x.bytes }) memory
-    (λ g _. ap (λ bytes. record (granule_at memory g) { bytes = bytes }) (bytes_after-append i a b g (granule_at memory g).bytes))
+written-append i a b memory = grind (arith, each_granule_twice, each_granule_agree, bytes_after-append)

@@ -1,11 +1,11 @@
 -- A changed memory is a memory.
-use Rattle.std.proofs.Common.{ℕ, ◌*◌, ◌+◌, ◌-◌, ◌<◌, ◌≤◌, List, length, get_or, sym, ◌∙◌, subst, arith}
+use Rattle.std.proofs.Common.{ℕ, ◌*◌, ◌+◌, ◌<◌, List, length, get_or, arith}
 use Rattle.std.specs.Prelude.{All, slice_index}
 use Rattle.std.specs.List.{range_with_len}
 use Rattle.std.proofs.lemmas.List.FromFn.{get_or-range_with_len, length-range_with_len}
 use Rattle.std.proofs.lemmas.List.Elements.{All-map}
 use Rattle.std.proofs.lemmas.Bool.{cond_both}
-use Rattle.machine_theory.specs.Memory.{Granule, no_granule, IsGranule, IsMemory, granule_at, each_granule, is_among, byte_after, bytes_after, written}
+use Rattle.machine_theory.specs.Memory.{Granule, IsGranule, IsMemory, granule_at, each_granule, byte_after, bytes_after, written}
 use Rattle.machine_theory.proofs.MemoryLaws.{length-each_granule}
 use Rattle.machine_theory.proofs.ChangeLaws.{length-bytes_after}
 use Rattle.machine_theory.proofs.ByteLaws.{byte_below}
@@ -16,9 +16,7 @@ IsGranule-each : (change : ℕ → Granule → Granule) (memory : List Granule) 
 unfolding each_granule
 IsGranule-each change memory kept each =
     All-map IsGranule (λ g. change g (granule_at memory g)) (range_with_len 0 (length memory))
-    (λ k d h. let within : k < length memory = subst (λ n. k < n) (length-range_with_len 0 (length memory)) h in
-    subst (λ g. IsGranule (change g (granule_at memory g))) (sym (get_or-range_with_len 0 (length memory) k d within))
-    (kept (0 + k) (granule_at memory (0 + k)) (each (0 + k) no_granule (omega arith))))
+    (grind (arith, length-range_with_len, get_or-range_with_len))
 
 bytes_after-below : (i : ℕ) (new : List ℕ) (g : ℕ) (bytes : List ℕ) → All (λ b. b < 256) new → All (λ b. b < 256) bytes →
     All (λ b. b < 256) (bytes_after i new g bytes)
@@ -27,22 +25,9 @@ bytes_after-below i new g bytes new_below below =
     (λ k d h. each (get_or (range_with_len 0 (length bytes)) k d))
   where
     each : (k : ℕ) → byte_after i new (16 * g + k) (slice_index bytes k) < 256
-    each k =
-        cond_both (is_among i (length new) (16 * g + k)) (slice_index new (16 * g + k - i)) (slice_index bytes k) (λ b. b < 256)
-        (λ _. byte_below new (16 * g + k - i) new_below) (λ _. byte_below bytes k below)
+    each k = grind (arith, cond_both, byte_below)
 
 pub IsMemory-written : (i : ℕ) (new : List ℕ) (memory : List Granule) → All (λ b. b < 256) new → IsMemory memory →
     IsMemory (written i new memory)
 unfolding written
-IsMemory-written i new memory bytes is =
-    let long = length-each_granule (λ g granule. record granule { bytes = bytes_after i new g granule.bytes }) memory in
-    record {
-      least = subst (λ n. 64 ≤ n) (sym long) is.least;
-      most = subst (λ n. n ≤ 262144) (sym long) is.most;
-      granules = IsGranule-each (λ g granule. record granule { bytes = bytes_after i new g granule.bytes }) memory
-          (λ g x granule. record {
-            tag = granule.tag;
-            sixteen = length-bytes_after i new g x.bytes ∙ granule.sixteen;
-            bytes = bytes_after-below i new g x.bytes bytes granule.bytes;
-          }) is.granules;
-    }
+IsMemory-written i new memory bytes is = grind (arith, length-each_granule, IsGranule-each, length-bytes_after, bytes_after-below)

@@ -1,9 +1,9 @@
 -- What a change of a memory leaves: how long it is, and its tags.
-use Rattle.std.proofs.Common.{◌≡◌, ℕ, ◌+◌, ◌<◌, ◌≤◌, false, cond, ltb, leb, List, length, refl, sym, ap, ◌∙◌, subst, inl, inr, arith, ◌⊎◌}
+use Rattle.std.proofs.Common.{◌≡◌, ℕ, ◌+◌, ◌<◌, ◌≤◌, List, length, refl, ap, arith, ◌⊎◌}
 use Rattle.std.proofs.lemmas.List.{get_or_past}
 use Rattle.std.proofs.lemmas.List.FromFn.{get_or-map-range_with_len, length-map-range_with_len}
 use Rattle.std.proofs.lemmas.Bool.{cond-true, cond-false, cases_lt, and_from, and_left, and_right, lt-ltb, le-leb, le-ltb, lt-leb}
-use Rattle.machine_theory.specs.Memory.{Granule, no_granule, granule_at, tag_at, each_granule, is_among, tagged, written, bytes_after}
+use Rattle.machine_theory.specs.Memory.{Granule, no_granule, granule_at, tag_at, each_granule, tagged, written, bytes_after}
 
 pub length-each_granule : (change : ℕ → Granule → Granule) (memory : List Granule) → length (each_granule change memory) ≡ length memory
 unfolding each_granule
@@ -12,8 +12,7 @@ length-each_granule change memory = length-map-range_with_len (λ g. change g (g
 pub granule_at-each_granule : (change : ℕ → Granule → Granule) (memory : List Granule) (g : ℕ) → g < length memory →
     granule_at (each_granule change memory) g ≡ change g (granule_at memory g)
 unfolding each_granule
-granule_at-each_granule change memory g h =
-    get_or-map-range_with_len (λ g. change g (granule_at memory g)) 0 (length memory) g g no_granule h (omega arith)
+granule_at-each_granule change memory g h = grind (arith, get_or-map-range_with_len)
 
 pub tag_at_past : (memory : List Granule) (g : ℕ) → length memory ≤ g → tag_at memory g ≡ 0
 tag_at_past memory g h = ap (λ (x : Granule). x.tag) (get_or_past memory g no_granule h)
@@ -21,11 +20,7 @@ tag_at_past memory g h = ap (λ (x : Granule). x.tag) (get_or_past memory g no_g
 -- a change that leaves the tag of granule g leaves it
 tag_at_same : (change : ℕ → Granule → Granule) (memory : List Granule) (g : ℕ) → (change g (granule_at memory g)).tag ≡ tag_at memory g →
     tag_at (each_granule change memory) g ≡ tag_at memory g
-tag_at_same change memory g e = elim (cases_lt g (length memory)) [
-  | inl within ↦ ap (λ (x : Granule). x.tag) (granule_at-each_granule change memory g within) ∙ e
-  | inr past ↦ tag_at_past (each_granule change memory) g (subst (λ n. n ≤ g) (sym (length-each_granule change memory)) past)
-      ∙ sym (tag_at_past memory g past)
-]
+tag_at_same change memory g e = grind (arith, cases_lt, granule_at-each_granule, tag_at_past, length-each_granule)
 
 pub length-tagged : (first count tag : ℕ) (memory : List Granule) → length (tagged first count tag memory) ≡ length memory
 unfolding tagged
@@ -42,20 +37,9 @@ tag_under_bytes i g new memory = tag_at_same (λ g granule. record granule { byt
 pub written_tag : (first count tag g : ℕ) (memory : List Granule) → first ≤ g → g < first + count → g < length memory →
     tag_at (tagged first count tag memory) g ≡ tag
 unfolding tagged
-written_tag first count tag g memory above below within =
-    ap (λ (x : Granule). x.tag)
-    (granule_at-each_granule _ memory g within
-    ∙ cond-true (is_among first count g) (record (granule_at memory g) { tag = tag }) (granule_at memory g)
-    (and_from (leb first g) (ltb g (first + count)) (le-leb _ _ above) (lt-ltb _ _ below)))
+written_tag first count tag g memory above below within = grind (arith, granule_at-each_granule, cond-true, and_from, le-leb, lt-ltb)
 
 pub other_tag : (first count tag g : ℕ) (memory : List Granule) → (g < first) ⊎ (first + count ≤ g) →
     tag_at (tagged first count tag memory) g ≡ tag_at memory g
 unfolding tagged
-other_tag first count tag g memory outside =
-    tag_at_same (λ g granule. cond (is_among first count g) (record granule { tag = tag }) granule) memory g
-    (ap (λ (x : Granule). x.tag)
-    (cond-false (is_among first count g) (record (granule_at memory g) { tag = tag }) (granule_at memory g) (not_among outside)))
-  where
-    not_among : (g < first) ⊎ (first + count ≤ g) → is_among first count g ≡ false
-    not_among (inl h) = and_left _ _ (lt-leb _ _ h)
-    not_among (inr h) = and_right _ _ (le-ltb _ _ h)
+other_tag first count tag g memory outside = grind (arith, tag_at_same, cond-false, and_left, lt-leb, and_right, le-ltb)

@@ -1,6 +1,5 @@
 -- Draws of bits: one by one, four at once, and as parts of one sequence.
-use Rattle.std.proofs.Common.{◌≡◌, ℕ, zero, suc, ◌+◌, ◌-◌, ◌*◌, ◌/◌, ◌%◌, ◌^◌, ◌<◌, refl, sym, ap, ◌∙◌, subst, inl, inr, arith}
-use Rattle.std.specs.Prelude.{◌==◌}
+use Rattle.std.proofs.Common.{◌≡◌, ℕ, zero, suc, ◌+◌, ◌-◌, ◌*◌, ◌/◌, ◌%◌, ◌^◌, ◌<◌, sym, ap, ◌∙◌, subst, inl, inr, arith}
 use Rattle.std.specs.Int.{bit_at}
 use Rattle.std.proofs.lemmas.Bool.{agree_below_at, cases_lt, eq-eqb, eqb-true}
 use Rattle.std.proofs.lemmas.Nat.Bits.{bit_at_cat_low, bit_at_cat_high, bit_at-suc, bit_at_lowest}
@@ -19,15 +18,7 @@ next_seed-below seed fits = omega (arith, next_offset-below seed)
 -- The seed never becomes 0: if it is 16 or more, a set bit stays in it; if it is 1 to 15, the offset that is drawn is not 0.
 pub next_seed-some : (seed : ℕ) → 0 < seed → seed < 2 ^ 16 → 0 < next_seed seed
 unfolding next_seed next_offset
-next_seed-some seed some fits = elim (cases_lt seed 16) [
-  | inr more ↦ omega arith
-  | inl low ↦
-      let table : (next_seed seed == 0) ≡ (seed == 0) = agree_below_at (λ s. next_seed s == 0) (λ s. s == 0) 16 seed refl low in
-      elim (cases_lt 0 (next_seed seed)) [
-        | inl found ↦ found
-        | inr none ↦ absurd (omega (arith, eqb-true seed 0 (sym table ∙ eq-eqb (next_seed seed) 0 (omega arith))))
-      ]
-]
+next_seed-some seed some fits = grind (arith, cases_lt, agree_below_at, eqb-true, eq-eqb)
 
 -- ---- a draw shifts the register by four bits, and puts four new ones on top
 
@@ -75,17 +66,11 @@ random_bit seed n = bit_at (seed_after (n / 4) seed) (n % 4)
 first_bits : (seed k i : ℕ) → i < 4 → random_bit seed (4 * k + i) ≡ bit_at (seed_after k seed) i
 unfolding random_bit
 first_bits seed k i h =
-    let draws : (4 * k + i) / 4 ≡ k = omega arith in
-    let rest : (4 * k + i) % 4 ≡ i = omega arith in
-    λ t. bit_at (seed_after (draws t) seed) (rest t)
+    grind arith
 
 register_bits : (j seed k i : ℕ) → i < 4 * suc j → i < 16 → random_bit seed (4 * k + i) ≡ bit_at (seed_after k seed) i
 register_bits zero seed k i few h = first_bits seed k i (omega arith)
-register_bits (suc j) seed k i few h = elim (cases_lt i 4) [
-  | inl low ↦ first_bits seed k i low
-  | inr high ↦ ap (random_bit seed) (omega arith) ∙ register_bits j seed (suc k) (i - 4) (omega arith) (omega arith)
-      ∙ low_bit (seed_after k seed) (i - 4) (omega arith) ∙ ap (bit_at (seed_after k seed)) (omega arith)
-]
+register_bits (suc j) seed k i few h = grind (arith, first_bits, cases_lt, low_bit, register_bits j seed (suc k) (i - 4) (omega arith) (omega arith))
 
 pub Begins-some : (seed : ℕ) → seed < 2 ^ 16 → (x : ℕ → ℕ) × Begins seed x
 Begins-some seed fits = (
@@ -94,10 +79,7 @@ Begins-some seed fits = (
     own = λ n h. bit n 0 n (omega arith) h;
     further = λ n. bit (n + 16) (suc (n / 4)) (12 + n % 4) (omega arith) (omega arith)
         ∙ high_bit (seed_after (n / 4) seed) (n % 4) (seed_after-below (n / 4) seed fits) (omega arith)
-        ∙ (λ t. (sym (bit n (n / 4) (n % 4) (omega arith) (omega arith)) t
-        + sym (bit (n + 2) (n / 4) (n % 4 + 2) (omega arith) (omega arith)) t
-        + sym (bit (n + 3) (n / 4) (n % 4 + 3) (omega arith) (omega arith)) t
-        + sym (bit (n + 5) (n / 4) (n % 4 + 5) (omega arith) (omega arith)) t) % 2);
+        ∙ (grind (arith, bit));
   },
 )
   where

@@ -1,7 +1,6 @@
 -- A tag is chosen by steps from one allowed tag to the next.
-use Rattle.std.proofs.Common.{◌≡◌, ℕ, zero, suc, ◌+◌, ◌-◌, ◌%◌, ◌<◌, ◌≤◌, Bool, true, false, not, cond, List, [], ◌∷◌, ◌++◌, map, length, get_or, take, drop, refl, sym, ap, ◌∙◌, inl, inr, arith}
+use Rattle.std.proofs.Common.{◌≡◌, ℕ, zero, suc, ◌+◌, ◌-◌, ◌%◌, ◌<◌, Bool, true, false, not, cond, List, [], ◌∷◌, ◌++◌, map, length, get_or, take, drop, refl, sym, ap, ◌∙◌, inl, inr, arith}
 use Rattle.std.specs.List.{filter, range_with_len}
-use Rattle.std.specs.Prelude.{◌==◌, slice_index}
 use Rattle.std.proofs.Math.Nat.{mod-add-mod, mod-eq_of_lt, mod_self}
 use Rattle.std.proofs.lemmas.List.{get_or-drop, get_or-take, get_or-append_right, get_or_append_left, length-drop, length-take, length-append, append-nil, get_or_past}
 use Rattle.std.proofs.lemmas.List.Elements.{filter-append}
@@ -114,27 +113,14 @@ next_in_turn tag exclude i h =
     ap (λ ys. get_or ys 0 0) (allowed_turned tag exclude i h) ∙ at (allowed_after tag exclude) h
   where
     at : (l : List ℕ) → i < length l → get_or (drop (suc i) l ++ take (suc i) l) 0 0 ≡ get_or l ((i + 1) % length l) 0
-    at l h = elim (cases_lt (suc i) (length l)) [
-      | inl more ↦ get_or_append_left (drop (suc i) l) (take (suc i) l) 0 0 (omega (arith, length-drop (suc i) l))
-          ∙ get_or-drop (suc i) l 0 0
-          ∙ ap (λ k. get_or l k 0) (omega arith ∙ sym (mod-eq_of_lt {n = i + 1} {m = length l} (omega arith)))
-      | inr last ↦ get_or-append_right (drop (suc i) l) (take (suc i) l) 0 0 0 (length-drop (suc i) l ∙ omega arith) (omega arith)
-          ∙ get_or-take (suc i) l 0 0 (omega arith)
-          ∙ ap (λ k. get_or l k 0) (sym (whole l i last h))
-    ]
-      where
-        whole : (l : List ℕ) (i : ℕ) → length l ≤ suc i → i < length l → (i + 1) % length l ≡ 0
-        whole l i last h = let all : i + 1 ≡ length l = omega arith in ap (λ k. k % length l) all ∙ mod_self (length l)
+    at l h = grind (arith, cases_lt, get_or_append_left, length-drop, get_or-drop, mod-eq_of_lt, get_or-append_right, get_or-take, mod_self)
 
 -- ---- what a body that steps from tag to tag uses
 
 -- one step of the tag, and on while it is excluded
 pub next_allowed_here : (tag exclude : ℕ) → is_excluded exclude ((tag + 1) % 16) ≡ false → next_allowed exclude tag ≡ (tag + 1) % 16
 unfolding allowed_after
-next_allowed_here tag exclude e =
-    ap (λ b. get_or (cond (not b)
-    ((tag + 1) % 16 ∷ filter (λ t. not (is_excluded exclude t)) (map (λ k. (tag + k) % 16) (range_with_len 2 15)))
-    (filter (λ t. not (is_excluded exclude t)) (map (λ k. (tag + k) % 16) (range_with_len 2 15)))) 0 0) e
+next_allowed_here tag exclude e = grind arith
 
 pub next_allowed_on : (tag exclude : ℕ) → is_excluded exclude ((tag + 1) % 16) ≡ true →
     next_allowed exclude tag ≡ next_allowed exclude ((tag + 1) % 16)
@@ -153,38 +139,21 @@ next_allowed_on tag exclude e =
 -- offset 0
 pub choose_zero_free : (tag exclude other : ℕ) → tag < 16 → is_excluded exclude tag ≡ false → choose_tag tag 0 exclude ≡ tag
 unfolding choose_tag
-choose_zero_free tag exclude other below free =
-    cond-false (length (allowed_after tag exclude) == 0) _ _
-    (ne_eqb _ _ (λ e. omega (arith, allowed_some tag exclude tag below below free)))
-    ∙ cond-false (is_excluded exclude tag) (slice_index (allowed_after tag exclude) 0) tag free
+choose_zero_free tag exclude other below free = grind (arith, cond-false, ne_eqb, allowed_some)
 
 pub choose_zero_excluded : (tag exclude : ℕ) → is_excluded exclude tag ≡ true → choose_tag tag 0 exclude ≡ next_allowed exclude tag
 unfolding choose_tag
-choose_zero_excluded tag exclude out = elim (cases_Bool (length (allowed_after tag exclude) == 0)) [
-  | inl none ↦ cond-true (length (allowed_after tag exclude) == 0) _ _ none
-      ∙ sym (get_or_past (allowed_after tag exclude) 0 0 (omega (arith, eqb-true _ _ none)))
-  | inr some ↦ cond-false (length (allowed_after tag exclude) == 0) _ _ some
-      ∙ cond-true (is_excluded exclude tag) (slice_index (allowed_after tag exclude) 0) tag out
-]
+choose_zero_excluded tag exclude out = grind (arith, cases_Bool, cond-true, get_or_past, eqb-true, cond-false)
 
 -- offset 1, and one more
 pub choose_one : (tag exclude : ℕ) → choose_tag tag 1 exclude ≡ next_allowed exclude tag
 unfolding choose_tag
-choose_one tag exclude = elim (cases_Bool (length (allowed_after tag exclude) == 0)) [
-  | inl none ↦ cond-true (length (allowed_after tag exclude) == 0) _ _ none
-      ∙ sym (get_or_past (allowed_after tag exclude) 0 0 (omega (arith, eqb-true _ _ none)))
-  | inr some ↦ let ne : length (allowed_after tag exclude) ≡ 0 → ⊥ = eqb-false _ _ some in
-      cond-false (length (allowed_after tag exclude) == 0) _ _ some
-      ∙ ap (slice_index (allowed_after tag exclude)) (mod-eq_of_lt {n = 0} {m = length (allowed_after tag exclude)} (omega arith))
-]
+choose_one tag exclude = grind (arith, cases_Bool, cond-true, get_or_past, eqb-true, eqb-false, cond-false, mod-eq_of_lt)
 
 choose_at : (tag offset exclude : ℕ) → 0 < length (allowed_after tag exclude) →
     choose_tag tag (offset + 1) exclude ≡ get_or (allowed_after tag exclude) (offset % length (allowed_after tag exclude)) 0
 unfolding choose_tag
-choose_at tag offset exclude some =
-    cond-false (length (allowed_after tag exclude) == 0) _ _ (ne_eqb _ _ (λ e. omega arith))
-    ∙ cond-false (offset + 1 == 0) _ _ (ne_eqb _ _ (λ e. omega arith))
-    ∙ ap (λ k. get_or (allowed_after tag exclude) (k % length (allowed_after tag exclude)) 0) (omega arith)
+choose_at tag offset exclude some = grind (arith, cond-false, ne_eqb)
 
 pub choose_more : (tag offset exclude other : ℕ) → tag < 16 → other < 16 → is_excluded exclude other ≡ false →
     choose_tag tag (offset + 2) exclude ≡ next_allowed exclude (choose_tag tag (offset + 1) exclude)

@@ -1,4 +1,5 @@
 -- A chosen tag is an allowed one.
+use Rattle.std.proofs.lemmas.Grind.{common_steps}
 use Rattle.std.proofs.Common.{◌≡◌, ◌≢◌, ℕ, zero, suc, ◌+◌, ◌-◌, ◌*◌, ◌%◌, ◌^◌, ◌<◌, Bool, true, false, not, cond, List, [], ◌∷◌, length, get_or, refl, sym, ap, ◌∙◌, subst, inl, inr, arith, ◌⊎◌}
 use Rattle.std.specs.List.{filter, range_with_len, All}
 use Rattle.std.specs.Int.{bit_at}
@@ -18,9 +19,7 @@ filter_keeps : {X : Type 0} (p : X → Bool) (xs : List X) (i : ℕ) (d : X) →
     0 < length (filter p xs)
 filter_keeps p [] i d h e = absurd (omega arith)
 filter_keeps p (x ∷ xs) zero d h e = subst (λ b. 0 < length (cond b (x ∷ filter p xs) (filter p xs))) (sym e) (omega arith)
-filter_keeps p (x ∷ xs) (suc i) d h e =
-    let more : 0 < length (filter p xs) = filter_keeps p xs i d (omega arith) e in
-    cond_both (p x) (x ∷ filter p xs) (filter p xs) (λ ys. 0 < length ys) (λ _. omega arith) (λ _. more)
+filter_keeps p (x ∷ xs) (suc i) d h e = grind (arith, cond_both, filter_keeps p xs i d (omega arith) e)
 
 pub record IsAllowed (exclude tag : ℕ) : Type 0 where
   pub below : tag < 16
@@ -40,35 +39,12 @@ allowed_each tag exclude k d h =
 
 pub allowed_some : (tag exclude t : ℕ) → tag < 16 → t < 16 → is_excluded exclude t ≡ false → 0 < length (allowed_after tag exclude)
 unfolding allowed_after
-allowed_some tag exclude t in_range t_in_range free =
-    let i : ℕ = (t + 15 - tag) % 16 in
-    let i_below : (t + 15 - tag) % 16 < 16 = mod_below (t + 15 - tag) 16 (omega arith) in
-    let at : get_or (tags_after tag) ((t + 15 - tag) % 16) 0 ≡ (tag + (1 + (t + 15 - tag) % 16)) % 16 =
-    get_or-map-range_with_len (λ k. (tag + k) % 16) 1 16 ((t + 15 - tag) % 16) (1 + (t + 15 - tag) % 16) 0 i_below refl in
-    let there : (tag + (1 + (t + 15 - tag) % 16)) % 16 ≡ t = omega arith in
-    filter_keeps (λ t. not (is_excluded exclude t)) (tags_after tag) ((t + 15 - tag) % 16) 0
-    (rw length-map-range_with_len i_below)
-    (subst (λ x. not (is_excluded exclude x) ≡ true) (sym (at ∙ there)) (not_of free))
-  where
-    not_of : {b : Bool} → b ≡ false → not b ≡ true
-    not_of e = ap not e
+allowed_some tag exclude t in_range t_in_range free = grind (arith, common_steps, mod_below, get_or-map-range_with_len, filter_keeps, length-map-range_with_len)
 
 pub choose_tag_allowed : (tag offset exclude t : ℕ) → tag < 16 → t < 16 → is_excluded exclude t ≡ false →
     IsAllowed exclude (choose_tag tag offset exclude)
 unfolding choose_tag
-choose_tag_allowed tag offset exclude t in_range t_in_range free =
-    let some : 0 < length (allowed_after tag exclude) = allowed_some tag exclude t in_range t_in_range free in
-    let each : All (IsAllowed exclude) (allowed_after tag exclude) = allowed_each tag exclude in
-    cond_both (length (allowed_after tag exclude) == 0) _ _ (IsAllowed exclude)
-    (λ e. absurd (omega (arith, eqb-true _ _ e)))
-    (λ _. cond_both (offset == 0) _ _ (IsAllowed exclude)
-    (λ _. at_tag tag exclude in_range (each 0 0 some))
-    (λ _. each ((offset - 1) % length (allowed_after tag exclude)) 0 (mod_below _ _ some)))
-  where
-    at_tag : (tag exclude : ℕ) → tag < 16 → IsAllowed exclude (get_or (allowed_after tag exclude) 0 0) →
-        IsAllowed exclude (cond (is_excluded exclude tag) (get_or (allowed_after tag exclude) 0 0) tag)
-    at_tag tag exclude in_range first =
-        cond_both (is_excluded exclude tag) _ _ (IsAllowed exclude) (λ _. first) (λ e. record { below = in_range; free = e })
+choose_tag_allowed tag offset exclude t in_range t_in_range free = grind (arith, allowed_some, allowed_each, cond_both, eqb-true, mod_below)
 
 -- a filter that passes no element keeps none
 filter_none : {X : Type 0} (p : X → Bool) (xs : List X) → All (λ x. p x ≡ false) xs → filter p xs ≡ []
@@ -79,20 +55,12 @@ filter_none p (x ∷ xs) none =
 pub choose_tag_none : (tag offset exclude : ℕ) → ((other : ℕ) → other < 16 → is_excluded exclude other ≡ true) →
     choose_tag tag offset exclude ≡ 0
 unfolding choose_tag allowed_after
-choose_tag_none tag offset exclude each =
-    let none : filter (λ t. not (is_excluded exclude t)) (tags_after tag) ≡ [] =
-    filter_none (λ t. not (is_excluded exclude t)) (tags_after tag)
-    (All-map (λ t. not (is_excluded exclude t) ≡ false) (λ k. (tag + k) % 16) (range_with_len 1 16)
-    (λ i d h. ap not (each _ (mod_below _ 16 (omega arith))))) in
-    cond-true (length (filter (λ t. not (is_excluded exclude t)) (tags_after tag)) == 0) _ _ (ap (λ ts. length ts == 0) none)
+choose_tag_none tag offset exclude each = grind (arith, filter_none, mod_below, cond-true)
 
 -- ---- masks
 
 bit_zero : (x t : ℕ) → is_excluded x t ≡ false → bit_at x t ≡ 0
-bit_zero x t e =
-    let small : bit_at x t < 2 = bit_at-lt x t in
-    let other : bit_at x t ≡ 1 → ⊥ = eqb-false _ _ e in
-    omega arith
+bit_zero x t e = grind (arith, bit_at-lt, eqb-false)
 
 excluded_if : (x t : ℕ) → bit_at x t ≡ 0 → is_excluded x t ≡ false
 excluded_if x t e = ap (λ b. b == 1) e
@@ -116,17 +84,13 @@ not_the_one a t e same = eqb-false _ _ e (subst (λ k. bit_at (2 ^ a) k ≡ 1) (
 pub odd_from : (t : ℕ) → t < 16 → is_excluded 0x5555 t ≡ false → t % 2 ≡ 1
 odd_from t h e =
     let table : is_excluded 0x5555 t ≡ (t % 2 == 0) = agree_below_at (λ t. is_excluded 0x5555 t) (λ t. t % 2 == 0) 16 t refl h in
-    let other : t % 2 ≡ 0 → ⊥ = eqb-false _ _ (sym table ∙ e) in
-    omega arith
+    grind (arith, eqb-false)
 
 pub even_from : (t : ℕ) → t < 16 → is_excluded 0xAAAB t ≡ false → (t % 2 ≡ 0) × (0 < t)
 even_from t h e =
     let table : is_excluded 0xAAAB t ≡ ((t % 2 == 1) || (t == 0)) =
     agree_below_at (λ t. is_excluded 0xAAAB t) (λ t. (t % 2 == 1) || (t == 0)) 16 t refl h in
-    let parts = or_parts _ _ (sym table ∙ e) in
-    let odd : t % 2 ≡ 1 → ⊥ = eqb-false _ _ parts.0 in
-    let none : t ≡ 0 → ⊥ = eqb-false _ _ parts.1 in
-    (omega arith, omega arith)
+    grind (arith, or_parts, eqb-false)
 
 -- a mask that excludes 0 alone leaves 1, so ADDG and SUBG give no tag 0
 pub choose_tag-one : (tag steps : ℕ) → tag < 16 → (choose_tag tag steps 1 < 16) × (choose_tag tag steps 1 ≢ 0)
@@ -135,9 +99,7 @@ choose_tag-one tag steps in_range =
     (a.below, not_the_one 0 (choose_tag tag steps 1) a.free)
 
 logical_tag-chosen : (address from steps : ℕ) → logical_tag (with_tag address (choose_tag (logical_tag from) steps 1)) ≢ 0
-logical_tag-chosen address from steps e =
-    let t = choose_tag-one (logical_tag from) steps (omega arith) in
-    t.1 (omega (arith, t.0))
+logical_tag-chosen address from steps e = grind (arith, choose_tag-one)
 
 pub addg-some : (xn u6 u4 : ℕ) → logical_tag (addg xn u6 u4) ≢ 0
 unfolding addg
@@ -171,12 +133,8 @@ chosen mask x y tag offset last in_range apart x_below y_below x_free y_free x_s
     let free : is_excluded mask left.0 ≡ false = either (λ t. is_excluded mask t ≡ false) left.0 left.1 x_free y_free in
     let some : is_excluded 1 left.0 ≡ false = either (λ t. is_excluded 1 t ≡ false) left.0 left.1 x_some y_some in
     let a = choose_tag_allowed tag offset (bit_or (bit_or mask (2 ^ last)) 1) left.0 in_range below
-    (is_excluded-or (bit_or mask (2 ^ last)) 1 left.0 (is_excluded-or mask (2 ^ last) left.0 free (is_excluded-one last left.0 left.2))
-    some) in
-    let outer = is_excluded-or_left (bit_or mask (2 ^ last)) 1 _ a.free in (
-      record { below = a.below; free = is_excluded-or_left mask (2 ^ last) _ outer },
-      not_the_one last _ (is_excluded-or_right mask (2 ^ last) _ outer),
-    )
+    (grind (arith, is_excluded-or, is_excluded-one)) in
+    grind (arith, is_excluded-or_left, not_the_one, is_excluded-or_right)
   where
     either : (P : ℕ → Type 0) (t : ℕ) → (t ≡ x) ⊎ (t ≡ y) → P x → P y → P t
     either P t (inl e) px py = subst P (sym e) px
@@ -196,5 +154,4 @@ pub even_drawn : (tag seed last : ℕ) → tag < 16 →
 unfolding drawn_tag parity_mask
 even_drawn tag seed last in_range =
     let c = chosen 0xAAAB 2 4 tag (next_offset seed) last in_range (omega arith) (omega arith) (omega arith) refl refl refl refl in
-    let even = even_from _ c.0.below c.0.free in
-    (c.0.below, even.0, even.1, c.1)
+    grind (arith, even_from)
