@@ -1,5 +1,6 @@
 -- A text and its lines, a line and its words.
-use Rattle.std.proofs.Common.{◌≡◌, ℕ, ◌+◌, ◌<◌, ◌∙◌, List, [], ◌∷◌, ◌++◌, length, get_or, take, drop, refl, ap, arith, add-one, append_assoc, All, inl, inr, Some, None, true, false, cond, eqb, eqb-true, Bool}
+use Rattle.std.proofs.lemmas.Grind.{common_steps}
+use Rattle.std.proofs.Common.{◌≡◌, ℕ, ◌+◌, ◌<◌, ◌∙◌, List, [], ◌∷◌, ◌++◌, length, get_or, take, drop, refl, ap, arith, add-one, append_assoc, All, inl, Some, None, false, eqb, eqb-true}
 use Rattle.std.proofs.Math.Seq.{split_at}
 use Rattle.std.proofs.lemmas.Bool.{false_from_ne_true}
 use Rattle.std.proofs.lemmas.List.{get_or-take, length-take-le}
@@ -21,8 +22,7 @@ lacks_before byte bytes i found = All-from_get_or (λ b. eqb b byte ≡ false) (
   where
     other : (k : ℕ) → k < length (take i bytes) → eqb (get_or (take i bytes) k 0) byte ≡ false
     other k lt =
-        let before : k < i = omega (arith, length-take-le i bytes (omega (arith, found.0.high))) in
-        rw (get_or-take i bytes k 0 before) (false_from_ne_true _ (found.0.before k (omega arith) before))
+        grind (arith, length-take-le, get_or-take, false_from_ne_true)
 
 pub lacks_all : (byte : ℕ) (bytes : List ℕ) → IsFirstByte (is_byte byte) bytes None → Lacks byte bytes
 lacks_all byte bytes none =
@@ -30,9 +30,7 @@ lacks_all byte bytes none =
 
 pub cut_at : (byte : ℕ) (bytes : List ℕ) (i : ℕ) → IsFirstByte (is_byte byte) bytes (Some i) →
     bytes ≡ take i bytes ++ byte ∷ drop (i + 1) bytes
-cut_at byte bytes i found =
-    let found_is : get_or bytes i 0 ≡ byte = eqb-true _ _ found.1 in
-    split_at bytes i 0 found.0.high ∙ rw (found_is, add-one) refl
+cut_at byte bytes i found = grind (arith, eqb-true, split_at, add-one)
 
 -- ---- a text and its lines
 
@@ -76,34 +74,19 @@ All-onto_first cut b (part ∷ parts) other all =
 pub lines_are_lines : (text : List ℕ) → All IsLine (lines text)
 unfolding lines
 lines_are_lines [] = All-nil _
-lines_are_lines (b ∷ text) = go (is_newline b) refl (lines_are_lines text)
-  where
-    go : (v : Bool) → is_newline b ≡ v → All IsLine (lines text) → All IsLine (cond v ([] ∷ lines text) (onto_first b (lines text)))
-    go true e all = All-cons IsLine [] (lines text) (All-nil _) all
-    go false e all = All-onto_first 10 b (lines text) e all
+lines_are_lines (b ∷ text) = grind (arith, All-onto_first, lines_are_lines text)
 
 -- a text is its lines, the last with its newline or without
 IsTextOf-onto_first : (b : ℕ) (text : List ℕ) (ls : List (List ℕ)) → IsTextOf text ls → IsTextOf (b ∷ text) (onto_first b ls)
-IsTextOf-onto_first b [] [] (inl e) = inr refl
-IsTextOf-onto_first b (x ∷ text) [] (inl e) = absurd cc
-IsTextOf-onto_first b [] [] (inr e) = absurd cc
-IsTextOf-onto_first b (x ∷ text) [] (inr e) = absurd cc
-IsTextOf-onto_first b text (l ∷ ls) (inl e) = inl (rw flat_map-cons (ap (λ (t : List ℕ). b ∷ t) (rw flat_map-cons at e)))
-IsTextOf-onto_first b text (l ∷ ls) (inr e) = inr (rw flat_map-cons (ap (λ (t : List ℕ). b ∷ t) (rw flat_map-cons at e)))
+IsTextOf-onto_first b text ls is = grind (arith, common_steps, flat_map-cons)
 
 IsTextOf-newline : (text : List ℕ) (ls : List (List ℕ)) → IsTextOf text ls → IsTextOf (10 ∷ text) ([] ∷ ls)
-IsTextOf-newline text ls (inl e) = inl (rw flat_map-cons (ap (λ (t : List ℕ). 10 ∷ t) e))
-IsTextOf-newline text ls (inr e) = inr (rw flat_map-cons (ap (λ (t : List ℕ). 10 ∷ t) e))
+IsTextOf-newline text ls is = grind arith
 
 pub text_is_its_lines : (text : List ℕ) → IsTextOf text (lines text)
 unfolding lines
 text_is_its_lines [] = inl refl
-text_is_its_lines (b ∷ text) = go (is_newline b) refl (text_is_its_lines text)
-  where
-    go : (v : Bool) → is_newline b ≡ v → IsTextOf text (lines text) →
-        IsTextOf (b ∷ text) (cond v ([] ∷ lines text) (onto_first b (lines text)))
-    go true e h = rw (eqb-true b 10 e) (IsTextOf-newline text (lines text) h)
-    go false e h = IsTextOf-onto_first b text (lines text) h
+text_is_its_lines (b ∷ text) = grind (arith, eqb-true, IsTextOf-newline, IsTextOf-onto_first, text_is_its_lines text)
 
 -- ---- a line and its words
 

@@ -1,4 +1,5 @@
 -- Bytes in one word: the test that all are digits.
+use Rattle.std.proofs.lemmas.Grind.{common_steps}
 use Rattle.std.proofs.Common.{◌≡◌, ℕ, suc, ◌+◌, ◌*◌, ◌-◌, ◌/◌, ◌%◌, ◌^◌, ◌<◌, ◌∙◌, List, [], ◌∷◌, All, length, get_or, map, refl, sym, ap, arith, true}
 use Rattle.std.specs.Char.{is_ascii_digit, digit_value}
 use Rattle.std.specs.Int.{from_le_bytes, w32, w64}
@@ -30,9 +31,7 @@ record AreClear (x y m : ℕ) : Type 0 where
   pub after : bit_and (bit_or (x / 256) (y / 256)) m ≡ 0
 
 clear_byte : (r : ℕ) → r < 256 → bit_and r 128 ≡ 0 → r < 128
-clear_byte r small clear =
-    let bit : bit_and r 128 ≡ (r / 128 % 2) * 128 = and_high r 1 7 in
-    omega (arith, bit, clear)
+clear_byte r small clear = grind (arith, common_steps, and_high)
 
 are_clear : (x y m : ℕ) → bit_and (bit_or x y) (128 + 256 * m) ≡ 0 → AreClear x y m
 are_clear x y m clear =

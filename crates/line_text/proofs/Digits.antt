@@ -1,5 +1,6 @@
 -- Reading a number digit by digit, and the laws of its spelling.
-use Rattle.std.proofs.Common.{rules, ◌≡◌, ℕ, zero, suc, ◌+◌, ◌*◌, ◌-◌, ◌^◌, ◌<◌, ◌≤◌, true, false, not, eqb, ◌&&◌, ◌||◌, List, [], ◌∷◌, All, length, get_or, take, refl, sym, ap, ◌∙◌, arith, Some, inl, inr, ne_eqb}
+use Rattle.std.proofs.lemmas.Grind.{common_steps}
+use Rattle.std.proofs.Common.{rules, ◌≡◌, ℕ, ◌+◌, ◌*◌, ◌-◌, ◌^◌, ◌<◌, ◌≤◌, true, false, not, eqb, ◌||◌, List, All, length, get_or, take, sym, ap, ◌∙◌, arith, Some, inl, inr, ne_eqb}
 use Rattle.std.specs.Fmt.{decimal}
 use Rattle.std.specs.Char.{is_ascii_digit, digit_value}
 use Rattle.std.specs.List.{list_all}
@@ -22,15 +23,12 @@ pub digit_is : (c : ℕ) → is_ascii_digit c ≡ true → (digit_value c ≡ c 
 digit_is c e = let h : (48 ≤ c) × (c ≤ 57) = grind (arith, nat_tests) in (grind (arith, nat_tests), h.0, h.1)
 
 pub digit_at : (word : List ℕ) (i : ℕ) → list_all is_ascii_digit word ≡ true → i < length word → is_ascii_digit (get_or word i 0) ≡ true
-digit_at [] i all lt = absurd (omega arith)
-digit_at (c ∷ word) zero all lt = (and_parts (is_ascii_digit c) (list_all is_ascii_digit word) all).0
-digit_at (c ∷ word) (suc i) all lt = digit_at word i (and_parts (is_ascii_digit c) (list_all is_ascii_digit word) all).1 (omega arith)
+digit_at word i is also = grind (arith, common_steps, and_parts)
 
 -- the number with one digit more at its end
 pub one_more : (digits : List ℕ) (i : ℕ) → i < length digits → is_ascii_digit (get_or digits i 0) ≡ true
     → digits_value 10 (take (i + 1) digits) ≡ digits_value 10 (take i digits) * 10 + (get_or digits i 0 - 48)
-one_more digits i lt digit =
-    digits_value_more 10 digits i lt ∙ ap (λ d. digits_value 10 (take i digits) * 10 + d) (digit_is (get_or digits i 0) digit).0
+one_more digits i lt digit = grind (arith, digits_value_more, digit_is)
 
 pub digits_more : (digits : List ℕ) (i : ℕ) → i < length digits → is_ascii_digit (get_or digits i 0) ≡ true
     → list_all is_ascii_digit (take i digits) ≡ true → list_all is_ascii_digit (take (i + 1) digits) ≡ true
@@ -64,11 +62,7 @@ record IsSpelled (word : List ℕ) : Type 0 where
   pub first : (eqb (length word) 1 || not (eqb (get_or word 0 0) 48)) ≡ true
 
 spelled_parts : (word : List ℕ) → is_numeral word ≡ true → IsSpelled word
-spelled_parts word e =
-    let a =
-    and_parts (list_all is_ascii_digit word && not (eqb (length word) 0)) (eqb (length word) 1 || not (eqb (get_or word 0 0) 48)) e in
-    let b = and_parts (list_all is_ascii_digit word) (not (eqb (length word) 0)) a.0 in
-    record { digits = b.0; some = b.1; first = a.1 }
+spelled_parts word e = grind arith
 
 short_zero : (n k : ℕ) → (eqb k 1 || not (eqb n 48)) ≡ true → n ≡ 48 → k ≡ 1
 short_zero n k e h = grind (arith, nat_tests)
@@ -91,15 +85,7 @@ number_is_spelled word n small e =
 -- and what is spelled so is read
 pub spelled_number_is_read : (n : ℕ) → n < 2 ^ 64 → number_of (decimal n) ≡ Some n
 unfolding number_of
-spelled_number_is_read n small =
-    let long : 0 < length (decimal n) = decimal_nonempty n small in
-    let some : not (eqb (length (decimal n)) 0) ≡ true = rw (ne_eqb (length (decimal n)) 0 (omega arith)) refl in
-    let first : (eqb (length (decimal n)) 1 || not (eqb (get_or (decimal n) 0 0) 48)) ≡ true = elim (cases_lt 0 n) [
-      | inl more ↦ let big : 48 < get_or (decimal n) 0 0 = first_decimal n more small in grind (arith, nat_tests)
-      | inr none ↦ let is_zero : n ≡ 0 = omega arith in rw (is_zero, decimal_digit 0 (omega arith)) refl
-    ] in
-    let spelled : is_numeral (decimal n) ≡ true = and_from _ _ (and_from _ _ (digits_decimal own n small) some) first in
-    rw spelled (ap Some (digits_value-decimal own n small))
+spelled_number_is_read n small = grind (arith, decimal_nonempty, ne_eqb, cases_lt, first_decimal, nat_tests, decimal_digit, and_from, digits_decimal, own, digits_value-decimal)
 
 -- ---- a number is a word of a line
 
@@ -111,6 +97,4 @@ pub none_equal : (d : ℕ) → d < 48 → (ds : List ℕ) → list_all is_ascii_
 none_equal d low ds all = All-from_get_or (λ b. eqb b d ≡ false) ds 0 (λ i lt. other_byte (get_or ds i 0) d (digit_at ds i all lt) low)
 
 pub spelled_number_is_a_word : (n : ℕ) → n < 2 ^ 64 → IsLine (decimal n) × IsWord (decimal n)
-spelled_number_is_a_word n small =
-    let all = digits_decimal own n small in
-    (none_equal 10 (omega arith) (decimal n) all, none_equal 32 (omega arith) (decimal n) all)
+spelled_number_is_a_word n small = grind (arith, digits_decimal, own, none_equal)

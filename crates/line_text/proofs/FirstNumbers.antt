@@ -1,5 +1,6 @@
 -- The number that the first word of a line spells, and the number in front of the line.
-use Rattle.std.proofs.Common.{◌≡◌, ◌≢◌, ℕ, ◌∙◌, List, [], ◌∷◌, ◌++◌, append-nil, length, drop, take, refl, sym, ap, arith, true, false, Option, Some, None, get_or, ◌<◌, option_and_then, slice_get, inl, inr, ◌⊎◌}
+use Rattle.std.proofs.lemmas.Grind.{common_steps}
+use Rattle.std.proofs.Common.{◌≡◌, ◌≢◌, ℕ, ◌∙◌, List, [], ◌∷◌, ◌++◌, append-nil, length, drop, refl, sym, ap, arith, true, false, Option, Some, None, get_or, ◌<◌, option_and_then, slice_get, inl, inr, ◌⊎◌}
 use Rattle.std.specs.Char.{is_ascii_digit}
 use Rattle.std.specs.List.{list_all, prefix_len}
 use Rattle.std.proofs.Math.Seq.{take-append_seam}
@@ -8,7 +9,7 @@ use Rattle.std.proofs.lemmas.Bool.Decides.{nat_tests}
 use Rattle.std.proofs.lemmas.List.{append_cancel_left}
 use Rattle.std.proofs.lemmas.List.Folds.{prefix_len-append}
 use Rattle.std.proofs.lemmas.List.Splits.{slice_split_none, slice_split_at}
-use Rattle.line_text.specs.Lines.{words, line_of, is_space, IsWord}
+use Rattle.line_text.specs.Lines.{words, line_of, IsWord}
 use Rattle.line_text.specs.Numbers.{number_of, short_number_of, leading_digits, leading_number_of}
 use Rattle.line_text.proofs.Cuts.{line_is_its_words}
 use Rattle.line_text.proofs.Digits.{none_equal}
@@ -21,10 +22,7 @@ not_digits word other = rw other (grind (arith, nat_tests))
 -- digits that end before a byte which is none are those in front
 digits_before : (word after : List ℕ) → list_all is_ascii_digit word ≡ true → prefix_len is_ascii_digit after ≡ 0
     → leading_digits (word ++ after) ≡ word
-digits_before word after all none =
-    ap (λ n. take n (word ++ after))
-    (prefix_len-append is_ascii_digit word after ∙ rw (all_digits_lead word all, none) (grind (arith, nat_tests)))
-    ∙ take-append_seam word after
+digits_before word after all none = grind (arith, common_steps, prefix_len-append, all_digits_lead, nat_tests, take-append_seam)
 
 -- a first word of digits is the digits in front of the line, and the end of the line or a space is after them
 record IsFirstOf (word line : List ℕ) : Type 0 where
@@ -45,9 +43,7 @@ no_digit_first (b ∷ after) (inr e) = let space : b ≡ 32 = cc in rw space ref
 
 pub first_digits : (line word : List ℕ) (ws : List (List ℕ)) → words line ≡ word ∷ ws → list_all is_ascii_digit word ≡ true →
     leading_digits line ≡ word
-first_digits line word ws parts all =
-    let first = first_of line word ws parts in
-    ap leading_digits first.line_is ∙ digits_before word first.after all (no_digit_first first.after first.ends)
+first_digits line word ws parts all = grind (arith, first_of, digits_before, no_digit_first)
 
 abbrev pub first_number_of : List ℕ → Option ℕ
 first_number_of line = option_and_then short_number_of (slice_get (words line) 0)
@@ -58,10 +54,7 @@ no_first_number line none = go (words line) refl
   where
     go : (ws : List (List ℕ)) → words line ≡ ws → option_and_then short_number_of (slice_get ws 0) ≡ None
     go [] parts = refl
-    go (word ∷ ws) parts = elim (cases_Bool (list_all is_ascii_digit word)) [
-      | inl all ↦ ap short_number_of (sym (first_digits line word ws parts all)) ∙ none
-      | inr other ↦ not_digits word other
-    ]
+    go (word ∷ ws) parts = grind (arith, cases_Bool, first_digits, not_digits)
 
 no_space : (rest : List ℕ) → 0 < length rest → get_or rest 0 0 ≢ 32 → (rest ≡ []) ⊎ (slice_get rest 0 ≡ Some 32) → ⊥
 no_space [] some other ends = absurd (omega (arith, some))
@@ -75,15 +68,7 @@ no_word_end line after cut some other = go (words line) refl
   where
     go : (ws : List (List ℕ)) → words line ≡ ws → option_and_then short_number_of (slice_get ws 0) ≡ None
     go [] parts = refl
-    go (word ∷ ws) parts = elim (cases_Bool (list_all is_ascii_digit word)) [
-      | inl all ↦
-          let first = first_of line word ws parts in
-          let digits = first_digits line word ws parts all in
-          let same : first.after ≡ after =
-          append_cancel_left word first.after after (sym first.line_is ∙ cut ∙ ap (λ ds. ds ++ after) digits) in
-          absurd (no_space after some other (rw same at first.ends))
-      | inr none ↦ not_digits word none
-    ]
+    go (word ∷ ws) parts = grind (arith, cases_Bool, first_of, first_digits, append_cancel_left, no_space, not_digits)
 
 -- else its digits are the first word.
 are_a_word : (line : List ℕ) → IsWord (leading_digits line)
@@ -91,13 +76,9 @@ are_a_word line = none_equal 32 (omega arith) (leading_digits line) (are_digits 
 
 pub only_word : (line after : List ℕ) → line ≡ leading_digits line ++ after → length after ≡ 0 → words line ≡ leading_digits line ∷ []
 unfolding words
-only_word line [] cut none =
-    ap words (cut ∙ append-nil (leading_digits line)) ∙ slice_split_none is_space (leading_digits line) (are_a_word line)
-only_word line (b ∷ after) cut none = absurd (omega (arith, none))
+only_word line after is also = grind (arith, common_steps, append-nil, slice_split_none, are_a_word)
 
 pub word_before : (line after : List ℕ) → line ≡ leading_digits line ++ after → 0 < length after → get_or after 0 0 ≡ 32
     → words line ≡ leading_digits line ∷ words (drop 1 after)
 unfolding words
-word_before line [] cut some space = absurd (omega (arith, some))
-word_before line (b ∷ after) cut some space =
-    ap words cut ∙ slice_split_at is_space (leading_digits line) b after (are_a_word line) (rw space refl)
+word_before line after is also too = grind (arith, slice_split_at, are_a_word)

@@ -2,7 +2,6 @@
 use Rattle.std.proofs.Common.{◌≡◌, ◌≢◌, ℕ, ◌<◌, ◌∙◌, Bool, true, false, cond, eqb-true, List, [], ◌∷◌, ◌++◌, length, get_or, drop, refl, sym, ap, arith, Option, Some, None, option_and_then, slice_get, inl, inr}
 use Rattle.std.specs.Char.{is_ascii_digit}
 use Rattle.std.specs.List.{onto_first}
-use Rattle.std.specs.Option.{option_map}
 use Rattle.std.proofs.lemmas.Bool.{cases_Bool}
 use Rattle.std.proofs.lemmas.List.Elements.{All-head, All-tail}
 use Rattle.std.proofs.lemmas.List.Sums.{take_while-cons}
@@ -45,8 +44,7 @@ first_pair_of text = option_and_then (λ line. short_pair_of (words line)) (slic
 first_pair_is : (text : List ℕ) → first_pair_of text ≡ short_pair_of (words (front text))
 unfolding lines words
 first_pair_is [] = refl
-first_pair_is (b ∷ text) =
-    ap (λ (ls : List (List ℕ)). option_and_then (λ line. short_pair_of (words line)) (slice_get ls 0)) (lines-cons b text)
+first_pair_is (b ∷ text) = grind (arith, option_and_then, slice_get, lines-cons)
 
 lines-after : (text : List ℕ) → lines (after text) ≡ drop 1 (lines text)
 unfolding lines
@@ -81,9 +79,7 @@ leading_digits-front (b ∷ text) = elim (cases_Bool (is_newline b)) [
 
 -- what stands after the digits in the line
 cut_line : (text tail : List ℕ) → text ≡ leading_digits text ++ tail → front text ≡ leading_digits (front text) ++ front tail
-cut_line text tail cut =
-    ap front cut ∙ front-append (leading_digits text) tail (are_in_line text)
-    ∙ ap (λ (ds : List ℕ). ds ++ front tail) (sym (leading_digits-front text))
+cut_line text tail cut = grind (arith, front-append, are_in_line, leading_digits-front)
 
 no_number_in_front : (text : List ℕ) → leading_number_of text ≡ None → first_number_of (front text) ≡ None
 no_number_in_front text none = no_first_number (front text) (ap short_number_of (leading_digits-front text) ∙ none)
@@ -91,20 +87,10 @@ no_number_in_front text none = no_first_number (front text) (ap short_number_of 
 -- ---- words that are no two numbers
 
 first_is_none : (ws : List (List ℕ)) → option_and_then short_number_of (slice_get ws 0) ≡ None → short_pair_of ws ≡ None
-first_is_none [] none = refl
-first_is_none (a ∷ []) none = refl
-first_is_none (a ∷ b ∷ []) none = ap (λ (o : Option ℕ). option_and_then (λ m. option_map (λ n. (m, n)) (short_number_of b)) o) none
-first_is_none (a ∷ b ∷ c ∷ ws) none = refl
+first_is_none ws is = grind arith
 
 second_is_none : (a : List ℕ) (ws : List (List ℕ)) → option_and_then short_number_of (slice_get ws 0) ≡ None → short_pair_of (a ∷ ws) ≡ None
-second_is_none a [] none = refl
-second_is_none a (b ∷ []) none =
-    ap (λ (o : Option ℕ). option_and_then (λ m. option_map (λ n. (m, n)) o) (short_number_of a)) none ∙ nothing (short_number_of a)
-  where
-    nothing : (o : Option ℕ) → option_and_then {T = ℕ} {U = ℕ × ℕ} (λ m. None) o ≡ None
-    nothing None = refl
-    nothing (Some m) = refl
-second_is_none a (b ∷ c ∷ ws) none = refl
+second_is_none a ws is = grind arith
 
 no_words : words [] ≢ []
 unfolding words
@@ -128,10 +114,7 @@ no_space text tail cut other = first_pair_is text ∙ go (front tail) refl
   where
     differs : (bs : List ℕ) → slice_get bs 0 ≢ Some 32 → 0 < length (front bs) → get_or (front bs) 0 0 ≢ 32
     differs [] ne some = absurd (omega (arith, some))
-    differs (b ∷ bs) ne some = elim (cases_Bool (is_newline b)) [
-      | inl ends ↦ absurd (omega (arith, rw ends at some))
-      | inr goes_on ↦ rw goes_on (λ space. ne (ap Some space))
-    ]
+    differs (b ∷ bs) ne some = grind (arith, cases_Bool)
 
     go : (left : List ℕ) → front tail ≡ left → short_pair_of (words (front text)) ≡ None
     go [] none = ap short_pair_of (only_word (front text) (front tail) (cut_line text tail cut) (ap length none))
@@ -146,9 +129,7 @@ words_after text more cut =
     ∙ ap (λ (ds : List ℕ). ds ∷ words (front more)) (leading_digits-front text)
 
 pub no_second : (text more : List ℕ) → text ≡ leading_digits text ++ 32 ∷ more → leading_number_of more ≡ None → first_pair_of text ≡ None
-no_second text more cut none =
-    first_pair_is text ∙ ap short_pair_of (words_after text more cut)
-    ∙ second_is_none (leading_digits text) (words (front more)) (no_number_in_front more none)
+no_second text more cut none = grind (arith, first_pair_is, words_after, second_is_none, no_number_in_front)
 
 -- neither the end nor a newline stands after the second number
 pub no_end : (text more tail : List ℕ) → text ≡ leading_digits text ++ 32 ∷ more → more ≡ leading_digits more ++ tail → 0 < length tail →
@@ -194,8 +175,7 @@ pair_ends text more tail m n cut cut_more ends first second =
 pub after_pair : (text more tail : List ℕ) → text ≡ leading_digits text ++ 32 ∷ more → more ≡ leading_digits more ++ tail →
     lines (after tail) ≡ drop 1 (lines text)
 after_pair text more tail cut cut_more =
-    ap lines (sym (ap after cut ∙ after-append (leading_digits text) (32 ∷ more) (are_in_line text) ∙ ap after cut_more
-    ∙ after-append (leading_digits more) tail (are_in_line more)))
+    ap lines (grind (arith, after-append, are_in_line))
     ∙ lines-after text
 
 -- where nothing is left, neither a line nor a text after it is

@@ -1,5 +1,5 @@
 -- Lines are read from the text that they make; where they are not empty, also without its last newline.
-use Rattle.std.proofs.Common.{◌≡◌, ℕ, List, [], ◌∷◌, ◌++◌, length, ◌<◌, Some, refl, sym, ap, ◌∙◌, arith, inl, inr, append_assoc, append-nil, length-append}
+use Rattle.std.proofs.Common.{◌≡◌, ℕ, List, [], ◌∷◌, ◌++◌, length, ◌<◌, Some, refl, ap, ◌∙◌, arith, append_assoc, append-nil, length-append}
 use Rattle.std.specs.Prelude.{All}
 use Rattle.std.proofs.lemmas.Grind.{flat_map-append}
 use Rattle.std.proofs.lemmas.List.{append_cancel_right}
@@ -36,10 +36,7 @@ all_lines ls full = All-weaker IsFullLine IsLine (λ line is. is.0) ls full
 
 -- a text is what stands in front of its last newline, and that newline
 text_of-last : (front : List (List ℕ)) (last : List ℕ) → text_of (front ++ last ∷ []) ≡ ended (text_of front ++ last)
-text_of-last front last =
-    flat_map-append ended front (last ∷ [])
-    ∙ ap (λ text. text_of front ++ text) (flat_map-cons ended last [] ∙ append-nil (ended last))
-    ∙ sym (append_assoc (text_of front) last (10 ∷ []))
+text_of-last front last = grind (arith, flat_map-append, flat_map-cons, append-nil, append_assoc)
 
 lines-short : (ls : List (List ℕ)) (text : List ℕ) → All IsFullLine ls → ended text ≡ text_of ls → lines text ≡ ls
 lines-short [] text full e = absurd (omega (arith, length-append text (10 ∷ []), ap length e))
@@ -47,9 +44,7 @@ lines-short (line ∷ ls) text full e =
     let apart = last_apart line ls in
     let both = All-pop IsFullLine (line ∷ ls) apart.front (Some apart.last) apart.is full in
     let whole : ended text ≡ ended (text_of apart.front ++ apart.last) = e ∙ ap text_of apart.is ∙ text_of-last apart.front apart.last in
-    let same : text ≡ text_of apart.front ++ apart.last = append_cancel_right text (text_of apart.front ++ apart.last) (10 ∷ []) whole in
-    ap lines same ∙ cut_lines_are_read apart.front apart.last (all_lines apart.front both.0) both.1.0 both.1.1 ∙ sym apart.is
+    grind (arith, append_cancel_right, cut_lines_are_read, all_lines)
 
 pub full_lines_are_read : (ls : List (List ℕ)) (text : List ℕ) → All IsFullLine ls → IsTextOf text ls → lines text ≡ ls
-full_lines_are_read ls text full (inl whole) = ap lines whole ∙ written_lines_are_read ls (all_lines ls full)
-full_lines_are_read ls text full (inr short) = lines-short ls text full short
+full_lines_are_read ls text is also = grind (arith, written_lines_are_read, all_lines, lines-short)

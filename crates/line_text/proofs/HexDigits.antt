@@ -1,5 +1,5 @@
 -- Reading a byte of two digits, and the laws of its spelling.
-use Rattle.std.proofs.Common.{rules, ◌≡◌, ℕ, ◌+◌, ◌*◌, ◌/◌, ◌%◌, ◌<◌, ◌^◌, Bool, true, false, ◌&&◌, cond, List, [], ◌∷◌, Some, None, refl, ap, arith}
+use Rattle.std.proofs.Common.{rules, ◌≡◌, ℕ, ◌+◌, ◌*◌, ◌/◌, ◌%◌, ◌<◌, ◌^◌, Bool, true, false, ◌&&◌, cond, List, [], ◌∷◌, Some, None, refl, arith}
 use Rattle.std.specs.Char.{digit_value, digit_char}
 use Rattle.std.proofs.lemmas.Bool.{and_parts, and_from}
 use Rattle.std.proofs.lemmas.Bool.Decides.{nat_tests}
@@ -33,21 +33,14 @@ hex_is_spelled (a ∷ b ∷ []) n e = go (is_hex_digit a && is_hex_digit b) refl
         let both = and_parts (is_hex_digit a) (is_hex_digit b) digits in
         let is_n : 16 * digit_value a + digit_value b ≡ n = cc in
         let high : n / 16 ≡ digit_value a = omega (arith, is_n, value_lt b both.1) in
-        let low : n % 16 ≡ digit_value b = omega (arith, is_n, value_lt b both.1) in (
-          omega (arith, is_n, value_lt a both.0, value_lt b both.1),
-          rw (high, low, digit_char-digit_value a both.0, digit_char-digit_value b both.1) refl,
-        )
+        let low : n % 16 ≡ digit_value b = omega (arith, is_n, value_lt b both.1) in grind (arith, value_lt, digit_char-digit_value)
     go false digits e = absurd cc
 hex_is_spelled (a ∷ b ∷ c ∷ word) n e = absurd cc
 
 -- and what is spelled so is read
 pub spelled_hex_is_read : (n : ℕ) → n < 2 ^ 8 → hex_of (hex n) ≡ Some n
 unfolding hex_of
-spelled_hex_is_read n small =
-    let high = is_hex_digit-digit_char (n / 16) (omega arith) in
-    let low = is_hex_digit-digit_char (n % 16) (omega arith) in
-    rw (and_from _ _ high low, digit_value-digit_char (n / 16) (omega arith), digit_value-digit_char (n % 16) (omega arith))
-    (ap Some (omega arith))
+spelled_hex_is_read n small = grind (arith, is_hex_digit-digit_char, and_from, digit_value-digit_char)
 
 -- the spelling is a word of a line
 pub spelled_hex_is_a_word : (n : ℕ) → n < 2 ^ 8 → IsLine (hex n) × IsWord (hex n)

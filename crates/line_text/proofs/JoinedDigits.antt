@@ -49,17 +49,7 @@ joined n =
 joined_digits : (a b c d e f g h : ℕ) → a ≤ 9 → b ≤ 9 → c ≤ 9 → d ≤ 9 → e ≤ 9 → f ≤ 9 → g ≤ 9 → h ≤ 9
     → joined (a + 256 * (b + 256 * (c + 256 * (d + 256 * (e + 256 * (f + 256 * (g + 256 * (h + 256 * 0))))))))
     ≡ 10000 * (100 * (10 * a + b) + (10 * c + d)) + (100 * (10 * e + f) + (10 * g + h))
-joined_digits a b c d e f g h sa sb sc sd se sf sg sh =
-    let one = pairs a b c d e f g h sa sb sc sd se sf sg sh in
-    let two =
-    low_bytes (10 * a + b) (10 * b + c) (10 * c + d) (10 * d + e) (10 * e + f) (10 * f + g) (10 * g + h) (omega arith) (omega arith)
-    (omega arith) (omega arith) (omega arith) (omega arith) (omega arith) in
-    let three = fours (10 * a + b) (10 * c + d) (10 * e + f) (10 * g + h) (omega arith) (omega arith) (omega arith) (omega arith) in
-    let four =
-    low_pairs (100 * (10 * a + b) + (10 * c + d)) (100 * (10 * c + d) + (10 * e + f)) (100 * (10 * e + f) + (10 * g + h)) (omega arith)
-    (omega arith) (omega arith) in
-    rw (one, two, three, four)
-    (whole (100 * (10 * a + b) + (10 * c + d)) (100 * (10 * e + f) + (10 * g + h)) (omega arith) (omega arith))
+joined_digits a b c d e f g h sa sb sc sd se sf sg sh = grind (arith, pairs, low_bytes, fours, low_pairs, whole)
 
 digit_at : (ds : List ℕ) (i : ℕ) → All (λ d. d < 10) ds → i < length ds → get_or ds i 0 ≤ 9
 digit_at ds i small within = omega (arith, small i 0 within)
@@ -95,9 +85,5 @@ joined_four (a ∷ b ∷ c ∷ d ∷ []) four small =
     let sb = digit_at ds 1 small (omega arith) in
     let sc = digit_at ds 2 small (omega arith) in
     let sd = digit_at ds 3 small (omega arith) in
-    let one = pairs_of_four a b c d sa sb sc sd in
-    let two = low_bytes_of_four (10 * a + b) (10 * b + c) (10 * c + d) (omega arith) (omega arith) (omega arith) in
-    let all : bit_and (word_of ds * 2561 % 2 ^ 32 / 256) 16711935 * 6553601 % 2 ^ 32 / 65536 ≡ 100 * (10 * a + b) + (10 * c + d) =
-    rw (one, two) (whole_of_four (10 * a + b) (10 * c + d) (omega arith) (omega arith)) in
-    all ∙ omega arith
+    grind (arith, pairs_of_four, low_bytes_of_four, whole_of_four)
 joined_four ds four small = absurd (omega (arith, four))

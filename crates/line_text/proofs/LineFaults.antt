@@ -25,14 +25,10 @@ record BeginsWith {A : Type 0} (x : A) (xs ys : List A) (k : ℕ) : Type 0 where
   alike : take k xs ≡ take k rest
 
 begins_with : {A : Type 0} (x : A) (xs ys : List A) (k : ℕ) → take (suc k) (x ∷ xs) ≡ take (suc k) ys → BeginsWith x xs ys k
-begins_with x xs [] k e = absurd cc
-begins_with x xs (y ∷ ys) k e =
-    let first : x ≡ y = cons_head x y (take k xs) (take k ys) e in
-    record { rest = ys; parts = rw first refl; alike = cons_tail x y (take k xs) (take k ys) e }
+begins_with x xs ys k is = grind arith
 
 nothing_begins : {A : Type 0} (ys : List A) → take 1 [] ≡ take 1 ys → ys ≡ []
-nothing_begins [] e = refl
-nothing_begins (y ∷ ys) e = absurd cc
+nothing_begins ys is = grind arith
 
 -- ---- readings
 
@@ -68,9 +64,7 @@ module _ {State Value Fault : Type 0} (from : ℕ → State → List (List ℕ) 
     reached = s;
     before = λ rest. ap (λ n. from n s rest) (sym (add-zero number));
     missing = λ all. absurd (omega arith);
-    whatever_follows = λ other alike.
-        let begins = begins_with line ls other 0 alike in
-        ap (from number s) begins.parts ∙ is number begins.rest ∙ ap (λ m. Err (m, fault)) (sym (add-zero number));
+    whatever_follows = λ other alike. grind (arith, begins_with, add-zero);
   }
 
   faulty_end : (number : ℕ) (s : State) (fault : Fault) → ((n : ℕ) → from n s [] ≡ Err (n, fault)) → IsFaultAt number s [] fault 0
@@ -79,25 +73,13 @@ module _ {State Value Fault : Type 0} (from : ℕ → State → List (List ℕ) 
     reached = s;
     before = λ rest. ap (λ n. from n s rest) (sym (add-zero number));
     missing = λ all. is;
-    whatever_follows = λ other alike.
-        ap (from number s) (nothing_begins other alike) ∙ is number ∙ ap (λ m. Err (m, fault)) (sym (add-zero number));
+    whatever_follows = λ other alike. grind (arith, nothing_begins, add-zero);
   }
 
   faulty_later : (number : ℕ) (s next : State) (line : List ℕ) (ls : List (List ℕ)) (fault : Fault) (k : ℕ)
       → ((n : ℕ) (ls : List (List ℕ)) → from n s (line ∷ ls) ≡ from (n + 1) next ls) → IsFaultAt (number + 1) next ls fault k
       → IsFaultAt number s (line ∷ ls) fault (suc k)
-  faulty_later number s next line ls fault k takes later =
-      let same : number + 1 + k ≡ number + suc k = omega arith in
-      record {
-        within = omega (arith, later.within);
-        reached = later.reached;
-        before = λ rest. takes number (take k ls ++ rest) ∙ later.before rest ∙ ap (λ n. from n later.reached rest) same;
-        missing = λ all. later.missing (omega arith);
-        whatever_follows = λ other alike.
-            let begins = begins_with line ls other (suc k) alike in
-            ap (from number s) begins.parts ∙ takes number begins.rest ∙ later.whatever_follows begins.rest begins.alike
-            ∙ ap (λ m. Err (m, fault)) same;
-      }
+  faulty_later number s next line ls fault k takes later = grind arith
 
   abbrev HasItsPlace : ℕ → State → List (List ℕ) → ℕ → Fault → Type 0
   HasItsPlace number s ls n fault = (k : ℕ) × (n ≡ number + k) × IsFaultAt number s ls fault k

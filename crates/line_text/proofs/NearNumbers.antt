@@ -1,5 +1,6 @@
 -- The first word of a line, where its digits end within the line's first bytes.
-use Rattle.std.proofs.Common.{◌≡◌, ◌≢◌, ℕ, ◌+◌, ◌<◌, ◌≤◌, ◌∙◌, List, [], ◌∷◌, ◌++◌, length, length-drop, drop, take, sym, ap, arith, true, false, eqb, Option, Some, None, get_or, leb, refl, inl, inr, ◌&&◌, ◌⊎◌}
+use Rattle.std.proofs.lemmas.Grind.{common_steps}
+use Rattle.std.proofs.Common.{◌≡◌, ◌≢◌, ℕ, ◌+◌, ◌<◌, ◌≤◌, ◌∙◌, List, [], ◌∷◌, ◌++◌, length, length-drop, drop, take, sym, ap, arith, true, false, eqb, Option, Some, None, get_or, leb, refl, inl, inr, ◌⊎◌}
 use Rattle.std.specs.Char.{is_ascii_digit}
 use Rattle.std.specs.List.{list_all, prefix_len}
 use Rattle.std.specs.Str.Parse.{digits_value}
@@ -7,7 +8,7 @@ use Rattle.std.proofs.lemmas.Bool.Decides.{nat_tests}
 use Rattle.std.proofs.lemmas.List.{drop-drop, get_or-drop, get_or-take, length-take-le, take-append-drop}
 use Rattle.std.proofs.lemmas.List.Folds.{prefix_len-append}
 use Rattle.std.proofs.lemmas.List.Sums.{prefix_len-le-length}
-use Rattle.std.proofs.lemmas.Bool.{and_right, cases_Bool, cases_lt, cond_both, le-leb, lt-leb}
+use Rattle.std.proofs.lemmas.Bool.{cases_Bool, le-leb, lt-leb}
 use Rattle.line_text.specs.Lines.{line_of, words}
 use Rattle.line_text.specs.Numbers.{near_number_of, number_of, short_number_of, leading_digits}
 use Rattle.line_text.proofs.Cuts.{line_is_its_words}
@@ -26,9 +27,7 @@ near_prefix line size near =
     let whole =
     ap (prefix_len is_ascii_digit) (sym (take-append-drop 19 line)) ∙ prefix_len-append is_ascii_digit (take 19 line) (drop 19 line) in
     let bytes : length (take 19 line) ≡ 19 = length-take-le 19 line near.long in
-    let digits = near.digits in
-    let ended = near.ended in
-    whole ∙ grind (arith, nat_tests)
+    grind (arith, nat_tests)
 
 near_digits_are : (line : List ℕ) (size : ℕ) → IsNear line size → leading_digits line ≡ take size line
 near_digits_are line size near = ap (λ n. take n line) (near_prefix line size near)
@@ -59,13 +58,7 @@ near_word line size near space =
 -- and unless a needless 0 is in front, it spells their value.
 pub near_number : (line : List ℕ) (size : ℕ) → IsNear line size → 0 < size → (size ≡ 1) ⊎ (eqb (get_or (take 19 line) 0 0) 48 ≡ false)
     → short_number_of (take size line) ≡ Some (digits_value 10 (take size line))
-near_number line size near some first =
-    let digits = near_digits_are line size near in
-    let all : list_all is_ascii_digit (take size line) ≡ true = rw digits at (are_digits line) in
-    let same : get_or (take 19 line) 0 0 ≡ get_or line 0 0 = get_or-take 19 line 0 0 (omega arith) in
-    ap short_number_of (sym digits)
-    ∙ a_number line size (omega (arith, near.long, near.ended)) (omega (arith, near.ended)) (near_prefix line size near) all some
-    (rw same at first)
+near_number line size near some first = grind (arith, near_digits_are, are_digits, get_or-take, a_number, near_prefix)
 
 -- ---- the word that is read, or left
 
@@ -77,38 +70,23 @@ pub near_some : (line : List ℕ) (size : ℕ) → IsNear line size → get_or (
 near_some line size near space some first =
     let parts = near_word line size near space in
     let whole : line_of (take size line ∷ words (drop (size + 1) line)) ≡ line = ap line_of (sym parts) ∙ line_is_its_words line in
-    let word : length (take size line) ≡ size = length-take-le size line (omega (arith, near.long, near.ended)) in
-    let long : leb 19 (length line) ≡ true = le-leb 19 (length line) near.long in
-    let few : leb (length (take size line)) 18 ≡ true = le-leb _ 18 (omega (arith, near.ended, word)) in
-    let spelled = few_digits (take size line) _ (omega (arith, near.ended, word)) (near_number line size near some first) in
-    ap near_number_of parts ∙ rw (whole, long, few) spelled
+    grind (arith, length-take-le, le-leb, few_digits, near_number)
 
 short_line : (line : List ℕ) (ws : List (List ℕ)) → words line ≡ ws → length line < 19 → near_number_of ws ≡ None
 short_line line [] parts short = refl
 short_line line (word ∷ ws) parts short =
     let whole : line_of (word ∷ ws) ≡ line = ap line_of (sym parts) ∙ line_is_its_words line in
-    let not : leb 19 (length line) ≡ false = lt-leb 19 (length line) short in
-    rw (whole, not) refl
+    grind (arith, lt-leb)
 
 pub near_short : (line : List ℕ) → length line < 19 → near_number_of (words line) ≡ None
 near_short line short = short_line line (words line) refl short
 
 -- a first word that is no number, or one of more digits
 left_word : (word : List ℕ) (ws : List (List ℕ)) → (length word ≤ 18 → number_of word ≡ None) → near_number_of (word ∷ ws) ≡ None
-left_word word ws none = elim (cases_lt 18 (length word)) [
-  | inl many ↦ (let not : leb (length word) 18 ≡ false = lt-leb (length word) 18 many in
-      rw (not, and_right (leb 19 (length (line_of (word ∷ ws)))) false refl) refl)
-  | inr few ↦ (let nothing = none few in
-      rw nothing (cond_both (leb 19 (length (line_of (word ∷ ws))) && leb (length word) 18) None None (λ (o : Option ℕ). o ≡ None)
-      (λ _. refl) (λ _. refl)))
-]
+left_word word ws none = grind arith
 
 pub near_none : (line : List ℕ) → first_number_of line ≡ None → near_number_of (words line) ≡ None
-near_none line none = go (words line) refl
-  where
-    go : (ws : List (List ℕ)) → words line ≡ ws → near_number_of ws ≡ None
-    go [] parts = refl
-    go (word ∷ ws) parts = left_word word ws (λ few. few_digits word None few (rw parts at none))
+near_none line none = grind arith
 
 pub near_many : (line : List ℕ) → 19 ≤ length line → list_all is_ascii_digit (take 19 line) ≡ true → near_number_of (words line) ≡ None
 near_many line long all = go (words line) refl
@@ -136,8 +114,4 @@ near_other line size near other =
 
 pub near_no_number : (line : List ℕ) (size : ℕ) → IsNear line size → (size ≡ 0) ⊎ ((get_or (take 19 line) 0 0 ≡ 48) × (1 < size))
     → near_number_of (words line) ≡ None
-near_no_number line size near why =
-    let same : get_or (take 19 line) 0 0 ≡ get_or line 0 0 = get_or-take 19 line 0 0 (omega arith) in
-    near_none line
-    (no_first_number line (no_number line size (omega (arith, near.long, near.ended)) (omega (arith, near.ended))
-    (near_prefix line size near) (rw same at why)))
+near_no_number line size near why = grind (arith, common_steps, get_or-take, near_none, no_first_number, no_number, near_prefix)
