@@ -130,9 +130,7 @@ module _ where
 
     live_copied : state_at copied chunk.slot ≡ Live chunk.size (logical_tag p)
     unfolding copied
-    live_copied =
-        state_at-with_payload (given_out h s n) s chunk.slot (payload_bytes h chunk.slot (min chunk.size n))
-        ∙ state_at-given_out_other h s n chunk.slot another ∙ c.live
+    live_copied = grind (arith, state_at-with_payload, state_at-given_out_other)
 
     layout_copied : copied.layout ≡ h.layout
     unfolding copied
@@ -150,10 +148,7 @@ module _ where
 
     pub live_moved : state_at (moved h chunk s n) s ≡ Live n (next_tag h s)
     unfolding moved copied freed
-    live_moved =
-        get_or-set_other copied.states chunk.slot s _ Fresh (λ is. another (sym is))
-        ∙ state_at-with_payload (given_out h s n) s s (payload_bytes h chunk.slot (min chunk.size n))
-        ∙ state_at-given_out h s n (in_states h s sound given.reusable.in_range)
+    live_moved = grind (arith, get_or-set_other, state_at-with_payload, state_at-given_out, in_states)
 
     pub IsSoundHeap-moved : IsSoundHeap (moved h chunk s n)
     unfolding moved copied
@@ -168,9 +163,7 @@ module _ where
   -- a slot is given out, and keeps its state
   IsKept-given : (h new : Heap) (n s : ℕ) → IsSoundHeap h → MayBeGiven h n s → IsSoundHeap new → KeepsGiven (given_out h s n) new →
       state_at new s ≡ state_at (given_out h s n) s → IsKept h new (Some s)
-  IsKept-given h new n s sound given new_sound kept same =
-      let live = same ∙ state_at-given_out h s n (in_states h s sound given.reusable.in_range) in
-      record { sound = new_sound; change = record { n = n; given = given; kept = kept; live = live } }
+  IsKept-given h new n s sound given new_sound kept same = grind (arith, state_at-given_out, in_states)
 
   pub IsKept-malloc : (h : Heap) (n : ℕ) → IsSoundHeap h → IsKept h (malloc_step h n).heap (result_ok (slot_for_request h n))
   unfolding malloc_step

@@ -1,13 +1,13 @@
 -- A new heap is sound.
-use Rattle.std.proofs.Common.{◌≡◌, ◌≢◌, ℕ, ◌<◌, ◌≤◌, length, get_or, replicate, cond, refl, sym, ap, ◌∙◌, subst, ⊎_elim, arith}
+use Rattle.std.proofs.Common.{◌≡◌, ℕ, length, get_or, replicate, cond, arith}
 use Rattle.std.proofs.lemmas.Bool.{cases_lt, cond_both}
 use Rattle.std.proofs.lemmas.List.{get_or-replicate, length-replicate, get_or_past}
 use Rattle.std.proofs.lemmas.List.FromFn.{get_or-map-range_with_len, length-map-range_with_len}
-use Rattle.machine_theory.specs.Memory.{Granule, no_granule, new_granule, tag_at}
-use Rattle.class_table.specs.Layout.{Partition, IsPartition, slot_count, slot_of}
+use Rattle.machine_theory.specs.Memory.{no_granule, new_granule, tag_at}
+use Rattle.class_table.specs.Layout.{Partition, IsPartition, slot_count}
 use Rattle.machine_theory.proofs.MemoryLaws.{tag_at_past}
 use Rattle.heap_theory.proofs.TheoryLemmas as laws
-use Rattle.heap_theory.specs.Sound.{IsTaggedSlot, IfDead, IsSoundHeap}
+use Rattle.heap_theory.specs.Sound.{IsSoundHeap}
 use Rattle.heap_theory.specs.State.{is_header_granule, first_memory, first_heap}
 use Rattle.heap_theory.specs.State.State.{Fresh}
 
@@ -18,14 +18,7 @@ length-first_memory layout = length-map-range_with_len (λ g. cond (is_header_gr
 -- past the end of a memory there is no tag
 tag_at-first_memory : (layout : Partition) (g : ℕ) → tag_at (first_memory layout) g ≡ 0
 unfolding first_memory
-tag_at-first_memory layout g = ⊎_elim
-    (λ within.
-    ap (λ (granule : Granule). granule.tag)
-    (get_or-map-range_with_len (λ g. cond (is_header_granule layout g) no_granule new_granule) 0 layout.granules g g no_granule within
-    (omega arith))
-    ∙ cond_both (is_header_granule layout g) no_granule new_granule (λ granule. granule.tag ≡ 0) (λ _. refl) (λ _. refl))
-    (λ past. tag_at_past (first_memory layout) g (subst (λ n. n ≤ g) (sym (length-first_memory layout)) past))
-    (cases_lt g layout.granules)
+tag_at-first_memory layout g = grind (arith, get_or-map-range_with_len, cond_both, tag_at_past, length-first_memory, cases_lt)
 
 pub get_or-replicate_any : {A : Type 0} (n i : ℕ) (a : A) → get_or (replicate n a) i a ≡ a
 get_or-replicate_any n i a = grind (arith, cases_lt, get_or-replicate, get_or_past, length-replicate)
@@ -35,26 +28,7 @@ pub IsSoundHeap-first : (layout : Partition) (seed quarantine : ℕ) → IsParti
 unfolding first_heap
 IsSoundHeap-first layout seed quarantine is =
     let order = laws.in_order 1 layout is.table in
-    record {
-      partition = is;
-      slots = order;
-      long = length-first_memory layout;
-      states = length-replicate (slot_count layout) Fresh;
-      tag_below = omega arith;
-      tagged = λ s within. subst (λ x. IsTaggedSlot (first_memory layout) s (slot_of layout s) x) (sym (fresh s)) (record {
-        room = let wide : 2 ≤ (slot_of layout s).class = order.wide s within in omega arith;
-        chunk_tag = 0;
-        is_chunk_tag = tt;
-        header = none _;
-        chunk = λ g from to. none g;
-        tail = λ g from to. none g;
-      });
-      slack = λ g _. none g;
-      marks = λ s. subst (λ x. IfDead x (λ mark. mark < 0)) (sym (fresh s)) tt;
-      marks_differ =
-          λ s r apart. subst (λ x. IfDead x (λ mark. IfDead (get_or (replicate (slot_count layout) Fresh) r Fresh) (λ other. mark ≢ other)))
-          (sym (fresh s)) tt;
-    }
+    grind (arith, length-first_memory, length-replicate, fresh, none)
   where
     fresh : (s : ℕ) → get_or (replicate (slot_count layout) Fresh) s Fresh ≡ Fresh
     fresh s = get_or-replicate_any (slot_count layout) s Fresh

@@ -13,8 +13,7 @@ use Rattle.heap_theory.specs.State.{State, Heap, IsLive, is_dead, slot_in, state
 use Rattle.heap_theory.specs.State.State.{Fresh, Live, Dead}
 
 is_among-from : (first count n : ℕ) → first ≤ n → n < first + count → is_among first count n ≡ true
-is_among-from first count n from to =
-    and_from (nat_le first n) (nat_lt n (first + count)) (le-leb first n from) (lt-ltb n (first + count) to)
+is_among-from first count n from to = grind (arith, and_from, le-leb, lt-ltb)
 
 is_among-to : (first count n : ℕ) → is_among first count n ≡ true → n < first + count
 is_among-to first count n among = ltb-true n (first + count) (and_parts (nat_le first n) (nat_lt n (first + count)) among).1
@@ -62,11 +61,7 @@ module _ (h : Heap) (sound : IsSoundHeap h) (g : ℕ) where
   tail_is s p rest =
       in_payload s p
       ∙ cond-false (is_among (payload_start (slot_in h s)) (chunk_granules_of (state_at h s)) g) (kind_of_chunk (state_at h s)) Tail
-      (false_from_ne_true _ (λ among. rest (record {
-        in_range = p.in_range;
-        from = p.from;
-        to = omega (arith, is_among-to (payload_start (slot_in h s)) (chunk_granules_of (state_at h s)) g among);
-      })))
+      (grind (arith, false_from_ne_true, is_among-to))
 
   live_is : (x : State) → IsLive x → kind_of_chunk x ≡ Other
   live_is x live = grind arith

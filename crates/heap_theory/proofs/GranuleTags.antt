@@ -1,6 +1,5 @@
 -- Which tags the granules of a sound heap have.
-use Rattle.std.proofs.Common.{◌≡◌, ◌⊎◌, ℕ, ◌+◌, ◌<◌, ◌≤◌, true, false, refl, sym, ◌∙◌, subst, inl, inr, arith, Some, None, Option}
-use Rattle.std.specs.Prelude.{nat_le, nat_lt}
+use Rattle.std.proofs.Common.{◌≡◌, ◌⊎◌, ℕ, ◌+◌, ◌<◌, ◌≤◌, true, false, refl, sym, ◌∙◌, subst, arith, Some, None, Option}
 use Rattle.std.proofs.lemmas.Bool.{cases_lt, eqb-true, eqb-false, and_cases, leb-false, ltb-false}
 use Rattle.machine_theory.specs.Memory.{tag_at, is_among}
 use Rattle.class_table.specs.Layout.{Slot, Covers, slot_over}
@@ -13,9 +12,7 @@ use Rattle.heap_theory.specs.State.{State, Heap, slot_in, state_at, chunk_granul
 -- ---- bookkeeping granules have tag 0
 
 not_among : (first count g : ℕ) → is_among first count g ≡ false → (g < first) ⊎ (first + count ≤ g)
-not_among first count g out =
-    elim (and_cases (nat_le first g) (nat_lt g (first + count)) out)
-    [ inl low ↦ inl (leb-false _ _ low) | inr high ↦ inr (ltb-false _ _ high) ]
+not_among first count g out = grind (arith, and_cases, leb-false, ltb-false)
 
 -- a granule of a chunk is no bookkeeping
 no_chunk : (slot : Slot) (state : State) (g : ℕ) → is_among (payload_start slot) (chunk_granules_of state) g ≡ true →
@@ -40,16 +37,7 @@ bookkeeping_tag h g sound book = by_slot (slot_over h.layout g) refl book
 
 -- a granule of a payload has tag 0, or a tag that its slot may take
 pub payload_tag : (h : Heap) (r g : ℕ) → IsSoundHeap h → IsPayloadGranule h r g → (tag_at h.memory g ≡ 0) ⊎ IsTagOf r (tag_at h.memory g)
-payload_tag h r g sound p = by_state (state_at h r) refl
-  where
-    t : IsTaggedSlot h.memory r (slot_in h r) (state_at h r)
-    t = sound.tagged r p.in_range
-
-    at : IsTagOf r t.chunk_tag → (tag_at h.memory g ≡ 0) ⊎ IsTagOf r (tag_at h.memory g)
-    at is_tag = grind (arith, cases_lt)
-
-    by_state : (x : State) → state_at h r ≡ x → (tag_at h.memory g ≡ 0) ⊎ IsTagOf r (tag_at h.memory g)
-    by_state x0 was = grind (arith, at)
+payload_tag h r g sound p = grind (arith, cases_lt)
 
 -- a granule of a slot has tag 0, or it is of the chunk and has its tag
 pub covered_tag : (h : Heap) (s g : ℕ) (t : IsTaggedSlot h.memory s (slot_in h s) (state_at h s)) → Covers (slot_in h s) g →

@@ -1,5 +1,5 @@
 -- A header that is written is read, and says how its slot stands.
-use Rattle.std.proofs.Common.{⊎_elim, ◌≡◌, ◌⊎◌, ℕ, ◌+◌, ◌*◌, ◌%◌, ◌^◌, ◌<◌, ◌≤◌, false, length, get_or, refl, sym, ap, ◌∙◌, inl, inr, arith, Some, None, Option}
+use Rattle.std.proofs.Common.{⊎_elim, ◌≡◌, ◌⊎◌, ℕ, ◌+◌, ◌*◌, ◌%◌, ◌^◌, ◌<◌, ◌≤◌, length, refl, sym, ap, ◌∙◌, inl, inr, arith, Some, None, Option}
 use Rattle.std.specs.Prelude.{◌==◌, All, slice_get, position, unwrap_or, List, ◌≢◌}
 use Rattle.std.specs.Int.{w64, to_le_bytes, from_le_bytes}
 use Rattle.std.proofs.lemmas.Bool.{cases_order, eq-eqb, eqb-true, both_ways}
@@ -104,15 +104,12 @@ class_number-is layout s within = by (position (λ class. class == (slot_of layo
         slice_get-get_or layout.classes number 0 found.0 ∙ ap Some (eqb-true _ _ found.1)
     by None was =
         let listed = laws.classes_listed layout s within in
-        let no : (get_or layout.classes listed.0 (slot_of layout s).class == (slot_of layout s).class) ≡ false =
-        position-None (λ class. class == (slot_of layout s).class) layout.classes was listed.0 (slot_of layout s).class listed.1 in
-        absurd (both_ways _ no (eq-eqb _ _ listed.2))
+        grind (arith, position-None, both_ways, eq-eqb)
 
 -- it is one of at most 32
 pub class_number-few : (step : ℕ) (layout : Partition) (s : ℕ) → IsLegalTable step layout.classes → s < slot_count layout →
     class_number layout s < 32
-class_number-few step layout s table within =
-    omega (arith, slice_get_within layout.classes _ _ (class_number-is layout s within), table.few)
+class_number-few step layout s table within = grind (arith, slice_get_within, class_number-is)
 
 -- a slot's size is at most 16,368 bytes
 pub size_of-most : (x : State) (class : ℕ) → chunk_granules_of x < class → class ≤ 1024 → size_of x ≤ 16368

@@ -27,8 +27,7 @@ IfDead-so x0 x1 x2 so p = grind arith
 
 IfDead-both : (x y : State) (P Q : ℕ → Type 0) (R : ℕ → ℕ → Type 0) → ((mark other : ℕ) → P mark → Q other → R mark other) →
     IfDead x P → IfDead y Q → IfDead x (λ mark. IfDead y (R mark))
-IfDead-both x y P Q R so p q =
-    IfDead-so x P (λ mark. IfDead y (R mark)) (λ mark here. IfDead-so y Q (R mark) (λ other there. so mark other here there) q) p
+IfDead-both x y P Q R so p q = grind (arith, IfDead-so)
 
 -- a slot whose granules keep their tags stays tagged
 IsTaggedSlot-same : (memory other : List Granule) (s : ℕ) (slot : Slot) (state : State) →
@@ -40,9 +39,7 @@ IsTaggedSlot-same memory other s slot state same t = grind arith
 module _ (h : Heap) (s : ℕ) (state : State) (memory : List Granule) (total seed tag : ℕ) (sound : IsSoundHeap h)
     (in_range : s < slot_count h.layout) where
   here : (r : ℕ) → r ≡ s → get_or (slice_set h.states s state) r Fresh ≡ state
-  here r is =
-      subst (λ q. get_or (slice_set h.states s state) q Fresh ≡ state) (sym is)
-      (get_or-set_same h.states s state Fresh (in_states h s sound in_range))
+  here r is = grind (arith, get_or-set_same, in_states)
 
   there : (r : ℕ) → (r ≡ s → ⊥) → get_or (slice_set h.states s state) r Fresh ≡ state_at h r
   there r not = get_or-set_other h.states s r state Fresh not
@@ -50,10 +47,7 @@ module _ (h : Heap) (s : ℕ) (state : State) (memory : List Granule) (total see
   -- a granule of another slot, or of none, is outside of the payload of s
   apart : (r g : ℕ) → r < slot_count h.layout → (r ≡ s → ⊥) → (slot_in h r).start ≤ g → g < end_of (slot_in h r) →
       (g ≤ (slot_in h s).start) ⊎ (end_of (slot_in h s) ≤ g)
-  apart r g within not from to = ⊎_elim
-      (λ lt. inl (let before : end_of (slot_in h r) ≤ (slot_in h s).start = sound.slots.apart r s lt in_range in omega arith))
-      (λ le. inr (let before : end_of (slot_in h s) ≤ (slot_in h r).start = sound.slots.apart s r (omega arith) within in omega arith))
-      (cases_lt r s)
+  apart r g within not from to = grind (arith, cases_lt)
 
   outside : (g : ℕ) → ((r : ℕ) → r < slot_count h.layout → Covers (slot_in h r) g → ⊥) →
       (g ≤ (slot_in h s).start) ⊎ (end_of (slot_in h s) ≤ g)

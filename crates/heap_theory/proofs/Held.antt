@@ -20,8 +20,7 @@ ascending h from (s ∷ rest) sound c =
     AllPairs-cons (λ s r. mark_of (state_at h s) < mark_of (state_at h r)) s rest
     (λ r there.
     let q = chain_dead h (from + block_bytes (slot_in h s)) rest r c.2 there in
-    let two : 2 ≤ (slot_in h s).class = sound.slots.wide s c.0 in
-    omega (arith, mark_of-is (state_at h s) from c.1, mark_of-is (state_at h r) q.mark q.marked, q.above))
+    grind (arith, mark_of-is))
     (ascending h (from + block_bytes (slot_in h s)) rest sound c.2)
 
 pub holds_quarantined : (heap : Heap) (queue : List ℕ) (lists : List (List ℕ)) → IsSoundHeap heap → AgreeWithMarks heap queue lists →

@@ -1,5 +1,5 @@
 -- Lists that are linked through headers.
-use Rattle.std.proofs.Common.{◌≡◌, ◌≢◌, ℕ, ◌<◌, List, [], ◌∷◌, ◌++◌, length, suc, refl, sym, ap, ◌∙◌, subst, inl, inr, arith, drop}
+use Rattle.std.proofs.Common.{◌≡◌, ◌≢◌, ℕ, ◌<◌, List, [], ◌∷◌, ◌++◌, length, suc, refl, sym, ap, subst, inl, inr, arith, drop}
 use Rattle.std.specs.Prelude.{Contains, AllPairs}
 use Rattle.heap_theory.specs.Links.{IsLinked, last_link}
 use Rattle.heap_theory.proofs.ListSearch.{Contains-head, Contains-tail, Contains-cases, Contains-none, AllPairs-cons, AllPairs-nil}
@@ -52,8 +52,7 @@ IsLinked-once next front (s ∷ rest) l =
     AllPairs-cons (λ s r. s ≢ r) s rest
     (λ r there same.
     let again = from_there next (next s) rest s l.1 (subst (Contains rest) (sym same) there) in
-    let one : again.0 ≡ rest = IsLinked-one next (next s) again.0 rest again.2 l.1 in
-    omega (arith, again.1, ap length one))
+    grind (arith, IsLinked-one))
     (IsLinked-once next (next s) rest l.1)
 
 -- the last slot has no link
@@ -70,8 +69,7 @@ pub IsLinked-append : (next new : ℕ → ℕ) (front last s : ℕ) (list : List
     ((r : ℕ) → Contains list r → r ≢ last → new r ≡ next r) → new last ≡ suc s → new s ≡ 0 → IsLinked new front (list ++ s ∷ [])
 IsLinked-append next new front last s [] l is others linked ends = absurd (omega (arith, is))
 IsLinked-append next new front last s (r ∷ []) l is others linked ends =
-    let same : r ≡ last = omega (arith, is) in
-    (l.0, (ap new same ∙ linked, ends))
+    grind arith
 IsLinked-append next new front last s (r ∷ q ∷ rest) l is others linked ends =
     let more =
     IsLinked-append next new (next r) last s (q ∷ rest) l.1 is (λ p there. others p (Contains-tail r (q ∷ rest) p there)) linked ends in

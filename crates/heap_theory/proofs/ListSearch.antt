@@ -27,8 +27,7 @@ pub find_passes : {X : Type 0} (p : X → Bool) (xs : List X) (x : X) → find p
 find_passes p [] x is = cc
 find_passes p (y ∷ ys) x is = elim (cases_Bool (p y)) [
   | inl passed ↦
-      let found : Some y ≡ Some x = subst (λ b. cond b (Some y) (find p ys) ≡ Some x) passed is in
-      let same : y ≡ x = cc in subst (λ z. p z ≡ true) same passed
+      grind arith
   | inr failed ↦ find_passes p ys x (subst (λ b. cond b (Some y) (find p ys) ≡ Some x) failed is)
 ]
 
@@ -59,8 +58,7 @@ in_filter {X} p xs x there passes = at xs there.0 there.1 there.2
     at : (xs : List X) (k : ℕ) → k < length xs → get_or xs k x ≡ x → Contains (filter p xs) x
     at [] k within is = absurd (omega arith)
     at (y ∷ ys) zero within is =
-        subst (λ ys. Contains ys x) (sym (cond-true (p y) (y ∷ filter p ys) (filter p ys) (subst (λ z. p z ≡ true) (sym is) passes)))
-        (0, omega arith, is)
+        grind (arith, cond-true)
     at (y ∷ ys) (suc k) within is =
         let rest : Contains (filter p ys) x = at ys k (omega arith) is in
         cond_both (p y) (y ∷ filter p ys) (filter p ys) (λ zs. Contains zs x) (λ _. after (filter p ys) y rest) (λ _. rest)
@@ -68,17 +66,12 @@ in_filter {X} p xs x there passes = at xs there.0 there.1 there.2
 -- the first element that passes a filter
 pub first_in_filter : {X : Type 0} (p : X → Bool) (xs : List X) → slice_get (filter p xs) 0 ≡ find p xs
 first_in_filter p [] = refl
-first_in_filter p (x ∷ xs) = elim (cases_Bool (p x)) [
-  | inl passed ↦ rw passed refl
-  | inr failed ↦ rw failed (first_in_filter p xs)
-]
+first_in_filter p (x ∷ xs) = grind (arith, cases_Bool, first_in_filter p xs)
 
 -- ---- numbers below a bound
 
 pub All-range : (n : ℕ) → All (λ s. s < n) (range_with_len 0 n)
-All-range n k d within =
-    let below : k < n = subst (λ m. k < m) (length-range_with_len 0 n) within in
-    subst (λ x. x < n) (sym (get_or-range_with_len 0 n k d below)) (omega arith)
+All-range n k d within = grind (arith, length-range_with_len, get_or-range_with_len)
 
 pub Contains-range : (n s : ℕ) → s < n → Contains (range_with_len 0 n) s
 Contains-range n s below =

@@ -1,24 +1,21 @@
 -- What is true of the slot that a request is given, and of the chunk that a pointer names.
-use Rattle.std.proofs.Common.{◌≡◌, ℕ, ◌-◌, ◌*◌, ◌^◌, ◌<◌, ◌≤◌, Bool, true, cond, List, refl, sym, ap, ◌∙◌, subst, inl, inr, arith, Some, None, Option, Result, Ok, Err}
-use Rattle.std.specs.Prelude.{◌==◌, ◌&&◌, nat_lt, nat_le, All}
+use Rattle.std.proofs.Common.{◌≡◌, ℕ, ◌^◌, ◌<◌, ◌≤◌, Bool, true, List, refl, sym, ap, ◌∙◌, inl, arith, Some, None, Option, Result, Ok, Err}
+use Rattle.std.specs.Prelude.{◌==◌, ◌&&◌, nat_le, All}
 use Rattle.std.specs.Option.{ok_or, option_or}
 use Rattle.std.specs.List.{range_with_len, list_all}
 use Rattle.std.proofs.lemmas.Bool.{eqb-true, leb-true, ltb-true, and_parts, cases_Bool}
 use Rattle.std.proofs.lemmas.List.Elements.{All-filter, filter_passes}
 use Rattle.std.proofs.lemmas.List.Quantifiers.{position-Some}
-use Rattle.machine_theory.specs.Address.{logical_tag, place_of}
+use Rattle.machine_theory.specs.Address.{place_of}
 use Rattle.class_table.specs.Layout.{slot_count}
-use Rattle.class_table.specs.Sizes.{largest_counted, serves, chunk_granules}
+use Rattle.class_table.specs.Sizes.{chunk_granules}
 use Rattle.class_table.specs.Tables.{class_for}
-use Rattle.heap_theory.specs.declared.refusal.FreeError.{FreeError}
-use Rattle.heap_theory.specs.declared.refusal.FreeError.TheVariants.{WrongTag}
 use Rattle.heap_theory.specs.declared.refusal.NullCause.{NullCause}
-use Rattle.heap_theory.specs.declared.refusal.NullCause.TheVariants.{Large, NoClass, Exhausted}
+use Rattle.heap_theory.specs.declared.refusal.NullCause.TheVariants.{Exhausted}
 use Rattle.heap_theory.specs.Calls.{is_class_of, stays_in_class}
-use Rattle.heap_theory.specs.Lookups.{Chunk, IsReusable, MayBeGiven, IsLiveChunk, slots_with, freed_last, lowest_fresh, slot_for, class_for_request, slot_in_class, slot_for_request, slot_of_pointer, chunk_in, chunk_in_slot, chunk_at}
+use Rattle.heap_theory.specs.Lookups.{Chunk, IsReusable, MayBeGiven, IsLiveChunk, slots_with, freed_last, lowest_fresh, slot_for, class_for_request, slot_in_class, slot_for_request, slot_of_pointer, chunk_at}
 use Rattle.heap_theory.specs.Sound.{IsSoundHeap}
 use Rattle.heap_theory.specs.State.{State, Heap, slot_in, state_at, is_fresh, payload_place, is_released, mark_of}
-use Rattle.heap_theory.specs.State.State.{Fresh, Live, Dead}
 use Rattle.heap_theory.proofs.ListSearch.{All-find, find_passes, first_in_filter, All-range}
 
 -- ---- slots of a class
@@ -31,8 +28,7 @@ pub record IsCandidate (h : Heap) (test : State → Bool) (class s : ℕ) : Type
 pub All-slots_with : (h : Heap) (test : State → Bool) (class : ℕ) → All (IsCandidate h test class) (slots_with h test class)
 All-slots_with h test class k d within =
     let both =
-    and_parts _ _ (filter_passes (λ s. (slot_in h s).class == class && test (state_at h s)) (range_with_len 0 (slot_count h.layout)) k d
-    within) in
+    and_parts _ _ (grind (arith, filter_passes)) in
     record {
       in_range =
           All-filter (λ s. (slot_in h s).class == class && test (state_at h s)) (λ s. s < slot_count h.layout)
@@ -47,8 +43,7 @@ lowest_fresh-is h class s is =
     sym (first_in_filter (λ s. (slot_in h s).class == class && is_fresh (state_at h s)) (range_with_len 0 (slot_count h.layout)))
     ∙ is in
     let both =
-    and_parts _ _ (find_passes (λ s. (slot_in h s).class == class && is_fresh (state_at h s)) (range_with_len 0 (slot_count h.layout)) s
-    found) in
+    and_parts _ _ (grind (arith, find_passes)) in
     record {
       in_range =
           All-find (λ s. s < slot_count h.layout) (λ s. (slot_in h s).class == class && is_fresh (state_at h s))
@@ -76,29 +71,17 @@ slot_for-is h class s is = from (freed_last h (slots_with h (is_released h) clas
     from None was is = let c = lowest_fresh-is h class s is in (record { in_range = c.in_range; free = inl c.passes }, c.of_class)
     from (Some r) was is =
         let c = freed_last-is h class r was in
-        let same : r ≡ s = cc in
-        subst (λ x. IsReusable h x × ((slot_in h x).class ≡ class)) same (record { in_range = c.in_range; free = inr c.passes }, c.of_class)
+        grind arith
 
 -- ---- the slot of a request
 
 -- a class that serves a request has room for its chunk
 pub room_in : (classes : List ℕ) (n class : ℕ) → class_for classes n ≡ Some class → 2 ≤ class → chunk_granules n < class
-room_in classes n class found wide =
-    let fits : n ≤ 16 * class - 16 = leb-true _ _ (find_passes (serves n) classes class found) in
-    omega arith
+room_in classes n class found wide = grind (arith, leb-true, find_passes)
 
 -- the class of a request is the table's
 pub class_for_request-is : (h : Heap) (n class : ℕ) → class_for_request h n ≡ Ok class → class_for h.layout.classes n ≡ Some class
-class_for_request-is h n class is = elim (cases_Bool (nat_lt largest_counted n)) [
-  | inl large ↦ let never : ◌≡◌ {A = Result ℕ NullCause} (Err Large) (Ok class) =
-      subst (λ b. cond b (Err Large) (ok_or (class_for h.layout.classes n) NoClass) ≡ Ok class) large is in absurd cc
-  | inr small ↦ from (class_for h.layout.classes n) refl
-      (subst (λ b. cond b (Err Large) (ok_or (class_for h.layout.classes n) NoClass) ≡ Ok class) small is)
-]
-  where
-    from : (o : Option ℕ) → class_for h.layout.classes n ≡ o → ok_or o NoClass ≡ Ok class → class_for h.layout.classes n ≡ Some class
-    from None was is = absurd cc
-    from (Some other) was is = let same : other ≡ class = cc in was ∙ ap Some same
+class_for_request-is h n class is = grind (arith, cases_Bool)
 
 pub slot_for_request-is : (heap : Heap) (n s : ℕ) → IsSoundHeap heap → slot_for_request heap n ≡ Ok s → MayBeGiven heap n s
 unfolding slot_for_request
@@ -120,11 +103,7 @@ slot_for_request-is h n s sound is = in_class (class_for_request h n) refl is
 -- what holds of each refusal and of each slot that may be given holds of what a request is given
 pub slot_for_request-cases : (h : Heap) (n : ℕ) → IsSoundHeap h → (P : Result ℕ NullCause → Type 0) →
     ((cause : NullCause) → P (Err cause)) → ((s : ℕ) → MayBeGiven h n s → P (Ok s)) → P (slot_for_request h n)
-slot_for_request-cases h n sound P refused given = by_slot (slot_for_request h n) refl
-  where
-    by_slot : (r : Result ℕ NullCause) → slot_for_request h n ≡ r → P r
-    by_slot (Err cause) was = refused cause
-    by_slot (Ok s) was = given s (slot_for_request-is h n s sound was)
+slot_for_request-cases h n sound P refused given = grind (arith, slot_for_request-is)
 
 -- ---- the chunk of a pointer
 
@@ -134,27 +113,7 @@ slot_of_pointer-is h p s is = grind (arith, eqb-true, ltb-true, position-Some)
 
 pub chunk_at-is : (heap : Heap) (p : ℕ) (chunk : Chunk) → chunk_at heap p ≡ Ok chunk → IsLiveChunk heap p chunk
 unfolding chunk_at
-chunk_at-is h p chunk is = from (slot_of_pointer h p) refl is
-  where
-    in_state : (s : ℕ) → (s < slot_count h.layout) × (p < 2 ^ 60) × (place_of p ≡ payload_place (slot_in h s)) → (x : State) →
-        state_at h s ≡ x → chunk_in p s x ≡ Ok chunk → IsLiveChunk h p chunk
-    in_state s at Fresh was is = absurd cc
-    in_state s at (Dead size tag mark) was is = absurd cc
-    in_state s at (Live size tag) was is = elim (cases_Bool (logical_tag p == tag)) [
-      | inl same_tag ↦
-          let ok : ◌≡◌ {A = Result Chunk FreeError} (Ok (record { slot = s; size = size })) (Ok chunk) =
-          subst (λ b. cond b (Ok (record { slot = s; size = size })) (Err WrongTag) ≡ Ok chunk) same_tag is in
-          let same : record { slot = s; size = size } ≡ chunk = cc in
-          subst (IsLiveChunk h p) same
-          (record { in_range = at.0; live = was ∙ ap (Live size) (sym (eqb-true _ _ same_tag)); plain = at.1; place = at.2 })
-      | inr other_tag ↦
-          let wrong : ◌≡◌ {A = Result Chunk FreeError} (Err WrongTag) (Ok chunk) =
-          subst (λ b. cond b (Ok (record { slot = s; size = size })) (Err WrongTag) ≡ Ok chunk) other_tag is in absurd cc
-    ]
-
-    from : (o : Option ℕ) → slot_of_pointer h p ≡ o → chunk_in_slot h p o ≡ Ok chunk → IsLiveChunk h p chunk
-    from None was is = absurd cc
-    from (Some s) was is = in_state s (slot_of_pointer-is h p s was) (state_at h s) refl is
+chunk_at-is h p chunk is = grind (arith, cases_Bool, eqb-true, slot_of_pointer-is)
 
 -- a chunk that stays in its class has room there
 pub room_in_place : (h : Heap) (chunk : Chunk) (n : ℕ) → stays_in_class h chunk n ≡ true → 2 ≤ (slot_in h chunk.slot).class →

@@ -100,8 +100,7 @@ list_dead h class bound (r ∷ rest) s f there = elim (Contains-cases r rest s t
   | inl is ↦ subst (IsListed h class bound) is (record { in_range = f.1; of_class = f.2; mark = f.0; marked = f.3; below = f.4 })
   | inr after ↦
       let l = list_dead h class f.0 rest s f.5 after in
-      let above : f.0 < bound = f.4 in
-      record { in_range = l.in_range; of_class = l.of_class; mark = l.mark; marked = l.marked; below = omega (arith, l.below) }
+      grind arith
 ]
 
 -- ---- classes
@@ -116,5 +115,4 @@ pub record IsNumberOf (classes : List ℕ) (number class : ℕ) : Type 0 where
   pub is : get_or classes number 0 ≡ class
 
 pub number_is : (classes : List ℕ) (number class : ℕ) → slice_get classes number ≡ Some class → IsNumberOf classes number class
-number_is classes number class found =
-    record { within = slice_get_within classes number class found; is = get_or_from_slice_get classes number class 0 found }
+number_is classes number class found = grind (arith, slice_get_within, get_or_from_slice_get)

@@ -1,5 +1,5 @@
 -- The pointer that was given out for a live chunk is accepted by `free` and by `realloc`, and of the others only null is.
-use Rattle.std.proofs.Common.{◌≡◌, ◌≢◌, ℕ, ◌*◌, ◌^◌, ◌<◌, Bool, cond, length, List, refl, sym, ap, ◌∙◌, subst, inl, inr, arith, Option, Some, None, Result, Ok, Err}
+use Rattle.std.proofs.Common.{◌≡◌, ◌≢◌, ℕ, ◌*◌, ◌^◌, ◌<◌, length, List, refl, sym, ap, ◌∙◌, subst, inl, inr, arith, Option, Some, None, Result, Ok, Err}
 use Rattle.std.specs.Prelude.{◌==◌, min, replicate, ◌↔◌}
 use Rattle.std.proofs.lemmas.Bool.{cases_eq, cond-true, cond-false, cond_both, eq-eqb, eqb-true, false_from_ne_true}
 use Rattle.std.proofs.lemmas.List.{get_or-set_same, get_or-set_other}
@@ -8,10 +8,9 @@ use Rattle.machine_theory.specs.declared.fault.Fault.{Fault}
 use Rattle.machine_theory.specs.Access.{access_fault}
 use Rattle.class_table.specs.Layout.{Partition, slot_count, slot_of}
 use Rattle.heap_theory.specs.declared.refusal.FreeError.{FreeError}
-use Rattle.heap_theory.specs.declared.refusal.NullCause.{NullCause}
 use Rattle.heap_theory.specs.declared.refusal.ReallocError.{ReallocError}
 use Rattle.heap_theory.specs.Calls.{Step, given_out, freed, resized, with_payload, payload_bytes, moved, malloc_with, malloc_step, calloc_with, calloc_step, free_with, free_step, stays_in_class, move_with, realloc_with, as_realloc, realloc_step, store_with, store_step}
-use Rattle.heap_theory.specs.Lookups.{Chunk, IsReusable, MayBeGiven, IsLiveChunk, slot_for_request, chunk_at}
+use Rattle.heap_theory.specs.Lookups.{Chunk, MayBeGiven, IsLiveChunk, slot_for_request, chunk_at}
 use Rattle.heap_theory.specs.OwnPointers.{IsOwnPointer, IsNullOrOwn, FreeAccepts, IsNotRefused, ReallocAccepts, GivesOwnPointers, StaysOwnPointer}
 use Rattle.heap_theory.specs.Sound.{IsSoundHeap}
 use Rattle.class_table.specs.Sizes.{chunk_granules}
@@ -40,11 +39,7 @@ parts p plain = omega arith
 own_of : (h : Heap) (p : ℕ) (chunk : Chunk) → chunk_at h p ≡ Ok chunk → IsOwnPointer h chunk.slot p
 own_of h p chunk named =
     let c = chunk_at-is h p chunk named in
-    record {
-      in_range = c.in_range;
-      live = subst IsLive (sym c.live) tt;
-      address = parts p c.plain ∙ (λ i. with_tag (c.place i) (sym (ap last_tag c.live) i));
-    }
+    grind (arith, parts)
 
 -- ---- free
 
@@ -53,8 +48,7 @@ answer_of_free step = step.answer
 
 free_null : (h : Heap) (p : ℕ) → p ≡ 0 → FreeAccepts h p
 unfolding free_step
-free_null h p null =
-    ap (λ (b : Bool). (cond b (record { heap = h; answer = Ok tt }) (free_with h (chunk_at h p))).answer) (eq-eqb p 0 null)
+free_null h p null = grind (arith, eq-eqb)
 
 free_some : (h : Heap) (p : ℕ) (r : Result Chunk FreeError) → p ≢ 0 → chunk_at h p ≡ r → free_step h p ≡ free_with h r
 unfolding free_step
@@ -88,9 +82,7 @@ not_null h s sound within null = grind arith
 
 pub frees_chunk : (heap : Heap) (s n tag : ℕ) → IsSoundHeap heap → IsSlot heap s → state_at heap s ≡ Live n tag →
     free_step heap (pointer_to heap s) ≡ record { heap = freed heap s n; answer = Ok tt }
-frees_chunk h s n t sound within live =
-    free_some h (pointer_to h s) (Ok (record { slot = s; size = n })) (not_null h s sound within)
-    (own_chunk h s n t sound within live)
+frees_chunk h s n t sound within live = grind (arith, free_some, not_null, own_chunk)
 
 -- ---- realloc
 
@@ -99,26 +91,14 @@ Accepted step = IsNotRefused step.answer
 
 realloc_null : (h : Heap) (p n : ℕ) → p ≡ 0 → ReallocAccepts h p n
 unfolding realloc_step
-realloc_null h p n null = subst Accepted (sym (cond-true (p == 0) _ _ (eq-eqb p 0 null))) (by (malloc_step h n))
-  where
-    by_answer : (new : Heap) (r : Result ℕ NullCause) → Accepted (as_realloc (record { heap = new; answer = r }))
-    by_answer new (Ok q) = tt
-    by_answer new (Err cause) = tt
-
-    by : (step : Step (Result ℕ NullCause)) → Accepted (as_realloc step)
-    by step = by_answer step.heap step.answer
+realloc_null h p n null = grind (arith, cond-true, eq-eqb)
 
 realloc_some : (h : Heap) (p n : ℕ) (r : Result Chunk FreeError) → p ≢ 0 → chunk_at h p ≡ r → realloc_step h p n ≡ realloc_with h p n r
 unfolding realloc_step
-realloc_some h p n r some named =
-    cond-false (p == 0) _ _ (false_from_ne_true _ (λ null. some (eqb-true _ _ null))) ∙ ap (realloc_with h p n) named
+realloc_some h p n r some named = grind (arith, cond-false, false_from_ne_true, eqb-true)
 
 not_refused : (h : Heap) (p n : ℕ) (chunk : Chunk) → Accepted (realloc_with h p n (Ok chunk))
-not_refused h p n chunk = cond_both (stays_in_class h chunk n) _ _ Accepted (λ _. tt) (λ _. by_slot (slot_for_request h n))
-  where
-    by_slot : (r : Result ℕ NullCause) → Accepted (move_with h chunk n r)
-    by_slot (Ok s) = tt
-    by_slot (Err cause) = tt
+not_refused h p n chunk = grind (arith, cond_both)
 
 pub realloc_accepts : (heap : Heap) (p n : ℕ) → IsSoundHeap heap → ReallocAccepts heap p n ↔ IsNullOrOwn heap p
 realloc_accepts h p n sound = (
@@ -155,9 +135,7 @@ own_new h new s n given kept live = grind (arith, kept_pointer, layout-given_out
 
 -- the slot of an own pointer is not given out
 not_given : (h : Heap) (s p n r : ℕ) → IsOwnPointer h s p → MayBeGiven h n r → s ≢ r
-not_given h s p n r own given is =
-    let l = live_is (state_at h s) own.live in
-    not_reusable h s l.0 l.1 (subst (IsReusable h) (sym is) given.reusable) l.2
+not_given h s p n r own given is = grind (arith, live_is, not_reusable)
 
 -- an own pointer stays one while its slot stays live, whether nothing or another slot is given out
 own_kept : (h new : Heap) (s p : ℕ) → KeepsGiven h new → IsOwnPointer h s p → IsLive (state_at new s) → IsOwnPointer new s p
@@ -165,21 +143,11 @@ own_kept h new s p kept own live = grind (arith, kept_pointer, same_layout)
 
 own_stays : (h new : Heap) (given : Option ℕ) (s p : ℕ) → HeapChange h new given → IsOwnPointer h s p → IsLive (state_at new s) →
     IsOwnPointer new s p
-own_stays h new None s p change own live = own_kept h new s p change own live
-own_stays h new (Some r) s p change own live =
-    let another : s ≢ r = not_given h s p change.n r own change.given in
-    let state = state_at-given_out_other h r change.n s another in
-    let before : IsOwnPointer (given_out h r change.n) s p = record {
-      in_range = same_layout h (given_out h r change.n) s (layout-given_out h r change.n) own.in_range;
-      live = subst IsLive (sym state) own.live;
-      address = own.address ∙ sym (λ i. with_tag (payload_place (slot_of (layout-given_out h r change.n i) s)) (last_tag (state i)));
-    } in
-    own_kept (given_out h r change.n) new s p change.kept before live
+own_stays h new given s p change own live = grind (arith, own_kept, not_given, state_at-given_out_other, same_layout, layout-given_out)
 
 -- no pointer but its own names the slot
 not_named : (h : Heap) (s p q : ℕ) (chunk : Chunk) → IsOwnPointer h s p → q ≢ p → chunk_at h q ≡ Ok chunk → s ≢ chunk.slot
-not_named h s p q chunk own another named is =
-    another ((own_of h q chunk named).address ∙ sym (ap (pointer_to h) is) ∙ sym own.address)
+not_named h s p q chunk own another named is = grind (arith, own_of)
 
 state_at-freed_other : (h : Heap) (s n r : ℕ) → r ≢ s → state_at (freed h s n) r ≡ state_at h r
 unfolding freed
@@ -207,13 +175,7 @@ module _ (h : Heap) (s p : ℕ) (sound : IsSoundHeap h) (own : IsOwnPointer h s 
 
   state_after_free : (q : ℕ) → q ≢ p → state_at (free_step h q).heap s ≡ state_at h s
   unfolding free_step
-  state_after_free q another =
-      cond_both (q == 0) _ _ (λ (step : Step (Result (Unit {0}) FreeError)). state_at step.heap s ≡ state_at h s) (λ _. refl)
-      (λ _. by_chunk (chunk_at h q) refl)
-    where
-      by_chunk : (r : Result Chunk FreeError) → chunk_at h q ≡ r → state_at (free_with h r).heap s ≡ state_at h s
-      by_chunk (Err error) was = refl
-      by_chunk (Ok chunk) was = state_at-freed_other h chunk.slot chunk.size s (not_named h s p q chunk own another was)
+  state_after_free q another = grind (arith, cond_both, state_at-freed_other, not_named)
 
   state_after_realloc : (q n : ℕ) → q ≢ p → state_at (realloc_step h q n).heap s ≡ state_at h s
   unfolding realloc_step moved
@@ -261,9 +223,7 @@ GivesOwn step p = step.answer ≡ Ok p → (s : ℕ) × IsOwnPointer step.heap s
 -- a slot is given out, and keeps its pointer
 slot_gives : {E : Type 0} (h new : Heap) (n s p : ℕ) → MayBeGiven h n s → KeepsGiven (given_out h s n) new → IsLive (state_at new s) →
     ◌≡◌ {A = Result ℕ E} (Ok (pointer_to (given_out h s n) s)) (Ok p) → (r : ℕ) × IsOwnPointer new r p
-slot_gives {E} h new n s p given kept live is =
-    let same : pointer_to (given_out h s n) s ≡ p = cc in
-    (s, subst (IsOwnPointer new s) same (own_new h new s n given kept live))
+slot_gives {E} h new n s p given kept live is = grind (arith, own_new)
 
 live_given : (h : Heap) (n s : ℕ) → IsSoundHeap h → MayBeGiven h n s → IsLive (state_at (given_out h s n) s)
 live_given h n s sound given = subst IsLive (sym (state_at-given_out h s n (in_states h s sound given.reusable.in_range))) tt
@@ -298,9 +258,7 @@ resize_gives h q n p chunk sound named is =
     let same : q ≡ p = cc in
     let c = chunk_at-is h q chunk named in
     let kept = KeepsGiven-resized h chunk.slot n chunk.size (logical_tag q) (in_states h chunk.slot sound c.in_range) c.live in
-    let live = subst IsLive (sym (state_at-resized h chunk.slot n sound c.in_range)) tt in
-    let own = own_kept h (resized h chunk.slot n) chunk.slot q kept (own_of h q chunk named) live in
-    (chunk.slot, subst (IsOwnPointer (resized h chunk.slot n) chunk.slot) same own)
+    grind (arith, state_at-resized, own_kept, own_of)
 
 chunk_gives : (h : Heap) (q n p : ℕ) → IsSoundHeap h → (r : Result Chunk FreeError) → chunk_at h q ≡ r →
     GivesOwn (realloc_with h q n r) p
@@ -311,11 +269,7 @@ chunk_gives h q n p sound (Ok chunk) was is =
     (λ _. move_gives h q n p chunk sound (chunk_at-is h q chunk was)) is
 
 null_gives : (h : Heap) (n p : ℕ) → IsSoundHeap h → GivesOwn (as_realloc (malloc_step h n)) p
-null_gives h n p sound is = malloc_own h n p sound (by (malloc_step h n).answer is)
-  where
-    by : (r : Result ℕ NullCause) → (as_realloc (record { heap = h; answer = r })).answer ≡ Ok p → r ≡ Ok p
-    by (Ok q) is = let same : q ≡ p = cc in ap Ok same
-    by (Err cause) is = absurd cc
+null_gives h n p sound is = grind (arith, malloc_own)
 
 realloc_own : (h : Heap) (q n p : ℕ) → IsSoundHeap h → GivesOwn (realloc_step h q n) p
 unfolding realloc_step

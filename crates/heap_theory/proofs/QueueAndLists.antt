@@ -1,5 +1,6 @@
 -- After each step of a call the queue and the lists agree with the marks again.
-use Rattle.std.proofs.Common.{◌≡◌, ℕ, ◌+◌, ◌-◌, ◌<◌, true, false, List, [], ◌∷◌, ◌++◌, length, get_or, refl, sym, ap, ◌∙◌, subst, inl, inr, ⊎_elim, arith, Some}
+use Rattle.std.proofs.lemmas.Grind.{common_steps}
+use Rattle.std.proofs.Common.{◌≡◌, ℕ, ◌+◌, ◌-◌, ◌<◌, true, false, List, [], ◌∷◌, ◌++◌, length, get_or, refl, sym, ap, ◌∙◌, subst, inl, inr, arith, Some}
 use Rattle.std.specs.Prelude.{slice_get, slice_set, replicate, Contains, IsTrue}
 use Rattle.std.proofs.lemmas.Bool.{cases_eq}
 use Rattle.std.proofs.lemmas.List.{length-set, length-replicate}
@@ -11,10 +12,10 @@ use Rattle.heap_theory.specs.Calls.{next_tag, given_out, freed, resized}
 use Rattle.heap_theory.specs.Links.{list_of}
 use Rattle.heap_theory.specs.Sound.{IsSoundHeap}
 use Rattle.heap_theory.specs.State.{State, Heap, slot_in, state_at, last_tag, is_fresh, first_heap, is_dead, IsSlot}
-use Rattle.heap_theory.specs.State.State.{Fresh, Live, Dead}
+use Rattle.heap_theory.specs.State.State.{Live, Dead}
 use Rattle.heap_theory.proofs.ChangedSlot.{changed, state_here, state_there}
 use Rattle.heap_theory.proofs.FirstHeap.{get_or-replicate_any}
-use Rattle.heap_theory.proofs.ListSearch.{Contains-head, Contains-tail, Contains-cases}
+use Rattle.heap_theory.proofs.ListSearch.{Contains-head, Contains-tail}
 use Rattle.heap_theory.proofs.HeapKept.{in_states}
 use Rattle.heap_theory.proofs.Marks.{one_mark, not_marked, chain_bytes, chain_mark, chain_dead, list_mark, list_dead, list_weaker, one_number, IsNumberOf, number_is}
 use Rattle.heap_theory.proofs.Releasing.{list_of-here, list_of-there}
@@ -48,8 +49,7 @@ module _ (h : Heap) (s : ℕ) (state : State) (memory : List Granule) (total see
   marked_before r mark not d = subst (λ x. HasMark x mark) (state_there h s state memory total seed tag within r not) d
 
   marked_here : (r mark : ℕ) → r ≡ s → HasMark (state_at now r) mark → HasMark state mark
-  marked_here r mark is d =
-      subst (λ x. HasMark x mark) (state_here h s state memory total seed tag within) (subst (λ q. HasMark (state_at now q) mark) is d)
+  marked_here r mark is d = grind (arith, common_steps, state_here)
 
   list_stays : (class bound : ℕ) (list : List ℕ) → (Contains list s → ⊥) → IsFreedList h class bound list →
       IsFreedList now class bound list
@@ -144,8 +144,7 @@ module _ (h : Heap) (s : ℕ) (state : State) (memory : List Granule) (total see
       not_before : (r mark : ℕ) → r ≡ s → HasMark (state_at now r) mark → mark < b.from → ⊥
       not_before r mark is dead lt =
           let own : mark ≡ h.total = one_mark state mark h.total (marked_here r mark is dead) d in
-          let sum = chain_bytes h b.from queue b.agree.chain in
-          omega arith
+          grind (arith, chain_bytes)
 
 -- ---- a slot that is not dead is in no list
 
@@ -233,24 +232,14 @@ module _ (h : Heap) (queue : List ℕ) (lists : List (List ℕ)) (number class s
 
   rest_freed : (other c bound : ℕ) → other < length (slice_set lists number rest) → IsFreedList h c bound (list_of lists other) →
       IsFreedList h c bound (list_of (slice_set lists number rest) other)
-  rest_freed other c bound within f = elim (cases_eq other number) [
-    | inl same ↦
-        subst (λ k. IsFreedList h c bound (list_of (slice_set lists number rest) k)) (sym same)
-        (subst (λ list. IsFreedList h c bound list) (sym (list_of-here lists number rest inside))
-        (tail_of (subst (λ list. IsFreedList h c bound list) (ap (list_of lists) same ∙ is) f)))
-    | inr not ↦ subst (λ list. IsFreedList h c bound list) (sym (list_of-there lists number other rest not)) f
-  ]
-    where
-      tail_of : IsFreedList h c bound (s ∷ rest) → IsFreedList h c bound rest
-      tail_of f = let below : f.0 < bound = f.4 in list_weaker h c f.0 bound rest (omega arith) f.5
+  rest_freed other c bound within f = grind (arith, common_steps, cases_eq, list_of-here, list_of-there, list_weaker)
 
   others_listed : (other r : ℕ) → (r ≡ s → ⊥) → Contains (list_of lists other) r → Contains (list_of (slice_set lists number rest) other) r
   others_listed other r another there = elim (cases_eq other number) [
     | inl same ↦
         subst (λ k. Contains (list_of (slice_set lists number rest) k) r) (sym same)
         (subst (λ list. Contains list r) (sym (list_of-here lists number rest inside))
-        (⊎_elim (λ front. absurd (another (sym front))) (λ after. after)
-        (Contains-cases s rest r (subst (λ list. Contains list r) (ap (list_of lists) same ∙ is) there))))
+        (grind arith))
     | inr not ↦ subst (λ list. Contains list r) (sym (list_of-there lists number other rest not)) there
   ]
 
@@ -266,20 +255,4 @@ module _ (h : Heap) (queue : List ℕ) (lists : List (List ℕ)) (number class s
 pub agree_first : (layout : Partition) (seed quarantine : ℕ) →
     AgreeWithMarks (first_heap layout seed quarantine) [] (replicate (length layout.classes) [])
 unfolding first_heap
-agree_first layout seed quarantine = record {
-  from = 0;
-  agree = record {
-    chain = refl;
-    long = length-replicate (length layout.classes) [];
-    freed =
-        λ number inside. subst (λ list. IsFreedList (first_heap layout seed quarantine) (get_or layout.classes number 0) 0 list)
-        (sym (get_or-replicate_any (length layout.classes) number [])) tt;
-    queued = λ s mark in_range d le. absurd (none s mark d);
-    listed = λ s mark number in_range d lt found. absurd (none s mark d);
-    released = λ s mark in_range d lt. absurd (none s mark d);
-  };
-  held = omega arith;
-}
-  where
-    none : (s mark : ℕ) → HasMark (get_or (replicate (slot_count layout) Fresh) s Fresh) mark → ⊥
-    none s mark d = subst (λ x. HasMark x mark) (get_or-replicate_any (slot_count layout) s Fresh) d
+agree_first layout seed quarantine = grind (arith, length-replicate, get_or-replicate_any)

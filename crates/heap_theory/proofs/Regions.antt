@@ -1,13 +1,14 @@
 -- How a change of a memory changes its region.
-use Rattle.std.proofs.Common.{◌≡◌, ◌≢◌, ◌⊎◌, ℕ, ◌+◌, ◌*◌, ◌<◌, ◌≤◌, true, List, ◌++◌, length, refl, sym, ap, ◌∙◌, inl, inr, arith}
+use Rattle.std.proofs.lemmas.Grind.{common_steps}
+use Rattle.std.proofs.Common.{◌≡◌, ◌≢◌, ◌⊎◌, ℕ, ◌+◌, ◌*◌, ◌<◌, ◌≤◌, true, List, ◌++◌, length, sym, ap, ◌∙◌, inl, inr, arith}
 use Rattle.std.specs.Int.{w64, to_le_bytes}
-use Rattle.std.specs.Prelude.{◌==◌, slice_index_or, slice_set}
+use Rattle.std.specs.Prelude.{slice_index_or, slice_set}
 use Rattle.std.proofs.lemmas.Bool.{cases_eq, cases_order, eq-eqb}
 use Rattle.std.proofs.lemmas.List.{get_or-set_same, get_or-set_other, get_or_default, length-set}
 use Rattle.std.proofs.lemmas.List.Folds.{list_any-from_Any}
 use Rattle.std.proofs.lemmas.List.FromFn.{fill_by_all, get_or-map-range_with_len, length-map-range_with_len}
 use Rattle.machine_theory.specs.Memory.{Granule, IsMemory, tagged, written}
-use Rattle.class_table.specs.Layout.{Partition, IsPartition, no_slot, slots_of, slot_count, slot_of}
+use Rattle.class_table.specs.Layout.{Partition, IsPartition, slot_count, slot_of}
 use Rattle.heap_theory.proofs.TheoryLemmas as laws
 use Rattle.heap_theory.specs.Header.{Header, FitsWords, first_word, second_word, header_at, with_header}
 use Rattle.heap_theory.specs.Region.{Region, headers_of, region_of, no_header, header_in, next_in, with_slot_header, with_slot_link}
@@ -23,8 +24,7 @@ module _ (layout : Partition) where
   pub header_in-region_of : (memory : List Granule) (s : ℕ) → s < slot_count layout →
       header_in (region_of layout memory) s ≡ header_at memory (slot_of layout s).start
   unfolding headers_of
-  header_in-region_of memory s within =
-      get_or-map-range_with_len (λ s. header_at memory (slot_of layout s).start) 0 (slot_count layout) s s no_header within (omega arith)
+  header_in-region_of memory s within = grind (arith, get_or-map-range_with_len)
 
   -- headers are those of a memory if each one is
   headers_of-is : (memory : List Granule) (headers : List Header) → length headers ≡ slot_count layout →
@@ -41,9 +41,7 @@ module _ (layout : Partition) where
       headers_of-is memory (headers_of layout new) (length-headers_of new) (λ s within. header_in-region_of new s within ∙ same s within)
 
   pub start_is_header : (s : ℕ) → s < slot_count layout → is_header_granule layout (slot_of layout s).start ≡ true
-  start_is_header s within =
-      list_any-from_Any (λ slot. slot.start == (slot_of layout s).start) (slots_of layout)
-      (s, slot_of layout s, within, get_or_default (slots_of layout) s (slot_of layout s) no_slot within, eq-eqb _ _ refl)
+  start_is_header s within = grind (arith, common_steps, list_any-from_Any, get_or_default, eq-eqb)
 
   -- tags are changed
   pub region_of-tagged : (first count tag : ℕ) (memory : List Granule) →
@@ -88,11 +86,7 @@ module _ (layout : Partition) (is : IsPartition layout) where
   starts_differ : (s r : ℕ) → s < slot_count layout → r < slot_count layout → r ≢ s → (slot_of layout r).start ≢ (slot_of layout s).start
   starts_differ s r in_s in_r other same =
       let order = laws.in_order 1 layout is.table in
-      elim (cases_order r s) [
-        | inl one ↦ other one
-        | inr (inl before) ↦ omega (arith, order.apart r s before in_s, order.wide r in_r)
-        | inr (inr after) ↦ omega (arith, order.apart s r after in_r, order.wide s in_s)
-      ]
+      grind (arith, cases_order)
 
   -- no byte of a header is seen
   header_unseen : (memory : List Granule) (s : ℕ) (header : Header) → IsMemory memory → s < slot_count layout →

@@ -8,7 +8,7 @@ use Rattle.heap_theory.specs.QueueAndLists.{HasMark, IsFreedList, AgreeWithMarks
 use Rattle.heap_theory.specs.Links.{list_of}
 use Rattle.heap_theory.specs.Sound.{IsSoundHeap}
 use Rattle.heap_theory.specs.State.{Heap, slot_in, state_at}
-use Rattle.heap_theory.proofs.ListSearch.{Contains-head, Contains-tail, Contains-cases}
+use Rattle.heap_theory.proofs.ListSearch.{Contains-tail, Contains-cases}
 use Rattle.heap_theory.proofs.Marks.{one_mark, bytes_of-cons, chain_bytes, chain_mark, list_weaker, one_number, IsNumberOf, number_is}
 
 -- a list for one class is another one
@@ -58,9 +58,7 @@ module _ (h : Heap) (from s number : ℕ) (queue : List ℕ) (lists : List (List
       let there = number_is h.layout.classes other (slot_in h s).class found in
       let is : other ≡ number =
       one_number 1 h.layout.classes other number sound.partition.table there.within is_number.within (there.is ∙ sym is_number.is) in
-      subst (λ n. Contains (list_of (slice_set lists number (s ∷ list_of lists number)) n) s) (sym is)
-      (subst (λ list. Contains list s) (sym (list_of-here lists number (s ∷ list_of lists number) within))
-      (Contains-head s (list_of lists number)))
+      grind (arith, list_of-here)
 
   freed_list : (other : ℕ) → other < length lists →
       IsFreedList h (get_or h.layout.classes other 0) (from + block_bytes (slot_in h s))

@@ -1,6 +1,6 @@
 -- What is seen of a memory without the bytes of its headers.
-use Rattle.std.proofs.Common.{◌≡◌, ◌⊎◌, ℕ, ◌+◌, ◌-◌, ◌*◌, ◌/◌, ◌%◌, ◌<◌, ◌≤◌, Bool, true, false, cond, List, [], length, replicate, refl, sym, ap, ◌∙◌, subst, inl, inr, ⊎_elim, arith}
-use Rattle.std.specs.Prelude.{nat_le, nat_lt, slice_index, is_some, IsTrue, ◌≢◌, None, IsFalse}
+use Rattle.std.proofs.Common.{◌≡◌, ◌⊎◌, ℕ, ◌+◌, ◌-◌, ◌*◌, ◌/◌, ◌%◌, ◌<◌, ◌≤◌, Bool, true, false, cond, List, [], length, replicate, refl, sym, ap, ◌∙◌, subst, inl, inr, arith}
+use Rattle.std.specs.Prelude.{slice_index, IsTrue, ◌≢◌, None, IsFalse}
 use Rattle.std.proofs.lemmas.Bool.{cases_lt, cases_Bool, cases_order, cond-false, cond_both, eqb-true, both_ways, and_left, and_right, lt-leb, le-ltb, false_from_ne_true}
 use Rattle.std.proofs.lemmas.List.{length-replicate, get_or-replicate, get_or_past, get_or_default}
 use Rattle.std.proofs.lemmas.List.Folds.{Any-from_list_any}
@@ -97,10 +97,7 @@ module _ (layout : Partition) where
       (laws.each_length _ memory) (λ g within. laws.each_at (hidden layout) memory g within))
     where
       at : (g : ℕ) → hidden layout g (granule_at other g) ≡ hidden layout g (granule_at memory g)
-      at g = elim (cases_Bool (is_header_granule layout g)) [
-        | inl header ↦ rw header (λ i. record { tag = tags g i; bytes = [] })
-        | inr none ↦ ap (hidden layout g) (granules g none)
-      ]
+      at g = grind (arith, cases_Bool)
 
   pub without_headers-new : without_headers layout (replicate layout.granules new_granule) ≡ first_memory layout
   unfolding without_headers first_memory
@@ -137,11 +134,7 @@ granule_at-written i g new memory is apart = elim (cases_lt g (length memory)) [
 ]
   where
     outside : (k : ℕ) → k < 16 → is_among i (length new) (16 * g + k) ≡ false
-    outside k below = ⊎_elim
-        (λ before. and_left (nat_le i (16 * g + k)) (nat_lt (16 * g + k) (i + length new)) (lt-leb i (16 * g + k) (omega arith)))
-        (λ after. and_right (nat_le i (16 * g + k)) (nat_lt (16 * g + k) (i + length new))
-        (le-ltb (16 * g + k) (i + length new) (omega arith)))
-        apart
+    outside k below = grind (arith, and_left, lt-leb, and_right, le-ltb)
 
 -- bytes that are written in a header are not seen
 pub without_headers-in_header : (layout : Partition) (g i : ℕ) (new : List ℕ) (memory : List Granule) → IsMemory memory →
@@ -149,11 +142,7 @@ pub without_headers-in_header : (layout : Partition) (g i : ℕ) (new : List ℕ
     without_headers layout (written i new memory) ≡ without_headers layout memory
 without_headers-in_header layout g i new memory is header from to =
     without_headers-same layout memory (written i new memory) (laws.written_length i new memory) (λ k. laws.tag_under_bytes i k new memory)
-    (λ k none. granule_at-written i k new memory is (elim (cases_order k g) [
-      | inl same ↦ absurd (both_ways _ none (subst (λ n. is_header_granule layout n ≡ true) (sym same) header))
-      | inr (inl before) ↦ inl (omega arith)
-      | inr (inr after) ↦ inr (omega arith)
-    ]))
+    (grind (arith, granule_at-written, cases_order, both_ways))
 
 -- ---- headers are spared
 
@@ -164,13 +153,11 @@ header_starts layout g is = grind (arith, Any-from_list_any, eqb-true, get_or_de
 
 -- and has tag 0
 header_tag : (h : Heap) (g : ℕ) → IsSoundHeap h → is_header_granule h.layout g ≡ true → tag_at h.memory g ≡ 0
-header_tag h g sound is =
-    let slot = header_starts h.layout g is in subst (λ k. tag_at h.memory k ≡ 0) slot.2 (sound.tagged slot.0 slot.1).header
+header_tag h g sound is = grind (arith, header_starts)
 
 -- an access that succeeds under another tag than 0 touches no header
 pub headers_spared : (heap : Heap) (address len g : ℕ) → IsSoundHeap heap → logical_tag address ≢ 0 → access_fault heap.memory address len
     ≡ None → Touches address len g → IsFalse (is_header_granule heap.layout g)
 headers_spared h address len g sound tagged succeeds touches = false_from_ne_true (is_header_granule h.layout g) (λ is.
     let fault = laws.other_tag_faults h.memory address len g touches (λ same. tagged (sym same ∙ header_tag h g sound is)) in
-    let none : is_some (access_fault h.memory address len) ≡ false = ap is_some succeeds in
-    both_ways _ none fault)
+    grind (arith, both_ways))

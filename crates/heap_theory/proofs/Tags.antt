@@ -19,14 +19,10 @@ module _ where
           × (drawn_tag tag seed (bit_or (cond is_even 0x5555 0xAAAB) (2 ^ last)) ≢ last)
       by_parity true test =
           let is = laws.odd_drawn tag seed last below in
-          let even : s % 2 ≡ 0 = eqb-true _ _ test in
-          let odd : drawn_tag tag seed (bit_or 0x5555 (2 ^ last)) % 2 ≡ 1 = is.1 in
-          (record { below = is.0; not_zero = omega arith; other_parity = omega arith }, is.2)
+          grind (arith, eqb-true)
       by_parity false test =
           let is = laws.even_drawn tag seed last below in
-          let odd : s % 2 ≡ 0 → ⊥ = eqb-false _ _ test in
-          let even : drawn_tag tag seed (bit_or 0xAAAB (2 ^ last)) % 2 ≡ 0 = is.1 in
-          (record { below = is.0; not_zero = is.2; other_parity = omega arith }, is.3)
+          grind (arith, eqb-false)
 
   pub IsTagOf-next_tag : (h : Heap) (s : ℕ) → h.tag < 16 → IsTagOf s (next_tag h s)
   IsTagOf-next_tag h s below = (drawn s (last_tag (state_at h s)) h.tag h.seed below).0
