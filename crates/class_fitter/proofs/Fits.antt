@@ -1,5 +1,5 @@
 -- The fit that least rows give.
-use Rattle.std.proofs.Common.{◌≡◌, ℕ, ◌≤◌, List, refl, sym, ◌∙◌}
+use Rattle.std.proofs.Common.{◌≡◌, ℕ, ◌≤◌, List, refl, sym, ◌∙◌, arith}
 use Rattle.std.proofs.Math.Nat.{mod-one}
 use Rattle.class_fitter.specs.Fitted.{IsFitOf}
 use Rattle.class_table.specs.Steps.{IsStep}
@@ -19,13 +19,7 @@ module _ (snapshots : List (List ℕ)) (are : AreSnapshots snapshots) (step : �
     (few : limit ≤ MOST_CLASSES) (rows ends : List (List ℕ))
     (filled : IsFilled (span_footprint snapshots step) (places (peaks snapshots) step) limit rows ends) where
   fitted-rows : AreFittedRows snapshots step limit (number_at rows) (number_at ends)
-  fitted-rows = record {
-    is_step = is_step;
-    are_counts = peaks_are_counts snapshots are;
-    some = some;
-    few = few;
-    least = filled.least;
-  }
+  fitted-rows = grind (arith, peaks_are_counts)
 
   sums : IsSumOfIntervals (footprint_of snapshots) (footprint_between snapshots step) (peaks snapshots) step
   sums = footprint_is_sum snapshots step (step-positive step is_step) are

@@ -13,17 +13,13 @@ module _ (rows : List (List ℕ)) (limit d : ℕ) (shape : HasShape rows limit d
   row-length = shape.row_lengths k [] (omega (arith, shape.row_count))
 
   row-at : (m : ℕ) → m ≡ k → slice_index_or after m [] ≡ slice_set (slice_index_or rows k []) place v
-  row-at m e =
-      ap (λ n. slice_index_or after n []) e
-      ∙ get_or-set_same rows k (slice_set (slice_index_or rows k []) place v) [] (omega (arith, shape.row_count))
+  row-at m e = grind (arith, slice_index_or, get_or-set_same, slice_set)
 
   row-other : (m : ℕ) → m ≢ k → slice_index_or after m [] ≡ slice_index_or rows m []
   row-other m ne = get_or-set_other rows k m (slice_set (slice_index_or rows k []) place v) [] ne
 
   pub set-here : number_at after (suc k) place ≡ v
-  set-here =
-      ap (λ (r : List ℕ). slice_index r place) (row-at (suc k - 1) (omega arith))
-      ∙ get_or-set_same (slice_index_or rows k []) place v 0 (omega (arith, row-length))
+  set-here = grind (arith, slice_index, get_or-set_same, slice_index_or)
 
   pub set-other_row : (m j : ℕ) → m - 1 ≢ k → number_at after m j ≡ number_at rows m j
   set-other_row m j ne = ap (λ (r : List ℕ). slice_index r j) (row-other (m - 1) ne)

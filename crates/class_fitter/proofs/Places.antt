@@ -9,12 +9,7 @@ use Rattle.tuner_theory.proofs.Sheets.{rows-end}
 -- a least end, by costs that are the same at later places
 pub least-same : (f g : ℕ → ℕ) (place d end : ℕ) → ((j : ℕ) → place < j → j ≤ d → f j ≡ g j) → IsLeastEnd f place d end →
     IsLeastEnd g place d end
-least-same f g place d end same l = record {
-  from = l.from;
-  to = l.to;
-  least = λ j from to. omega (arith, same end l.from l.to, same j from to, l.least j from to);
-  first = λ j from before. omega (arith, same end l.from l.to, same j from (omega (arith, before, l.to)), l.first j from before);
-}
+least-same f g place d end same l = grind arith
 
 -- the rows with a number set, and their ends with an end set
 abbrev pub with_number : List (List ℕ) → ℕ → ℕ → ℕ → List (List ℕ)
@@ -120,12 +115,4 @@ rows-from cost costs d limit i rows rows' ends ends' inside costs_are later fill
 
 pub all-filled : (cost : ℕ → ℕ → ℕ) (d limit : ℕ) (rows ends : List (List ℕ)) → AreRowsSoFar d limit rows ends
     → AreLeastRowsFrom cost d limit 0 (number_at rows) (number_at ends) → IsFilled cost d limit rows ends
-all-filled cost d limit rows ends so_far from = record {
-  rows_shape = so_far.rows_shape;
-  ends_shape = so_far.ends_shape;
-  least = record {
-    at_end = rows-end rows limit d so_far.rows_shape;
-    first_row = λ i some lt. from.first_row i some (omega arith) lt;
-    later_row = λ k i one few lt. from.later_row k i one few (omega arith) lt;
-  };
-}
+all-filled cost d limit rows ends so_far from = grind (arith, rows-end)

@@ -1,7 +1,6 @@
 -- The conditions on rows, one more row and one more place.
-use Rattle.std.proofs.Common.{◌≡◌, ℕ, suc, ◌+◌, ◌-◌, ◌<◌, ◌≤◌, List, [], length, slice_index, slice_index_or, arith, ap, sym, ◌∙◌, inl, inr}
+use Rattle.std.proofs.Common.{◌≡◌, ℕ, suc, ◌+◌, ◌-◌, ◌<◌, ◌≤◌, List, [], length, slice_index, slice_index_or, arith, ap, sym, ◌∙◌}
 use Rattle.std.specs.Prelude.{◌↔◌, IsTrue}
-use Rattle.std.proofs.lemmas.Bool.{cases_lt}
 use Rattle.footprint_check.specs.RowConditions.{AreRowTests, DropsHoldAt, DropsHoldBefore, EdgeHoldsAt, EdgesHoldAt, EdgesHoldBefore, LastHoldsBefore}
 use Rattle.footprint_check.specs.declared.row_tests.RowTests.{RowTests}
 use Rattle.tuner_theory.specs.Rows.{number_at}
@@ -35,17 +34,7 @@ edges-place : (cost : ℕ → ℕ → ℕ) (costs : List ℕ) (d i : ℕ) (rows 
     → ((j : ℕ) → i < j → j ≤ d → slice_index costs j ≡ cost i j) → EdgesHoldBefore cost d rows i
     → EdgesHoldAt costs rows d i (length rows) → EdgesHoldBefore cost d rows (i + 1)
 edges-place cost costs d i rows are old new = record {
-  each = λ m k j lt one few mj le. elim (cases_lt m i) [
-    | inl inside ↦ old.each m k j inside one few mj le
-    | inr not ↦ (let here : m ≡ i = omega arith in
-        omega (
-          arith,
-          new.each k j one few (omega arith) le,
-          are j (omega arith) le,
-          ap (number_at rows (suc k)) here,
-          ap (λ n. cost n j) here,
-        ))
-  ];
+  each = λ m k j lt one few mj le. grind (arith, old.each m k j, new.each k j, are j);
 }
 
 module _ (cost : ℕ → ℕ → ℕ) (costs : List ℕ) (d i : ℕ) (rows : List (List ℕ)) (within : i < d)

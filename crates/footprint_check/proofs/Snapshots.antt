@@ -1,8 +1,7 @@
 -- Sums up to places, and the most blocks of intervals.
 use Rattle.std.proofs.lemmas.Grind.{common_steps}
-use Rattle.std.proofs.Common.{◌≡◌, ℕ, zero, suc, ◌+◌, ◌-◌, ◌*◌, ◌^◌, ◌<◌, ◌≤◌, ◌&&◌, max, List, [], ◌∷◌, length, slice_index, slice_index_or, slice_set, cond, ltb, leb, arith, ap, ◌∙◌, inl, inr}
+use Rattle.std.proofs.Common.{◌≡◌, ℕ, zero, suc, ◌+◌, ◌-◌, ◌*◌, ◌^◌, ◌<◌, ◌≤◌, ◌&&◌, max, List, [], ◌∷◌, length, slice_index, slice_index_or, slice_set, cond, ltb, leb, arith}
 use Rattle.std.specs.Prelude.{take}
-use Rattle.std.proofs.lemmas.Bool.{cases_lt}
 use Rattle.std.proofs.lemmas.List.{get_or-set_other, get_or-set_same, length-set}
 use Rattle.std.proofs.lemmas.Bool.Decides.{nat_tests}
 use Rattle.footprint_check.specs.SnapshotSums.{AreMostBlocks, AreScaled, HoldsHistory, IsRaised}
@@ -53,40 +52,13 @@ module _ (snapshots : List (List ℕ)) (counts : List ℕ) (step : ℕ) (sums : 
 
   pub sums-ascend : (t i j : ℕ) → t < length snapshots → i < j → j < places counts step + 1
       → slice_index (slice_index_or sums t []) i ≤ slice_index (slice_index_or sums t []) j
-  sums-ascend t i j lt ij le =
-      let are = holds.sums_are.each t lt in
-      omega (
-        arith,
-        are.sums_are i (omega arith),
-        are.sums_are j (omega arith),
-        blocks-ascend step (need_at counts step i) (need_at counts step j) (slice_index_or snapshots t [])
-            (needs-up i j ij (omega arith)),
-      )
+  sums-ascend t i j lt ij le = let are = holds.sums_are.each t lt in grind (arith, blocks-ascend, needs-up)
 
   -- one snapshot more
   pub most-raised : (i t : ℕ) (row old new : List ℕ) → t < length snapshots → row ≡ slice_index_or sums t []
       → AreMostBlocks snapshots counts step i t old → IsRaised row i (length row) old new
       → AreMostBlocks snapshots counts step i (t + 1) new
-  most-raised i t row old new lt is before raised = record {
-    size = raised.size ∙ before.size;
-    numbers_are = λ j ij le.
-        let are = holds.sums_are.each t lt in
-        let next : t + 1 ≡ suc t = omega arith in
-        let f = blocks_between step (need_at counts step i) (need_at counts step j) in
-        let all : length row ≡ places counts step + 1 = ap length is ∙ are.size in
-        omega (
-          arith,
-          raised.raised j ij (omega (arith, all)),
-          before.numbers_are j ij le,
-          ap (λ (r : List ℕ). slice_index r i) is,
-          ap (λ (r : List ℕ). slice_index r j) is,
-          are.sums_are i (omega arith),
-          are.sums_are j le,
-          blocks-sums step (need_at counts step i) (need_at counts step j) (slice_index_or snapshots t []) (needs-up i j ij le),
-          most-take f snapshots t lt,
-          ap (λ m. most f (take m snapshots)) next,
-        );
-  }
+  most-raised i t row old new lt is before raised = let are = holds.sums_are.each t lt in grind (arith, blocks-sums, needs-up, most-take)
 
   pub most-all : (i t : ℕ) (numbers : List ℕ) → t ≡ length snapshots → AreMostBlocks snapshots counts step i t numbers
       → AreScaled snapshots counts step i (i + 1) numbers
@@ -104,24 +76,11 @@ module _ (snapshots : List (List ℕ)) (counts : List ℕ) (step : ℕ) (sums : 
 
   pub span-fits : (i j w : ℕ) (numbers : List ℕ) → AreScaled snapshots counts step i j numbers → i < j → j ≤ places counts step
       → w ≡ slice_index numbers j * (16 * need_at counts step j) → w ≤ 2 ^ 60
-  span-fits i j w numbers are ij le product =
-      omega (
-        arith,
-        span-product i j w numbers are ij le product,
-        ap (λ (c : List ℕ). footprint_between snapshots step (need_at c step i) (need_at c step j)) holds.counts_are,
-        small-spans i j ij le,
-      )
+  span-fits i j w numbers are ij le product = grind (arith, span-product, small-spans i j)
 
   -- one place more
   pub scaled-more : (i j w : ℕ) (numbers : List ℕ) → AreScaled snapshots counts step i j numbers → i < j → j ≤ places counts step
       → w ≡ slice_index numbers j * (16 * need_at counts step j) → AreScaled snapshots counts step i (j + 1) (slice_set numbers j w)
-  scaled-more i j w numbers are ij le product = record {
-    size = length-set numbers j w ∙ are.size;
-    scaled = λ k ik lt. elim (cases_lt k j) [
-      | inl before ↦ get_or-set_other numbers j k w 0 (λ e. omega (arith, e)) ∙ are.scaled k ik before
-      | inr not ↦ (let here : k ≡ j = omega arith in
-          rw here (get_or-set_same numbers j w 0 (omega (arith, are.size)) ∙ span-product i j w numbers are ij le product))
-    ];
-    others = λ k ik from within.
-        get_or-set_other numbers j k w 0 (λ e. omega (arith, e)) ∙ are.others k ik (omega arith) within;
-  }
+  scaled-more i j w numbers are ij le product =
+      let is = span-product i j w numbers are ij le product in
+      grind (arith, length-set, get_or-set_other, get_or-set_same)

@@ -1,6 +1,6 @@
 -- The places of a profile and the sums up to each, as they grow size by size.
 use Rattle.std.proofs.lemmas.Grind.{common_steps}
-use Rattle.std.proofs.Common.{◌≡◌, ℕ, zero, suc, ◌+◌, ◌-◌, ◌*◌, ◌<◌, ◌≤◌, List, [], ◌∷◌, ◌++◌, length, length-append, slice_index, cond, leb, arith, refl, ap, sym, subst, ◌∙◌}
+use Rattle.std.proofs.Common.{◌≡◌, ℕ, zero, suc, ◌+◌, ◌-◌, ◌*◌, ◌<◌, ◌≤◌, List, [], ◌∷◌, ◌++◌, length, length-append, slice_index, cond, leb, arith, refl, ap, sym, ◌∙◌}
 use Rattle.std.proofs.lemmas.Bool.{cases_lt, cond_both, cond-false, cond-true, eq-eqb, le-leb, le-ltb, lt-leb, lt-ltb, ne_eqb}
 use Rattle.std.proofs.lemmas.List.{get_or_append_left}
 use Rattle.std.proofs.Math.Seq.{get_or-append_seam}
@@ -196,12 +196,11 @@ built-end counts step n total total_bytes needs counted bytes is_step are end b 
   are_counts = are;
   needs_are = all.needs_are.needs_are;
   counted_are = sums (slice_index counts) total counted (λ k lt some. some) all.counted_are;
-  bytes_are =
-      sums (λ k. slice_index counts k * k) total_bytes bytes (λ k lt some. product-some (slice_index counts k) k some) all.bytes_are;
+  bytes_are = sums (λ k. slice_index counts k * k) total_bytes bytes (λ k lt some. product-some (slice_index counts k) k some) all.bytes_are;
 }
   where
     all : IsBuilt counts step (length counts) needs counted bytes total total_bytes
-    all = subst (λ (m : ℕ). IsBuilt counts step m needs counted bytes total total_bytes) end b
+    all = rw end at b
 
     sums : (f : ℕ → ℕ) (total : ℕ) (xs : List ℕ) → ((k : ℕ) → k < length counts → 0 < f k → 0 < slice_index counts k)
         → AreSumsBefore f step (length counts) needs xs total →
@@ -211,14 +210,13 @@ built-end counts step n total total_bytes needs counted bytes is_step are end b 
 pub built-small : (counts : List ℕ) (step n total total_bytes : ℕ) (needs counted bytes : List ℕ) → AreCounts counts
     → n ≤ largest_counted + 1 → IsBuilt counts step n needs counted bytes total total_bytes
     → (total ≤ n * greatest_count) × (total_bytes ≤ n * (greatest_count * largest_counted))
-built-small counts step n total total_bytes needs counted bytes are le b = (
-  grind (arith, sum_bounded),
-  omega (
-    arith,
-    b.bytes_are.total_is,
-    sum_bounded (λ k. slice_index counts k * k) n (greatest_count * largest_counted) (λ k lt.
-        let small : slice_index counts k ≤ greatest_count = are.in_range k 0 (omega (arith, are.sizes)) in
-        let within : k ≤ largest_counted = omega arith in
-        mul-le-mul small within),
-  ),
-)
+built-small counts step n total total_bytes needs counted bytes are le b =
+    let small : (k : ℕ) → k < n → slice_index counts k ≤ greatest_count = (λ k lt. are.in_range k 0 (omega (arith, are.sizes))) in (
+      omega (arith, b.counted_are.total_is, sum_bounded (slice_index counts) n greatest_count small),
+      omega (
+        arith,
+        b.bytes_are.total_is,
+        sum_bounded (λ k. slice_index counts k * k) n (greatest_count * largest_counted)
+            (λ k lt. mul-le-mul (small k lt) (let within : k ≤ largest_counted = omega arith in within)),
+      ),
+    )

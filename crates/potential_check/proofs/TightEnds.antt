@@ -1,6 +1,5 @@
 -- The edges of the places from one on, as a walk down the ends has seen to them.
-use Rattle.std.proofs.Common.{◌≡◌, ℕ, ◌+◌, ◌<◌, ◌≤◌, List, length, slice_index, arith, ap, inl, inr}
-use Rattle.std.proofs.lemmas.Bool.{cases_lt}
+use Rattle.std.proofs.Common.{◌≡◌, ℕ, ◌+◌, ◌<◌, ◌≤◌, List, length, slice_index, arith}
 use Rattle.potential_check.specs.RowConditions.{EdgesHold, HasTightEnd, IsTightEnd, edge_bound}
 use Rattle.potential_check.specs.Spanned.{Spanned}
 use Rattle.tuner_theory.specs.Spans.{places}
@@ -27,19 +26,13 @@ module _ (s : Spanned) (is_step : IsStep s.step) (before row : List ℕ) (full :
   -- more ends for the same places: where the first of them keeps within its edges there, all do
   pub walked-lower : (i end low : ℕ) → IsWalked s before row i end → i < length row
       → ((j : ℕ) → i < j → low ≤ j → j < end → slice_index row i ≤ edge_bound s before i j) → HoldFrom s before row i low
-  walked-lower i end low walked some here = λ k j from within lt above upto. elim (cases_lt j end) [
-    | inr past ↦ walked.hold k j from within lt past upto
-    | inl below ↦ elim (cases_lt i k) [
-      | inl later ↦ omega (
-        arith,
-        walked.tight some,
-        here j (omega arith) above below,
-        walked.hold k end from within (omega arith) (omega arith) walked.within,
-        places_cross s.counts s.step i k j end is_step (omega arith) (omega arith) (omega arith) walked.within,
-      )
-      | inr not ↦ (grind arith)
-    ]
-  ]
+  walked-lower i end low walked some here = λ k j from within lt above upto. grind (
+    arith,
+    walked.hold k j from,
+    walked.hold k end from,
+    here j,
+    places_cross s.counts s.step i k j end is_step,
+  )
 
   -- a place more
   pub walked-more : (i later end tight : ℕ) → later ≡ i + 1 → IsWalked s before row later end → i < length row →
@@ -50,24 +43,15 @@ module _ (s : Spanned) (is_step : IsStep s.step) (before row : List ℕ) (full :
     after = λ _. found.after;
     tight = λ _. found.tight;
     last = λ none. absurd (omega arith);
-    hold = λ k j from within lt above upto. elim (cases_lt i k) [
-      | inl later ↦ walked-lower (i + 1) end tight walked (omega arith) found.next k j (omega arith) within lt above upto
-      | inr not ↦ (let same : k ≡ i = omega arith in elim (cases_lt end j) [
-        | inr near ↦ omega (arith, ap (slice_index row) same, ap (λ m. edge_bound s before m j) same, found.here j above near)
-        | inl past ↦ elim (cases_lt (i + 1) (length row)) [
-          | inr none ↦ absurd (omega (arith, walked.last none))
-          | inl more ↦ omega (
-            arith,
-            ap (slice_index row) same,
-            ap (λ m. edge_bound s before m j) same,
-            found.here end found.within (omega arith),
-            walked.tight more,
-            walked.hold (i + 1) j (omega arith) more (omega (arith, walked.after more)) (omega arith) upto,
-            places_cross s.counts s.step i (i + 1) end j is_step (omega arith) (omega (arith, walked.after more)) (omega arith) upto,
-          )
-        ]
-      ])
-    ];
+    hold = λ k j from within lt above upto. grind (
+      arith,
+      walked-lower (i + 1) end tight walked,
+      found.here j,
+      found.here end,
+      found.next,
+      walked.hold (i + 1) j,
+      places_cross s.counts s.step i (i + 1) end j is_step,
+    );
   }
 
   -- the whole row
@@ -82,19 +66,6 @@ module _ (s : Spanned) (is_step : IsStep s.step) (before row : List ℕ) (full :
   -- where all edges hold, a place with a tight end has one up to that of the next place
   pub walked-end : (i later end : ℕ) → later ≡ i + 1 → IsWalked s before row later end → i < length row → EdgesHold s before row
       → HasTightEnd s before row i (places s.counts s.step) → HasTightEnd s before row i end
-  walked-end i later end is so_far some hold (j, after, upto, tight) = let walked : IsWalked s before row (i + 1) end = rw is at so_far in
-      elim (cases_lt end j) [
-        | inr near ↦ (j, after, near, tight)
-        | inl past ↦ elim (cases_lt (i + 1) (length row)) [
-          | inr none ↦ absurd (omega (arith, walked.last none))
-          | inl more ↦ (let next = walked.after more in
-              let same : slice_index row i ≡ edge_bound s before i end = omega (
-                arith,
-                hold.each i end some (omega arith) walked.within,
-                hold.each (i + 1) j more (omega arith) upto,
-                walked.tight more,
-                places_cross s.counts s.step i (i + 1) end j is_step (omega arith) (omega arith) (omega arith) upto,
-              ) in
-              (end, omega arith, omega arith, same))
-        ]
-      ]
+  walked-end i later end is so_far some hold (j, after, upto, tight) =
+      let walked : IsWalked s before row (i + 1) end = rw is at so_far in
+      grind (arith, hold.each i end, hold.each (i + 1) j, places_cross s.counts s.step i (i + 1) end j is_step)
