@@ -19,13 +19,10 @@ length-firsts_of layout = length-map-range_with_len (first_slot layout) 0 (lengt
 
 pub get_or-firsts_of : (layout : Partition) (number d : ℕ) → number ≤ length layout.classes →
     get_or (firsts_of layout) number d ≡ first_slot layout number
-get_or-firsts_of layout number d within =
-    get_or-map-range_with_len (first_slot layout) 0 (length layout.classes + 1) number number d (omega arith) (zero-add number)
+get_or-firsts_of layout number d within = grind (arith, get_or-map-range_with_len, zero-add)
 
 pub firsts_of-ascending : (layout : Partition) → IsNonDecreasingBy (λ first. first) (firsts_of layout)
-firsts_of-ascending layout a b d le within =
-    let long = length-firsts_of layout in
-    rw (get_or-firsts_of layout a d (omega arith), get_or-firsts_of layout b d (omega arith)) (first_slots_ascend layout a b le)
+firsts_of-ascending layout a b d le within = grind (arith, length-firsts_of, get_or-firsts_of, first_slots_ascend)
 
 pub class_of_point : (layout : Partition) (slot point : ℕ) → slot < slot_count layout → point ≤ length (firsts_of layout) →
     ((k d : ℕ) → k < length (firsts_of layout) → k < point → get_or (firsts_of layout) k d ≤ slot) →
@@ -81,8 +78,7 @@ class_is layout slot number is =
 pub each_slot_has_a_class : (layout : Partition) (slot : ℕ) → slot < slot_count layout → (number : ℕ) × IsClassOf layout slot number
 each_slot_has_a_class layout slot within =
     let place = place_of layout slot within in
-    let next = first_slot-suc layout place.number place.within in
-    (place.number, record { within = place.within; from = omega (arith, place.is); to = omega (arith, place.is, place.fits, next) })
+    grind (arith, first_slot-suc)
 
 -- and the slots that have one are slots of the layout
 pub slots_of_classes_are_slots : (layout : Partition) (slot number : ℕ) → IsClassOf layout slot number → slot < slot_count layout

@@ -2,7 +2,7 @@
 use Rattle.std.proofs.Common.{◌≡◌, ℕ, ◌<◌, ◌≤◌, true, ltb, Some, None, ◌∙◌, ap, cond, arith}
 use Rattle.std.specs.Prelude.{◌↔◌}
 use Rattle.std.specs.List.{position_or_len}
-use Rattle.std.proofs.lemmas.Bool.{and_parts, and_from, leb-true, le-leb, ltb-true, lt-ltb, cond-true, false_from_ne_true}
+use Rattle.std.proofs.lemmas.Bool.{and_from, le-leb, lt-ltb, cond-true, false_from_ne_true}
 use Rattle.std.proofs.lemmas.List.Quantifiers.{position-Some}
 use Rattle.std.proofs.lemmas.List.Sums.{position_or_len_is}
 use Rattle.class_table.specs.Layout.{Partition, Slot, no_slot, end_of, slots_of, slot_count, slot_of, Covers, covers, slot_over}
@@ -10,8 +10,7 @@ use Rattle.class_table.specs.Tables.{IsLegalTable}
 use Rattle.class_table.proofs.Slots.{legal_slots_are_in_order}
 
 pub Covers-true : (slot : Slot) (granule : ℕ) → covers slot granule ≡ true → Covers slot granule
-Covers-true slot granule test =
-    let both = and_parts _ _ test in record { from = leb-true slot.start granule both.0; to = ltb-true granule (end_of slot) both.1 }
+Covers-true slot granule test = grind arith
 
 pub true-Covers : (slot : Slot) (granule : ℕ) → Covers slot granule → covers slot granule ≡ true
 true-Covers slot granule it = and_from _ _ (le-leb slot.start granule it.from) (lt-ltb granule (end_of slot) it.to)

@@ -1,5 +1,6 @@
 -- Looking for the first faulty class, one class after the other.
-use Rattle.std.proofs.Common.{◌≡◌, ℕ, ◌+◌, ◌<◌, ◌≤◌, true, false, List, length, get_or, drop, Option, Some, refl, add-one, leb}
+use Rattle.std.proofs.lemmas.Grind.{common_steps}
+use Rattle.std.proofs.Common.{◌≡◌, ℕ, ◌+◌, ◌<◌, ◌≤◌, true, false, List, length, get_or, drop, Option, Some, refl, add-one, arith}
 use Rattle.std.proofs.Math.Seq.{drop-cons}
 use Rattle.std.proofs.lemmas.Bool.{le-leb, lt-leb}
 use Rattle.class_table.specs.Faults.{fault_from, is_out_of_range}
@@ -19,14 +20,10 @@ pub not_ascending_at : (classes : List ℕ) (below i : ℕ) → i < length class
     get_or classes i 0 ≤ below
     → fault_at classes below i ≡ Some NotAscending
 unfolding fault_from
-not_ascending_at classes below i within in_range low =
-    let low_test : leb (get_or classes i 0) below ≡ true = le-leb _ _ low in
-    rw (drop-cons classes i 0 within, in_range, low_test) refl
+not_ascending_at classes below i within in_range low = grind (arith, le-leb, drop-cons)
 
 pub no_fault_at : (classes : List ℕ) (below i : ℕ) → i < length classes → is_out_of_range (get_or classes i 0) ≡ false →
     below < get_or classes i 0
     → fault_at classes below i ≡ fault_at classes (get_or classes i 0) (i + 1)
 unfolding fault_from
-no_fault_at classes below i within in_range above =
-    let above_test : leb (get_or classes i 0) below ≡ false = lt-leb _ _ above in
-    rw (drop-cons classes i 0 within, in_range, above_test, add-one) refl
+no_fault_at classes below i within in_range above = grind (arith, common_steps, lt-leb, drop-cons, add-one)

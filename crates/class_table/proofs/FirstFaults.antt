@@ -1,5 +1,5 @@
 -- The line at which a text is refused as a class line is its first fault.
-use Rattle.std.proofs.Common.{◌≡◌, ℕ, List, [], ◌∷◌, length, take, Result, Ok, Err, refl, sym, ap, ◌∙◌, arith, ◌⊎◌, inl, inr}
+use Rattle.std.proofs.Common.{◌≡◌, ℕ, List, [], ◌∷◌, take, Result, Ok, Err, refl, ap, arith, ◌⊎◌, inl, inr}
 use Rattle.std.specs.Prelude.{IsErr, ◌↔◌}
 use Rattle.line_text.specs.FirstFault.{IsFirstFault}
 use Rattle.line_text.specs.Lines.{lines}
@@ -12,8 +12,7 @@ use Rattle.class_table.proofs.Spelled.{line_is_its_text, lines-spelled, read_lin
 
 -- what is read is not refused
 read_or_refused : (read : Result (List ℕ) TableError) (table : List ℕ) → IsErr read → read ≡ Ok table → ⊥
-read_or_refused (Ok other) table refused e = absurd cc
-read_or_refused (Err fault) table refused e = absurd cc
+read_or_refused read table is also = grind arith
 
 -- ---- texts that spell a table, and texts that begin with one
 
@@ -23,8 +22,7 @@ spells-class_line table legal = record { legal = legal; line = line_is_its_text 
 
 -- what spells a table begins with it
 begins-spelled : (text table : List ℕ) → SpellsTable text table → BeginsWithTable text table
-begins-spelled text table spells =
-    record { legal = spells.legal; line = ap (take 1) (lines-spelled text table spells) }
+begins-spelled text table spells = grind (arith, lines-spelled)
 
 -- lists of one line
 same_line : (x y : List ℕ) → x ∷ [] ≡ y ∷ [] → x ≡ y
@@ -33,9 +31,7 @@ same_line x y e = cc
 -- the first line of what begins with a table is read as that table
 read-begins : (text line table : List ℕ) → take 1 (lines text) ≡ line ∷ [] → BeginsWithTable text table
     → table_of_line line ≡ Ok table
-read-begins text line table first begins =
-    let same = same_line line (class_line table) (sym first ∙ begins.line) in
-    ap table_of_line same ∙ table_line_is_read table begins.legal
+read-begins text line table first begins = grind (arith, same_line, table_line_is_read)
 
 -- ---- line 1
 
@@ -56,8 +52,7 @@ missing_line_is_first_fault text missing = first_line_fault text none
   where
     none : (other table : List ℕ) → BeginsWithTable other table → take 1 (lines other) ≡ take 1 (lines text) → ⊥
     none other table begins alike =
-        let no_line : [] ≡ class_line table ∷ [] = sym (ap (take 1) missing) ∙ sym alike ∙ begins.line in
-        absurd cc
+        grind arith
 
 -- A line is one exactly if it is refused.
 pub first_fault_is_refused : (text line : List ℕ) → take 1 (lines text) ≡ line ∷ []
@@ -65,43 +60,27 @@ pub first_fault_is_refused : (text line : List ℕ) → take 1 (lines text) ≡ 
 first_fault_is_refused text line first = (refused_is, is_refused (table_of_line line) refl)
   where
     refused_is : IsErr (table_of_line line) → IsFirstFault BeginsWithTable text 1
-    refused_is refused = first_line_fault text (λ other table begins alike.
-        read_or_refused (table_of_line line) table refused (read-begins other line table (alike ∙ first) begins))
+    refused_is refused = first_line_fault text (grind (arith, read_or_refused, read-begins))
 
     is_refused : (read : Result (List ℕ) TableError) → table_of_line line ≡ read → IsFirstFault BeginsWithTable text 1
         → IsErr (table_of_line line)
     is_refused (Err fault) is is_first = rw is refl
     is_refused (Ok table) is is_first =
         let spelled = read_line_is_spelled line table is in
-        let begins = first ∙ ap (λ line. line ∷ []) spelled.0 in
-        absurd (is_first.none text table (record { legal = spelled.1; line = begins }) refl)
+        grind arith
 
 -- ---- a text of one line
 
 -- a fault of what begins with a table is one of what spells one
 alone : (text : List ℕ) → IsFirstFault BeginsWithTable text 1 → IsFirstFault SpellsTable text 1
-alone text first = record {
-  some = first.some;
-  within = first.within;
-  before = (class_line [], [], spells-class_line [] no_classes_are_legal, refl);
-  none = λ other table spells alike. first.none other table (begins-spelled other table spells) alike;
-}
+alone text first = grind (arith, spells-class_line, no_classes_are_legal, begins-spelled)
 
 -- no line follows the class line
 second_line_fault : (text line second table : List ℕ) (ls : List (List ℕ)) → lines text ≡ line ∷ second ∷ ls
     → table_of_line line ≡ Ok table → IsFirstFault SpellsTable text 2
 second_line_fault text line second table ls is read =
     let spelled = read_line_is_spelled line table read in
-    let spells = spells-class_line table spelled.1 in
-    record {
-      some = omega arith;
-      within = omega (arith, ap length is);
-      before = (class_line table, table, spells, rw (is, lines-spelled (class_line table) table spells, spelled.0) refl);
-      none = λ other value spells_other alike.
-          let two = sym (ap (take 2) is) ∙ sym alike in
-          let too_long : line ∷ second ∷ [] ≡ class_line value ∷ [] = two ∙ ap (take 2) (lines-spelled other value spells_other) in
-          absurd cc;
-    }
+    grind (arith, spells-class_line, lines-spelled)
 
 abbrev IsFaulty : List ℕ → TableError → Type 0
 IsFaulty text fault = IsFirstFault SpellsTable text 1 ⊎ ((fault ≡ BadLine) × IsFirstFault SpellsTable text 2)

@@ -20,19 +20,11 @@ first_slots_ascend layout a b le =
 
 pub first_slot-most : (layout : Partition) (number : ℕ) → first_slot layout number ≤ slot_count layout
 unfolding slots_of
-first_slot-most layout number =
-    omega (
-      arith,
-      sum_by-take-le (λ class. share_of layout / class) layout.classes number,
-      length-slots_of_classes 0 (share_of layout) layout.classes,
-    )
+first_slot-most layout number = grind (arith, sum_by-take-le, length-slots_of_classes)
 
 -- a slot has two granules or more
 halved : (share class : ℕ) → 2 ≤ class → share / class ≤ share / 2
-halved share class wide =
-    let product : share / class * 2 ≤ share / class * class = mul-le (share / class) 2 (share / class) class (omega arith) wide in
-    let split : share / class * class + share % class ≡ share = div-add-mod' share class in
-    omega arith
+halved share class wide = grind arith
 
 pub first_slot-few : (layout : Partition) (number : ℕ) → IsPartition layout → first_slot layout number ≤ 131072
 first_slot-few layout number is =

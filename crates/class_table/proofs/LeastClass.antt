@@ -1,8 +1,8 @@
 -- The first class that serves a size is the least one.
-use Rattle.std.proofs.Common.{◌≡◌, ℕ, ◌<◌, ◌≤◌, Bool, true, false, List, [], ◌∷◌, length, slice_index, get_or, ltb, Option, Some, None, arith, refl, sym, ap, ◌∙◌, inl, inr, subst}
+use Rattle.std.proofs.Common.{◌≡◌, ℕ, ◌<◌, ◌≤◌, Bool, true, false, List, [], ◌∷◌, length, slice_index, get_or, Option, Some, None, arith, refl, sym, ◌∙◌, inl, inr, subst}
 use Rattle.std.specs.Prelude.{IfSome, IfNone, slice_get, option_and_then, All, ◌↔◌}
 use Rattle.std.specs.List.{position_or_len}
-use Rattle.std.proofs.lemmas.Bool.{cases_order, cases_lt, both_ways, lt-ltb, le-ltb, leb-true, le-leb, lt-leb}
+use Rattle.std.proofs.lemmas.Bool.{cases_order, cases_lt, both_ways, lt-ltb, le-ltb, le-leb, lt-leb}
 use Rattle.std.proofs.lemmas.Grind.{div_ceil_times}
 use Rattle.std.proofs.lemmas.List.Sums.{position_or_len_is}
 use Rattle.std.specs.Int.{div_ceil}
@@ -47,19 +47,11 @@ first_place : (n : ℕ) (classes : List ℕ) → class_for classes n ≡ slice_g
 first_place n classes = find_at (serves n) classes
 
 pub number_gives_class : (n : ℕ) (classes : List ℕ) → class_for classes n ≡ option_and_then (slice_get classes) (class_number_for classes n)
-number_gives_class n classes =
-    let place = position_or_len (serves n) classes in
-    elim (cases_lt place (length classes)) [
-      | inl within ↦ let test : ltb place (length classes) ≡ true = lt-ltb place (length classes) within in rw test (first_place n classes)
-      | inr past ↦
-          let test : ltb place (length classes) ≡ false = le-ltb place (length classes) past in
-          rw test (first_place n classes ∙ slice_get_past classes place past)
-    ]
+number_gives_class n classes = grind (arith, cases_lt, lt-ltb, first_place, le-ltb, slice_get_past)
 
 numbered : (classes : List ℕ) (class : ℕ) (number : Option ℕ) → option_and_then (slice_get classes) number ≡ Some class →
     (k : ℕ) × (number ≡ Some k) × (slice_get classes k ≡ Some class)
-numbered classes class None e = absurd cc
-numbered classes class (Some k) e = (k, refl, e)
+numbered classes class number is = grind arith
 
 -- `first_is_least` is there to be proved: it says what the definition, the first that serves, means
 pub first_is_least : (step n class : ℕ) (classes : List ℕ) → IsLegalTable step classes → class_for classes n ≡ Some class →
@@ -80,15 +72,11 @@ no_class_serves n (class ∷ classes) none = go (serves n class) refl (no_class_
 
 -- `serving_is_need`: a class serves a request exactly where it has the granules that the request needs
 pub serving_is_need : (n class : ℕ) → 2 ≤ class → (serves n class ≡ true) ↔ (need_of n ≤ class)
-serving_is_need n class two = (
-  λ serving. let fits = leb-true n _ serving in omega (arith, fits),
-  λ needs. le-leb n _ (omega arith),
-)
+serving_is_need n class two = grind arith
 
 pub none_of : (classes : List ℕ) (n : ℕ) (number : Option ℕ) → number ≡ class_number_for classes n →
     IfNone number (All (λ class. serves n class ≡ false) classes)
-none_of classes n None none = no_class_serves n classes (number_gives_class n classes ∙ ap (option_and_then (slice_get classes)) (sym none))
-none_of classes n (Some number) found = tt
+none_of classes n number is = grind (arith, no_class_serves, number_gives_class)
 
 -- ---- the number of a size's class is how many classes are too small
 
@@ -116,14 +104,8 @@ counted_place step classes n number legal bound below above =
 
 pub number_counted : (n : ℕ) (classes : List ℕ) (number : ℕ) → position_or_len (serves n) classes ≡ number → number < length classes →
     Some number ≡ class_number_for classes n
-number_counted n classes number place within =
-    let test : ltb (position_or_len (serves n) classes) (length classes) ≡ true =
-    lt-ltb _ _ (subst (λ k. k < length classes) (sym place) within) in
-    rw test (ap Some (sym place))
+number_counted n classes number place within = grind arith
 
 pub none_counted : (n : ℕ) (classes : List ℕ) (number : ℕ) → position_or_len (serves n) classes ≡ number → length classes ≤ number →
     None ≡ class_number_for classes n
-none_counted n classes number place past =
-    let test : ltb (position_or_len (serves n) classes) (length classes) ≡ false =
-    le-ltb _ _ (subst (λ k. length classes ≤ k) (sym place) past) in
-    rw test refl
+none_counted n classes number place past = grind arith

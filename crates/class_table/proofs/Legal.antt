@@ -1,5 +1,5 @@
 -- A legal table, class by class: classes without a fault are one, and the classes of a legal table have no fault.
-use Rattle.std.proofs.Common.{◌≡◌, ℕ, zero, suc, ◌+◌, ◌%◌, ◌<◌, ◌≤◌, Bool, true, false, List, [], ◌∷◌, length, slice_index, get_or, None, refl, arith, leb}
+use Rattle.std.proofs.Common.{◌≡◌, ℕ, zero, suc, ◌%◌, ◌<◌, ◌≤◌, Bool, true, false, List, [], ◌∷◌, length, slice_index, get_or, None, refl, arith, leb}
 use Rattle.std.specs.List.{All, AllPairs}
 use Rattle.std.proofs.lemmas.List.Kept.{AllPairs-from_increasing}
 use Rattle.std.proofs.lemmas.Bool.{lt-leb, le-ltb, or_from, or_parts, ltb-false, leb-false}
@@ -36,9 +36,7 @@ pub legal_table_of_classes : (step low : ℕ) (classes : List ℕ) → 1 ≤ low
 legal_table_of_classes step low classes one few above = record {
   few = few;
   in_range = λ k d within. let here = class_in step low k d classes above within in (omega (arith, one, here.0), here.1);
-  ascending = λ k within.
-      let next : k + 1 ≡ suc k = omega arith in
-      rw next (next_above step low k classes above (omega arith));
+  ascending = λ k within. grind (arith, next_above);
   fitting = λ k d within. (class_in step low k d classes above within).2;
 }
 

@@ -1,18 +1,17 @@
 -- The line of a name and numbers is read as these numbers, and no other line is.
-use Rattle.std.proofs.Common.{◌≡◌, ℕ, ◌<◌, ◌^◌, Bool, true, false, not, ◌&&◌, List, [], ◌∷◌, length, map, Option, Some, None, refl, sym, ap, ◌∙◌, arith, length-append}
+use Rattle.std.proofs.lemmas.Grind.{common_steps}
+use Rattle.std.proofs.Common.{◌≡◌, ℕ, ◌<◌, ◌^◌, Bool, true, not, ◌&&◌, List, [], ◌∷◌, length, map, Some, refl, arith, length-append}
 use Rattle.std.specs.List.{list_all}
-use Rattle.std.specs.Prelude.{All, option_and_then}
+use Rattle.std.specs.Prelude.{All}
 use Rattle.std.specs.Fmt.{decimal}
-use Rattle.std.specs.Str.{bytes_eq}
 use Rattle.std.proofs.lemmas.Bool.{and_parts, not-true}
-use Rattle.std.proofs.lemmas.List.Elements.{All-nil, All-cons, All-head, All-tail, All-weaker}
-use Rattle.std.proofs.lemmas.List.Sums.{AllPass-from_list_all}
+use Rattle.std.proofs.lemmas.List.Elements.{All-nil, All-cons, All-head, All-tail}
 use Rattle.std.proofs.lemmas.Option.{same_Some}
 use Rattle.std.proofs.lemmas.Slice.Eq.{bytes_eq-Decides}
-use Rattle.line_text.specs.Lines.{words, line_of, IsFullLine, IsLine, IsWord, is_newline, is_space}
+use Rattle.line_text.specs.Lines.{words, IsFullLine, IsLine, IsWord, is_newline, is_space}
 use Rattle.line_text.specs.Numbers.{number_of}
 use Rattle.line_text.proofs.LawLemmas.{text_laws as laws}
-use Rattle.class_table.specs.NamedLines.{named_line, numbers_in, numbers_of, words_after}
+use Rattle.class_table.specs.NamedLines.{named_line, numbers_in, numbers_of}
 
 abbrev pub AreSmall : List ℕ → Type 0
 AreSmall ns = All (λ n. n < 2 ^ 64) ns
@@ -30,13 +29,7 @@ abbrev pub is_plain : ℕ → Bool
 is_plain b = not (is_newline b) && not (is_space b)
 
 pub plain_name : (name : List ℕ) → list_all is_plain name ≡ true → 0 < length name → IsName name
-plain_name name plain some =
-    let all = AllPass-from_list_all is_plain name plain in
-    record {
-      line = All-weaker (λ b. is_plain b ≡ true) (λ b. is_newline b ≡ false) (λ b e. not-true (is_newline b) (and_parts _ _ e).0) name all;
-      word = All-weaker (λ b. is_plain b ≡ true) (λ b. is_space b ≡ false) (λ b e. not-true (is_space b) (and_parts _ _ e).1) name all;
-      some = some;
-    }
+plain_name name plain some = grind (arith, common_steps, not-true, and_parts)
 
 -- ---- from numbers to the line
 
@@ -65,22 +58,18 @@ named_line_is_line name ns is_name small =
 
 -- not an empty one,
 named_line-some : (name ns : List ℕ) → IsName name → 0 < length (named_line name ns)
-named_line-some name [] is_name = is_name.some
-named_line-some name (n ∷ ns) is_name = omega (arith, length-append name (32 ∷ line_of (map decimal (n ∷ ns))))
+named_line-some name ns is = grind (arith, length-append)
 
 pub named_line_is_full : (name ns : List ℕ) → IsName name → AreSmall ns → IsFullLine (named_line name ns)
 named_line_is_full name ns is_name small = (named_line_is_line name ns is_name small, named_line-some name ns is_name)
 
 -- and these are its words,
 pub words_of_named_line : (name ns : List ℕ) → IsName name → AreSmall ns → words (named_line name ns) ≡ name ∷ map decimal ns
-words_of_named_line name ns is_name small =
-    laws.written_words name (map decimal ns) (All-cons IsWord name (map decimal ns) is_name.word (decimals-words ns small))
+words_of_named_line name ns is_name small = grind (arith, laws, decimals-words)
 
 -- which are read as the numbers.
 pub named_numbers_are_read : (name ns : List ℕ) → IsName name → AreSmall ns → numbers_in name (named_line name ns) ≡ Some ns
-named_numbers_are_read name ns is_name small =
-    let same : bytes_eq name name ≡ true = (bytes_eq-Decides name name).1 refl in
-    rw (words_of_named_line name ns is_name small, same) (numbers_of-decimals ns small)
+named_numbers_are_read name ns is_name small = grind (arith, bytes_eq-Decides, words_of_named_line, numbers_of-decimals)
 
 -- ---- from a line to its numbers
 
@@ -88,13 +77,7 @@ named_numbers_are_read name ns is_name small =
 first_number : (w : List ℕ) (ws : List (List ℕ)) (ns : List ℕ) → numbers_of (w ∷ ws) ≡ Some ns
     → (n : ℕ) × (others : List ℕ) × (number_of w ≡ Some n) × (numbers_of ws ≡ Some others) × (ns ≡ n ∷ others)
 unfolding numbers_of
-first_number w ws ns e = go (number_of w) refl (numbers_of ws) refl
-  where
-    go : (o : Option ℕ) → number_of w ≡ o → (p : Option (List ℕ)) → numbers_of ws ≡ p
-        → (n : ℕ) × (others : List ℕ) × (number_of w ≡ Some n) × (numbers_of ws ≡ Some others) × (ns ≡ n ∷ others)
-    go None f p g = let none = rw f at e in absurd cc
-    go (Some n) f None g = let none = rw (f, g) at e in absurd cc
-    go (Some n) f (Some others) g = let is = rw (f, g) at e in (n, others, f, g, sym (same_Some (n ∷ others) ns is))
+first_number w ws ns e = grind arith
 
 decimals_more : (w : List ℕ) (ws : List (List ℕ)) (n : ℕ) (others ns : List ℕ) → w ≡ decimal n → ws ≡ map decimal others → ns ≡ n ∷ others →
     w ∷ ws ≡ map decimal ns
@@ -115,15 +98,4 @@ decimals-numbers_of (w ∷ ws) ns e small =
 
 -- A line that is read as these numbers is their line.
 pub line_of_read_numbers : (name line ns : List ℕ) → numbers_in name line ≡ Some ns → AreSmall ns → line ≡ named_line name ns
-line_of_read_numbers name line ns e small = sym (laws.line line) ∙ ap line_of (go (words line) e)
-  where
-    go : (ws : List (List ℕ)) → option_and_then numbers_of (words_after name ws) ≡ Some ns → ws ≡ name ∷ map decimal ns
-    go [] e = absurd cc
-    go (w ∷ ws) e = named (bytes_eq w name) refl
-      where
-        named : (same : Bool) → bytes_eq w name ≡ same → w ∷ ws ≡ name ∷ map decimal ns
-        named false f = let none = rw f at e in absurd cc
-        named true f =
-            let name_is : w ≡ name = (bytes_eq-Decides w name).0 f in
-            let after : ws ≡ map decimal ns = decimals-numbers_of ws ns (rw f at e) small in
-            rw (name_is, after) refl
+line_of_read_numbers name line ns e small = grind (arith, laws, bytes_eq-Decides, decimals-numbers_of)

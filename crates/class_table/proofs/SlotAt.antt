@@ -1,7 +1,7 @@
 -- Which slot covers a granule, by arithmetic on the share.
-use Rattle.std.proofs.Common.{◌≡◌, ℕ, ◌+◌, ◌-◌, ◌*◌, ◌/◌, ◌%◌, ◌<◌, ◌≤◌, length, get_or, Option, Some, None, refl, sym, ◌∙◌, ap, subst, arith}
+use Rattle.std.proofs.Common.{◌≡◌, ℕ, ◌+◌, ◌-◌, ◌*◌, ◌/◌, ◌%◌, ◌<◌, ◌≤◌, length, get_or, Option, Some, None, refl, sym, ◌∙◌, ap, arith}
 use Rattle.std.proofs.lemmas.Nat.{mul-le, div-add-mod', div-mul-add, mod-mul-add, mod_below}
-use Rattle.class_table.specs.Layout.{Partition, IsPartition, Slot, end_of, share_of, slot_count, slot_of, first_slot, Covers, slot_over}
+use Rattle.class_table.specs.Layout.{Partition, IsPartition, Slot, share_of, slot_count, slot_of, first_slot, Covers, slot_over}
 use Rattle.class_table.proofs.Covering.{one_slot_covers}
 use Rattle.class_table.proofs.FirstSlots.{first_slot-suc, first_slot-most}
 use Rattle.class_table.proofs.Slots.{Place, place_of, slot_of-class}
@@ -28,14 +28,7 @@ divided share granule number class k fits from to =
 -- where a slot stands that covers the granule
 covered : (layout : Partition) (granule s : ℕ) (place : Place layout s) → Covers (slot_of layout s) granule →
     IsAt (share_of layout) granule place.number (get_or layout.classes place.number 0) place.k
-covered layout granule s place at =
-    let slot = ap (slot_of layout) place.is ∙ slot_of-class layout place.number place.k place.within place.fits in
-    let from : (slot_of layout s).start ≤ granule = at.from in
-    let to : granule < end_of (slot_of layout s) = at.to in
-    let start : (slot_of layout s).start ≡ share_of layout * place.number + get_or layout.classes place.number 0 * place.k =
-    ap (λ (slot : Slot). slot.start) slot in
-    let class : (slot_of layout s).class ≡ get_or layout.classes place.number 0 = ap (λ (slot : Slot). slot.class) slot in
-    divided (share_of layout) granule place.number (get_or layout.classes place.number 0) place.k place.fits (omega arith) (omega arith)
+covered layout granule s place at = grind (arith, slot_of-class, divided)
 
 -- no slot is found where none covers the granule
 none_over : (layout : Partition) (granule : ℕ) → IsPartition layout →
@@ -49,9 +42,7 @@ none_over layout granule is none = by (slot_over layout granule) refl
 pub none_without_share : (layout : Partition) (granule : ℕ) → IsPartition layout → share_of layout ≡ 0 → None ≡ slot_over layout granule
 none_without_share layout granule is no_share = none_over layout granule is (λ s within at.
     let place = place_of layout s within in
-    let fits : place.k < 0 / get_or layout.classes place.number 0 =
-    subst (λ n. place.k < n / get_or layout.classes place.number 0) no_share place.fits in
-    omega arith)
+    grind arith)
 
 pub none_past_shares : (layout : Partition) (granule : ℕ) → IsPartition layout → length layout.classes ≤ granule / share_of layout →
     None ≡ slot_over layout granule
@@ -67,12 +58,7 @@ pub none_after_slots : (layout : Partition) (granule : ℕ) → IsPartition layo
     None ≡ slot_over layout granule
 none_after_slots layout granule is within past = none_over layout granule is (λ s inside at.
     let place = place_of layout s inside in
-    let where_is = covered layout granule s place at in
-    let fits : place.k < share_of layout / get_or layout.classes (granule / share_of layout) 0 =
-    subst (λ n. place.k < share_of layout / get_or layout.classes n 0) where_is.number_is place.fits in
-    let k_is : place.k ≡ granule % share_of layout / get_or layout.classes (granule / share_of layout) 0 =
-    subst (λ n. place.k ≡ granule % share_of layout / get_or layout.classes n 0) where_is.number_is where_is.k_is in
-    omega arith)
+    grind (arith, covered))
 
 -- a place is a slot's exactly where its number is below the next class's first slot
 module _ (layout : Partition) (share number class k first next : ℕ) (share_is : share ≡ share_of layout)
@@ -116,13 +102,4 @@ pub place_in_share : (layout : Partition) (granule : ℕ) → granule / share_of
     (slot_of layout (first_slot layout (granule / share_of layout) + granule % share_of layout / get_or layout.classes
     (granule / share_of layout) 0)).start
     + granule % share_of layout % get_or layout.classes (granule / share_of layout) 0 ≡ granule
-place_in_share layout granule within fits =
-    let share = share_of layout in
-    let number = granule / share in
-    let class = get_or layout.classes number 0 in
-    let k = granule % share / class in
-    let start : (slot_of layout (first_slot layout number + k)).start ≡ share * number + class * k =
-    ap (λ (slot : Slot). slot.start) (slot_of-class layout number k within fits) in
-    let whole : number * share + granule % share ≡ granule = div-add-mod' granule share in
-    let inner : k * class + granule % share % class ≡ granule % share = div-add-mod' (granule % share) class in
-    omega (arith, start, whole, inner)
+place_in_share layout granule within fits = grind (arith, slot_of-class, div-add-mod')

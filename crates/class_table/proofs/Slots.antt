@@ -39,22 +39,13 @@ spread_row first class j zero wide = omega arith
 spread_row first class j (suc n) wide =
     let rest : IsSpread (first + class * (j + 1)) (first + class * (j + 1 + n)) (slots_in_a_row first class (j + 1) n) =
     spread_row first class (j + 1) n wide in
-    let from : first + class * (j + 1) ≡ first + class * j + class = omega arith in
-    let to : first + class * (j + 1 + n) ≡ first + class * (j + suc n) = omega arith in (
-      omega arith,
-      wide,
-      subst (λ granule. IsSpread granule (first + class * (j + suc n)) (slots_in_a_row first class (j + 1) n)) from
-          (subst (λ granule. IsSpread (first + class * (j + 1)) granule (slots_in_a_row first class (j + 1) n)) to rest),
-    )
+    grind arith
 
 spread_class : (first share class : ℕ) → 2 ≤ class → IsSpread first (first + share) (slots_of_class first share class)
 spread_class first share class wide =
     let row : IsSpread (first + class * 0) (first + class * (0 + share / class)) (slots_of_class first share class) =
     spread_row first class 0 (share / class) wide in
-    let fits : share / class * class + share % class ≡ share = div-add-mod' share class in
-    spread_from first (first + class * 0) (first + share) (slots_of_class first share class) (omega arith)
-    (spread_to (first + class * 0) (first + class * (0 + share / class)) (first + share) (slots_of_class first share class) (omega arith)
-    row)
+    grind (arith, div-add-mod', spread_from, spread_to)
 
 spread_classes : (first share : ℕ) (classes : List ℕ) → All IsBlockSize classes →
     IsSpread first (first + share * length classes) (slots_of_classes first share classes)
@@ -118,8 +109,7 @@ abbrev slots_before : ℕ → ℕ → List ℕ → ℕ
 slots_before share number classes = sum_by (λ class. share / class) (take number classes)
 
 length-slots_of_class : (first share class : ℕ) → length (slots_of_class first share class) ≡ share / class
-length-slots_of_class first share class =
-    length-map-range_with_len (λ k. record { start = first + class * k; class = class }) 0 (share / class)
+length-slots_of_class first share class = grind (arith, length-map-range_with_len)
 
 slots_before-suc : (share number class : ℕ) (classes : List ℕ) →
     slots_before share (suc number) (class ∷ classes) ≡ share / class + slots_before share number classes
@@ -137,9 +127,7 @@ length-slots_of_classes first share (class ∷ classes) =
 
 pub slots_of_classes_are_all : (layout : Partition) → slot_count layout ≡ first_slot layout (length layout.classes)
 unfolding slots_of
-slots_of_classes_are_all layout =
-    length-slots_of_classes 0 (share_of layout) layout.classes
-    ∙ ap (sum_by (λ class. share_of layout / class)) (sym (take_all (length layout.classes) layout.classes (omega arith)))
+slots_of_classes_are_all layout = grind (arith, length-slots_of_classes, take_all)
 
 -- the slot at a place of a class
 slot_in_class : (first share : ℕ) (classes : List ℕ) (number k : ℕ) → number < length classes → k < share / get_or classes number 0 →
@@ -148,11 +136,7 @@ slot_in_class : (first share : ℕ) (classes : List ℕ) (number k : ℕ) → nu
 unfolding slots_of_classes
 slot_in_class first share [] number k within fits = absurd (omega arith)
 slot_in_class first share (class ∷ classes) zero k within fits =
-    rw zero-add
-    (get_or_append_left (slots_of_class first share class) (slots_of_classes (first + share) share classes) no_slot k
-    (rw length-slots_of_class fits)
-    ∙ get_or-map-range_with_len (λ k. record { start = first + class * k; class = class }) 0 (share / class) k k no_slot fits (omega arith)
-    ∙ ap (λ n. record { start = n + class * k; class = class }) (omega arith))
+    grind (arith, zero-add, get_or_append_left, length-slots_of_class, get_or-map-range_with_len)
 slot_in_class first share (class ∷ classes) (suc number) k within fits =
     let place : slots_before share (suc number) (class ∷ classes) + k ≡ length (slots_of_class first share class) + (slots_before share number classes + k) =
     omega (arith, slots_before-suc share number class classes, length-slots_of_class first share class) in

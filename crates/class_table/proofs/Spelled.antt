@@ -1,14 +1,13 @@
 -- The line of a table is read as that table, and what is read as a table is its line.
-use Rattle.std.proofs.Common.{◌≡◌, ℕ, ◌<◌, ◌^◌, Bool, true, false, List, [], ◌∷◌, length, Option, Some, None, Ok, refl, sym, ap, subst, ◌∙◌, arith, codes, ltb, inr, append-nil}
+use Rattle.std.proofs.Common.{◌≡◌, ℕ, Bool, true, false, List, [], ◌∷◌, length, Option, Some, None, Ok, refl, sym, subst, ◌∙◌, arith, codes, ltb, inr, append-nil}
 use Rattle.std.proofs.lemmas.Bool.{le-ltb, ltb-false}
 use Rattle.std.proofs.lemmas.List.Concat.{flat_map-cons}
-use Rattle.std.proofs.lemmas.List.Elements.{All-nil, All-cons, All-weaker}
+use Rattle.std.proofs.lemmas.List.Elements.{All-nil, All-cons}
 use Rattle.line_text.specs.Lines.{lines, words, ended, IsFullLine, IsLine, IsTextOf}
 use Rattle.line_text.proofs.LawLemmas.{text_laws as laws}
 use Rattle.class_table.specs.ClassLine.{SpellsTable, class_line, table_of_numbers, table_of_lines, table_of_line, table_of}
 use Rattle.class_table.specs.Faults.{fault_from, table_of_classes}
 use Rattle.class_table.specs.NamedLines.{numbers_in}
-use Rattle.class_table.specs.Sizes.{IsBlockSize}
 use Rattle.class_table.specs.Tables.{IsLegalTable}
 use Rattle.class_table.specs.declared.fault.TableError.{TableError}
 use Rattle.class_table.proofs.Legal.{classes-from_no_fault, legal_table_of_classes, classes_of_legal_table, no_fault-from_classes}
@@ -29,9 +28,7 @@ faultless_is_legal classes table e = go (ltb 32 (length classes)) refl (fault_fr
         (same, rw (← same) (legal_table_of_classes 1 1 classes (omega arith) few (classes-from_no_fault classes k)))
 
 pub legal_is_faultless : (classes : List ℕ) → IsLegalTable 1 classes → table_of_classes classes ≡ Ok classes
-legal_is_faultless classes legal =
-    let few : ltb 32 (length classes) ≡ false = le-ltb 32 (length classes) legal.few in
-    rw (few, no_fault-from_classes classes (classes_of_legal_table 1 classes legal)) refl
+legal_is_faultless classes legal = grind (arith, le-ltb, no_fault-from_classes, classes_of_legal_table)
 
 -- ---- what is spelled is read
 
@@ -39,8 +36,7 @@ pub classes_is_a_name : IsName (codes "classes")
 classes_is_a_name = plain_name (codes "classes") refl (omega arith)
 
 pub classes_are_small : (table : List ℕ) → IsLegalTable 1 table → AreSmall table
-classes_are_small table legal =
-    All-weaker IsBlockSize (λ n. n < 2 ^ 64) (λ class within. omega (arith, within.1)) table legal.in_range
+classes_are_small table legal = grind arith
 
 pub class_line_is_full : (table : List ℕ) → IsLegalTable 1 table → IsFullLine (class_line table)
 class_line_is_full table legal = named_line_is_full (codes "classes") table classes_is_a_name (classes_are_small table legal)
@@ -59,8 +55,7 @@ lines-spelled text table spells = one_line text (class_line table) (class_line_i
 -- The line of a table is read as that table,
 pub table_line_is_read : (table : List ℕ) → IsLegalTable 1 table → table_of_line (class_line table) ≡ Ok table
 unfolding table_of_line
-table_line_is_read table legal =
-    rw (named_numbers_are_read (codes "classes") table classes_is_a_name (classes_are_small table legal)) (legal_is_faultless table legal)
+table_line_is_read table legal = grind (arith, named_numbers_are_read, classes_is_a_name, classes_are_small, legal_is_faultless)
 
 -- and so is a text of that line.
 pub spelled_table_is_read : (text table : List ℕ) → SpellsTable text table → table_of text ≡ Ok table
@@ -71,8 +66,7 @@ spelled_table_is_read text table spells = rw (lines-spelled text table spells) (
 
 of_numbers : (numbers : Option (List ℕ)) (table : List ℕ) → table_of_numbers numbers ≡ Ok table →
     (numbers ≡ Some table) × IsLegalTable 1 table
-of_numbers None table e = absurd cc
-of_numbers (Some ns) table e = let parts = faultless_is_legal ns table e in (ap Some parts.0, parts.1)
+of_numbers numbers table is = grind (arith, faultless_is_legal)
 
 -- What is read as a table is its line,
 pub read_line_is_spelled : (line table : List ℕ) → table_of_line line ≡ Ok table → (line ≡ class_line table) × IsLegalTable 1 table

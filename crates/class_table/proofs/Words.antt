@@ -1,5 +1,5 @@
 -- Reading the numbers of a line, word by word.
-use Rattle.std.proofs.Common.{◌≡◌, ℕ, ◌<◌, ◌≤◌, Bool, true, false, List, [], ◌∷◌, ◌++◌, length, map, min, take, Option, Some, None, Result, Ok, Err, refl, sym, ap, ◌∙◌, arith, append_assoc, append-nil, codes, ltb, leb, length-append}
+use Rattle.std.proofs.Common.{◌≡◌, ℕ, ◌<◌, ◌≤◌, Bool, true, false, List, [], ◌∷◌, ◌++◌, length, map, min, take, Option, Some, None, Result, Err, refl, sym, ap, ◌∙◌, arith, append_assoc, append-nil, codes, ltb, leb, length-append}
 use Rattle.std.specs.Option.{option_map}
 use Rattle.std.specs.Prelude.{option_and_then}
 use Rattle.std.specs.Str.{bytes_eq}
@@ -8,7 +8,7 @@ use Rattle.std.proofs.lemmas.Bool.Decides.{nat_tests}
 use Rattle.std.proofs.lemmas.List.{take_all, take-append-le, length-take, length-map, map-append}
 use Rattle.line_text.specs.Numbers.{number_of}
 use Rattle.class_table.specs.ClassLine.{table_of_numbers}
-use Rattle.class_table.specs.Faults.{fault_from, is_out_of_range, table_of_classes, unless}
+use Rattle.class_table.specs.Faults.{fault_from, is_out_of_range, table_of_classes}
 use Rattle.class_table.specs.NamedLines.{numbers_of, words_after}
 use Rattle.class_table.specs.declared.fault.TableError.{TableError}
 use Rattle.class_table.specs.declared.fault.TableError.TheVariants.{BadLine, TooMany}
@@ -46,14 +46,7 @@ same_classes below (n ∷ ns) none = go (is_out_of_range n) refl (leb n below) r
     go false e false f others = rw (clip_small n e, others (rw (e, f) at none)) refl
 
 same_table : (ns : List ℕ) → length ns ≤ 32 → table_of_classes (map clip ns) ≡ table_of_classes ns
-same_table ns few =
-    let few_clipped : ltb 32 (length (map clip ns)) ≡ false = rw length-map (le-ltb 32 (length ns) few) in
-    let few_test : ltb 32 (length ns) ≡ false = le-ltb 32 (length ns) few in
-    rw (few_clipped, few_test, same_faults 0 ns) (go (fault_from 0 ns) refl)
-  where
-    go : (fault : Option TableError) → fault_from 0 ns ≡ fault → unless fault (map clip ns) ≡ unless fault ns
-    go None e = ap Ok (same_classes 0 ns e)
-    go (Some fault) e = refl
+same_table ns few = grind (arith, length-map, le-ltb, same_faults, same_classes)
 
 -- ---- numbers of words
 
@@ -68,11 +61,7 @@ none_first w ws e = rw e refl
 one_more : (front : List ℕ) (w : List ℕ) (ws : List (List ℕ)) (n : ℕ) → number_of w ≡ Some n
     → after front (numbers_of (w ∷ ws)) ≡ after (front ++ n ∷ []) (numbers_of ws)
 unfolding numbers_of
-one_more front w ws n e = rw e (go (numbers_of ws))
-  where
-    go : (o : Option (List ℕ)) → after front (option_map (λ ns. n ∷ ns) o) ≡ after (front ++ n ∷ []) o
-    go None = refl
-    go (Some ns) = ap Some (sym (append_assoc front (n ∷ []) ns))
+one_more front w ws n e = grind (arith, append_assoc)
 
 -- ---- the loop: what was read, what is kept of it, and whether that is not all
 
@@ -83,18 +72,11 @@ pub record SoFar (all rest : List (List ℕ)) (kept : List ℕ) (too_many : Bool
   pub many : too_many ≡ ltb 32 (length front)
 
 pub start : (all : List (List ℕ)) → SoFar all all [] false
-start all = record { front = []; spelled = go (numbers_of all); clipped = refl; many = refl }
-  where
-    go : (o : Option (List ℕ)) → o ≡ after [] o
-    go None = refl
-    go (Some ns) = refl
+start all = grind arith
 
 pub faulty : (all rest new : List (List ℕ)) (w : List ℕ) (kept : List ℕ) (too_many : Bool) → SoFar all rest kept too_many → rest ≡ w ∷ new
     → number_of w ≡ None → table_of_numbers (numbers_of all) ≡ Err BadLine
-faulty all rest new w kept too_many so_far parts none =
-    let no_numbers : numbers_of all ≡ None =
-    so_far.spelled ∙ ap (λ ws. after so_far.front (numbers_of ws)) parts ∙ ap (after so_far.front) (none_first w new none) in
-    rw no_numbers refl
+faulty all rest new w kept too_many so_far parts none = grind (arith, none_first)
 
 length_kept : (all rest : List (List ℕ)) (kept : List ℕ) (too_many : Bool) → (so_far : SoFar all rest kept too_many) →
     length kept ≡ min 32 (length so_far.front)
@@ -150,12 +132,10 @@ few_read all rest kept none so_far =
 -- ---- what a word is
 
 pub no_number : (o : Option ℕ) → None ≡ option_map clip o → o ≡ None
-no_number None e = refl
-no_number (Some n) e = absurd cc
+no_number o is = grind arith
 
 pub number_is : (o : Option ℕ) (m : ℕ) → Some m ≡ option_map clip o → (n : ℕ) × (o ≡ Some n) × (m ≡ clip n)
-number_is None m e = absurd cc
-number_is (Some n) m e = (n, refl, cc)
+number_is o m is = grind arith
 
 -- ---- the first word
 

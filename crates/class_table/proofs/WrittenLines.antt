@@ -1,5 +1,6 @@
 -- Writing a class line, class by class.
-use Rattle.std.proofs.Common.{◌≡◌, ℕ, ◌+◌, ◌<◌, ◌≤◌, List, [], ◌∷◌, ◌++◌, length, map, take, get_or, codes, refl, sym, ap, ◌∙◌, arith, append_assoc}
+use Rattle.std.proofs.lemmas.Grind.{common_steps}
+use Rattle.std.proofs.Common.{◌≡◌, ℕ, ◌+◌, ◌<◌, ◌≤◌, List, [], ◌∷◌, ◌++◌, length, take, get_or, refl, sym, ap, ◌∙◌, arith, append_assoc}
 use Rattle.std.specs.Fmt.{decimal}
 use Rattle.std.proofs.lemmas.Fmt.{length-decimal-le}
 use Rattle.std.proofs.lemmas.List.{map-append, take_more}
@@ -14,9 +15,7 @@ line_of-push w (u ∷ ws) v =
 
 pub class_line-more : (classes : List ℕ) (i : ℕ) → i < length classes →
     class_line (take (i + 1) classes) ≡ class_line (take i classes) ++ 32 ∷ decimal (get_or classes i 0)
-class_line-more classes i within =
-    let more : take (i + 1) classes ≡ take i classes ++ get_or classes i 0 ∷ [] = take_more classes i 0 within in
-    rw (more, map-append) (line_of-push (codes "classes") (map decimal (take i classes)) (decimal (get_or classes i 0)))
+class_line-more classes i within = grind (arith, common_steps, take_more, map-append, line_of-push)
 
 -- a class has at most four digits
 pub short : (class : ℕ) → class ≤ 1024 → length (decimal class) ≤ 4
