@@ -1,6 +1,5 @@
 -- What the proofs of this crate cite of the machine's memory and of class tables.
 pub use Rattle.machine_theory.proofs.AccessLaws.{touch_faults as other_tag_faults, access_fault_same as by_tags}
-pub use Rattle.machine_theory.proofs.AddressLaws.{tag_put, place_stays}
 pub use Rattle.machine_theory.proofs.ByteLaws.{other_bytes, bytes_under_tags, word_at-written as word_read}
 pub use Rattle.machine_theory.proofs.ChangeLaws.{each_granule_either as either_order, written-append as in_parts}
 pub use Rattle.machine_theory.proofs.ChangedMemories.{IsMemory-written as memory_written}

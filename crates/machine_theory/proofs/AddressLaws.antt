@@ -1,13 +1,7 @@
 -- Addresses: their tags and places, and what a short move leaves of them.
 use Rattle.std.proofs.Common.{◌≡◌, ℕ, ◌+◌, ◌<◌, ◌≤◌, ◌^◌, ℤ, arith}
 use Rattle.std.specs.Prelude.{nat_abs}
-use Rattle.machine_theory.specs.Address.{Holds, logical_tag, moved_by, place_of, region_start, with_tag}
-
-pub tag_put : (address tag : ℕ) → tag < 16 → logical_tag (with_tag address tag) ≡ tag
-tag_put address tag fits = omega (arith, fits)
-
-pub place_stays : (address tag : ℕ) → place_of (with_tag address tag) ≡ place_of address
-place_stays address tag = omega arith
+use Rattle.machine_theory.specs.Address.{Holds, logical_tag, moved_by, place_of, region_start}
 
 pub tag_fits : (address : ℕ) → logical_tag address < 16
 tag_fits address = omega arith

@@ -16,7 +16,7 @@ use Rattle.heap_theory.specs.declared.place_kind.PlaceKind.{PlaceKind}
 use Rattle.replay_theory.specs.AccessLaws.{IsAnswerTo, AccessesAreAnswered}
 use Rattle.heap_theory.specs.GranuleKinds.{place_kind}
 use Rattle.replay_theory.specs.Replay.{Replay, Answer, IsFaultAnswer, is_tag_fault, variable, heap_after, replay_after, access_answer, answer_of, answers, replay_of}
-use Rattle.heap_theory.specs.Calls.{store_with, store_step}
+use Rattle.heap_theory.specs.Calls.{store_step}
 use Rattle.replay_theory.specs.Replay.Answer.{Silent, Loaded, NotMapped, TagFault, NoPointer, NotFreed}
 use Rattle.heap_theory.specs.State.{Heap}
 
@@ -41,12 +41,7 @@ module _ (h : Heap) (address len : ℕ) (done : Answer) (no_fault : IsFaultAnswe
   unmapped_answer never = grind arith
 
   tag_answer : (g m p : ℕ) → IsTagFault h.memory address len g m p → IsAnswerTo h address len done (TagFault g m p (place_kind h g))
-  tag_answer g m p t = record {
-    unmapped = (λ is. absurd (subst (Names h address len) is (t, refl)), λ never. absurd (never t.mapped));
-    tag_fault = (λ is. (t.mapped, (g, t.touches, differs)), λ it. refl);
-    names = λ g' m' p' kind. (λ is. subst (Names h address len) is (t, refl), λ it. same g' m' p' kind it.0 it.1);
-    succeeds = (λ is. absurd (no_fault (subst IsFaultAnswer is refl)), λ it. absurd (differs (it.1 g t.touches)));
-  }
+  tag_answer g m p t = grind (arith, differs, same)
     where
       differs : tag_at h.memory g ≢ logical_tag address
       differs is = t.differs (t.memory_tag_is ∙ is ∙ sym t.pointer_tag_is)
@@ -58,15 +53,7 @@ module _ (h : Heap) (address len : ℕ) (done : Answer) (no_fault : IsFaultAnswe
 
   done_answer : IsMapped (length h.memory) address len → ((g : ℕ) → Touches address len g → tag_at h.memory g ≡ logical_tag address) →
       IsAnswerTo h address len done done
-  done_answer mapped each = record {
-    unmapped = (λ is. absurd (no_fault (subst IsFaultAnswer (sym is) refl)), λ never. absurd (never mapped));
-    tag_fault = (λ is. absurd (no_fault (tag_fault_faults done is)), λ it. absurd (it.1.2 (each it.1.0 it.1.1)));
-    names = λ g m p kind. (λ is. absurd (no_fault (subst IsFaultAnswer (sym is) refl)), λ it. absurd (differs g m p it.0));
-    succeeds = (λ is. (mapped, each), λ it. refl);
-  }
-    where
-      differs : (g m p : ℕ) → IsTagFault h.memory address len g m p → ⊥
-      differs g m p t = t.differs (t.memory_tag_is ∙ each g t.touches ∙ sym t.pointer_tag_is)
+  done_answer mapped each = grind (arith, tag_fault_faults)
 
   pub access_is_answered : 0 < len → IsAnswerTo h address len done (access_answer h done (access_fault h.memory address len))
   unfolding access_fault
@@ -121,16 +108,7 @@ pub store_is_done : (replay : Replay) (v : ℕ) (off : ℤ) (len byte : ℕ) →
     let answer = answer_of replay (Store v off len byte) in let after = heap_after replay (Store v off len byte) in (answer ≡ Silent → after
     ≡ record replay.heap { memory = stored replay.heap.memory address (replicate len byte) }) × (answer ≢ Silent → after ≡ replay.heap)
 unfolding answer_of heap_after store_step
-store_is_done r v off len byte =
-    rw length-replicate (by (access_fault r.heap.memory (moved_by (variable r v) off) len))
-  where
-    by : (o : Option Fault) →
-        (access_answer r.heap Silent o ≡ Silent →
-        store_with r.heap (moved_by (variable r v) off) (replicate len byte) o
-        ≡ record r.heap { memory = stored r.heap.memory (moved_by (variable r v) off) (replicate len byte) })
-        × (access_answer r.heap Silent o ≢ Silent → store_with r.heap (moved_by (variable r v) off) (replicate len byte) o ≡ r.heap)
-    by None = (λ silent. refl, λ fault. absurd (fault refl))
-    by (Some fault) = (λ silent. absurd (not_silent r.heap fault silent), λ other. refl)
+store_is_done r v off len byte = grind (arith, length-replicate, not_silent)
 
 -- ---- whole traces
 
@@ -141,18 +119,7 @@ answer_at first [] e after = refl
 answer_at first (event ∷ before) e after = answer_at (replay_after first event) before e after
 
 pub accesses_are_answered : (first : Replay) (events : List Event) → AccessesAreAnswered first events
-accesses_are_answered first events = record {
-  loads = λ before after v off len is some. (
-    answer_of (replay_of first before) (Load v off len),
-    at before after (Load v off len) is,
-    load_is_answered (replay_of first before) v off len some,
-  );
-  stores = λ before after v off len byte is some. (
-    answer_of (replay_of first before) (Store v off len byte),
-    at before after (Store v off len byte) is,
-    store_is_answered (replay_of first before) v off len byte some,
-  );
-}
+accesses_are_answered first events = grind (arith, at, load_is_answered, store_is_answered)
   where
     at : (before after : List Event) (e : Event) → events ≡ before ++ e ∷ after →
         slice_get (answers first events) (length before) ≡ Some (answer_of (replay_of first before) e)

@@ -1,6 +1,5 @@
 -- ADDG and SUBG by 0 and 0 leave an address as it is, if its tag is not 0.
-use Rattle.std.proofs.Common.{◌≡◌, ◌≢◌, ℕ, zero, suc, ◌^◌, ◌<◌, List, false, length, get_or, set, refl, sym, ◌∙◌, subst, inr, arith, Some, None, Option}
-use Rattle.std.specs.Prelude.{◌==◌}
+use Rattle.std.proofs.Common.{◌≡◌, ◌≢◌, ℕ, zero, suc, ◌^◌, ◌<◌, List, false, length, get_or, set, sym, subst, inr, arith, Some, None, Option}
 use Rattle.std.proofs.lemmas.Bool.{cond-false, eqb-true, false_from_ne_true}
 use Rattle.std.proofs.lemmas.List.{get_or-set_same}
 use Rattle.machine_theory.specs.Address.{logical_tag, with_tag}
@@ -20,9 +19,7 @@ unfolding choose_tag
 tag_stays tag below some =
     let free : is_excluded 1 tag ≡ false = laws.other_tags_are_allowed 0 tag some in
     let few : 0 < length (allowed_after tag 1) = laws.some_tag_is_allowed tag 1 tag below below free in
-    cond-false (length (allowed_after tag 1) == 0) _ _
-    (false_from_ne_true (length (allowed_after tag 1) == 0) (λ none. omega (arith, eqb-true _ _ none, few)))
-    ∙ cond-false (is_excluded 1 tag) (get_or (allowed_after tag 1) 0 0) tag free
+    grind (arith, cond-false, false_from_ne_true, eqb-true)
 
 own_tag : (a : ℕ) → with_tag a (logical_tag a) ≡ a
 own_tag a = omega arith
@@ -73,25 +70,16 @@ module _ (w : Run) (sound : IsSoundRun w) where
 
   generation_set : (v x s time : ℕ) → v < length w.replay.variables → HasGeneration w x s time →
       get_or (set w.generations v (generation_of w x)) v None ≡ Some (record { slot = s; time = time })
-  generation_set v x s time within has =
-      get_or-set_same w.generations v (generation_of w x) None (subst (λ n. v < n) (sym sound.generations) within) ∙ has
+  generation_set v x s time within has = grind (arith, get_or-set_same)
 
   pub addg_copies : PointersAreCopied (λ v w. Addg v w 0 0) w
   unfolding run_after replay_after heap_after variables_after generations_after
   addg_copies v x s time within has =
       let same = addg-address w.replay.heap w.times sound.heap (variable w.replay x) s time (address_of x s time has) in
-      record {
-        value = get_or-set_same w.replay.variables v _ 0 within ∙ same;
-        generation = generation_set v x s time within has;
-        heap = refl;
-      }
+      grind (arith, get_or-set_same)
 
   pub subg_copies : PointersAreCopied (λ v w. Subg v w 0 0) w
   unfolding run_after replay_after heap_after variables_after generations_after
   subg_copies v x s time within has =
       let same = subg-address w.replay.heap w.times sound.heap (variable w.replay x) s time (address_of x s time has) in
-      record {
-        value = get_or-set_same w.replay.variables v _ 0 within ∙ same;
-        generation = generation_set v x s time within has;
-        heap = refl;
-      }
+      grind (arith, get_or-set_same)

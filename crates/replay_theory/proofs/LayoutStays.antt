@@ -1,17 +1,14 @@
 -- The layout of a heap stays, whatever happens.
-use Rattle.std.proofs.Common.{◌≡◌, ℕ, Bool, true, false, cond, List, [], ◌∷◌, length, refl, ◌∙◌, Result, Ok, Err, Option, Some, None}
-use Rattle.std.specs.Prelude.{◌==◌, fold, replicate}
+use Rattle.std.proofs.Common.{◌≡◌, ℕ, Bool, true, false, cond, List, [], ◌∷◌, refl, ◌∙◌, Result, Ok, Err, Option, Some, None, arith}
+use Rattle.std.specs.Prelude.{fold}
 use Rattle.machine_theory.specs.declared.fault.Fault.{Fault}
-use Rattle.machine_theory.specs.Access.{access_fault}
-use Rattle.machine_theory.specs.Address.{moved_by}
 use Rattle.class_table.specs.Layout.{Partition}
 use Rattle.trace_event.specs.declared.event.Event.{Event}
-use Rattle.trace_event.specs.declared.event.Event.TheVariants.{Malloc, Calloc, Realloc, Free, Load, Store, Addg, Subg}
 use Rattle.heap_theory.specs.declared.refusal.FreeError.{FreeError}
 use Rattle.heap_theory.specs.declared.refusal.NullCause.{NullCause}
-use Rattle.heap_theory.specs.Calls.{Step, given_out, freed, resized, with_payload, moved, malloc_with, malloc_step, calloc_with, calloc_step, free_with, free_step, stays_in_class, move_with, realloc_with, realloc_step, store_with, store_step}
-use Rattle.heap_theory.specs.Lookups.{Chunk, slot_for_request, chunk_at}
-use Rattle.replay_theory.specs.Replay.{Replay, variable, heap_after, replay_after, first_replay, replay_of}
+use Rattle.heap_theory.specs.Calls.{Step, given_out, freed, resized, with_payload, moved, malloc_with, malloc_step, calloc_with, calloc_step, free_with, free_step, move_with, realloc_with, realloc_step, store_with, store_step}
+use Rattle.heap_theory.specs.Lookups.{Chunk}
+use Rattle.replay_theory.specs.Replay.{Replay, heap_after, replay_after, first_replay, replay_of}
 use Rattle.heap_theory.specs.State.{Heap, first_heap}
 
 malloc_layout : (h : Heap) (n : ℕ) (o : Result ℕ NullCause) → (malloc_with h n o).heap.layout ≡ h.layout
@@ -41,8 +38,7 @@ either_layout layout false x y left right = right
 
 chunk_layout : (h : Heap) (p n : ℕ) (o : Result Chunk FreeError) → (realloc_with h p n o).heap.layout ≡ h.layout
 unfolding resized
-chunk_layout h p n (Err error) = refl
-chunk_layout h p n (Ok chunk) = either_layout h.layout (stays_in_class h chunk n) _ _ refl (move_layout h chunk n (slot_for_request h n))
+chunk_layout h p n o = grind (arith, either_layout, move_layout)
 
 store_layout : (h : Heap) (address : ℕ) (bytes : List ℕ) (o : Option Fault) → (store_with h address bytes o).layout ≡ h.layout
 store_layout h address bytes None = refl
@@ -50,18 +46,7 @@ store_layout h address bytes (Some fault) = refl
 
 pub layout_after : (r : Replay) (e : Event) → (heap_after r e).layout ≡ r.heap.layout
 unfolding heap_after malloc_step calloc_step free_step realloc_step store_step
-layout_after r (Malloc v n) = malloc_layout r.heap n (slot_for_request r.heap n)
-layout_after r (Calloc v n) = calloc_layout r.heap n (slot_for_request r.heap n)
-layout_after r (Realloc v n) =
-    either_layout r.heap.layout (variable r v == 0) _ _ (malloc_layout r.heap n (slot_for_request r.heap n))
-    (chunk_layout r.heap (variable r v) n (chunk_at r.heap (variable r v)))
-layout_after r (Free v) = either_layout r.heap.layout (variable r v == 0) _ _ refl (free_layout r.heap (chunk_at r.heap (variable r v)))
-layout_after r (Load v off len) = refl
-layout_after r (Store v off len byte) =
-    store_layout r.heap (moved_by (variable r v) off) (replicate len byte)
-    (access_fault r.heap.memory (moved_by (variable r v) off) (length (replicate len byte)))
-layout_after r (Addg v w u6 u4) = refl
-layout_after r (Subg v w u6 u4) = refl
+layout_after r e = grind (arith, malloc_layout, calloc_layout, either_layout, chunk_layout, free_layout, store_layout)
 
 layout_of_all : (r : Replay) (events : List Event) → (fold replay_after r events).heap.layout ≡ r.heap.layout
 unfolding replay_after

@@ -1,5 +1,5 @@
 -- What each event of a served run loses, and so what the run does.
-use Rattle.std.proofs.Common.{◌≡◌, ℕ, ◌+◌, ◌<◌, ◌≤◌, Bool, true, false, cond, List, [], ◌∷◌, refl, sym, ap, ◌∙◌, subst, arith, Result, Ok, Err, Option, Some, None}
+use Rattle.std.proofs.Common.{◌≡◌, ℕ, ◌+◌, ◌<◌, ◌≤◌, Bool, true, false, cond, List, [], ◌∷◌, refl, ap, ◌∙◌, subst, arith, Result, Ok, Err, Option, Some, None}
 use Rattle.std.specs.List.{AllByRecursion as ByRecursion, cons_option}
 use Rattle.std.specs.Option.{ok_or}
 use Rattle.std.specs.Prelude.{◌==◌, ◌&&◌, nat_le, nat_lt, is_some, zip, count_by, IsSome}
@@ -23,7 +23,7 @@ use Rattle.replay_theory.specs.Losses.{requested_sizes, counted_sizes, LosesAtMo
 use Rattle.replay_theory.specs.Replay.{Replay, Answer, is_no_class, is_exhausted, is_refused, is_silent, variable, answer_of, answers, replay_after, first_replay, malloc_answer, free_answer, realloc_answer, access_answer}
 use Rattle.replay_theory.specs.Replay.Answer.{Silent, NoPointer, NotFreed}
 use Rattle.heap_theory.specs.State.{Heap, slot_in, first_heap}
-use Rattle.replay_theory.specs.Totals.{one_if, request_size, is_request, loss_of_request, loss_of_event, totals_of}
+use Rattle.replay_theory.specs.Totals.{one_if, request_size, loss_of_request, loss_of_event, totals_of}
 use Rattle.replay_theory.proofs.LayoutStays.{layout_after}
 use Rattle.class_table.specs.Layout.{Partition}
 
@@ -43,10 +43,7 @@ record LosesAtMost (classes : List ℕ) (request : Option ℕ) (answer : Answer)
 
 -- an event that requests nothing loses nothing
 nothing_lost : (classes : List ℕ) (answer : Answer) → is_no_class answer ≡ false → LosesAtMost classes None answer
-nothing_lost classes answer is = record { no_class = is; loss = omega (arith, none); all_loss = λ full refused. none }
-  where
-    none : cond (is_silent answer) (loss_of_request classes None) 0 ≡ 0
-    none = cond_both {A = ℕ} (is_silent answer) 0 0 (λ n. n ≡ 0) (λ is. refl) (λ is. refl)
+nothing_lost classes answer is = grind (arith, cond_both)
 
 -- a request of n bytes, which the heap answered so
 abbrev RequestLoses : Heap → ℕ → Answer → Type 0
@@ -58,9 +55,7 @@ module _ (h : Heap) (n : ℕ) where
 
   given : n ≤ largest_counted → RequestLoses h n Silent
   unfolding loss_here
-  given small =
-      let all : loss_here true ≡ counted_loss h.layout.classes (Some n) = sym (ap loss_here (le-leb n largest_counted small)) in
-      record { no_class = refl; loss = omega arith; all_loss = λ full refused. all }
+  given small = grind (arith, le-leb)
 
   exhausted : RequestLoses h n (NoPointer Exhausted)
   exhausted = record { no_class = refl; loss = omega arith; all_loss = λ full refused. absurd (true≢false full) }
@@ -70,9 +65,7 @@ module _ (h : Heap) (n : ℕ) where
 
   too_large : largest_counted < n → RequestLoses h n (NoPointer Large)
   unfolding loss_here
-  too_large large =
-      let none : loss_here false ≡ counted_loss h.layout.classes (Some n) = sym (ap loss_here (lt-leb n largest_counted large)) in
-      record { no_class = refl; loss = omega arith; all_loss = λ full refused. none }
+  too_large large = grind (arith, lt-leb)
 
 -- ---- requests
 
@@ -162,10 +155,7 @@ unfolding answer_of malloc_step calloc_step realloc_step free_step
 event_loses r (Malloc v n) has = malloc_loses r.heap n (slot_for_request r.heap n) (slot_of_request r.heap n has)
 event_loses r (Calloc v n) has = calloc_loses r.heap n (slot_for_request r.heap n) (slot_of_request r.heap n has)
 event_loses r (Realloc v n) has =
-    either_loses r.heap n (variable r v == 0) _ _
-    (at_null_loses r.heap n (slot_for_request r.heap n) (slot_of_request r.heap n has))
-    (chunk_loses r.heap n (variable r v) (chunk_at r.heap (variable r v)) (class_of_request r.heap n has)
-    (slot_of_request r.heap n has))
+    grind (arith, slot_of_request, class_of_request)
 event_loses r (Free v) has = nothing_lost _ _ (free_wants_no_class r.heap (variable r v == 0) (chunk_at r.heap (variable r v)))
 event_loses r (Load v off len) has =
     nothing_lost _ _ (access_wants_no_class r.heap _ (access_fault r.heap.memory (moved_by (variable r v) off) len) refl)
@@ -194,13 +184,7 @@ module _ (classes : List ℕ) where
 
   one_more_served : (request : Option ℕ) (sizes : List ℕ) → EachServed classes (counted_of (cons_option request sizes)) →
       IsServed classes request × EachServed classes (counted_of sizes)
-  one_more_served None sizes each = (tt, each)
-  one_more_served (Some n) sizes each = passed (nat_le n largest_counted) refl each
-    where
-      passed : (b : Bool) → nat_le n largest_counted ≡ b → EachServed classes (cond b (n ∷ counted_of sizes) (counted_of sizes)) →
-          IsServed classes (Some n) × EachServed classes (counted_of sizes)
-      passed true is each = (λ small. each.0, each.1)
-      passed false is each = (λ small. absurd (omega (arith, leb-false n largest_counted is)), each)
+  one_more_served request sizes each = grind (arith, leb-false)
 
 -- a count after one more, which counts or not
 not_counted : (b : Bool) (before after : ℕ) → after ≡ one_if b + before → b ≡ false → before ≡ 0 → after ≡ 0
@@ -222,16 +206,7 @@ one_event_more classes e a events happened first rest =
     sum_by-cons (loss_of_event classes) (e, a) happened in
     let count : (p : Event × Answer → Bool) → count_by p ((e, a) ∷ happened) ≡ one_if (p (e, a)) + count_by p happened =
     λ p. sum_by-cons (λ x. one_if (p x)) (e, a) happened in
-    record {
-      no_class = not_counted _ _ _ (count (λ p. is_no_class p.1)) first.no_class rest.no_class;
-      loss = omega (arith, waste, lost, first.loss, rest.loss);
-      all_loss = λ full refused.
-          let not_full = none_counted _ _ _ (count (λ p. is_exhausted p.1)) full in
-          let not_refused = none_counted _ _ _ (count (λ p. is_request p.0 && is_refused p.1)) refused in
-          let here = first.all_loss not_full.0 not_refused.0 in
-          let there = rest.all_loss not_full.1 not_refused.1 in
-          omega (arith, waste, lost, here, there);
-    }
+    grind (arith, not_counted, none_counted)
 
 LosesAtMostItsWaste-from : (r : Replay) (classes : List ℕ) (events : List Event) → r.heap.layout.classes ≡ classes →
     EachServed classes (counted_sizes events) → LosesAtMostItsWaste classes events (zip events (answers r events))
@@ -246,6 +221,4 @@ LosesAtMostItsWaste-from r classes (e ∷ events) is each =
 pub LosesAtMostItsWaste-run : (layout : Partition) (seed quarantine : ℕ) (events : List Event) → ServesEach layout.classes events →
     LosesAtMostItsWaste layout.classes events (zip events (answers (first_replay layout seed quarantine) events))
 unfolding first_replay first_heap
-LosesAtMostItsWaste-run layout seed quarantine events each =
-    LosesAtMostItsWaste-from (first_replay layout seed quarantine) layout.classes events refl
-    (recursion_from_All _ (counted_sizes events) each)
+LosesAtMostItsWaste-run layout seed quarantine events each = grind (arith, LosesAtMostItsWaste-from, recursion_from_All)

@@ -1,5 +1,5 @@
 -- Each event keeps a run sound, so every run is.
-use Rattle.std.proofs.Common.{◌≡◌, ℕ, suc, ◌≤◌, List, [], ◌∷◌, length, get_or, set, refl, sym, ap, ◌∙◌, subst, inl, inr, arith, Some, None, Option}
+use Rattle.std.proofs.Common.{◌≡◌, ℕ, List, [], ◌∷◌, length, get_or, set, refl, sym, ◌∙◌, subst, inl, arith, None, Option}
 use Rattle.std.specs.Prelude.{fold, replicate}
 use Rattle.std.proofs.lemmas.Bool.{cases_eq, cases_lt}
 use Rattle.std.proofs.lemmas.List.{get_or-set_same, get_or-set_other, length-set, get_or_past, length-replicate}
@@ -9,7 +9,7 @@ use Rattle.class_table.specs.Layout.{Partition, IsPartition, slot_count}
 use Rattle.replay_theory.proofs.TheoryLemmas as laws
 use Rattle.trace_event.specs.declared.event.Event.{Event}
 use Rattle.trace_event.specs.declared.event.Event.TheVariants.{Malloc, Calloc, Realloc, Free, Load, Store, Addg, Subg}
-use Rattle.replay_theory.specs.Run.{Run, Generation, times_of, generation_of, slot_given, times_with, generations_after, run_after, first_run, run}
+use Rattle.replay_theory.specs.Run.{Run, Generation, generation_of, slot_given, times_with, generations_after, run_after, first_run, run}
 use Rattle.replay_theory.specs.Replay.{Replay, variable, heap_after, variables_after, replay_after, first_replay}
 use Rattle.heap_theory.specs.Sound.{IsSoundHeap}
 use Rattle.replay_theory.specs.SoundRun.{IsSoundVariable, IsSoundRun}
@@ -22,25 +22,10 @@ use Rattle.replay_theory.proofs.VariablesKept.{IsSoundVariable-other, IsSoundVar
 -- one variable is set, with its generation, and the others stay
 set_both : {X Y : Type 0} (P : X → Y → Type 0) (xs : List X) (ys : List Y) (v : ℕ) (x a : X) (y b : Y) → length ys ≡ length xs → P x y →
     ((u : ℕ) → P (get_or xs u a) (get_or ys u b)) → (u : ℕ) → P (get_or (set xs v x) u a) (get_or (set ys v y) u b)
-set_both P xs ys v x a y b long new old u = elim (cases_eq u v) [
-  | inr not ↦ subst (λ z. P z (get_or (set ys v y) u b)) (sym (get_or-set_other xs v u x a not))
-      (subst (λ z. P (get_or xs u a) z) (sym (get_or-set_other ys v u y b not)) (old u))
-  | inl is ↦ subst (λ q. P (get_or (set xs v x) q a) (get_or (set ys v y) q b)) (sym is) (elim (cases_lt v (length xs)) [
-    | inl within ↦
-        subst (λ z. P z (get_or (set ys v y) v b)) (sym (get_or-set_same xs v x a within))
-        (subst (λ z. P x z) (sym (get_or-set_same ys v y b (omega arith))) new)
-    | inr past ↦ subst (λ z. P z (get_or (set ys v y) v b)) (past_same xs v x a past)
-        (subst (λ z. P (get_or xs v a) z) (past_same ys v y b (omega arith)) (old v))
-  ])
-]
-  where
-    past_same : {X : Type 0} (xs : List X) (v : ℕ) (x a : X) → length xs ≤ v → get_or xs v a ≡ get_or (set xs v x) v a
-    past_same xs v x a past =
-        get_or_past xs v a past ∙ sym (get_or_past (set xs v x) v a (subst (λ n. n ≤ v) (sym (length-set xs v x)) past))
+set_both P xs ys v x a y b long new old u = grind (arith, cases_eq, get_or-set_other, cases_lt, get_or-set_same, get_or_past, length-set)
 
 length-times_with : (w : Run) (o : Option ℕ) → length (times_with w o) ≡ length w.times
-length-times_with w None = refl
-length-times_with w (Some s) = length-set w.times s (suc (times_of w s))
+length-times_with w o = grind (arith, length-set)
 
 lengths_kept : (w : Run) (e : Event) → length w.generations ≡ length w.replay.variables →
     length (generations_after w e) ≡ length (variables_after w.replay e)
@@ -48,12 +33,10 @@ unfolding generations_after variables_after
 lengths_kept w x1 long = grind (arith, length-set)
 
 layout_kept : (h new : Heap) (o : Option ℕ) → HeapChange h new o → new.layout ≡ h.layout
-layout_kept h new None change = change.layout
-layout_kept h new (Some s) change = change.kept.layout ∙ layout-given_out h s change.n
+layout_kept h new o change = grind (arith, layout-given_out)
 
 limit_kept : (h new : Heap) (o : Option ℕ) → HeapChange h new o → new.quarantine ≡ h.quarantine
-limit_kept h new None change = change.limit
-limit_kept h new (Some s) change = change.kept.limit ∙ quarantine-given_out h s change.n
+limit_kept h new o change = grind (arith, quarantine-given_out)
 
 -- ---- all runs
 
@@ -128,8 +111,7 @@ module _ where
       let kept = kept w e sound in
       record {
         heap = kept.sound;
-        times = length-times_with w (slot_given w.replay e) ∙ sound.times
-            ∙ ap slot_count (sym (layout_kept w.replay.heap (heap_after w.replay e) (slot_given w.replay e) kept.change));
+        times = grind (arith, length-times_with, layout_kept);
         generations = lengths_kept w e sound.generations;
         variables = variables_kept w e sound;
       }

@@ -1,12 +1,11 @@
 -- What is true of a variable stays true, and is true of the address that a call gives.
-use Rattle.std.proofs.Common.{◌≡◌, ◌≢◌, ℕ, suc, ◌*◌, ◌<◌, ◌≤◌, Bool, true, false, cond, List, length, get_or, set, refl, sym, ap, ◌∙◌, subst, inl, inr, arith, Some, None, Option, Result, Ok, Err}
+use Rattle.std.proofs.Common.{◌≡◌, ℕ, suc, ◌*◌, ◌<◌, Bool, true, false, cond, List, length, get_or, set, refl, sym, ap, ◌∙◌, subst, inl, inr, arith, Some, None, Option, Result, Ok, Err}
 use Rattle.std.specs.Prelude.{◌==◌, slice_set, replicate}
 use Rattle.std.specs.Result.{result_ok, result_unwrap_or}
 use Rattle.std.proofs.lemmas.Bool.{cases_eq}
 use Rattle.std.proofs.lemmas.List.{get_or-set_same, get_or-set_other}
 use Rattle.machine_theory.specs.Address.{logical_tag, with_tag}
-use Rattle.class_table.specs.Layout.{Partition, slot_count, slot_of}
-use Rattle.replay_theory.proofs.TheoryLemmas as laws
+use Rattle.class_table.specs.Layout.{Partition, slot_count}
 use Rattle.heap_theory.specs.declared.refusal.FreeError.{FreeError}
 use Rattle.heap_theory.specs.declared.refusal.ReallocError.{ReallocError}
 use Rattle.heap_theory.specs.Calls.{Step, next_tag, given_out, resized, with_payload, moved, malloc_with, malloc_step, calloc_with, calloc_step, stays_in_class, slot_if_moved, move_with, as_realloc, realloc_with, realloc_step}
@@ -17,7 +16,6 @@ use Rattle.heap_theory.specs.Sound.{IsTagOf}
 use Rattle.replay_theory.specs.SoundRun.{IsAddressOf, IsSoundVariable, IsSoundRun}
 use Rattle.class_table.specs.Sizes.{chunk_granules}
 use Rattle.heap_theory.specs.State.{Heap, slot_in, state_at, last_tag, is_fresh, payload_place, pointer_to}
-use Rattle.heap_theory.specs.State.State.{Live}
 use Rattle.heap_theory.proofs.CallsKept.{KeepsGiven, KeepsGiven-refl, KeepsGiven-with_payload, KeepsGiven-resized, KeepsGiven-moved, HeapChange, state_at-given_out, state_at-given_out_other, layout-given_out}
 use Rattle.heap_theory.proofs.Lookups.{slot_for_request-cases, chunk_at-is}
 use Rattle.heap_theory.proofs.HeapKept.{in_states}
@@ -37,42 +35,18 @@ module _ (h : Heap) (times : List ℕ) (r n : ℕ) (tag_below : h.tag < 16) (wit
       IsAddressOf (given_out h r n) (slice_set times r (suc (get_or times r 0))) a s m
   IsAddressOf-given_out a s m i = elim (cases_eq s r) [
     | inr not ↦
-        let same : get_or (set times r (suc (get_or times r 0))) s 0 ≡ get_or times s 0 =
-        get_or-set_other times r s (suc (get_or times r 0)) 0 not in
-        let state : state_at (given_out h r n) s ≡ state_at h s = state_at-given_out_other h r n s not in
-        record {
-          in_range = in_range_now;
-          address_is = address_now;
-          tag = i.tag;
-          past = subst (λ t. m ≤ t) (sym same) i.past;
-          last = λ is. subst (λ x. (logical_tag a ≡ last_tag x) × (is_fresh x ≡ false)) (sym state) (i.last (is ∙ same));
-          last_but_one = λ is. subst (λ x. logical_tag a ≢ last_tag x) (sym state) (i.last_but_one (is ∙ same));
-        }
+        grind (arith, get_or-set_other, state_at-given_out_other, in_range_now, address_now)
     | inl same ↦
         let now : get_or (set times r (suc (get_or times r 0))) s 0 ≡ suc (get_or times r 0) =
         ap (λ q. get_or (set times r (suc (get_or times r 0))) q 0) same ∙ times_now (suc (get_or times r 0)) in
-        let before : m ≤ get_or times r 0 = subst (λ q. m ≤ get_or times q 0) same i.past in
-        let state : state_at (given_out h r n) s ≡ Live n (next_tag h r) =
-        ap (λ q. state_at (given_out h r n) q) same ∙ state_at-given_out h r n within in
-        let last_before : m ≡ get_or times r 0 → logical_tag a ≡ last_tag (state_at h r) =
-        λ is. subst (λ q. logical_tag a ≡ last_tag (state_at h q)) same (i.last (is ∙ ap (λ q. get_or times q 0) (sym same))).0 in
-        record {
-          in_range = in_range_now;
-          address_is = address_now;
-          tag = i.tag;
-          past = omega arith;
-          last = λ is. absurd (omega arith);
-          last_but_one = λ is tags. next_tag-differs h r tag_below (sym (ap last_tag state) ∙ sym tags ∙ last_before (omega arith));
-        }
+        grind (arith, state_at-given_out, in_range_now, address_now, next_tag-differs)
   ]
     where
       in_range_now : s < slot_count (given_out h r n).layout
       in_range_now = subst (λ (layout : Partition). s < slot_count layout) (sym (layout-given_out h r n)) i.in_range
 
       address_now : a ≡ with_tag (payload_place (slot_in (given_out h r n) s)) (logical_tag a)
-      address_now =
-          subst (λ (layout : Partition). a ≡ with_tag (payload_place (slot_of layout s)) (logical_tag a)) (sym (layout-given_out h r n))
-          i.address_is
+      address_now = grind (arith, layout-given_out)
 
   -- the address that is given
   IsAddressOf-new : r < slot_count h.layout →
@@ -81,8 +55,7 @@ module _ (h : Heap) (times : List ℕ) (r n : ℕ) (tag_below : h.tag < 16) (wit
       let is_tag : IsTagOf r (next_tag h r) = IsTagOf-next_tag h r tag_below in
       let tag : last_tag (state_at (given_out h r n) r) ≡ next_tag h r = ap last_tag (state_at-given_out h r n within) in
       let shown : logical_tag (pointer_to (given_out h r n) r) ≡ last_tag (state_at (given_out h r n) r) =
-      laws.tag_put (payload_place (slot_in (given_out h r n) r)) (last_tag (state_at (given_out h r n) r))
-      (subst (λ t. t < 16) (sym tag) is_tag.below) in
+      grind arith in
       record {
         in_range = subst (λ (layout : Partition). r < slot_count layout) (sym (layout-given_out h r n)) in_range;
         address_is = ap (λ t. with_tag (payload_place (slot_in (given_out h r n) r)) t) (sym shown);
@@ -96,9 +69,7 @@ module _ (h : Heap) (times : List ℕ) (r n : ℕ) (tag_below : h.tag < 16) (wit
 
 IsSoundVariable-kept : (h new : Heap) (times : List ℕ) (a : ℕ) (g : Option Generation) → KeepsGiven h new → IsSoundVariable h times a g →
     IsSoundVariable new times a g
-IsSoundVariable-kept h new times a None kept i = record { null_or_tagged = i.null_or_tagged; follows = tt }
-IsSoundVariable-kept h new times a (Some g) kept i =
-    record { null_or_tagged = i.null_or_tagged; follows = IsAddressOf-kept h new times a g.slot g.time kept i.follows }
+IsSoundVariable-kept h new times a g kept i = grind (arith, IsAddressOf-kept)
 
 -- the variable of a request is right after its call: it has the answer, or where there is none this address
 abbrev pub IsRight : {E : Type 0} → Run → ℕ → Option Generation → Step (Result ℕ E) → Option ℕ → Type 0
@@ -132,13 +103,7 @@ module _ (w : Run) (sound : IsSoundRun w) where
       let i =
       IsAddressOf-new w.replay.heap w.times s n sound.heap.tag_below (in_states_of s given.reusable) (in_times_of s given.reusable)
       given.reusable.in_range in
-      let some : 0 < logical_tag (pointer_to (given_out w.replay.heap s n) s) = i.tag.not_zero in
-      record {
-        null_or_tagged = inr (omega arith);
-        follows =
-            IsAddressOf-kept (given_out w.replay.heap s n) new (times_with w (Some s)) (pointer_to (given_out w.replay.heap s n) s) s
-            (suc (times_of w s)) kept i;
-      }
+      grind (arith, IsAddressOf-kept)
 
   -- ---- what a call gives
 
