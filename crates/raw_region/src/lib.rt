@@ -2,6 +2,7 @@
 #![tactic(auto)]
 
 mod region;
+mod short_fill;
 mod zeros;
 
 pub use region::RawRegion;

@@ -4,6 +4,7 @@ ghost use Rattle.std.specs.Borrow.{sem};
 ghost use Rattle.std.specs.Int.{w64, to_le_bytes};
 ghost use Rattle.std.specs.Prelude.{◌≡◌, ◌+◌, ◌-◌, ◌<◌, ◌≤◌, ◌^◌, ℕ, All, IfOk, List, length, replicate, slice_index, slice_range, slice_set};
 
+use crate::short_fill::fill_bytes;
 use crate::zeros::write_zeros;
 use std::alloc::{AllocError, Allocator, Global};
 use std::marker::Model;
@@ -119,7 +120,7 @@ impl RawRegion {
         ensures bytes { self.new ≡ with_bytes self.old from (replicate (to - from) b) }
         ensures others { ChangesOnly self.old self.new from to }
     {
-        self.as_mut_slice()[from..to].fill(b);
+        fill_bytes(&mut self.as_mut_slice()[from..to], b);
     }
 
     /// Fills `to` with the bytes from place `i` on, in one copy.
