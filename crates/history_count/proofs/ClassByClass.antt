@@ -1,9 +1,9 @@
 -- What a table takes, a class at a time: each class serves the sizes from where the one before it ends.
-use Rattle.std.proofs.Common.{◌≡◌, ℕ, zero, suc, ◌+◌, ◌-◌, ◌*◌, ◌<◌, ◌≤◌, ◌&&◌, Bool, false, List, [], ◌∷◌, length, get_or, drop, cond, leb, ltb, refl, sym, ap, ◌∙◌, arith, inl, inr, add-one}
+use Rattle.std.proofs.Common.{◌≡◌, ℕ, zero, suc, ◌+◌, ◌-◌, ◌*◌, ◌<◌, ◌≤◌, ◌&&◌, List, [], ◌∷◌, length, get_or, drop, cond, leb, ltb, refl, sym, ap, ◌∙◌, arith, add-one}
 use Rattle.std.specs.Prelude.{All, slice_index}
 use Rattle.std.proofs.Math.Nat.{mul-le-mul}
 use Rattle.std.proofs.Math.Seq.{drop-cons}
-use Rattle.std.proofs.lemmas.Bool.{cases_lt, le-leb, le-ltb, lt-leb, lt-ltb}
+use Rattle.std.proofs.lemmas.Bool.{le-leb, le-ltb, lt-leb, lt-ltb}
 use Rattle.std.proofs.lemmas.List.{drop_all}
 use Rattle.std.proofs.lemmas.List.Elements.{All-head, All-tail}
 use Rattle.class_table.specs.Sizes.{largest_counted}
@@ -39,24 +39,8 @@ cut-class class two = grind arith
 -- a sum over a window
 window : (f g : ℕ → ℕ) (from end : ℕ) → from ≤ end → ((n : ℕ) → n < from → f n ≡ 0) → ((n : ℕ) → from ≤ n → n < end → f n ≡ g n)
     → sum_below g from + sum_below f end ≡ sum_below g end
-window f g from zero le none same =
-    let start : from ≡ 0 = omega arith in
-    omega (arith, ap (sum_below g) start, sum_none f 0 (λ n lt. absurd (omega arith)))
-window f g from (suc end) le none same =
-    elim (cases_lt end from) [
-      | inl all ↦ (let whole : from ≡ suc end = omega arith in
-          omega (arith, ap (sum_below g) whole, sum_none f (suc end) (λ n lt. none n (omega arith))))
-      | inr more ↦ omega (
-        arith,
-        sum_below-more f end,
-        sum_below-more g end,
-        same end more (omega arith),
-        window f g from end more none (λ n from lt. same n from (omega arith)),
-      )
-    ]
-
-and_left-false : (a b : Bool) → b ≡ false → (a && b) ≡ false
-and_left-false a b is = grind arith
+window f g from zero le none same = grind (arith, sum_none f 0)
+window f g from (suc end) le none same = grind (arith, sum_below-more, sum_none f (suc end), window f g from end)
 
 blocks-cut : (low high from end : ℕ) (s : List ℕ) → IsCut low from → IsCut high end → from ≤ end → end ≤ length s
     → blocks_between 1 low high s ≡ blocks_from from end s
@@ -64,19 +48,10 @@ blocks-cut low high from end s is also le within =
     let f = λ (n : ℕ). cond (ltb low (rounded_need 1 n) && leb (rounded_need 1 n) high) (slice_index s n) 0 in
     omega (
       arith,
-      sum_up_to_the_rest f end (length s) within (λ n le. past n (also.above n le)),
-      window f (slice_index s) from end le (λ n lt. before n (is.below n lt)) (λ n from lt. inside n (is.above n from) (also.below n lt)),
+      sum_up_to_the_rest f end (length s) within (λ n past. grind (arith, also.above n, lt-leb)),
+      window f (slice_index s) from end le (λ n lt. grind (arith, is.below n, le-ltb))
+          (λ n from lt. grind (arith, is.above n, also.below n, lt-ltb, le-leb)),
     )
-  where
-    past : (n : ℕ) → high < rounded_need 1 n → cond (ltb low (rounded_need 1 n) && leb (rounded_need 1 n) high) (slice_index s n) 0 ≡ 0
-    past n lt = rw (and_left-false (ltb low (rounded_need 1 n)) (leb (rounded_need 1 n) high) (lt-leb (rounded_need 1 n) high lt)) refl
-
-    before : (n : ℕ) → rounded_need 1 n ≤ low → cond (ltb low (rounded_need 1 n) && leb (rounded_need 1 n) high) (slice_index s n) 0 ≡ 0
-    before n le = rw (le-ltb low (rounded_need 1 n) le) refl
-
-    inside : (n : ℕ) → low < rounded_need 1 n → rounded_need 1 n ≤ high
-        → cond (ltb low (rounded_need 1 n) && leb (rounded_need 1 n) high) (slice_index s n) 0 ≡ slice_index s n
-    inside n lt le = rw (lt-ltb low (rounded_need 1 n) lt, le-leb (rounded_need 1 n) high le) refl
 
 most-same : (f g : List ℕ → ℕ) (snapshots : List (List ℕ)) → All AreCounts snapshots → ((s : List ℕ) → AreCounts s → f s ≡ g s)
     → most f snapshots ≡ most g snapshots

@@ -1,5 +1,5 @@
 -- What holds of a sheet's text holds of a fit's, whose footprint is in the place of the sheet's waste.
-use Rattle.std.proofs.Common.{◌≡◌, ℕ, List, Result, Ok, Err, refl, subst, ap, ◌∙◌}
+use Rattle.std.proofs.Common.{◌≡◌, ℕ, List, Result, Ok, Err, refl, subst, arith}
 use Rattle.line_text.specs.FirstFault.{IsFirstFault}
 use Rattle.line_text.specs.Lines.{lines}
 use Rattle.potential_check.specs.FitText.{SpellsFit, fit_in, fit_of_sheet}
@@ -25,14 +25,11 @@ spelled_fit_is_read text f spells = rw (spelled_is_read Footprint text (sheet_of
 
 pub fit_fault_is_first : (text : List ℕ) (number : ℕ) → fit_in text ≡ Err number → IsFirstFault SpellsFit text number
 fit_fault_is_first text number e =
-    let first = fault_is_first Footprint text number (go (read_by Footprint (lines text)) refl) in
+    let read : read_by Footprint (lines text) ≡ Err number = grind arith in
+    let first = fault_is_first Footprint text number read in
     record {
       some = first.some;
       within = first.within;
       before = (first.before.0, fit_of_sheet first.before.1, first.before.2, first.before.3);
       none = λ other f spells same. first.none other (sheet_of_fit f) spells same;
     }
-  where
-    go : (read : Result Sheet ℕ) → read_by Footprint (lines text) ≡ read → read_by Footprint (lines text) ≡ Err number
-    go (Ok s) is = let none = rw is at e in absurd cc
-    go (Err other) is = let same : other ≡ number = (let err = rw is at e in cc) in is ∙ ap Err same

@@ -24,12 +24,7 @@ module _ (s : Sheet) (spans : Spanned) (same : spans.step ≡ s.step) (shape : M
 
   meet-drops : Meets spans.counts s StageDrop → AllAdjacentBelow StageDropHolds s.rows (length s.rows)
   meet-drops meets m d next = record {
-    each = λ i lt. omega (
-      arith,
-      meets (m + 1) i (omega arith) (omega (arith, shape.row_count)) (omega (arith, shape.row_lengths (m + 1) d next)),
-      number-is s.rows (m + 1) m i d (omega arith) (omega arith),
-      number-is s.rows (suc (m + 1)) (m + 1) i d (omega arith) next,
-    );
+    each = λ i lt. grind (arith, meets (m + 1) i, shape.row_count, shape.row_lengths (m + 1) d next, number-is);
   }
 
   pub drops-met : AllAdjacentBelow StageDropHolds s.rows (length s.rows) ↔ Meets spans.counts s StageDrop
@@ -46,13 +41,7 @@ module _ (s : Sheet) (spans : Spanned) (same : spans.step ≡ s.step) (shape : M
 
   meet-edges : Meets spans.counts s Edge → AllAdjacentBelow (EdgesHold spans) s.rows (length s.rows)
   meet-edges meets m d next = record {
-    each = λ i j lt later le. omega (
-      arith,
-      meets (m + 1) i j (omega arith) (omega (arith, shape.row_count)) later (omega (arith, places-are)),
-      waste-is i j,
-      number-is s.rows (m + 1) m j d (omega arith) (omega arith),
-      number-is s.rows (suc (m + 1)) (m + 1) i d (omega arith) next,
-    );
+    each = λ i j lt later le. grind (arith, meets (m + 1) i j, shape.row_count, places-are, waste-is i j, number-is);
   }
 
   pub edges-met : AllAdjacentBelow (EdgesHold spans) s.rows (length s.rows) ↔ Meets spans.counts s Edge

@@ -1,14 +1,13 @@
 -- Each line of a sheet or a fit: it is read as what it spells, and no other line is.
-use Rattle.std.proofs.Common.{◌≡◌, ◌≢◌, ℕ, ◌<◌, ◌≤◌, ◌^◌, true, false, List, [], ◌∷◌, length, Some, Result, Ok, Err, refl, ap, ◌∙◌, arith, codes, leb}
+use Rattle.std.proofs.Common.{◌≡◌, ◌≢◌, ℕ, ◌<◌, ◌≤◌, ◌^◌, true, false, List, [], ◌∷◌, length, Some, refl, arith, codes, leb}
 use Rattle.std.specs.List.{list_all}
 use Rattle.std.proofs.lemmas.Bool.{and_from, and_parts, leb-true, le-leb, lt-ltb, ltb-true}
 use Rattle.std.proofs.lemmas.Bool.Decides.{nat_tests}
 use Rattle.std.proofs.lemmas.List.Elements.{All-nil, All-cons, All-head, All-tail, All-weaker}
 use Rattle.std.proofs.lemmas.List.Sums.{AllPass-from_list_all}
-use Rattle.class_table.specs.ClassLine.{class_line, table_of_line}
+use Rattle.class_table.specs.ClassLine.{class_line}
 use Rattle.class_table.specs.Steps.{IsStep}
 use Rattle.class_table.specs.Tables.{IsLegalTable}
-use Rattle.class_table.specs.declared.fault.TableError.{TableError}
 use Rattle.class_table.specs.declared.sizes.TheConstants.{MOST_NEEDS}
 use Rattle.class_table.specs.declared.table.TheConstants.{MOST_CLASSES}
 use Rattle.class_table.proofs.LawLemmas.{AreSmall, IsName, line_of_read_numbers, named_numbers_are_read, read_line_is_spelled, table_line_is_read, words_of_named_line}
@@ -115,10 +114,4 @@ pub line-row_in : (line ns : List ℕ) → row_in line ≡ Some ns → (line ≡
 line-row_in line ns e = grind (arith, passing-some, row_in-numbers, passed_row, line_of_read_numbers)
 
 pub line-table_in : (line table : List ℕ) → table_in line ≡ Some table → (line ≡ class_line table) × IsLegalTable 1 table
-line-table_in line table e = go (table_of_line line) refl
-  where
-    go : (read : Result (List ℕ) TableError) → table_of_line line ≡ read → (line ≡ class_line table) × IsLegalTable 1 table
-    go (Err fault) f = let none = rw f at e in absurd cc
-    go (Ok found) f =
-        let same : found ≡ table = (let is = rw f at e in cc) in
-        read_line_is_spelled line table (f ∙ ap (λ (t : List ℕ). Ok t) same)
+line-table_in line table e = grind (arith, read_line_is_spelled line table)
