@@ -1,9 +1,9 @@
 -- Bytes that are written and read in parts.
-use Rattle.std.proofs.Common.{◌≡◌, ℕ, zero, suc, ◌+◌, ◌≤◌, ◌⊎◌, List, [], ◌∷◌, ◌++◌, length, map, take, drop, refl, ap, ◌∙◌, subst, arith, min, length-append, length-drop, length-take}
+use Rattle.std.proofs.Common.{◌≡◌, ℕ, zero, suc, ◌+◌, ◌≤◌, ◌⊎◌, List, [], ◌∷◌, ◌++◌, length, take, drop, refl, ap, ◌∙◌, subst, arith, min, length-append, length-drop, length-take}
 use Rattle.std.proofs.Math.Seq.{take-append_seam}
 use Rattle.std.specs.List.{range_with_len}
 use Rattle.std.proofs.lemmas.List.{map-append}
-use Rattle.machine_theory.specs.Memory.{Granule, byte_at, bytes_at, written}
+use Rattle.machine_theory.specs.Memory.{Granule, bytes_at, written}
 use Rattle.machine_theory.proofs.ByteLaws.{length-bytes_at}
 
 pub bytes_at-none : (memory : List Granule) (i : ℕ) → bytes_at memory i 0 ≡ []
@@ -23,9 +23,7 @@ range-append i (suc a) b =
 
 pub bytes_at-append : (memory : List Granule) (i a b : ℕ) → bytes_at memory i (a + b) ≡ bytes_at memory i a ++ bytes_at memory (i + a) b
 unfolding bytes_at
-bytes_at-append memory i a b =
-    ap (map (λ j. byte_at memory j)) (range-append i a b)
-    ∙ map-append (λ j. byte_at memory j) (range_with_len i a) (range_with_len (i + a) b)
+bytes_at-append memory i a b = grind (arith, range-append, map-append)
 
 -- a run of bytes is copied in pieces, by way of a piece of 256 bytes
 module _

@@ -37,20 +37,7 @@ listed_same {next} {new} {fronts} {lists} l same = record {
 pub other_list : {next : ℕ → ℕ} {fronts : List ℕ} {lists : List (List ℕ)} → AreListed next fronts lists →
     (number front : ℕ) (list : List ℕ) → number < length lists →
     IsLinked next front list → AreListed next (slice_set fronts number front) (slice_set lists number list)
-other_list {next} {fronts} {lists} l number front list within linked = record {
-  long = length-set fronts number front ∙ l.long ∙ sym (length-set lists number list);
-  linked = λ n inside. elim (cases_eq n number) [
-    | inl is ↦
-        subst (λ n. IsLinked next (slice_index (slice_set fronts number front) n) (list_of (slice_set lists number list) n)) (sym is)
-        (subst (λ x. IsLinked next x (list_of (slice_set lists number list) number))
-        (sym (get_or-set_same fronts number front 0 (subst (λ k. number < k) (sym l.long) within)))
-        (subst (IsLinked next front) (sym (list_of-here lists number list within)) linked))
-    | inr other ↦
-        subst (λ x. IsLinked next x (list_of (slice_set lists number list) n)) (sym (get_or-set_other fronts number n front 0 other))
-        (subst (IsLinked next (slice_index fronts n)) (sym (list_of-there lists number n list other))
-        (l.linked n (subst (λ k. n < k) (length-set lists number list) inside)))
-  ];
-}
+other_list {next} {fronts} {lists} l number front list within linked = grind (arith, length-set, cases_eq, get_or-set_same, list_of-here, get_or-set_other, list_of-there)
 
 -- ---- the state of one slot
 

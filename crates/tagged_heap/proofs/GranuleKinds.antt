@@ -1,6 +1,5 @@
 -- What a granule is, by the header of the slot over it.
-use Rattle.std.proofs.Common.{◌≡◌, ◌≢◌, ℕ, ◌+◌, ◌<◌, ◌≤◌, Bool, true, false, cond, eqb, refl, sym, ap, ◌∙◌, arith, Some, None}
-use Rattle.std.specs.Prelude.{nat_lt}
+use Rattle.std.proofs.Common.{◌≡◌, ◌≢◌, ℕ, ◌+◌, ◌<◌, ◌≤◌, Bool, true, false, cond, refl, sym, ap, ◌∙◌, arith, Some, None}
 use Rattle.std.proofs.lemmas.Bool.{and_right, and_from, cond-true, cond-false, eq-eqb, ne_eqb, lt-ltb, le-ltb, le-leb}
 use Rattle.machine_theory.specs.Memory.{is_among}
 use Rattle.class_table.specs.Layout.{slot_over}
@@ -45,14 +44,7 @@ chunk_most (Dead size tag mark) = omega arith
 -- a granule of the chunk, or of a fresh slot as far as the chunk of size 0 goes
 chunk_kind : (from first g : ℕ) (x : State) → first ≤ g → g < first + chunk_granules (size_of x) →
     kind_by (standing_from from x) ≡ cond (is_among first (chunk_granules_of x) g) (kind_of_chunk x) Tail
-chunk_kind from first g Fresh above below = sym (same_tail (is_among first 0 g))
-chunk_kind from first g (Live size tag) above below =
-    sym (cond-true (is_among first (chunk_granules size) g) _ _
-    (and_from _ _ (le-leb first g above) (lt-ltb g (first + chunk_granules size) below)))
-chunk_kind from first g (Dead size tag mark) above below =
-    sym (dead_kind (nat_lt mark from))
-    ∙ sym (cond-true (is_among first (chunk_granules size) g) _ _
-    (and_from _ _ (le-leb first g above) (lt-ltb g (first + chunk_granules size) below)))
+chunk_kind from first g x above below = grind (arith, same_tail, cond-true, and_from, le-leb, lt-ltb, dead_kind)
 
 -- a granule of slot s, so many granules from its first one
 module _ {h : Heap} {p : Parts} (k : IsKept h p) {g s : ℕ} (before : ℕ) (there : slot_over h.layout g ≡ Some s)
@@ -62,9 +54,7 @@ module _ {h : Heap} {p : Parts} (k : IsKept h p) {g s : ℕ} (before : ℕ) (the
 
   pub start_kind : before ≡ 0 → Header ≡ place_kind h g
   unfolding place_kind
-  start_kind none =
-      sym (cond-true (eqb (slot_in h s).start g) _ _ (eq-eqb (slot_in h s).start g (omega (arith, none, at))))
-      ∙ ap (λ o. kind_at h o g) (sym there)
+  start_kind none = grind (arith, cond-true, eq-eqb)
 
   size_is : (header_in (region_of h.layout p.memory) s).size ≡ size_of (state_at h s)
   size_is = ap (λ (x : TheHeader). x.size) (k.headers.headers s in_range)
@@ -76,9 +66,7 @@ module _ {h : Heap} {p : Parts} (k : IsKept h p) {g s : ℕ} (before : ℕ) (the
     payload_kind : cond (is_among (payload_start (slot_in h s)) (chunk_granules_of (state_at h s)) g) (kind_of_chunk (state_at h s)) Tail ≡
         place_kind h g
     unfolding place_kind
-    payload_kind =
-        sym (cond-false (eqb (slot_in h s).start g) _ _ (ne_eqb (slot_in h s).start g (λ is. other (omega (arith, is, at)))))
-        ∙ ap (λ o. kind_at h o g) (sym there)
+    payload_kind = grind (arith, cond-false, ne_eqb)
 
     pub tail_kind : chunk_granules (header_in (region_of h.layout p.memory) s).size < before → Tail ≡ place_kind h g
     tail_kind after =

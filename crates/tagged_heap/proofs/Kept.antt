@@ -4,7 +4,7 @@ use Rattle.std.specs.Prelude.{Contains, map, slice_index}
 use Rattle.std.proofs.lemmas.Bool.{cases_lt, lt-ltb, le-ltb, cond-true, cond-false}
 use Rattle.std.proofs.lemmas.List.{ext_get_or, get_or-map, length-map}
 use Rattle.heap_theory.specs.QueueAndLists.{HasMark, AgreeWithMarks, AgreeWithMarksFrom, bytes_of}
-use Rattle.heap_theory.specs.Header.{Header, FitsWords, header_for, shown_state, standing_in, state_by, class_number}
+use Rattle.heap_theory.specs.Header.{Header, FitsWords, header_for, shown_state, standing_in, class_number}
 use Rattle.heap_theory.specs.Header.Standing.{Freed, Quarantined}
 use Rattle.heap_theory.specs.HeapInMemory.{IsKeptIn}
 use Rattle.heap_theory.specs.Links.{list_of}
@@ -38,12 +38,7 @@ size_most n class room most = omega arith
 
 -- a header shows its slot's state, from whatever mark on slots are in the quarantine,
 shows_state : (h : Heap) (from s next : ℕ) (x : State) → shown_state (header_from h.layout from s x next) ≡ x
-shows_state h from s next Fresh = refl
-shows_state h from s next (Live n t) = refl
-shows_state h from s next (Dead n t mark) = elim (cases_lt mark from) [
-  | inl before ↦ ap (λ x. state_by x n t mark) (cond-true _ Freed Quarantined (lt-ltb _ _ before))
-  | inr after ↦ ap (λ x. state_by x n t mark) (cond-false _ Freed Quarantined (le-ltb _ _ after))
-]
+shows_state h from s next x = grind (arith, cases_lt, cond-true, lt-ltb, cond-false, le-ltb)
 
 -- and has room in its words
 pub header_fits : (h : Heap) (from s next : ℕ) → IsSoundHeap h → IsSlot h s → next < 2 ^ 32 → h.total < 2 ^ 64 →
@@ -71,9 +66,7 @@ module _ {h : Heap} {p : Parts} (k : IsKept h p) where
   -- with the same queue and total, they agree from the same mark on
   pub agree_same : {h' : Heap} {lists : List (List ℕ)} → bytes_of h'.layout k.queue ≡ bytes_of h.layout k.queue → h'.total ≡ h.total →
       AgreeWithMarks h' k.queue lists → AgreeWithMarksFrom h' k.from k.queue lists
-  agree_same {h'} {lists} bytes total b =
-      let from : b.from ≡ k.from = omega (arith, bytes, total, bytes_from, chain_bytes h' b.from k.queue b.agree.chain) in
-      subst (λ from. AgreeWithMarksFrom h' from k.queue lists) from b.agree
+  agree_same {h'} {lists} bytes total b = grind (arith, chain_bytes)
 
   pub queue_slot : (s : ℕ) → Contains k.queue s → IsQueued h k.from s
   queue_slot s there = chain_dead h k.from k.queue s k.agree.chain there

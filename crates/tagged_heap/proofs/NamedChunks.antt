@@ -1,5 +1,5 @@
 -- The chunk that a pointer names.
-use Rattle.std.proofs.Common.{◌≡◌, ◌≢◌, ℕ, ◌^◌, ◌<◌, Bool, true, false, cond, refl, sym, ap, ◌∙◌, Some, None, Ok, Err, Option}
+use Rattle.std.proofs.Common.{◌≡◌, ◌≢◌, ℕ, ◌^◌, ◌<◌, Bool, true, false, cond, refl, ap, ◌∙◌, Some, None, Ok, Err, Option, arith}
 use Rattle.std.specs.Prelude.{nat_lt, ◌==◌}
 use Rattle.std.proofs.lemmas.Bool.{cond-true, cond-false, eq-eqb, ne_eqb}
 use Rattle.machine_theory.specs.Address.{logical_tag, place_of}
@@ -51,9 +51,7 @@ module _ (h : Heap) (p s from next : ℕ) {header : Header} (sound : IsSoundHeap
   chunk_not_live not = chunk_is ∙ not_live from p s (state_at h s) (λ live. not (ap (λ (x : Header). x.standing) shows ∙ live))
 
   pub live : header.standing ≡ IsLive → state_at h s ≡ Live header.size header.tag
-  live standing =
-      live_state from (state_at h s) (sym (ap (λ (x : Header). x.standing) shows) ∙ standing)
-      ∙ ap (λ (x : Header). Live x.size x.tag) (sym shows)
+  live standing = grind (arith, live_state)
 
   pub chunk_wrong_tag : header.standing ≡ IsLive → logical_tag p ≢ header.tag → chunk_at h p ≡ Err WrongTag
   chunk_wrong_tag standing differs =

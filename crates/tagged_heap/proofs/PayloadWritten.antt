@@ -122,12 +122,7 @@ mapped_of memory address len none = grind (arith, cond-false)
 
 pub tagged_access : {h : Heap} {p : Parts} (k : IsKept h p) (address len : ℕ) → IsTaggedOrUnmapped h address len →
     access_fault p.memory address len ≡ None → logical_tag address ≢ 0
-tagged_access {h} {p} k address len either none = elim either [
-  | inl tagged ↦ tagged
-  | inr not ↦
-      let seen : length p.memory ≡ length h.memory = sym (length-without_headers h.layout p.memory) ∙ ap length k.seen in
-      absurd (false≢true (sym not ∙ ap (λ n. is_mapped n address len) (sym seen) ∙ mapped_of p.memory address len none))
-]
+tagged_access {h} {p} k address len either none = grind (arith, length-without_headers, false≢true, mapped_of)
 
 in_access : (place base len j : ℕ) → base ≤ place → place - base ≤ j → j < place - base + len →
     (k : ℕ) × (k < len) × (base + 16 * (j / 16) ≤ place + k) × (place + k < base + 16 * (j / 16) + 16)

@@ -25,9 +25,7 @@ use Rattle.tagged_heap.proofs.Kept.{class_few, list_slot}
 -- ---- how slots stand
 
 standing_freed : (from mark : ℕ) (x : State) → HasMark x mark → mark < from → standing_from from x ≡ Freed
-standing_freed from mark Fresh marked before = absurd marked
-standing_freed from mark (Live n t) marked before = absurd marked
-standing_freed from mark (Dead n t m) marked before = cond-true _ Freed Quarantined (lt-ltb m from (omega (arith, marked)))
+standing_freed from mark x marked before = grind (arith, cond-true, lt-ltb)
 
 -- the same where no mark is between the two
 standing_between : (from to : ℕ) (x : State) → from ≤ to → ((mark : ℕ) → HasMark x mark → (mark < from) ⊎ (to ≤ mark)) →
