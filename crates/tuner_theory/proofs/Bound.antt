@@ -25,11 +25,7 @@ module _ (cost : ℕ → ℕ → ℕ) (d limit : ℕ) (potential : ℕ → ℕ �
 
   -- the last class reaches all places
   last-class : (i : ℕ) → 1 ≤ limit → i ≤ d → potential 1 i ≤ cost i d
-  last-class i one le =
-      elim (cases_lt i d) [
-        | inl inside ↦ valid.last_class one i inside
-        | inr past ↦ (let end : i ≡ d = omega arith in omega (arith, ap (potential 1) end, valid.at_end 1))
-      ]
+  last-class i one le = grind arith
 
 module _ (counts : List ℕ) (step : ℕ) (pos : 0 < step) (between : ℕ → ℕ → ℕ) (cost : IsIntervalCost counts step between) (limit : ℕ)
     (potential : ℕ → ℕ → ℕ) (valid : AreValidPotentials (span_cost between counts step) (places counts step) limit potential) where

@@ -1,8 +1,7 @@
 -- Valid potentials bound the waste of every rest from below: of the requests above any place.
-use Rattle.std.proofs.Common.{◌≡◌, ℕ, zero, suc, ◌+◌, ◌*◌, ◌<◌, ◌≤◌, ◌%◌, max, List, [], ◌∷◌, length, slice_index, cond, ltb, leb, Option, unwrap_or, arith, refl, ap, sym, subst, ◌∙◌, inl, inr}
+use Rattle.std.proofs.Common.{◌≡◌, ℕ, zero, suc, ◌+◌, ◌*◌, ◌<◌, ◌≤◌, ◌%◌, max, List, [], ◌∷◌, length, slice_index, cond, ltb, leb, Option, arith, refl, ap, subst, ◌∙◌, inl, inr}
 use Rattle.std.specs.Prelude.{IsSome}
-use Rattle.std.proofs.lemmas.Bool.{cases_lt, cond_both, cond-true, cond-false, le-leb, le-ltb, lt-leb, lt-ltb}
-use Rattle.class_table.specs.Sizes.{loss_of}
+use Rattle.std.proofs.lemmas.Bool.{cases_lt, cond_both, cond-false, le-ltb, lt-leb}
 use Rattle.class_table.proofs.LawLemmas.{AreClassesAbove, classes_of_legal_table}
 use Rattle.tuner_theory.specs.Best.{IsCandidate}
 use Rattle.tuner_theory.specs.Potentials.{AreValidPotentials}
@@ -32,28 +31,15 @@ index-above m (suc n) (count ∷ counts) step low =
     index-above (suc m) n counts step low ∙ ap (λ k. cond (leb (rounded_need step k) low) 0 (slice_index counts n)) next
 
 kept : (x low v w : ℕ) → w ≡ cond (leb x low) 0 v → 0 < w → (low < x) × (0 < v)
-kept x low v w e some =
-    elim (cases_lt low x) [
-      | inl above ↦ (above, omega (arith, e ∙ cond-false _ _ _ (lt-leb x low above)))
-      | inr below ↦ absurd (omega (arith, e ∙ cond-true _ _ _ (le-leb x low below)))
-    ]
+kept x low v w e some = grind arith
 
 masked : (x low w v l : ℕ) → 2 ≤ x → w ≡ cond (leb x low) 0 v → w * l ≡ cond (ltb (max 1 low) x) (v * l) 0
-masked x low w v l two e =
-    elim (cases_lt low x) [
-      | inl above ↦ ap (λ z. z * l) (e ∙ cond-false _ _ _ (lt-leb x low above)) ∙ sym (cond-true _ _ _ (lt-ltb (max 1 low) x (omega arith)))
-      | inr below ↦ (let none : w ≡ 0 = e ∙ cond-true _ _ _ (le-leb x low below) in
-          let zeros : w * l ≡ 0 = rw none (omega arith) in
-          zeros ∙ sym (cond-false _ _ _ (le-ltb (max 1 low) x (omega arith))))
-    ]
+masked x low w v l two e = grind arith
 
 module _ (counts : List ℕ) (step i : ℕ) where
   at-above : (n : ℕ) → slice_index (counts_above counts step i) n
       ≡ cond (leb (rounded_need step n) (need_at counts step i)) 0 (slice_index counts n)
-  at-above n =
-      let first : 0 + n ≡ n = omega arith in
-      index-above 0 n counts step (need_at counts step i)
-      ∙ ap (λ k. cond (leb (rounded_need step k) (need_at counts step i)) 0 (slice_index counts n)) first
+  at-above n = grind (arith, index-above)
 
   pub counted-above : (n : ℕ) → IsCounted (counts_above counts step i) n
       → IsCounted counts n × (need_at counts step i < rounded_need step n)
@@ -99,14 +85,7 @@ record Dropped (counts : List ℕ) (step low : ℕ) (classes : List ℕ) : Type 
 module _ (counts : List ℕ) (step : ℕ) (pos : 0 < step) (low : ℕ) where
   same-waste : (c n : ℕ) (cs : List ℕ) → c ≤ low → 2 ≤ c → c % step ≡ 0
       → cond (ltb low (rounded_need step n)) (waste_at counts cs n) 0 ≡ cond (ltb low (rounded_need step n)) (waste_at counts (c ∷ cs) n) 0
-  same-waste c n cs le two multiple =
-      elim (cases_lt low (rounded_need step n)) [
-        | inl over ↦ ap
-            (λ (class : Option ℕ). cond (ltb low (rounded_need step n)) (slice_index counts n * loss_of n (unwrap_or class 0)) 0)
-            (sym (class_for-later step pos n c cs two multiple (omega arith)))
-        | inr under ↦ cond-false _ _ _ (le-ltb low (rounded_need step n) under)
-            ∙ sym (cond-false _ _ _ (le-ltb low (rounded_need step n) under))
-      ]
+  same-waste c n cs le two multiple = grind (arith, cases_lt, class_for-later, cond-false, le-ltb)
 
   drop-low : (base : ℕ) (classes : List ℕ) → 1 ≤ base → AreClassesAbove step base classes → ServesAbove counts step low classes
       → Dropped counts step low classes

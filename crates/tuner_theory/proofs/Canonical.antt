@@ -7,7 +7,7 @@ use Rattle.std.proofs.lemmas.List.{get_or_default}
 use Rattle.std.proofs.lemmas.Option.{same_Some}
 use Rattle.class_table.specs.Tables.{class_for}
 use Rattle.class_table.proofs.LawLemmas.{AreClassesAbove, class_above, classes_of_legal_table, legal_table_of_classes}
-use Rattle.tuner_theory.specs.Best.{IsBestBy, IsCandidate, IsCanonical, IsCanonicalBy, IsLexicographicallyAtMost, IsUsed}
+use Rattle.tuner_theory.specs.Best.{IsBestBy, IsCandidate, IsCanonicalBy, IsLexicographicallyAtMost, IsUsed}
 use Rattle.tuner_theory.specs.Intervals.{IsIntervalCost, IsSumOfIntervals, cost_above, span_cost}
 use Rattle.tuner_theory.specs.Tuned.{AreRowsBy, tuned_table}
 use Rattle.tuner_theory.specs.Rows.{AreLeastRows, table_of_ends}
@@ -86,15 +86,7 @@ module _ (counts : List ℕ) (step : ℕ) (pos : 0 < step) where
   -- a used class reaches farther than what is below it
   used-farther : (low c i j n : ℕ) → Reaches counts step low (places counts step) i → Reaches counts step c (places counts step) j
       → IsCounted counts n → low < rounded_need step n → rounded_need step n ≤ c → i < j
-  used-farther low c i j n ri rj counted over le =
-      let covered = reach-covers counts step pos c j n rj counted le in
-      elim (cases_lt i j) [
-        | inl lt ↦ lt
-        | inr not ↦ absurd (elim (cases_lt j i) [
-          | inl back ↦ omega (arith, ri.reached, covered, places_ascend counts step pos j i back ri.within)
-          | inr other ↦ (let same : i ≡ j = omega arith in omega (arith, ri.reached, covered, ap (need_at counts step) same))
-        ])
-      ]
+  used-farther low c i j n ri rj counted over le = grind (arith, reach-covers, cases_lt, places_ascend)
 
 -- ---- the order of tables
 

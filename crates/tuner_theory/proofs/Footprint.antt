@@ -48,11 +48,7 @@ module _ (snapshots : List (List ℕ)) (are : AreSnapshots snapshots) where
   -- a size of which a block is live at a snapshot is counted
   pub counted-at : (k n : ℕ) (d : List ℕ) → k < length snapshots → n < length (get_or snapshots k d)
       → 0 < slice_index (get_or snapshots k d) n → IsCounted (peaks snapshots) n
-  counted-at k n d lt within some =
-      let small : n ≤ largest_counted = omega (arith, (are.counts k d lt).sizes) in (
-        omega (arith, peaks-length snapshots),
-        omega (arith, peak-at snapshots n 0 small, most-above (λ s. slice_index s n) snapshots k d lt),
-      )
+  counted-at k n d lt within some = grind (arith, peaks-length, peak-at, most-above)
 
   -- what is taken from an interval is a cost of intervals
   pub footprint-cost : (step : ℕ) → IsIntervalCost (peaks snapshots) step (footprint_between snapshots step)
@@ -158,8 +154,7 @@ module _ (step : ℕ) (pos : 0 < step) where
   pub footprint-all : (snapshots : List (List ℕ)) (classes : List ℕ) → AreClassesAbove step 1 classes
       → footprint_of snapshots classes ≡ sum_by (footprint_above snapshots step 1 classes) classes
   footprint-all snapshots classes above =
-      sum-later _ _ 1 1 classes (λ class over. ap (λ m. 16 * class * m) (most-same _ _ snapshots (λ s.
-      sum_same _ _ (length s) (λ n within. needed (rounded_need step n) _ (rounded-positive step pos n))))) (omega arith) above
+      sum-later _ _ 1 1 classes (grind (arith, most-same, sum_same, needed, rounded-positive)) (omega arith) above
     where
       needed : (x v : ℕ) → 2 ≤ x → v ≡ cond (ltb 1 x) v 0
       needed x v two = grind (arith, nat_tests)

@@ -48,15 +48,7 @@ masked-bounded true v bound le = le
 masked-bounded false v bound le = omega arith
 
 pub peaks_are_counts : (snapshots : List (List ℕ)) → AreSnapshots snapshots → AreCounts (peaks snapshots)
-peaks_are_counts snapshots are = record {
-  sizes = peaks-length snapshots;
-  in_range = λ n d lt.
-      omega (
-        arith,
-        peak-at snapshots n d (omega (arith, lt, peaks-length snapshots)),
-        most-bounded (λ s. slice_index s n) greatest_count snapshots (λ k e within. count-small _ n (are.counts k e within)),
-      );
-}
+peaks_are_counts snapshots are = grind (arith, peaks-length, peak-at, most-bounded, count-small)
 
 pub span_footprints_fit : (snapshots : List (List ℕ)) (step i j : ℕ) → IsStep step → AreSnapshots snapshots → i < j
     → j ≤ places (peaks snapshots) step → span_footprint snapshots step i j < 2 ^ 58
@@ -155,14 +147,7 @@ module _ (counts : List ℕ) (step : ℕ) (pos : 0 < step) where
 
   asked-none : (low : ℕ) → ServesAbove counts step low [] → asked_above low ≡ 0
   asked-none low served =
-      sum_none _ (length counts) (λ n within.
-      elim (cases_lt low (rounded_need step n)) [
-        | inr under ↦ cond-false _ _ _ (le-ltb low (rounded_need step n) under)
-        | inl over ↦ elim (cases_lt 0 (slice_index counts n)) [
-          | inl some ↦ absurd (false≢true (served n (within, some) over))
-          | inr none ↦ cond-true _ _ _ (lt-ltb low (rounded_need step n) over) ∙ nothing _ (n + 16) none
-        ]
-      ])
+      grind (arith, sum_none, cases_lt, cond-false, le-ltb, false≢true, cond-true, lt-ltb, nothing)
     where
       nothing : (v w : ℕ) → v ≤ 0 → v * w ≡ 0
       nothing v w le = omega (arith, mul-le-mul_right w le)
@@ -204,25 +189,7 @@ peaks-one counts are =
 canonical-greater : (cost greater : List ℕ → ℕ) (counts : List ℕ) (step limit more : ℕ) (classes : List ℕ)
     → ((table : List ℕ) → IsCandidate counts step limit table → greater table ≡ cost table + more)
     → IsCanonicalBy greater counts step limit classes → IsCanonicalBy cost counts step limit classes
-canonical-greater cost greater counts step limit more classes by canonical = record {
-  best = record {
-    candidate = canonical.best.candidate;
-    least = λ other candidate.
-        omega (
-          arith,
-          canonical.best.least other candidate,
-          by classes canonical.best.candidate,
-          by other candidate,
-        );
-  };
-  used = canonical.used;
-  least = λ other best used. canonical.least other
-      (record {
-        candidate = best.candidate;
-        least = λ table candidate. omega (arith, best.least table candidate, by other best.candidate, by table candidate);
-      })
-      used;
-}
+canonical-greater cost greater counts step limit more classes by canonical = grind arith
 
 pub fitted_is_tuned : (counts classes : List ℕ) (step limit : ℕ) → IsStep step → AreCounts counts
     → IsFitted (counts ∷ []) step limit classes → IsCanonical counts step limit classes
@@ -254,17 +221,7 @@ counts-more (x ∷ xs) (y ∷ ys) each = let later = counts-more xs ys each.1 in
     go later (suc n) = later n
 
 blocks-more : (classes : List ℕ) (class : ℕ) (f m : List ℕ) → AllZip (λ a b. a ≤ b) f m → blocks classes class f ≤ blocks classes class m
-blocks-more classes class f m each =
-    let more = counts-more f m each in
-    omega (
-      arith,
-      sum_at_most _ _ (length f) (λ n within. masked (is_class_of classes class n) _ _ (more.1 n)),
-      ap (sum_below (λ n. cond (is_class_of classes class n) (slice_index m n) 0)) more.0,
-    )
-  where
-    masked : (b : Bool) (v w : ℕ) → v ≤ w → cond b v 0 ≤ cond b w 0
-    masked true v w le = le
-    masked false v w le = omega arith
+blocks-more classes class f m each = grind (arith, counts-more, sum_at_most)
 
 most-more : (classes : List ℕ) (class : ℕ) (fewer more : List (List ℕ)) → AllZip (λ f m. AllZip (λ a b. a ≤ b) f m) fewer more
     → most (blocks classes class) fewer ≤ most (blocks classes class) more

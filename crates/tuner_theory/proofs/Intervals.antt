@@ -1,20 +1,15 @@
 -- A cost of intervals between places.
-use Rattle.std.proofs.Common.{◌≡◌, ℕ, ◌<◌, ◌≤◌, List, arith, inl, inr}
+use Rattle.std.proofs.Common.{◌≡◌, ℕ, ◌<◌, ◌≤◌, List, arith}
 use Rattle.std.proofs.lemmas.Bool.{cases_lt}
 use Rattle.tuner_theory.specs.Intervals.{IsIntervalCost, span_cost}
-use Rattle.tuner_theory.specs.Spans.{need_at, places, rounded_need}
+use Rattle.tuner_theory.specs.Spans.{need_at, places}
 use Rattle.tuner_theory.proofs.Needs.{Reaches, reach-at, reach-covers}
 
 module _ (counts : List ℕ) (step : ℕ) (pos : 0 < step) (between : ℕ → ℕ → ℕ) (cost : IsIntervalCost counts step between) where
   -- a class c after low costs at least what the span of the places between them does,
   pub span-least : (low c i j : ℕ) → Reaches counts step low (places counts step) i → Reaches counts step c (places counts step) j
       → span_cost between counts step i j ≤ between low c
-  span-least low c i j ri rj =
-      cost _ _ _ _ rj.reached (λ n counted above within.
-      elim (cases_lt low (rounded_need step n)) [
-        | inl over ↦ over
-        | inr under ↦ absurd (omega (arith, above, reach-covers counts step pos low i n ri counted under))
-      ])
+  span-least low c i j ri rj = grind (arith, cases_lt, reach-covers)
 
   -- and just that where it is a place's need
   pub span-same : (low i j : ℕ) → Reaches counts step low (places counts step) i → j ≤ places counts step

@@ -59,12 +59,7 @@ module _ (cost : ℕ → ℕ → ℕ) (d limit : ℕ) (rows ends : ℕ → ℕ �
 module _ (cost : ℕ → ℕ → ℕ) (d limit : ℕ) (rows ends rows' ends' : ℕ → ℕ → ℕ) (least : AreLeastRows cost d limit rows ends)
     (least' : AreLeastRows cost d limit rows' ends') where
   same-at : (k i : ℕ) → (i < d → rows k i ≡ rows' k i) → i ≤ d → rows k i ≡ rows' k i
-  same-at k i same within =
-      elim (cases_lt i d) [
-        | inl before ↦ same before
-        | inr not ↦ (let end : i ≡ d = omega arith in
-            omega (arith, ap (rows k) end, ap (rows' k) end, least.at_end k, least'.at_end k))
-      ]
+  same-at k i same within = grind arith
 
   rows-one : (k i : ℕ) → k < limit → i ≤ d → rows (suc k) i ≡ rows' (suc k) i
   rows-one zero i few within =

@@ -1,5 +1,5 @@
 -- Vectors of vectors, and their rows.
-use Rattle.std.proofs.Common.{◌≡◌, ℕ, ◌<◌, List, [], length, slice_index_or, slice_set, arith, ap, sym, ◌∙◌}
+use Rattle.std.proofs.Common.{◌≡◌, ℕ, ◌<◌, List, [], length, slice_index_or, slice_set, arith, ap, ◌∙◌}
 use Rattle.std.specs.Prelude.{Vec}
 use Rattle.std.specs.Vec.{with_item}
 use Rattle.std.specs.declared.alloc.Global.{Global}
@@ -12,9 +12,7 @@ lists-length vectors = length-map vectors (λ (v : Vec ℕ Global). v.items)
 -- a row of a vector of vectors
 pub row-read : (rows : List (Vec ℕ Global)) (k : ℕ) (d : Vec ℕ Global) (row : List ℕ) → k < length (lists_of rows)
     → row ≡ (slice_index_or rows k d).items → row ≡ slice_index_or (lists_of rows) k []
-row-read rows k d row lt is =
-    let inside : k < length rows = omega (arith, lt, lists-length rows) in
-    is ∙ sym (get_or-map (λ (v : Vec ℕ Global). v.items) rows k d [] inside)
+row-read rows k d row lt is = grind (arith, lists-length, get_or-map)
 
 pub row-read_at : (rows : List (Vec ℕ Global)) (k : ℕ) (v : Vec ℕ Global) (row : List ℕ) → k < length (lists_of rows)
     → v ≡ slice_index_or rows k v → row ≡ v.items → row ≡ slice_index_or (lists_of rows) k []
@@ -24,7 +22,4 @@ row-read_at rows k v row lt at is = row-read rows k v row lt (is ∙ ap (λ (v :
 pub set-lists : (rows : List (Vec ℕ Global)) (k place x : ℕ) (d : Vec ℕ Global) → k < length rows
     → lists_of (slice_set rows k (with_item (slice_index_or rows k d) place x))
     ≡ slice_set (lists_of rows) k (slice_set (slice_index_or (lists_of rows) k []) place x)
-set-lists rows k place x d lt =
-    map-set (λ (v : Vec ℕ Global). v.items) rows k (with_item (slice_index_or rows k d) place x)
-    ∙ ap (λ (row : List ℕ). slice_set (lists_of rows) k (slice_set row place x))
-    (sym (get_or-map (λ (v : Vec ℕ Global). v.items) rows k d [] lt))
+set-lists rows k place x d lt = grind (arith, map-set, get_or-map)

@@ -61,8 +61,7 @@ with_need-keeps need (x ∷ xs) zero lt =
     cond_both (eqb x need) _ _ (λ (ys : List ℕ). HasAt x ys 0) (λ e. (omega arith, refl)) (λ e. (omega arith, refl))
 with_need-keeps need (x ∷ xs) (suc i) lt =
     let later = with_need-keeps need xs i (omega arith) in
-    cond_both (eqb x need) _ _ (λ (ys : List ℕ). HasAt (slice_index xs i) ys (suc i)) (λ e. (lt, refl))
-    (λ e. (omega (arith, later.0), later.1))
+    grind (arith, cond_both)
 
 with_need-from : (need : ℕ) (xs : List ℕ) (i : ℕ) → i < length (with_need xs need)
     → HasAt (slice_index (with_need xs need) i) xs i ⊎ (slice_index (with_need xs need) i ≡ need)
@@ -72,10 +71,7 @@ with_need-from need (x ∷ xs) zero lt =
     inl (omega arith, cond_both (eqb x need) _ _ (λ (ys : List ℕ). x ≡ slice_index ys 0) (λ e. refl) (λ e. refl))
 with_need-from need (x ∷ xs) (suc i) lt =
     let later = with_need-from need xs i in
-    cond_both (eqb x need) _ _
-    (λ (ys : List ℕ). suc i < length ys → HasAt (slice_index ys (suc i)) (x ∷ xs) (suc i) ⊎ (slice_index ys (suc i) ≡ need))
-    (λ e lt. inl (lt, refl))
-    (λ e lt. elim (later (omega arith)) [ inl old ↦ inl (omega (arith, old.0), old.1) | inr new ↦ inr new ]) lt
+    grind (arith, cond_both)
 
 -- ---- the needs of the counted sizes below m
 
@@ -120,16 +116,14 @@ module _ (counts : List ℕ) (step : ℕ) (pos : 0 < step) where
   AtMost-needs zero high each = tt
   AtMost-needs (suc m) high each =
       let before = AtMost-needs m high (λ n lt. each n (omega arith)) in
-      cond_both (ltb 0 (slice_index counts m)) _ _ (AtMost high)
-      (λ e. AtMost-with_need high (rounded_need step m) _ before (each m (omega arith))) (λ e. before)
+      grind (arith, cond_both, AtMost-with_need)
 
   Ascends-needs : (m : ℕ) → Ascends 0 (needs_below counts step m)
   Ascends-needs zero = tt
   Ascends-needs (suc m) =
       let before = Ascends-needs m in
       let below = AtMost-needs m (rounded_need step m) (λ n lt. rounded-mono step pos n m (omega arith)) in
-      cond_both (ltb 0 (slice_index counts m)) _ _ (Ascends 0)
-      (λ e. Ascends-with_need 0 (rounded_need step m) _ before below (omega (arith, rounded-positive step pos m))) (λ e. before)
+      grind (arith, cond_both, Ascends-with_need, rounded-positive)
 
   pub places_ascend : (i j : ℕ) → i < j → j ≤ places counts step → need_at counts step i < need_at counts step j
   places_ascend i j lt le = Ascends-places 0 (distinct_needs counts step) i j (Ascends-needs (length counts)) lt le
@@ -158,13 +152,7 @@ pub place_is_class : (counts : List ℕ) (step i : ℕ) → IsStep step → leng
     → IsBlockSize (need_at counts step i) × (need_at counts step i % step ≡ 0)
 place_is_class counts step i is_step small pos le =
     let at = place_is_counted counts step i pos le in
-    let multiple = rounded-multiple step (step-positive step is_step) at.0 in (
-      (
-        omega (arith, at.2, rounded-positive step (step-positive step is_step) at.0),
-        omega (arith, at.2, rounded-small step at.0 is_step (omega (arith, at.1.0))),
-      ),
-      subst (λ (need : ℕ). need % step ≡ 0) at.2 multiple,
-    )
+    grind (arith, rounded-multiple, step-positive, rounded-positive, rounded-small)
 
 -- there are fewer places than classes
 need_at-large : (counts : List ℕ) (step i : ℕ) → 0 < step → suc i ≤ places counts step → suc (suc i) ≤ need_at counts step (suc i)

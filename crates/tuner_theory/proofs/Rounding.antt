@@ -1,7 +1,6 @@
 -- Needs, rounded up, against the classes that serve.
-use Rattle.std.proofs.Common.{◌≡◌, ℕ, ◌+◌, ◌-◌, ◌*◌, ◌/◌, ◌%◌, ◌<◌, ◌≤◌, ◌⊎◌, ◌||◌, arith, refl, inl, inr, subst, sym, eqb}
-use Rattle.std.proofs.lemmas.Bool.{or_cases, eqb-true}
-use Rattle.std.proofs.Math.Nat.{mul-le-mul_right, lt-mul-div-succ, div-lt_iff_lt-mul, div-add-mod, mul_comm, mul-mod_left}
+use Rattle.std.proofs.Common.{◌≡◌, ℕ, ◌+◌, ◌-◌, ◌*◌, ◌%◌, ◌<◌, ◌≤◌, arith, refl}
+use Rattle.std.proofs.Math.Nat.{lt-mul-div-succ}
 use Rattle.class_table.specs.Sizes.{largest_counted, need_of}
 use Rattle.tuner_theory.specs.Spans.{rounded_need}
 use Rattle.class_table.specs.Steps.{IsLeastMultiple, IsStep, round_up}
@@ -9,31 +8,9 @@ use Rattle.class_table.specs.declared.sizes.TheConstants.{LARGEST_CLASS, SMALLES
 
 -- ---- steps
 
-abbrev StepCase : ℕ → Type 0
-StepCase step = (step ≡ 1) ⊎ ((step ≡ 2) ⊎ ((step ≡ 4) ⊎ (step ≡ 8)))
-
-step-cases : (step : ℕ) → IsStep step → StepCase step
-step-cases step h =
-    elim (or_cases (eqb step 1 || eqb step 2 || eqb step 4) (eqb step 8) h) [
-      | inr e ↦ inr (inr (inr (eqb-true step 8 e)))
-      | inl h ↦ elim (or_cases (eqb step 1 || eqb step 2) (eqb step 4) h) [
-        | inr e ↦ inr (inr (inl (eqb-true step 4 e)))
-        | inl h ↦ elim (or_cases (eqb step 1) (eqb step 2) h) [
-          | inl e ↦ inl (eqb-true step 1 e)
-          | inr e ↦ inr (inl (eqb-true step 2 e))
-        ]
-      ]
-    ]
-
 -- what holds of each step
 at_each_step : (P : ℕ → Type 0) → P 1 → P 2 → P 4 → P 8 → (step : ℕ) → IsStep step → P step
-at_each_step P one two four eight step h =
-    elim (step-cases step h) [
-      | inl e ↦ subst P (sym e) one
-      | inr (inl e) ↦ subst P (sym e) two
-      | inr (inr (inl e)) ↦ subst P (sym e) four
-      | inr (inr (inr e)) ↦ subst P (sym e) eight
-    ]
+at_each_step P one two four eight step h = grind arith
 
 pub step-positive : (step : ℕ) → IsStep step → 0 < step
 step-positive = at_each_step (λ step. 0 < step) (omega arith) (omega arith) (omega arith) (omega arith)
@@ -48,18 +25,10 @@ round_up-above need step pos = omega (arith, lt-mul-div-succ (need + step - 1) p
 
 -- none of the multiples that are not below the need is below the rounded one
 round_up-least : (need step other : ℕ) → 0 < step → other % step ≡ 0 → need ≤ other → round_up need step ≤ other
-round_up-least need step other pos multiple le =
-    let whole : step * (other / step) ≡ other = omega (arith, div-add-mod other step) in
-    let below : need + step - 1 < (other / step + 1) * step = omega (arith, mul_comm step (other / step)) in
-    let fewer : (need + step - 1) / step ≤ other / step = omega (arith, (div-lt_iff_lt-mul pos).1 below) in
-    omega (arith, mul-le-mul_right step fewer, mul_comm step (other / step))
+round_up-least need step other pos multiple le = grind arith
 
 pub rounding_is_least : (step need : ℕ) → 0 < step → IsLeastMultiple step need (round_up need step)
-rounding_is_least step need pos = record {
-  multiple = mul-mod_left ((need + step - 1) / step) step;
-  above = round_up-above need step pos;
-  least = λ other multiple le. round_up-least need step other pos multiple le;
-}
+rounding_is_least step need pos = grind arith
 
 pub rounding_fits : (step need : ℕ) → IsStep step → need ≤ LARGEST_CLASS → round_up need step ≤ LARGEST_CLASS
 rounding_fits step need is_step le = round_up-least need step LARGEST_CLASS (step-positive step is_step) (largest-multiple step is_step) le
@@ -89,9 +58,7 @@ module _ (step : ℕ) (pos : 0 < step) where
   rounded-multiple n = (rounding_is_least step (need_of n) pos).multiple
 
   pub rounded-mono : (m n : ℕ) → m ≤ n → rounded_need step m ≤ rounded_need step n
-  rounded-mono m n le =
-      let later = rounding_is_least step (need_of n) pos in
-      round_up-least (need_of m) step (rounded_need step n) pos later.multiple (omega (arith, need-mono m n le, later.above))
+  rounded-mono m n le = grind (arith, rounding_is_least, round_up-least, need-mono)
 
   pub rounded-positive : (n : ℕ) → SMALLEST_CLASS ≤ rounded_need step n
   rounded-positive n = omega (arith, round_up-above (need_of n) step pos, need-positive n)

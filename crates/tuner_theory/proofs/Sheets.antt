@@ -1,5 +1,5 @@
 -- What meets all conditions has a best table, and the table of least rows meets them.
-use Rattle.std.proofs.Common.{◌≡◌, ℕ, ◌-◌, ◌<◌, List, [], length, slice_index, get_or, arith, refl, ap, sym, inl, inr}
+use Rattle.std.proofs.Common.{◌≡◌, ℕ, ◌<◌, List, arith, refl, sym}
 use Rattle.std.proofs.lemmas.Bool.{cases_lt}
 use Rattle.std.proofs.lemmas.List.{get_or_past}
 use Rattle.class_table.specs.Tables.{IsLegalTable}
@@ -21,11 +21,7 @@ use Rattle.tuner_theory.proofs.Tables.{waste-sum}
 
 -- past the rows' ends
 pub rows-end : (rows : List (List ℕ)) (limit d : ℕ) → HasShape rows limit d → (k : ℕ) → number_at rows k d ≡ 0
-rows-end rows limit d shape k =
-    elim (cases_lt (k - 1) (length rows)) [
-      | inl inside ↦ get_or_past (get_or rows (k - 1) []) d 0 (omega (arith, shape.row_lengths (k - 1) [] inside))
-      | inr past ↦ ap (λ (row : List ℕ). slice_index row d) (get_or_past rows (k - 1) [] past)
-    ]
+rows-end rows limit d shape k = grind (arith, cases_lt, get_or_past)
 
 -- By any cost of tables that is the sum of the intervals of their classes: what meets all conditions has a best table,
 pub optimal-best_by : (cost : List ℕ → ℕ) (between : ℕ → ℕ → ℕ → ℕ) (counts : List ℕ) (sheet : Sheet)

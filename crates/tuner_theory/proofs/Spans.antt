@@ -38,10 +38,7 @@ places_cross counts step a b c d is_step ab bc cd le =
     needs_cross counts step _ _ _ _ (up a b ab (omega arith)) (up b c bc (omega arith)) (up c d cd le)
 
 pub nothing_between : (counts : List ℕ) (step i : ℕ) → span_waste counts step i i ≡ 0
-nothing_between counts step i = sum_none _ (length counts) (λ n lt. none (rounded_need step n) (need_at counts step i) _)
-  where
-    none : (x y v : ℕ) → cond (ltb y x && leb x y) v 0 ≡ 0
-    none x y v = grind (arith, nat_tests)
+nothing_between counts step i = grind (arith, sum_none, nat_tests)
 
 -- ---- the waste by two sums
 
@@ -63,10 +60,7 @@ sums-at_one x low high k count n u le whole =
 solved : (w bytes_low bytes_high counted_low counted_high k : ℕ) → counted_low ≤ counted_high → bytes_low ≤ bytes_high
     → w + bytes_high + k * counted_low ≡ k * counted_high + bytes_low
     → (w ≡ k * (counted_high - counted_low) - (bytes_high - bytes_low)) × (bytes_high - bytes_low ≤ k * (counted_high - counted_low))
-solved w bytes_low bytes_high counted_low counted_high k counted bytes balance =
-    let apart : (counted_high - counted_low) + counted_low ≡ counted_high = omega arith in
-    let scaled : k * (counted_high - counted_low) + k * counted_low ≡ k * counted_high = omega (arith, ap (λ z. k * z) apart) in
-    (omega arith, omega arith)
+solved w bytes_low bytes_high counted_low counted_high k counted bytes balance = grind arith
 
 -- no subtraction in the computation by two sums goes below 0
 pub record HasNoUnderflow (high counted_low counted_high bytes_low bytes_high : ℕ) : Type 0 where
@@ -79,16 +73,12 @@ module _ (counts : List ℕ) (step : ℕ) (pos : 0 < step) (low high : ℕ) (le 
       ≡ 16 * (high - 1) * counted_up_to counts step high + bytes_up_to counts step low
   sums-balance =
       sum_balance _ _ _ _ _ (16 * (high - 1)) (length counts)
-      (λ n lt. sums-at_one (rounded_need step n) low high (16 * (high - 1)) (slice_index counts n) n _ le
-      (λ fits. omega (arith, rounded-fits step pos n high fits)))
+      (grind (arith, sums-at_one, rounded-fits))
 
   up_to-mono : (f : ℕ → ℕ)
       → sum_below (λ n. cond (leb (rounded_need step n) low) (f n) 0) (length counts) ≤ sum_below
       (λ n. cond (leb (rounded_need step n) high) (f n) 0) (length counts)
-  up_to-mono f = sum_at_most _ _ (length counts) (λ n lt. wider (rounded_need step n) (f n))
-    where
-      wider : (x v : ℕ) → cond (leb x low) v 0 ≤ cond (leb x high) v 0
-      wider x v = grind (arith, nat_tests)
+  up_to-mono f = grind (arith, sum_at_most, nat_tests)
 
   counted-mono : counted_up_to counts step low ≤ counted_up_to counts step high
   counted-mono = up_to-mono (slice_index counts)
@@ -118,9 +108,7 @@ count-small counts n are =
 -- a sum of the requests up to a need is not above so many times the largest of its terms
 up_to-bounded : (counts : List ℕ) (step high bound : ℕ) (f : ℕ → ℕ) → ((n : ℕ) → n < length counts → f n ≤ bound)
     → sum_below (λ n. cond (leb (rounded_need step n) high) (f n) 0) (length counts) ≤ length counts * bound
-up_to-bounded counts step high bound f each =
-    sum_bounded _ (length counts) bound
-    (λ n lt. cond_both (leb (rounded_need step n) high) _ _ (λ v. v ≤ bound) (λ e. each n lt) (λ e. omega arith))
+up_to-bounded counts step high bound f each = grind (arith, sum_bounded, cond_both)
 
 pub sums_fit : (counts : List ℕ) (step high : ℕ) → AreCounts counts
     → (counted_up_to counts step high < 2 ^ 44) × (bytes_up_to counts step high < 2 ^ 58)

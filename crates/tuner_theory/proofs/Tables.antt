@@ -1,7 +1,7 @@
 -- A table and its waste, class by class.
-use Rattle.std.proofs.Common.{◌≡◌, ℕ, ◌+◌, ◌-◌, ◌*◌, ◌%◌, ◌<◌, ◌≤◌, ◌&&◌, List, [], ◌∷◌, length, slice_index, cond, ltb, leb, Option, Some, unwrap_or, arith, refl, sym, subst, inl, inr}
+use Rattle.std.proofs.Common.{◌≡◌, ℕ, ◌+◌, ◌-◌, ◌*◌, ◌%◌, ◌<◌, ◌≤◌, ◌&&◌, List, [], ◌∷◌, length, cond, ltb, leb, Option, Some, unwrap_or, arith, sym, inl, inr}
 use Rattle.std.specs.Prelude.{IsSome}
-use Rattle.std.proofs.lemmas.Bool.{cases_lt, cond_both, cond-true, cond-false, le-leb, lt-leb, lt-ltb, false≢true}
+use Rattle.std.proofs.lemmas.Bool.{cases_lt, cond_both, cond-true, le-leb, lt-ltb, false≢true}
 use Rattle.std.proofs.lemmas.Bool.Decides.{nat_tests}
 use Rattle.std.proofs.Math.Nat.{mul-le-mul_right}
 use Rattle.class_table.specs.Sizes.{loss_of}
@@ -25,11 +25,7 @@ module _ (step : ℕ) (pos : 0 < step) (n c : ℕ) (cs : List ℕ) where
 
   -- and otherwise it has its class among the later ones
   pub class_for-later : 2 ≤ c → c % step ≡ 0 → c < rounded_need step n → class_for (c ∷ cs) n ≡ class_for cs n
-  class_for-later two multiple lt =
-      cond-false _ _ _ (elim (cases_lt (16 * c - 16) n) [
-        | inl over ↦ lt-leb n (16 * c - 16) over
-        | inr fits ↦ absurd (omega (arith, fits-rounded step pos n c two multiple fits))
-      ])
+  class_for-later two multiple lt = grind arith
 
 -- ---- the waste above a need
 
@@ -42,12 +38,7 @@ abbrev pub ServesAbove : List ℕ → ℕ → ℕ → List ℕ → Type 0
 ServesAbove counts step low classes = (n : ℕ) → IsCounted counts n → low < rounded_need step n → IsSome (class_for classes n)
 
 pub waste_above-none : (counts : List ℕ) (step low : ℕ) → waste_above counts step low [] ≡ 0
-waste_above-none counts step low =
-    sum_none _ (length counts)
-    (λ n lt. cond_both (ltb low (rounded_need step n)) _ _ (λ (v : ℕ). v ≡ 0) (λ e. none (slice_index counts n) n) (λ e. refl))
-  where
-    none : (k n : ℕ) → k * (16 * 0 - 16 - n) ≡ 0
-    none k n = let zero-loss : 16 * 0 - 16 - n ≡ 0 = omega arith in rw zero-loss (omega arith)
+waste_above-none counts step low = grind (arith, sum_none, cond_both)
 
 -- at one request, of need x: it is the first class's where its need is not above that class, and else the later ones'
 first-or-later : (x low c k n : ℕ) (rest : Option ℕ) → low < c → (x ≤ c → n ≤ 16 * c - 16) → (n ≤ 16 * c - 16 → x ≤ c)
@@ -66,14 +57,11 @@ module _ (counts : List ℕ) (step : ℕ) (pos : 0 < step) where
       → waste_above counts step low (c ∷ cs) ≡ waste_between counts step low c + waste_above counts step c cs
   waste_above-cons low c cs one lt multiple =
       sum_split _ _ _ (length counts)
-      (λ n within. first-or-later (rounded_need step n) low c (slice_index counts n) n (class_for cs n) lt
-      (rounded-fits step pos n c) (fits-rounded step pos n c (omega arith) multiple))
+      (grind (arith, first-or-later, rounded-fits, fits-rounded))
 
   pub ServesAbove-later : (low c : ℕ) (cs : List ℕ) → 1 ≤ low → low < c → c % step ≡ 0 → ServesAbove counts step low (c ∷ cs) →
       ServesAbove counts step c cs
-  ServesAbove-later low c cs one lt multiple served n counted above =
-      subst (λ (class : Option ℕ). IsSome class) (class_for-later step pos n c cs (omega arith) multiple above)
-      (served n counted (omega arith))
+  ServesAbove-later low c cs one lt multiple served n counted above = grind arith
 
   -- so a table wastes what its classes do, one after the other
   pub waste_above-costs : (low : ℕ) (classes : List ℕ) → 1 ≤ low → AreClassesAbove step low classes
@@ -105,13 +93,7 @@ cost-at_one x a b low high u v bh has uv = grind (arith, nat_tests)
 
 pub waste-cost : (counts : List ℕ) (step : ℕ) → IsIntervalCost counts step (waste_between counts step)
 waste-cost counts step a b low high bh has =
-    sum_at_most _ _ (length counts) (λ n lt.
-    elim (cases_lt 0 (slice_index counts n)) [
-      | inl some ↦ cost-at_one (rounded_need step n) a b low high _ _ bh (has n (lt, some)) (loss-mono (slice_index counts n) n b high bh)
-      | inr none ↦ cond_both (ltb a (rounded_need step n) && leb (rounded_need step n) b) _ _
-          (λ v. v ≤ cond (ltb low (rounded_need step n) && leb (rounded_need step n) high) (slice_index counts n * loss_of n high) 0)
-          (λ e. omega (arith, mul-le-mul_right (loss_of n b) none)) (λ e. omega arith)
-    ])
+    sum_at_most _ _ (length counts) (grind (arith, cases_lt, cost-at_one, loss-mono, cond_both, mul-le-mul_right))
 
 pub waste-sum : (counts : List ℕ) (step : ℕ) → 0 < step → IsSumOfIntervals (waste_of counts) (waste_between counts step) counts step
 waste-sum counts step pos = record {
