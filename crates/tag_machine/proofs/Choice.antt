@@ -99,15 +99,10 @@ module _ (tag exclude mask : ℕ) (mask_below : mask < 2 ^ 16)
   as_many = ap length places ∙ length-map (set_bits mask) (λ k. (tag + (1 + k)) % 16) ∙ length-set_bits mask mask_below
 
   entry : (i : ℕ) → i < ones mask → slice_index (allowed_after tag exclude) i ≡ (tag + (1 + slice_index (set_bits mask) i)) % 16
-  entry i h =
-      ap (λ ts. slice_index ts i) places
-      ∙ get_or-map (λ k. (tag + (1 + k)) % 16) (set_bits mask) i 0 0 (omega (arith, length-set_bits mask mask_below))
+  entry i h = grind (arith, get_or-map, length-set_bits)
 
   pub mask_some : mask ≢ 0 → 0 < ones mask
-  mask_some other = elim (cases_eq (ones mask) 0) [
-    | inl none ↦ absurd (other (zero_from_ones mask none))
-    | inr some ↦ omega arith
-  ]
+  mask_some other = grind (arith, cases_eq, zero_from_ones)
 
   pub chosen_none : (offset : ℕ) → mask ≡ 0 → choose_tag tag offset exclude ≡ 0
   unfolding choose_tag ones ones_in

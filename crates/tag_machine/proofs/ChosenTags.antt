@@ -1,5 +1,5 @@
 -- The table of chosen tags.
-use Rattle.std.proofs.Common.{◌≡◌, ℕ, ◌*◌, ◌/◌, ◌%◌, ◌^◌, ◌<◌, List, [], map, get_or, refl, sym, ap, ◌∙◌, subst, zero-add}
+use Rattle.std.proofs.Common.{◌≡◌, ℕ, ◌*◌, ◌/◌, ◌%◌, ◌^◌, ◌<◌, List, [], map, get_or, refl, sym, ap, ◌∙◌, zero-add, arith}
 use Rattle.std.specs.Prelude.{bit_or}
 use Rattle.std.specs.List.{range_with_len}
 use Rattle.std.proofs.lemmas.List.FromFn.{get_or-map-range_with_len}
@@ -33,7 +33,4 @@ at_place k offset small less =
 
 pub chosen_at : (k row tag offset : ℕ) → k / 16 ≡ row → k % 16 ≡ tag → k < 512 → offset < 16 →
     get_or (get_or CHOSEN row []) tag 0 / 2 ^ (4 * offset) % 16 ≡ choose_tag tag offset (bit_or (row_mask row) 1)
-chosen_at k row tag offset row_is tag_is small less =
-    subst (λ r. get_or (get_or CHOSEN r []) tag 0 / 2 ^ (4 * offset) % 16 ≡ choose_tag tag offset (bit_or (row_mask r) 1)) row_is
-    (subst (λ t. get_or (get_or CHOSEN (k / 16) []) t 0 / 2 ^ (4 * offset) % 16 ≡ choose_tag t offset (bit_or (row_mask (k / 16)) 1)) tag_is
-    (at_place k offset small less))
+chosen_at k row tag offset row_is tag_is small less = grind (arith, at_place)

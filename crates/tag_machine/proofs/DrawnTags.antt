@@ -1,5 +1,5 @@
 -- The four new bits of a draw, taken at once.
-use Rattle.std.proofs.Common.{◌≡◌, ℕ, ◌+◌, ◌*◌, ◌/◌, ◌%◌, ◌^◌, sym, ap, ◌∙◌, arith, pow-add}
+use Rattle.std.proofs.Common.{◌≡◌, ℕ, ◌+◌, ◌*◌, ◌/◌, ◌%◌, ◌^◌, ap, ◌∙◌, arith, pow-add}
 use Rattle.std.specs.Int.{bit_at}
 use Rattle.std.specs.Int.Bits.{bit_and, bit_xor}
 use Rattle.std.proofs.Math.Nat.{div-div-eq-div-mul}
@@ -9,9 +9,7 @@ use Rattle.machine_theory.specs.Seed.{next_bit, next_offset}
 
 -- a number shifted to the right
 pub bit_at_shr : (n k i : ℕ) → bit_at (n / 2 ^ k) i ≡ bit_at n (i + k)
-bit_at_shr n k i =
-    let more : k + i ≡ i + k = omega arith in
-    ap (λ m. m % 2) (div-div-eq-div-mul n (2 ^ k) (2 ^ i) ∙ ap (λ p. n / p) (sym (pow-add 2 k i)) ∙ ap (λ j. n / 2 ^ j) more)
+bit_at_shr n k i = grind (arith, div-div-eq-div-mul, pow-add)
 
 mixed : ℕ → ℕ
 mixed seed = bit_xor (bit_xor (bit_xor seed (seed / 4)) (seed / 8)) (seed / 32)

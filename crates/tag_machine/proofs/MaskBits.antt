@@ -38,17 +38,11 @@ by_lowest_bit P even odd n = elim (cases_eq (n % 2) 0) [
 
 places_odd : (w k half : ℕ) → places (suc w) k (half * 2 + 1) ≡ k ∷ places w (k + 1) half
 unfolding places
-places_odd w k half =
-    let odd : (half * 2 + 1) % 2 ≡ 1 = omega arith in
-    let halved : (half * 2 + 1) / 2 ≡ half = omega arith in
-    (λ i. cond (odd i == 1) (k ∷ places w (k + 1) (halved i)) (places w (k + 1) (halved i)))
+places_odd w k half = grind (arith, places)
 
 places_even : (w k half : ℕ) → places (suc w) k (half * 2 + 0) ≡ places w (k + 1) half
 unfolding places
-places_even w k half =
-    let even : (half * 2 + 0) % 2 ≡ 0 = omega arith in
-    let halved : (half * 2 + 0) / 2 ≡ half = omega arith in
-    (λ i. cond (even i == 1) (k ∷ places w (k + 1) (halved i)) (places w (k + 1) (halved i)))
+places_even w k half = grind (arith, places)
 
 -- there are as many as `count_ones` says
 length-places : (w k n : ℕ) → n < 2 ^ w → length (places w k n) ≡ ones n
@@ -149,6 +143,4 @@ set_bits_of_bytes n small =
     ∙ (let lower = sym low in let upper = sym high in λ i. lower i ++ map (λ p. p + 8) (upper i))
 
 pub byte_place_below : (byte i : ℕ) → byte < 256 → i < length (set_bits byte) → get_or (set_bits byte) i 0 < 8
-byte_place_below byte i small less =
-    let is : set_bits byte ≡ places 8 0 byte = of_byte byte small ∙ append-nil _ in
-    subst (λ xs. get_or xs i 0 < 8) (sym is) (places_below 8 0 byte i (subst (λ xs. i < length xs) is less))
+byte_place_below byte i small less = grind (arith, places, of_byte, append-nil, places_below)
