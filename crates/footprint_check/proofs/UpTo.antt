@@ -1,5 +1,5 @@
 -- Sums of a snapshot up to a need, by the sizes that a class serves.
-use Rattle.std.proofs.Common.{◌≡◌, ℕ, zero, suc, ◌+◌, ◌-◌, ◌*◌, ◌%◌, ◌<◌, ◌≤◌, ◌⊎◌, ◌++◌, List, [], ◌∷◌, length, length-append, slice_index, slice_index_or, arith, ap, ◌∙◌, inl, inr}
+use Rattle.std.proofs.Common.{◌≡◌, ℕ, zero, suc, ◌+◌, ◌-◌, ◌*◌, ◌%◌, ◌<◌, ◌≤◌, ◌⊎◌, ◌++◌, List, [], ◌∷◌, length, length-append, slice_index, slice_index_or, arith, ap}
 use Rattle.std.specs.Prelude.{Vec}
 use Rattle.std.specs.declared.alloc.Global.{Global}
 use Rattle.std.proofs.lemmas.Bool.{cases_lt, cond-true, cond-false, le-leb, lt-leb}
@@ -18,19 +18,8 @@ use Rattle.tuner_theory.proofs.Sums.{sum_below-more, sum_below-none, sum_bounded
 
 sum-cut : (f g : ℕ → ℕ) (len m : ℕ) → m ≤ len → ((n : ℕ) → n < m → f n ≡ g n) → ((n : ℕ) → m ≤ n → n < len → f n ≡ 0)
     → sum_below f len ≡ sum_below g m
-sum-cut f g zero m le same none = let nothing : m ≡ 0 = omega arith in
-    omega (arith, sum_below-none f, sum_below-none g, ap (sum_below g) nothing)
-sum-cut f g (suc len) m le same none =
-    elim (cases_lt len m) [
-      | inl all ↦ (let whole : suc len ≡ m = omega arith in
-          sum_same f g (suc len) (λ n lt. same n (omega arith)) ∙ ap (sum_below g) whole)
-      | inr more ↦ omega (
-        arith,
-        sum_below-more f len,
-        none len more (omega arith),
-        sum-cut f g len m more same (λ n from lt. none n from (omega arith)),
-      )
-    ]
+sum-cut f g zero m le same none = grind (arith, sum_below-none)
+sum-cut f g (suc len) m le same none = grind (arith, sum_below-more, sum_same f g (suc len), sum-cut f g len m)
 
 -- a class, or none
 abbrev pub IsClassOrNone : ℕ → ℕ → Type 0
