@@ -1,10 +1,9 @@
 -- A reading of which no `large` line was read: nothing is counted from the next size on.
-use Rattle.std.proofs.Common.{◌≡◌, ◌≢◌, ℕ, ◌+◌, ◌≤◌, List, get_or, set, refl, ◌∙◌, arith}
+use Rattle.std.proofs.Common.{◌≡◌, ◌≢◌, ℕ, ◌≤◌, List, get_or, set, ◌∙◌, arith}
 use Rattle.std.proofs.lemmas.List.{get_or-set_other, length-set}
 use Rattle.std.proofs.lemmas.List.Elements.{All-set}
-use Rattle.class_table.specs.Sizes.{largest_counted}
 use Rattle.tuner_theory.specs.Profiles.{AreCounts, greatest_count}
-use Rattle.profile_count.specs.Counts.{nothing_counted, zeros}
+use Rattle.profile_count.specs.Counts.{nothing_counted}
 use Rattle.profile_count.specs.ProfileText.{Reading, IsNext, with_entry}
 use Rattle.profile_count.specs.declared.entry.Entry.TheVariants.{Size}
 use Rattle.profile_count.proofs.Zeros.{zeros_are_counts, each_is_zero}
@@ -19,11 +18,7 @@ abbrev pub nothing_read : Reading
 nothing_read = record { profile = nothing_counted; next = 0 }
 
 pub is_open-nothing_read : IsOpen nothing_read
-is_open-nothing_read = record {
-  counts = zeros_are_counts (zeros (largest_counted + 1)) refl;
-  large = refl;
-  none = λ k from. each_is_zero (largest_counted + 1) k;
-}
+is_open-nothing_read = grind (arith, zeros_are_counts, each_is_zero)
 
 -- where one count is set, the others stay
 pub other_count : (counts : List ℕ) (size count k : ℕ) → k ≢ size → get_or (set counts size count) k 0 ≡ get_or counts k 0

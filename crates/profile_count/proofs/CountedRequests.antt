@@ -1,5 +1,5 @@
 -- The profile of requests, and one request more.
-use Rattle.std.proofs.Common.{◌≡◌, ◌≢◌, ℕ, ◌+◌, ◌<◌, ◌≤◌, Bool, true, false, List, [], ◌∷◌, ◌++◌, length, get_or, set, cond, eqb, leb, ltb, refl, sym, ap, ◌∙◌, arith, inl, inr, ne_eqb, append_assoc, append-nil}
+use Rattle.std.proofs.Common.{◌≡◌, ◌≢◌, ℕ, ◌+◌, ◌<◌, ◌≤◌, List, [], ◌∷◌, ◌++◌, length, get_or, set, cond, eqb, ltb, refl, sym, ap, ◌∙◌, arith, inl, inr, ne_eqb, append_assoc, append-nil}
 use Rattle.std.proofs.lemmas.Bool.{cases_eq, eq-eqb, leb-true, leb-false, le-ltb, lt-ltb}
 use Rattle.std.proofs.lemmas.List.{get_or-set_same, get_or-set_other, length-set}
 use Rattle.std.proofs.lemmas.List.FromFn.{fill_by_all, get_or-map-range_with_len, length-map-range_with_len}
@@ -69,17 +69,7 @@ same_parts a b c d counts large = rw (counts, large) refl
 -- One request more gives the profile of all of them.
 pub one_more_is_counted : (sizes : List ℕ) (n : ℕ) →
     with_one_more (profile_of_sizes sizes) n ≡ profile_of_sizes (sizes ++ n ∷ [])
-one_more_is_counted sizes n = go (leb n largest_counted) refl
-  where
-    go : (b : Bool) → leb n largest_counted ≡ b → with_one_more (profile_of_sizes sizes) n ≡ profile_of_sizes (sizes ++ n ∷ [])
-    go true e =
-        let small : n ≤ largest_counted = leb-true n largest_counted e in
-        let raised = requests_below-raised (largest_counted + 1) sizes n (omega arith) in
-        rw e (same_parts _ _ _ _ raised (sym (large_requests-same sizes n small)))
-    go false e =
-        let large : largest_counted < n = leb-false n largest_counted e in
-        let same = requests_below-same (largest_counted + 1) sizes n (omega arith) in
-        rw e (same_parts _ _ _ _ same (sym (large_requests-more sizes n large)))
+one_more_is_counted sizes n = grind (arith, leb-true, requests_below-raised, same_parts, large_requests-same, leb-false, requests_below-same, large_requests-more)
 
 -- ---- all requests, one by one
 
@@ -104,20 +94,8 @@ added_requests_are_counted sizes = ap (λ p. with_more p sizes) nothing_counted-
 
 -- `profile_counts_requests`: for each size the number of its requests, and the number of the large ones
 pub profile_counts_requests : (sizes : List ℕ) → CountsRequests (profile_of_sizes sizes) sizes
-profile_counts_requests sizes = record {
-  size_count = length-requests_below (largest_counted + 1) sizes;
-  each = λ n small. get_or-requests_below (largest_counted + 1) sizes n (omega arith);
-  large = refl;
-}
+profile_counts_requests sizes = grind (arith, length-requests_below, get_or-requests_below)
 
 -- No count is above the number of all requests.
 pub counts_are_few : (sizes : List ℕ) (n : ℕ) → count_for (profile_of_sizes sizes) n ≤ length sizes
-counts_are_few sizes n = go (leb n largest_counted) refl
-  where
-    go : (b : Bool) → leb n largest_counted ≡ b → count_for (profile_of_sizes sizes) n ≤ length sizes
-    go true e =
-        let small : n ≤ largest_counted = leb-true n largest_counted e in
-        let is : get_or (requests_below (largest_counted + 1) sizes) n 0 ≡ requests_of sizes n =
-        get_or-requests_below (largest_counted + 1) sizes n (omega arith) in
-        rw (e, is) (count_by-le-length (λ size. eqb size n) sizes)
-    go false e = rw e (count_by-le-length (λ size. ltb largest_counted size) sizes)
+counts_are_few sizes n = grind (arith, leb-true, get_or-requests_below, count_by-le-length)

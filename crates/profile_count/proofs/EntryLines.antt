@@ -1,11 +1,10 @@
 -- The line of an entry: the entry is read from it, and from no other line.
-use Rattle.std.proofs.Common.{◌≡◌, ℕ, ◌≤◌, ◌<◌, ◌^◌, Bool, true, false, List, [], ◌∷◌, length, Option, Some, None, Ok, refl, sym, ap, ◌∙◌, arith, codes, ltb, leb, length-append}
+use Rattle.std.proofs.Common.{◌≡◌, ℕ, ◌≤◌, ◌<◌, Bool, true, false, List, [], ◌∷◌, length, Option, Some, None, Ok, refl, sym, ap, ◌∙◌, arith, codes, ltb, length-append}
 use Rattle.std.specs.Fmt.{decimal}
 use Rattle.std.specs.Str.{bytes_eq}
-use Rattle.std.proofs.lemmas.Bool.{le-ltb, ltb-false, le-leb, leb-true, false_from_ne_true}
+use Rattle.std.proofs.lemmas.Bool.{le-ltb, ltb-false, le-leb, false_from_ne_true}
 use Rattle.std.proofs.lemmas.List.Elements.{All-nil, All-cons}
 use Rattle.std.proofs.lemmas.Slice.Eq.{bytes_eq-Decides}
-use Rattle.class_table.specs.Sizes.{largest_counted}
 use Rattle.line_text.specs.Lines.{words, line_of, IsLine, IsWord}
 use Rattle.line_text.specs.Numbers.{number_of}
 use Rattle.tuner_theory.specs.Profiles.{greatest_count}
@@ -30,28 +29,11 @@ large_is_no_number = refl
 
 -- a word that spells a number is not `large`
 pub number_is_not_large : (word : List ℕ) (n : ℕ) → number_of word ≡ Some n → bytes_eq word (codes "large") ≡ false
-number_is_not_large word n is = false_from_ne_true _ (λ same.
-    let large : word ≡ codes "large" = (bytes_eq-Decides word (codes "large")).0 same in
-    let some : None ≡ Some n = sym large_is_no_number ∙ ap number_of (sym large) ∙ is in
-    cc)
+number_is_not_large word n is = grind (arith, false_from_ne_true, bytes_eq-Decides, large_is_no_number)
 
 -- an entry is read from its words
 entry_of-words : (next : ℕ) (entry : Entry) → IsNext next 0 entry → entry_of next 0 (entry_words entry) ≡ Ok entry
-entry_of-words next (Size size count) is =
-    let small : size < 2 ^ 64 = omega (arith, is.2) in
-    let small_count : count < 2 ^ 64 = omega (arith, is.4) in
-    rw (
-      number_is_not_large (decimal size) size (laws.read size small),
-      laws.read size small,
-      laws.read count small_count,
-      le-ltb largest_counted size is.2,
-      le-ltb size next is.1,
-      le-leb 1 count is.3,
-      le-leb count greatest_count is.4,
-    ) refl
-entry_of-words next (Large count) is =
-    let small : count < 2 ^ 64 = omega (arith, is.2) in
-    rw (laws.read count small, le-leb 1 count is.1, le-leb count greatest_count is.2) refl
+entry_of-words next entry is = grind (arith, number_is_not_large, laws, le-ltb, le-leb)
 
 large_is_a_name : IsName (codes "large")
 large_is_a_name = plain_name (codes "large") refl (omega arith)
@@ -96,31 +78,13 @@ record IsRead (next : ℕ) (first second : List ℕ) (entry : Entry) : Type 0 wh
 -- a count that is taken is in range
 counted_parts : (entry : ℕ → Entry) (count : ℕ) (read : Entry) → counted entry count ≡ Ok read →
     (entry count ≡ read) × (1 ≤ count) × (count ≤ greatest_count)
-counted_parts entry count read e = go (leb 1 count) refl (leb count greatest_count) refl
-  where
-    go : (some : Bool) → leb 1 count ≡ some → (few : Bool) → leb count greatest_count ≡ few →
-        (entry count ≡ read) × (1 ≤ count) × (count ≤ greatest_count)
-    go false f few g = let none = rw f at e in absurd cc
-    go true f false g = let none = rw (f, g) at e in absurd cc
-    go true f true g =
-        let is : entry count ≡ read = (let h = rw (f, g) at e in cc) in
-        (is, leb-true 1 count f, leb-true count greatest_count g)
+counted_parts entry count read e = grind arith
 
 -- two numbers in range
 size_read : (next : ℕ) (first second : List ℕ) (size count : ℕ) (entry : Entry) → number_of first ≡ Some size →
     number_of second ≡ Some count
     → size_entry next size count ≡ Ok entry → IsRead next first second entry
-size_read next first second size count entry is_size is_count e = go (ltb largest_counted size) refl (ltb size next) refl
-  where
-    go : (large : Bool) → ltb largest_counted size ≡ large → (low : Bool) → ltb size next ≡ low → IsRead next first second entry
-    go true f low g = let none = rw f at e in absurd cc
-    go false f true g = let none = rw (f, g) at e in absurd cc
-    go false f false g =
-        let parts = counted_parts (Size size) count entry (rw (f, g) at e) in
-        let within : size ≤ largest_counted = ltb-false largest_counted size f in
-        let word : first ≡ decimal size = laws.spelled first size (omega (arith, within)) is_size in
-        let count_word : second ≡ decimal count = laws.spelled second count (omega (arith, parts.2)) is_count in
-        rw (← parts.0) (record { may_come = (refl, ltb-false size next g, within, parts.1, parts.2); spelled = cc })
+size_read next first second size count entry is_size is_count e = grind (arith, counted_parts, ltb-false, laws)
 
 -- two numbers, where they are
 numbers_read : (next : ℕ) (first second : List ℕ) (o p : Option ℕ) (entry : Entry) → number_of first ≡ o → number_of second ≡ p
@@ -133,11 +97,7 @@ numbers_read next first second (Some size) (Some count) entry is_size is_count e
 -- the word `large` and a number
 large_read : (next : ℕ) (first second : List ℕ) (o : Option ℕ) (entry : Entry) → first ≡ codes "large" → number_of second ≡ o
     → large_entry o ≡ Ok entry → IsRead next first second entry
-large_read next first second None entry is_name is_count e = absurd cc
-large_read next first second (Some count) entry is_name is_count e =
-    let parts = counted_parts Large count entry e in
-    let count_word : second ≡ decimal count = laws.spelled second count (omega (arith, parts.2)) is_count in
-    rw (← parts.0) (record { may_come = (refl, parts.1, parts.2); spelled = cc })
+large_read next first second o entry is also too = grind (arith, counted_parts, laws)
 
 -- two words of either kind
 two_words_read : (next large : ℕ) (first second : List ℕ) (entry : Entry) → entry_of next large (first ∷ second ∷ []) ≡ Ok entry

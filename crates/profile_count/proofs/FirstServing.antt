@@ -13,11 +13,7 @@ use Rattle.class_table.specs.Tables.{IsLegalTable, class_for}
 -- a place that the walk has come to, whose class serves n, is the first such
 pub reached : (n i : ℕ) (classes : List ℕ) → i ≤ position_or_len (serves n) classes → i < length classes →
     serves n (get_or classes i 0) ≡ true → position_or_len (serves n) classes ≡ i
-reached n i classes before within serving =
-    elim (cases_lt i (position_or_len (serves n) classes)) [
-      | inl earlier ↦ absurd (both_ways _ (not_from_true _ serving) (prefix_len_passes (λ class. not (serves n class)) classes i 0 earlier))
-      | inr there ↦ omega arith
-    ]
+reached n i classes before within serving = grind (arith, cases_lt, both_ways, not_from_true, prefix_len_passes)
 
 -- past a class that doesn't serve n the walk goes on
 pub passed : (n i : ℕ) (classes : List ℕ) → i ≤ position_or_len (serves n) classes → i < length classes →
@@ -58,11 +54,7 @@ no_class n number classes e past = class_there n number classes e ∙ slice_get_
 
 pub serving_there : (n number : ℕ) (classes : List ℕ) → number ≡ position_or_len (serves n) classes → number < length classes →
     serves n (get_or classes number 0) ≡ true
-serving_there n number classes e within =
-    elim (cases_Bool (serves n (get_or classes number 0))) [
-      | inl serving ↦ serving
-      | inr other ↦ let more = passed n number classes (omega arith) within other in absurd (omega arith)
-    ]
+serving_there n number classes e within = grind (arith, cases_Bool, passed)
 
 -- a class that serves n there is
 pub some_class : (n i : ℕ) (classes : List ℕ) → i < length classes → serves n (get_or classes i 0) ≡ true → IsSome (class_for classes n)
@@ -92,19 +84,13 @@ pub record IsClassAt (classes : List ℕ) (number class : ℕ) : Type 0 where
   pub wide : 2 ≤ class
 
 pub class_at : (classes : List ℕ) (number class : ℕ) → slice_get classes number ≡ Some class → 2 ≤ class → IsClassAt classes number class
-class_at classes number class is wide = record {
-  within = slice_get_within classes number class is;
-  is = get_or_from_slice_get classes number class 0 is;
-  wide = wide;
-}
+class_at classes number class is wide = grind (arith, slice_get_within, get_or_from_slice_get)
 
 -- the next class is the first that can serve what neither this one nor one before it serves
 pub next_ready : (from next number class : ℕ) (classes : List ℕ) → IsClassAt classes number class
     → number ≤ position_or_len (serves from) classes → from ≤ next → 16 * class - 15 ≤ next
     → number + 1 ≤ position_or_len (serves next) classes
-next_ready from next number class classes at ready later past =
-    passed next number classes (omega (arith, ready, position-mono from next classes later)) at.within
-    (ap (serves next) at.is ∙ from_end next class at.wide past)
+next_ready from next number class classes at ready later past = grind (arith, passed, position-mono, from_end)
 
 -- it serves all sizes before its end,
 pub next_served : (n number class : ℕ) (classes : List ℕ) → IsClassAt classes number class → n < 16 * class - 15

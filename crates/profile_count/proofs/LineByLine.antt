@@ -1,5 +1,5 @@
 -- Reading a profile line by line.
-use Rattle.std.proofs.Common.{◌≡◌, ℕ, ◌+◌, List, [], ◌∷◌, Option, Some, None, Result, Ok, Err, drop, slice_get, refl, sym, ap, add-one}
+use Rattle.std.proofs.Common.{◌≡◌, ℕ, ◌+◌, List, [], ◌∷◌, Option, Some, None, Result, Ok, Err, drop, slice_get, refl, add-one, arith}
 use Rattle.std.specs.Option.{option_map}
 use Rattle.line_text.specs.Lines.{words}
 use Rattle.profile_count.specs.ProfileText.{Reading, entry_of, with_entry, profile_from}
@@ -28,9 +28,7 @@ IsFirst r ls read = read ≡ option_map (λ line. entry_of r.next r.profile.larg
 
 pub entry_read : (number : ℕ) (r : Reading) (ls new : List (List ℕ)) (entry : Entry) → IsFirst r ls (Some (Ok entry)) → new ≡ drop 1 ls
     → profile_from number r ls ≡ profile_from (number + 1) (with_entry r entry) new
-entry_read number r [] new entry first rest = absurd cc
-entry_read number r (line ∷ ls) new entry first rest =
-    line_read number r (line ∷ ls) new line entry (ap (λ (t : List (List ℕ)). line ∷ t) (sym rest)) cc
+entry_read number r ls new entry is also = grind (arith, line_read)
 
 pub entry_faulty : (number : ℕ) (r : Reading) (ls : List (List ℕ)) (fault : ProfileFault) → IsFirst r ls (Some (Err fault)) →
     profile_from number r ls ≡ Err (number, fault)

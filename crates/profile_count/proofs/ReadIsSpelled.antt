@@ -1,5 +1,5 @@
 -- From a text that is read as a profile to its spelling: line by line, the rest spells what is counted from there on.
-use Rattle.std.proofs.Common.{◌≡◌, ℕ, suc, ◌+◌, ◌<◌, List, [], ◌∷◌, ◌++◌, length, get_or, drop, Result, Ok, Err, refl, subst, ◌∙◌, arith, ne_eqb}
+use Rattle.std.proofs.Common.{◌≡◌, ℕ, suc, ◌<◌, List, [], ◌∷◌, ◌++◌, length, get_or, drop, Result, Ok, Err, refl, subst, ◌∙◌, arith, ne_eqb}
 use Rattle.std.proofs.Math.Seq.{drop-cons}
 use Rattle.std.proofs.lemmas.List.{get_or-drop, get_or-set_same}
 use Rattle.line_text.specs.Lines.{lines, words, IsTextOf}
@@ -25,28 +25,16 @@ record SpellsRest (reading : Reading) (ls : List (List ℕ)) (p : Profile) : Typ
 
 -- from the next size on nothing is counted
 no_size_lines : (reading : Reading) → IsOpen reading → size_lines_from reading.profile.counts reading.next ≡ []
-no_size_lines reading is_open =
-    size_lines-none reading.next (drop reading.next reading.profile.counts)
-    (λ k. get_or-drop reading.next reading.profile.counts k 0 ∙ is_open.none (reading.next + k) (omega arith))
+no_size_lines reading is_open = grind (arith, size_lines-none, get_or-drop)
 
 -- no line more spells what was read
 spells_rest-nil : (reading : Reading) → IsOpen reading → SpellsRest reading [] reading.profile
-spells_rest-nil reading is_open =
-    record {
-      profile = record { counts = is_open.counts; large = omega (arith, is_open.large) };
-      kept = λ k below. refl;
-      spelled = rw (no_size_lines reading is_open, is_open.large) refl;
-    }
+spells_rest-nil reading is_open = grind (arith, no_size_lines)
 
 -- a `large` line alone spells its count
 spells_rest-large : (reading : Reading) (count : ℕ) → IsOpen reading → IsNext reading.next 0 (Large count) →
     SpellsRest reading (entry_line (Large count) ∷ []) (with_large reading.profile count)
-spells_rest-large reading count is_open next =
-    record {
-      profile = record { counts = is_open.counts; large = next.2 };
-      kept = λ k below. refl;
-      spelled = rw (no_size_lines reading is_open, ne_eqb count 0 (λ none. omega (arith, next.1))) refl;
-    }
+spells_rest-large reading count is_open next = grind (arith, no_size_lines, ne_eqb)
 
 -- the line of a size spells its count, and that the sizes before it are not counted
 spells_rest-size : (reading : Reading) (size count : ℕ) (ls : List (List ℕ)) (p : Profile) → IsOpen reading →

@@ -2,7 +2,7 @@
 use Rattle.std.proofs.Common.{◌≡◌, ◌↔◌, ℕ, zero, suc, ◌+◌, ◌*◌, ◌<◌, ◌≤◌, Bool, true, false, List, [], ◌∷◌, length, get_or, cond, not, eqb, leb, ltb, Option, Some, None, refl, sym, ap, ◌∙◌, arith, inl, inr, ne_eqb}
 use Rattle.std.specs.Prelude.{All, IsSome, filter, sum_by, unwrap_or}
 use Rattle.std.specs.Option.{option_map_or}
-use Rattle.std.proofs.lemmas.Bool.{cases_eq, cases_lt, eq-eqb, leb-true, le-leb, le-ltb, lt-leb, lt-ltb, ltb-true, ltb-false}
+use Rattle.std.proofs.lemmas.Bool.{cases_eq, cases_lt, eq-eqb, leb-true, le-leb, ltb-true, ltb-false}
 use Rattle.std.proofs.lemmas.List.Elements.{All-from_get_or, All-head, All-tail, filter_agree, filter_passes}
 use Rattle.std.proofs.lemmas.List.Filters.{sum_by-filter_both}
 use Rattle.std.proofs.lemmas.List.Sums.{get_or-le-sum_by, sum_by-cons}
@@ -64,10 +64,7 @@ loss_in n None = omega arith
 loss_in n (Some class) = refl
 
 ltb-suc : (n k : ℕ) → ltb n (k + 1) ≡ leb n k
-ltb-suc n k = elim (cases_lt n (k + 1)) [
-  | inl below ↦ lt-ltb n (k + 1) below ∙ sym (le-leb n k (omega arith))
-  | inr past ↦ le-ltb n (k + 1) past ∙ sym (lt-leb n k (omega arith))
-]
+ltb-suc n k = grind arith
 
 waste_of-requests_below : (top : ℕ) (sizes classes : List ℕ)
     → waste_of (requests_below (top + 1) sizes) classes ≡ sum_by (loss_of_size classes) (filter (λ n. leb n top) sizes)

@@ -50,12 +50,7 @@ text_from counts size = text_of (size_lines_from counts size)
 -- a size that is counted has a line in front of the others,
 pub text_from-counted : (counts : List ℕ) (size : ℕ) → size < length counts → 0 < get_or counts size 0
     → text_from counts size ≡ ended (size_line size (get_or counts size 0)) ++ text_from counts (size + 1)
-text_from-counted counts size within some =
-    rw (
-      drop-cons counts size 0 within,
-      size_lines-counted size (get_or counts size 0) (drop (suc size) counts) (λ none. omega arith),
-      add-one,
-    ) refl
+text_from-counted counts size within some = grind (arith, drop-cons, size_lines-counted, add-one)
 
 -- one that is not has none,
 pub text_from-zero : (counts : List ℕ) (size : ℕ) → size < length counts → get_or counts size 0 ≡ 0 →

@@ -1,8 +1,7 @@
 -- From the spelling of a profile to the profile that is read: size by size, the counts so far are the profile's.
-use Rattle.std.proofs.Common.{◌≡◌, ℕ, zero, suc, ◌+◌, ◌<◌, ◌≤◌, List, [], ◌∷◌, ◌++◌, length, get_or, set, drop, Ok, refl, sym, ap, ◌∙◌, arith, inl, inr, ne_eqb, length-drop}
+use Rattle.std.proofs.Common.{◌≡◌, ℕ, zero, suc, ◌+◌, ◌<◌, ◌≤◌, List, [], ◌∷◌, ◌++◌, length, get_or, set, drop, Ok, refl, sym, ap, ◌∙◌, arith, ne_eqb, length-drop}
 use Rattle.std.specs.Prelude.{All}
 use Rattle.std.proofs.Math.Seq.{drop-cons}
-use Rattle.std.proofs.lemmas.Bool.{cases_eq}
 use Rattle.std.proofs.lemmas.Grind.{same_number_lists}
 use Rattle.std.proofs.lemmas.List.{get_or-set_same}
 use Rattle.std.proofs.lemmas.List.Elements.{All-nil, All-cons, All-head, All-tail, All-append}
@@ -24,10 +23,7 @@ AgreeBelow xs ys n = (k : ℕ) → k < n → get_or xs k 0 ≡ get_or ys k 0
 
 -- one place more
 one_more : (xs ys : List ℕ) (n : ℕ) → AgreeBelow xs ys n → get_or xs n 0 ≡ get_or ys n 0 → AgreeBelow xs ys (suc n)
-one_more xs ys n below here k within = elim (cases_eq k n) [
-  | inl same ↦ rw same here
-  | inr other ↦ below k (omega arith)
-]
+one_more xs ys n below here k within = grind arith
 
 -- the first element after a place, and what is after it
 drop_parts : (xs rest : List ℕ) (n x : ℕ) → drop n xs ≡ x ∷ rest → (n < length xs) × (get_or xs n 0 ≡ x) × (drop (suc n) xs ≡ rest)
@@ -42,9 +38,7 @@ drop_parts xs rest n x e =
 profile_from-entry_line : (number : ℕ) (reading : Reading) (entry : Entry) (ls : List (List ℕ)) → reading.profile.large ≡ 0 →
     IsNext reading.next 0 entry
     → profile_from number reading (entry_line entry ∷ ls) ≡ profile_from (number + 1) (with_entry reading entry) ls
-profile_from-entry_line number reading entry ls none next =
-    line_read number reading (entry_line entry ∷ ls) ls (entry_line entry) entry refl
-    (rw none (sym (entry_of-line reading.next entry next)))
+profile_from-entry_line number reading entry ls none next = grind (arith, line_read, entry_line, entry_of-line)
 
 -- the `large` line is read last, where there is one
 profile_from-large_lines : (number : ℕ) (reading : Reading) (large : ℕ) → reading.profile.large ≡ 0 → large ≤ greatest_count

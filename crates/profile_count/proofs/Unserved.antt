@@ -17,16 +17,12 @@ unserved_after counts classes n = unserved_from classes n (drop n counts)
 pub unserved_here : (counts classes : List ℕ) (n : ℕ) → n < length counts → 0 < get_or counts n 0 → class_for classes n ≡ None →
     unserved_after counts classes n ≡ Some n
 unfolding unserved_from
-unserved_here counts classes n within some none =
-    let test : ltb 0 (get_or counts n 0) ≡ true = lt-ltb 0 _ some in
-    rw (drop-cons counts n 0 within, test, none) refl
+unserved_here counts classes n within some none = grind (arith, lt-ltb, drop-cons)
 
 pub not_counted_here : (counts classes : List ℕ) (n : ℕ) → n < length counts → get_or counts n 0 ≤ 0 →
     unserved_after counts classes n ≡ unserved_after counts classes (n + 1)
 unfolding unserved_from
-not_counted_here counts classes n within none =
-    let test : ltb 0 (get_or counts n 0) ≡ false = le-ltb 0 _ none in
-    rw (drop-cons counts n 0 within, test, add-one) refl
+not_counted_here counts classes n within none = grind (arith, le-ltb, drop-cons, add-one)
 
 pub served_here : (counts classes : List ℕ) (n class : ℕ) → n < length counts → class_for classes n ≡ Some class →
     unserved_after counts classes n ≡ unserved_after counts classes (n + 1)
@@ -58,21 +54,10 @@ is_none-None : (o : Option ℕ) → is_none o ≡ true → o ≡ None
 is_none-None None e = refl
 is_none-None (Some x) e = absurd cc
 
-passed_by : (count : ℕ) (o : Option ℕ) → (ltb 0 count && is_none o) ≡ false → 0 < count → o ≡ None → ⊥
-passed_by count o e some none =
-    let test : ltb 0 count ≡ true = lt-ltb 0 count some in
-    let f = rw (test, none) at e in
-    cc
-
 one_later : (classes counts : List ℕ) (count n at : ℕ) → (ltb 0 count && is_none (class_for classes n)) ≡ false
     → ((k : ℕ) → k < at → 0 < get_or counts k 0 → class_for classes (suc n + k) ≡ None → ⊥)
     → (k : ℕ) → k < suc at → 0 < get_or (count ∷ counts) k 0 → class_for classes (n + k) ≡ None → ⊥
-one_later classes counts count n at e first zero lt some none =
-    let same : n + 0 ≡ n = omega arith in
-    passed_by count (class_for classes n) e some (rw same at none)
-one_later classes counts count n at e first (suc k) lt some none =
-    let same : n + suc k ≡ suc n + k = omega arith in
-    first k (omega arith) some (rw same at none)
+one_later classes counts count n at is also k too then more = grind arith
 
 first_from : (classes counts : List ℕ) (n size : ℕ) → unserved_from classes n counts ≡ Some size → IsFirstUnserved classes counts n size
 unfolding unserved_from
@@ -141,10 +126,7 @@ least counts classes (Some size) e = λ m lt counted.
     is_some-not_None (class_for classes m) (λ none. at.first m (omega (arith, at.is)) counted.1 (rw same at none))
 
 pub serving : (counts classes : List ℕ) (size : Option ℕ) → size ≡ unserved_of counts classes → IfNone size (Serves counts classes)
-serving counts classes None e = λ n counted.
-    is_some-not_None (class_for classes n)
-    (λ none. let same : n ≡ 0 + n = omega arith in all_served classes counts 0 (sym e) n counted.0 counted.1 (rw same at none))
-serving counts classes (Some size) e = tt
+serving counts classes size is = grind (arith, is_some-not_None, all_served)
 
 -- the walk begins where the classes end
 pub skips_served : (counts classes : List ℕ) (n : ℕ) → ((m : ℕ) → m < n → IsSome (class_for classes m)) →

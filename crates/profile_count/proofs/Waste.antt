@@ -30,6 +30,4 @@ waste_in_class counts classes n class end is ends most =
     ap (λ (o : Option ℕ). get_or counts n 0 * loss_of n (unwrap_or o 0)) is ∙ ap (λ k. get_or counts n 0 * k) (omega arith)
 
 pub waste_in_none : (counts classes : List ℕ) (n : ℕ) → class_for classes n ≡ None → waste_at counts classes n ≡ 0
-waste_in_none counts classes n none =
-    let nothing : loss_of n 0 ≡ 0 = omega arith in
-    ap (λ (o : Option ℕ). get_or counts n 0 * loss_of n (unwrap_or o 0)) none ∙ ap (λ k. get_or counts n 0 * k) nothing ∙ omega arith
+waste_in_none counts classes n none = grind arith

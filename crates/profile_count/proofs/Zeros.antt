@@ -1,5 +1,5 @@
 -- A profile that counts nothing.
-use Rattle.std.proofs.Common.{◌≡◌, ℕ, ◌+◌, ◌≤◌, List, length, get_or, ap, ◌∙◌, arith, inl, inr}
+use Rattle.std.proofs.Common.{◌≡◌, ℕ, ◌+◌, ◌≤◌, List, length, get_or, ap, ◌∙◌, arith}
 use Rattle.std.proofs.lemmas.Bool.{cases_lt}
 use Rattle.std.proofs.lemmas.List.{length-replicate, get_or-replicate, get_or_past}
 use Rattle.std.proofs.lemmas.List.Elements.{All-from_get_or}
@@ -14,10 +14,7 @@ length-zeros n = length-replicate n 0
 -- Each is 0, and so is what is read after the last.
 pub each_is_zero : (n k : ℕ) → get_or (zeros n) k 0 ≡ 0
 unfolding zeros
-each_is_zero n k = elim (cases_lt k n) [
-  | inl within ↦ get_or-replicate n k 0 0 within
-  | inr past ↦ get_or_past (zeros n) k 0 (omega (arith, length-zeros n))
-]
+each_is_zero n k = grind (arith, cases_lt, get_or-replicate, get_or_past, length-zeros)
 
 pub zeros_are_counts : (items : List ℕ) → items ≡ zeros (largest_counted + 1) → AreCounts items
 zeros_are_counts items are =
