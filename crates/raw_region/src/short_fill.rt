@@ -26,8 +26,9 @@ fn fill_both_ends<const N: usize>(bytes: &mut [u8], value: u8)
     ensures { bytes.new ≡ replicate (length bytes.old) value }
 {
     let end = bytes.len() - N;
-    bytes[..N].copy_from_slice(&[value; N]);
-    bytes[end..].copy_from_slice(&[value; N]);
+    // a fill of a constant length is compiled to stores; a copy of an array would first be tested for an overlap
+    bytes[..N].fill(value);
+    bytes[end..].fill(value);
 }
 
 /// Writes `value` to each of one to three bytes: to the first, to the middle one and to the last.
