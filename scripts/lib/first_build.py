@@ -52,7 +52,7 @@ def rt(words, folder, counter=None):
     with subprocess.Popen(["rt", *words], cwd=folder, stdin=subprocess.DEVNULL, stdout=subprocess.PIPE, stderr=subprocess.STDOUT) as run:
         for line in run.stdout:
             sys.stdout.buffer.write(line)
-            if counter and line.startswith(b"== "):
+            if counter and line.startswith(b"== ") and line.strip() != b"== summary":
                 counter.says(line[3:].decode().strip())
     return run.returncode
 

@@ -89,12 +89,7 @@ rows-from cost costs d limit i rows rows' ends ends' inside costs_are later fill
   where
     first_row : (m : ℕ) → 1 ≤ limit → i ≤ m → m < d → (number_at rows' 1 m ≡ cost m d) × (number_at ends' 1 m ≡ d)
     first_row m some from lt =
-        elim (cases_lt i m) [
-          | inl after ↦ (let old = later.first_row m some (omega arith) lt in
-              (filled.rows_kept 1 m (λ e. omega (arith, e)) ∙ old.0, filled.ends_kept 1 m (λ e. omega (arith, e)) ∙ old.1))
-          | inr not ↦ (let here : m ≡ i = omega arith in
-              rw here (filled.first.0 ∙ costs_are d inside (omega arith), filled.first.1))
-        ]
+        grind (arith, later.first_row m some, filled.rows_kept 1 m, filled.ends_kept 1 m, filled.first, costs_are d inside)
 
     later_row : (k m : ℕ) → 1 ≤ k → k < limit → i ≤ m → m < d
         → IsLeastEnd (λ j. cost m j + number_at rows' k j) m d (number_at ends' (suc k) m)
@@ -103,13 +98,13 @@ rows-from cost costs d limit i rows rows' ends ends' inside costs_are later fill
         elim (cases_lt i m) [
           | inl after ↦ (let old = later.later_row k m one few (omega arith) lt in
               let same : (j : ℕ) → m < j → j ≤ d → cost m j + number_at rows k j ≡ cost m j + number_at rows' k j =
-              (λ j past to. omega (arith, filled.rows_kept k j (λ e. omega (arith, e)))) in
+              (λ j past to. grind (arith, filled.rows_kept k j)) in
               rw (filled.rows_kept (suc k) m (λ e. omega (arith, e)), filled.ends_kept (suc k) m (λ e. omega (arith, e)))
               (least-same _ _ m d _ same old.0, old.1 ∙ same _ old.0.from old.0.to))
           | inr not ↦ (let here : m ≡ i = omega arith in
               let new = filled.later k one few in
               let same : (j : ℕ) → i < j → j ≤ d → end_cost costs (number_at rows k) j ≡ cost i j + number_at rows' k j =
-              (λ j past to. omega (arith, costs_are j past to, filled.rows_kept k j (λ e. omega (arith, e)))) in
+              (λ j past to. grind (arith, costs_are j, filled.rows_kept k j)) in
               rw here (least-same _ _ i d _ same new.0, new.1 ∙ same _ new.0.from new.0.to))
         ]
 

@@ -85,7 +85,7 @@ fn first_row<C: CostSource>(alloc: Global, costs: &mut C) -> Result<Row, AllocEr
     ensures only_counts { OnlyCounts C.CostSource costs.old costs.new }
 {
     let places = costs.places();
-    let mut row = Vec::new(alloc);
+    let mut row = Vec::with_capacity(alloc, places)?;
     for i in 0..places {
         row.push(ask(costs, i, places))?;
     }

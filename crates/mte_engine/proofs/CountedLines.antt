@@ -1,5 +1,5 @@
 -- Lines that are read and counted one by one, with no event in between.
-use Rattle.std.proofs.Common.{◌≡◌, ℕ, ◌+◌, ◌<◌, Result, Ok, Err, OnOk, List, [], ◌∷◌, ◌++◌, length, sym, ap, subst, ◌∙◌, arith, append_assoc}
+use Rattle.std.proofs.Common.{◌≡◌, ℕ, ◌<◌, Result, Ok, Err, OnOk, List, [], ◌∷◌, ◌++◌, length, sym, ap, subst, ◌∙◌, arith, append_assoc}
 use Rattle.replay_theory.specs.Losses.{requested_sizes}
 use Rattle.trace_event.specs.declared.event.Event.{Event}
 use Rattle.line_text.specs.Lines.{ended}

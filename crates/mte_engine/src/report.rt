@@ -11,9 +11,9 @@ ghost use Rattle.std.specs.Prelude.{◌≡◌, ◌+◌, ◌≤◌, ◌++◌, dro
 use arrayvec::ArrayVec;
 use byte_streams::Output;
 use class_table::ClassTable;
-use replay_core::{Config, Event, LINE_ROOM, Replay, TOTALS_ROOM};
+use replay_core::{Config, LINE_ROOM, Replay, TOTALS_ROOM};
 use std::alloc::{AllocError, Global};
-use trace_reader::TraceReader;
+use trace_reader::{Events, TraceReader};
 
 // the most bytes of the report that are ready at a time
 const BUFFER: usize = 65_536;
@@ -106,8 +106,9 @@ fn fill(
     ensures some { result.0 ≤ from → result.1 ≡ true }
     ensures few { AreFewEvents replay.new reader.new.events }
 {
-    let (end, done) = write_lines(replay, reader.events(), text, from);
-    let is_whole = done == reader.events().len();
+    let events = reader.events();
+    let (end, done) = write_lines(replay, &events, text, from);
+    let is_whole = done == events.len();
     reader.skip(done);
     if is_whole {
         return (write_totals(replay, text, end), true);
@@ -119,7 +120,7 @@ fn fill(
 // Returns where it ended, and how many events were replayed.
 fn write_lines(
     replay: &mut Replay,
-    events: &[Event],
+    events: &Events<'_>,
     text: &mut [u8],
     from: usize,
 ) -> (usize, usize)
@@ -138,8 +139,7 @@ fn write_lines(
     let mut done = 0;
     // the label names the loop's invariant in proofs/
     'lines: while end < full && done < events.len() {
-        // a copy, whose kind is known on each path of a step
-        let event = events[done];
+        let event = events.at(done);
         end = replay.step_at(&event, text, end);
         done += 1;
     }

@@ -110,7 +110,7 @@ fn answer_to(
         → GivesAnswer report_left (RunAnswers limit step config bytes) result }
 {
     end(&mut reader, 0)?;
-    let profile = count_all(alloc, reader.events())?;
+    let profile = count_all(alloc, &reader.events())?;
     let tuned = tune(alloc, &profile, limit, step)?;
     let sheet = tuned.sheet();
     let mut text = Vec::new(alloc);

@@ -11,7 +11,7 @@ use crate::trace_feeding::feed;
 use profile_count::Profile;
 use replay_core::{Event, request_size};
 use std::alloc::{AllocError, Global};
-use trace_reader::TraceReader;
+use trace_reader::{Events, TraceReader};
 
 /// Takes all events out of the reader, and counts what they request.
 pub fn count_out(reader: &mut TraceReader, profile: &mut Profile)
@@ -62,13 +62,13 @@ pub fn count_lines<'a>(reader: &mut TraceReader, profile: &mut Profile, text: &'
 }
 
 /// The profile of what these events request. There must be at most 1,000,000 of them, so that no count gets full.
-pub fn count_all(alloc: Global, events: &[Event]) -> Result<Profile, AllocError>
+pub fn count_all(alloc: Global, events: &Events<'_>) -> Result<Profile, AllocError>
     requires { length events.now ≤ most_events }
     ensures { IfOk result (λ profile. profile ≡ profile_of_events events.now) }
 {
     let mut profile = Profile::new(alloc)?;
     for place in 0..events.len() {
-        count(&mut profile, &events[place]);
+        count(&mut profile, &events.at(place));
     }
     Ok(profile)
 }

@@ -39,9 +39,9 @@ impl<'a> Spans<'a> {
         ensures spans { IfOk result (λ spans. spans ≡ record { counts = profile.now.counts; step = step }) }
         ensures valid { IfOk result IsSpanned }
     {
-        let mut needs = Vec::new(alloc);
-        let mut counted = Vec::new(alloc);
-        let mut bytes = Vec::new(alloc);
+        let mut needs = Vec::with_capacity(alloc, MOST_NEEDS)?;
+        let mut counted = Vec::with_capacity(alloc, MOST_NEEDS + 1)?;
+        let mut bytes = Vec::with_capacity(alloc, MOST_NEEDS + 1)?;
         let mut total = 0;
         let mut total_bytes = 0;
         for n in 0..LARGEST_COUNTED + 1 {

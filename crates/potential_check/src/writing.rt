@@ -116,10 +116,22 @@ fn append_rows(text: &mut Vec<u8>, rows: &Rows) -> Result<(), AllocError>
     ensures written { OnOk result (text.new.items ≡ text.old.items ++ text_of (map (named_line ROW.now) rows.now)) }
     ensures kept { IsPrefix text.old.items text.new.items }
 {
+    text.reserve(bytes_for(rows))?;
     for index in 0..rows.len() {
         append_line(text, ROW, rows.row(index))?;
     }
     Ok(())
+}
+
+// More bytes than the rows' lines have. Room that is taken at once costs nothing where it is not used; a text that grows is moved, and
+// touches new pages for what it already has.
+fn bytes_for(rows: &Rows) -> usize {
+    let mut bytes: usize = 0;
+    for index in 0..rows.len() {
+        let line = rows.row(index).len().saturating_mul(NUMBER_BYTES);
+        bytes = bytes.saturating_add(line).saturating_add(LINE_BYTES);
+    }
+    bytes
 }
 
 // appends the line of a name and numbers

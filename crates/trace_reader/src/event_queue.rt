@@ -1,6 +1,10 @@
 //! The events that wait in a reader.
-ghost use Rattle.std.specs.Prelude.{◌≡◌, ◌≤◌, [], ◌∷◌, ◌++◌, drop, length, slice_get, OnErr, OnOk};
+ghost use Rattle.std.specs.Prelude.{◌≡◌, ◌≤◌, [], ◌∷◌, ◌++◌, drop, length, map, slice_get, OnErr, OnOk};
+ghost use Rattle.trace_event.specs.Ranges.{IsInRange};
+ghost use Rattle.trace_reader.specs.Kept.{event_of};
 
+use crate::events::Events;
+use crate::kept_event::KeptEvent;
 use std::alloc::{AllocError, Global};
 use std::marker::Model;
 use trace_event::Event;
@@ -9,18 +13,19 @@ use trace_event::Event;
 /// each cost one test.
 #[derive(Debug, Drop)]
 pub(crate) struct EventQueue {
-    events: Vec<Event>,
+    events: Vec<KeptEvent>,
     // how many of them were taken out
     taken: usize,
 }
 
 impl Model for EventQueue {
-    ghost use Rattle.std.specs.Prelude.{◌≤◌, List, drop, length};
+    ghost use Rattle.std.specs.Prelude.{◌≤◌, List, drop, length, map};
     ghost use Rattle.trace_event.specs.declared.event.Event.{Event as EventView};
+    ghost use Rattle.trace_reader.specs.Kept.{event_of};
 
     ghost Value = { List EventView };
 
-    ghost view = { λ q. drop q.taken q.events.items };
+    ghost view = { λ q. map event_of (drop q.taken q.events.items) };
 
     ghost invariant = { λ q. q.taken ≤ length q.events.items };
 }
@@ -37,28 +42,31 @@ impl EventQueue {
     }
 
     /// The events that wait.
-    pub(crate) fn as_slice(&self) -> &[Event]
-        ensures { result.now ≡ self.now }
+    pub(crate) fn events(&self) -> Events<'_>
+        ensures { result ≡ self.now }
     {
-        &self.events[self.taken..]
+        Events {
+            kept: &self.events[self.taken..],
+        }
     }
 
     /// Adds an event at the end.
     #[inline(always)]
     pub(crate) fn push(&mut self, event: Event) -> Result<(), AllocError>
+        requires { IsInRange event }
         ensures ok { OnOk result (self.new ≡ self.old ++ event ∷ []) }
         ensures err { OnErr result (self.new ≡ self.old) }
     {
         if self.events.capacity() <= self.events.len() {
             self.events.reserve(1)?;
         }
-        self.events.push_reserved(event);
+        self.events.push_reserved(KeptEvent::of(event));
         Ok(())
     }
 
     /// Adds events at the end.
-    pub(crate) fn extend(&mut self, events: &[Event]) -> Result<(), AllocError>
-        ensures ok { OnOk result (self.new ≡ self.old ++ events.now) }
+    pub(crate) fn extend(&mut self, events: &[KeptEvent]) -> Result<(), AllocError>
+        ensures ok { OnOk result (self.new ≡ self.old ++ map event_of events.now) }
         ensures err { OnErr result (self.new ≡ self.old) }
     {
         self.events.extend_from_slice(events)
@@ -77,7 +85,7 @@ impl EventQueue {
         }
         let event = self.events[self.taken];
         self.taken += 1;
-        Some(event)
+        Some(event.event())
     }
 
     /// Takes out the first `n` events.

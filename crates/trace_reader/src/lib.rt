@@ -3,7 +3,9 @@
 
 mod batch;
 mod event_queue;
+mod events;
 mod fault;
+mod kept_event;
 pub mod laws;
 mod line;
 mod one_pass;
@@ -11,6 +13,7 @@ mod reader;
 mod status;
 mod words;
 
+pub use events::Events;
 pub use fault::{TraceError, TraceFault};
 pub use reader::TraceReader;
 pub use trace_event::Event;

@@ -2,6 +2,7 @@
 //! word, which is slower and finds each fault. An event that is missing here is read by `line`.
 ghost use Rattle.std.specs.Prelude.{◌≡◌, ◌≤◌, ◌<◌, ◌+◌, ◌^◌, ◌++◌, ◌∷◌, [], IfSome, length, nat_abs};
 ghost use Rattle.std.specs.Int.{to_le_bytes, w32};
+ghost use Rattle.std.specs.Char.{digit_char};
 ghost use Rattle.std.specs.Fmt.{decimal, signed_decimal};
 ghost use Rattle.trace_event.specs.Ranges.{IsAccessOf, IsInRange, IsMove, IsRequest, IsVariable};
 ghost use Rattle.line_text.specs.Hexadecimal.{hex};
@@ -9,7 +10,6 @@ ghost use Rattle.line_text.specs.Lines.{line_of};
 ghost use Rattle.std.specs.Prelude.{codes};
 ghost use Rattle.trace_reader.specs.TraceLine.{event_line};
 
-use line_text::hex_byte_in;
 use trace_event::Event;
 
 // A number of more digits is left to `line`.
@@ -35,6 +35,9 @@ pub(crate) const AT_ONCE: u8 = 0;
 
 /// The copy for events that wait.
 pub(crate) const KEPT: u8 = 1;
+
+// the hexadecimal digits, by their values
+const HEX_DIGITS: [u8; 16] = *b"0123456789abcdef";
 
 // The first four letters of the events' names, as words: the first letter is the lowest byte.
 const MALL: u32 = 0x6c6c_616d;
@@ -63,38 +66,39 @@ pub(crate) fn first_event<const COPY: u8>(text: &[u8]) -> Option<(Event, &[u8])>
     if text.len() < WINDOW {
         return None;
     }
-    let (word, text) = first_word(text);
-    match word {
-        MALL => {
+    let (word, text) = first_word(text)?;
+    // by the first letter, so that the compiler makes a table of jumps
+    match (word % 256) as u8 {
+        b'm' if word == MALL => {
             let (v, n, after) = request(after_name(b"oc ", text)?)?;
             Some((Event::Malloc { v, n }, after))
         }
-        CALL => {
+        b'c' if word == CALL => {
             let (v, n, after) = request(after_name(b"oc ", text)?)?;
             Some((Event::Calloc { v, n }, after))
         }
-        REAL => {
+        b'r' if word == REAL => {
             let (v, n, after) = request(after_name(b"loc ", text)?)?;
             Some((Event::Realloc { v, n }, after))
         }
-        FREE => {
+        b'f' if word == FREE => {
             let (v, after) = variable(b'\n', after_name(b" ", text)?)?;
             Some((Event::Free { v }, after))
         }
-        LOAD => {
+        b'l' if word == LOAD => {
             let (v, off, len, after) = access(b'\n', after_name(b" ", text)?)?;
             Some((Event::Load { v, off, len }, after))
         }
-        STOR => {
+        b's' if word == STOR => {
             let (v, off, len, text) = access(b' ', after_name(b"e ", text)?)?;
             let (byte, after) = byte(text)?;
             Some((Event::Store { v, off, len, byte }, after))
         }
-        ADDG => {
+        b'a' if word == ADDG => {
             let (v, w, u6, u4, after) = move_pointer(after_name(b" ", text)?)?;
             Some((Event::Addg { v, w, u6, u4 }, after))
         }
-        SUBG => {
+        b's' if word == SUBG => {
             let (v, w, u6, u4, after) = move_pointer(after_name(b" ", text)?)?;
             Some((Event::Subg { v, w, u6, u4 }, after))
         }
@@ -104,14 +108,11 @@ pub(crate) fn first_event<const COPY: u8>(text: &[u8]) -> Option<(Event, &[u8])>
 
 // the first four bytes of a text as a word, and the text after them
 #[inline(always)]
-fn first_word(text: &[u8]) -> (u32, &[u8])
-    requires { WORD ≤ length text.now }
-    ensures { text.now ≡ to_le_bytes w32 result.0 ++ result.1.now }
+fn first_word(text: &[u8]) -> Option<(u32, &[u8])>
+    ensures { IfSome result (λ x. text.now ≡ to_le_bytes w32 x.0 ++ x.1.now) }
 {
-    (
-        u32::from_le_bytes([text[0], text[1], text[2], text[3]]),
-        &text[WORD..],
-    )
+    let bytes = text.first_chunk::<WORD>()?;
+    Some((u32::from_le_bytes(*bytes), &text[WORD..]))
 }
 
 // the text after a name
@@ -357,5 +358,22 @@ fn byte(text: &[u8]) -> Option<(u8, &[u8])>
     if text.len() < 3 || text[2] != b'\n' {
         return None;
     }
-    Some((hex_byte_in(&text[..2])?, &text[3..]))
+    let high = hex_value(text[0])?;
+    let low = hex_value(text[1])?;
+    Some((16 * high + low, &text[3..]))
+}
+
+// The value of a hexadecimal digit. It has no branch on the kind of the digit, since the digits of a trace's bytes follow no pattern: the
+// lowest bits of a letter are 9 less than its value, and only its bit of 64 is set besides those that a digit has.
+#[inline(always)]
+fn hex_value(byte: u8) -> Option<u8>
+    ensures digit { IfSome result (λ value. byte ≡ digit_char value) }
+    ensures few { IfSome result (λ value. value < 16) }
+{
+    let value = (byte % 16 + byte / 64 * 9) % 16;
+    if HEX_DIGITS[usize::from(value)] == byte {
+        Some(value)
+    } else {
+        None
+    }
 }

@@ -10,7 +10,9 @@ ghost use Rattle.trace_reader.specs.Reading.{fed, finished, is_finished, nothing
 
 use crate::batch::{BATCH, events_in_front};
 use crate::event_queue::EventQueue;
+use crate::events::Events;
 use crate::fault::{TraceError, TraceFault};
+use crate::kept_event::KeptEvent;
 use crate::line::{LONGEST_LINE, MOST_EVENTS, event_in};
 use crate::one_pass::{AT_ONCE, first_event};
 use crate::status::Status;
@@ -164,11 +166,11 @@ impl TraceReader {
     }
 
     /// The events that were read and not yet taken out, in order.
-    pub fn events(&self) -> &[Event]
-        ensures events { result.now ≡ self.now.events }
-        ensures range { All IsInRange result.now }
+    pub fn events(&self) -> Events<'_>
+        ensures events { result ≡ self.now.events }
+        ensures range { All IsInRange result }
     {
-        self.events.as_slice()
+        self.events.events()
     }
 
     // Takes the events of the lines in front of a text, up to the first line that is not read in one pass, and returns the text from there.
@@ -182,7 +184,7 @@ impl TraceReader {
         if !self.rest.is_empty() {
             return Ok(text);
         }
-        let mut batch = [Event::Free { v: 0 }; BATCH];
+        let mut batch = [KeptEvent::Free { v: 0 }; BATCH];
         let mut rest = text;
         loop {
             let (count, after) = self.take_batch(&mut batch, rest)?;
@@ -198,7 +200,7 @@ impl TraceReader {
     #[inline(always)]
     fn take_batch<'a>(
         &mut self,
-        batch: &mut [Event; BATCH],
+        batch: &mut [KeptEvent; BATCH],
         text: &'a [u8],
     ) -> Result<(usize, &'a [u8]), TraceError>
         requires { is_at_start self.old ≡ true }

@@ -59,8 +59,9 @@ fn stays_refused(rt: &impl Abort, reader: &mut TraceReader) {
 
 // the events that wait are the first of the trace
 fn are_frees(rt: &impl Abort, reader: &TraceReader, count: usize) {
-    same(rt, &reader.events().len(), &count, &"events");
-    for v in 0..count {
-        assert!(rt; reader.events().get(v) == Some(&Event::Free { v: (v % 10) as u16 }));
+    let events = reader.events();
+    same(rt, &events.len(), &count, &"events");
+    for v in 0..events.len() {
+        assert!(rt; events.at(v) == Event::Free { v: (v % 10) as u16 });
     }
 }

@@ -1,7 +1,11 @@
-use Rattle.std.proofs.Common.{◌+◌, All, refl, take, sym, subst, arith, rules}
+use Rattle.std.proofs.Common.{◌+◌, ◌∙◌, ◌++◌, ◌∷◌, [], List, All, ap, map, refl, take, sym, subst, arith, rules}
 use Rattle.std.proofs.lemmas.Grind.{take-set_at}
+use Rattle.std.proofs.lemmas.List.{map-append}
 use Rattle.std.proofs.lemmas.List.Elements.{All-push}
 use Rattle.trace_event.specs.Ranges.{IsInRange}
+use Rattle.trace_event.specs.declared.event.Event.{Event}
+use Rattle.trace_reader.specs.Kept.{event_of}
+use Rattle.trace_reader.specs.declared.kept_event.KeptEvent.{KeptEvent}
 use Rattle.trace_reader.proofs.SpelledEvents.{one_line_more}
 use Rattle.trace_reader.proofs.batch.events_in_front.Goals as goal
 
@@ -11,11 +15,14 @@ lines-preserved c =
     let batch = c.lines.batch in
     let count = c.lines.count in
     let event = c.in-Some.event in
-    let taken = take-set_at batch count (count + 1) event refl (omega arith) in
+    let kept = c.of.result in
+    let before = map event_of (take count batch) in
+    let taken = ap (λ (ks : List KeptEvent). map event_of ks) (take-set_at batch count (count + 1) kept refl (omega arith))
+    ∙ map-append event_of (take count batch) (kept ∷ []) ∙ ap (λ (e : Event). before ++ e ∷ []) c.of.ensures in
     record {
-      lines = one_line_more c.args.text.now c.lines.rest.now c.in-Some.after.now (take count batch) _ event inv.lines
+      lines = one_line_more c.args.text.now c.lines.rest.now c.in-Some.after.now before _ event inv.lines
           c.in-Some.ensures.spelled taken;
-      range = subst (All IsInRange) (sym taken) (All-push IsInRange (take count batch) event inv.range c.in-Some.ensures.range);
+      range = subst (All IsInRange) (sym taken) (All-push IsInRange before event inv.range c.in-Some.ensures.range);
       few = omega arith;
       room = search rules;
     }

@@ -1,12 +1,22 @@
-use Rattle.std.proofs.Common.{◌∙◌, ◌++◌, ◌∷◌, List, ℕ, take, sym, ap, arith, drop}
-use Rattle.std.proofs.lemmas.List.{take_rest}
-use Rattle.line_text.proofs.LawLemmas.{hex_is_spelled}
+use Rattle.std.proofs.Common.{◌∙◌, ◌++◌, ◌∷◌, ◌/◌, ◌%◌, ◌*◌, ◌+◌, ◌<◌, ◌≤◌, ◌≡◌, List, [], ℕ, ap, arith, drop, get_or, length, refl, take}
+use Rattle.std.specs.Char.{digit_char}
+use Rattle.std.proofs.lemmas.List.{take_more, take_rest}
+use Rattle.line_text.specs.Hexadecimal.{hex}
 use Rattle.trace_reader.proofs.DigitsInFront.{cut_at}
 use Rattle.trace_reader.proofs.one_pass.byte.Goals as goal
+
+two_digits : (text : List ℕ) (high low : ℕ) → 2 ≤ length text → high < 16 → low < 16 → get_or text 0 0 ≡ digit_char high
+    → get_or text 1 0 ≡ digit_char low → take 2 text ≡ hex (16 * high + low)
+two_digits text high low some big small first second =
+    let front : (16 * high + low) / 16 ≡ high = omega arith in
+    let last : (16 * high + low) % 16 ≡ low = omega arith in
+    take_more text 1 0 (omega arith) ∙ ap (λ (t : List ℕ). t ++ get_or text 1 0 ∷ []) (take_more text 0 0 (omega arith))
+    ∙ rw (front, last, first, second) refl
 
 pub returns-clause-spelled : goal.returns-clause-spelled
 returns-clause-spelled c =
     let text = c.args.text.now in
-    let byte = c.in_ok-hex_byte_in.field-0 in
+    let word = two_digits text c.in_ok-high.high c.in_ok-low.low (omega arith) c.in_ok-high.ensures.few c.in_ok-low.ensures.few
+    c.in_ok-high.ensures.digit c.in_ok-low.ensures.digit in
     rw take_rest (cut_at text 2 3 10 (omega arith) (omega arith) c.if-text-ne10.false
-    ∙ ap (λ (word : List ℕ). word ++ 10 ∷ drop 3 text) (hex_is_spelled (take 2 text) byte (sym c.in_ok-hex_byte_in.ensures)).1)
+    ∙ ap (λ (front : List ℕ). front ++ 10 ∷ drop 3 text) word)

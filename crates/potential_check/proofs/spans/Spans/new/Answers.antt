@@ -11,7 +11,7 @@ use Rattle.potential_check.proofs.spans.Spans.new.Goals.{then-count-gt0, else-co
 
 pub loop-n-init : goal.loop-n-init
 loop-n-init c = record {
-  built = rw (c.new-needs.ensures.items, c.new-counted.ensures.items, c.new-bytes.ensures.items)
+  built = rw (c.in_ok-needs.ensures.items, c.in_ok-counted.ensures.items, c.in_ok-bytes.ensures.items)
       (built-none c.args.profile.now.counts c.args.step c.requires);
   are_counts = λ some. absurd (omega arith);
 }

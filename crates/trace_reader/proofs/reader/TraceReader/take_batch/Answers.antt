@@ -1,6 +1,7 @@
-use Rattle.std.proofs.Common.{◌≡◌, ◌+◌, ◌≤◌, ◌∙◌, ◌++◌, List, Err, length, take, ap, sym, subst, refl, arith}
-use Rattle.std.proofs.lemmas.List.{length-take}
+use Rattle.std.proofs.Common.{◌≡◌, ◌+◌, ◌≤◌, ◌∙◌, ◌++◌, List, Err, length, take, ap, map, sym, subst, refl, arith}
+use Rattle.std.proofs.lemmas.List.{length-map, length-take}
 use Rattle.trace_event.specs.declared.event.Event.{Event}
+use Rattle.trace_reader.specs.Kept.{event_of}
 use Rattle.trace_reader.specs.declared.fault.TraceError.TheVariants.{OutOfMemory}
 use Rattle.trace_reader.specs.Reached.{IsOnTheWay}
 use Rattle.trace_reader.specs.Reading.{Reading, fed}
@@ -21,10 +22,11 @@ pub returns-clause-way : goal.returns-clause-way
 returns-clause-way c =
     let i = c.self.inside in
     let count = c.events_in_front-count.result.0 in
-    let es = take count c.events_in_front-count.new.batch in
+    let kept = take count c.events_in_front-count.new.batch in
+    let es = map event_of kept in
     let after = c.events_in_front-count.result.1.now in
     let more = pushed c.extend.result _ (sym c.is_err.ensures.value ∙ c.if-is_err.false) c.extend.ensures.ok in
-    let len : length es ≡ count = length-take count c.events_in_front-count.new.batch ∙ omega arith in
+    let len : length es ≡ count = length-map kept event_of ∙ length-take count c.events_in_front-count.new.batch ∙ omega arith in
     let few : i.lines + length es ≤ 1000000 = omega arith in
     let same : fields (i.events ++ es) (i.lines + length es) i.rest.items i.status
     ≡ fields c.extend.new.self (i.lines + count) i.rest.items i.status
@@ -39,6 +41,7 @@ returns-clause-shorter c =
     let batch = c.events_in_front-count.new.batch in
     omega (
       arith,
+      length-map (take count batch) event_of,
       length-take count batch,
-      lines_are_long (take count batch) c.args.text.now c.events_in_front-count.result.1.now c.events_in_front-count.ensures.lines,
+      lines_are_long (map event_of (take count batch)) c.args.text.now c.events_in_front-count.result.1.now c.events_in_front-count.ensures.lines,
     )
