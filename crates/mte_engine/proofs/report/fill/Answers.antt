@@ -1,4 +1,4 @@
-use Rattle.std.proofs.Common.{◌≡◌, ◌++◌, ◌∙◌, ap, [], drop, length, take, arith}
+use Rattle.std.proofs.Common.{◌≡◌, ◌++◌, ◌∙◌, ap, [], drop, take, arith}
 use Rattle.std.proofs.lemmas.List.{drop_all}
 use Rattle.mte_engine.specs.ReportFrom.{report_from}
 use Rattle.mte_engine.proofs.Reporting.{reported_all}
