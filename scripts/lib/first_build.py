@@ -1,11 +1,11 @@
 #!/usr/bin/env python3
 """Proves the crates below a program side by side, before the program is built for the first time: `first_build.py FOLDER PROGRAM`.
 
-FOLDER is the repository, PROGRAM the crate of the program. rt works in a crate and all crates below it alone, so one call proves them all,
-in a copy that has no other crate, one job each. That call first looks at all sources, by one process, and then at the one crate that nearly
-all others stand on; so this crate is proved in a copy of its own meanwhile, of which the call takes what it kept. The last crates of the
-chain, beside which nothing is left to prove, are proved one after the other, by as many jobs as there are lanes. What rt keeps is moved to
-the repository, also if it is cut off, and rt goes on with it. Standard error counts the crates; standard output has what rt said.
+FOLDER is the repository, PROGRAM the crate of the program. rt has a lock on a crate and on all crates below it, so it proves one crate at a
+time in a folder. Here each crate is proved in a copy of its own, with links to the libraries below it, as soon as these are built. The crate
+with the longest chain of others above it has as many jobs as there are lanes; those beside it have one each, and give way to it. What rt
+keeps is moved to the repository, also where the build is cut off, and rt goes on with it. Standard error counts the crates, of which the
+program itself, left to rt, is the last; standard output has what rt said.
 """
 
 import os
@@ -14,11 +14,15 @@ import shutil
 import signal
 import subprocess
 import sys
+import tempfile
 
 sys.dont_write_bytecode = True
 from crate_list import CrateList
 
 MEMORY_OF_A_PROOF = 4 << 30
+
+# the words before a command that leaves the processor to others that want it
+GIVES_WAY = ["nice", "-n", "5"]
 
 
 def lanes():
@@ -28,89 +32,98 @@ def lanes():
     return max(1, min(len(os.sched_getaffinity(0)), free // MEMORY_OF_A_PROOF))
 
 
-def chain_above(crates, below):
-    """The last crates, lowest first: each has all that is left below it, but for at most one."""
-    left, chain = list(below), []
-    while True:
-        highest = max(left, key=lambda name: len(crates.below([name])))
-        if len(crates.below([highest])) < max(2, len(left) - 1):
-            return chain
-        chain.insert(0, highest)
-        left.remove(highest)
+def lines(folder):
+    """The lines of a crate's code, by which the time of its proof is guessed."""
+    files = [os.path.join(at, name) for at, _, names in os.walk(os.path.join(folder, "src")) for name in names]
+    return sum(len(open(file, "rb").readlines()) for file in files)
 
 
-def neck(crates, below, chain):
-    """The crate before the chain that stands on others and has the most above it; None if there is none."""
-    above = {name: sum(name in crates.below([it]) for it in below) for name, others in below.items() if others and name not in chain}
-    return max(above, key=above.get, default=None)
+def chains(crates, below):
+    """For each crate the lines of the longest chain from it up to the program, its own included."""
+    longest = {}
+    for name in reversed(list(below)):
+        above = [longest[other] for other in below if name in below[other]]
+        longest[name] = lines(crates.folder(name)) + max(above, default=0)
+    return longest
 
 
-def begin(crates, name, folder, jobs):
-    """Begins to prove a crate, with those below it, in a copy of their own, and returns the run."""
-    crates.copy(crates.below([name]), folder)
-    quiet = {"stdin": subprocess.DEVNULL, "stdout": subprocess.DEVNULL, "stderr": subprocess.DEVNULL}
-    return subprocess.Popen(["rt", "check", "--jobs", str(jobs)], cwd=os.path.join(folder, "crates", name), **quiet)
+class Proof:
+    """A crate that is being proved, in a copy."""
+
+    def __init__(self, crates, name, folder, jobs, way):
+        self.crates, self.name = crates, name
+        self.copy = os.path.join(folder, name)
+        self.place = os.path.join(self.copy, "crates", name)
+        below = crates.below([name])
+        crates.copy(below, self.copy)
+        for library in [os.path.join("crates", it, "out", "rlib") for it in below if it != name]:
+            shutil.copytree(os.path.join(crates.root, library), os.path.join(self.copy, library), copy_function=os.link)
+        self.said = tempfile.TemporaryFile()
+        how = {"cwd": self.place, "stdin": subprocess.DEVNULL, "stdout": self.said, "stderr": subprocess.STDOUT}
+        self.run = subprocess.Popen([*way, "rt", "lib", "--jobs", str(jobs)], **how)
+
+    def end(self):
+        """Waits for rt, moves what it has kept to the repository, and returns its status."""
+        status = self.run.wait()
+        kept, place = os.path.join(self.place, "out"), os.path.join(self.crates.folder(self.name), "out")
+        for part in os.listdir(kept) if os.path.isdir(kept) else []:
+            if not os.path.exists(os.path.join(place, part)):
+                os.makedirs(place, exist_ok=True)
+                os.rename(os.path.join(kept, part), os.path.join(place, part))
+        shutil.rmtree(self.copy, ignore_errors=True)
+        self.said.seek(0)
+        sys.stdout.buffer.write(b"== %s\n%s" % (self.name.encode(), self.said.read()))
+        sys.stdout.flush()
+        return status
 
 
-class Counter:
-    def __init__(self, how_many):
-        self.how_many, self.done = how_many, 0
+class Build:
+    """The proofs of all crates below a program."""
 
-    def says(self, name):
-        self.done += 1
-        print(f"mte_tool: {self.done} of {self.how_many} {name}", file=sys.stderr, flush=True)
+    def __init__(self, crates, program):
+        self.crates, self.below = crates, crates.below([program])
+        self.folder = os.path.join(crates.folder(program), "out", "first_build")
+        self.chain = chains(crates, self.below)
+        self.left = sorted(set(self.below) - {program}, key=self.chain.get, reverse=True)
+        self.running, self.proved = {}, set()
 
+    def begin(self, lanes):
+        """Begins the crates whose libraries are there, while lanes are idle."""
+        for name in [it for it in self.left if self.proved.issuperset(self.below[it])][: lanes - len(self.running)]:
+            self.left.remove(name)
+            is_first = all(self.chain[name] >= self.chain[it.name] for it in self.running.values())
+            how = (lanes, []) if is_first else (1, GIVES_WAY)
+            proof = Proof(self.crates, name, self.folder, *how)
+            self.running[proof.run.pid] = proof
 
-def rt(words, folder, counter=None):
-    """Runs rt in a folder, and returns its status."""
-    with subprocess.Popen(["rt", *words], cwd=folder, stdin=subprocess.DEVNULL, stdout=subprocess.PIPE, stderr=subprocess.STDOUT) as run:
-        for line in run.stdout:
-            sys.stdout.buffer.write(line)
-            if counter and line.startswith(b"== ") and line.strip() != b"== summary":
-                counter.says(line[3:].decode().strip())
-    return run.returncode
-
-
-def prove(crates, below, folder, early):
-    """Proves the crates in a copy, one of them at once in a second copy, and returns rt's status."""
-    chain, counter, jobs = chain_above(crates, below), Counter(len(below)), ["--jobs", str(lanes())]
-    crates.copy([name for name in below if name not in chain], folder)
-    first = neck(crates, below, chain)
-    run = begin(crates, first, early, max(1, lanes() - 1)) if first else None
-    status = 1
-    try:
-        status = rt(["all", "check", *jobs], folder, counter)
-    finally:
-        if run:
+    def prove(self, lanes):
+        """Proves all, and returns 0, or rt's status for the first crate that is not proved."""
+        while self.left or self.running:
+            self.begin(lanes)
+            ended = os.waitid(os.P_ALL, 0, os.WEXITED | os.WNOWAIT)
+            proof = self.running.pop(ended.si_pid)
+            status = proof.end()
             if status:
-                run.terminate()
-            run.wait()
-    crates.copy(chain, folder)
-    crates.list(below, folder)
-    for name in chain:
-        if status:
-            break
-        status = rt(["check", *jobs], os.path.join(folder, "crates", name))
-        counter.says(name)
-    return status
+                return status
+            self.proved.add(proof.name)
+            print(f"mte_tool: {len(self.proved)} of {len(self.below)} {proof.name}", file=sys.stderr, flush=True)
+        return 0
+
+    def stop(self):
+        """Ends the proofs that run; what they kept stays."""
+        for proof in self.running.values():
+            proof.run.terminate()
+        for proof in self.running.values():
+            proof.end()
+        shutil.rmtree(self.folder, ignore_errors=True)
 
 
 def main(root, program):
-    crates = CrateList(root)
-    below = crates.below([program])
-    folder = os.path.join(crates.folder(program), "out", "first_build")
-    early = folder + ".early"
+    build = Build(CrateList(root), program)
     try:
-        return prove(crates, below, folder, early)
+        return build.prove(lanes())
     finally:
-        for name in below:
-            kept, place = os.path.join(folder, "crates", name, "out"), os.path.join(crates.folder(name), "out")
-            for part in os.listdir(kept) if os.path.isdir(kept) else []:
-                if not os.path.exists(os.path.join(place, part)):
-                    os.makedirs(place, exist_ok=True)
-                    os.rename(os.path.join(kept, part), os.path.join(place, part))
-        for copy in (folder, early):
-            shutil.rmtree(copy, ignore_errors=True)
+        build.stop()
 
 
 if __name__ == "__main__":
