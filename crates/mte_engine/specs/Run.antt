@@ -61,7 +61,7 @@ pub record IsTunedRun (limit step : ℕ) (config : Config) (events : List Event)
     status = Done;
   }
   -- Each load and store in it is answered as unmapped exactly where it is not mapped; as a tag fault exactly where it is mapped and touches
-  -- a granule whose tag differs from the pointer's; and else it succeeds.
+  -- a granule whose tag differs from the pointer's; and else it succeeds. No other event is answered as either fault.
   pub accesses : AccessesAreAnswered (new_replay config sheet.table) events
   -- No request is refused for want of a class.
   pub no_class : (totals_on config sheet.table events).null_no_class ≡ 0

@@ -1,22 +1,26 @@
 -- When each answer of an access is given.
-use Rattle.std.proofs.Common.{◌≡◌, ◌≢◌, ℕ, ◌<◌, ◌∷◌, ◌++◌, [], true, not, List, length, refl, sym, ap, ◌∙◌, subst, inl, inr, arith, Some, None, Option}
+use Rattle.std.proofs.Common.{◌≡◌, ◌≢◌, ℕ, ◌<◌, ◌∷◌, ◌++◌, [], true, not, List, length, refl, sym, ap, ◌∙◌, subst, inl, inr, arith, Some, None, Option, Result, Ok, Err}
 use Rattle.std.specs.Prelude.{◌↔◌, ◌==◌, replicate, slice_get, option_map, IsSome, ℤ}
 use Rattle.std.specs.List.{find}
 use Rattle.std.proofs.lemmas.Bool.{both_ways, cases_Bool, cases_eq, cond-true, cond-false, false≢true}
 use Rattle.std.proofs.lemmas.List.{length-replicate}
 use Rattle.machine_theory.specs.declared.fault.Fault.{Fault}
 use Rattle.machine_theory.specs.declared.fault.Fault.TheVariants.{Unmapped, TagCheck}
-use Rattle.machine_theory.specs.Access.{IsMapped, IsTagFault, access_fault, is_mapped, stored, tag_fault, touched, loaded}
+use Rattle.machine_theory.specs.Access.{IsMapped, IsTagFault, access_fault, is_mapped, stored, tag_fault, touched}
 use Rattle.machine_theory.specs.Address.{logical_tag, moved_by, Touches}
 use Rattle.machine_theory.specs.Memory.{tag_at}
 use Rattle.replay_theory.proofs.TheoryLemmas as laws
 use Rattle.trace_event.specs.declared.event.Event.{Event}
-use Rattle.trace_event.specs.declared.event.Event.TheVariants.{Load, Store}
+use Rattle.trace_event.specs.declared.event.Event.TheVariants.{Malloc, Calloc, Realloc, Free, Load, Store, Addg, Subg}
+use Rattle.heap_theory.specs.declared.refusal.FreeError.{FreeError}
+use Rattle.heap_theory.specs.declared.refusal.NullCause.{NullCause}
+use Rattle.heap_theory.specs.declared.refusal.ReallocError.{ReallocError}
+use Rattle.heap_theory.specs.declared.refusal.ReallocError.TheVariants.{Null, Refused}
 use Rattle.heap_theory.specs.declared.place_kind.PlaceKind.{PlaceKind}
-use Rattle.replay_theory.specs.AccessLaws.{IsAnswerTo, AccessesAreAnswered}
+use Rattle.replay_theory.specs.AccessLaws.{IsAnswerTo, IsAnswered, AccessesAreAnswered}
 use Rattle.heap_theory.specs.GranuleKinds.{place_kind}
-use Rattle.replay_theory.specs.Replay.{Replay, Answer, IsFaultAnswer, is_tag_fault, variable, heap_after, replay_after, access_answer, answer_of, answers, replay_of}
-use Rattle.heap_theory.specs.Calls.{store_step}
+use Rattle.replay_theory.specs.Replay.{Replay, Answer, IsFaultAnswer, is_tag_fault, variable, heap_after, replay_after, access_answer, malloc_answer, free_answer, realloc_answer, answer_of, answers, replay_of}
+use Rattle.heap_theory.specs.Calls.{malloc_step, calloc_step, free_step, realloc_step, store_step}
 use Rattle.replay_theory.specs.Replay.Answer.{Silent, Loaded, NotMapped, TagFault, NoPointer, NotFreed}
 use Rattle.heap_theory.specs.State.{Heap}
 
@@ -88,17 +92,32 @@ module _ (h : Heap) (address len : ℕ) (done : Answer) (no_fault : IsFaultAnswe
           (tag_answer g (tag_at h.memory g) (logical_tag address)
           ((laws.tag_fault_names h.memory address len g (tag_at h.memory g) (logical_tag address) some).0 is))
 
--- ---- loads and stores
+-- ---- events
 
-pub load_is_answered : (replay : Replay) (v : ℕ) (off : ℤ) (len : ℕ) → 0 < len → let address = moved_by (variable replay v) off in
-    let done = Loaded (loaded replay.heap.memory address len) in IsAnswerTo replay.heap address len done (answer_of replay (Load v off len))
-unfolding answer_of
-load_is_answered r v off len some = access_is_answered r.heap (moved_by (variable r v) off) len _ false≢true some
+-- what no call of the heap answers
+malloc_faults : (given : Result ℕ NullCause) → IsFaultAnswer (malloc_answer given) → ⊥
+malloc_faults (Ok p) = false≢true
+malloc_faults (Err cause) = false≢true
 
-pub store_is_answered : (replay : Replay) (v : ℕ) (off : ℤ) (len byte : ℕ) → 0 < len →
-    IsAnswerTo replay.heap (moved_by (variable replay v) off) len Silent (answer_of replay (Store v off len byte))
+free_faults : (given : Result (Unit {0}) FreeError) → IsFaultAnswer (free_answer given) → ⊥
+free_faults (Ok done) = false≢true
+free_faults (Err error) = false≢true
+
+realloc_faults : (given : Result ℕ ReallocError) → IsFaultAnswer (realloc_answer given) → ⊥
+realloc_faults (Ok p) = false≢true
+realloc_faults (Err (Null cause)) = false≢true
+realloc_faults (Err (Refused error)) = false≢true
+
+pub event_is_answered : (replay : Replay) (event : Event) → IsAnswered replay event (answer_of replay event)
 unfolding answer_of
-store_is_answered r v off len byte some = access_is_answered r.heap (moved_by (variable r v) off) len Silent false≢true some
+event_is_answered r (Malloc v n) = malloc_faults (malloc_step r.heap n).answer
+event_is_answered r (Calloc v n) = malloc_faults (calloc_step r.heap n).answer
+event_is_answered r (Realloc v n) = realloc_faults (realloc_step r.heap (variable r v) n).answer
+event_is_answered r (Free v) = free_faults (free_step r.heap (variable r v)).answer
+event_is_answered r (Load v off len) = access_is_answered r.heap (moved_by (variable r v) off) len _ false≢true
+event_is_answered r (Store v off len byte) = access_is_answered r.heap (moved_by (variable r v) off) len Silent false≢true
+event_is_answered r (Addg v w u6 u4) = false≢true
+event_is_answered r (Subg v w u6 u4) = false≢true
 
 -- a fault is not silent
 not_silent : (h : Heap) (fault : Fault) → access_answer h Silent (Some fault) ≡ Silent → ⊥
@@ -119,10 +138,10 @@ answer_at first [] e after = refl
 answer_at first (event ∷ before) e after = answer_at (replay_after first event) before e after
 
 pub accesses_are_answered : (first : Replay) (events : List Event) → AccessesAreAnswered first events
-accesses_are_answered first events = grind (arith, at, load_is_answered, store_is_answered)
-  where
-    at : (before after : List Event) (e : Event) → events ≡ before ++ e ∷ after →
-        slice_get (answers first events) (length before) ≡ Some (answer_of (replay_of first before) e)
-    at before after e is = ap (λ all. slice_get (answers first all) (length before)) is ∙ answer_at first before e after
+accesses_are_answered first events before after e is = (
+  answer_of (replay_of first before) e,
+  ap (λ all. slice_get (answers first all) (length before)) is ∙ answer_at first before e after,
+  event_is_answered (replay_of first before) e,
+)
 
-pub ruleset access_laws = (load_is_answered, store_is_answered, store_is_done, accesses_are_answered)
+pub ruleset access_laws = (event_is_answered, store_is_done)

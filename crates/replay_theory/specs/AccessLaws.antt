@@ -1,5 +1,5 @@
 -- When each result of an access comes, exactly.
-use Rattle.std.specs.Prelude.{◌≡◌, ◌≢◌, ◌↔◌, ℕ, ◌<◌, ℤ, List, ◌∷◌, ◌++◌, length, slice_get, Some, IsTrue}
+use Rattle.std.specs.Prelude.{◌≡◌, ◌≢◌, ◌↔◌, ℕ, ◌<◌, List, ◌∷◌, ◌++◌, length, slice_get, Option, Some, None, IsTrue, MatchOption}
 use Rattle.machine_theory.specs.Access.{IsMapped, IsTagFault, loaded}
 use Rattle.machine_theory.specs.Address.{logical_tag, moved_by, Touches}
 use Rattle.machine_theory.specs.Memory.{tag_at}
@@ -7,7 +7,7 @@ use Rattle.trace_event.specs.declared.event.Event.{Event}
 use Rattle.trace_event.specs.declared.event.Event.TheVariants.{Load, Store}
 use Rattle.heap_theory.specs.declared.place_kind.PlaceKind.{PlaceKind}
 use Rattle.heap_theory.specs.GranuleKinds.{place_kind}
-use Rattle.replay_theory.specs.Replay.{Replay, Answer, variable, answers, replay_of, is_tag_fault}
+use Rattle.replay_theory.specs.Replay.{Replay, Answer, IsFaultAnswer, variable, answers, replay_of, is_tag_fault}
 use Rattle.replay_theory.specs.Replay.Answer.{Silent, Loaded, NotMapped, TagFault}
 use Rattle.heap_theory.specs.State.{Heap}
 
@@ -28,17 +28,30 @@ pub record IsAnswerTo (heap : Heap) (address len : ℕ) (done answer : Answer) :
       (IsMapped (length heap.memory) address len
       × ((g : ℕ) → Touches address len g → tag_at heap.memory g ≡ logical_tag address))
 
+-- ---- which events are accesses
+
+-- An access: its address, its bytes, and its result where it succeeds.
+pub record Access : Type 0 where
+  pub address : ℕ
+  pub len : ℕ
+  pub done : Answer
+
+-- What an event accesses; none for an event that is neither a load nor a store.
+abbrev pub access_of : Replay → Event → Option Access
+access_of replay (Load v off len) = let address = moved_by (variable replay v) off in
+    Some (record { address = address; len = len; done = Loaded (loaded replay.heap.memory address len) })
+access_of replay (Store v off len byte) = Some (record { address = moved_by (variable replay v) off; len = len; done = Silent })
+access_of replay other = None
+
+-- An event that accesses one byte or more has the result of that access. An event that accesses nothing has no fault.
+abbrev pub IsAnswered : Replay → Event → Answer → Type 0
+IsAnswered replay event answer = MatchOption (access_of replay event) (IsFaultAnswer answer → ⊥)
+    (λ access. 0 < access.len → IsAnswerTo replay.heap access.address access.len access.done answer)
+
 -- ---- whole traces
 
--- Each load and store of a trace has this result, in the replay after the events before it.
-pub record AccessesAreAnswered (first : Replay) (events : List Event) : Type 0 where
-  pub loads : (before after : List Event) (v : ℕ) (off : ℤ) (len : ℕ) →
-      events ≡ before ++ Load v off len ∷ after → 0 < len →
-      let replay = replay_of first before in let address = moved_by (variable replay v) off in
-      (answer : Answer) × (slice_get (answers first events) (length before) ≡ Some answer)
-      × IsAnswerTo replay.heap address len (Loaded (loaded replay.heap.memory address len)) answer
-  pub stores : (before after : List Event) (v : ℕ) (off : ℤ) (len byte : ℕ) →
-      events ≡ before ++ Store v off len byte ∷ after → 0 < len →
-      let replay = replay_of first before in
-      (answer : Answer) × (slice_get (answers first events) (length before) ≡ Some answer)
-      × IsAnswerTo replay.heap (moved_by (variable replay v) off) len Silent answer
+-- So is each event of a trace, in the replay after the events before it.
+abbrev pub AccessesAreAnswered : Replay → List Event → Type 0
+AccessesAreAnswered first events = (before after : List Event) (event : Event) → events ≡ before ++ event ∷ after →
+    (answer : Answer) × (slice_get (answers first events) (length before) ≡ Some answer)
+    × IsAnswered (replay_of first before) event answer
