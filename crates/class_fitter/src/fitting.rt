@@ -38,6 +38,13 @@ impl Fitted {
         &self.fit
     }
 
+    /// The table with its certificate, for whoever keeps it.
+    pub fn into_fit(self) -> Fit
+        ensures { result ≡ self.fit }
+    {
+        self.fit
+    }
+
     /// How many span footprints `fit` asked for. This is for callers of the library; the program does not print it.
     pub fn evaluations(&self) -> u64
         ensures { result ≡ self.now.evaluations }

@@ -41,6 +41,13 @@ impl Tuned {
         &self.sheet
     }
 
+    /// The table with its certificate, for whoever keeps it.
+    pub fn into_sheet(self) -> Sheet
+        ensures { result ≡ self.sheet }
+    {
+        self.sheet
+    }
+
     /// How many span wastes `tune` asked for. This is for callers of the library; the program does not print it.
     pub fn evaluations(&self) -> u64
         ensures { result ≡ self.now.evaluations }

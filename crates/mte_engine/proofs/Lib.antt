@@ -5,10 +5,12 @@ pub mod CountedLines
 pub mod FaultLines
 pub mod HistoryFaultLines
 pub mod Headline
+pub mod InFront
 pub mod SheetLinesSettled
 pub mod LineAndTrace
 pub mod Reporting
 pub mod LeadingAnd
 pub mod TableAnd
 pub mod TracePieces
+pub mod RowLines
 pub mod RunAnswers

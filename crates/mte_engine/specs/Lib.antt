@@ -9,8 +9,10 @@ pub mod Profile
 pub mod Replay
 pub mod ReportFrom
 pub mod ReportLeft
+pub mod RowLines
 pub mod Run
 pub mod Score
+pub mod SheetLeft
 pub mod FaultText
 pub mod Traces
 pub mod Tune

@@ -1,14 +1,14 @@
 //! `fit`: the class table of least footprint over a history, with its certificate.
 ghost use Rattle.mte_engine.specs.Fit.{FitAnswers};
 ghost use Rattle.mte_engine.specs.Outcome.{GivesAnswer, IsReady, Runs};
-ghost use Rattle.byte_streams.specs.TextLeft.{text_left};
+ghost use Rattle.mte_engine.specs.SheetLeft.{sheet_left};
 ghost use Rattle.mte_engine.specs.Tune.{AreTuneOptions};
 
 use crate::engine::{Engine, Status, run_engine};
 use crate::fault::{AnswerError, ToolFault};
 use crate::input_parts::read_history;
-use byte_streams::{ByteSink, ByteSource, Text, WholeText};
-use potential_check::write_fit;
+use crate::sheet_writing::SheetText;
+use byte_streams::{ByteSink, ByteSource, WholeText};
 use std::alloc::{AllocError, Global};
 
 /// Reads a history, and writes the fit of its table of least footprint. Of all tables that have at most `limit` (1 to 32) classes, all of
@@ -43,7 +43,7 @@ struct FitEngine {
 impl Engine for FitEngine {
     type Input = WholeText;
 
-    type Output = Text;
+    type Output = SheetText;
 
     ghost answers = { λ e. FitAnswers e.limit e.step };
 
@@ -51,19 +51,23 @@ impl Engine for FitEngine {
         Ok(WholeText::new(alloc))
     }
 
-    fn answer(&self, alloc: Global, input: WholeText) -> Result<(Text, Status), AnswerError> {
+    fn answer(&self, alloc: Global, input: WholeText) -> Result<(SheetText, Status), AnswerError> {
         fit_text(alloc, self.limit, self.step, &input.text)
     }
 }
 
 // the answer to a text
-fn fit_text(alloc: Global, limit: u8, step: u8, text: &[u8]) -> Result<(Text, Status), AnswerError>
+fn fit_text(
+    alloc: Global,
+    limit: u8,
+    step: u8,
+    text: &[u8],
+) -> Result<(SheetText, Status), AnswerError>
     requires options { AreTuneOptions limit step }
-    ensures { GivesAnswer text_left (FitAnswers limit step text.now) result }
+    ensures { GivesAnswer sheet_left (FitAnswers limit step text.now) result }
 {
     let history = read_history(alloc, text, 0)?;
     let fitted = class_fitter::fit(alloc, &history, limit, step)?;
-    let mut written = Vec::new(alloc);
-    write_fit(fitted.fit(), &mut written)?;
-    Ok((Text::new(written), Status::Done))
+    let output = SheetText::of_fit(alloc, fitted.into_fit())?;
+    Ok((output, Status::Done))
 }

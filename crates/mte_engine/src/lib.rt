@@ -18,6 +18,7 @@ mod replaying;
 mod report;
 mod running;
 mod scoring;
+mod sheet_writing;
 mod trace_counting;
 mod trace_feeding;
 mod tuning;

@@ -1,13 +1,13 @@
 //! `tune`: the class table of least waste for a profile, with its certificate.
 ghost use Rattle.mte_engine.specs.Outcome.{GivesAnswer, IsReady, Runs};
-ghost use Rattle.byte_streams.specs.TextLeft.{text_left};
+ghost use Rattle.mte_engine.specs.SheetLeft.{sheet_left};
 ghost use Rattle.mte_engine.specs.Tune.{AreTuneOptions, TuneAnswers};
 
 use crate::engine::{Engine, Status, run_engine};
 use crate::fault::{AnswerError, ToolFault};
 use crate::input_parts::read_profile;
-use byte_streams::{ByteSink, ByteSource, Text, WholeText};
-use potential_check::write_sheet;
+use crate::sheet_writing::SheetText;
+use byte_streams::{ByteSink, ByteSource, WholeText};
 use std::alloc::{AllocError, Global};
 
 /// Reads a profile, and writes the sheet of its table of least waste. Of all tables that have at most `limit` (1 to 32) classes, all of
@@ -42,7 +42,7 @@ struct TuneEngine {
 impl Engine for TuneEngine {
     type Input = WholeText;
 
-    type Output = Text;
+    type Output = SheetText;
 
     ghost answers = { λ e. TuneAnswers e.limit e.step };
 
@@ -50,19 +50,23 @@ impl Engine for TuneEngine {
         Ok(WholeText::new(alloc))
     }
 
-    fn answer(&self, alloc: Global, input: WholeText) -> Result<(Text, Status), AnswerError> {
+    fn answer(&self, alloc: Global, input: WholeText) -> Result<(SheetText, Status), AnswerError> {
         tune_text(alloc, self.limit, self.step, &input.text)
     }
 }
 
 // the answer to a text
-fn tune_text(alloc: Global, limit: u8, step: u8, text: &[u8]) -> Result<(Text, Status), AnswerError>
+fn tune_text(
+    alloc: Global,
+    limit: u8,
+    step: u8,
+    text: &[u8],
+) -> Result<(SheetText, Status), AnswerError>
     requires options { AreTuneOptions limit step }
-    ensures { GivesAnswer text_left (TuneAnswers limit step text.now) result }
+    ensures { GivesAnswer sheet_left (TuneAnswers limit step text.now) result }
 {
     let profile = read_profile(alloc, text, 0)?;
     let tuned = class_tuner::tune(alloc, &profile, limit, step)?;
-    let mut written = Vec::new(alloc);
-    write_sheet(tuned.sheet(), &mut written)?;
-    Ok((Text::new(written), Status::Done))
+    let output = SheetText::of_sheet(alloc, tuned.into_sheet())?;
+    Ok((output, Status::Done))
 }

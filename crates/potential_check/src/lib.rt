@@ -27,4 +27,4 @@ pub use rows::{Rows, number_in_row};
 pub use sheet::Sheet;
 pub use spans::Spans;
 pub use tuner_theory::{Refusal, Verdict};
-pub use writing::{write_fit, write_sheet};
+pub use writing::{ROW_BYTES, write_fit, write_row, write_sheet};

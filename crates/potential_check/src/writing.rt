@@ -1,5 +1,5 @@
 //! The texts of sheets and fits.
-ghost use Rattle.std.specs.Prelude.{◌≡◌, ◌≤◌, ◌++◌, length, map, OnOk, OnErr};
+ghost use Rattle.std.specs.Prelude.{◌≡◌, ◌+◌, ◌*◌, ◌<◌, ◌≤◌, ◌++◌, codes, length, map, vec_capacity, vec_len, IsOk, OnOk, OnErr};
 ghost use Rattle.line_text.specs.Lines.{ended, text_of};
 ghost use Rattle.class_table.specs.ClassLine.{class_line};
 ghost use Rattle.line_text.specs.Prefixes.{IsPrefix};
@@ -17,7 +17,7 @@ use crate::rows::Rows;
 use crate::sheet::Sheet;
 use crate::sheet_line::{LIMIT, ROW, STEP};
 use arrayvec::ArrayVec;
-use class_table::{ClassTable, LINE_BYTES};
+use class_table::{ClassTable, LINE_BYTES, MOST_NEEDS};
 use itoa::write_digits;
 use std::alloc::AllocError;
 
@@ -28,6 +28,9 @@ const NUMBER_BYTES: usize = 21;
 const TOGETHER: usize = 16;
 
 const TOGETHER_BYTES: usize = TOGETHER * NUMBER_BYTES;
+
+/// The most bytes that the line of a row has: its name, as many numbers as there may be needs, and the newline.
+pub const ROW_BYTES: usize = 4 + MOST_NEEDS * NUMBER_BYTES;
 
 /// Appends the text of a sheet: its class line, `limit K`, `step S` unless the step is 1, `waste W`, and a line `row ..` for each row.
 /// Each line has its newline. If memory runs out, `text` is unchanged.
@@ -64,6 +67,16 @@ pub fn write_fit(fit: &Fit, text: &mut Vec<u8>) -> Result<(), AllocError>
             rows: &fit.rows,
         },
     )
+}
+
+/// Appends the line of a row, with its newline, to a text that has room for it. So it takes no memory.
+pub fn write_row(row: &[u64], text: &mut Vec<u8>)
+    requires few { length row.now ≤ MOST_NEEDS }
+    requires room { vec_len text.old + ROW_BYTES ≤ vec_capacity text.old }
+    ensures written { text.new.items ≡ text.old.items ++ ended (named_line (codes "row") row.now) }
+    ensures capacity { vec_capacity text.old ≤ vec_capacity text.new }
+{
+    let _appended = append_line(text, ROW, row);
 }
 
 // what is written, a sheet or a fit by its cost
@@ -134,10 +147,13 @@ fn bytes_for(rows: &Rows) -> usize {
     bytes
 }
 
-// appends the line of a name and numbers
+// appends the line of a name and numbers; with room for it, it is appended
 fn append_line(text: &mut Vec<u8>, name: &[u8], numbers: &[u64]) -> Result<(), AllocError>
     ensures written { OnOk result (text.new.items ≡ text.old.items ++ ended (named_line name.now numbers.now)) }
     ensures kept { IsPrefix text.old.items text.new.items }
+    ensures capacity { vec_capacity text.old ≤ vec_capacity text.new }
+    ensures room { vec_len text.old + length name.now + NUMBER_BYTES * length numbers.now < vec_capacity text.old
+        → IsOk result }
 {
     text.extend_from_slice(name)?;
     let mut rest = numbers;
@@ -155,6 +171,9 @@ fn append_spaced(text: &mut Vec<u8>, numbers: &[u64]) -> Result<(), AllocError>
     requires { length numbers.now ≤ TOGETHER }
     ensures written { OnOk result (text.new.items ≡ text.old.items ++ spaced numbers.now) }
     ensures kept { IsPrefix text.old.items text.new.items }
+    ensures len { vec_len text.new ≤ vec_len text.old + NUMBER_BYTES * length numbers.now }
+    ensures capacity { vec_capacity text.old ≤ vec_capacity text.new }
+    ensures room { vec_len text.old + NUMBER_BYTES * length numbers.now ≤ vec_capacity text.old → IsOk result }
 {
     let mut buffer = [0u8; TOGETHER_BYTES];
     let mut start = TOGETHER_BYTES;

@@ -1,17 +1,24 @@
-use Rattle.std.proofs.Common.{◌≡◌, ◌∙◌, ap, List, ℕ, ◌++◌}
+use Rattle.std.proofs.Common.{◌∙◌, ap, List, ℕ}
 use Rattle.potential_check.specs.FitView.{fit_of}
 use Rattle.potential_check.specs.FitText.{fit_text}
 use Rattle.potential_check.specs.declared.fit.Fit.{Fit}
-use Rattle.byte_streams.specs.TextLeft.{text_left}
+use Rattle.tuner_theory.proofs.FootprintLawLemmas.{peaks_are_counts}
+use Rattle.tuner_theory.proofs.LawLemmas.{few_places}
+use Rattle.tuner_theory.specs.Histories.{peaks}
 use Rattle.mte_engine.specs.declared.engine.Status.TheVariants.{Done}
+use Rattle.mte_engine.proofs.RowLines.{short_rows}
 use Rattle.mte_engine.proofs.fitting.fit_text.Goals as goal
+
+pub of_fit-requires : goal.of_fit-requires
+of_fit-requires c =
+    let history = c.in_ok-history.history in
+    let is_history = (rw c.history.view_is at c.history.invariant.is_history).snapshots in
+    let few = few_places (peaks history.snapshots) c.args.step c.requires.options.is_step (peaks_are_counts history.snapshots is_history) in
+    rw c.into_fit.ensures (short_rows _ c.args.limit _ c.in_ok-fitted.ensures.fitted.shape few)
 
 pub returns : goal.returns
 returns c =
-    let left : text_left c.new.result ≡ c.write_fit.new.text.items = rw c.new.ensures.whole c.new.ensures.text in
-    let text = left ∙ c.in_ok-write_fit.ensures.written
-    ∙ ap (λ (before : List ℕ). before ++ fit_text (fit_of c.fit-2.result.now)) c.new-written.ensures.items
-    ∙ ap (λ (s : Fit). fit_text (fit_of s)) c.fit-2.ensures in (
+    let text = c.in_ok-output.ensures ∙ ap (λ (f : Fit). fit_text (fit_of f)) c.into_fit.ensures in (
       c.in_ok-history.history,
       c.in_ok-history.ensures,
       record {

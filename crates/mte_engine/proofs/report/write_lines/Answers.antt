@@ -1,18 +1,9 @@
-use Rattle.std.proofs.Common.{◌≡◌, ℕ, suc, ◌+◌, ◌<◌, ◌∙◌, ap, refl, List, ◌∷◌, drop, length, length-drop, get_or, take, arith}
-use Rattle.std.specs.Prelude.{slice_get, Some}
-use Rattle.std.proofs.Math.Seq.{drop-cons}
-use Rattle.std.proofs.lemmas.Option.{get_or_from_slice_get}
+use Rattle.std.proofs.Common.{◌≡◌, ◌+◌, ◌∙◌, ap, refl, drop, length-drop, take, arith}
 use Rattle.trace_event.specs.declared.event.Event.{Event}
 use Rattle.replay_core.specs.ReplayState.{Stored, stored_after}
+use Rattle.mte_engine.proofs.InFront.{in_front}
 use Rattle.mte_engine.proofs.Reporting.{events_after, reported_more}
 use Rattle.mte_engine.proofs.report.write_lines.Goals as goal
-
-in_front : (events : List Event) (k : ℕ) (event : Event) → k < length events → slice_get events k ≡ Some event
-    → drop k events ≡ event ∷ drop (k + 1) events
-in_front events k event less is =
-    let next : suc k ≡ k + 1 = omega arith in
-    drop-cons events k event less
-    ∙ rw (get_or_from_slice_get events k event event is, next) refl
 
 one_more : (before after : Stored) (event : Event) → after ≡ stored_after before event → after.totals.events ≡ before.totals.events + 1
 one_more before after event is = ap (λ (s : Stored). s.totals.events) is ∙ events_after before event
@@ -26,7 +17,7 @@ lines-preserved c =
     record {
       report =
           reported_more (take c.lines.end c.lines.text) (take c.step_at-end.result c.step_at-end.new.text) _ c.lines.replay c.step_at-end.new.self
-          (drop k events) (drop (k + 1) events) _ (in_front events k _ (omega arith) c.at-event.ensures) refl c.step_at-end.ensures.stored
+          (drop k events) (drop (k + 1) events) _ (in_front events k _ c.at-event.ensures) refl c.step_at-end.ensures.stored
           c.step_at-end.ensures.line
           ∙ inv.report;
       few = omega (arith, inv.few, more, length-drop k events, length-drop (k + 1) events);

@@ -1,17 +1,22 @@
-use Rattle.std.proofs.Common.{◌≡◌, ◌∙◌, ap, List, ℕ, ◌++◌}
+use Rattle.std.proofs.Common.{◌∙◌, ap, List, ℕ}
 use Rattle.potential_check.specs.SheetView.{sheet_of}
 use Rattle.potential_check.specs.SheetText.{sheet_text}
 use Rattle.potential_check.specs.declared.sheet.Sheet.{Sheet}
-use Rattle.byte_streams.specs.TextLeft.{text_left}
+use Rattle.tuner_theory.proofs.LawLemmas.{few_places}
 use Rattle.mte_engine.specs.declared.engine.Status.TheVariants.{Done}
+use Rattle.mte_engine.proofs.RowLines.{short_rows}
 use Rattle.mte_engine.proofs.tuning.tune_text.Goals as goal
+
+pub of_sheet-requires : goal.of_sheet-requires
+of_sheet-requires c =
+    let profile = c.in_ok-profile.profile in
+    let is_profile = rw c.profile.view_is at c.profile.invariant in
+    let few = few_places profile.counts c.args.step c.requires.options.is_step is_profile.counts in
+    rw c.into_sheet.ensures (short_rows _ c.args.limit _ c.in_ok-tuned.ensures.tuned.shape few)
 
 pub returns : goal.returns
 returns c =
-    let left : text_left c.new.result ≡ c.write_sheet.new.text.items = rw c.new.ensures.whole c.new.ensures.text in
-    let text = left ∙ c.in_ok-write_sheet.ensures.written
-    ∙ ap (λ (before : List ℕ). before ++ sheet_text (sheet_of c.sheet.result.now)) c.new-written.ensures.items
-    ∙ ap (λ (s : Sheet). sheet_text (sheet_of s)) c.sheet.ensures in (
+    let text = c.in_ok-output.ensures ∙ ap (λ (s : Sheet). sheet_text (sheet_of s)) c.into_sheet.ensures in (
       c.in_ok-profile.profile,
       c.in_ok-profile.ensures,
       record {

@@ -1,4 +1,4 @@
-use Rattle.std.proofs.Common.{◌≡◌, ℕ, List, [], ◌∷◌, ◌++◌, length, refl, sym, ap, ◌∙◌, append_assoc, append-nil, arith}
+use Rattle.std.proofs.Common.{◌≡◌, ℕ, List, [], ◌∷◌, ◌++◌, length, refl, sym, ap, ◌∙◌, append_assoc, append-nil, length-append, arith}
 use Rattle.std.proofs.lemmas.Grind.{common_steps}
 use Rattle.std.proofs.lemmas.List.{take-append-drop}
 use Rattle.std.proofs.lemmas.List.Concat.{flat_map-append}
@@ -29,6 +29,8 @@ loop-rest-preserved c =
       written = rw c.in_ok-append_spaced.ensures.written
           (append_assoc text (spaced next) (spaced later) ∙ (ap (λ (more : List ℕ). text ++ more) parts ∙ c.loop-rest.invariant.written));
       kept = prefix_of_prefix _ _ _ c.loop-rest.invariant.kept c.append_spaced.ensures.kept;
+      capacity = omega (arith, c.loop-rest.invariant.capacity);
+      len = omega (arith, c.loop-rest.invariant.len, ap length split, length-append {A = ℕ});
     }
 
 pub returns-clause-written : goal.returns-clause-written

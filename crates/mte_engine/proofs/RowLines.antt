@@ -1,0 +1,22 @@
+-- The lines of the rows of a sheet or a fit, one after the other.
+use Rattle.std.proofs.Common.{◌≡◌, ℕ, ◌+◌, ◌≤◌, List, ◌++◌, codes, drop, length, Some, append_assoc, arith}
+use Rattle.std.specs.Prelude.{slice_get}
+use Rattle.std.proofs.lemmas.List.Elements.{All-weaker}
+use Rattle.class_table.specs.NamedLines.{named_line}
+use Rattle.class_table.specs.declared.sizes.TheConstants.{MOST_NEEDS}
+use Rattle.line_text.specs.Lines.{ended}
+use Rattle.tuner_theory.specs.Rows.{HasShape}
+use Rattle.mte_engine.specs.RowLines.{AreShort, row_lines}
+use Rattle.mte_engine.proofs.InFront.{in_front}
+
+-- the line of one row more was written
+pub line_written : (before after : List ℕ) (rows : List (List ℕ)) (i : ℕ) (row : List ℕ) → slice_get rows i ≡ Some row
+    → after ≡ before ++ ended (named_line (codes "row") row)
+    → after ++ row_lines (drop (i + 1) rows) ≡ before ++ row_lines (drop i rows)
+line_written before after rows i row is written =
+    rw (written, in_front rows i row is) (append_assoc before (ended (named_line (codes "row") row)) (row_lines (drop (i + 1) rows)))
+
+-- rows of a certificate have a number for each distinct need
+pub short_rows : (rows : List (List ℕ)) (limit d : ℕ) → HasShape rows limit d → d ≤ MOST_NEEDS → AreShort rows
+short_rows rows limit d shape few =
+    All-weaker (λ row. length row ≡ d) (λ row. length row ≤ MOST_NEEDS) (λ row is. omega (arith, is)) rows shape.row_lengths
