@@ -11,6 +11,7 @@ pub mod ReadIsSpelled
 pub mod RowConditions
 pub mod RowLines
 pub mod RowNumbers
+pub mod RowWalk
 pub mod SheetFaults
 pub mod SheetLines
 pub mod SpelledIsRead
