@@ -74,3 +74,16 @@ returns-clause-filled g c =
     subst (λ (k : ℕ). IsFilled (g.C.CostSource.cost c.args.costs.now) (g.C.CostSource.place_count c.args.costs.now) k
     (lists_of c.loop-k.filled.rows.items) (lists_of c.loop-k.filled.ends.items))
     all c.loop-k.invariant.filled
+
+pub returns-in_err-next-clause-bounded : goal.returns-in_err-next-clause-bounded
+returns-in_err-next-clause-bounded g c =
+    calls-more (g.C.CostSource.call_count c.args.costs.now) (g.C.CostSource.call_count c.loop-k.costs) _ c.loop-k.k c.args.limit _
+    c.loop-k.invariant.bounded (rw c.loop-k.invariant.only_counts.same_places at c.next_row.ensures.bounded) (omega arith)
+
+pub returns-in_err-next-clause-kept : goal.returns-in_err-next-clause-kept
+returns-in_err-next-clause-kept g c =
+    (OnlyCounts-more g.C.CostSource g.met.C.CostSource.keeps_last _ _ _ c.loop-k.invariant.only_counts c.next_row.ensures.only_counts).kept
+
+pub returns-in_err-push-2-clause-kept : goal.returns-in_err-push-2-clause-kept
+returns-in_err-push-2-clause-kept g c =
+    (OnlyCounts-more g.C.CostSource g.met.C.CostSource.keeps_last _ _ _ c.loop-k.invariant.only_counts c.in_ok-next.ensures.only_counts).kept
