@@ -1,4 +1,5 @@
 use Rattle.std.proofs.Common.{◌≡◌, ℕ, suc, ◌+◌, ◌-◌, ◌<◌, ◌≤◌, List, length, slice_index, arith, ap, ◌∙◌}
+use Rattle.std.proofs.lemmas.Grind.{common_steps}
 use Rattle.std.proofs.lemmas.List.{with_items_is}
 use Rattle.class_fitter.specs.PlaceByPlace.{AreLeastRowsFrom}
 use Rattle.footprint_check.proofs.LawLemmas.{few_spans, spans_of_places}
@@ -68,3 +69,10 @@ pub returns-clause-counted : goal.returns-clause-counted
 returns-clause-counted g c =
     let all : c.places-places.result - c.loop-i.i ≡ g.C.SpanCosts.place_count c.args.costs.now = omega (arith, c.places-places.ensures) in
     c.loop-i.invariant.counted ∙ ap (λ d. g.C.SpanCosts.after_calls c.args.costs.now (span_count d)) all
+
+pub loop-preserved : goal.loop-preserved
+loop-preserved g c = grind (arith, common_steps)
+
+pub fill_place-requires-clause-rows : goal.fill_place-requires-clause-rows
+fill_place-requires-clause-rows g c =
+    rw (c.deref_mut-in-loop-i.ensures.value, c.deref_mut-in-loop-i-2.ensures.value) c.loop-i.invariant.so_far
