@@ -15,7 +15,7 @@ use std::mem;
 // the room for what is ready at a time, in bytes
 const PIECE: usize = 65_536;
 
-/// A text, and then the lines of rows. It writes a line into its buffer once the lines before it were taken.
+/// A text, and then the lines of rows. It writes the lines of further rows into its buffer when all that is in it was taken.
 #[derive(Drop)]
 pub struct SheetText {
     buffer: Vec<u8>,
@@ -94,7 +94,8 @@ impl Output for SheetText {
 fn write_rows(rows: &Rows, from: usize, text: &mut Vec<u8>) -> usize
     requires short { AreShort rows.now }
     requires room { PIECE ≤ vec_capacity text.old }
-    ensures written { text.new.items ++ row_lines (drop result rows.now) ≡ text.old.items ++ row_lines (drop from rows.now) }
+    ensures written { text.new.items ++ row_lines (drop result rows.now)
+        ≡ text.old.items ++ row_lines (drop from rows.now) }
     ensures room { PIECE ≤ vec_capacity text.new }
     ensures some { vec_len text.new ≡ 0 → length rows.now ≤ result }
 {
