@@ -1,10 +1,10 @@
 -- What a `Layout` keeps.
-use Rattle.std.specs.Prelude.{◌≡◌, ◌+◌, length, map}
+use Rattle.std.specs.Prelude.{◌≡◌, ◌+◌, ◌^◌, ◌≤◌, length, map}
 use Rattle.std.specs.List.{range_with_len}
 use Rattle.class_table.specs.Counts.{AreCounts}
 use Rattle.class_table.specs.Layout.{Partition, IsPartition, share_of, first_slot}
 use Rattle.class_table.specs.declared.layout.Layout.TheInside.{Inside}
-use Rattle.class_table.specs.declared.layout.TheConstants.{SLOT_STEP}
+use Rattle.class_table.specs.declared.layout.TheConstants.{LARGEST_SHIFT}
 
 abbrev pub partition_of : Inside → Partition
 partition_of layout = record { classes = layout.classes.items; granules = layout.granules }
@@ -16,4 +16,5 @@ pub record IsLayout (layout : Inside) : Type 0 where
   pub share : layout.share ≡ share_of (partition_of layout)
   pub firsts : layout.firsts.items ≡ map (first_slot (partition_of layout)) (range_with_len 0 (length layout.classes.items + 1))
   pub class_counts : AreCounts layout.class_counts 1 layout.classes.items
-  pub slot_counts : AreCounts layout.slot_counts SLOT_STEP layout.firsts.items
+  pub slot_counts : AreCounts layout.slot_counts (2 ^ layout.slot_shift) layout.firsts.items
+  pub slot_shift : layout.slot_shift ≤ LARGEST_SHIFT

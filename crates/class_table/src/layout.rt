@@ -21,8 +21,8 @@ pub const MOST_SLOTS: u32 = MOST_GRANULES / SMALLEST_CLASS as u32;
 // the first slots of all classes, and after them the number of slots
 const MOST_FIRSTS: usize = MOST_CLASSES + 1;
 
-// the step of the counts of first slots
-const SLOT_STEP: u32 = MOST_SLOTS / COUNTS as u32;
+// The step of the counts of first slots is a power of 2, at most this one: 128 times 1,024 slots are the most of a region.
+const LARGEST_SHIFT: u32 = 7;
 
 /// Where a slot lies: its first granule, which is its header, and its class, the number of its granules.
 #[derive(Clone, Copy, Debug, PartialEq, Eq)]
@@ -43,8 +43,9 @@ pub struct Layout {
     granules: u32,
     // the classes up to each number of granules
     class_counts: [u8; COUNTS],
-    // the first slots up to each number of a slot that is a multiple of SLOT_STEP
+    // the first slots up to each number of a slot that is a multiple of 2 to the power of `slot_shift`
     slot_counts: [u8; COUNTS],
+    slot_shift: u32,
 }
 
 impl Model for Layout {
@@ -76,9 +77,11 @@ impl Layout {
             slots += share / class;
         }
         firsts.push(slots);
+        let slot_shift = shift_for(slots);
         Layout {
             class_counts: counts_at(&classes, 1),
-            slot_counts: counts_at(&firsts, SLOT_STEP),
+            slot_counts: counts_at(&firsts, 1 << slot_shift),
+            slot_shift,
             classes,
             firsts,
             share,
@@ -152,7 +155,7 @@ impl Layout {
         ensures from { first_slot self.now result ≤ slot }
         ensures to { slot < first_slot self.now (result + 1) }
     {
-        let known = self.slot_counts[(slot / SLOT_STEP) as usize];
+        let known = self.slot_counts[((slot >> self.slot_shift) as usize).min(COUNTS - 1)];
         count_up_to(&self.firsts, slot, known) as usize - 1
     }
 
@@ -259,4 +262,13 @@ fn share_of_each(classes: usize, granules: u32) -> u32
     ensures { result ≡ granules / classes }
 {
     granules.checked_div(classes as u32).unwrap_or(0)
+}
+
+// The power of 2 that the counts of this many slots have as their step: the least with which they reach the last slot. The classes of the
+// largest blocks have few slots, so a larger step would leave several classes to be searched.
+fn shift_for(slots: u32) -> u32
+    ensures { result ≤ LARGEST_SHIFT }
+{
+    let steps = slots / COUNTS as u32;
+    (u32::BITS - steps.leading_zeros()).min(LARGEST_SHIFT)
 }

@@ -2,7 +2,7 @@
 ghost use Rattle.granule_memory.specs.Changes.{ChangesOnlyBytes, ChangesOnlyTags};
 ghost use Rattle.machine_theory.specs.Memory.{byte_at, bytes_at, new_granule, tag_at, tagged, word_at, written, Granule, IsMemory};
 ghost use Rattle.std.specs.Int.{to_le_bytes, w64};
-ghost use Rattle.std.specs.Prelude.{◌≡◌, ◌↔◌, ◌+◌, ◌*◌, ◌<◌, ◌≤◌, [], ◌∷◌, ℕ, IfOk, IsTrue, List, length, replicate};
+ghost use Rattle.std.specs.Prelude.{◌≡◌, ◌↔◌, ◌+◌, ◌*◌, ◌<◌, ◌≤◌, [], ◌∷◌, ℕ, IfOk, IsTrue, List, length, replicate, take};
 
 use machine_theory::{FEWEST_GRANULES, GRANULE_BYTES, MOST_GRANULES};
 use raw_region::RawRegion;
@@ -185,13 +185,24 @@ impl Memory {
     }
 
     /// Fills `to` with the bytes from byte `i` of the memory on; granule g begins at byte 16 g.
-    /// It serves loads, and a `realloc` that moves a chunk: any number of granules is one copy. It checks no tag; a load does that first.
+    /// It serves a `realloc` that moves a chunk: any number of granules is one copy. It checks no tag.
     #[tactic(auto, using(crate::proofs::Granules::granules_counted, crate::proofs::Granules::bytes_are))]
     pub fn read_bytes(&self, i: usize, to: &mut [u8])
         requires { i + length to.old ≤ GRANULE_BYTES * length self.now }
         ensures { to.new ≡ bytes_at self.now i (length to.old) }
     {
         self.region.read_bytes(i, to);
+    }
+
+    /// Fills the first `count` bytes of `to`, 0 to 64, with the bytes from byte `i` of the memory on; granule g begins at byte 16 g. The bytes
+    /// of `to` after them may change. It serves loads, and checks no tag; a load does that first.
+    #[tactic(auto, using(crate::proofs::Granules::granules_counted, crate::proofs::Granules::bytes_are))]
+    pub fn read_into(&self, i: usize, count: usize, to: &mut [u8; 64])
+        requires place { i + count ≤ GRANULE_BYTES * length self.now }
+        requires count { count ≤ 64 }
+        ensures { take count to.new ≡ bytes_at self.now i count }
+    {
+        self.region.read_into(i, count, to);
     }
 
     /// Copies `bytes` to the bytes from byte `i` of the memory on; granule g begins at byte 16 g. No tag changes.

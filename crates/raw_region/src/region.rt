@@ -2,12 +2,13 @@ ghost use Rattle.raw_region.specs.Bytes.{word_at, with_bytes, ChangesOnly};
 ghost use Rattle.raw_region.specs.Ownership.{region_owns, region_lends};
 ghost use Rattle.std.specs.Borrow.{sem};
 ghost use Rattle.std.specs.Int.{w64, to_le_bytes};
-ghost use Rattle.std.specs.Prelude.{◌≡◌, ◌+◌, ◌-◌, ◌<◌, ◌≤◌, ◌^◌, ℕ, All, IfOk, List, length, replicate, slice_index, slice_range, slice_set};
+ghost use Rattle.std.specs.Prelude.{◌≡◌, ◌+◌, ◌-◌, ◌<◌, ◌≤◌, ◌^◌, ℕ, All, IfOk, List, length, replicate, slice_index, slice_range, slice_set, take};
 
-use crate::short_fill::fill_bytes;
+use crate::short_fill::fill_run;
 use crate::zeros::write_zeros;
 use std::alloc::{AllocError, Allocator, Global};
 use std::marker::Model;
+use std::simd::prelude::*;
 
 /// A block of 1 to 2^30 bytes from the allocator. Contracts see it as the list of its bytes. Dropping it frees the block, at most once.
 pub struct RawRegion {
@@ -120,7 +121,7 @@ impl RawRegion {
         ensures bytes { self.new ≡ with_bytes self.old from (replicate (to - from) b) }
         ensures others { ChangesOnly self.old self.new from to }
     {
-        fill_bytes(&mut self.as_mut_slice()[from..to], b);
+        fill_run(self.as_mut_slice(), from, to, b);
     }
 
     /// Fills `to` with the bytes from place `i` on, in one copy.
@@ -129,6 +130,21 @@ impl RawRegion {
         ensures { to.new ≡ slice_range self.now i (i + length to.old) }
     {
         to.copy_from_slice(&self.as_slice()[i..i + to.len()]);
+    }
+
+    /// Fills the first `count` bytes of `to`, 0 to 64, with the bytes from place `i` on. The bytes of `to` after them may change. Where the
+    /// region goes on for 64 bytes it copies these at once, so that no branch depends on `count`.
+    pub fn read_into(&self, i: usize, count: usize, to: &mut [u8; 64])
+        requires place { i + count ≤ length self.now }
+        requires count { count ≤ 64 }
+        ensures { take count to.new ≡ slice_range self.now i (i + count) }
+    {
+        let bytes = self.as_slice();
+        if bytes.len() - i >= 64 {
+            u8x64::from_slice(&bytes[i..]).copy_to_slice(to);
+        } else {
+            to[..count].copy_from_slice(&bytes[i..i + count]);
+        }
     }
 
     /// Copies `bytes` to the places from `i` on, in one copy.

@@ -28,7 +28,7 @@ pub(crate) fn load(heap: &Heap, address: u64, len: u8, bytes: &mut [u8; LONGEST_
     ensures answer { shown bytes.new result ≡ load_answer heap.now.state address len }
     ensures filled { FitsBuffer result }
 {
-    match heap.load(address, &mut bytes[..usize::from(len)]) {
+    match heap.load_into(address, usize::from(len), bytes) {
         Ok(()) => Answer::Loaded { len },
         Err(fault) => fault_answer(heap, fault),
     }

@@ -3,7 +3,7 @@ ghost use Rattle.line_text.specs.Hexadecimal.{hex};
 ghost use Rattle.std.specs.Fmt.{decimal};
 ghost use Rattle.std.specs.List.{flat_map};
 ghost use Rattle.replay_core.specs.TwoDigits.{two_digits};
-ghost use Rattle.std.specs.Prelude.{◌≡◌, ◌++◌, ◌+◌, ◌*◌, ◌/◌, ◌%◌, ◌<◌, ◌≤◌, length, take};
+ghost use Rattle.std.specs.Prelude.{◌≡◌, ◌++◌, ◌+◌, ◌*◌, ◌/◌, ◌%◌, ◌<◌, ◌≤◌, drop, length, take};
 
 use itoa::Buffer;
 use std::simd::prelude::*;
@@ -102,21 +102,35 @@ fn two(number: usize) -> [u8; 2]
     TENS[number]
 }
 
-/// Writes two digits for each byte, of which there are whole strides of sixteen.
+/// Writes two digits for each byte, of which there are whole strides of 32. A longer stride leaves fewer branches on the number of bytes,
+/// which follows no pattern.
 #[inline(always)]
 pub(crate) fn put_hex_strides(text: &mut [u8], at: usize, bytes: &[u8]) -> usize
     requires room { at + 2 * length bytes.now ≤ length text.old }
-    requires whole { length bytes.now % 16 ≡ 0 }
+    requires whole { length bytes.now % 32 ≡ 0 }
     ensures end { result ≡ at + 2 * length bytes.now }
     ensures text { take result text.new ≡ take at text.old ++ flat_map hex bytes.now }
 {
     let mut done = 0;
     while done < bytes.len() {
-        let digits = hex_digits(u8x16::from_slice(&bytes[done..]));
-        digits.copy_to_slice(&mut text[at + 2 * done..]);
-        done += 16;
+        let middle = put_hex_half(text, at + 2 * done, bytes, done);
+        put_hex_half(text, middle, bytes, done + 16);
+        done += 32;
     }
     at + 2 * done
+}
+
+// Writes two digits for each of the sixteen bytes from a place on.
+#[inline(always)]
+fn put_hex_half(text: &mut [u8], at: usize, bytes: &[u8], from: usize) -> usize
+    requires room { at + 32 ≤ length text.old }
+    requires bytes { from + 16 ≤ length bytes.now }
+    ensures end { result ≡ at + 32 }
+    ensures text { take result text.new ≡ take at text.old ++ flat_map hex (take 16 (drop from bytes.now)) }
+{
+    let digits = hex_digits(u8x16::from_slice(&bytes[from..]));
+    digits.copy_to_slice(&mut text[at..]);
+    at + 32
 }
 
 // The digits of sixteen bytes, looked up at once by vectors.

@@ -14,7 +14,7 @@ use crate::replay::LINE_ROOM;
 use heap_theory::{FreeError, NullCause, PlaceKind};
 
 // How many bytes have their digits written at once. The longest access has whole strides.
-const STRIDE: usize = 16;
+const STRIDE: usize = 32;
 
 /// Writes the line of the event of this number with its newline, or nothing if the event has no line, into a text at a place, where it has
 /// room for any line. Returns where the line ends. `bytes` holds what was loaded.

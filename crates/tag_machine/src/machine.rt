@@ -5,7 +5,7 @@ ghost use Rattle.machine_theory.specs.Machine.{IsRegister};
 ghost use Rattle.machine_theory.specs.Seed.{next_seed};
 ghost use Rattle.tag_machine.specs.Rows.{row_mask};
 ghost use Rattle.std.specs.Borrow.{sem};
-ghost use Rattle.std.specs.Prelude.{◌≡◌, ◌≢◌, ◌↔◌, ◌<◌, ◌≤◌, IsTrue, OnErr, OnOk, length};
+ghost use Rattle.std.specs.Prelude.{◌≡◌, ◌≢◌, ◌↔◌, ◌<◌, ◌≤◌, IsTrue, OnErr, OnOk, length, take};
 
 use crate::addresses::{aligned, granule_of, logical_tag, with_tag};
 use crate::checks::{check_access, check_tag_store, is_mapped};
@@ -175,6 +175,24 @@ impl Machine {
     {
         let at = check_access(&self.memory, address, buf.len() as u64)?;
         self.memory.read_bytes(at, buf);
+        Ok(())
+    }
+
+    /// Reads `len` bytes, 1 to 64, from `address` on into the first bytes of `buf`. The bytes of `buf` after them may change. Its errors are
+    /// those of `load`; after an error `buf` is unchanged.
+    pub fn load_into(
+        &self,
+        address: u64,
+        len: usize,
+        buf: &mut [u8; LONGEST_ACCESS as usize],
+    ) -> Result<(), Fault>
+        requires { (1 ≤ len) × (len ≤ LONGEST_ACCESS) }
+        ensures answer { result ≡ ok_unless (access_fault self.now.memory address len) }
+        ensures ok { OnOk result (take len buf.new ≡ loaded self.now.memory address len) }
+        ensures err { OnErr result (buf.new ≡ buf.old) }
+    {
+        let at = check_access(&self.memory, address, len as u64)?;
+        self.memory.read_into(at, len, buf);
         Ok(())
     }
 

@@ -4,7 +4,7 @@ ghost use Rattle.heap_theory.specs.HeapInMemory.{HeaderWordsStay, IsKeptIn};
 ghost use Rattle.heap_theory.specs.GranuleKinds.{place_kind};
 ghost use Rattle.heap_theory.specs.Region.{region_of};
 ghost use Rattle.machine_theory.specs.Access.{IsMapped, access_fault, is_mapped, loaded, ok_unless, stored};
-ghost use Rattle.std.specs.Prelude.{◌≡◌, ◌↔◌, ◌≤◌, IsTrue, OnErr, OnOk, length};
+ghost use Rattle.std.specs.Prelude.{◌≡◌, ◌↔◌, ◌≤◌, IsTrue, OnErr, OnOk, length, take};
 
 use crate::heap::Heap;
 use crate::read_header::header;
@@ -31,6 +31,23 @@ impl Heap {
         ensures headers { HeaderWordsStay self.now.state self.now.state }
     {
         self.machine.load(address, buf)
+    }
+
+    /// As `load`, of `len` bytes, 1 to 64, into the first bytes of `buf`. The bytes of `buf` after them may change.
+    #[tactic(auto, using(crate::proofs::TheoryLemmas::accesses_seen))]
+    pub fn load_into(
+        &self,
+        address: u64,
+        len: usize,
+        buf: &mut [u8; LONGEST_ACCESS as usize],
+    ) -> Result<(), Fault>
+        requires len { (1 ≤ len) × (len ≤ LONGEST_ACCESS) }
+        requires tagged { IsTaggedOrUnmapped self.now.state address len }
+        ensures answer { result ≡ ok_unless (access_fault self.now.state.memory address len) }
+        ensures ok { OnOk result (take len buf.new ≡ loaded self.now.state.memory address len) }
+        ensures err { OnErr result (buf.new ≡ buf.old) }
+    {
+        self.machine.load_into(address, len, buf)
     }
 
     /// Writes these bytes, 1 to 64 of them, from `address` on. Headers have tag 0, so the address must have another tag, or the access must

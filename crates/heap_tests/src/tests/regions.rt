@@ -36,6 +36,9 @@ fn each_call_of_a_region(rt: HostRuntime) -> Result<(), Fail> {
     let mut end = [0; 4];
     region.read_bytes(20, &mut end);
     same(&rt, &&end, &b"tags", &"the end");
+    let mut into = [0; 64];
+    region.read_into(20, 4, &mut into);
+    same(&rt, &&into[..4], &&b"tags"[..], &"the end in a longer buffer");
     Ok(())
 }
 
@@ -53,6 +56,9 @@ fn each_call_of_a_memory(rt: HostRuntime) -> Result<(), Fail> {
     let mut run = [0xff; 8];
     memory.read_bytes(63 * 16 + 8, &mut run);
     same(&rt, &run, &[0x41, 0, 1, 0, 0, 0, 0, 0], &"a run of bytes");
+    let mut into = [0xff; 64];
+    memory.read_into(63 * 16 + 8, 8, &mut into);
+    same(&rt, &&into[..8], &&run[..], &"the run in a longer buffer");
     memory.set_byte(63, 15, 1);
     same(&rt, &memory.word(63, 1), &0x0100_0000_0001_0041, &"word 1");
     memory.write_bytes(63 * 16 - 2, &[1, 2, 3, 4]);

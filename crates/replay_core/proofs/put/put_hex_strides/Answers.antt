@@ -1,28 +1,33 @@
-use Rattle.std.proofs.Common.{◌≡◌, ◌+◌, ◌*◌, ◌++◌, ◌≤◌, ◌∙◌, length, take, ap, append_assoc, arith}
+use Rattle.std.proofs.Common.{◌≡◌, ℕ, List, ◌+◌, ◌++◌, ◌*◌, ◌∙◌, take, ap, append_assoc, arith}
 use Rattle.std.specs.List.{flat_map}
 use Rattle.std.proofs.Math.Seq.{take-add}
 use Rattle.std.proofs.lemmas.Grind.{flat_map-append}
-use Rattle.std.proofs.lemmas.Simd.{length-chunk, take_more_put_chunk}
 use lib.Lanes.{chunk}
 use Rattle.line_text.specs.Hexadecimal.{hex}
-use Rattle.replay_core.proofs.DigitsOfBytes.{length_digits}
 use Rattle.replay_core.proofs.put.put_hex_strides.Goals as goal
+
+-- sixteen bytes more
+digits_more : (bytes : List ℕ) (done : ℕ) →
+    flat_map hex (take (done + 16) bytes) ≡ flat_map hex (take done bytes) ++ flat_map hex (chunk done 16 bytes)
+digits_more bytes done =
+    ap (flat_map hex) (take-add done 16 bytes) ∙ flat_map-append hex (take done bytes) (chunk done 16 bytes)
+
+-- a stride more
+stride_more : (bytes : List ℕ) (done : ℕ) → flat_map hex (take (done + 32) bytes)
+    ≡ flat_map hex (take done bytes) ++ flat_map hex (chunk done 16 bytes) ++ flat_map hex (chunk (done + 16) 16 bytes)
+stride_more bytes done =
+    let two : done + 32 ≡ done + 16 + 16 = omega arith in
+    ap (λ (n : ℕ). flat_map hex (take n bytes)) two ∙ digits_more bytes (done + 16)
+    ∙ ap (λ (t : List ℕ). t ++ flat_map hex (chunk (done + 16) 16 bytes)) (digits_more bytes done)
 
 pub loop-done-preserved : goal.loop-done-preserved
 loop-done-preserved c =
-    let bytes = c.args.bytes.now in
     let done = c.loop-done.done in
-    let start = c.args.at + 2 * done in
-    let digits = c.hex_digits-digits.result in
-    let within : done + 16 ≤ length bytes = omega (arith, c.loop-done-test.true, c.loop-done.invariant.whole, c.requires.whole) in
-    let long : length digits ≡ 32 =
-    ap length c.hex_digits-digits.ensures ∙ length_digits (chunk done 16 bytes) ∙ ap (λ n. 2 * n) (length-chunk done 16 bytes within) in
-    let more : flat_map hex (take (done + 16) bytes) ≡ flat_map hex (take done bytes) ++ flat_map hex (chunk done 16 bytes) =
-    ap (flat_map hex) (take-add done 16 bytes) ∙ flat_map-append hex (take done bytes) (chunk done 16 bytes) in
+    let first = c.put_hex_half-middle in
+    let second = c.put_hex_half in
+    let ends : c.args.at + 2 * (done + 32) ≡ second.result = omega (arith, first.ensures.end, second.ensures.end) in
     record {
       whole = omega (arith, c.loop-done.invariant.whole);
-      within = within;
-      text = take_more_put_chunk start c.loop-done.text digits (c.args.at + 2 * (done + 16)) (omega (arith, long))
-          (omega (arith, within, c.requires.room, c.loop-done.auto.text))
-          ∙ rw (c.loop-done.invariant.text, c.hex_digits-digits.ensures, more) (simp append_assoc);
+      within = omega (arith, c.loop-done-test.true, c.loop-done.invariant.whole, c.requires.whole);
+      text = rw (ends, second.ensures.text, first.ensures.text, c.loop-done.invariant.text, stride_more c.args.bytes.now done) (simp append_assoc);
     }

@@ -8,7 +8,7 @@ use Rattle.replay_core.proofs.report_line.write_data.Goals as goal
 pub returns-clause-text : goal.returns-clause-text
 unfolding report_line
 returns-clause-text c =
-    let most = 16 * c.div_ceil.result in
+    let most = 32 * c.div_ceil.result in
     let at = c.put-end.result in
     let front = take at c.put-end.new.text in
     let long : length (take most c.args.bytes.now) ≡ most = length-take-le most c.args.bytes.now (omega arith) in

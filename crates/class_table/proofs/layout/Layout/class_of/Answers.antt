@@ -1,17 +1,12 @@
-use Rattle.std.proofs.Common.{◌≤◌, ◌-◌, ◌*◌, ◌/◌, ◌<◌, ap, ◌∙◌, arith}
+use Rattle.std.proofs.Common.{◌≤◌, ◌-◌, ap, ◌∙◌, arith}
 use Rattle.class_table.specs.Layout.{IsClassOf}
 use Rattle.class_table.proofs.ClassOf.{firsts_of, firsts_of-ascending, class_of_point, class_is}
-use Rattle.class_table.proofs.Counted.{at_most_more, place_of_count}
+use Rattle.class_table.proofs.Counted.{count_before}
 use Rattle.class_table.proofs.layout.Layout.class_of.Goals as goal
-
-pub bounds-self-inside-slot : goal.bounds-self-inside-slot
-bounds-self-inside-slot c = place_of_count _ c.args.slot (rw c.self.view_is at c.self.invariant.partition) c.requires
 
 pub count_up_to-requires-clause-known : goal.count_up_to-requires-clause-known
 count_up_to-requires-clause-known c =
-    let place : c.args.slot / 128 < 1024 = place_of_count _ c.args.slot (rw c.self.view_is at c.self.invariant.partition) c.requires in
-    rw c.deref.ensures.0
-    (at_most_more _ (128 * (c.args.slot / 128)) c.args.slot _ (omega arith) (c.self.invariant.slot_counts.each (c.args.slot / 128) place))
+    rw c.deref.ensures.0 (count_before _ _ c.self.inside.slot_shift c.args.slot _ c.self.invariant.slot_counts (omega arith) (omega arith))
 
 pub count_up_to-requires-clause-few : goal.count_up_to-requires-clause-few
 count_up_to-requires-clause-few c = c.deref.ensures.1

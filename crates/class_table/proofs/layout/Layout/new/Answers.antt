@@ -1,7 +1,8 @@
-use Rattle.std.proofs.Common.{◌≡◌, ◌+◌, ◌/◌, length, get_or, arith, ◌∙◌, ap, subst}
+use Rattle.std.proofs.Common.{◌≡◌, ◌+◌, ◌/◌, ◌^◌, length, get_or, arith, ◌∙◌, ap, subst}
 use Rattle.std.proofs.lemmas.Option.{get_or_from_slice_get}
 use Rattle.class_table.specs.Counts.{AreCounts}
 use Rattle.class_table.specs.Layout.{IsPartition}
+use Rattle.class_table.proofs.Counted.{counts_by_shift}
 use Rattle.class_table.proofs.ClassOf.{firsts_of-ascending}
 use Rattle.class_table.proofs.LeastClass.{ascending_classes}
 use Rattle.class_table.proofs.LayoutSoFar.{IsFilled-more, classes_all, firsts_all, length-numbers}
@@ -63,5 +64,9 @@ invariant_of-result c =
       share = c.share_of_each-share.ensures ∙ ap (λ n. c.args.granules / n) c.len.ensures.len;
       firsts = c.push-2.ensures.items ∙ firsts_all _ _ _ _ _ c.loop-number.invariant all;
       class_counts = subst (AreCounts c.counts_at.result 1) (c.deref.ensures.0 ∙ classes) c.counts_at.ensures;
-      slot_counts = subst (AreCounts c.counts_at-2.result 128) c.deref-2.ensures.0 c.counts_at-2.ensures;
+      slot_counts =
+          let shift = c.shift_for-slot_shift.result in
+          subst (AreCounts c.counts_at-2.result (2 ^ shift)) c.deref-2.ensures.0
+          (counts_by_shift _ _ shift c.shift_for-slot_shift.ensures c.counts_at-2.ensures);
+      slot_shift = c.shift_for-slot_shift.ensures;
     })
