@@ -11,7 +11,6 @@ pub mod ReadIsSpelled
 pub mod RowConditions
 pub mod RowLines
 pub mod RowNumbers
-pub mod RowWalk
 pub mod SheetFaults
 pub mod SheetLines
 pub mod SpelledIsRead

@@ -1,15 +1,8 @@
-use Rattle.std.proofs.Common.{◌≡◌, ℕ, ◌<◌, ◌≤◌, List, slice_index, ap, arith, inl, inr}
+use Rattle.std.proofs.Common.{◌≡◌, ◌<◌, ◌≤◌, slice_index, ap, arith, inl, inr}
 use Rattle.std.proofs.lemmas.Bool.{both_ways, cases_lt}
-use Rattle.std.proofs.lemmas.List.{get_or_past}
-use Rattle.potential_check.specs.RowConditions.{EdgesHold, edge_bound}
-use Rattle.potential_check.specs.Spanned.{Spanned}
-use Rattle.tuner_theory.specs.Spans.{places}
+use Rattle.potential_check.specs.RowConditions.{edge_bound}
 use Rattle.potential_check.proofs.edge_walk.tight_end.Goals as goal
-use Rattle.potential_check.proofs.edge_walk.tight_end.Goals.{else-next-end-via-then-next-end+else-exceeds_edge, else-next-end-via-else-next-end, then-number-bound-2-via-then-number-bound-2, then-number-bound-2-via-else-number-bound-2+then-end-next}
-
-exceeded : (s : Spanned) (before row : List ℕ) (i j : ℕ) → edge_bound s before i j < slice_index row i → i < j → j ≤ places s.counts s.step →
-    EdgesHold s before row → ⊥
-exceeded s before row i j more later within hold = grind (arith, hold.each i j, get_or_past row i 0)
+use Rattle.potential_check.proofs.edge_walk.tight_end.Goals.{else-next-end-via-then-next-end+else-exceeds_edge, else-next-end-via-else-next-end}
 
 pub end-preserved : goal.end-preserved
 end-preserved c =
@@ -49,26 +42,3 @@ end-preserved c =
         | inr past ↦ c.end.invariant.next j from past below
       ];
     }
-
-pub returns-then-number-bound-2-clause-none : goal.returns-then-number-bound-2-clause-none
-returns-then-number-bound-2-clause-none c (j, after, upto, tight) edges =
-    let s = c.args.spans.now in
-    let before = c.args.before.now in
-    let place = c.args.start.place in
-    let old = c.end.end.place in
-    let sides = c.sides-number.ensures in
-    elim c.then-number-bound-2.branch [
-      | then-number-bound-2-via-then-number-bound-2 w ↦
-          exceeded s before c.args.row.now place old (omega (arith, sides.1, sides.2, w.if-number-bound-2.true)) c.end.invariant.after (omega arith)
-          edges
-      | then-number-bound-2-via-else-number-bound-2+then-end-next w ↦ elim (cases_lt old j) [
-        | inl past ↦ omega (arith, tight, c.end.invariant.here j past upto)
-        | inr at ↦ (let same : j ≡ old = omega (arith, w.if-end-next.true) in
-            omega (arith, ap (edge_bound s before place) same, tight, sides.1, sides.2))
-      ]
-    ]
-
-pub returns-then-exceeds_edge-clause-none : goal.returns-then-exceeds_edge-clause-none
-returns-then-exceeds_edge-clause-none c tight edges =
-    exceeded c.args.spans.now c.args.before.now c.args.row.now c.args.next.place c.end_at-end.result.place
-    (c.exceeds_edge.ensures.0 c.if-exceeds_edge.true) c.if-next-end.true (omega (arith, c.end_at-end.ensures.place)) edges
