@@ -185,7 +185,7 @@ impl Memory {
     }
 
     /// Fills `to` with the bytes from byte `i` of the memory on; granule g begins at byte 16 g.
-    /// It serves a `realloc` that moves a chunk: any number of granules is one copy. It checks no tag.
+    /// It serves loads, and a `realloc` that moves a chunk: any number of granules is one copy. It checks no tag; a load does that first.
     #[tactic(auto, using(crate::proofs::Granules::granules_counted, crate::proofs::Granules::bytes_are))]
     pub fn read_bytes(&self, i: usize, to: &mut [u8])
         requires { i + length to.old ≤ GRANULE_BYTES * length self.now }
