@@ -38,7 +38,12 @@ fn each_call_of_a_region(rt: HostRuntime) -> Result<(), Fail> {
     same(&rt, &&end, &b"tags", &"the end");
     let mut into = [0; 64];
     region.read_into(20, 4, &mut into);
-    same(&rt, &&into[..4], &&b"tags"[..], &"the end in a longer buffer");
+    same(
+        &rt,
+        &&into[..4],
+        &&b"tags"[..],
+        &"the end in a longer buffer",
+    );
     Ok(())
 }
 
