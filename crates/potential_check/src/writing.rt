@@ -29,7 +29,7 @@ const TOGETHER: usize = 16;
 
 const TOGETHER_BYTES: usize = TOGETHER * NUMBER_BYTES;
 
-/// The most bytes that the line of a row has: its name, as many numbers as there may be needs, and the newline.
+/// The most bytes that the line of a row has: its name, a number for each need that there may be, and the newline.
 pub const ROW_BYTES: usize = 4 + MOST_NEEDS * NUMBER_BYTES;
 
 /// Appends the text of a sheet: its class line, `limit K`, `step S` unless the step is 1, `waste W`, and a line `row ..` for each row.
