@@ -44,6 +44,11 @@ profile_of_events events = profile_of_sizes (requested_sizes events)
 abbrev pub KeepsEvents : Reading → List ℕ → Type 0
 KeepsEvents reading bytes = reading ≡ fed nothing_read bytes
 
+-- The events wait in the reader, and were counted.
+pub record KeepsEventsAndCounts (reading : Reading) (profile : Counted) (bytes : List ℕ) : Type 0 where
+  pub events : KeepsEvents reading bytes
+  pub counts : profile ≡ profile_of_events reading.events
+
 -- The events were counted, and are not kept.
 pub record KeepsCounts (reading : Reading) (profile : Counted) (bytes : List ℕ) : Type 0 where
   pub state : reading ≡ record { events = []; state = (fed nothing_read bytes).state }

@@ -4,18 +4,19 @@ ghost use Rattle.heap_theory.specs.Config.{IsConfig};
 ghost use Rattle.mte_engine.specs.ReportLeft.{report_left};
 ghost use Rattle.mte_engine.specs.Run.{RunAnswers};
 ghost use Rattle.mte_engine.specs.Tune.{AreTuneOptions};
-ghost use Rattle.mte_engine.specs.Traces.{KeepsEvents};
+ghost use Rattle.mte_engine.specs.Traces.{KeepsEventsAndCounts};
 ghost use Rattle.std.specs.Prelude.{◌≡◌, List, ℕ, false};
 ghost use Rattle.trace_reader.specs.Reading.{is_finished};
 
 use crate::engine::{Engine, Status, run_engine};
 use crate::fault::{AnswerError, ToolFault};
 use crate::report::Report;
-use crate::trace_counting::count_all;
+use crate::trace_counting::count_from;
 use crate::trace_feeding::{end, feed};
 use byte_streams::{ByteSink, ByteSource, Input};
 use class_tuner::tune;
 use potential_check::write_sheet;
+use profile_count::Profile;
 use replay_core::Config;
 use std::alloc::{AllocError, Global};
 use trace_reader::TraceReader;
@@ -69,29 +70,34 @@ impl Engine for RunEngine {
     ghost answers = { λ e. RunAnswers e.limit e.step e.config };
 
     fn input(&self, alloc: Global) -> Result<WholeTrace, AllocError> {
+        let profile = Profile::new(alloc)?;
         Ok(WholeTrace {
             reader: TraceReader::new(alloc),
+            profile,
         })
     }
 
     fn answer(&self, alloc: Global, input: WholeTrace) -> Result<(Report, Status), AnswerError> {
-        answer_to(alloc, self.limit, self.step, self.config, input.reader)
+        answer_to(alloc, self.limit, self.step, self.config, input)
     }
 }
 
-// the events of a trace
+// The events of a trace, and what they request. The events of a piece are counted while they are in the cache.
 #[derive(Drop)]
 struct WholeTrace {
     reader: TraceReader,
+    profile: Profile,
     ghost open: { is_finished reader ≡ false },
 }
 
 impl Input for WholeTrace {
-    ghost has_taken = { λ input bytes. KeepsEvents input.reader bytes };
+    ghost has_taken = { λ input bytes. KeepsEventsAndCounts input.reader input.profile bytes };
 
-    #[tactic(auto, using(trace_reader::proofs::LawLemmas::pieces_are_joined))]
     fn take(&mut self, piece: &[u8]) -> Result<(), AllocError> {
-        feed(&mut self.reader, piece)
+        let before = self.reader.events().len();
+        feed(&mut self.reader, piece)?;
+        count_from(&mut self.profile, &self.reader.events(), before);
+        Ok(())
     }
 }
 
@@ -101,16 +107,20 @@ fn answer_to(
     limit: u8,
     step: u8,
     config: Config,
-    mut reader: TraceReader,
+    input: WholeTrace,
 ) -> Result<(Report, Status), AnswerError>
     requires options { AreTuneOptions limit step }
     requires config { IsConfig config }
-    requires open { is_finished reader ≡ false }
-    ensures { (bytes : List ℕ) → KeepsEvents reader bytes
+    ensures { (bytes : List ℕ) → KeepsEventsAndCounts input.reader input.profile bytes
         → GivesAnswer report_left (RunAnswers limit step config bytes) result }
 {
+    let WholeTrace {
+        mut reader,
+        mut profile,
+    } = input;
+    let before = reader.events().len();
     end(&mut reader, 0)?;
-    let profile = count_all(alloc, &reader.events())?;
+    count_from(&mut profile, &reader.events(), before);
     let tuned = tune(alloc, &profile, limit, step)?;
     let sheet = tuned.sheet();
     let mut text = Vec::new(alloc);

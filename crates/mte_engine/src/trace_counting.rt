@@ -1,5 +1,5 @@
 //! Counting what the events of a trace request.
-ghost use Rattle.std.specs.Prelude.{◌≡◌, ◌++◌, ◌+◌, ◌<◌, ◌≤◌, List, ℕ, [], ◌∷◌, length, false, IfOk, OnOk};
+ghost use Rattle.std.specs.Prelude.{◌≡◌, ◌++◌, ◌+◌, ◌<◌, ◌≤◌, List, ℕ, [], ◌∷◌, length, take, false, OnOk};
 ghost use Rattle.replay_theory.specs.Losses.{requested_sizes};
 ghost use Rattle.profile_count.specs.Requests.{profile_of_sizes};
 ghost use Rattle.trace_reader.specs.TraceLine.{most_events};
@@ -10,7 +10,7 @@ ghost use Rattle.trace_reader.specs.Reading.{is_finished};
 use crate::trace_feeding::feed;
 use profile_count::Profile;
 use replay_core::{Event, request_size};
-use std::alloc::{AllocError, Global};
+use std::alloc::AllocError;
 use trace_reader::{Events, TraceReader};
 
 /// Takes all events out of the reader, and counts what they request.
@@ -61,16 +61,15 @@ pub fn count_lines<'a>(reader: &mut TraceReader, profile: &mut Profile, text: &'
     rest
 }
 
-/// The profile of what these events request. There must be at most 1,000,000 of them, so that no count gets full.
-pub fn count_all(alloc: Global, events: &Events<'_>) -> Result<Profile, AllocError>
-    requires { length events.now ≤ most_events }
-    ensures { IfOk result (λ profile. profile ≡ profile_of_events events.now) }
+/// Counts what the events from a place on request. There must be at most 1,000,000 events in all, so that no count gets full.
+pub fn count_from(profile: &mut Profile, events: &Events<'_>, from: usize)
+    requires { from ≤ length events.now }
+    ensures { length events.now ≤ most_events → profile.old ≡ profile_of_events (take from events.now) →
+        profile.new ≡ profile_of_events events.now }
 {
-    let mut profile = Profile::new(alloc)?;
-    for place in 0..events.len() {
-        count(&mut profile, &events.at(place));
+    for place in from..events.len() {
+        count(profile, &events.at(place));
     }
-    Ok(profile)
 }
 
 // Counts what an event requests.

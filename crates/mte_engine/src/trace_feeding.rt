@@ -1,5 +1,6 @@
 //! Traces as the engines read them: fed in pieces, and ended.
 ghost use Rattle.std.specs.Prelude.{◌≡◌, ◌≤◌, length, false, OnOk};
+ghost use Rattle.line_text.specs.Prefixes.{IsPrefix};
 ghost use Rattle.trace_reader.specs.TraceLine.{most_events};
 ghost use Rattle.trace_reader.specs.Reading.{fed, finished, is_finished};
 ghost use Rattle.mte_engine.specs.Parts.{AreFewLines};
@@ -13,6 +14,7 @@ use trace_reader::{TraceError, TraceReader};
 pub fn feed(reader: &mut TraceReader, piece: &[u8]) -> Result<(), AllocError>
     requires { is_finished reader.old ≡ false }
     ensures fed { OnOk result (reader.new ≡ fed reader.old piece.now) }
+    ensures kept { IsPrefix reader.old.events reader.new.events }
     ensures unfinished { is_finished reader.new ≡ false }
 {
     match reader.feed(piece) {
@@ -26,6 +28,7 @@ pub fn end(reader: &mut TraceReader, lines: u64) -> Result<(), AnswerError>
     requires open { is_finished reader.old ≡ false }
     requires few { AreFewLines lines }
     ensures events { OnOk result (reader.new ≡ finished reader.old) }
+    ensures kept { IsPrefix reader.old.events reader.new.events }
     ensures ended { HasEnded lines (finished reader.old).state result }
     ensures few { OnOk result (length reader.new.events ≤ most_events) }
 {

@@ -5,6 +5,7 @@ mod batch;
 mod event_queue;
 mod events;
 mod fault;
+mod hex_values;
 mod kept_event;
 pub mod laws;
 mod line;

@@ -2,7 +2,6 @@
 //! word, which is slower and finds each fault. An event that is missing here is read by `line`.
 ghost use Rattle.std.specs.Prelude.{◌≡◌, ◌≤◌, ◌<◌, ◌+◌, ◌^◌, ◌++◌, ◌∷◌, [], IfSome, length, nat_abs};
 ghost use Rattle.std.specs.Int.{to_le_bytes, w32};
-ghost use Rattle.std.specs.Char.{digit_char};
 ghost use Rattle.std.specs.Fmt.{decimal, signed_decimal};
 ghost use Rattle.trace_event.specs.Ranges.{IsAccessOf, IsInRange, IsMove, IsRequest, IsVariable};
 ghost use Rattle.line_text.specs.Hexadecimal.{hex};
@@ -10,6 +9,7 @@ ghost use Rattle.line_text.specs.Lines.{line_of};
 ghost use Rattle.std.specs.Prelude.{codes};
 ghost use Rattle.trace_reader.specs.TraceLine.{event_line};
 
+use crate::hex_values::hex_value;
 use trace_event::Event;
 
 // A number of more digits is left to `line`.
@@ -35,9 +35,6 @@ pub(crate) const AT_ONCE: u8 = 0;
 
 /// The copy for events that wait.
 pub(crate) const KEPT: u8 = 1;
-
-// the hexadecimal digits, by their values
-const HEX_DIGITS: [u8; 16] = *b"0123456789abcdef";
 
 // The first four letters of the events' names, as words: the first letter is the lowest byte.
 const MALL: u32 = 0x6c6c_616d;
@@ -358,22 +355,10 @@ fn byte(text: &[u8]) -> Option<(u8, &[u8])>
     if text.len() < 3 || text[2] != b'\n' {
         return None;
     }
-    let high = hex_value(text[0])?;
-    let low = hex_value(text[1])?;
-    Some((16 * high + low, &text[3..]))
-}
-
-// The value of a hexadecimal digit. It has no branch on the kind of the digit, since the digits of a trace's bytes follow no pattern: the
-// lowest bits of a letter are 9 less than its value, and only its bit of 64 is set besides those that a digit has.
-#[inline(always)]
-fn hex_value(byte: u8) -> Option<u8>
-    ensures digit { IfSome result (λ value. byte ≡ digit_char value) }
-    ensures few { IfSome result (λ value. value < 16) }
-{
-    let value = (byte % 16 + byte / 64 * 9) % 16;
-    if HEX_DIGITS[usize::from(value)] == byte {
-        Some(value)
-    } else {
-        None
+    let high = hex_value(text[0]);
+    let low = hex_value(text[1]);
+    if high > 15 || low > 15 {
+        return None;
     }
+    Some((16 * high + low, &text[3..]))
 }

@@ -16,7 +16,9 @@ two_digits text high low some big small first second =
 pub returns-clause-spelled : goal.returns-clause-spelled
 returns-clause-spelled c =
     let text = c.args.text.now in
-    let word = two_digits text c.in_ok-high.high c.in_ok-low.low (omega arith) c.in_ok-high.ensures.few c.in_ok-low.ensures.few
-    c.in_ok-high.ensures.digit c.in_ok-low.ensures.digit in
+    let high : c.hex_value-high.result < 16 = omega arith in
+    let low : c.hex_value-low.result < 16 = omega arith in
+    let word = two_digits text c.hex_value-high.result c.hex_value-low.result (omega arith) high low
+    (c.hex_value-high.ensures high) (c.hex_value-low.ensures low) in
     rw take_rest (cut_at text 2 3 10 (omega arith) (omega arith) c.if-text-ne10.false
     ∙ ap (λ (front : List ℕ). front ++ 10 ∷ drop 3 text) word)
