@@ -4,9 +4,11 @@ ghost use Rattle.heap_theory.specs.Config.{IsConfig};
 ghost use Rattle.mte_engine.specs.ReportLeft.{report_left};
 ghost use Rattle.mte_engine.specs.Run.{RunAnswers};
 ghost use Rattle.mte_engine.specs.Tune.{AreTuneOptions};
-ghost use Rattle.mte_engine.specs.Traces.{KeepsEventsAndCounts};
-ghost use Rattle.std.specs.Prelude.{◌≡◌, List, ℕ, false};
-ghost use Rattle.trace_reader.specs.Reading.{is_finished};
+ghost use Rattle.mte_engine.specs.Traces.{HasEnded, KeepsEventsAndCounts, profile_of_events};
+ghost use Rattle.std.specs.Prelude.{◌≡◌, ◌≤◌, Err, IfOk, List, MatchResult, ℕ, false, length};
+ghost use Rattle.trace_reader.specs.Reading.{finished, is_finished};
+ghost use Rattle.trace_reader.specs.Reading.State.{Finished};
+ghost use Rattle.trace_reader.specs.TraceLine.{most_events};
 
 use crate::engine::{Engine, Status, run_engine};
 use crate::fault::{AnswerError, ToolFault};
@@ -114,6 +116,24 @@ fn answer_to(
     ensures { (bytes : List ℕ) → KeepsEventsAndCounts input.reader input.profile bytes
         → GivesAnswer report_left (RunAnswers limit step config bytes) result }
 {
+    let (reader, profile) = ended(input)?;
+    let tuned = tune(alloc, &profile, limit, step)?;
+    let sheet = tuned.sheet();
+    let mut text = Vec::new(alloc);
+    write_sheet(sheet, &mut text)?;
+    let report = Report::new(alloc, &sheet.table, config, reader, text)?;
+    Ok((report, Status::Done))
+}
+
+// Ends a trace. Returns its events, which wait in the reader, and its profile.
+fn ended(input: WholeTrace) -> Result<(TraceReader, Profile), AnswerError>
+    ensures ended { MatchResult result (λ _. (finished input.reader).state ≡ Finished)
+        (λ error. HasEnded 0 (finished input.reader).state (Err error)) }
+    ensures events { IfOk result (λ all. all.0 ≡ finished input.reader) }
+    ensures few { IfOk result (λ all. length all.0.events ≤ most_events) }
+    ensures counts { IfOk result (λ all. input.profile ≡ profile_of_events input.reader.events →
+        all.1 ≡ profile_of_events all.0.events) }
+{
     let WholeTrace {
         mut reader,
         mut profile,
@@ -121,10 +141,5 @@ fn answer_to(
     let before = reader.events().len();
     end(&mut reader, 0)?;
     count_from(&mut profile, &reader.events(), before);
-    let tuned = tune(alloc, &profile, limit, step)?;
-    let sheet = tuned.sheet();
-    let mut text = Vec::new(alloc);
-    write_sheet(sheet, &mut text)?;
-    let report = Report::new(alloc, &sheet.table, config, reader, text)?;
-    Ok((report, Status::Done))
+    Ok((reader, profile))
 }

@@ -5,30 +5,25 @@ use Rattle.potential_check.specs.SheetText.{sheet_text}
 use Rattle.potential_check.specs.declared.sheet.Sheet.{Sheet}
 use Rattle.mte_engine.specs.Replay.{report_on}
 use Rattle.mte_engine.specs.ReportLeft.{report_left}
-use Rattle.mte_engine.proofs.Counting.{counted_from}
 use Rattle.mte_engine.proofs.RunAnswers.{run_refused, run_written}
 use Rattle.mte_engine.proofs.running.answer_to.Goals as goal
 
-pub returns-in_err-end : goal.returns-in_err-end
-returns-in_err-end c = λ bytes keeps.
+pub returns-in_err-reader : goal.returns-in_err-reader
+returns-in_err-reader c = λ bytes keeps.
     let error = err_from_is_err_and c.from_residual.result c.from_residual.ensures.1 in
     rw (error.1, error.2)
-    (run_refused c.args.limit c.args.step c.args.config c.args.input.reader bytes keeps.events c.in_err-end.field-0.0 c.in_err-end.ensures.ended)
+    (run_refused c.args.limit c.args.step c.args.config c.args.input.reader bytes keeps.events c.in_err-reader.field-0.0 c.in_err-reader.ensures.ended)
 
 pub returns : goal.returns
 returns c = λ bytes keeps.
-    let profile = c.count_from.new.profile in
-    let events = c.end.new.reader.events in
+    let all = c.in_ok-reader.ensures in
+    let events = c.in_ok-reader.reader.events in
     let sheet = c.in_ok-tuned.tuned.sheet in
-    let is_profile = counted_from c.args.input.reader.events events c.args.input.profile profile c.in_ok-end.ensures.kept
-    c.in_ok-end.ensures.few keeps.counts
-    (rw (c.len-before.ensures, c.events.ensures.events, c.events-2.ensures.events) at c.count_from.ensures) in
     let text = c.in_ok-write_sheet.ensures.written
     ∙ ap (λ (before : List ℕ). before ++ sheet_text (sheet_of c.sheet-sheet.result.now)) c.new-text.ensures.items
     ∙ ap (λ (s : Sheet). sheet_text (sheet_of s)) c.sheet-sheet.ensures in
     let report = c.in_ok-report.ensures
     ∙ ap (λ (t : List ℕ). t ++ report_on c.args.config c.sheet-sheet.result.now.table events) text
     ∙ ap (λ (s : Sheet). sheet_text (sheet_of sheet) ++ report_on c.args.config s.table events) c.sheet-sheet.ensures in
-    run_written c.args.limit c.args.step c.args.config c.args.input.reader bytes keeps.events c.end.new.reader profile
-    (sheet_of sheet) (report_left c.in_ok-report.report) c.in_ok-end.ensures.ended c.in_ok-end.ensures.events is_profile
-    c.in_ok-tuned.ensures.tuned report
+    run_written c.args.limit c.args.step c.args.config c.args.input.reader bytes keeps.events c.in_ok-reader.reader c.in_ok-reader.profile
+    (sheet_of sheet) (report_left c.in_ok-report.report) all.ended all.events (all.counts keeps.counts) c.in_ok-tuned.ensures.tuned report
