@@ -7,12 +7,10 @@ use Rattle.std.proofs.lemmas.Bool.{true≢false, cond_both, le-leb, leb-false, l
 use Rattle.std.proofs.lemmas.List.Elements.{recursion_from_All}
 use Rattle.std.proofs.lemmas.List.Sums.{sum_by-cons}
 use Rattle.machine_theory.specs.declared.fault.Fault.{Fault}
-use Rattle.machine_theory.specs.Access.{access_fault}
-use Rattle.machine_theory.specs.Address.{moved_by}
 use Rattle.class_table.specs.Sizes.{counted_of, largest_counted}
 use Rattle.class_table.specs.Tables.{class_for, loss_of_size, rounding_loss}
 use Rattle.trace_event.specs.declared.event.Event.{Event}
-use Rattle.trace_event.specs.declared.event.Event.TheVariants.{Malloc, Calloc, Realloc, Free, Load, Store, Addg, Subg}
+use Rattle.trace_event.specs.declared.event.Event.TheVariants.{Malloc, Calloc, Realloc, Free}
 use Rattle.heap_theory.specs.declared.refusal.FreeError.{FreeError}
 use Rattle.heap_theory.specs.declared.refusal.NullCause.{NullCause}
 use Rattle.heap_theory.specs.declared.refusal.NullCause.TheVariants.{Large, NoClass, Exhausted}
@@ -157,12 +155,7 @@ event_loses r (Calloc v n) has = calloc_loses r.heap n (slot_for_request r.heap 
 event_loses r (Realloc v n) has =
     grind (arith, slot_of_request, class_of_request)
 event_loses r (Free v) has = nothing_lost _ _ (free_wants_no_class r.heap (variable r v == 0) (chunk_at r.heap (variable r v)))
-event_loses r (Load v off len) has =
-    nothing_lost _ _ (access_wants_no_class r.heap _ (access_fault r.heap.memory (moved_by (variable r v) off) len) refl)
-event_loses r (Store v off len byte) has =
-    nothing_lost _ _ (access_wants_no_class r.heap Silent (access_fault r.heap.memory (moved_by (variable r v) off) len) refl)
-event_loses r (Addg v w u6 u4) has = nothing_lost _ Silent refl
-event_loses r (Subg v w u6 u4) has = nothing_lost _ Silent refl
+event_loses r other has = grind (arith, nothing_lost, access_wants_no_class)
 
 -- ---- every run
 

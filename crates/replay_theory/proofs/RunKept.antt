@@ -8,7 +8,7 @@ use Rattle.machine_theory.specs.Instructions.{addg, subg}
 use Rattle.class_table.specs.Layout.{Partition, IsPartition, slot_count}
 use Rattle.replay_theory.proofs.TheoryLemmas as laws
 use Rattle.trace_event.specs.declared.event.Event.{Event}
-use Rattle.trace_event.specs.declared.event.Event.TheVariants.{Malloc, Calloc, Realloc, Free, Load, Store, Addg, Subg}
+use Rattle.trace_event.specs.declared.event.Event.TheVariants.{Malloc, Calloc, Realloc, Free, Store, Addg, Subg}
 use Rattle.replay_theory.specs.Run.{Run, Generation, generation_of, slot_given, times_with, generations_after, run_after, first_run, run}
 use Rattle.replay_theory.specs.Replay.{Replay, variable, heap_after, variables_after, replay_after, first_replay}
 use Rattle.heap_theory.specs.Sound.{IsSoundHeap}
@@ -63,10 +63,8 @@ module _ where
   IsKept-event r (Calloc v n) sound = IsKept-calloc r.heap n sound
   IsKept-event r (Realloc v n) sound = IsKept-realloc r.heap (variable r v) n sound
   IsKept-event r (Free v) sound = IsKept-free r.heap (variable r v) sound
-  IsKept-event r (Load v off len) sound = IsKept-refl r.heap sound
   IsKept-event r (Store v off len byte) sound = IsKept-store r.heap (moved_by (variable r v) off) (replicate len byte) sound
-  IsKept-event r (Addg v x u6 u4) sound = IsKept-refl r.heap sound
-  IsKept-event r (Subg v x u6 u4) sound = IsKept-refl r.heap sound
+  IsKept-event r other sound = IsKept-refl r.heap sound
 
   module _ (w : Run) (e : Event) (sound : IsSoundRun w) where
     kept : IsKept w.replay.heap (heap_after w.replay e) (slot_given w.replay e)
@@ -91,9 +89,6 @@ module _ where
   variables_kept w (Realloc v n) sound u =
       set_both (IsSoundVariable _ _) w.replay.variables w.generations v _ 0 _ None sound.generations (IsSoundVariable-realloc w sound v n)
       (others w (Realloc v n) sound) u
-  variables_kept w (Free v) sound u = others w (Free v) sound u
-  variables_kept w (Load v off len) sound u = others w (Load v off len) sound u
-  variables_kept w (Store v off len byte) sound u = others w (Store v off len byte) sound u
   variables_kept w (Addg v x u6 u4) sound u =
       set_both (IsSoundVariable _ _) w.replay.variables w.generations v _ 0 _ None sound.generations
       (IsSoundVariable-moved w.replay.heap w.times sound.heap addg laws.addg_tagged (addg-address w.replay.heap w.times sound.heap)
@@ -104,6 +99,7 @@ module _ where
       (IsSoundVariable-moved w.replay.heap w.times sound.heap subg laws.subg_tagged (subg-address w.replay.heap w.times sound.heap)
       (variable w.replay x) u6 u4 (generation_of w x) (sound.variables x))
       (others w (Subg v x u6 u4) sound) u
+  variables_kept w other sound u = others w other sound u
 
   pub IsSoundRun-run_after : (w : Run) (e : Event) → IsSoundRun w → IsSoundRun (run_after w e)
   unfolding run_after replay_after

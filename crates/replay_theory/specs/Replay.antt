@@ -80,21 +80,17 @@ heap_after replay (Malloc v n) = (malloc_step replay.heap n).heap
 heap_after replay (Calloc v n) = (calloc_step replay.heap n).heap
 heap_after replay (Realloc v n) = (realloc_step replay.heap (variable replay v) n).heap
 heap_after replay (Free v) = (free_step replay.heap (variable replay v)).heap
-heap_after replay (Load v off len) = replay.heap
 heap_after replay (Store v off len byte) = store_step replay.heap (moved_by (variable replay v) off) (replicate len byte)
-heap_after replay (Addg v w u6 u4) = replay.heap
-heap_after replay (Subg v w u6 u4) = replay.heap
+heap_after replay other = replay.heap
 
 unfoldable pub variables_after : Replay → Event → List ℕ
 variables_after replay (Malloc v n) = slice_set replay.variables v (result_unwrap_or (malloc_step replay.heap n).answer 0)
 variables_after replay (Calloc v n) = slice_set replay.variables v (result_unwrap_or (calloc_step replay.heap n).answer 0)
 variables_after replay (Realloc v n) =
     slice_set replay.variables v (result_unwrap_or (realloc_step replay.heap (variable replay v) n).answer (variable replay v))
-variables_after replay (Free v) = replay.variables
-variables_after replay (Load v off len) = replay.variables
-variables_after replay (Store v off len byte) = replay.variables
 variables_after replay (Addg v w u6 u4) = slice_set replay.variables v (addg (variable replay w) u6 u4)
 variables_after replay (Subg v w u6 u4) = slice_set replay.variables v (subg (variable replay w) u6 u4)
+variables_after replay other = replay.variables
 
 unfoldable pub replay_after : Replay → Event → Replay
 replay_after replay event = record { heap = heap_after replay event; variables = variables_after replay event }

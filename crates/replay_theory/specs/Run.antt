@@ -4,7 +4,7 @@ use Rattle.std.specs.Prelude.{ℕ, ◌+◌, zero, suc, ◌==◌, if◌then◌els
 use Rattle.std.specs.Result.{result_ok}
 use Rattle.class_table.specs.Layout.{IsPartition, Partition, slot_count}
 use Rattle.trace_event.specs.declared.event.Event.{Event}
-use Rattle.trace_event.specs.declared.event.Event.TheVariants.{Malloc, Calloc, Realloc, Free, Load, Store, Addg, Subg}
+use Rattle.trace_event.specs.declared.event.Event.TheVariants.{Malloc, Calloc, Realloc, Addg, Subg}
 use Rattle.heap_theory.specs.Calls.{slot_if_moved}
 use Rattle.heap_theory.specs.Lookups.{slot_for_request, chunk_at}
 use Rattle.replay_theory.specs.Replay.{Replay, variable, replay_after, first_replay}
@@ -35,11 +35,7 @@ slot_given replay (Calloc v n) = result_ok (slot_for_request replay.heap n)
 slot_given replay (Realloc v n) =
     if variable replay v == 0 then result_ok (slot_for_request replay.heap n) else slot_if_moved replay.heap n
     (chunk_at replay.heap (variable replay v))
-slot_given replay (Free v) = None
-slot_given replay (Load v off len) = None
-slot_given replay (Store v off len byte) = None
-slot_given replay (Addg v w u6 u4) = None
-slot_given replay (Subg v w u6 u4) = None
+slot_given replay other = None
 
 -- ---- what an event leaves
 
@@ -61,11 +57,9 @@ unfoldable pub generations_after : Run → Event → List (Option Generation)
 generations_after run (Malloc v n) = slice_set run.generations v (begun_or run None (slot_given run.replay (Malloc v n)))
 generations_after run (Calloc v n) = slice_set run.generations v (begun_or run None (slot_given run.replay (Calloc v n)))
 generations_after run (Realloc v n) = slice_set run.generations v (begun_or run (generation_of run v) (slot_given run.replay (Realloc v n)))
-generations_after run (Free v) = run.generations
-generations_after run (Load v off len) = run.generations
-generations_after run (Store v off len byte) = run.generations
 generations_after run (Addg v w u6 u4) = slice_set run.generations v (moved_generation (generation_of run w) u6 u4)
 generations_after run (Subg v w u6 u4) = slice_set run.generations v (moved_generation (generation_of run w) u6 u4)
+generations_after run other = run.generations
 
 unfoldable pub run_after : Run → Event → Run
 run_after run event = record {

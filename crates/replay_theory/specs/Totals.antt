@@ -2,7 +2,7 @@
 use Rattle.std.specs.Prelude.{ℕ, ◌+◌, Bool, if◌then◌else◌, List, length, count_by, sum_by, Option, Some, None, is_some}
 use Rattle.class_table.specs.Tables.{loss_of_size}
 use Rattle.trace_event.specs.declared.event.Event.{Event}
-use Rattle.trace_event.specs.declared.event.Event.TheVariants.{Malloc, Calloc, Realloc, Free, Load, Store, Addg, Subg}
+use Rattle.trace_event.specs.declared.event.Event.TheVariants.{Malloc, Calloc, Realloc}
 use Rattle.replay_theory.specs.Replay.{Answer, is_large, is_no_class, is_exhausted, is_tag_fault, is_unmapped, is_refused, is_silent}
 
 pub record Totals : Type 0 where
@@ -35,11 +35,7 @@ abbrev pub request_size : Event → Option ℕ
 request_size (Malloc v n) = Some n
 request_size (Calloc v n) = Some n
 request_size (Realloc v n) = Some n
-request_size (Free v) = None
-request_size (Load v off len) = None
-request_size (Store v off len byte) = None
-request_size (Addg v w u6 u4) = None
-request_size (Subg v w u6 u4) = None
+request_size other = None
 
 abbrev pub is_request : Event → Bool
 is_request event = is_some (request_size event)

@@ -16,7 +16,7 @@ use Rattle.trace_reader.specs.OnePass.{AreRead, IsRead}
 use Rattle.trace_reader.specs.TraceLine.{number_from, offset_of, byte_of, event_line, event_of_words, event_of_line, event_words, move_of, move_words, request_of, request_words}
 use Rattle.trace_reader.proofs.LineRanges.{both_pass}
 use Rattle.trace_reader.proofs.Offsets.{fits_signed}
-use Rattle.trace_reader.proofs.SpelledWords.{named_words, request_read, free_read, load_read, store_read, move_read, malloc, calloc, realloc, free, load, store, addg, subg}
+use Rattle.trace_reader.proofs.SpelledWords.{named_words, request_read, free_read, load_read, store_read, move_read}
 
 -- ---- words
 
@@ -110,19 +110,19 @@ moved v w u6 u4 event v_in w_in u6_in u4_in =
     (a_number 0 15 u4 (omega arith) u4_in (omega arith)) refl
 
 event_read : (event : Event) → IsInRange event → event_of_words (event_words event) ≡ Ok event
-event_read (Malloc v n) is = named_words malloc (requested v n Malloc is.0 is.1)
-event_read (Calloc v n) is = named_words calloc (requested v n Calloc is.0 is.1)
-event_read (Realloc v n) is = named_words realloc (requested v n Realloc is.0 is.1)
-event_read (Free v) is = named_words free (free_read _ [] v (a_variable v is) refl)
+event_read (Malloc v n) is = named_words (codes "malloc") refl refl (requested v n Malloc is.0 is.1)
+event_read (Calloc v n) is = named_words (codes "calloc") refl refl (requested v n Calloc is.0 is.1)
+event_read (Realloc v n) is = named_words (codes "realloc") refl refl (requested v n Realloc is.0 is.1)
+event_read (Free v) is = named_words (codes "free") refl refl (free_read _ [] v (a_variable v is) refl)
 event_read (Load v off len) is =
-    named_words load
+    named_words (codes "load") refl refl
     (load_read _ _ _ [] v len off (a_variable v is.0) (an_offset off is.1) (a_number 1 64 len is.2 is.3 (omega arith)) refl)
 event_read (Store v off len byte) is =
-    named_words store
+    named_words (codes "store") refl refl
     (store_read _ _ _ _ [] v len byte off (a_variable v is.0.0) (an_offset off is.0.1) (a_number 1 64 len is.0.2 is.0.3 (omega arith))
     (a_byte byte is.1) refl)
-event_read (Addg v w u6 u4) is = named_words addg (moved v w u6 u4 Addg is.0 is.1 is.2 is.3)
-event_read (Subg v w u6 u4) is = named_words subg (moved v w u6 u4 Subg is.0 is.1 is.2 is.3)
+event_read (Addg v w u6 u4) is = named_words (codes "addg") refl refl (moved v w u6 u4 Addg is.0 is.1 is.2 is.3)
+event_read (Subg v w u6 u4) is = named_words (codes "subg") refl refl (moved v w u6 u4 Subg is.0 is.1 is.2 is.3)
 
 -- ---- the line
 

@@ -1,5 +1,5 @@
--- From a line to the event that is read from it: the line is that event's.
-use Rattle.std.proofs.Common.{◌≡◌, ℕ, ◌<◌, ◌^◌, Bool, true, false, cond, ◌&&◌, leb, ltb, List, [], ◌∷◌, length, Option, Some, None, Result, Ok, Err, IfOk, refl, sym, ap, ◌∙◌, arith, nat_abs}
+-- From a line to the event that is read from it: it is in its ranges, and the line is its line.
+use Rattle.std.proofs.Common.{◌≡◌, ℕ, ◌<◌, ◌≤◌, ◌^◌, Bool, true, false, cond, ◌&&◌, leb, ltb, List, [], ◌∷◌, length, Option, Some, None, Result, Ok, Err, IfOk, refl, sym, ap, ◌∙◌, arith, nat_abs}
 use Rattle.std.specs.Fmt.{decimal, signed_decimal}
 use Rattle.std.specs.Prelude.{codes}
 use Rattle.std.specs.List.{list_any}
@@ -15,8 +15,9 @@ use Rattle.trace_event.specs.declared.event.Event.{Event}
 use Rattle.trace_event.specs.declared.event.Event.TheVariants.{Malloc, Calloc, Realloc, Addg, Subg}
 use Rattle.trace_reader.specs.declared.fault.TraceFault.{TraceFault}
 use Rattle.trace_reader.specs.declared.fault.TraceFault.TheVariants.{BadWord, OutOfRange, LineTooLong, TooManyEvents}
-use Rattle.trace_reader.specs.TraceLine.{ranged, number_from, variable_of, size_of, offset_of, len_of, byte_of, request_of, free_of, load_of, store_of, move_of, event_line, event_named, event_of_full_words, event_of_words, event_of_line, event_words, is_empty_word, move_words, request_words}
+use Rattle.trace_reader.specs.TraceLine.{ranged, number_from, variable_of, size_of, offset_of, len_of, byte_of, request_of, free_of, load_of, store_of, move_of, event_line, event_named, event_of_full_words, event_of_words, event_of_line, event_words, is_empty_word}
 use Rattle.trace_reader.proofs.LineRanges.{IfOk-and_then, both_pass}
+use Rattle.trace_event.specs.Ranges.{IsInRange}
 use Rattle.trace_reader.proofs.Offsets.{fits_signed}
 
 -- ---- words
@@ -31,130 +32,142 @@ IfOk-ranged_of P test (Some x) passed = go (test x) refl
     go true is = passed x refl is
     go false is = tt
 
-spelled_number : (low high : ℕ) → high < 2 ^ 64 → (word : List ℕ) → IfOk (number_from low high word) (λ n. word ≡ decimal n)
+spelled_number : (low high : ℕ) → high < 2 ^ 64 → (word : List ℕ) →
+    IfOk (number_from low high word) (λ n. (low ≤ n) × (n ≤ high) × (word ≡ decimal n))
 spelled_number low high small word =
-    IfOk-ranged_of (λ n. word ≡ decimal n) (λ n. leb low n && leb n high) (number_of word)
-    (λ n is e. number_is_spelled word n (omega (arith, leb-true n high (both_pass (leb low n) (leb n high) e).1, small)) is)
+    IfOk-ranged_of (λ n. (low ≤ n) × (n ≤ high) × (word ≡ decimal n)) (λ n. leb low n && leb n high) (number_of word)
+    (λ n is e.
+    let p = both_pass (leb low n) (leb n high) e in
+    let few = leb-true n high p.1 in
+    (leb-true low n p.0, few, number_is_spelled word n (omega (arith, few, small)) is))
 
-spelled_offset : (word : List ℕ) → IfOk (offset_of word) (λ z. word ≡ signed_decimal z)
+spelled_offset : (word : List ℕ) → IfOk (offset_of word) (λ z. (nat_abs z ≤ 1048576) × (word ≡ signed_decimal z))
 spelled_offset word =
-    IfOk-ranged_of (λ z. word ≡ signed_decimal z) (λ z. leb (nat_abs z) 1048576) (signed_of word)
-    (λ z is e. signed_is_spelled word z (fits_signed z (leb-true (nat_abs z) 1048576 e)) is)
+    IfOk-ranged_of (λ z. (nat_abs z ≤ 1048576) × (word ≡ signed_decimal z)) (λ z. leb (nat_abs z) 1048576) (signed_of word)
+    (λ z is e. let near = leb-true (nat_abs z) 1048576 e in (near, signed_is_spelled word z (fits_signed z near) is))
 
-spelled_byte : (word : List ℕ) → IfOk (byte_of word) (λ n. word ≡ hex n)
-spelled_byte word = IfOk-ranged_of (λ n. word ≡ hex n) (λ n. true) (hex_of word) (λ n is e. (hex_is_spelled word n is).1)
+spelled_byte : (word : List ℕ) → IfOk (byte_of word) (λ n. (n < 2 ^ 8) × (word ≡ hex n))
+spelled_byte word =
+    IfOk-ranged_of (λ n. (n < 2 ^ 8) × (word ≡ hex n)) (λ n. true) (hex_of word) (λ n is e. hex_is_spelled word n is)
 
 -- ---- the words after a name
 
-spelled_request : (name : List ℕ) (event : ℕ → ℕ → Event) → ((v n : ℕ) → event_words (event v n) ≡ request_words name v n)
-    → (ws : List (List ℕ)) → IfOk (request_of event ws) (λ e. name ∷ ws ≡ event_words e)
-spelled_request name event is [] = tt
-spelled_request name event is (v ∷ []) = tt
-spelled_request name event is (v ∷ n ∷ []) =
-    IfOk-and_then _ (λ e. name ∷ v ∷ n ∷ [] ≡ event_words e) (variable_of v) _ (spelled_number 0 1023 (omega arith) v)
-    (λ x x_is. IfOk-and_then _ (λ e. name ∷ v ∷ n ∷ [] ≡ event_words e) (size_of n) _ (spelled_number 0 2147483647 (omega arith) n)
-    (λ y y_is. rw (x_is, y_is) (sym (is x y))))
-spelled_request name event is (v ∷ n ∷ other ∷ ws) = tt
+-- the event is in its ranges, and these are its words
+abbrev IsReadFrom : List (List ℕ) → Event → Type 0
+IsReadFrom ws e = IsInRange e × (ws ≡ event_words e)
 
-spelled_free : (ws : List (List ℕ)) → IfOk (free_of ws) (λ e. codes "free" ∷ ws ≡ event_words e)
-spelled_free [] = tt
-spelled_free (v ∷ []) =
-    IfOk-and_then _ (λ e. codes "free" ∷ v ∷ [] ≡ event_words e) (variable_of v) _ (spelled_number 0 1023 (omega arith) v)
-    (λ x x_is. rw x_is refl)
-spelled_free (v ∷ other ∷ ws) = tt
-
-spelled_load : (ws : List (List ℕ)) → IfOk (load_of ws) (λ e. codes "load" ∷ ws ≡ event_words e)
-spelled_load [] = tt
-spelled_load (v ∷ []) = tt
-spelled_load (v ∷ off ∷ []) = tt
-spelled_load (v ∷ off ∷ len ∷ []) =
-    let Q : Event → Type 0 = λ e. codes "load" ∷ v ∷ off ∷ len ∷ [] ≡ event_words e in
+read_request : (name : List ℕ) (event : ℕ → ℕ → Event)
+    → ((v n : ℕ) → v ≤ 1023 → n ≤ 2147483647 → IsReadFrom (name ∷ decimal v ∷ decimal n ∷ []) (event v n))
+    → (ws : List (List ℕ)) → IfOk (request_of event ws) (IsReadFrom (name ∷ ws))
+read_request name event is [] = tt
+read_request name event is (v ∷ []) = tt
+read_request name event is (v ∷ n ∷ []) =
+    let Q = IsReadFrom (name ∷ v ∷ n ∷ []) in
     IfOk-and_then _ Q (variable_of v) _ (spelled_number 0 1023 (omega arith) v)
-    (λ x x_is. IfOk-and_then _ Q (offset_of off) _ (spelled_offset off)
-    (λ y y_is. IfOk-and_then _ Q (len_of len) _ (spelled_number 1 64 (omega arith) len) (λ z z_is. rw (x_is, y_is, z_is) refl)))
-spelled_load (v ∷ off ∷ len ∷ other ∷ ws) = tt
+    (λ x x_is. IfOk-and_then _ Q (size_of n) _ (spelled_number 0 2147483647 (omega arith) n)
+    (λ y y_is. rw (x_is.2, y_is.2) (is x y x_is.1 y_is.1)))
+read_request name event is (v ∷ n ∷ other ∷ ws) = tt
 
-spelled_store : (ws : List (List ℕ)) → IfOk (store_of ws) (λ e. codes "store" ∷ ws ≡ event_words e)
-spelled_store [] = tt
-spelled_store (v ∷ []) = tt
-spelled_store (v ∷ off ∷ []) = tt
-spelled_store (v ∷ off ∷ len ∷ []) = tt
-spelled_store (v ∷ off ∷ len ∷ byte ∷ []) =
-    let Q : Event → Type 0 = λ e. codes "store" ∷ v ∷ off ∷ len ∷ byte ∷ [] ≡ event_words e in
+read_free : (ws : List (List ℕ)) → IfOk (free_of ws) (IsReadFrom (codes "free" ∷ ws))
+read_free [] = tt
+read_free (v ∷ []) =
+    IfOk-and_then _ (IsReadFrom (codes "free" ∷ v ∷ [])) (variable_of v) _ (spelled_number 0 1023 (omega arith) v)
+    (λ x x_is. rw x_is.2 (x_is.1, refl))
+read_free (v ∷ other ∷ ws) = tt
+
+read_load : (ws : List (List ℕ)) → IfOk (load_of ws) (IsReadFrom (codes "load" ∷ ws))
+read_load [] = tt
+read_load (v ∷ []) = tt
+read_load (v ∷ off ∷ []) = tt
+read_load (v ∷ off ∷ len ∷ []) =
+    let Q = IsReadFrom (codes "load" ∷ v ∷ off ∷ len ∷ []) in
     IfOk-and_then _ Q (variable_of v) _ (spelled_number 0 1023 (omega arith) v)
     (λ x x_is. IfOk-and_then _ Q (offset_of off) _ (spelled_offset off)
     (λ y y_is. IfOk-and_then _ Q (len_of len) _ (spelled_number 1 64 (omega arith) len)
-    (λ z z_is. IfOk-and_then _ Q (byte_of byte) _ (spelled_byte byte) (λ b b_is. rw (x_is, y_is, z_is, b_is) refl))))
-spelled_store (v ∷ off ∷ len ∷ byte ∷ other ∷ ws) = tt
+    (λ z z_is. rw (x_is.2, y_is.1, z_is.2) ((x_is.1, y_is.0, z_is.0, z_is.1), refl))))
+read_load (v ∷ off ∷ len ∷ other ∷ ws) = tt
 
-spelled_move : (name : List ℕ) (event : ℕ → ℕ → ℕ → ℕ → Event)
-    → ((v w u6 u4 : ℕ) → event_words (event v w u6 u4) ≡ move_words name v w u6 u4)
-    → (ws : List (List ℕ)) → IfOk (move_of event ws) (λ e. name ∷ ws ≡ event_words e)
-spelled_move name event is [] = tt
-spelled_move name event is (v ∷ []) = tt
-spelled_move name event is (v ∷ w ∷ []) = tt
-spelled_move name event is (v ∷ w ∷ u6 ∷ []) = tt
-spelled_move name event is (v ∷ w ∷ u6 ∷ u4 ∷ []) =
-    let Q : Event → Type 0 = λ e. name ∷ v ∷ w ∷ u6 ∷ u4 ∷ [] ≡ event_words e in
+read_store : (ws : List (List ℕ)) → IfOk (store_of ws) (IsReadFrom (codes "store" ∷ ws))
+read_store [] = tt
+read_store (v ∷ []) = tt
+read_store (v ∷ off ∷ []) = tt
+read_store (v ∷ off ∷ len ∷ []) = tt
+read_store (v ∷ off ∷ len ∷ byte ∷ []) =
+    let Q = IsReadFrom (codes "store" ∷ v ∷ off ∷ len ∷ byte ∷ []) in
+    IfOk-and_then _ Q (variable_of v) _ (spelled_number 0 1023 (omega arith) v)
+    (λ x x_is. IfOk-and_then _ Q (offset_of off) _ (spelled_offset off)
+    (λ y y_is. IfOk-and_then _ Q (len_of len) _ (spelled_number 1 64 (omega arith) len)
+    (λ z z_is. IfOk-and_then _ Q (byte_of byte) _ (spelled_byte byte)
+    (λ b b_is. rw (x_is.2, y_is.1, z_is.2, b_is.1) (((x_is.1, y_is.0, z_is.0, z_is.1), b_is.0), refl)))))
+read_store (v ∷ off ∷ len ∷ byte ∷ other ∷ ws) = tt
+
+read_move : (name : List ℕ) (event : ℕ → ℕ → ℕ → ℕ → Event)
+    → ((v w u6 u4 : ℕ) → v ≤ 1023 → w ≤ 1023 → u6 ≤ 63 → u4 ≤ 15 →
+    IsReadFrom (name ∷ decimal v ∷ decimal w ∷ decimal u6 ∷ decimal u4 ∷ []) (event v w u6 u4))
+    → (ws : List (List ℕ)) → IfOk (move_of event ws) (IsReadFrom (name ∷ ws))
+read_move name event is [] = tt
+read_move name event is (v ∷ []) = tt
+read_move name event is (v ∷ w ∷ []) = tt
+read_move name event is (v ∷ w ∷ u6 ∷ []) = tt
+read_move name event is (v ∷ w ∷ u6 ∷ u4 ∷ []) =
+    let Q = IsReadFrom (name ∷ v ∷ w ∷ u6 ∷ u4 ∷ []) in
     IfOk-and_then _ Q (variable_of v) _ (spelled_number 0 1023 (omega arith) v)
     (λ x x_is. IfOk-and_then _ Q (variable_of w) _ (spelled_number 0 1023 (omega arith) w)
     (λ y y_is. IfOk-and_then _ Q (number_from 0 63 u6) _ (spelled_number 0 63 (omega arith) u6)
     (λ z z_is. IfOk-and_then _ Q (number_from 0 15 u4) _ (spelled_number 0 15 (omega arith) u4)
-    (λ t t_is. rw (x_is, y_is, z_is, t_is) (sym (is x y z t))))))
-spelled_move name event is (v ∷ w ∷ u6 ∷ u4 ∷ other ∷ ws) = tt
+    (λ t t_is. rw (x_is.2, y_is.2, z_is.2, t_is.2) (is x y z t x_is.1 y_is.1 z_is.1 t_is.1)))))
+read_move name event is (v ∷ w ∷ u6 ∷ u4 ∷ other ∷ ws) = tt
 
 -- ---- a line
 
 -- where the name is the one that is tested
 if_named : (name wanted : List ℕ) (ws : List (List ℕ)) (a b : Result Event TraceFault)
-    → IfOk a (λ e. wanted ∷ ws ≡ event_words e) → IfOk b (λ e. name ∷ ws ≡ event_words e) →
-    IfOk (cond (bytes_eq name wanted) a b) (λ e. name ∷ ws ≡ event_words e)
-if_named name wanted ws a b is other = go (bytes_eq name wanted) refl a is
+    → IfOk a (IsReadFrom (wanted ∷ ws)) → IfOk b (IsReadFrom (name ∷ ws)) → IfOk (cond (bytes_eq name wanted) a b) (IsReadFrom (name ∷ ws))
+if_named name wanted ws a b is other = go (bytes_eq name wanted) refl
   where
-    same : name ≡ wanted → (r : Result Event TraceFault) → IfOk r (λ e. wanted ∷ ws ≡ event_words e) →
-        IfOk r (λ e. name ∷ ws ≡ event_words e)
-    same e (Ok event) is = rw e is
-    same e (Err fault) is = tt
+    go : (v : Bool) → bytes_eq name wanted ≡ v → IfOk (cond v a b) (IsReadFrom (name ∷ ws))
+    go true e = rw ((bytes_eq-Decides name wanted).0 e) is
+    go false e = other
 
-    go : (v : Bool) → bytes_eq name wanted ≡ v → (a : Result Event TraceFault) → IfOk a (λ e. wanted ∷ ws ≡ event_words e) →
-        IfOk (cond v a b) (λ e. name ∷ ws ≡ event_words e)
-    go true e a is = same ((bytes_eq-Decides name wanted).0 e) a is
-    go false e a is = other
+read_named : (name : List ℕ) (ws : List (List ℕ)) → IfOk (event_named name ws) (IsReadFrom (name ∷ ws))
+read_named name ws =
+    if_named name (codes "malloc") ws (request_of Malloc ws) _ (read_request (codes "malloc") Malloc (λ v n a b. ((a, b), refl)) ws)
+    (if_named name (codes "calloc") ws (request_of Calloc ws) _ (read_request (codes "calloc") Calloc (λ v n a b. ((a, b), refl)) ws)
+    (if_named name (codes "realloc") ws (request_of Realloc ws) _ (read_request (codes "realloc") Realloc (λ v n a b. ((a, b), refl)) ws)
+    (if_named name (codes "free") ws (free_of ws) _ (read_free ws)
+    (if_named name (codes "load") ws (load_of ws) _ (read_load ws)
+    (if_named name (codes "store") ws (store_of ws) _ (read_store ws)
+    (if_named name (codes "addg") ws (move_of Addg ws) _ (read_move (codes "addg") Addg (λ v w u6 u4 a b c d. ((a, b, c, d), refl)) ws)
+    (if_named name (codes "subg") ws (move_of Subg ws) (Err BadWord)
+    (read_move (codes "subg") Subg (λ v w u6 u4 a b c d. ((a, b, c, d), refl)) ws) tt)))))))
 
-spelled_named : (name : List ℕ) (ws : List (List ℕ)) → IfOk (event_named name ws) (λ e. name ∷ ws ≡ event_words e)
-spelled_named name ws =
-    if_named name (codes "malloc") ws (request_of Malloc ws) _ (spelled_request (codes "malloc") Malloc (λ v n. refl) ws)
-    (if_named name (codes "calloc") ws (request_of Calloc ws) _ (spelled_request (codes "calloc") Calloc (λ v n. refl) ws)
-    (if_named name (codes "realloc") ws (request_of Realloc ws) _ (spelled_request (codes "realloc") Realloc (λ v n. refl) ws)
-    (if_named name (codes "free") ws (free_of ws) _ (spelled_free ws)
-    (if_named name (codes "load") ws (load_of ws) _ (spelled_load ws)
-    (if_named name (codes "store") ws (store_of ws) _ (spelled_store ws)
-    (if_named name (codes "addg") ws (move_of Addg ws) _ (spelled_move (codes "addg") Addg (λ v w u6 u4. refl) ws)
-    (if_named name (codes "subg") ws (move_of Subg ws) (Err BadWord) (spelled_move (codes "subg") Subg (λ v w u6 u4. refl) ws) tt)))))))
-
-spelled_words : (ws : List (List ℕ)) → IfOk (event_of_words ws) (λ e. ws ≡ event_words e)
+read_words : (ws : List (List ℕ)) → IfOk (event_of_words ws) (IsReadFrom ws)
 unfolding event_of_words
-spelled_words ws = go (list_any is_empty_word ws) (full ws)
+read_words ws = go (list_any is_empty_word ws) (full ws)
   where
-    full : (ws : List (List ℕ)) → IfOk (event_of_full_words ws) (λ e. ws ≡ event_words e)
+    full : (ws : List (List ℕ)) → IfOk (event_of_full_words ws) (IsReadFrom ws)
     full [] = tt
-    full (name ∷ ws) = spelled_named name ws
+    full (name ∷ ws) = read_named name ws
 
-    go : (v : Bool) → IfOk (event_of_full_words ws) (λ e. ws ≡ event_words e) →
-        IfOk (cond v (Err BadWord) (event_of_full_words ws)) (λ e. ws ≡ event_words e)
+    go : (v : Bool) → IfOk (event_of_full_words ws) (IsReadFrom ws) → IfOk (cond v (Err BadWord) (event_of_full_words ws)) (IsReadFrom ws)
     go true is = tt
     go false is = is
 
-pub spelled_line : (number : ℕ) (line : List ℕ) → IfOk (event_of_line number line) (λ e. line ≡ event_line e)
+-- what is true of an event that is read from words is true of the event of a line with these words
+of_line : (P : Event → Type 0) (number : ℕ) (line : List ℕ) → ((e : Event) → IsReadFrom (words line) e → P e)
+    → IfOk (event_of_line number line) P
 unfolding event_of_line
-spelled_line number line = go (ltb 80 (length line)) (ltb 1000000 number) (event_of_words (words line)) (spelled_words (words line))
+of_line P number line so = go (ltb 80 (length line)) (ltb 1000000 number) (event_of_words (words line)) (read_words (words line))
   where
-    by_words : (r : Result Event TraceFault) → IfOk r (λ e. words line ≡ event_words e) → IfOk r (λ e. line ≡ event_line e)
-    by_words (Ok event) is = sym (line_is_its_words line) ∙ ap line_of is
-    by_words (Err fault) is = tt
-
-    go : (v w : Bool) (r : Result Event TraceFault) → IfOk r (λ e. words line ≡ event_words e) →
-        IfOk (cond v (Err LineTooLong) (cond w (Err TooManyEvents) r)) (λ e. line ≡ event_line e)
+    go : (v w : Bool) (r : Result Event TraceFault) → IfOk r (IsReadFrom (words line)) →
+        IfOk (cond v (Err LineTooLong) (cond w (Err TooManyEvents) r)) P
     go true w r is = tt
     go false true r is = tt
-    go false false r is = by_words r is
+    go false false (Ok event) is = so event is
+    go false false (Err fault) is = tt
+
+pub IfOk-event_of_line : (number : ℕ) (line : List ℕ) → IfOk (event_of_line number line) IsInRange
+IfOk-event_of_line number line = of_line IsInRange number line (λ e is. is.0)
+
+pub spelled_line : (number : ℕ) (line : List ℕ) → IfOk (event_of_line number line) (λ e. line ≡ event_line e)
+spelled_line number line = of_line (λ e. line ≡ event_line e) number line (λ e is. sym (line_is_its_words line) ∙ ap line_of is.1)

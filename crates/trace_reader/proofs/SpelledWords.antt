@@ -1,12 +1,11 @@
 -- What the words of an event spell, read one after the other.
-use Rattle.std.proofs.Common.{◌≡◌, ℕ, ℤ, List, [], ◌∷◌, ◌++◌, append_assoc, refl, ap, ◌∙◌, false, Result, Ok, arith, length, ne_eqb, codes}
-use Rattle.line_text.specs.Lines.{words}
+use Rattle.std.proofs.Common.{◌≡◌, ℕ, ℤ, List, [], ◌∷◌, refl, ◌∙◌, false, Result, Ok, arith, length, ne_eqb}
 use Rattle.line_text.specs.Numbers.{number_of}
 use Rattle.line_text.specs.Signed.{signed_of}
 use Rattle.line_text.specs.Hexadecimal.{hex_of}
 use Rattle.trace_event.specs.declared.event.Event.{Event}
-use Rattle.trace_event.specs.declared.event.Event.TheVariants.{Malloc, Calloc, Realloc, Free, Load, Store, Addg, Subg}
-use Rattle.trace_reader.specs.OnePass.{AreAfter, AreRead, IsRead}
+use Rattle.trace_event.specs.declared.event.Event.TheVariants.{Free, Load, Store}
+use Rattle.trace_reader.specs.OnePass.{AreRead, IsRead}
 use Rattle.trace_reader.specs.declared.fault.TraceFault.{TraceFault}
 use Rattle.trace_reader.specs.TraceLine.{byte_of, event_named, event_of_words, free_of, is_empty_word, load_of, move_of, number_from, offset_of, request_of, store_of}
 
@@ -79,52 +78,7 @@ move_read ws more third last_one left v w u6 u4 event a b c d none = record {
 
 -- ---- the name in front of them
 
--- an event of this name is read so, from its words and from its line
-pub record IsNamed (name : List ℕ) (reading : List (List ℕ) → Result Event TraceFault) : Type 0 where
-  pub full : is_empty_word name ≡ false
-  pub named : (ws : List (List ℕ)) → event_named name ws ≡ reading ws
-  pub first : (rest : List ℕ) → words (name ++ 32 ∷ rest) ≡ name ∷ words rest
-
-pub named_words : {name : List ℕ} {reading : List (List ℕ) → Result Event TraceFault} {ws : List (List ℕ)} {event : Event}
-    → IsNamed name reading → AreRead reading ws event → event_of_words (name ∷ ws) ≡ Ok event
+pub named_words : {reading : List (List ℕ) → Result Event TraceFault} {ws : List (List ℕ)} {event : Event} (name : List ℕ)
+    → is_empty_word name ≡ false → event_named name ws ≡ reading ws → AreRead reading ws event → event_of_words (name ∷ ws) ≡ Ok event
 unfolding event_of_words
-named_words {name} {reading} {ws} {event} is read = rw (is.full, read.full) (is.named ws ∙ read.is)
-
-pub named_line : {name line : List ℕ} {reading : List (List ℕ) → Result Event TraceFault} {left : List (List ℕ)} {event : Event}
-    → IsNamed name reading → AreAfter (name ++ 32 ∷ []) line left → AreRead reading left event → event_of_words (words line) ≡ Ok event
-named_line {name} {line} {reading} {left} {event} is after read =
-    let whole : line ≡ name ++ 32 ∷ after.rest = after.line_is ∙ append_assoc name (32 ∷ []) after.rest in
-    let read_rest : AreRead reading (words after.rest) event = rw after.are at read in
-    ap event_of_words (ap words whole ∙ is.first after.rest) ∙ named_words is read_rest
-
-pub malloc : IsNamed (codes "malloc") (request_of Malloc)
-unfolding words
-malloc = record { full = refl; named = λ ws. refl; first = λ rest. refl }
-
-pub calloc : IsNamed (codes "calloc") (request_of Calloc)
-unfolding words
-calloc = record { full = refl; named = λ ws. refl; first = λ rest. refl }
-
-pub realloc : IsNamed (codes "realloc") (request_of Realloc)
-unfolding words
-realloc = record { full = refl; named = λ ws. refl; first = λ rest. refl }
-
-pub free : IsNamed (codes "free") free_of
-unfolding words
-free = record { full = refl; named = λ ws. refl; first = λ rest. refl }
-
-pub load : IsNamed (codes "load") load_of
-unfolding words
-load = record { full = refl; named = λ ws. refl; first = λ rest. refl }
-
-pub store : IsNamed (codes "store") store_of
-unfolding words
-store = record { full = refl; named = λ ws. refl; first = λ rest. refl }
-
-pub addg : IsNamed (codes "addg") (move_of Addg)
-unfolding words
-addg = record { full = refl; named = λ ws. refl; first = λ rest. refl }
-
-pub subg : IsNamed (codes "subg") (move_of Subg)
-unfolding words
-subg = record { full = refl; named = λ ws. refl; first = λ rest. refl }
+named_words name full named read = rw (full, read.full) (named ∙ read.is)

@@ -10,8 +10,8 @@ use Rattle.trace_event.specs.Ranges.{IsInRange}
 use Rattle.trace_reader.specs.TraceLine.{event_line, event_of_line}
 use Rattle.trace_reader.specs.TraceText.{SpellsTrace, Trace, no_lines, trace_from, trace_of, with_line}
 use Rattle.trace_reader.proofs.EventLines.{event_line-is_line, event_line-some, event_of_line-spelled}
-use Rattle.trace_reader.proofs.LineRanges.{IfOk-event_of_line, few_events}
-use Rattle.trace_reader.proofs.SpelledLines.{spelled_line}
+use Rattle.trace_reader.proofs.LineRanges.{few_events}
+use Rattle.trace_reader.proofs.SpelledLines.{IfOk-event_of_line, spelled_line}
 
 abbrev pub whole : List Event → Trace
 whole events = record { events = events; fault = None }

@@ -1,7 +1,6 @@
 -- The words of a line that spells an event, as they are read one after the other.
-use Rattle.std.specs.Prelude.{◌≡◌, ℕ, List, ◌∷◌, ◌++◌, Result, Ok, Bool}
+use Rattle.std.specs.Prelude.{◌≡◌, ℕ, List, ◌∷◌, Result, Ok, Bool}
 use Rattle.std.specs.List.{list_any}
-use Rattle.line_text.specs.Lines.{words}
 use Rattle.trace_reader.specs.declared.fault.TraceFault.{TraceFault}
 use Rattle.trace_reader.specs.TraceLine.{is_empty_word}
 
@@ -15,9 +14,3 @@ pub record IsRead {A : Type 0} (reading : List ℕ → Result A TraceFault) (old
 pub record AreRead {A : Type 0} (reading : List (List ℕ) → Result A TraceFault) (words : List (List ℕ)) (value : A) : Type 0 where
   pub is : reading words ≡ Ok value
   pub full : list_any is_empty_word words ≡ Bool.false
-
--- These are the words after the first bytes of a line.
-pub record AreAfter (first line : List ℕ) (left : List (List ℕ)) : Type 0 where
-  pub rest : List ℕ
-  pub line_is : line ≡ first ++ rest
-  pub are : left ≡ words rest
