@@ -66,41 +66,90 @@ pub(crate) fn first_event<const COPY: u8>(text: &[u8]) -> Option<(Event, &[u8])>
     let (word, text) = first_word(text)?;
     // by the first letter, so that the compiler makes a table of jumps
     match (word % 256) as u8 {
-        b'm' if word == MALL => {
-            let (v, n, after) = request(after_name(b"oc ", text)?)?;
-            Some((Event::Malloc { v, n }, after))
-        }
-        b'c' if word == CALL => {
-            let (v, n, after) = request(after_name(b"oc ", text)?)?;
-            Some((Event::Calloc { v, n }, after))
-        }
-        b'r' if word == REAL => {
-            let (v, n, after) = request(after_name(b"loc ", text)?)?;
-            Some((Event::Realloc { v, n }, after))
-        }
-        b'f' if word == FREE => {
-            let (v, after) = variable(b'\n', after_name(b" ", text)?)?;
-            Some((Event::Free { v }, after))
-        }
-        b'l' if word == LOAD => {
-            let (v, off, len, after) = access(b'\n', after_name(b" ", text)?)?;
-            Some((Event::Load { v, off, len }, after))
-        }
-        b's' if word == STOR => {
-            let (v, off, len, text) = access(b' ', after_name(b"e ", text)?)?;
-            let (byte, after) = byte(text)?;
-            Some((Event::Store { v, off, len, byte }, after))
-        }
-        b'a' if word == ADDG => {
-            let (v, w, u6, u4, after) = move_pointer(after_name(b" ", text)?)?;
-            Some((Event::Addg { v, w, u6, u4 }, after))
-        }
-        b's' if word == SUBG => {
-            let (v, w, u6, u4, after) = move_pointer(after_name(b" ", text)?)?;
-            Some((Event::Subg { v, w, u6, u4 }, after))
-        }
+        b'm' if word == MALL => malloc(text),
+        b'c' if word == CALL => calloc(text),
+        b'r' if word == REAL => realloc(text),
+        b'f' if word == FREE => free(text),
+        b'l' if word == LOAD => load(text),
+        b's' if word == STOR => store(text),
+        b'a' if word == ADDG => addg(text),
+        b's' if word == SUBG => subg(text),
         _ => None,
     }
+}
+
+// The functions below read the events, each from the text after the first four letters of its name.
+#[inline(always)]
+fn malloc(text: &[u8]) -> Option<(Event, &[u8])>
+    ensures spelled { IfSome result (λ found. to_le_bytes w32 MALL ++ text.now ≡ event_line found.0 ++ 10 ∷ found.1.now) }
+    ensures range { IfSome result (λ found. IsInRange found.0) }
+{
+    let (v, n, after) = request(after_name(b"oc ", text)?)?;
+    Some((Event::Malloc { v, n }, after))
+}
+
+#[inline(always)]
+fn calloc(text: &[u8]) -> Option<(Event, &[u8])>
+    ensures spelled { IfSome result (λ found. to_le_bytes w32 CALL ++ text.now ≡ event_line found.0 ++ 10 ∷ found.1.now) }
+    ensures range { IfSome result (λ found. IsInRange found.0) }
+{
+    let (v, n, after) = request(after_name(b"oc ", text)?)?;
+    Some((Event::Calloc { v, n }, after))
+}
+
+#[inline(always)]
+fn realloc(text: &[u8]) -> Option<(Event, &[u8])>
+    ensures spelled { IfSome result (λ found. to_le_bytes w32 REAL ++ text.now ≡ event_line found.0 ++ 10 ∷ found.1.now) }
+    ensures range { IfSome result (λ found. IsInRange found.0) }
+{
+    let (v, n, after) = request(after_name(b"loc ", text)?)?;
+    Some((Event::Realloc { v, n }, after))
+}
+
+#[inline(always)]
+fn free(text: &[u8]) -> Option<(Event, &[u8])>
+    ensures spelled { IfSome result (λ found. to_le_bytes w32 FREE ++ text.now ≡ event_line found.0 ++ 10 ∷ found.1.now) }
+    ensures range { IfSome result (λ found. IsInRange found.0) }
+{
+    let (v, after) = variable(b'\n', after_name(b" ", text)?)?;
+    Some((Event::Free { v }, after))
+}
+
+#[inline(always)]
+fn load(text: &[u8]) -> Option<(Event, &[u8])>
+    ensures spelled { IfSome result (λ found. to_le_bytes w32 LOAD ++ text.now ≡ event_line found.0 ++ 10 ∷ found.1.now) }
+    ensures range { IfSome result (λ found. IsInRange found.0) }
+{
+    let (v, off, len, after) = access(b'\n', after_name(b" ", text)?)?;
+    Some((Event::Load { v, off, len }, after))
+}
+
+#[inline(always)]
+fn store(text: &[u8]) -> Option<(Event, &[u8])>
+    ensures spelled { IfSome result (λ found. to_le_bytes w32 STOR ++ text.now ≡ event_line found.0 ++ 10 ∷ found.1.now) }
+    ensures range { IfSome result (λ found. IsInRange found.0) }
+{
+    let (v, off, len, text) = access(b' ', after_name(b"e ", text)?)?;
+    let (byte, after) = byte(text)?;
+    Some((Event::Store { v, off, len, byte }, after))
+}
+
+#[inline(always)]
+fn addg(text: &[u8]) -> Option<(Event, &[u8])>
+    ensures spelled { IfSome result (λ found. to_le_bytes w32 ADDG ++ text.now ≡ event_line found.0 ++ 10 ∷ found.1.now) }
+    ensures range { IfSome result (λ found. IsInRange found.0) }
+{
+    let (v, w, u6, u4, after) = move_pointer(after_name(b" ", text)?)?;
+    Some((Event::Addg { v, w, u6, u4 }, after))
+}
+
+#[inline(always)]
+fn subg(text: &[u8]) -> Option<(Event, &[u8])>
+    ensures spelled { IfSome result (λ found. to_le_bytes w32 SUBG ++ text.now ≡ event_line found.0 ++ 10 ∷ found.1.now) }
+    ensures range { IfSome result (λ found. IsInRange found.0) }
+{
+    let (v, w, u6, u4, after) = move_pointer(after_name(b" ", text)?)?;
+    Some((Event::Subg { v, w, u6, u4 }, after))
 }
 
 // the first four bytes of a text as a word, and the text after them
