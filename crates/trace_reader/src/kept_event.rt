@@ -3,6 +3,7 @@ ghost use Rattle.std.specs.Prelude.{◌≡◌};
 ghost use Rattle.trace_event.specs.Ranges.{IsInRange};
 ghost use Rattle.trace_reader.specs.Kept.{event_of};
 
+use std::fmt;
 use trace_event::Event;
 
 // An access touches at most so many bytes.
@@ -11,7 +12,7 @@ const MOST_BYTES: u16 = Event::LONGEST_ACCESS as u16;
 /// `Event` in eight bytes: a store has its variable and its length, less 1, in one number, and single bytes come first, beside the byte of the
 /// kind. A trace of a million events is kept whole until its last line is read, and the first touch of a page of memory takes as long as
 /// twenty events.
-#[derive(Clone, Copy, Debug)]
+#[derive(Clone, Copy)]
 pub(crate) enum KeptEvent {
     Malloc { v: u16, n: u32 },
     Calloc { v: u16, n: u32 },
@@ -21,6 +22,13 @@ pub(crate) enum KeptEvent {
     Store { byte: u8, v_and_len: u16, off: i32 },
     Addg { u6: u8, v: u16, w: u16, u4: u8 },
     Subg { u6: u8, v: u16, w: u16, u4: u8 },
+}
+
+// as the event that was kept
+impl fmt::Debug for KeptEvent {
+    fn fmt<W: fmt::Write>(&self, f: &mut fmt::Formatter<W>) -> fmt::Result {
+        self.event().fmt(f)
+    }
 }
 
 impl KeptEvent {

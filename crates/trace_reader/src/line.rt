@@ -1,10 +1,11 @@
 //! The event that a line spells, or its fault, found word by word. `one_pass` reads the lines that spell events, as far as it can: a change of
 //! an event's words must be made in both files and in `specs/TraceLine.antt`.
-ghost use Rattle.std.specs.Prelude.{◌≡◌, ◌≤◌, ℕ, IfOk, map};
+ghost use Rattle.std.specs.Prelude.{◌≡◌, ◌≤◌, ◌∷◌, [], ℕ, IfOk, map};
 ghost use Rattle.trace_event.specs.declared.event.Event.{Event as EventView};
 ghost use Rattle.trace_event.specs.Ranges.{IsInRange};
 ghost use Rattle.line_text.specs.Lines.{words};
 ghost use Rattle.trace_reader.specs.TraceLine.{made, event_named, event_of_line, event_of_words, free_of, load_of, move_of, request_of, store_of, variable_of, len_of};
+ghost use Rattle.trace_event.specs.declared.event.Event.TheVariants.{Addg, Calloc, Malloc, Realloc, Subg};
 
 use crate::fault::TraceFault;
 use crate::words::{are_full_words, byte_in, number_from, offset_in};
@@ -79,16 +80,13 @@ fn event_named(name: &[u8], words: &[&[u8]]) -> Result<Event, TraceFault>
     ensures { result ≡ event_named name.now (map (λ w. w.now) words.now) }
 {
     if name == MALLOC {
-        let (v, n) = request_in(words)?;
-        return Ok(Event::Malloc { v, n });
+        return malloc_in(words);
     }
     if name == CALLOC {
-        let (v, n) = request_in(words)?;
-        return Ok(Event::Calloc { v, n });
+        return calloc_in(words);
     }
     if name == REALLOC {
-        let (v, n) = request_in(words)?;
-        return Ok(Event::Realloc { v, n });
+        return realloc_in(words);
     }
     if name == FREE {
         return free_in(words);
@@ -100,12 +98,10 @@ fn event_named(name: &[u8], words: &[&[u8]]) -> Result<Event, TraceFault>
         return store_in(words);
     }
     if name == ADDG {
-        let (v, w, u6, u4) = move_in(words)?;
-        return Ok(Event::Addg { v, w, u6, u4 });
+        return addg_in(words);
     }
     if name == SUBG {
-        let (v, w, u6, u4) = move_in(words)?;
-        return Ok(Event::Subg { v, w, u6, u4 });
+        return subg_in(words);
     }
     Err(TraceFault::BadWord)
 }
@@ -128,12 +124,53 @@ fn free_in(words: &[&[u8]]) -> Result<Event, TraceFault>
     Ok(Event::Free { v })
 }
 
+fn malloc_in(words: &[&[u8]]) -> Result<Event, TraceFault>
+    ensures { result ≡ request_of Malloc (map (λ w. w.now) words.now) }
+{
+    let (v, n) = request_in(words)?;
+    Ok(Event::Malloc { v, n })
+}
+
+fn calloc_in(words: &[&[u8]]) -> Result<Event, TraceFault>
+    ensures { result ≡ request_of Calloc (map (λ w. w.now) words.now) }
+{
+    let (v, n) = request_in(words)?;
+    Ok(Event::Calloc { v, n })
+}
+
+fn realloc_in(words: &[&[u8]]) -> Result<Event, TraceFault>
+    ensures { result ≡ request_of Realloc (map (λ w. w.now) words.now) }
+{
+    let (v, n) = request_in(words)?;
+    Ok(Event::Realloc { v, n })
+}
+
+fn addg_in(words: &[&[u8]]) -> Result<Event, TraceFault>
+    ensures { result ≡ move_of Addg (map (λ w. w.now) words.now) }
+{
+    let (v, w, u6, u4) = move_in(words)?;
+    Ok(Event::Addg { v, w, u6, u4 })
+}
+
+fn subg_in(words: &[&[u8]]) -> Result<Event, TraceFault>
+    ensures { result ≡ move_of Subg (map (λ w. w.now) words.now) }
+{
+    let (v, w, u6, u4) = move_in(words)?;
+    Ok(Event::Subg { v, w, u6, u4 })
+}
+
 fn load_in(words: &[&[u8]]) -> Result<Event, TraceFault>
     ensures { result ≡ load_of (map (λ w. w.now) words.now) }
 {
     let [v, off, len] = words else {
         return Err(TraceFault::BadWord);
     };
+    load_from(v, off, len)
+}
+
+fn load_from(v: &[u8], off: &[u8], len: &[u8]) -> Result<Event, TraceFault>
+    ensures { result ≡ load_of (v.now ∷ off.now ∷ len.now ∷ []) }
+{
     let v = variable_in(v)?;
     let off = offset_in(off)?;
     let len = len_in(len)?;
@@ -146,6 +183,12 @@ fn store_in(words: &[&[u8]]) -> Result<Event, TraceFault>
     let [v, off, len, byte] = words else {
         return Err(TraceFault::BadWord);
     };
+    store_from(v, off, len, byte)
+}
+
+fn store_from(v: &[u8], off: &[u8], len: &[u8], byte: &[u8]) -> Result<Event, TraceFault>
+    ensures { result ≡ store_of (v.now ∷ off.now ∷ len.now ∷ byte.now ∷ []) }
+{
     let v = variable_in(v)?;
     let off = offset_in(off)?;
     let len = len_in(len)?;
@@ -174,6 +217,13 @@ fn move_in(words: &[&[u8]]) -> Result<(u16, u16, u8, u8), TraceFault>
     let [v, w, u6, u4] = words else {
         return Err(TraceFault::BadWord);
     };
+    move_from(v, w, u6, u4)
+}
+
+fn move_from(v: &[u8], w: &[u8], u6: &[u8], u4: &[u8]) -> Result<(u16, u16, u8, u8), TraceFault>
+    ensures { (event : ℕ → ℕ → ℕ → ℕ → EventView)
+        → made (λ x. event x.0 x.1 x.2 x.3) result ≡ move_of event (v.now ∷ w.now ∷ u6.now ∷ u4.now ∷ []) }
+{
     let v = variable_in(v)?;
     let w = variable_in(w)?;
     let u6 = number_from(0, Event::FARTHEST_MOVE, u6)? as u8;

@@ -303,9 +303,9 @@ fn three_digits(end: u8, text: &[u8]) -> Option<(u32, &[u8])>
     ensures spelled { IfSome result (λ x. text.now ≡ decimal x.0 ++ end ∷ x.1.now) }
     ensures few { IfSome result (λ x. x.0 ≤ 999) }
 {
-    let bytes = text.first_chunk::<WORD>()?;
-    let value = three_in(u32::from_le_bytes(*bytes), end)?;
-    Some((value, &text[WORD..]))
+    let (word, after) = first_word(text)?;
+    let value = three_in(word, end)?;
+    Some((value, after))
 }
 
 // The number of three digits that a word spells, the first not 0, where its last byte is `end`. One subtraction takes 100 and `end` off: it
