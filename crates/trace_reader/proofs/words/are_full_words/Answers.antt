@@ -1,4 +1,5 @@
 use Rattle.std.proofs.Common.{◌≡◌, ◌∙◌, ◌++◌, ◌∷◌, length, map, sym, ap, arith, eqb-true}
+use Rattle.std.proofs.lemmas.Grind.{common_steps}
 use Rattle.std.proofs.lemmas.List.{length-append, length-map}
 use Rattle.line_text.specs.Lines.{words}
 use Rattle.trace_reader.proofs.BadWords.{empty_word, many_words}
@@ -25,3 +26,6 @@ returns-then-is_empty-clause-bad c =
             full,
           ))
     ]
+
+pub loop-word-preserved : goal.loop-word-preserved
+loop-word-preserved c = grind (arith, common_steps)

@@ -1,4 +1,5 @@
-use Rattle.std.proofs.Common.{refl, sym, ◌∙◌}
+use Rattle.std.proofs.Common.{refl, sym, ◌∙◌, arith}
+use Rattle.std.proofs.lemmas.Grind.{common_steps}
 use Rattle.trace_reader.proofs.Reaching.{judged_event, judged_fault, judged_memory, not_pushed, pushed}
 use Rattle.trace_reader.proofs.reader.TraceReader.add.Goals as goal
 
@@ -24,3 +25,6 @@ returns-in-Err c =
     rw c.in-Err.is
     (judged_fault c.args.self.now c.fail-in-Err-2.new.self i.events i.lines i.rest.items i.status c.in-Err.fault
     c.fail-in-Err-2.result c.fail-in-Err.view_is c.requires.open c.fail-in-Err-2.ensures.failed c.fail-in-Err-2.ensures.answer)
+
+pub invariant_of-self-in-Ok : goal.invariant_of-self-in-Ok
+invariant_of-self-in-Ok c = grind (arith, common_steps)

@@ -1,4 +1,5 @@
 use Rattle.std.proofs.Common.{◌≡◌, ◌+◌, ◌≤◌, ◌∙◌, ◌++◌, List, Err, length, take, ap, map, sym, subst, refl, arith}
+use Rattle.std.proofs.lemmas.Grind.{common_steps}
 use Rattle.std.proofs.lemmas.List.{length-map, length-take}
 use Rattle.trace_event.specs.declared.event.Event.{Event}
 use Rattle.trace_reader.specs.Kept.{event_of}
@@ -45,3 +46,6 @@ returns-clause-shorter c =
       length-take count batch,
       lines_are_long (map event_of (take count batch)) c.args.text.now c.events_in_front-count.result.1.now c.events_in_front-count.ensures.lines,
     )
+
+pub invariant_of-self-2 : goal.invariant_of-self-2
+invariant_of-self-2 c = grind (arith, common_steps)
