@@ -10,3 +10,6 @@ returns-in_err-count-clause-way c = grind (arith, common_steps)
 
 pub returns-then-count-eq0-clause-way : goal.returns-then-count-eq0-clause-way
 returns-then-count-eq0-clause-way c = grind (arith, common_steps)
+
+pub loop-count-init : goal.loop-count-init
+loop-count-init c = grind (arith, common_steps)
