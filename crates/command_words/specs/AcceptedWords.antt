@@ -1,11 +1,14 @@
 -- The words that the program takes.
-use Rattle.std.specs.Prelude.{◌≡◌, ℕ, List, [], ◌∷◌, Some, codes, pos, true, false}
+use Rattle.std.specs.Prelude.{◌≡◌, ℕ, List, [], ◌∷◌, IfOk, Option, Result, Some, None, codes, pos, true, false}
 use Rattle.clap.specs.Words.{App, Rule, new_app, new_rule, app_of, with_rule, with_subcommand, rule_of}
 use Rattle.clap.specs.Simple.{on_top}
 use Rattle.clap.specs.declared.builder.arg.Arg.{Arg}
 use Rattle.clap.specs.declared.builder.command.Command.{Command}
 use Rattle.clap.specs.declared.builder.command.Command.TheViews.{out-Command as fields_of}
 use Rattle.clap.specs.declared.builder.value_parser.ValueParser.TheVariants.{Signed}
+use Rattle.command_words.specs.declared.commands.shared_help.Options.{Options}
+use Rattle.command_words.specs.declared.commands.shared_help.Options.TheVariants.{Nothing, Limits, Config, LimitsAndConfig}
+use Rattle.command_words.specs.declared.commands.shared_help.Words.{Words}
 use Rattle.command_words.specs.Bounds.{granules_bounds, limit_bounds, quarantine_bounds, seed_bounds, step_bounds}
 use Rattle.command_words.specs.Spellings.{
   check_fit_name,
@@ -32,28 +35,49 @@ number_rule name bounds = record (new_rule name) {
   parser = Some (Signed (pos bounds.0) (pos bounds.1));
 }
 
--- `--limit`, which may not be left out.
+-- Such an option with this default; without one it may not be left out.
+abbrev pub option_rule : List ℕ → ℕ × ℕ → Option (List ℕ) → Rule
+option_rule name bounds None = record (number_rule name bounds) { required = true }
+option_rule name bounds (Some text) = record (number_rule name bounds) { defaults = text ∷ [] }
+
 abbrev pub limit_rule : Rule
-limit_rule = record (number_rule limit_name limit_bounds) { required = true }
+limit_rule = option_rule limit_name limit_bounds None
 
 abbrev pub step_rule : Rule
-step_rule = record (number_rule step_name step_bounds) { defaults = codes "1" ∷ [] }
+step_rule = option_rule step_name step_bounds (Some (codes "1"))
 
 abbrev pub granules_rule : Rule
-granules_rule = record (number_rule granules_name granules_bounds) { defaults = codes "65536" ∷ [] }
+granules_rule = option_rule granules_name granules_bounds (Some (codes "65536"))
 
 abbrev pub seed_rule : Rule
-seed_rule = record (number_rule seed_name seed_bounds) { defaults = codes "1" ∷ [] }
+seed_rule = option_rule seed_name seed_bounds (Some (codes "1"))
 
 abbrev pub quarantine_rule : Rule
-quarantine_rule = record (number_rule quarantine_name quarantine_bounds) { defaults = codes "65536" ∷ [] }
+quarantine_rule = option_rule quarantine_name quarantine_bounds (Some (codes "65536"))
+
+-- The words `a` with `--limit` and `--step`, and with the options of the heap's configuration.
+abbrev pub with_limits : App → App
+with_limits a = with_rule (with_rule a limit_rule) step_rule
+
+abbrev pub with_config : App → App
+with_config a = with_rule (with_rule (with_rule a granules_rule) seed_rule) quarantine_rule
+
+abbrev pub with_options : Options → App → App
+with_options Nothing a = a
+with_options Limits a = with_limits a
+with_options Config a = with_config a
+with_options LimitsAndConfig a = with_config (with_limits a)
+
+-- What a command's description says.
+abbrev pub described : Words → App
+described words = with_options words.options (new_app words.name.now)
 
 -- The commands.
 abbrev pub score_words : App
 score_words = new_app score_name
 
 abbrev pub tune_words : App
-tune_words = with_rule (with_rule (new_app tune_name) limit_rule) step_rule
+tune_words = with_limits (new_app tune_name)
 
 abbrev pub check_words : App
 check_words = new_app check_name
@@ -62,7 +86,7 @@ abbrev pub footprint_words : App
 footprint_words = new_app footprint_name
 
 abbrev pub fit_words : App
-fit_words = with_rule (with_rule (new_app fit_name) limit_rule) step_rule
+fit_words = with_limits (new_app fit_name)
 
 abbrev pub check_fit_words : App
 check_fit_words = new_app check_fit_name
@@ -71,12 +95,10 @@ abbrev pub profile_words : App
 profile_words = new_app profile_name
 
 abbrev pub replay_words : App
-replay_words = with_rule (with_rule (with_rule (new_app replay_name) granules_rule) seed_rule) quarantine_rule
+replay_words = with_config (new_app replay_name)
 
 abbrev pub run_words : App
-run_words =
-    with_rule (with_rule (with_rule (with_rule (with_rule (new_app run_name) limit_rule) step_rule) granules_rule) seed_rule)
-    quarantine_rule
+run_words = with_config (with_limits (new_app run_name))
 
 -- The program: one of its commands has to be named.
 abbrev pub top : App
@@ -105,3 +127,11 @@ IsOption option rule = (rule_of option ≡ rule) × (option.global ≡ false)
 
 abbrev pub HasWords : Command → App → Type 0
 HasWords command words = (app_of command ≡ words) × ((fields_of command).has_globals ≡ false)
+
+-- The second is the first, a command without subcommands, with words added.
+abbrev pub Adds : {E : Type 0} → (App → App) → Result Command E → Result Command E → Type 0
+Adds add old new = (a : App) → IfOk old (λ c. HasWords c a) → IfOk new (λ c. HasWords c (add a))
+
+-- The second is the first, the program so far, with commands added.
+abbrev pub AddsCommands : {E : Type 0} → (App → App) → Result Command E → Result Command E → Type 0
+AddsCommands add old new = (a : App) → IfOk old (λ c. app_of c ≡ a) → IfOk new (λ c. app_of c ≡ add a)

@@ -71,6 +71,11 @@ Names name options Profile = name ≡ profile_name
 Names name options (Replay o) = (name ≡ replay_name) × HasConfig options o.config
 Names name options (Run o) = (name ≡ run_name) × HasLimit options o.limit × HasStep options o.step × HasConfig options o.config
 
+-- What was read of them is such a call, or there is none.
+abbrev pub IsCallNamed : {E : Type 0} → Text → List Row → Result Call E → Type 0
+IsCallNamed name options (Ok call) = Names name options call
+IsCallNamed name options (Err fault) = (call : Call) → Names name options call → ⊥
+
 -- This is the call of a command and its options, as clap finds them in the words.
 abbrev pub IsCall : Option (Text × List Row) → Call → Type 0
 IsCall None call = ⊥

@@ -1,7 +1,8 @@
 //! The commands, as values.
 ghost use Rattle.std.specs.Prelude.{MatchResult};
-ghost use Rattle.clap.specs.Words.{subcommand_rows_of};
-ghost use Rattle.command_words.specs.Calls.{IsCall, IsNoCall};
+ghost use Rattle.clap.specs.Words.{found_of, rows_of, subcommand_rows_of};
+ghost use Rattle.command_words.specs.Calls.{IsCall, IsCallNamed, IsNoCall};
+ghost use Rattle.command_words.specs.Spellings.{fit_name, replay_name, run_name, tune_name};
 
 use crate::commands::fit::Fit;
 use crate::commands::replay::Replay;
@@ -32,15 +33,61 @@ pub fn call_of(matches: &ArgMatches<'_>) -> Result<Call, OptionFault>
         (λ _. IsNoCall (subcommand_rows_of matches.now)) }
 {
     match matches.subcommand() {
-        Some((score::NAME, _)) => Ok(Call::Score),
-        Some((tune::NAME, options)) => Ok(Call::Tune(Tune::of_options(options)?)),
-        Some((check::NAME, _)) => Ok(Call::Check),
-        Some((footprint::NAME, _)) => Ok(Call::Footprint),
-        Some((fit::NAME, options)) => Ok(Call::Fit(Fit::of_options(options)?)),
-        Some((check_fit::NAME, _)) => Ok(Call::CheckFit),
-        Some((profile::NAME, _)) => Ok(Call::Profile),
-        Some((replay::NAME, options)) => Ok(Call::Replay(Replay::of_options(options)?)),
-        Some((run::NAME, options)) => Ok(Call::Run(Run::of_options(options)?)),
+        Some((name, options)) => call_named(name, options),
+        None => Err(OptionFault::BadOption),
+    }
+}
+
+// the call of the command of this name
+fn call_named(name: &str, options: &ArgMatches<'_>) -> Result<Call, OptionFault>
+    ensures { IsCallNamed name.now (rows_of (found_of options.now)) result }
+{
+    match name {
+        score::NAME => Ok(Call::Score),
+        tune::NAME => tune_call(options),
+        check::NAME => Ok(Call::Check),
+        footprint::NAME => Ok(Call::Footprint),
+        fit::NAME => fit_call(options),
+        check_fit::NAME => Ok(Call::CheckFit),
+        profile::NAME => Ok(Call::Profile),
+        replay::NAME => replay_call(options),
+        run::NAME => run_call(options),
         _ => Err(OptionFault::BadOption),
+    }
+}
+
+fn tune_call(options: &ArgMatches<'_>) -> Result<Call, OptionFault>
+    ensures { IsCallNamed tune_name (rows_of (found_of options.now)) result }
+{
+    match Tune::of_options(options) {
+        Ok(options) => Ok(Call::Tune(options)),
+        Err(fault) => Err(fault),
+    }
+}
+
+fn fit_call(options: &ArgMatches<'_>) -> Result<Call, OptionFault>
+    ensures { IsCallNamed fit_name (rows_of (found_of options.now)) result }
+{
+    match Fit::of_options(options) {
+        Ok(options) => Ok(Call::Fit(options)),
+        Err(fault) => Err(fault),
+    }
+}
+
+fn replay_call(options: &ArgMatches<'_>) -> Result<Call, OptionFault>
+    ensures { IsCallNamed replay_name (rows_of (found_of options.now)) result }
+{
+    match Replay::of_options(options) {
+        Ok(options) => Ok(Call::Replay(options)),
+        Err(fault) => Err(fault),
+    }
+}
+
+fn run_call(options: &ArgMatches<'_>) -> Result<Call, OptionFault>
+    ensures { IsCallNamed run_name (rows_of (found_of options.now)) result }
+{
+    match Run::of_options(options) {
+        Ok(options) => Ok(Call::Run(options)),
+        Err(fault) => Err(fault),
     }
 }

@@ -7,5 +7,5 @@ pub mod profile;
 pub mod replay;
 pub mod run;
 pub mod score;
-mod shared_help;
+pub mod shared_help;
 pub mod tune;

@@ -1,14 +1,14 @@
 //! The options that commands share.
-ghost use Rattle.std.specs.Prelude.{ℕ, ◌<◌, ◌^◌, MatchOption, MatchResult};
-ghost use Rattle.clap.specs.Words.{found_of, rows_of};
+ghost use Rattle.std.specs.Prelude.{ℕ, ◌<◌, ◌^◌, MatchOption, MatchResult, option_map};
+ghost use Rattle.clap.specs.Words.{found_of, rows_of, with_rule};
 ghost use Rattle.command_words.specs.Calls.{HasConfig, HasLimit, HasNumber, HasNumberIn, HasSeed, HasStep, IsRead};
-ghost use Rattle.command_words.specs.AcceptedWords.{IsOption, granules_rule, limit_rule, number_rule, quarantine_rule, seed_rule, step_rule};
+ghost use Rattle.command_words.specs.AcceptedWords.{Adds, IsOption, number_rule, option_rule, with_config, with_limits};
 
 use crate::refusal::OptionFault;
-use clap::{Arg, ArgMatches, value_parser};
+use clap::{Arg, ArgMatches, Command, value_parser};
 use class_table::{FEWEST_GRANULES, MOST_CLASSES, MOST_GRANULES, is_step};
 use heap_theory::Config;
-use std::alloc::Global;
+use std::alloc::{AllocError, Global};
 
 // An option whose value is a number within bounds. In the code, its name, its bounds and its help stand here alone.
 #[derive(Clone, Copy)]
@@ -17,6 +17,8 @@ struct NumberOption {
     value_name: &'static str,
     least: u32,
     most: u32,
+    // what it has where the words don't name it; an option without it is required
+    default: Option<&'static str>,
     help: &'static str,
 }
 
@@ -25,6 +27,7 @@ const LIMIT: NumberOption = NumberOption {
     value_name: "K",
     least: 1,
     most: MOST_CLASSES as u32,
+    default: None,
     help: "The most classes that the table may have, 1 to 32",
 };
 
@@ -33,6 +36,7 @@ const STEP: NumberOption = NumberOption {
     value_name: "S",
     least: 1,
     most: 8,
+    default: Some("1"),
     help: "Each class is a multiple of S granules: 1, 2, 4 or 8",
 };
 
@@ -41,6 +45,7 @@ const GRANULES: NumberOption = NumberOption {
     value_name: "R",
     least: FEWEST_GRANULES,
     most: MOST_GRANULES,
+    default: Some("65536"),
     help: "The granules of the heap's region, 64 to 262144",
 };
 
@@ -49,6 +54,7 @@ const SEED: NumberOption = NumberOption {
     value_name: "N",
     least: 1,
     most: 65_535,
+    default: Some("1"),
     help: "What the random tags begin with, 1 to 65535",
 };
 
@@ -57,12 +63,23 @@ const QUARANTINE: NumberOption = NumberOption {
     value_name: "Q",
     least: 0,
     most: Config::MOST_QUARANTINE,
+    default: Some("65536"),
     help: "Bytes of freed blocks held back from reuse, 0 to 4194304",
 };
 
 impl NumberOption {
-    // the option for clap, which refuses numbers outside the bounds
+    // the option for clap
     fn arg<'a>(self, alloc: Global) -> Arg<'a>
+        ensures { IsOption result (option_rule self.name.now (self.least, self.most) (option_map (λ t. t.now) self.default)) }
+    {
+        match self.default {
+            Some(text) => self.number_arg(alloc).default_value(text),
+            None => self.number_arg(alloc).required(true),
+        }
+    }
+
+    // an option for clap, which refuses numbers outside the bounds
+    fn number_arg<'a>(self, alloc: Global) -> Arg<'a>
         ensures { IsOption result (number_rule self.name.now (self.least, self.most)) }
     {
         Arg::new(alloc, self.name)
@@ -88,39 +105,31 @@ impl NumberOption {
     }
 }
 
-/// The option for the most classes, 1 to 32. It is required.
-pub fn limit<'a>(alloc: Global) -> Arg<'a>
-    ensures { IsOption result limit_rule }
+/// Adds `--limit` and `--step` to a command.
+pub fn with_limits<'a>(alloc: Global, command: Result<Command<'a>, AllocError>) -> Result<Command<'a>, AllocError>
+    ensures { Adds with_limits command.entry result }
 {
-    LIMIT.arg(alloc).required(true)
+    with_option(alloc, with_option(alloc, command, LIMIT), STEP)
 }
 
-/// The option for the step, 1 to 8. The default is 1.
-pub fn step<'a>(alloc: Global) -> Arg<'a>
-    ensures { IsOption result step_rule }
+/// Adds the options of the heap's configuration to a command: `--granules`, `--seed` and `--quarantine`.
+pub fn with_config<'a>(alloc: Global, command: Result<Command<'a>, AllocError>) -> Result<Command<'a>, AllocError>
+    ensures { Adds with_config command.entry result }
 {
-    STEP.arg(alloc).default_value("1")
+    let command = with_option(alloc, command, GRANULES);
+    with_option(alloc, with_option(alloc, command, SEED), QUARANTINE)
 }
 
-/// The option for the heap's size in granules, 64 to 262144. The default is 65536.
-pub fn granules<'a>(alloc: Global) -> Arg<'a>
-    ensures { IsOption result granules_rule }
+// adds an option to a command
+fn with_option<'a>(
+    alloc: Global,
+    command: Result<Command<'a>, AllocError>,
+    option: NumberOption,
+) -> Result<Command<'a>, AllocError>
+    ensures { Adds (λ a. with_rule a (option_rule option.name.now (option.least, option.most) (option_map (λ t. t.now) option.default)))
+        command.entry result }
 {
-    GRANULES.arg(alloc).default_value("65536")
-}
-
-/// The option for the seed of the random tags, 1 to 65535. The default is 1.
-pub fn seed<'a>(alloc: Global) -> Arg<'a>
-    ensures { IsOption result seed_rule }
-{
-    SEED.arg(alloc).default_value("1")
-}
-
-/// The option for the limit of the quarantine in bytes, 0 to 4194304. The default is 65536.
-pub fn quarantine<'a>(alloc: Global) -> Arg<'a>
-    ensures { IsOption result quarantine_rule }
-{
-    QUARANTINE.arg(alloc).default_value("65536")
+    command?.arg(option.arg(alloc))
 }
 
 /// The most classes that the options allow. `BadOption` if they name no number from 1 to 32.

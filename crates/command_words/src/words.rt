@@ -1,10 +1,11 @@
 //! The words of the command line, and the call that they mean.
 ghost use Rattle.std.specs.Prelude.{◌≡◌, IfOk, MatchResult, map, string_bytes};
 ghost use Rattle.clap.specs.Words.{app_of};
-ghost use Rattle.command_words.specs.AcceptedWords.{program, top, with_history_commands, with_table_commands, with_trace_commands};
+ghost use Rattle.command_words.specs.AcceptedWords.{AddsCommands, described, program, top, with_command, with_history_commands, with_table_commands, with_trace_commands};
 ghost use Rattle.command_words.specs.Words.{AreRefused, Mean};
 
 use crate::call::{Call, call_of};
+use crate::commands::shared_help::Words;
 use crate::commands::{check, check_fit, fit, footprint, profile, replay, run, score, tune};
 use crate::refusal::Refusal;
 use clap::Command;
@@ -33,10 +34,8 @@ docs/FORMATS.md in the repository has the formats and all codes.";
 pub fn command<'a>(alloc: Global) -> Result<Command<'a>, AllocError>
     ensures { IfOk result (λ command. app_of command ≡ program) }
 {
-    let command = top_words(alloc);
-    let command = add_table_commands(alloc, command)?;
-    let command = add_history_commands(alloc, command)?;
-    add_trace_commands(alloc, command)
+    let command = with_table_commands(alloc, Ok(top_words(alloc)));
+    with_trace_commands(alloc, with_history_commands(alloc, command))
 }
 
 // the words of the program itself: one of its commands has to be named
@@ -52,33 +51,44 @@ fn top_words<'a>(alloc: Global) -> Command<'a>
 }
 
 // adds the commands that read a profile
-fn add_table_commands<'a>(alloc: Global, command: Command<'a>) -> Result<Command<'a>, AllocError>
-    ensures { IfOk result (λ added. app_of added ≡ with_table_commands (app_of command.entry)) }
+fn with_table_commands<'a>(alloc: Global, command: Result<Command<'a>, AllocError>) -> Result<Command<'a>, AllocError>
+    ensures { AddsCommands with_table_commands command.entry result }
 {
-    command
-        .subcommand(score::words(alloc))?
-        .subcommand(tune::words(alloc)?)?
-        .subcommand(check::words(alloc))
+    let command = with_command(alloc, command, score::WORDS);
+    let command = with_command(alloc, command, tune::WORDS);
+    with_command(alloc, command, check::WORDS)
 }
 
 // adds the commands that read a history
-fn add_history_commands<'a>(alloc: Global, command: Command<'a>) -> Result<Command<'a>, AllocError>
-    ensures { IfOk result (λ added. app_of added ≡ with_history_commands (app_of command.entry)) }
+fn with_history_commands<'a>(alloc: Global, command: Result<Command<'a>, AllocError>) -> Result<Command<'a>, AllocError>
+    ensures { AddsCommands with_history_commands command.entry result }
 {
-    command
-        .subcommand(footprint::words(alloc))?
-        .subcommand(fit::words(alloc)?)?
-        .subcommand(check_fit::words(alloc))
+    let command = with_command(alloc, command, footprint::WORDS);
+    let command = with_command(alloc, command, fit::WORDS);
+    with_command(alloc, command, check_fit::WORDS)
 }
 
 // adds the commands that read a trace
-fn add_trace_commands<'a>(alloc: Global, command: Command<'a>) -> Result<Command<'a>, AllocError>
-    ensures { IfOk result (λ added. app_of added ≡ with_trace_commands (app_of command.entry)) }
+fn with_trace_commands<'a>(alloc: Global, command: Result<Command<'a>, AllocError>) -> Result<Command<'a>, AllocError>
+    ensures { AddsCommands with_trace_commands command.entry result }
 {
-    command
-        .subcommand(profile::words(alloc))?
-        .subcommand(replay::words(alloc)?)?
-        .subcommand(run::words(alloc)?)
+    let command = with_command(alloc, command, profile::WORDS);
+    let command = with_command(alloc, command, replay::WORDS);
+    with_command(alloc, command, run::WORDS)
+}
+
+// adds a command
+fn with_command<'a>(
+    alloc: Global,
+    command: Result<Command<'a>, AllocError>,
+    words: Words,
+) -> Result<Command<'a>, AllocError>
+    ensures { AddsCommands (λ a. with_command a (described words)) command.entry result }
+{
+    match command.ok().zip(words.command(alloc).ok()) {
+        Some((command, words)) => command.subcommand(words),
+        None => Err(AllocError),
+    }
 }
 
 /// The call that these words mean. The first word is the program's name.

@@ -1,9 +1,6 @@
 //! `check`.
-ghost use Rattle.command_words.specs.AcceptedWords.{HasWords, check_words};
 
-use crate::commands::shared_help::{About, about, described, help_text};
-use clap::Command;
-use std::alloc::Global;
+use crate::commands::shared_help::{About, Options, Words, about, help_text};
 
 /// The command's name.
 pub const NAME: &str = "check";
@@ -59,8 +56,9 @@ Refused input, exit status 2:
 );
 
 /// The command's words.
-pub fn words<'a>(alloc: Global) -> Command<'a>
-    ensures { HasWords result check_words }
-{
-    described(alloc, NAME, ABOUT, AFTER)
-}
+pub const WORDS: Words = Words {
+    name: NAME,
+    about: ABOUT,
+    after: AFTER,
+    options: Options::Nothing,
+};

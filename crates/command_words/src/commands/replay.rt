@@ -1,17 +1,15 @@
 //! `replay`.
-ghost use Rattle.std.specs.Prelude.{IfOk, MatchResult};
+ghost use Rattle.std.specs.Prelude.{MatchResult};
 ghost use Rattle.clap.specs.Words.{found_of, rows_of};
 ghost use Rattle.command_words.specs.Calls.{Names};
-ghost use Rattle.command_words.specs.AcceptedWords.{HasWords, replay_words};
 ghost use Rattle.command_words.specs.Spellings.{replay_name};
 ghost use Rattle.command_words.specs.declared.call.Call.TheVariants.{Replay as ReplayCall};
 
-use crate::commands::shared_help::{About, about, described, help_text};
-use crate::options::{config_of, granules, quarantine, seed};
+use crate::commands::shared_help::{About, Options, Words, about, help_text};
+use crate::options::config_of;
 use crate::refusal::OptionFault;
-use clap::{ArgMatches, Command};
+use clap::ArgMatches;
 use heap_theory::Config;
-use std::alloc::{AllocError, Global};
 
 /// The command's name.
 pub const NAME: &str = "replay";
@@ -54,14 +52,12 @@ Refused input, exit status 2; line 1 is the class line, the trace begins in line
 );
 
 /// The command's words.
-pub fn words<'a>(alloc: Global) -> Result<Command<'a>, AllocError>
-    ensures { IfOk result (λ command. HasWords command replay_words) }
-{
-    described(alloc, NAME, ABOUT, AFTER)
-        .arg(granules(alloc))?
-        .arg(seed(alloc))?
-        .arg(quarantine(alloc))
-}
+pub const WORDS: Words = Words {
+    name: NAME,
+    about: ABOUT,
+    after: AFTER,
+    options: Options::Config,
+};
 
 /// The command's options.
 #[derive(Debug, Clone, Copy)]

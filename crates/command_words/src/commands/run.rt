@@ -1,17 +1,15 @@
 //! `run`.
-ghost use Rattle.std.specs.Prelude.{IfOk, MatchResult};
+ghost use Rattle.std.specs.Prelude.{MatchResult};
 ghost use Rattle.clap.specs.Words.{found_of, rows_of};
 ghost use Rattle.command_words.specs.Calls.{Names};
-ghost use Rattle.command_words.specs.AcceptedWords.{HasWords, run_words};
 ghost use Rattle.command_words.specs.Spellings.{run_name};
 ghost use Rattle.command_words.specs.declared.call.Call.TheVariants.{Run as RunCall};
 
-use crate::commands::shared_help::{About, described, help_text};
-use crate::options::{config_of, granules, limit, limit_of, quarantine, seed, step, step_of};
+use crate::commands::shared_help::{About, Options, Words, help_text};
+use crate::options::{config_of, limit_of, step_of};
 use crate::refusal::OptionFault;
-use clap::{ArgMatches, Command};
+use clap::ArgMatches;
 use heap_theory::Config;
-use std::alloc::{AllocError, Global};
 
 /// The command's name.
 pub const NAME: &str = "run";
@@ -58,16 +56,12 @@ writes the lines `classes 2`, `limit 1`, `waste 0` and `row 0`, then
 );
 
 /// The command's words.
-pub fn words<'a>(alloc: Global) -> Result<Command<'a>, AllocError>
-    ensures { IfOk result (λ command. HasWords command run_words) }
-{
-    described(alloc, NAME, ABOUT, AFTER)
-        .arg(limit(alloc))?
-        .arg(step(alloc))?
-        .arg(granules(alloc))?
-        .arg(seed(alloc))?
-        .arg(quarantine(alloc))
-}
+pub const WORDS: Words = Words {
+    name: NAME,
+    about: ABOUT,
+    after: AFTER,
+    options: Options::LimitsAndConfig,
+};
 
 /// The command's options.
 #[derive(Debug, Clone, Copy)]

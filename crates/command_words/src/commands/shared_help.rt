@@ -1,9 +1,11 @@
-//! What the words of the commands share: their texts' place in clap, and the parts of the help that several of them have.
+//! What the words of the commands share: how clap gets them, and the parts of the help that several of them have.
+ghost use Rattle.std.specs.Prelude.{IfOk};
 ghost use Rattle.clap.specs.Words.{new_app};
-ghost use Rattle.command_words.specs.AcceptedWords.{HasWords};
+ghost use Rattle.command_words.specs.AcceptedWords.{HasWords, described};
 
+use crate::options::{with_config, with_limits};
 use clap::Command;
-use std::alloc::Global;
+use std::alloc::{AllocError, Global};
 
 /// What a command does.
 #[derive(Clone, Copy)]
@@ -14,14 +16,54 @@ pub struct About {
     pub sentence: &'static str,
 }
 
-/// The words of a command that has no options yet: its name, and its help. `after` stands after the options in the command's own help.
-pub fn described<'a>(alloc: Global, name: &'a str, about: About, after: &'a str) -> Command<'a>
-    ensures { HasWords result (new_app name.now) }
-{
-    Command::new(alloc, name)
-        .about(about.line)
-        .long_about(about.sentence)
-        .after_help(after)
+/// The options that a command has.
+#[derive(Clone, Copy)]
+pub enum Options {
+    /// None.
+    Nothing,
+    /// `--limit` and `--step`.
+    Limits,
+    /// Those of the heap's configuration.
+    Config,
+    /// All of these.
+    LimitsAndConfig,
+}
+
+/// A command's name, its help and its options.
+#[derive(Clone, Copy)]
+pub struct Words {
+    /// The command's name.
+    pub name: &'static str,
+    /// What the command does.
+    pub about: About,
+    /// The text after the options in the command's own help.
+    pub after: &'static str,
+    /// Its options.
+    pub options: Options,
+}
+
+impl Words {
+    /// The command for clap.
+    pub fn command<'a>(self, alloc: Global) -> Result<Command<'a>, AllocError>
+        ensures { IfOk result (λ command. HasWords command (described self)) }
+    {
+        let command = Ok(self.without_options(alloc));
+        match self.options {
+            Options::Nothing => command,
+            Options::Limits => with_limits(alloc, command),
+            Options::Config => with_config(alloc, command),
+            Options::LimitsAndConfig => with_config(alloc, with_limits(alloc, command)),
+        }
+    }
+
+    fn without_options<'a>(self, alloc: Global) -> Command<'a>
+        ensures { HasWords result (new_app self.name.now) }
+    {
+        Command::new(alloc, self.name)
+            .about(self.about.line)
+            .long_about(self.about.sentence)
+            .after_help(self.after)
+    }
 }
 
 // What a command does, whose sentence is its line with an end. The end is a full stop, or what `end` says.

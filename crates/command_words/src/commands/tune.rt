@@ -1,16 +1,14 @@
 //! `tune`.
-ghost use Rattle.std.specs.Prelude.{IfOk, MatchResult};
+ghost use Rattle.std.specs.Prelude.{MatchResult};
 ghost use Rattle.clap.specs.Words.{found_of, rows_of};
 ghost use Rattle.command_words.specs.Calls.{Names};
-ghost use Rattle.command_words.specs.AcceptedWords.{HasWords, tune_words};
 ghost use Rattle.command_words.specs.Spellings.{tune_name};
 ghost use Rattle.command_words.specs.declared.call.Call.TheVariants.{Tune as TuneCall};
 
-use crate::commands::shared_help::{About, about, described, help_text};
-use crate::options::{limit, limit_of, step, step_of};
+use crate::commands::shared_help::{About, Options, Words, about, help_text};
+use crate::options::{limit_of, step_of};
 use crate::refusal::OptionFault;
-use clap::{ArgMatches, Command};
-use std::alloc::{AllocError, Global};
+use clap::ArgMatches;
 
 /// The command's name.
 pub const NAME: &str = "tune";
@@ -53,13 +51,12 @@ waste 104 bytes, two waste 8.
 );
 
 /// The command's words.
-pub fn words<'a>(alloc: Global) -> Result<Command<'a>, AllocError>
-    ensures { IfOk result (λ command. HasWords command tune_words) }
-{
-    described(alloc, NAME, ABOUT, AFTER)
-        .arg(limit(alloc))?
-        .arg(step(alloc))
-}
+pub const WORDS: Words = Words {
+    name: NAME,
+    about: ABOUT,
+    after: AFTER,
+    options: Options::Limits,
+};
 
 /// The command's options.
 #[derive(Debug, Clone, Copy)]

@@ -4,7 +4,7 @@ use Rattle.clap.specs.Words.{Rule, signed_between}
 use Rattle.clap.specs.declared.builder.value_parser.ValueParser.TheVariants.{Signed}
 use mir.Syntax.{w64}
 use mir.Val.{to_z}
-use Rattle.command_words.proofs.options.NumberOption.arg.Goals as goal
+use Rattle.command_words.proofs.options.NumberOption.number_arg.Goals as goal
 
 within_bounds : (least most : ℕ) → least < 2 ^ 32 → most < 2 ^ 32 →
     signed_between (int_max (pos 0) (to_z w64 least)) (int_min (pos 4294967295) (to_z w64 most)) ≡ Signed (pos least) (pos most)
