@@ -1,11 +1,12 @@
 -- An input that is refused for its history, or for the table before it, has its first fault in the line of the refusal.
-use Rattle.std.proofs.Common.{◌≡◌, ℕ, ◌+◌, ◌-◌, ◌≤◌, Bool, true, false, List, [], ◌∷◌, ◌++◌, take, drop, length, codes}
-use Rattle.std.proofs.Common.{Option, Some, None, Result, Ok, Err, inl, inr, refl, sym, ap, ◌∙◌, subst, arith}
-use Rattle.std.specs.Prelude.{All}
+use Rattle.std.proofs.Common.{◌≡◌, ℕ, suc, ◌+◌, ◌-◌, ◌≤◌, false, List, [], ◌∷◌, ◌++◌, take, drop, length, codes}
+use Rattle.std.proofs.Common.{Option, Result, Ok, Err, inl, inr, refl, sym, ap, ◌∙◌, subst, arith}
+use Rattle.std.specs.Prelude.{All, slice_index_or}
+use Rattle.std.specs.Option.{ok_or}
 use Rattle.std.proofs.lemmas.Bool.{cases_lt}
 use Rattle.std.proofs.lemmas.List.{append-nil, drop-append-le, drop_all, length-take, take-append-le, take-take, take_all}
 use Rattle.std.proofs.lemmas.List.Elements.{All-append, All-drop, All-take}
-use Rattle.line_text.specs.FirstFault.{IsFirstFault}
+use Rattle.line_text.specs.FirstFault.{◌>>=◌, IsFirstFault}
 use Rattle.line_text.specs.Lines.{lines, text_of, words, IsLine}
 use Rattle.line_text.specs.Numbers.{number_of}
 use Rattle.line_text.proofs.LawLemmas.{lines_are_lines, written_lines_are_read}
@@ -14,10 +15,11 @@ use Rattle.history_count.specs.HistoryText.{IsRefusedAt, SpellsHistory, history_
 use Rattle.history_count.specs.declared.fault.HistoryFault.{HistoryFault}
 use Rattle.history_count.proofs.LawLemmas.{first_fault_is_refused, history_is_spelled, lines_before_it_spell, refused_line_is_there, spelled_history_is_read}
 use Rattle.potential_check.specs.FitText.{SpellsFit, fit_of_lines}
-use Rattle.potential_check.specs.SheetText.{head_of_lines, is_named, limit_in, read_by, step_in, table_in}
+use Rattle.potential_check.specs.SheetText.{cost_in, cost_number, head_line_count, head_of_lines, is_named, limit_in, line_at, read_by, step_at, table_in}
 use Rattle.potential_check.specs.Leading.{head_size, is_row_line, leading_lines, lines_after}
 use Rattle.potential_check.proofs.LawLemmas.{fit_is_spelled}
 use Rattle.tuner_theory.specs.Fits.{Fit}
+use Rattle.tuner_theory.specs.Sheets.{Sheet}
 use Rattle.mte_engine.specs.CheckFit.{fit_and_history}
 use Rattle.mte_engine.specs.FaultLines.{SpellsFitAndHistory}
 use Rattle.mte_engine.specs.Parts.{history_part}
@@ -55,35 +57,38 @@ history_is_part = record {
 
 -- ---- a history after a fit
 
--- lines that are read as a fit have a whole head
-head_is_there : (ls : List (List ℕ)) (fit : Fit) → fit_of_lines ls ≡ Ok fit → head_size ls ≤ length ls
+-- what went on had been read
+went_on : {A B P : Type 0} (read : Result A ℕ) (more : A → Result B ℕ) (y : B) → (read >>= more) ≡ Ok y →
+    ((x : A) → read ≡ Ok x → more x ≡ Ok y → P) → P
+went_on (Ok x) more y is also = also x refl is
+went_on (Err number) more y is also = cc
+
+one_line : {A : Type 0} (number : ℕ) (reading : List ℕ → Option A) (ls : List (List ℕ)) (x : A × List (List ℕ)) →
+    line_at number reading ls ≡ Ok x → (line : List ℕ) × (ls ≡ line ∷ x.1)
+one_line number reading ls x is = (slice_index_or ls 0 [], grind arith)
+
+-- the head of lines that go on after the step
+step_there : (ls : List (List ℕ)) (step : ℕ × List (List ℕ)) → ok_or {E = ℕ} (step_at ls) 3 ≡ Ok step → 1 ≤ length step.1
+    → head_line_count (is_named (codes "step") (slice_index_or ls 0 [])) ≤ suc (suc (length ls))
+step_there ls step is some = grind arith
+
+-- lines that are read as a sheet or a fit have a whole head
+head_by : (cost : _) (ls : List (List ℕ)) (s : Sheet) → read_by cost ls ≡ Ok s → head_size ls ≤ length ls
 unfolding read_by head_of_lines
-head_is_there [] fit e = absurd cc
-head_is_there (a ∷ []) fit e = go (table_in a) refl
-  where
-    go : (table : Option (List ℕ)) → table_in a ≡ table → head_size (a ∷ []) ≤ 1
-    go None f = let none = rw f at e in absurd cc
-    go (Some table) f = let none = rw f at e in absurd cc
-head_is_there (a ∷ b ∷ []) fit e = go (table_in a) (limit_in b) refl refl
-  where
-    go : (table : Option (List ℕ)) (limit : Option ℕ) → table_in a ≡ table → limit_in b ≡ limit → head_size (a ∷ b ∷ []) ≤ 2
-    go None limit f g = let none = rw f at e in absurd cc
-    go (Some table) None f g = let none = rw (f, g) at e in absurd cc
-    go (Some table) (Some limit) f g = let none = rw (f, g) at e in absurd cc
-head_is_there (a ∷ b ∷ c ∷ []) fit e = go (table_in a) (limit_in b) (is_named (codes "step") c) (step_in c) refl refl refl refl
-  where
-    go : (table : Option (List ℕ)) (limit : Option ℕ) (named : Bool) (step : Option ℕ) → table_in a ≡ table → limit_in b ≡ limit
-        → is_named (codes "step") c ≡ named → step_in c ≡ step → head_size (a ∷ b ∷ c ∷ []) ≤ 3
-    go None limit named step f g h i = let none = rw f at e in absurd cc
-    go (Some table) None named step f g h i = let none = rw (f, g) at e in absurd cc
-    go (Some table) (Some limit) false step f g h i = rw h (omega arith)
-    go (Some table) (Some limit) true None f g h i = let none = rw (f, g, h, i) at e in absurd cc
-    go (Some table) (Some limit) true (Some step) f g h i = let none = rw (f, g, h, i) at e in absurd cc
-head_is_there (a ∷ b ∷ c ∷ d ∷ ls) fit e = go (is_named (codes "step") c) refl
-  where
-    go : (named : Bool) → is_named (codes "step") c ≡ named → head_size (a ∷ b ∷ c ∷ d ∷ ls) ≤ length (a ∷ b ∷ c ∷ d ∷ ls)
-    go true h = rw h (omega arith)
-    go false h = rw h (omega arith)
+head_by cost ls s e =
+    went_on (head_of_lines cost ls) _ s e (λ head e _.
+    went_on (line_at 1 table_in ls) _ head e (λ table is_table e.
+    went_on (line_at 2 limit_in table.1) _ head e (λ limit is_limit e.
+    went_on (ok_or (step_at limit.1) 3) _ head e (λ step is_step e.
+    went_on (line_at (cost_number step.0) (cost_in cost) step.1) _ head e (λ stated is_cost _.
+    let one = (one_line 1 table_in ls table is_table).1 in
+    let two = (one_line 2 limit_in table.1 limit is_limit).1 in
+    let last = ap length (one_line (cost_number step.0) (cost_in cost) step.1 stated is_cost).1 in
+    let there = step_there limit.1 step is_step (omega (arith, last)) in
+    rw (one, two) there)))))
+
+head_is_there : (ls : List (List ℕ)) (fit : Fit) → fit_of_lines ls ≡ Ok fit → head_size ls ≤ length ls
+head_is_there ls fit e = went_on (read_by _ ls) _ fit e (λ s is_read _. head_by _ ls s is_read)
 
 -- so they do in front of others
 whole_head : (ls : List (List ℕ)) (fit : Fit) → fit_of_lines (leading_lines ls) ≡ Ok fit → head_size ls ≤ length ls
