@@ -106,14 +106,20 @@ impl NumberOption {
 }
 
 /// Adds `--limit` and `--step` to a command.
-pub fn with_limits<'a>(alloc: Global, command: Result<Command<'a>, AllocError>) -> Result<Command<'a>, AllocError>
+pub fn with_limits<'a>(
+    alloc: Global,
+    command: Result<Command<'a>, AllocError>,
+) -> Result<Command<'a>, AllocError>
     ensures { Adds with_limits command.entry result }
 {
     with_option(alloc, with_option(alloc, command, LIMIT), STEP)
 }
 
 /// Adds the options of the heap's configuration to a command: `--granules`, `--seed` and `--quarantine`.
-pub fn with_config<'a>(alloc: Global, command: Result<Command<'a>, AllocError>) -> Result<Command<'a>, AllocError>
+pub fn with_config<'a>(
+    alloc: Global,
+    command: Result<Command<'a>, AllocError>,
+) -> Result<Command<'a>, AllocError>
     ensures { Adds with_config command.entry result }
 {
     let command = with_option(alloc, command, GRANULES);

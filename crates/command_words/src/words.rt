@@ -51,7 +51,10 @@ fn top_words<'a>(alloc: Global) -> Command<'a>
 }
 
 // adds the commands that read a profile
-fn with_table_commands<'a>(alloc: Global, command: Result<Command<'a>, AllocError>) -> Result<Command<'a>, AllocError>
+fn with_table_commands<'a>(
+    alloc: Global,
+    command: Result<Command<'a>, AllocError>,
+) -> Result<Command<'a>, AllocError>
     ensures { AddsCommands with_table_commands command.entry result }
 {
     let command = with_command(alloc, command, score::WORDS);
@@ -60,7 +63,10 @@ fn with_table_commands<'a>(alloc: Global, command: Result<Command<'a>, AllocErro
 }
 
 // adds the commands that read a history
-fn with_history_commands<'a>(alloc: Global, command: Result<Command<'a>, AllocError>) -> Result<Command<'a>, AllocError>
+fn with_history_commands<'a>(
+    alloc: Global,
+    command: Result<Command<'a>, AllocError>,
+) -> Result<Command<'a>, AllocError>
     ensures { AddsCommands with_history_commands command.entry result }
 {
     let command = with_command(alloc, command, footprint::WORDS);
@@ -69,7 +75,10 @@ fn with_history_commands<'a>(alloc: Global, command: Result<Command<'a>, AllocEr
 }
 
 // adds the commands that read a trace
-fn with_trace_commands<'a>(alloc: Global, command: Result<Command<'a>, AllocError>) -> Result<Command<'a>, AllocError>
+fn with_trace_commands<'a>(
+    alloc: Global,
+    command: Result<Command<'a>, AllocError>,
+) -> Result<Command<'a>, AllocError>
     ensures { AddsCommands with_trace_commands command.entry result }
 {
     let command = with_command(alloc, command, profile::WORDS);
