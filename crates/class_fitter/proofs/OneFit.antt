@@ -2,7 +2,7 @@
 use Rattle.std.proofs.Common.{◌≡◌, ℕ, List, ap, sym, ◌∙◌}
 use Rattle.class_fitter.specs.Fitted.{IsFitOf}
 use Rattle.class_tuner.proofs.LawLemmas.{same_sheet}
-use Rattle.potential_check.specs.FitText.{fit_of_sheet}
+use Rattle.certificates.specs.FitView.{fit_of_sheet}
 use Rattle.tuner_theory.specs.Fits.{Fit}
 use Rattle.tuner_theory.specs.Footprint.{footprint_of}
 use Rattle.tuner_theory.specs.Histories.{peaks}

@@ -1,6 +1,6 @@
 -- The result of a fitter.
 use Rattle.std.specs.Prelude.{◌≡◌, ℕ, List}
-use Rattle.potential_check.specs.declared.fit.Fit.{Fit as Written}
+use Rattle.certificates.specs.declared.fit.Fit.{Fit as Written}
 use Rattle.tuner_theory.specs.Fits.{Fit, IsFitVerdict}
 use Rattle.tuner_theory.specs.Footprint.{IsFitted, footprint_of}
 use Rattle.tuner_theory.specs.Histories.{peaks}

@@ -2,16 +2,16 @@ ghost use Rattle.std.specs.Prelude.{◌≡◌, ◌≤◌, IfOk};
 ghost use Rattle.class_fitter.specs.Fitted.{IsFitOf};
 ghost use Rattle.class_table.specs.Steps.{IsStep};
 ghost use Rattle.footprint_check.specs.CallCounts.{span_count};
-ghost use Rattle.potential_check.specs.FitView.{fit_of};
+ghost use Rattle.certificates.specs.FitView.{fit_of};
 ghost use Rattle.tuner_theory.specs.Histories.{peaks};
 ghost use Rattle.tuner_theory.specs.Spans.{places};
 
 use crate::filling::fill_places;
+use certificates::{Fit, Rows, Spans};
 use class_table::MOST_CLASSES;
 use class_tuner::tuned_table;
 use footprint_check::{HistorySpans, SpanCosts};
 use history_count::History;
-use potential_check::{Fit, Rows, Spans};
 use std::alloc::{AllocError, Global};
 use std::marker::Model;
 

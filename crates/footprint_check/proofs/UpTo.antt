@@ -7,7 +7,7 @@ use Rattle.std.proofs.lemmas.List.{get_or_append_left, map-append}
 use Rattle.std.proofs.Math.Seq.{get_or-append_seam}
 use Rattle.footprint_check.specs.SnapshotSums.{AreSnapshotSums}
 use Rattle.tuner_theory.specs.Lists.{lists_of}
-use Rattle.potential_check.specs.Spanned.{AreSumsUpTo}
+use Rattle.certificates.specs.Spanned.{AreSumsUpTo}
 use Rattle.class_table.specs.Sizes.{largest_counted}
 use Rattle.tuner_theory.specs.Profiles.{AreCounts, greatest_count}
 use Rattle.tuner_theory.specs.Spans.{counted_up_to, need_at}

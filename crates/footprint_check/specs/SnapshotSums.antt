@@ -1,7 +1,7 @@
 -- The sums of a history's snapshots up to each place of its peaks.
 use Rattle.std.specs.Prelude.{◌≡◌, ℕ, ◌+◌, ◌-◌, ◌<◌, ◌≤◌, max, List, [], length, slice_index, slice_index_or, take}
 use Rattle.class_table.specs.Steps.{IsStep}
-use Rattle.potential_check.specs.Spanned.{AreSumsUpTo}
+use Rattle.certificates.specs.Spanned.{AreSumsUpTo}
 use Rattle.tuner_theory.specs.Footprint.{blocks_between, footprint_between}
 use Rattle.tuner_theory.specs.Histories.{AreSnapshots, most, peaks}
 use Rattle.tuner_theory.specs.Spans.{counted_up_to, need_at, places}

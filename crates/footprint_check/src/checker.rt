@@ -2,7 +2,7 @@
 ghost use Rattle.std.specs.Prelude.{◌≡◌, ◌↔◌, IfNone, IfOk, IfSome, IsTrue};
 ghost use Rattle.class_table.specs.Steps.{IsStep};
 ghost use Rattle.class_table.specs.Tables.{FitsStep, IsLegalTable};
-ghost use Rattle.potential_check.specs.FitView.{fit_of};
+ghost use Rattle.certificates.specs.FitView.{fit_of};
 ghost use Rattle.tuner_theory.specs.Fits.{IsFitVerdict, MeetsOnHistory};
 ghost use Rattle.tuner_theory.specs.Footprint.{IsLeastFootprint};
 ghost use Rattle.tuner_theory.specs.Sheets.{AreMetBefore};
@@ -10,9 +10,9 @@ ghost use Rattle.tuner_theory.specs.declared.verdict.Refusal.TheVariants.{Shape}
 ghost use Rattle.tuner_theory.specs.declared.verdict.Verdict.TheVariants.{Optimal, Refused};
 
 use crate::fit_rows::rows_verdict;
+use certificates::{Fit, Spans};
 use class_table::is_step;
 use history_count::History;
-use potential_check::{Fit, Spans};
 use std::alloc::{AllocError, Global};
 use tuner_theory::{Refusal, Verdict};
 

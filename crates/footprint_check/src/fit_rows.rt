@@ -1,8 +1,8 @@
 //! The rows of a fit, and the order in which they are tested.
 ghost use Rattle.std.specs.Prelude.{◌≡◌, ◌↔◌, IfOk, IsTrue};
-ghost use Rattle.potential_check.specs.FitView.{fit_of};
+ghost use Rattle.certificates.specs.FitView.{fit_of};
 ghost use Rattle.tuner_theory.specs.Lists.{lists_of};
-ghost use Rattle.potential_check.specs.Spanned.{IsSpanned};
+ghost use Rattle.certificates.specs.Spanned.{IsSpanned};
 ghost use Rattle.tuner_theory.specs.Fits.{IsFitVerdict, MeetsOnHistory};
 ghost use Rattle.tuner_theory.specs.Histories.{AreSnapshots, peaks};
 ghost use Rattle.tuner_theory.specs.Rows.{HasShape};
@@ -11,7 +11,7 @@ ghost use Rattle.tuner_theory.specs.declared.verdict.Refusal.TheVariants.{Shape}
 
 use crate::history_spans::HistorySpans;
 use crate::row_tests::test_rows;
-use potential_check::{Fit, Rows, Spans};
+use certificates::{Fit, Rows, Spans};
 use std::alloc::{AllocError, Global};
 use tuner_theory::{Refusal, Verdict};
 

@@ -1,14 +1,14 @@
 ghost use Rattle.std.specs.Prelude.{◌≡◌, ◌+◌, IfOk, refl};
 ghost use Rattle.std.proofs.Common.{add-zero, add_assoc, ap, sym};
 ghost use Rattle.tuner_theory.specs.Lists.{lists_of};
-ghost use Rattle.potential_check.specs.Spanned.{IsSpanned};
+ghost use Rattle.certificates.specs.Spanned.{IsSpanned};
 ghost use Rattle.tuner_theory.specs.Footprint.{span_footprint};
 ghost use Rattle.tuner_theory.specs.Histories.{AreSnapshots, peaks};
 ghost use Rattle.tuner_theory.specs.Spans.{places};
 
 use crate::snapshot_sums::SnapshotSums;
 use crate::span_costs::SpanCosts;
-use potential_check::Spans;
+use certificates::Spans;
 use std::alloc::{AllocError, Global};
 
 /// The span footprints of a history as a source of costs: what the class of a span's last need takes for the blocks of the span, in bytes.

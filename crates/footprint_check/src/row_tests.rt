@@ -5,8 +5,8 @@ ghost use Rattle.footprint_check.specs.RowConditions.{AreRowTests, DropsHoldAt, 
 ghost use Rattle.tuner_theory.specs.Rows.{HasShape};
 
 use crate::span_costs::SpanCosts;
+use certificates::{Rows, number_in_row};
 use class_table::MOST_NEEDS;
-use potential_check::{Rows, number_in_row};
 use std::alloc::{AllocError, Global};
 
 /// Which conditions the numbers of rows meet.

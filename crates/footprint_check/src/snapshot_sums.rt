@@ -3,13 +3,13 @@ ghost use Rattle.footprint_check.specs.SnapshotSums.{AreMostBlocks, HoldsHistory
 ghost use Rattle.tuner_theory.specs.Lists.{lists_of};
 ghost use Rattle.tuner_theory.specs.Footprint.{span_footprint};
 ghost use Rattle.tuner_theory.specs.Spans.{counted_up_to, need_at, places};
-ghost use Rattle.potential_check.specs.Spanned.{AreSumsUpTo, IsSpanned};
+ghost use Rattle.certificates.specs.Spanned.{AreSumsUpTo, IsSpanned};
 ghost use Rattle.tuner_theory.specs.Histories.{AreSnapshots, peaks};
 ghost use Rattle.tuner_theory.specs.Profiles.{AreCounts};
 ghost use Rattle.tuner_theory.specs.Waste.{sum_below};
 
+use certificates::Spans;
 use class_table::GRANULE_BYTES;
-use potential_check::Spans;
 use std::alloc::{AllocError, Global};
 
 /// For each snapshot, how many of its blocks need at most the need at each place. The footprint of a span follows from two of these numbers

@@ -1,5 +1,4 @@
 pub mod Appended
-pub mod SpansBuilt
 pub mod EdgeHalves
 pub mod EdgeSides
 pub mod FitLaws
@@ -15,4 +14,3 @@ pub mod SheetFaults
 pub mod SheetLines
 pub mod SpelledIsRead
 pub mod TightEnds
-pub mod SpanSums

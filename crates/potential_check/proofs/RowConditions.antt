@@ -5,7 +5,7 @@ use Rattle.std.specs.List.{AllAdjacentBelow}
 use Rattle.std.proofs.lemmas.Bool.{cases_lt}
 use Rattle.std.proofs.lemmas.List.{get_or_default, get_or_past}
 use Rattle.potential_check.specs.RowConditions.{EdgesHold, IsBoundedRow, StageDropHolds}
-use Rattle.potential_check.specs.Spanned.{IsSpanned, Spanned}
+use Rattle.certificates.specs.Spanned.{IsSpanned, Spanned}
 use Rattle.tuner_theory.proofs.LawLemmas.{spans_fit}
 use Rattle.tuner_theory.specs.Rows.{number_at}
 use Rattle.tuner_theory.specs.Sheets.{IsVerdict, Meets, MeetsBefore, Sheet}

@@ -1,7 +1,7 @@
 -- The edges of the places from one on, as a walk down the ends has seen to them.
 use Rattle.std.proofs.Common.{◌≡◌, ℕ, ◌+◌, ◌<◌, ◌≤◌, List, length, slice_index, arith}
 use Rattle.potential_check.specs.RowConditions.{EdgesHold, HasTightEnd, IsTightEnd, edge_bound}
-use Rattle.potential_check.specs.Spanned.{Spanned}
+use Rattle.certificates.specs.Spanned.{Spanned}
 use Rattle.tuner_theory.specs.Spans.{places}
 use Rattle.tuner_theory.proofs.LawLemmas.{places_cross}
 use Rattle.class_table.specs.Steps.{IsStep}

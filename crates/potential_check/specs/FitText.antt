@@ -2,14 +2,14 @@
 use Rattle.std.specs.Prelude.{◌≡◌, ℕ, List, Result, Ok, Err}
 use Rattle.line_text.specs.FirstFault.{◌>>=◌}
 use Rattle.line_text.specs.Lines.{lines}
-use Rattle.potential_check.specs.FitView.{fit_of}
+use Rattle.certificates.specs.FitView.{fit_of, fit_of_sheet}
 use Rattle.potential_check.specs.SheetText.{SpellsBy, read_by, text_by}
 use Rattle.potential_check.specs.declared.cost.Cost.TheVariants.{Footprint}
 use Rattle.potential_check.specs.declared.fault.FitError.{FitError}
 use Rattle.potential_check.specs.declared.fault.FitError.TheVariants.{OutOfMemory, Line}
 use Rattle.potential_check.specs.declared.fault.SheetError.{SheetError}
 use Rattle.potential_check.specs.declared.fault.SheetError.TheVariants.{OutOfMemory as NoMemory, Line as SheetLine}
-use Rattle.potential_check.specs.declared.fit.Fit.{Fit as Written}
+use Rattle.certificates.specs.declared.fit.Fit.{Fit as Written}
 use Rattle.tuner_theory.specs.Fits.{Fit, sheet_of_fit}
 use Rattle.tuner_theory.specs.Sheets.{Sheet}
 
@@ -19,10 +19,6 @@ fit_text f = text_by Footprint (sheet_of_fit f)
 -- The text spells this fit, its last line with its newline or without.
 abbrev pub SpellsFit : List ℕ → Fit → Type 0
 SpellsFit text f = SpellsBy Footprint text (sheet_of_fit f)
-
--- The fit that has its footprint in the place of this sheet's waste.
-abbrev pub fit_of_sheet : Sheet → Fit
-fit_of_sheet s = record { table = s.table; limit = s.limit; step = s.step; footprint = s.waste; rows = s.rows }
 
 abbrev pub fit_of_lines : List (List ℕ) → Result Fit ℕ
 fit_of_lines ls = read_by Footprint ls >>= λ s. Ok (fit_of_sheet s)

@@ -1,11 +1,8 @@
 pub mod FitText
-pub mod FitView
 pub mod RowConditions
 pub mod Leading
 pub mod PartsText
 pub mod SheetOnCounts
 pub mod SheetText
-pub mod SheetView
 pub mod Spaced
-pub mod Spanned
 pub mod EdgeWalk

@@ -1,5 +1,4 @@
-use crate::fit::Fit;
-use crate::sheet::Sheet;
+use certificates::{Fit, Sheet};
 
 /// A sheet at the start of a text.
 #[derive(Debug, Drop)]

@@ -4,21 +4,19 @@ ghost use Rattle.std.specs.List.{take_while};
 ghost use Rattle.std.specs.Option.{ok_or, option_map};
 ghost use Rattle.line_text.specs.Lines.{lines};
 ghost use Rattle.potential_check.specs.FitText.{GivesFit, fit_in};
-ghost use Rattle.potential_check.specs.FitView.{fit_of};
+ghost use Rattle.certificates.specs.FitView.{fit_of, fit_of_sheet};
 ghost use Rattle.potential_check.specs.Leading.{GivesLeading, GivesLeadingBy, GivesLeadingFit, is_row_line};
-ghost use Rattle.potential_check.specs.SheetView.{sheet_of};
+ghost use Rattle.certificates.specs.SheetView.{sheet_of};
 ghost use Rattle.potential_check.specs.SheetText.{Gives, IsNextNamed, IsWithinLimits, cost_in, cost_number, head_line_count, head_of_lines, is_named, line_at, read_by, rows_from, sheet_in, step_at};
 ghost use Rattle.tuner_theory.specs.Fits.{sheet_of_fit};
 
 use crate::cost::Cost;
 use crate::fault::{FitError, SheetError};
-use crate::fit::Fit;
 use crate::leading_sheet::{LeadingFit, LeadingSheet};
-use crate::rows::Rows;
-use crate::sheet::Sheet;
 use crate::sheet_line::{
     ROW, STEP, cost_in, limit_in, row_of_words, step_of_words, table_in, words_after,
 };
+use certificates::{Fit, Rows, Sheet};
 use class_table::{ClassTable, MOST_CLASSES};
 use line_text::{Lines, Words, lines_in};
 use std::alloc::Global;
@@ -42,7 +40,7 @@ pub fn read_fit(alloc: Global, text: &[u8]) -> Result<Fit, FitError>
     ensures within { IfOk result (λ fit. IsWithinLimits (sheet_of_fit (fit_of fit))) }
 {
     let read = read_by(Cost::Footprint, alloc, text)?;
-    Ok(Fit::of_sheet(read))
+    Ok(as_fit(read))
 }
 
 /// The sheet at the start of a text, and the text after it. Its lines are the first three, or four where the third begins with `step`, and
@@ -60,10 +58,23 @@ pub fn read_leading_fit(alloc: Global, text: &[u8]) -> Result<LeadingFit<'_>, Fi
 {
     let leading = read_leading(Cost::Footprint, alloc, text)?;
     Ok(LeadingFit {
-        fit: Fit::of_sheet(leading.sheet),
+        fit: as_fit(leading.sheet),
         lines: leading.lines,
         rest: leading.rest,
     })
+}
+
+// the fit of which this was read, with its footprint in the place of a sheet's waste
+fn as_fit(sheet: Sheet) -> Fit
+    ensures { fit_of result ≡ fit_of_sheet (sheet_of sheet) }
+{
+    Fit {
+        table: sheet.table,
+        limit: sheet.limit,
+        step: sheet.step,
+        footprint: sheet.waste,
+        rows: sheet.rows,
+    }
 }
 
 // what a text spells by this cost, in the places of a sheet

@@ -6,8 +6,7 @@ ghost use Rattle.potential_check.specs.RowConditions.{EdgesHold, EdgesHoldWithin
 ghost use Rattle.tuner_theory.specs.Spans.{places};
 
 use crate::edge_walk::is_tight_row;
-use crate::rows::number_in_row;
-use crate::spans::Spans;
+use certificates::{Spans, number_in_row};
 use std::ops::Range;
 
 /// Whether no number of a row is more than what one class for all needs above its place wastes.

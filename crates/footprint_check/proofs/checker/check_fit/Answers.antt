@@ -1,6 +1,6 @@
 use Rattle.std.proofs.Common.{subst}
 use Rattle.std.proofs.lemmas.Result.{IfOk-weaker}
-use Rattle.potential_check.specs.FitView.{fit_of}
+use Rattle.certificates.specs.FitView.{fit_of}
 use Rattle.tuner_theory.specs.Fits.{IsFitVerdict}
 use Rattle.tuner_theory.proofs.FootprintLawLemmas.{optimal_fit_is_least}
 use Rattle.footprint_check.proofs.checker.check_fit.Goals as goal

@@ -1,6 +1,6 @@
 use Rattle.std.proofs.Common.{◌∙◌}
 use Rattle.footprint_check.proofs.Verdicts.{all-met, drop-broken, edge-broken, last-broken, not-tight}
-use Rattle.potential_check.specs.FitView.{fit_of}
+use Rattle.certificates.specs.FitView.{fit_of}
 use Rattle.tuner_theory.specs.Lists.{lists_of}
 use Rattle.footprint_check.proofs.fit_rows.rows_verdict.Goals as goal
 

@@ -1,5 +1,5 @@
 use Rattle.std.proofs.Common.{arith, refl, rules}
-use Rattle.potential_check.specs.SheetView.{sheet_of}
+use Rattle.certificates.specs.SheetView.{sheet_of}
 use Rattle.mte_arrays.proofs.tuning.tune.Goals as goal
 
 pub put_rows-requires-clause-shape : goal.put_rows-requires-clause-shape

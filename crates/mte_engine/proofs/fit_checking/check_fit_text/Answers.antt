@@ -3,7 +3,7 @@ use Rattle.std.proofs.lemmas.Result.{err_from_is_err_and}
 use Rattle.line_text.specs.Lines.{lines}
 use Rattle.history_count.specs.HistoryText.{history_of_lines}
 use Rattle.potential_check.specs.FitText.{fit_of_lines}
-use Rattle.potential_check.specs.FitView.{fit_of}
+use Rattle.certificates.specs.FitView.{fit_of}
 use Rattle.potential_check.specs.Leading.{leading_lines, lines_after}
 use Rattle.mte_engine.specs.CheckFit.{CheckFitAnswers}
 use Rattle.mte_engine.specs.Parts.{fit_part, history_part}

@@ -1,10 +1,4 @@
-ghost use Rattle.std.specs.Prelude.{◌≡◌};
-ghost use Rattle.potential_check.specs.FitText.{fit_of_sheet};
-ghost use Rattle.potential_check.specs.FitView.{fit_of};
-ghost use Rattle.potential_check.specs.SheetView.{sheet_of};
-
 use crate::rows::Rows;
-use crate::sheet::Sheet;
 use class_table::ClassTable;
 
 /// A class table with the certificate of its footprint. A fit may hold any numbers, as a sheet may.
@@ -20,19 +14,4 @@ pub struct Fit {
     pub footprint: u64,
     /// The certificate, as a sheet's, with footprints in place of wastes.
     pub rows: Rows,
-}
-
-impl Fit {
-    /// The fit of which this was read, with its footprint in the place of a sheet's waste.
-    pub(crate) fn of_sheet(sheet: Sheet) -> Fit
-        ensures { fit_of result ≡ fit_of_sheet (sheet_of sheet) }
-    {
-        Fit {
-            table: sheet.table,
-            limit: sheet.limit,
-            step: sheet.step,
-            footprint: sheet.waste,
-            rows: sheet.rows,
-        }
-    }
 }

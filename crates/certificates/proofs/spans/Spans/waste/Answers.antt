@@ -1,8 +1,8 @@
 use Rattle.std.proofs.Common.{◌^◌, ◌<◌, arith, subst, sym}
 use Rattle.tuner_theory.proofs.LawLemmas.{spans_fit}
-use Rattle.potential_check.proofs.SpanSums.{HasSpanSums, span_sums}
+use Rattle.certificates.proofs.SpanSums.{HasSpanSums, span_sums}
 use Rattle.tuner_theory.specs.Spans.{span_waste}
-use Rattle.potential_check.proofs.spans.Spans.waste.Goals as goal
+use Rattle.certificates.proofs.spans.Spans.waste.Goals as goal
 
 facts : (c : goal.After-bytes_up_to-bytes) →
     HasSpanSums (span_waste c.args.self.now.counts c.args.self.now.step c.args.i c.args.j) c.need.result

@@ -1,6 +1,6 @@
 use Rattle.std.proofs.Common.{◌<◌}
-use Rattle.potential_check.proofs.SpansBuilt.{IsBuilt}
-use Rattle.potential_check.proofs.spans.Spans.new.Given as goal
+use Rattle.certificates.proofs.SpansBuilt.{IsBuilt}
+use Rattle.certificates.proofs.spans.Spans.new.Given as goal
 use Rattle.tuner_theory.specs.Profiles.{AreCounts}
 
 abbrev pub invariant-loop-n : goal.invariant-loop-n

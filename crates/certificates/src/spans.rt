@@ -1,5 +1,5 @@
 ghost use Rattle.std.specs.Prelude.{◌≡◌, ◌↔◌, ◌<◌, ◌≤◌, ◌^◌, IfOk, IsTrue};
-ghost use Rattle.potential_check.specs.Spanned.{IsSpanned, last_need};
+ghost use Rattle.certificates.specs.Spanned.{IsSpanned, last_need};
 ghost use Rattle.tuner_theory.specs.Spans.{bytes_up_to, counted_up_to, need_at, places, rounded_need, span_waste};
 ghost use Rattle.class_table.specs.Sizes.{IsBlockSize};
 ghost use Rattle.class_table.specs.Steps.{IsStep};
@@ -22,7 +22,7 @@ pub struct Spans<'a> {
 }
 
 impl<'a> Model for Spans<'a> {
-    ghost use Rattle.potential_check.specs.Spanned.{HoldsSums, Spanned};
+    ghost use Rattle.certificates.specs.Spanned.{HoldsSums, Spanned};
 
     ghost Value = { Spanned };
 
@@ -109,8 +109,8 @@ impl<'a> Spans<'a> {
         payload * (requests - requests_before) - (bytes - bytes_before)
     }
 
-    /// The number of requests counted up to a place.
-    pub(crate) fn requests_up_to(&self, place: usize) -> u64
+    /// The number of requests counted up to a place, which need at most what stands there; 0 at place 0.
+    pub fn requests_up_to(&self, place: usize) -> u64
         requires { place ≤ places self.now.counts self.now.step }
         ensures requests { let high = need_at self.now.counts self.now.step place in
             result ≡ counted_up_to self.now.counts self.now.step high }
@@ -119,8 +119,8 @@ impl<'a> Spans<'a> {
         self.counted[place]
     }
 
-    /// How many bytes they asked for.
-    pub(crate) fn bytes_up_to(&self, place: usize) -> u64
+    /// How many bytes these requests asked for.
+    pub fn bytes_up_to(&self, place: usize) -> u64
         requires { place ≤ places self.now.counts self.now.step }
         ensures { let high = need_at self.now.counts self.now.step place in
             result ≡ bytes_up_to self.now.counts self.now.step high }

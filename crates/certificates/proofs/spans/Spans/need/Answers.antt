@@ -1,5 +1,5 @@
-use Rattle.potential_check.proofs.SpanSums.{need-class}
-use Rattle.potential_check.proofs.spans.Spans.need.Goals as goal
+use Rattle.certificates.proofs.SpanSums.{need-class}
+use Rattle.certificates.proofs.spans.Spans.need.Goals as goal
 
 pub returns-clause-in_range : goal.returns-clause-in_range
 returns-clause-in_range c =

@@ -5,7 +5,7 @@ use Rattle.std.proofs.Math.Nat.{mul-le-mul}
 use Rattle.class_table.specs.Sizes.{IsBlockSize, largest_counted}
 use Rattle.class_table.specs.declared.sizes.TheConstants.{GRANULE_BYTES}
 use Rattle.tuner_theory.proofs.LawLemmas.{HasNoUnderflow, place_is_class, places_ascend, step-positive, sums_ascend, sums_fit, sums_give_waste}
-use Rattle.potential_check.specs.Spanned.{HoldsSums, IsSpanned, Spanned}
+use Rattle.certificates.specs.Spanned.{HoldsSums, IsSpanned, Spanned}
 use Rattle.tuner_theory.specs.Spans.{bytes_up_to, counted_up_to, need_at, places, span_waste}
 
 -- the need that is kept for a place is a class

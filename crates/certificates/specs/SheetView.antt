@@ -1,5 +1,5 @@
 -- A sheet of the code as a sheet of the theory.
-use Rattle.potential_check.specs.declared.sheet.Sheet.{Sheet as Written}
+use Rattle.certificates.specs.declared.sheet.Sheet.{Sheet as Written}
 use Rattle.tuner_theory.specs.Sheets.{Sheet}
 
 abbrev pub sheet_of : Written → Sheet

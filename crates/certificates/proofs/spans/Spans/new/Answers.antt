@@ -3,11 +3,11 @@ use Rattle.std.proofs.lemmas.Bool.{both_ways}
 use Rattle.std.proofs.Math.Nat.{mul-le-mul}
 use Rattle.class_table.specs.Sizes.{largest_counted}
 use Rattle.tuner_theory.specs.Profiles.{greatest_count}
-use Rattle.potential_check.specs.Spanned.{last_need}
+use Rattle.certificates.specs.Spanned.{last_need}
 use Rattle.tuner_theory.specs.Spans.{rounded_need}
-use Rattle.potential_check.proofs.SpansBuilt.{HasPlace, built-add, built-end, built-none, built-skip, built-small, place-new, place-same}
-use Rattle.potential_check.proofs.spans.Spans.new.Goals as goal
-use Rattle.potential_check.proofs.spans.Spans.new.Goals.{then-count-gt0, else-count-gt0, then-not-is_last+in_ok-push+in_ok-push-2+in_ok-push-3, else-not-is_last}
+use Rattle.certificates.proofs.SpansBuilt.{HasPlace, built-add, built-end, built-none, built-skip, built-small, place-new, place-same}
+use Rattle.certificates.proofs.spans.Spans.new.Goals as goal
+use Rattle.certificates.proofs.spans.Spans.new.Goals.{then-count-gt0, else-count-gt0, then-not-is_last+in_ok-push+in_ok-push-2+in_ok-push-3, else-not-is_last}
 
 pub loop-n-init : goal.loop-n-init
 loop-n-init c = record {

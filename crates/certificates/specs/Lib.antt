@@ -1,0 +1,3 @@
+pub mod FitView
+pub mod SheetView
+pub mod Spanned
