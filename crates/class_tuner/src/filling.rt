@@ -1,4 +1,4 @@
-ghost use Rattle.std.specs.Prelude.{◌≡◌, ◌+◌, ◌-◌, ◌*◌, ◌^◌, ◌<◌, ◌≤◌, [], ◌∷◌, ◌++◌, slice_index, IfOk, OnOk};
+ghost use Rattle.std.specs.Prelude.{◌≡◌, ℕ, ◌+◌, ◌-◌, ◌*◌, ◌^◌, ◌<◌, ◌≤◌, [], ◌∷◌, ◌++◌, length, slice_index, IfOk, OnOk};
 ghost use Rattle.class_tuner.specs.CallCounts.{bits, calls_of, most_calls, tried_in_row};
 ghost use Rattle.class_tuner.specs.Filling.{IsFirstRow, IsNextRow, IsSmallRow};
 ghost use Rattle.class_tuner.specs.SourceChanges.{OnlyCounts};
@@ -84,13 +84,35 @@ fn first_row<C: CostSource>(alloc: Global, costs: &mut C) -> Result<Row, AllocEr
     ensures exact { OnOk result (C.call_count costs.new ≡ C.call_count costs.old + C.place_count costs.old) }
     ensures only_counts { OnlyCounts C.CostSource costs.old costs.new }
 {
-    let places = costs.places();
-    let mut row = Vec::with_capacity(alloc, places)?;
-    for i in 0..places {
-        row.push(ask(costs, i, places))?;
-    }
+    let mut row = unfilled_row(alloc, costs.places())?;
+    fill_first(costs, &mut row.costs);
+    Ok(row)
+}
+
+// a row of as many zeros as there are places, with the last place as each end
+fn unfilled_row(alloc: Global, places: usize) -> Result<Row, AllocError>
+    ensures costs_length { IfOk result (λ row. length row.costs.items ≡ places) }
+    ensures ends_length { IfOk result (λ row. length row.ends.items ≡ places) }
+    ensures ends { IfOk result (λ row. (i : ℕ) → i < places → slice_index row.ends.items i ≡ places) }
+{
+    let costs = vec![in alloc; 0u64; places]?;
     let ends = vec![in alloc; places; places]?;
-    Ok(Row { costs: row, ends })
+    Ok(Row { costs, ends })
+}
+
+// fills the first row with its costs
+fn fill_first<C: CostSource>(costs: &mut C, row: &mut [u64])
+    requires length { length row.old ≡ C.place_count costs.old }
+    requires room { C.call_count costs.old + C.place_count costs.old ≤ 2 ^ 63 }
+    ensures length { length row.new ≡ length row.old }
+    ensures costs { (i : ℕ) → i < length row.old → slice_index row.new i ≡ C.cost costs.old i (length row.old) }
+    ensures counted { C.call_count costs.new ≡ C.call_count costs.old + length row.old }
+    ensures only_counts { OnlyCounts C.CostSource costs.old costs.new }
+{
+    let places = row.len();
+    for i in 0..places {
+        row[i] = ask(costs, i, places);
+    }
 }
 
 // The cost of the span from i to j, by one call of the source. Its clauses also say what stays the same, for callers that ask often.
@@ -117,14 +139,13 @@ fn next_row<C: CostSource>(alloc: Global, costs: &mut C, before: &[u64]) -> Resu
     ensures only_counts { OnlyCounts C.CostSource costs.old costs.new }
 {
     let places = costs.places();
-    let mut row = vec![in alloc; 0u64; places]?;
-    let mut ends = vec![in alloc; places; places]?;
+    let mut row = unfilled_row(alloc, places)?;
     if places > 0 {
         fill_part(
             costs,
             before,
-            &mut row,
-            &mut ends,
+            &mut row.costs,
+            &mut row.ends,
             0..places,
             Window {
                 low: 1,
@@ -132,5 +153,5 @@ fn next_row<C: CostSource>(alloc: Global, costs: &mut C, before: &[u64]) -> Resu
             },
         );
     }
-    Ok(Row { costs: row, ends })
+    Ok(row)
 }

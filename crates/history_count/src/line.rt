@@ -20,7 +20,7 @@ const SNAPSHOTS: &[u8] = b"snapshots";
 const MOST: u64 = MOST_SNAPSHOTS as u64;
 
 /// What the counts of a line are of.
-#[derive(Debug, Clone, Copy, PartialEq, Eq)]
+#[derive(Clone, Copy)]
 pub(crate) enum Subject {
     /// Blocks of this size, in bytes.
     Size(u32),

@@ -1,9 +1,11 @@
 -- What is looked at row by row is what a sheet has to meet, and what it meets is the verdict.
-use Rattle.std.proofs.Common.{◌≡◌, ℕ, zero, suc, ◌+◌, ◌<◌, ◌≤◌, ◌^◌, List, length, slice_index, arith, ap, inl, inr, rules, sym, ◌∙◌}
-use Rattle.std.specs.Prelude.{◌↔◌, All, slice_index_or}
+use Rattle.std.proofs.Common.{◌≡◌, ℕ, zero, suc, ◌+◌, ◌-◌, ◌<◌, ◌≤◌, ◌^◌, List, length, slice_index, Some, arith, ap, inl, inr, rules, sym, ◌∙◌}
+use Rattle.std.specs.Prelude.{◌↔◌, All, slice_get, slice_index_or}
 use Rattle.std.specs.List.{AllAdjacentBelow}
 use Rattle.std.proofs.lemmas.Bool.{cases_lt}
 use Rattle.std.proofs.lemmas.List.{get_or_default, get_or_past}
+use Rattle.std.proofs.lemmas.List.Sorted.{all_adjacent_more}
+use Rattle.std.proofs.lemmas.Option.{get_or_from_slice_get, slice_get_within}
 use Rattle.potential_check.specs.RowConditions.{EdgesHold, IsBoundedRow, StageDropHolds}
 use Rattle.certificates.specs.Spanned.{IsSpanned, Spanned}
 use Rattle.tuner_theory.proofs.LawLemmas.{spans_fit}
@@ -17,6 +19,21 @@ use Rattle.tuner_theory.specs.declared.verdict.Verdict.TheVariants.{Optimal, Ref
 number-is : (rows : List (List ℕ)) (k m i : ℕ) (d : List ℕ) → k ≡ m + 1 → m < length rows →
     number_at rows k i ≡ slice_index (slice_index_or rows m d) i
 number-is rows k m i d e lt = grind (arith, slice_index, get_or_default)
+
+-- a row and the one before it, which are looked at together
+module _ (R : List ℕ → List ℕ → Type 0) (rows : List (List ℕ)) (i : ℕ) (before row : List ℕ) (some : 0 < i)
+    (before-is : slice_get rows (i - 1) ≡ Some before) (row-is : slice_get rows i ≡ Some row) where
+  pub adjacent : AllAdjacentBelow R rows (length rows) → R before row
+  adjacent all =
+      let next : i - 1 + 1 ≡ i = omega arith in
+      let within = slice_get_within rows i row row-is in
+      rw (next, get_or_from_slice_get rows (i - 1) before row before-is, get_or_from_slice_get rows i row row row-is)
+      at (all (i - 1) row (omega (arith, within)))
+
+  pub adjacent-more : AllAdjacentBelow R rows i → R before row → AllAdjacentBelow R rows (i + 1)
+  adjacent-more all holds =
+      all_adjacent_more rows R i some all
+      (λ d. rw (get_or_from_slice_get rows (i - 1) before d before-is, get_or_from_slice_get rows i row d row-is) holds)
 
 module _ (s : Sheet) (spans : Spanned) (same : spans.step ≡ s.step) (shape : Meets spans.counts s Shape) where
   drops-meet : AllAdjacentBelow StageDropHolds s.rows (length s.rows) → Meets spans.counts s StageDrop

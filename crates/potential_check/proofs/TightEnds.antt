@@ -1,5 +1,7 @@
 -- The edges of the places from one on, as a walk down the ends has seen to them.
-use Rattle.std.proofs.Common.{◌≡◌, ℕ, ◌+◌, ◌<◌, ◌≤◌, List, length, slice_index, arith}
+use Rattle.std.proofs.Common.{◌≡◌, ℕ, ◌+◌, ◌<◌, ◌≤◌, List, length, slice_index, arith, inl, inr}
+use Rattle.std.proofs.lemmas.Bool.{cases_lt}
+use Rattle.std.proofs.lemmas.List.{get_or_past}
 use Rattle.potential_check.specs.RowConditions.{EdgesHold, HasTightEnd, IsTightEnd, edge_bound}
 use Rattle.certificates.specs.Spanned.{Spanned}
 use Rattle.tuner_theory.specs.Spans.{places}
@@ -69,3 +71,11 @@ module _ (s : Spanned) (is_step : IsStep s.step) (before row : List ℕ) (full :
   walked-end i later end is so_far some hold (j, after, upto, tight) =
       let walked : IsWalked s before row (i + 1) end = rw is at so_far in
       grind (arith, hold.each i end, hold.each (i + 1) j, places_cross s.counts s.step i (i + 1) end j is_step)
+
+-- a number that is more than one of its edges allows
+pub exceeding : (s : Spanned) (before row : List ℕ) (i j : ℕ) → i < j → j ≤ places s.counts s.step
+    → edge_bound s before i j < slice_index row i → EdgesHold s before row → ⊥
+exceeding s before row i j lt le more holds = elim (cases_lt i (length row)) [
+  | inl within ↦ absurd (omega (arith, holds.each i j within lt le))
+  | inr past ↦ absurd (omega (arith, get_or_past row i 0 past))
+]

@@ -11,7 +11,6 @@ use Rattle.potential_check.specs.declared.fault.SheetError.{SheetError}
 use Rattle.potential_check.specs.declared.fault.SheetError.TheVariants.{OutOfMemory as NoMemory, Line as SheetLine}
 use Rattle.certificates.specs.declared.fit.Fit.{Fit as Written}
 use Rattle.tuner_theory.specs.Fits.{Fit, sheet_of_fit}
-use Rattle.tuner_theory.specs.Sheets.{Sheet}
 
 abbrev pub fit_text : Fit → List ℕ
 fit_text f = text_by Footprint (sheet_of_fit f)

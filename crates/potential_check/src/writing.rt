@@ -1,14 +1,14 @@
 //! The texts of sheets and fits.
-ghost use Rattle.std.specs.Prelude.{◌≡◌, ◌+◌, ◌*◌, ◌<◌, ◌≤◌, ◌++◌, codes, length, map, vec_capacity, vec_len, IsOk, OnOk, OnErr};
+ghost use Rattle.std.specs.Prelude.{◌≡◌, ◌+◌, ◌*◌, ◌<◌, ◌≤◌, [], ◌∷◌, ◌++◌, codes, length, map, vec_capacity, vec_len, IsOk, OnOk, OnErr};
 ghost use Rattle.line_text.specs.Lines.{ended, text_of};
 ghost use Rattle.class_table.specs.ClassLine.{class_line};
 ghost use Rattle.line_text.specs.Prefixes.{IsPrefix};
 ghost use Rattle.potential_check.specs.FitText.{fit_text};
 ghost use Rattle.certificates.specs.FitView.{fit_of};
-ghost use Rattle.potential_check.specs.PartsText.{text_of_parts};
+ghost use Rattle.potential_check.specs.PartsText.{head_lines, text_of_parts};
 ghost use Rattle.certificates.specs.SheetView.{sheet_of};
 ghost use Rattle.class_table.specs.NamedLines.{named_line};
-ghost use Rattle.potential_check.specs.SheetText.{sheet_text};
+ghost use Rattle.potential_check.specs.SheetText.{sheet_text, step_lines};
 ghost use Rattle.potential_check.specs.Spaced.{spaced};
 
 use crate::cost::Cost;
@@ -105,13 +105,31 @@ fn append_parts(text: &mut Vec<u8>, parts: &Parts<'_>) -> Result<(), AllocError>
     ensures written { OnOk result (text.new.items ≡ text.old.items ++ text_of_parts parts.now) }
     ensures kept { IsPrefix text.old.items text.new.items }
 {
-    append_table(text, parts.table)?;
-    append_line(text, LIMIT, &[u64::from(parts.limit)])?;
-    if parts.step != 1 {
-        append_line(text, STEP, &[u64::from(parts.step)])?;
-    }
-    append_line(text, parts.cost.word(), &[parts.stated])?;
+    append_head(text, parts)?;
     append_rows(text, parts.rows)
+}
+
+// the lines before the rows
+fn append_head(text: &mut Vec<u8>, parts: &Parts<'_>) -> Result<(), AllocError>
+    ensures written { OnOk result (text.new.items ≡ text.old.items ++ text_of (head_lines parts.now)) }
+    ensures kept { IsPrefix text.old.items text.new.items }
+{
+    append_table(text, parts.table)?;
+    append_limits(text, parts.limit, parts.step)?;
+    append_line(text, parts.cost.word(), &[parts.stated])
+}
+
+// the line of the limit, and that of the step unless it is 1
+fn append_limits(text: &mut Vec<u8>, limit: u8, step: u8) -> Result<(), AllocError>
+    ensures written { OnOk result
+        (text.new.items ≡ text.old.items ++ text_of (named_line (codes "limit") (limit ∷ []) ∷ step_lines step)) }
+    ensures kept { IsPrefix text.old.items text.new.items }
+{
+    append_line(text, LIMIT, &[u64::from(limit)])?;
+    if step == 1 {
+        return Ok(());
+    }
+    append_line(text, STEP, &[u64::from(step)])
 }
 
 fn append_table(text: &mut Vec<u8>, table: &ClassTable) -> Result<(), AllocError>

@@ -13,7 +13,7 @@ use tuner_theory::GREATEST_COUNT;
 pub const LARGE: &[u8] = b"large";
 
 /// What a line of a profile counts.
-#[derive(Debug, Clone, Copy, PartialEq, Eq)]
+#[derive(Clone, Copy)]
 pub enum Entry {
     /// Requests of a size, in bytes, and how many of them.
     Size(u32, u32),

@@ -87,3 +87,21 @@ returns-in_err-next-clause-kept g c =
 pub returns-in_err-push-2-clause-kept : goal.returns-in_err-push-2-clause-kept
 returns-in_err-push-2-clause-kept g c =
     (OnlyCounts-more g.C.CostSource g.met.C.CostSource.keeps_last _ _ _ c.loop-k.invariant.only_counts c.in_ok-next.ensures.only_counts).kept
+
+pub returns-in_err-first-clause-bounded : goal.returns-in_err-first-clause-bounded
+returns-in_err-first-clause-bounded g c =
+    let before = g.C.CostSource.call_count c.args.costs.now in
+    calls-more before before _ 0 c.args.limit (g.C.CostSource.place_count c.args.costs.now) (omega arith)
+    (omega (arith, c.first_row.ensures.bounded)) (omega arith)
+
+pub returns-in_err-push-clause-bounded : goal.returns-in_err-push-clause-bounded
+returns-in_err-push-clause-bounded g c =
+    let before = g.C.CostSource.call_count c.args.costs.now in
+    calls-more before before _ 0 c.args.limit (g.C.CostSource.place_count c.args.costs.now) (omega arith)
+    (omega (arith, c.in_ok-first.ensures.bounded)) (omega arith)
+
+pub returns-clause-bounded : goal.returns-clause-bounded
+returns-clause-bounded g c = let all : c.loop-k.k ≡ c.args.limit = omega arith in rw all at c.loop-k.invariant.bounded
+
+pub returns-clause-exact : goal.returns-clause-exact
+returns-clause-exact g c = let all : c.loop-k.k ≡ c.args.limit = omega arith in rw all at c.loop-k.invariant.exact

@@ -20,8 +20,8 @@ returns-clause-exact g c =
     let d = c.places-places.result in
     elim c.if-places-gt0.branch [
       | then-places-gt0 w ↦ (let digits = below-bits d in let calls = w.fill_part.ensures.calls.exact (bits d) (omega arith) in
-          let filled = with_items_is c.in_ok-ends.ends w.fill_part.new.ends (omega (arith, w.fill_part.auto.ends)) in
-          rw (w.costs-is, w.ends-is, filled, ← c.places-places.ensures) calls)
-      | else-places-gt0 w ↦ (let none = tried-none (slice_index c.if-places-gt0.ends.items) (bits d) 0 d 1 d (omega arith) in
+          let filled = with_items_is c.in_ok-row.row.ends w.fill_part.new.ends (omega (arith, w.fill_part.auto.ends)) in
+          rw (w.costs-is, w.row-is, filled, ← c.places-places.ensures) calls)
+      | else-places-gt0 w ↦ (let none = tried-none (slice_index c.if-places-gt0.row.ends.items) (bits d) 0 d 1 d (omega arith) in
           rw (w.costs-is, ← c.places-places.ensures) (omega (arith, none)))
     ]
