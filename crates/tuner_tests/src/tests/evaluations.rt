@@ -4,8 +4,10 @@ ghost use Rattle.std.proofs.Common.{arith};
 ghost use Rattle.std.proofs.Math.Nat.{mul-le-mul};
 
 use super::support::same;
+use class_table::is_step;
 use class_tuner::{CostSource, Costs, fill_rows, tune};
 use profile_count::Profile;
+use std::process::Abort;
 use std::test::Fail;
 
 // the places of the source below
@@ -70,7 +72,7 @@ const NO_BYTES: &[u8] = b"0 1\n";
 const LARGEST: &[u8] = b"16368 1\nlarge 1\n";
 
 // profiles with a limit and a step each
-const CASES: [(&[u8], u8, u8); 10] = [
+const CASES: &[(&[u8], u8, u8)] = &[
     (TWO_SIZES, 1, 1),
     (TWO_SIZES, 2, 1),
     (TWO_SIZES, 32, 1),
@@ -86,48 +88,52 @@ const CASES: [(&[u8], u8, u8); 10] = [
 #[test]
 fn counts_what_it_asks(rt: HostRuntime) -> Result<(), Fail> {
     for (text, limit, step) in CASES {
-        let profile = Profile::read(rt.alloc(), text)?;
-        assert!(rt; limit >= 1 && limit <= 32);
-        assert!(rt; step == 1 || step == 2 || step == 4 || step == 8);
-        let mut costs = Costs::new(rt.alloc(), &profile, step)?;
-        same(&rt, &costs.calls(), &0, &"calls at first");
-        let _filled = fill_rows(rt.alloc(), &mut costs, limit)?;
-        let tuned = tune(rt.alloc(), &profile, limit, step)?;
-        same(
-            &rt,
-            &tuned.sheet().rows.len(),
-            &(limit as usize),
-            &(limit, step),
-        );
-        same(&rt, &tuned.evaluations(), &costs.calls(), &(limit, step));
+        let calls = calls(&rt, text, *limit, *step)?;
+        let evaluations = evaluations(&rt, text, *limit, *step)?;
+        same(&rt, &evaluations, &calls, &(limit, step));
     }
     Ok(())
 }
 
+// how often the costs of a profile are asked for as its rows are filled
+fn calls(rt: &(impl Abort + AllocGlobal), text: &[u8], limit: u8, step: u8) -> Result<u64, Fail> {
+    assert!(rt; limit >= 1 && limit <= 32 && is_step(step));
+    let profile = Profile::read(rt.alloc(), text)?;
+    let mut costs = Costs::new(rt.alloc(), &profile, step)?;
+    same(rt, &costs.calls(), &0, &"calls at first");
+    let _filled = fill_rows(rt.alloc(), &mut costs, limit)?;
+    Ok(costs.calls())
+}
+
+// what the tuner says of it
+fn evaluations(
+    rt: &(impl Abort + AllocGlobal),
+    text: &[u8],
+    limit: u8,
+    step: u8,
+) -> Result<u64, Fail> {
+    assert!(rt; limit >= 1 && limit <= 32 && is_step(step));
+    let profile = Profile::read(rt.alloc(), text)?;
+    let tuned = tune(rt.alloc(), &profile, limit, step)?;
+    let rows = tuned.sheet().rows.len();
+    same(rt, &rows, &(limit as usize), &(limit, step));
+    Ok(tuned.evaluations())
+}
+
 #[test]
 fn evaluations_of_small_profiles(rt: HostRuntime) -> Result<(), Fail> {
-    let two = Profile::read(rt.alloc(), TWO_SIZES)?;
     // two in row 1; in row 2 the one end after place 1, and then both ends after place 0
-    same(
-        &rt,
-        &tune(rt.alloc(), &two, 2, 1)?.evaluations(),
-        &5,
-        &"two sizes",
-    );
-    let none = Profile::read(rt.alloc(), b"")?;
-    same(
-        &rt,
-        &tune(rt.alloc(), &none, 1, 1)?.evaluations(),
-        &0,
-        &"no size",
-    );
+    let of_two = evaluations(&rt, TWO_SIZES, 2, 1)?;
+    same(&rt, &of_two, &5, &"two sizes");
+    let of_none = evaluations(&rt, b"", 1, 1)?;
+    same(&rt, &of_none, &0, &"no size");
     Ok(())
 }
 
 // the places of a profile, and the waste of each span of them
-const TWO_SPANS: [(usize, usize, u64); 3] = [(0, 1, 0), (0, 2, 104), (1, 2, 8)];
+const TWO_SPANS: &[(usize, usize, u64)] = &[(0, 1, 0), (0, 2, 104), (1, 2, 8)];
 
-const THREE_SPANS: [(usize, usize, u64); 6] = [
+const THREE_SPANS: &[(usize, usize, u64)] = &[
     (0, 1, 0),
     (0, 2, 16),
     (0, 3, 48),
@@ -138,21 +144,31 @@ const THREE_SPANS: [(usize, usize, u64); 6] = [
 
 #[test]
 fn span_wastes_of_small_profiles(rt: HostRuntime) -> Result<(), Fail> {
-    for (text, places, spans) in [
-        (TWO_SIZES, 2, TWO_SPANS.as_slice()),
-        (THREE_SIZES, 3, THREE_SPANS.as_slice()),
-    ] {
-        let profile = Profile::read(rt.alloc(), text)?;
-        let mut costs = Costs::new(rt.alloc(), &profile, 1)?;
-        same(&rt, &costs.places(), &places, &"places");
-        for (i, j, waste) in spans {
-            assert!(rt; *i < *j && *j <= costs.places());
-            assert!(rt; costs.calls() < 6);
-            same(&rt, &costs.at(*i, *j), waste, &(i, j));
-        }
-        same(&rt, &costs.calls(), &(spans.len() as u64), &"calls");
-    }
+    has_wastes(&rt, TWO_SIZES, 2, TWO_SPANS)?;
+    has_wastes(&rt, THREE_SIZES, 3, THREE_SPANS)
+}
+
+// a profile has so many places and these wastes of spans
+fn has_wastes(
+    rt: &(impl Abort + AllocGlobal),
+    text: &[u8],
+    places: usize,
+    spans: &[(usize, usize, u64)],
+) -> Result<(), Fail> {
+    let profile = Profile::read(rt.alloc(), text)?;
+    let mut costs = Costs::new(rt.alloc(), &profile, 1)?;
+    same(rt, &costs.places(), &places, &"places");
+    asks(rt, &mut costs, spans);
     Ok(())
+}
+
+// each of these wastes is one call
+fn asks(rt: &impl Abort, costs: &mut Costs<'_>, spans: &[(usize, usize, u64)]) {
+    for (i, j, waste) in spans {
+        assert!(rt; *i < *j && *j <= costs.places() && costs.calls() < 6);
+        same(rt, &costs.at(*i, *j), waste, &(i, j));
+    }
+    same(rt, &costs.calls(), &(spans.len() as u64), &"calls");
 }
 
 #[test]

@@ -2,6 +2,7 @@
 use super::support::same;
 use class_table::ClassTable;
 use history_count::History;
+use std::process::Abort;
 use std::test::Fail;
 
 // blocks of 16, 40 and more than 16,368 bytes at three snapshots
@@ -11,7 +12,7 @@ const THREE: &str = "snapshots 3\n16 4 0 1\n40 2 3 0\nlarge 0 1 0\n";
 const APART: &str = "snapshots 2\n16 5 0\n32 0 5";
 
 // a history's text, the classes of a table, and what the table takes
-const FOOTPRINTS: [(&str, &[u16], u64); 9] = [
+const FOOTPRINTS: &[(&str, &[u16], u64)] = &[
     (THREE, &[2, 4], 4 * 32 + 3 * 64),
     (THREE, &[2, 3, 4], 4 * 32 + 3 * 64),
     (THREE, &[4], 6 * 64),
@@ -36,16 +37,21 @@ fn table(classes: &[u16]) -> Result<ClassTable, Fail> {
     Ok(ClassTable::from_classes(classes).ok().ok_or("a table")?)
 }
 
+// what the table takes of a history; none where it does not serve
+fn taken(rt: &impl AllocGlobal, text: &str, classes: &[u16]) -> Result<Option<u64>, Fail> {
+    let history = history(rt, text)?;
+    let table = table(classes)?;
+    match history.unserved(&table) {
+        None => Ok(Some(history.footprint(&table))),
+        Some(_) => Ok(None),
+    }
+}
+
 #[test]
 fn footprints(rt: HostRuntime) -> Result<(), Fail> {
     for (text, classes, bytes) in FOOTPRINTS {
-        let history = history(&rt, text)?;
-        let table = table(classes)?;
-        let taken = match history.unserved(&table) {
-            None => Some(history.footprint(&table)),
-            Some(_) => None,
-        };
-        same(&rt, &taken, &Some(bytes), &(text, classes));
+        let taken = taken(&rt, text, classes)?;
+        same(&rt, &taken, &Some(*bytes), &(text, classes));
     }
     Ok(())
 }
@@ -53,34 +59,39 @@ fn footprints(rt: HostRuntime) -> Result<(), Fail> {
 #[test]
 fn a_history(rt: HostRuntime) -> Result<(), Fail> {
     let history = history(&rt, THREE)?;
-    same(&rt, &history.snapshot_count(), &3, &"snapshots");
-    same(
-        &rt,
-        &history.large(),
-        &[0, 1, 0].as_slice(),
-        &"large blocks",
-    );
-    for (n, peak) in [(0, 0), (16, 4), (17, 0), (40, 3), (16_368, 0)] {
-        same(&rt, &history.peaks().count(n), &peak, &n);
-    }
-    same(&rt, &history.peaks().large(), &0, &"large peaks");
-    let mut of_40 = Vec::new(rt.alloc());
-    for snapshot in history.snapshots() {
-        same(&rt, &snapshot.len(), &16_369, &"sizes");
-        of_40.push(snapshot.get(40).copied())?;
-    }
-    same(
-        &rt,
-        &of_40.as_slice(),
-        &[Some(2), Some(3), Some(0)].as_slice(),
-        &"blocks of 40 bytes",
-    );
-    same(&rt, &history.unserved(&table(&[2])?), &Some(40), &"class 2");
+    has_snapshots(&rt, &history);
+    has_peaks(&rt, &history);
+    let unserved = history.unserved(&table(&[2])?);
+    same(&rt, &unserved, &Some(40), &"class 2");
     Ok(())
 }
 
+// the snapshots of the first history
+fn has_snapshots(rt: &impl Abort, history: &History) {
+    same(rt, &history.snapshot_count(), &3, &"snapshots");
+    let mut of_40 = [2, 3, 0].iter();
+    for snapshot in history.snapshots() {
+        same(rt, &snapshot.len(), &16_369, &"sizes");
+        same(rt, &snapshot.get(40), &of_40.next(), &"blocks of 40 bytes");
+    }
+    same(rt, &of_40.next(), &None, &"the last snapshot");
+    let large = history.large();
+    same(rt, &large, &[0, 1, 0].as_slice(), &"large blocks");
+}
+
+// sizes, and their peaks in it
+const PEAKS: &[(u32, u32)] = &[(0, 0), (16, 4), (17, 0), (40, 3), (16_368, 0)];
+
+fn has_peaks(rt: &impl Abort, history: &History) {
+    let peaks = history.peaks();
+    for (n, peak) in PEAKS {
+        same(rt, &peaks.count(*n), peak, n);
+    }
+    same(rt, &peaks.large(), &0, &"large peaks");
+}
+
 // texts, and how they are refused
-const REFUSED: [(&str, &str); 22] = [
+const REFUSED: &[(&str, &str)] = &[
     ("", "34 BadSnapshots line 1"),
     ("\nsnapshots 1\n", "34 BadSnapshots line 1"),
     ("16 1\n", "34 BadSnapshots line 1"),
@@ -115,13 +126,19 @@ const REFUSED: [(&str, &str); 22] = [
     ),
 ];
 
+// how a text is refused; nothing where it is a history
+fn refusal(rt: &impl AllocGlobal, text: &str) -> Result<String, Fail> {
+    match History::read(rt.alloc(), text.as_bytes()) {
+        Ok(_) => Ok(String::new(rt.alloc())),
+        Err(error) => Ok(format!(in rt.alloc(); "{error}")?),
+    }
+}
+
 #[test]
 fn refused_histories(rt: HostRuntime) -> Result<(), Fail> {
     for (text, wanted) in REFUSED {
-        let error = History::read(rt.alloc(), text.as_bytes()).err();
-        let error = error.ok_or("an error")?;
-        let shown = format!(in rt.alloc(); "{error}")?;
-        same(&rt, &shown.as_str(), &wanted, &text);
+        let shown = refusal(&rt, text)?;
+        same(&rt, &shown.as_str(), wanted, text);
     }
     Ok(())
 }

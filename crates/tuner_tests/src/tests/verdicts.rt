@@ -4,6 +4,7 @@ use class_table::ClassTable;
 use potential_check::{Refusal, Rows, Sheet, Verdict, check};
 use profile_count::Profile;
 use std::alloc::Global;
+use std::process::Abort;
 use std::test::Fail;
 
 // the largest number that a row can have
@@ -42,7 +43,7 @@ type Case = (
 // One class for all needs up to place 1 wastes nothing, up to place 2 it wastes 104 bytes, and from place 1 up to 2 it wastes 8.
 const TWO_NEEDS: &[u8] = b"16 3\n40 1\n";
 
-const TWO_NEEDS_CASES: [Case; 23] = [
+const TWO_NEEDS_CASES: &[Case] = &[
     (&[4], 1, 1, 104, &[&[104, 8]], OPTIMAL),
     (&[2, 4], 2, 1, 8, &[&[104, 8], &[8, 8]], OPTIMAL),
     (&[4], 2, 4, 104, &[&[104], &[104]], OPTIMAL),
@@ -73,7 +74,7 @@ const TWO_NEEDS_CASES: [Case; 23] = [
 // With a step of 2 there are the needs 2 and 4, with a step of 8 there is 8 alone.
 const THREE_NEEDS: &[u8] = b"16 1\n32 1\n48 1\n";
 
-const THREE_NEEDS_CASES: [Case; 9] = [
+const THREE_NEEDS_CASES: &[Case] = &[
     (&[2, 4], 2, 1, 16, &[&[48, 16, 0], &[16, 0, 0]], OPTIMAL),
     (&[3, 4], 2, 1, 16, &[&[48, 16, 0], &[16, 0, 0]], OPTIMAL),
     (&[2, 4], 2, 2, 16, &[&[48, 16], &[16, 16]], OPTIMAL),
@@ -88,12 +89,12 @@ const THREE_NEEDS_CASES: [Case; 9] = [
 // One class for the first two needs wastes 16 bytes: the number 160 is too much for this edge, and for no other.
 const LONG_EDGE: &[u8] = b"16 1\n32 10\n48 1\n";
 
-const LONG_EDGE_CASES: [Case; 1] = [(&[2, 4], 2, 1, 160, &[&[192, 160, 0], &[160, 0, 0]], EDGE)];
+const LONG_EDGE_CASES: &[Case] = &[(&[2, 4], 2, 1, 160, &[&[192, 160, 0], &[160, 0, 0]], EDGE)];
 
 // Large requests have no class. A limit of 0 allows the table without classes alone, and its certificate has no row.
 const NOTHING_COUNTED: &[u8] = b"large 5\n";
 
-const NOTHING_COUNTED_CASES: [Case; 6] = [
+const NOTHING_COUNTED_CASES: &[Case] = &[
     (&[], 1, 1, 0, &[&[]], OPTIMAL),
     (&[], 0, 1, 0, &[], OPTIMAL),
     (&[2], 0, 1, 0, &[], OVER_LIMIT),
@@ -118,20 +119,27 @@ fn verdict_on(alloc: Global, profile: &Profile, case: &Case) -> Result<Verdict, 
     Ok(check(alloc, profile, &sheet)?)
 }
 
+const GROUPS: &[(&[u8], &[Case])] = &[
+    (TWO_NEEDS, TWO_NEEDS_CASES),
+    (THREE_NEEDS, THREE_NEEDS_CASES),
+    (LONG_EDGE, LONG_EDGE_CASES),
+    (NOTHING_COUNTED, NOTHING_COUNTED_CASES),
+];
+
 #[test]
 fn verdicts(rt: HostRuntime) -> Result<(), Fail> {
-    let groups: [(&[u8], &[Case]); 4] = [
-        (TWO_NEEDS, &TWO_NEEDS_CASES),
-        (THREE_NEEDS, &THREE_NEEDS_CASES),
-        (LONG_EDGE, &LONG_EDGE_CASES),
-        (NOTHING_COUNTED, &NOTHING_COUNTED_CASES),
-    ];
-    for (text, cases) in groups {
+    for (text, cases) in GROUPS {
         let profile = Profile::read(rt.alloc(), text)?;
-        for case in cases {
-            let verdict = verdict_on(rt.alloc(), &profile, case)?;
-            same(&rt, &verdict, &case.5, &(case, text));
-        }
+        judges(&rt, &profile, cases)?;
+    }
+    Ok(())
+}
+
+// the verdicts on these sheets for the profile
+fn judges(rt: &(impl Abort + AllocGlobal), profile: &Profile, cases: &[Case]) -> Result<(), Fail> {
+    for case in cases {
+        let verdict = verdict_on(rt.alloc(), profile, case)?;
+        same(rt, &verdict, &case.5, case);
     }
     Ok(())
 }
