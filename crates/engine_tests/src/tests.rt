@@ -1,4 +1,5 @@
 //! The tests, by what they test; `support` has what they share.
+mod calls;
 mod codes;
 mod engines;
 mod memory;

@@ -31,123 +31,116 @@ fn is_shown<E: Display>(
     Ok(())
 }
 
+const NULLS: &[(NullCause, &str)] = &[
+    (NullCause::Large, "60 Large"),
+    (NullCause::NoClass, "61 NoClass"),
+    (NullCause::Exhausted, "62 Exhausted"),
+];
+
+const FREES: &[(FreeError, &str)] = &[
+    (FreeError::Misplaced, "63 Misplaced"),
+    (FreeError::NotLive, "64 NotLive"),
+    (FreeError::WrongTag, "65 WrongTag"),
+];
+
+const REALLOCS: &[(ReallocError, &str)] = &[
+    (ReallocError::Null(NullCause::Large), "60 Large"),
+    (ReallocError::Null(NullCause::NoClass), "61 NoClass"),
+    (ReallocError::Null(NullCause::Exhausted), "62 Exhausted"),
+    (ReallocError::Refused(FreeError::Misplaced), "63 Misplaced"),
+    (ReallocError::Refused(FreeError::NotLive), "64 NotLive"),
+    (ReallocError::Refused(FreeError::WrongTag), "65 WrongTag"),
+];
+
+const TABLES: &[(TableError, &str)] = &[
+    (TableError::TooMany, "20 TooMany"),
+    (TableError::OutOfRange, "21 OutOfRange"),
+    (TableError::NotAscending, "22 NotAscending"),
+    (TableError::BadLine, "23 BadLine"),
+];
+
+const PROFILES: &[(ProfileError, &str)] = &[
+    (ProfileError::OutOfMemory, "1 OutOfMemory"),
+    (
+        ProfileError::Line(1, ProfileFault::BadLine),
+        "30 BadLine line 1",
+    ),
+    (
+        ProfileError::Line(20, ProfileFault::NotAscending),
+        "31 NotAscending line 20",
+    ),
+    (
+        ProfileError::Line(300, ProfileFault::CountOutOfRange),
+        "32 CountOutOfRange line 300",
+    ),
+];
+
+const COUNTS: &[(CountFull, &str)] = &[(CountFull, "33 CountFull")];
+
+const HISTORIES: &[(HistoryError, &str)] = &[
+    (HistoryError::OutOfMemory, "1 OutOfMemory"),
+    (
+        HistoryError::Line(1, HistoryFault::BadSnapshots),
+        "34 BadSnapshots line 1",
+    ),
+    (
+        HistoryError::Line(2, HistoryFault::WrongLength),
+        "35 WrongLength line 2",
+    ),
+    (
+        HistoryError::Line(30, HistoryFault::Counted(ProfileFault::BadLine)),
+        "30 BadLine line 30",
+    ),
+];
+
+const SHEETS: &[(SheetError, &str)] = &[
+    (SheetError::OutOfMemory, "1 OutOfMemory"),
+    (SheetError::Line(4), "48 BadSheet line 4"),
+];
+
+const FITS: &[(FitError, &str)] = &[
+    (FitError::OutOfMemory, "1 OutOfMemory"),
+    (FitError::Line(3), "36 BadFit line 3"),
+];
+
+const TRACES: &[(TraceError, &str)] = &[
+    (TraceError::OutOfMemory, "1 OutOfMemory"),
+    (
+        TraceError::Line(1, TraceFault::BadWord),
+        "70 BadWord line 1",
+    ),
+    (
+        TraceError::Line(2, TraceFault::BadNumber),
+        "71 BadNumber line 2",
+    ),
+    (
+        TraceError::Line(3, TraceFault::OutOfRange),
+        "72 OutOfRange line 3",
+    ),
+    (
+        TraceError::Line(999_999, TraceFault::LineTooLong),
+        "73 LineTooLong line 999999",
+    ),
+    (
+        TraceError::Line(1_000_001, TraceFault::TooManyEvents),
+        "74 TooManyEvents line 1000001",
+    ),
+];
+
 #[test]
 fn refusals_of_the_heap(rt: HostRuntime) -> Result<(), Fail> {
-    shown(
-        &rt,
-        &[
-            (NullCause::Large, "60 Large"),
-            (NullCause::NoClass, "61 NoClass"),
-            (NullCause::Exhausted, "62 Exhausted"),
-        ],
-    )?;
-    shown(
-        &rt,
-        &[
-            (FreeError::Misplaced, "63 Misplaced"),
-            (FreeError::NotLive, "64 NotLive"),
-            (FreeError::WrongTag, "65 WrongTag"),
-        ],
-    )?;
-    shown(
-        &rt,
-        &[
-            (ReallocError::Null(NullCause::Large), "60 Large"),
-            (ReallocError::Null(NullCause::NoClass), "61 NoClass"),
-            (ReallocError::Null(NullCause::Exhausted), "62 Exhausted"),
-            (ReallocError::Refused(FreeError::Misplaced), "63 Misplaced"),
-            (ReallocError::Refused(FreeError::NotLive), "64 NotLive"),
-            (ReallocError::Refused(FreeError::WrongTag), "65 WrongTag"),
-        ],
-    )
+    shown(&rt, NULLS)?;
+    shown(&rt, FREES)?;
+    shown(&rt, REALLOCS)
 }
 
 #[test]
 fn faults_of_texts(rt: HostRuntime) -> Result<(), Fail> {
-    shown(
-        &rt,
-        &[
-            (TableError::TooMany, "20 TooMany"),
-            (TableError::OutOfRange, "21 OutOfRange"),
-            (TableError::NotAscending, "22 NotAscending"),
-            (TableError::BadLine, "23 BadLine"),
-        ],
-    )?;
-    shown(
-        &rt,
-        &[
-            (ProfileError::OutOfMemory, "1 OutOfMemory"),
-            (
-                ProfileError::Line(1, ProfileFault::BadLine),
-                "30 BadLine line 1",
-            ),
-            (
-                ProfileError::Line(20, ProfileFault::NotAscending),
-                "31 NotAscending line 20",
-            ),
-            (
-                ProfileError::Line(300, ProfileFault::CountOutOfRange),
-                "32 CountOutOfRange line 300",
-            ),
-        ],
-    )?;
-    shown(&rt, &[(CountFull, "33 CountFull")])?;
-    shown(
-        &rt,
-        &[
-            (HistoryError::OutOfMemory, "1 OutOfMemory"),
-            (
-                HistoryError::Line(1, HistoryFault::BadSnapshots),
-                "34 BadSnapshots line 1",
-            ),
-            (
-                HistoryError::Line(2, HistoryFault::WrongLength),
-                "35 WrongLength line 2",
-            ),
-            (
-                HistoryError::Line(30, HistoryFault::Counted(ProfileFault::BadLine)),
-                "30 BadLine line 30",
-            ),
-        ],
-    )?;
-    shown(
-        &rt,
-        &[
-            (SheetError::OutOfMemory, "1 OutOfMemory"),
-            (SheetError::Line(4), "48 BadSheet line 4"),
-        ],
-    )?;
-    shown(
-        &rt,
-        &[
-            (FitError::OutOfMemory, "1 OutOfMemory"),
-            (FitError::Line(3), "36 BadFit line 3"),
-        ],
-    )?;
-    shown(
-        &rt,
-        &[
-            (TraceError::OutOfMemory, "1 OutOfMemory"),
-            (
-                TraceError::Line(1, TraceFault::BadWord),
-                "70 BadWord line 1",
-            ),
-            (
-                TraceError::Line(2, TraceFault::BadNumber),
-                "71 BadNumber line 2",
-            ),
-            (
-                TraceError::Line(3, TraceFault::OutOfRange),
-                "72 OutOfRange line 3",
-            ),
-            (
-                TraceError::Line(999_999, TraceFault::LineTooLong),
-                "73 LineTooLong line 999999",
-            ),
-            (
-                TraceError::Line(1_000_001, TraceFault::TooManyEvents),
-                "74 TooManyEvents line 1000001",
-            ),
-        ],
-    )
+    shown(&rt, TABLES)?;
+    shown(&rt, PROFILES)?;
+    shown(&rt, COUNTS)?;
+    shown(&rt, HISTORIES)?;
+    shown(&rt, SHEETS)?;
+    shown(&rt, FITS)?;
+    shown(&rt, TRACES)
 }

@@ -1,6 +1,6 @@
 //! `check` from text to text.
 use self::Case::{Fault, Optimal, Refused};
-use super::calls::{Call, answers};
+use crate::tests::calls::{Call, answers};
 use std::process::Abort;
 use std::test::Fail;
 
@@ -12,13 +12,21 @@ enum Case {
     Fault(&'static [u8], &'static str),
 }
 
-fn run(rt: &(impl Abort + AllocGlobal), cases: &[Case]) -> Result<(), Fail> {
+fn run(rt: &(impl Abort + AllocGlobal), groups: &[&[Case]]) -> Result<(), Fail> {
+    for cases in groups {
+        run_all(rt, cases)?;
+    }
+    Ok(())
+}
+
+fn run_all(rt: &(impl Abort + AllocGlobal), cases: &[Case]) -> Result<(), Fail> {
     for case in cases {
-        match case {
-            Optimal(input) => answers(rt, Call::Check, input, "optimal\n", "done")?,
-            Refused(input, written) => answers(rt, Call::Check, input, written, "no")?,
-            Fault(input, wanted) => answers(rt, Call::Check, input, "", wanted)?,
-        }
+        let (input, written, wanted) = match case {
+            Optimal(input) => (*input, "optimal\n", "done"),
+            Refused(input, written) => (*input, *written, "no"),
+            Fault(input, wanted) => (*input, "", *wanted),
+        };
+        answers(rt, Call::Check, input, written, wanted)?;
     }
     Ok(())
 }
@@ -144,51 +152,60 @@ const THE_FIRST_OF_TWO: &[Case] = &[
     ),
 ];
 
-// What is answered from this length of the input on, up to the next one's: what is written, and how the engine ends.
+// What is answered below this length of the input, from the one before on: what is written, and how the engine ends.
 #[derive(Clone, Copy)]
 struct Front(usize, &'static str, &'static str);
 
 const WHOLE: &[u8] = b"classes 2 4\nlimit 2\nwaste 8\nrow 104 8\nrow 8 8\n16 3\n40 1\n";
 
 // worked out by hand
-const FRONTS: [Front; 25] = [
-    Front(0, "", "error 48 BadSheet line 1"),
-    Front(7, "", "error 48 BadSheet line 2"),
-    Front(8, "", "error 48 BadSheet line 1"),
-    Front(9, "", "error 48 BadSheet line 2"),
-    Front(10, "", "error 48 BadSheet line 1"),
-    Front(11, "", "error 48 BadSheet line 2"),
-    Front(19, "", "error 48 BadSheet line 3"),
-    Front(27, "refused 42 WasteWrong\n", "no"),
-    Front(29, "", "error 30 BadLine line 4"),
-    Front(31, "refused 42 WasteWrong\n", "no"),
-    Front(32, "", "error 48 BadSheet line 4"),
-    Front(33, "refused 42 WasteWrong\n", "no"),
-    Front(36, "", "error 48 BadSheet line 4"),
-    Front(37, "refused 42 WasteWrong\n", "no"),
-    Front(39, "", "error 30 BadLine line 5"),
-    Front(41, "refused 42 WasteWrong\n", "no"),
-    Front(42, "", "error 48 BadSheet line 5"),
-    Front(43, "refused 42 WasteWrong\n", "no"),
-    Front(44, "", "error 48 BadSheet line 5"),
-    Front(45, "refused 42 WasteWrong\n", "no"),
-    Front(47, "", "error 30 BadLine line 6"),
-    Front(50, "refused 42 WasteWrong\n", "no"),
-    Front(52, "", "error 30 BadLine line 7"),
-    Front(55, "optimal\n", "done"),
-    Front(57, "", ""),
+const FRONTS: &[Front] = &[
+    Front(7, "", "error 48 BadSheet line 1"),
+    Front(8, "", "error 48 BadSheet line 2"),
+    Front(9, "", "error 48 BadSheet line 1"),
+    Front(10, "", "error 48 BadSheet line 2"),
+    Front(11, "", "error 48 BadSheet line 1"),
+    Front(19, "", "error 48 BadSheet line 2"),
+    Front(27, "", "error 48 BadSheet line 3"),
+    Front(29, "refused 42 WasteWrong\n", "no"),
+    Front(31, "", "error 30 BadLine line 4"),
+    Front(32, "refused 42 WasteWrong\n", "no"),
+    Front(33, "", "error 48 BadSheet line 4"),
+    Front(36, "refused 42 WasteWrong\n", "no"),
+    Front(37, "", "error 48 BadSheet line 4"),
+    Front(39, "refused 42 WasteWrong\n", "no"),
+    Front(41, "", "error 30 BadLine line 5"),
+    Front(42, "refused 42 WasteWrong\n", "no"),
+    Front(43, "", "error 48 BadSheet line 5"),
+    Front(44, "refused 42 WasteWrong\n", "no"),
+    Front(45, "", "error 48 BadSheet line 5"),
+    Front(47, "refused 42 WasteWrong\n", "no"),
+    Front(50, "", "error 30 BadLine line 6"),
+    Front(52, "refused 42 WasteWrong\n", "no"),
+    Front(55, "", "error 30 BadLine line 7"),
+    Front(57, "optimal\n", "done"),
 ];
 
 #[test]
 fn each_front_of_an_input(rt: HostRuntime) -> Result<(), Fail> {
-    for index in 1..FRONTS.len() {
-        let Front(first, written, wanted) = FRONTS[index - 1];
-        for len in first..FRONTS[index].0 {
-            assert!(rt; len <= WHOLE.len());
-            answers(&rt, Call::Check, &WHOLE[..len], written, wanted)?;
+    let mut first = 0;
+    for Front(end, written, wanted) in FRONTS {
+        for len in first..*end {
+            answers_front(&rt, len, written, wanted)?;
         }
+        first = *end;
     }
     Ok(())
+}
+
+fn answers_front(
+    rt: &(impl Abort + AllocGlobal),
+    len: usize,
+    written: &str,
+    wanted: &str,
+) -> Result<(), Fail> {
+    assert!(rt; len <= WHOLE.len());
+    answers(rt, Call::Check, &WHOLE[..len], written, wanted)
 }
 
 const SMALL_INPUTS: &[Case] = &[
@@ -253,18 +270,17 @@ const LINES_OF_BOTH_PARTS: &[Case] = &[
     ),
 ];
 
+const GROUPS: &[&[Case]] = &[
+    ONE_NUMBER_CHANGED,
+    THE_LARGEST_NUMBERS,
+    STEPS,
+    AN_EDGE_OVER_A_PLACE,
+    THE_FIRST_OF_TWO,
+    SMALL_INPUTS,
+    LINES_OF_BOTH_PARTS,
+];
+
 #[test]
 fn checks(rt: HostRuntime) -> Result<(), Fail> {
-    for cases in [
-        ONE_NUMBER_CHANGED,
-        THE_LARGEST_NUMBERS,
-        STEPS,
-        AN_EDGE_OVER_A_PLACE,
-        THE_FIRST_OF_TWO,
-        SMALL_INPUTS,
-        LINES_OF_BOTH_PARTS,
-    ] {
-        run(&rt, cases)?;
-    }
-    Ok(())
+    run(&rt, GROUPS)
 }

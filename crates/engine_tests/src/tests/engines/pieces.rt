@@ -1,10 +1,9 @@
 //! A runner for the engines over traces: each input is read whole, in two pieces cut at each place, and a byte at a time.
 ghost use Rattle.std.specs.Prelude.{Some};
 
-use super::calls::{Call, call_on};
-use super::support::ended;
+use crate::tests::calls::{Call, call_on};
 use crate::tests::streams::sink_with_room;
-use crate::tests::support::same;
+use crate::tests::support::{ended, same};
 use mte_engine::{ByteSource, Failure};
 use std::process::Abort;
 use std::test::Fail;
@@ -34,15 +33,23 @@ const TOTALS: [&str; 9] = [
 pub fn check(rt: &(impl Abort + AllocGlobal), call: Call, cases: &[Case]) -> Result<(), Fail> {
     for case in cases {
         match case {
-            Case::Report(input, lines, totals) => {
-                let mut written = String::from_str(rt.alloc(), lines)?;
-                append_totals(rt, totals, &mut written)?;
-                check_cuts(rt, call, input, &written, "done")?;
-            }
+            Case::Report(input, lines, totals) => check_report(rt, call, input, lines, totals)?,
             Case::Text(input, written, ends) => check_cuts(rt, call, input, written, ends)?,
         }
     }
     Ok(())
+}
+
+fn check_report(
+    rt: &(impl Abort + AllocGlobal),
+    call: Call,
+    input: &str,
+    lines: &str,
+    totals: &[u64; 9],
+) -> Result<(), Fail> {
+    let mut written = String::from_str(rt.alloc(), lines)?;
+    append_totals(rt, totals, &mut written)?;
+    check_cuts(rt, call, input, &written, "done")
 }
 
 /// Appends the lines of totals.
@@ -91,13 +98,9 @@ fn check_cut(
     let mut to = sink_with_room(rt.alloc(), 4096)?;
     let end = call_on(rt, call, &mut from, &mut to);
     let ends = ended(rt.alloc(), end)?;
-    same(rt, &ends.as_str(), &wanted, &(call, input, first));
-    same(
-        rt,
-        &to.text.as_slice(),
-        &written.as_bytes(),
-        &(call, input, first),
-    );
+    same(rt, &ends.as_str(), &wanted, &(input, first));
+    let text = to.text.as_slice();
+    same(rt, &text, &written.as_bytes(), &(input, first));
     Ok(())
 }
 

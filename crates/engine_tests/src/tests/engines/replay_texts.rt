@@ -1,7 +1,7 @@
 //! `replay` from text to text.
-use super::calls::Call;
 use super::pieces::Case::{Report, Text};
 use super::pieces::{Case, check};
+use crate::tests::calls::Call;
 use std::test::Fail;
 
 const TABLES_AND_REFUSALS: &[Case] = &[
@@ -106,8 +106,9 @@ const QUARANTINES: &[Case] = &[
 
 #[test]
 fn replays(rt: HostRuntime) -> Result<(), Fail> {
-    for cases in [TABLES_AND_REFUSALS, TAILS_AND_BYTES, REALLOCS] {
-        check(&rt, Call::Replay { quarantine: 0 }, cases)?;
-    }
+    let unquarantined = Call::Replay { quarantine: 0 };
+    check(&rt, unquarantined, TABLES_AND_REFUSALS)?;
+    check(&rt, unquarantined, TAILS_AND_BYTES)?;
+    check(&rt, unquarantined, REALLOCS)?;
     check(&rt, Call::Replay { quarantine: 64 }, QUARANTINES)
 }

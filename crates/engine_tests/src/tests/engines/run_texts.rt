@@ -1,8 +1,9 @@
 //! `run` from text to text.
 use self::Answer::{Done, Fault};
-use super::calls::{Call, answers};
 use super::pieces::Case::Report;
 use super::pieces::{Case, append_totals, check};
+use crate::tests::calls::{Call, answers};
+use std::process::Abort;
 use std::test::Fail;
 
 const TRACE: &str = "malloc 1 16\nstore 1 16 1 aa\nmalloc 2 0\nload 1 32 1\nfree 1\nload 1 0 1\n";
@@ -50,7 +51,7 @@ fn runs(rt: HostRuntime) -> Result<(), Fail> {
 }
 
 // the lines of the accesses that fault
-const ACCESSES: [&str; 3] = [
+const ACCESSES: &[&str] = &[
     "2 fault tag granule 2 memory 0 pointer 1 in header\n",
     "4 fault tag granule 3 memory 2 pointer 1 in other\n",
     "6 fault tag granule 1 memory 3 pointer 1 in dead\n",
@@ -71,24 +72,23 @@ const OF_16: &str = "classes 2\nlimit 2\nwaste 0\nrow 0\nrow 0\n";
 
 const OF_16_AND_0: &str = "classes 2\nlimit 2\nwaste 16\nrow 16\nrow 16\n";
 
-// The answers from these lengths of the prefix on; worked out by hand.
-const ANSWERS: [(usize, Answer); 16] = [
-    (0, Done(EMPTY, 0, [0, 0, 0, 0, 0, 0, 0, 0, 0])),
-    (1, Fault("error 70 BadWord line 1")),
-    (10, Done(OF_15, 0, [1, 1, 0, 0, 0, 0, 0, 0, 15])),
-    (11, Done(OF_16, 0, [1, 1, 0, 0, 0, 0, 0, 0, 0])),
-    (13, Fault("error 70 BadWord line 2")),
-    (26, Fault("error 71 BadNumber line 2")),
-    (27, Done(OF_16, 1, [2, 1, 0, 0, 0, 1, 0, 0, 0])),
-    (29, Fault("error 70 BadWord line 3")),
-    (38, Done(OF_16_AND_0, 1, [3, 2, 0, 0, 0, 1, 0, 0, 16])),
-    (40, Fault("error 70 BadWord line 4")),
-    (50, Done(OF_16_AND_0, 2, [4, 2, 0, 0, 0, 2, 0, 0, 16])),
-    (52, Fault("error 70 BadWord line 5")),
-    (57, Done(OF_16_AND_0, 2, [5, 2, 0, 0, 0, 2, 0, 0, 16])),
-    (59, Fault("error 70 BadWord line 6")),
-    (68, Done(OF_16_AND_0, 3, [6, 2, 0, 0, 0, 3, 0, 0, 16])),
-    (70, Fault("")),
+// The answers below these lengths of the prefix, from the one before on; worked out by hand.
+const ANSWERS: &[(usize, Answer)] = &[
+    (1, Done(EMPTY, 0, [0, 0, 0, 0, 0, 0, 0, 0, 0])),
+    (10, Fault("error 70 BadWord line 1")),
+    (11, Done(OF_15, 0, [1, 1, 0, 0, 0, 0, 0, 0, 15])),
+    (13, Done(OF_16, 0, [1, 1, 0, 0, 0, 0, 0, 0, 0])),
+    (26, Fault("error 70 BadWord line 2")),
+    (27, Fault("error 71 BadNumber line 2")),
+    (29, Done(OF_16, 1, [2, 1, 0, 0, 0, 1, 0, 0, 0])),
+    (38, Fault("error 70 BadWord line 3")),
+    (40, Done(OF_16_AND_0, 1, [3, 2, 0, 0, 0, 1, 0, 0, 16])),
+    (50, Fault("error 70 BadWord line 4")),
+    (52, Done(OF_16_AND_0, 2, [4, 2, 0, 0, 0, 2, 0, 0, 16])),
+    (57, Fault("error 70 BadWord line 5")),
+    (59, Done(OF_16_AND_0, 2, [5, 2, 0, 0, 0, 2, 0, 0, 16])),
+    (68, Fault("error 70 BadWord line 6")),
+    (70, Done(OF_16_AND_0, 3, [6, 2, 0, 0, 0, 3, 0, 0, 16])),
 ];
 
 // what is written, and how the engine ends
@@ -108,13 +108,25 @@ fn report(rt: &impl AllocGlobal, answer: &Answer) -> Result<(String, &'static st
 
 #[test]
 fn each_front_of_an_input(rt: HostRuntime) -> Result<(), Fail> {
-    for index in 1..ANSWERS.len() {
-        let (first, answer) = ANSWERS[index - 1];
-        let (written, wanted) = report(&rt, &answer)?;
-        for len in first..ANSWERS[index].0 {
-            assert!(rt; len <= TRACE.len());
-            answers(&rt, tuned(2, 1), &TRACE.as_bytes()[..len], &written, wanted)?;
-        }
+    let mut first = 0;
+    for (end, answer) in ANSWERS {
+        answers_fronts(&rt, first, *end, answer)?;
+        first = *end;
+    }
+    Ok(())
+}
+
+// the answer to each prefix from one length on, below another
+fn answers_fronts(
+    rt: &(impl Abort + AllocGlobal),
+    first: usize,
+    end: usize,
+    answer: &Answer,
+) -> Result<(), Fail> {
+    let (written, wanted) = report(rt, answer)?;
+    for len in first..end {
+        assert!(rt; len <= TRACE.len());
+        answers(rt, tuned(2, 1), &TRACE.as_bytes()[..len], &written, wanted)?;
     }
     Ok(())
 }

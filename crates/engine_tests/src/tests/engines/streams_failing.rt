@@ -1,8 +1,8 @@
 //! Reads and writes that fail, or move a byte at a time, or never end.
-use super::calls::{Call, call_on};
-use super::support::{Repeated, ended};
+use super::support::Repeated;
+use crate::tests::calls::{Call, call_on};
 use crate::tests::streams::{sink, source};
-use crate::tests::support::same;
+use crate::tests::support::{ended, same};
 use mte_engine::{ByteSink, ByteSource, StreamSink, StreamSource, score};
 use std::io::{ErrorKind, Read, Write};
 use std::process::Abort;
@@ -19,7 +19,7 @@ const SHEET: &str = "classes 2 4\nlimit 2\nwaste 8\nrow 104 8\nrow 8 8\n16 3\n40
 const FIT: &str =
     "classes 2 4\nlimit 2\nfootprint 160\nrow 192 64\nrow 160 64\nsnapshots 2\n16 3 0\n40 0 1\n";
 
-const CASES: [Case; 10] = [
+const CASES: &[Case] = &[
     Case(Call::Score, "classes 4\n16 3\n40 1\n", "waste 104\n"),
     Case(
         Call::Tune { limit: 2, step: 1 },
@@ -69,6 +69,11 @@ const CASES: [Case; 10] = [
     ),
 ];
 
+// A function that names a long constant takes seconds to prove for it, so this one alone does.
+fn cases() -> &'static [Case] {
+    CASES
+}
+
 // the most bytes that a read and a write move, and how many reads and writes succeed before one fails
 #[derive(Debug, Clone, Copy)]
 struct Streams {
@@ -103,14 +108,10 @@ fn ends(
     to.until_failure = streams.writes;
     let end = call_on(rt, call, &mut from, &mut to);
     let ends = ended(rt.alloc(), end)?;
-    same(rt, &ends.as_str(), &wanted, &(call, streams));
-    same(
-        rt,
-        &(from.failures(), to.failures()),
-        &failures,
-        &(call, streams),
-    );
-    same(rt, &to.text.as_slice(), &written, &(call, streams));
+    same(rt, &ends.as_str(), &wanted, &(input, streams));
+    let failed = (from.failures(), to.failures());
+    same(rt, &failed, &failures, &(input, streams));
+    same(rt, &to.text.as_slice(), &written, &(input, streams));
     Ok(())
 }
 
@@ -133,35 +134,34 @@ fn read_fails(
 // The last read is the one that finds the end.
 #[test]
 fn each_read_fails_in_turn(rt: HostRuntime) -> Result<(), Fail> {
-    for Case(call, input, _) in CASES {
-        for reads in 0..input.len() {
-            read_fails(&rt, call, input, reads)?;
+    for Case(call, input, _) in cases() {
+        for reads in 0..=input.len() {
+            read_fails(&rt, *call, input, reads)?;
         }
-        read_fails(&rt, call, input, input.len())?;
     }
     Ok(())
+}
+
+// The write after so many bytes, of a byte each, fails.
+fn write_fails(rt: &(impl Abort + AllocGlobal), case: Case, room: usize) -> Result<(), Fail> {
+    let Case(call, input, written) = case;
+    let streams = Streams {
+        write: 1,
+        writes: Some(room as u64),
+        ..WHOLE
+    };
+    assert!(rt; room <= written.len());
+    let before = &written.as_bytes()[..room];
+    let wanted = "error 82 WriteFault";
+    ends(rt, call, input, streams, wanted, (0, 1), before)
 }
 
 // Each write fails in turn, of a byte each.
 #[test]
 fn each_write_fails_in_turn(rt: HostRuntime) -> Result<(), Fail> {
-    for Case(call, input, written) in CASES {
-        for calls in 0..written.len() {
-            let streams = Streams {
-                write: 1,
-                writes: Some(calls as u64),
-                ..WHOLE
-            };
-            let before = &written.as_bytes()[..calls];
-            ends(
-                &rt,
-                call,
-                input,
-                streams,
-                "error 82 WriteFault",
-                (0, 1),
-                before,
-            )?;
+    for case in cases() {
+        for room in 0..case.2.len() {
+            write_fails(&rt, *case, room)?;
         }
     }
     Ok(())
@@ -191,22 +191,38 @@ impl Write for Filling {
 }
 
 // The write after so many bytes, of a byte each, takes none.
+fn takes_nothing(rt: &(impl Abort + AllocGlobal), case: Case, room: usize) -> Result<(), Fail> {
+    let Case(call, input, written) = case;
+    let mut filling = Filling {
+        text: Vec::new(rt.alloc()),
+        room,
+    };
+    fails_once(rt, call, input, &mut filling)?;
+    assert!(rt; room <= written.len());
+    let before = &written.as_bytes()[..room];
+    same(rt, &filling.text.as_slice(), &before, &(input, room));
+    Ok(())
+}
+
+fn fails_once(
+    rt: &(impl Abort + AllocGlobal),
+    call: Call,
+    input: &str,
+    filling: &mut Filling,
+) -> Result<(), Fail> {
+    let mut to = StreamSink::new(filling);
+    let end = call_on(rt, call, &mut source(input.as_bytes()), &mut to);
+    same(rt, &to.failures(), &1, &input);
+    let ends = ended(rt.alloc(), end)?;
+    same(rt, &ends.as_str(), &"error 82 WriteFault", &input);
+    Ok(())
+}
+
 #[test]
 fn a_write_that_takes_nothing_fails(rt: HostRuntime) -> Result<(), Fail> {
-    for Case(call, input, written) in CASES {
-        for room in 0..written.len() {
-            let mut filling = Filling {
-                text: Vec::new(rt.alloc()),
-                room,
-            };
-            let mut to = StreamSink::new(&mut filling);
-            let end = call_on(&rt, call, &mut source(input.as_bytes()), &mut to);
-            let failures = to.failures();
-            let ends = ended(rt.alloc(), end)?;
-            same(&rt, &ends.as_str(), &"error 82 WriteFault", &(call, room));
-            same(&rt, &failures, &1, &(call, room));
-            let before = &written.as_bytes()[..room];
-            same(&rt, &filling.text.as_slice(), &before, &(call, room));
+    for case in cases() {
+        for room in 0..case.2.len() {
+            takes_nothing(&rt, *case, room)?;
         }
     }
     Ok(())
@@ -214,62 +230,96 @@ fn a_write_that_takes_nothing_fails(rt: HostRuntime) -> Result<(), Fail> {
 
 #[test]
 fn a_byte_at_a_time(rt: HostRuntime) -> Result<(), Fail> {
-    for Case(call, input, written) in CASES {
-        let streams = Streams {
-            read: 1,
-            write: 1,
-            ..WHOLE
-        };
-        ends(
-            &rt,
-            call,
-            input,
-            streams,
-            "done",
-            (0, 0),
-            written.as_bytes(),
-        )?;
+    let streams = Streams {
+        read: 1,
+        write: 1,
+        ..WHOLE
+    };
+    for Case(call, input, written) in cases() {
+        let written = written.as_bytes();
+        ends(&rt, *call, input, streams, "done", (0, 0), written)?;
     }
+    Ok(())
+}
+
+// Calls the engine on so many bytes `a`, or on them for ever; so many come at once. It ends so, and writes nothing.
+fn ends_on_letters(
+    rt: &(impl Abort + AllocGlobal),
+    call: Call,
+    left: Option<usize>,
+    most: usize,
+    wanted: &str,
+) -> Result<(), Fail> {
+    let mut from = Repeated {
+        left,
+        most,
+        reads: 0,
+    };
+    let mut to = sink(rt.alloc())?;
+    let end = call_on(rt, call, &mut from, &mut to);
+    let ends = ended(rt.alloc(), end)?;
+    same(rt, &ends.as_str(), &wanted, &(left, most));
+    assert!(rt; to.text.is_empty());
     Ok(())
 }
 
 #[test]
 fn a_source_that_never_ends(rt: HostRuntime) -> Result<(), Fail> {
-    for Case(call, _, _) in CASES {
-        let mut from = Repeated {
-            left: None,
-            most: usize::MAX,
-            reads: 0,
-        };
-        let mut to = sink(rt.alloc())?;
-        let end = call_on(&rt, call, &mut from, &mut to);
-        let ends = ended(rt.alloc(), end)?;
-        same(&rt, &ends.as_str(), &"error 80 InputTooLong", &call);
-        assert!(rt; to.text.is_empty(), "{call:?}");
+    for Case(call, _, _) in cases() {
+        ends_on_letters(&rt, *call, None, usize::MAX, "error 80 InputTooLong")?;
     }
     Ok(())
 }
 
+const REPLAY: Call = Call::Replay { quarantine: 0 };
+
+// how many letters there are, how many come at once, and how the engine ends
+const LETTERS: &[(Call, Option<usize>, usize, &str)] = &[
+    (
+        Call::Score,
+        Some(67_108_864),
+        usize::MAX,
+        "error 23 BadLine line 1",
+    ),
+    (Call::Score, Some(67_108_864), 1, "error 23 BadLine line 1"),
+    (
+        Call::Score,
+        Some(67_108_865),
+        usize::MAX,
+        "error 80 InputTooLong",
+    ),
+    (Call::Score, Some(67_108_865), 1, "error 80 InputTooLong"),
+    (Call::Score, None, 1, "error 80 InputTooLong"),
+    (
+        REPLAY,
+        Some(67_108_864),
+        usize::MAX,
+        "error 23 BadLine line 1",
+    ),
+    (
+        REPLAY,
+        Some(67_108_865),
+        usize::MAX,
+        "error 80 InputTooLong",
+    ),
+    (
+        Call::Profile,
+        Some(67_108_864),
+        usize::MAX,
+        "error 73 LineTooLong line 1",
+    ),
+    (
+        Call::Profile,
+        Some(67_108_865),
+        usize::MAX,
+        "error 80 InputTooLong",
+    ),
+];
+
 #[test]
 fn the_most_input_and_one_byte_more(rt: HostRuntime) -> Result<(), Fail> {
-    let cases = [
-        (Some(67_108_864), usize::MAX, "error 23 BadLine line 1"),
-        (Some(67_108_864), 1, "error 23 BadLine line 1"),
-        (Some(67_108_865), usize::MAX, "error 80 InputTooLong"),
-        (Some(67_108_865), 1, "error 80 InputTooLong"),
-        (None, 1, "error 80 InputTooLong"),
-    ];
-    for (left, most, wanted) in cases {
-        let mut from = Repeated {
-            left,
-            most,
-            reads: 0,
-        };
-        let mut to = sink(rt.alloc())?;
-        let end = score(rt.alloc(), &mut from, &mut to);
-        let ends = ended(rt.alloc(), end)?;
-        same(&rt, &ends.as_str(), &wanted, &(left, most));
-        assert!(rt; to.text.is_empty());
+    for (call, left, most, wanted) in LETTERS {
+        ends_on_letters(&rt, *call, *left, *most, wanted)?;
     }
     Ok(())
 }
@@ -295,17 +345,20 @@ impl Write for Broken {
 }
 
 #[test]
-fn failures_of_standard_streams_are_reported(rt: HostRuntime) -> Result<(), Fail> {
+fn a_failing_standard_reader(rt: HostRuntime) -> Result<(), Fail> {
     let mut from = StreamSource::new(Broken);
     let mut to = sink(rt.alloc())?;
     let end = score(rt.alloc(), &mut from, &mut to);
     let ends = ended(rt.alloc(), end)?;
     same(&rt, &ends.as_str(), &"error 81 ReadFault", &"the end");
     same(&rt, &from.failures(), &1, &"failed reads");
+    Ok(())
+}
 
-    let mut from = source(INPUT);
+#[test]
+fn a_failing_standard_writer(rt: HostRuntime) -> Result<(), Fail> {
     let mut to = StreamSink::new(Broken);
-    let end = score(rt.alloc(), &mut from, &mut to);
+    let end = score(rt.alloc(), &mut source(INPUT), &mut to);
     let ends = ended(rt.alloc(), end)?;
     same(&rt, &ends.as_str(), &"error 82 WriteFault", &"the end");
     same(&rt, &to.failures(), &1, &"failed writes");

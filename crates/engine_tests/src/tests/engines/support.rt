@@ -1,17 +1,7 @@
-//! How an engine ended, as one text, and a source without an end.
+//! A source without an end.
 ghost use Rattle.std.specs.Prelude.{None};
 
-use mte_engine::{ByteSource, Failure, Status, ToolFault};
-use std::alloc::{AllocError, Global};
-
-/// How an engine ended: `done`, `no`, or the fault as the program prints it.
-pub fn ended(alloc: Global, end: Result<Status, ToolFault>) -> Result<String, AllocError> {
-    match end {
-        Ok(Status::Done) => String::from_str(alloc, "done"),
-        Ok(Status::No) => String::from_str(alloc, "no"),
-        Err(fault) => format!(in alloc; "error {fault}"),
-    }
-}
+use mte_engine::{ByteSource, Failure};
 
 /// Gives the byte `a` for ever, or so often.
 #[derive(Drop)]

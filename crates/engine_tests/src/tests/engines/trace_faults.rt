@@ -1,7 +1,7 @@
 //! Faulty traces, through each engine that reads one.
-use super::calls::Call;
 use super::pieces::Case::Text;
 use super::pieces::{Case, check};
+use crate::tests::calls::Call;
 use std::test::Fail;
 
 // each fault of a trace alone, in its order within a line, and in two lines

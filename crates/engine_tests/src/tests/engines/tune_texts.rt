@@ -1,6 +1,6 @@
 //! `tune` from text to text.
 use self::Case::{Fault, Tuned};
-use super::calls::{Call, answers};
+use crate::tests::calls::{Call, answers};
 use std::process::Abort;
 use std::test::Fail;
 
@@ -15,18 +15,11 @@ enum Case {
 
 fn check(rt: &(impl Abort + AllocGlobal), cases: &[Case]) -> Result<(), Fail> {
     for case in cases {
-        match case {
-            Tuned(limit, step, input, written) => {
-                let call = Call::Tune {
-                    limit: *limit,
-                    step: *step,
-                };
-                answers(rt, call, input, written, "done")?;
-            }
-            Fault(input, wanted) => {
-                answers(rt, Call::Tune { limit: 2, step: 1 }, input, "", wanted)?;
-            }
-        }
+        let (limit, step, input, written, wanted) = match case {
+            Tuned(limit, step, input, written) => (*limit, *step, *input, *written, "done"),
+            Fault(input, wanted) => (2, 1, *input, "", *wanted),
+        };
+        answers(rt, Call::Tune { limit, step }, input, written, wanted)?;
     }
     Ok(())
 }
@@ -141,8 +134,7 @@ const FAULTS_OF_THE_PROFILE: &[Case] = &[
 
 #[test]
 fn tunes(rt: HostRuntime) -> Result<(), Fail> {
-    for cases in [TUNES, TUNES_FOR_A_STEP, FAULTS_OF_THE_PROFILE] {
-        check(&rt, cases)?;
-    }
-    Ok(())
+    check(&rt, TUNES)?;
+    check(&rt, TUNES_FOR_A_STEP)?;
+    check(&rt, FAULTS_OF_THE_PROFILE)
 }

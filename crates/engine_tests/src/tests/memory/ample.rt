@@ -1,15 +1,15 @@
 //! With ample memory nothing is refused: at each limit and step, at sizes about each power of two, at each number of rows, at each line.
 use super::support::profile as worked_profile;
-use crate::tests::streams::{sink, source};
+use crate::tests::calls::{Call, ends};
 use crate::tests::support::{HEAP, same};
-use class_table::ClassTable;
+use class_table::{ClassTable, is_step};
 use class_tuner::tune;
 use granule_memory::Memory;
-use mte_engine::{ToolFault, profile, run, score};
-use potential_check::{SheetError, Verdict, check, read_sheet, write_sheet};
+use potential_check::{Sheet, SheetError, Verdict, check, read_sheet, write_sheet};
 use profile_count::Profile;
 use raw_region::RawRegion;
 use replay_core::{Config, Replay};
+use std::process::Abort;
 use std::test::Fail;
 use trace_reader::TraceReader;
 
@@ -18,39 +18,71 @@ fn each_limit_and_step(rt: HostRuntime) -> Result<(), Fail> {
     let profile = worked_profile(&rt)?;
     for limit in 1..=32 {
         for step in [1, 2, 4, 8] {
-            assert!(rt; limit >= 1 && limit <= 32);
-            assert!(rt; step == 1 || step == 2 || step == 4 || step == 8);
-            let tuned = tune(rt.alloc(), &profile, limit, step)?;
-            let verdict = check(rt.alloc(), &profile, tuned.sheet())?;
-            assert!(rt; verdict == Verdict::Optimal, "limit {limit} step {step}");
-            let mut text = Vec::new(rt.alloc());
-            write_sheet(tuned.sheet(), &mut text)?;
-            let read = read_sheet(rt.alloc(), &text)?;
-            same(&rt, &read.waste, &tuned.sheet().waste, &(limit, step));
+            is_tuned(&rt, &profile, limit, step)?;
         }
     }
     Ok(())
 }
 
-// Regions, memories and replays of one granule fewer than each power of two, of as many, and of one more.
+fn is_tuned(
+    rt: &(impl Abort + AllocGlobal),
+    profile: &Profile,
+    limit: u8,
+    step: u8,
+) -> Result<(), Fail> {
+    assert!(rt; limit >= 1 && limit <= 32 && is_step(step));
+    let tuned = tune(rt.alloc(), profile, limit, step)?;
+    let verdict = check(rt.alloc(), profile, tuned.sheet())?;
+    assert!(rt; verdict == Verdict::Optimal, "limit {limit} step {step}");
+    is_read(rt, tuned.sheet())
+}
+
+// the sheet that is written is read
+fn is_read(rt: &(impl Abort + AllocGlobal), sheet: &Sheet) -> Result<(), Fail> {
+    let mut text = Vec::new(rt.alloc());
+    write_sheet(sheet, &mut text)?;
+    let read = read_sheet(rt.alloc(), &text)?;
+    same(rt, &read.waste, &sheet.waste, &(sheet.limit, sheet.step));
+    Ok(())
+}
+
+// one granule fewer than each power of two, as many, and one more
+const SIZES: &[u32] = &[
+    64, 65, 127, 128, 129, 255, 256, 257, 511, 512, 513, 1_023, 1_024, 1_025, 2_047, 2_048, 2_049,
+    4_095, 4_096, 4_097, 8_191, 8_192, 8_193, 16_383, 16_384, 16_385, 32_767, 32_768, 32_769,
+    65_535, 65_536, 65_537, 131_071, 131_072, 131_073, 262_143, 262_144,
+];
+
+// Regions, memories and replays of these sizes.
 #[test]
 fn sizes_about_each_power_of_two(rt: HostRuntime) -> Result<(), Fail> {
-    let table = ClassTable::from_classes(&[2, 4, 1024])?;
-    let sizes = [
-        64, 65, 127, 128, 129, 255, 256, 257, 511, 512, 513, 1_023, 1_024, 1_025, 2_047, 2_048,
-        2_049, 4_095, 4_096, 4_097, 8_191, 8_192, 8_193, 16_383, 16_384, 16_385, 32_767, 32_768,
-        32_769, 65_535, 65_536, 65_537, 131_071, 131_072, 131_073, 262_143, 262_144,
-    ];
-    for granules in sizes {
-        assert!(rt; granules >= 64 && granules <= 262_144);
-        let region = RawRegion::new(rt.alloc(), granules as usize)?;
-        same(&rt, &region.len(), &(granules as usize), &granules);
-        let memory = Memory::new(rt.alloc(), granules)?;
-        same(&rt, &memory.granules(), &granules, &granules);
-        let config = Config { granules, ..HEAP };
-        let replay = Replay::new(rt.alloc(), &table, config)?;
-        same(&rt, &replay.steps(), &0, &granules);
+    for granules in SIZES {
+        has_size(&rt, *granules)?;
     }
+    Ok(())
+}
+
+fn has_size(rt: &(impl Abort + AllocGlobal), granules: u32) -> Result<(), Fail> {
+    region_has_size(rt, granules)?;
+    assert!(rt; granules >= 64 && granules <= 262_144);
+    let memory = Memory::new(rt.alloc(), granules)?;
+    same(rt, &memory.granules(), &granules, &granules);
+    replay_has_size(rt, granules)
+}
+
+fn region_has_size(rt: &(impl Abort + AllocGlobal), size: u32) -> Result<(), Fail> {
+    assert!(rt; size >= 64 && size <= 262_144);
+    let region = RawRegion::new(rt.alloc(), size as usize)?;
+    same(rt, &region.len(), &(size as usize), &size);
+    Ok(())
+}
+
+fn replay_has_size(rt: &(impl Abort + AllocGlobal), granules: u32) -> Result<(), Fail> {
+    assert!(rt; granules >= 64 && granules <= 262_144);
+    let table = ClassTable::from_classes(&[2, 4, 1024])?;
+    let config = Config { granules, ..HEAP };
+    let replay = Replay::new(rt.alloc(), &table, config)?;
+    same(rt, &replay.steps(), &0, &granules);
     Ok(())
 }
 
@@ -58,15 +90,13 @@ fn sizes_about_each_power_of_two(rt: HostRuntime) -> Result<(), Fail> {
 #[test]
 fn sheets_of_each_number_of_rows(rt: HostRuntime) -> Result<(), Fail> {
     let mut text = Vec::from_slice(rt.alloc(), b"classes 2 4\nlimit 32\nwaste 8\n")?;
-    for rows in 0..=33 {
-        let read = read_sheet(rt.alloc(), &text);
-        if rows == 33 {
-            assert!(rt; matches!(read, Err(SheetError::Line(36))));
-        } else {
-            same(&rt, &read?.rows.len(), &rows, &"rows");
-        }
+    for rows in 0..=32 {
+        let read = read_sheet(rt.alloc(), &text)?;
+        same(&rt, &read.rows.len(), &rows, &"rows");
         text.extend_from_slice(b"row 104 8\n")?;
     }
+    let read = read_sheet(rt.alloc(), &text);
+    assert!(rt; matches!(read, Err(SheetError::Line(36))));
     Ok(())
 }
 
@@ -84,51 +114,54 @@ fn a_trace_of_a_million_lines(rt: HostRuntime) -> Result<(), Fail> {
     Ok(())
 }
 
-// Inputs of as many lines, or bytes, as each power of two, of one fewer and of one more.
+// Inputs of as many lines as each power of two, of one fewer and of one more.
 #[test]
 fn engines_about_each_power_of_two(rt: HostRuntime) -> Result<(), Fail> {
     let mut power: usize = 1;
     for _digits in 0..20 {
-        for lines in [power.saturating_sub(1), power, power.saturating_add(1)] {
-            let text = "free 0\n".as_bytes().repeat(rt.alloc(), lines)?;
-            let mut to = sink(rt.alloc())?;
-            assert!(rt;
-                profile(rt.alloc(), &mut source(&text), &mut to).is_ok(),
-                "profile of {lines} lines"
-            );
-            let mut to = sink(rt.alloc())?;
-            assert!(rt;
-                run(rt.alloc(), 1, 1, HEAP, &mut source(&text), &mut to).is_ok(),
-                "run of {lines} lines"
-            );
-            let mut to = sink(rt.alloc())?;
-            let end = score(rt.alloc(), &mut source(&text), &mut to);
-            assert!(rt;
-                matches!(end, Err(ToolFault::Input(_))),
-                "score of {lines} lines"
-            );
-        }
+        engines_on(&rt, power.saturating_sub(1))?;
+        engines_on(&rt, power)?;
+        engines_on(&rt, power.saturating_add(1))?;
         power = power.saturating_mul(2);
     }
     Ok(())
+}
+
+const RUN: Call = Call::Run {
+    limit: 1,
+    step: 1,
+    quarantine: 0,
+};
+
+fn engines_on(rt: &(impl Abort + AllocGlobal), lines: usize) -> Result<(), Fail> {
+    let text = "free 0\n".as_bytes().repeat(rt.alloc(), lines)?;
+    ends(rt, Call::Profile, &text, "done")?;
+    ends(rt, RUN, &text, "done")?;
+    ends(rt, Call::Score, &text, "error 23 BadLine line 1")
 }
 
 // All sizes are counted; the profile of the first of them is written and read.
 #[test]
 fn profiles_of_each_power_of_two(rt: HostRuntime) -> Result<(), Fail> {
     let mut counted = Profile::new(rt.alloc())?;
-    let mut next: usize = 1;
+    let mut next: u32 = 1;
     for n in 0..16_369 {
         assert!(rt; counted.add(n).is_ok());
-        if n as usize == next || n as usize + 1 == next || n == 16_368 {
-            let mut text = Vec::new(rt.alloc());
-            counted.write(&mut text)?;
-            let read = Profile::read(rt.alloc(), &text)?;
-            same(&rt, &read.count(n), &1, &n);
+        if n == next || n + 1 == next || n == 16_368 {
+            is_counted(&rt, &counted, n)?;
         }
-        if n as usize > next {
+        if n > next {
             next *= 2;
         }
     }
+    Ok(())
+}
+
+fn is_counted(rt: &(impl Abort + AllocGlobal), counted: &Profile, n: u32) -> Result<(), Fail> {
+    assert!(rt; n <= 16_368);
+    let mut text = Vec::new(rt.alloc());
+    counted.write(&mut text)?;
+    let read = Profile::read(rt.alloc(), &text)?;
+    same(rt, &read.count(n), &1, &n);
     Ok(())
 }

@@ -1,12 +1,9 @@
 //! The engines: where a growth is refused, the sink is as it was.
 use super::support::{PROFILE, SHEET, refused_twice};
+use crate::tests::calls::{Call, call_on};
 use crate::tests::streams::{sink, source};
 use crate::tests::support::same;
-use mte_engine::{
-    MemorySink, Status, ToolFault, check, check_fit, fit, footprint, profile, replay, run, score,
-    tune,
-};
-use replay_core::Config;
+use mte_engine::{MemorySink, Status, ToolFault};
 use std::process::Abort;
 use std::test::Fail;
 
@@ -17,152 +14,87 @@ const REPORT: &str =
     6 fault tag granule 1 memory 3 pointer 1 in dead\nevents 6\nrequests 2\nnull large 0\nnull no-class 0\nnull exhausted 0\n\
     faults tag 3\nfaults unmapped 0\nrefused frees 0\nloss 16\n";
 
-// a heap of 64 granules with the seed 1, and a quarantine of 64 bytes
-const QUARANTINED: Config = Config {
-    granules: 64,
-    seed: 1,
-    quarantine: 64,
-};
+const HISTORY: &str = "snapshots 2\n16 3 0\n40 0 1\n";
+
+const FIT: &str = "classes 2 4\nlimit 2\nfootprint 160\nrow 192 64\nrow 160 64\n";
 
 #[test]
 fn scoring(rt: HostRuntime) -> Result<(), Fail> {
-    for _attempt in 0..2 {
-        let mut to = sink(rt.alloc())?;
-        let end = score(rt.alloc(), &mut source(b"classes 4\n16 3\n40 1\n"), &mut to);
-        if answered(&rt, end, &to, "waste 104\n") {
-            return Ok(());
-        }
-    }
-    refused_twice(&rt)
+    answers(&rt, Call::Score, "classes 4\n16 3\n40 1\n", "waste 104\n")
 }
 
 #[test]
 fn tuning(rt: HostRuntime) -> Result<(), Fail> {
-    for _attempt in 0..2 {
-        let mut to = sink(rt.alloc())?;
-        let end = tune(rt.alloc(), 2, 1, &mut source(PROFILE.as_bytes()), &mut to);
-        if answered(&rt, end, &to, SHEET) {
-            return Ok(());
-        }
-    }
-    refused_twice(&rt)
+    answers(&rt, Call::Tune { limit: 2, step: 1 }, PROFILE, SHEET)
 }
 
 #[test]
 fn checking(rt: HostRuntime) -> Result<(), Fail> {
     let mut input = String::from_str(rt.alloc(), SHEET)?;
     input.push_str(PROFILE)?;
-    for _attempt in 0..2 {
-        let mut to = sink(rt.alloc())?;
-        let end = check(rt.alloc(), &mut source(input.as_bytes()), &mut to);
-        if answered(&rt, end, &to, "optimal\n") {
-            return Ok(());
-        }
-    }
-    refused_twice(&rt)
+    answers(&rt, Call::Check, &input, "optimal\n")
 }
-
-const HISTORY: &str = "snapshots 2\n16 3 0\n40 0 1\n";
-
-const FIT: &str = "classes 2 4\nlimit 2\nfootprint 160\nrow 192 64\nrow 160 64\n";
 
 #[test]
 fn taking_a_footprint(rt: HostRuntime) -> Result<(), Fail> {
     let mut input = String::from_str(rt.alloc(), "classes 2 4\n")?;
     input.push_str(HISTORY)?;
-    for _attempt in 0..2 {
-        let mut to = sink(rt.alloc())?;
-        let end = footprint(rt.alloc(), &mut source(input.as_bytes()), &mut to);
-        if answered(&rt, end, &to, "footprint 160\n") {
-            return Ok(());
-        }
-    }
-    refused_twice(&rt)
+    answers(&rt, Call::Footprint, &input, "footprint 160\n")
 }
 
 #[test]
 fn fitting(rt: HostRuntime) -> Result<(), Fail> {
-    for _attempt in 0..2 {
-        let mut to = sink(rt.alloc())?;
-        let end = fit(rt.alloc(), 2, 1, &mut source(HISTORY.as_bytes()), &mut to);
-        if answered(&rt, end, &to, FIT) {
-            return Ok(());
-        }
-    }
-    refused_twice(&rt)
+    answers(&rt, Call::Fit { limit: 2, step: 1 }, HISTORY, FIT)
 }
 
 #[test]
 fn checking_a_fit(rt: HostRuntime) -> Result<(), Fail> {
     let mut input = String::from_str(rt.alloc(), FIT)?;
     input.push_str(HISTORY)?;
-    for _attempt in 0..2 {
-        let mut to = sink(rt.alloc())?;
-        let end = check_fit(rt.alloc(), &mut source(input.as_bytes()), &mut to);
-        if answered(&rt, end, &to, "optimal\n") {
-            return Ok(());
-        }
-    }
-    refused_twice(&rt)
+    answers(&rt, Call::CheckFit, &input, "optimal\n")
 }
 
 #[test]
 fn profiling(rt: HostRuntime) -> Result<(), Fail> {
-    for _attempt in 0..2 {
-        let mut to = sink(rt.alloc())?;
-        let end = profile(
-            rt.alloc(),
-            &mut source(b"malloc 1 16368\ncalloc 2 16369\n"),
-            &mut to,
-        );
-        if answered(&rt, end, &to, "16368 1\nlarge 1\n") {
-            return Ok(());
-        }
-    }
-    refused_twice(&rt)
+    let trace = "malloc 1 16368\ncalloc 2 16369\n";
+    answers(&rt, Call::Profile, trace, "16368 1\nlarge 1\n")
 }
 
 #[test]
 fn replaying(rt: HostRuntime) -> Result<(), Fail> {
     let mut input = String::from_str(rt.alloc(), "classes 2 4\n")?;
     input.push_str(TRACE)?;
-    for _attempt in 0..2 {
-        let mut to = sink(rt.alloc())?;
-        let end = replay(
-            rt.alloc(),
-            QUARANTINED,
-            &mut source(input.as_bytes()),
-            &mut to,
-        );
-        if answered(&rt, end, &to, REPORT) {
-            return Ok(());
-        }
-    }
-    refused_twice(&rt)
+    answers(&rt, Call::Replay { quarantine: 64 }, &input, REPORT)
 }
 
 #[test]
 fn running(rt: HostRuntime) -> Result<(), Fail> {
-    let mut written = String::from_str(
-        rt.alloc(),
-        "classes 2\nlimit 2\nwaste 16\nrow 16\nrow 16\n",
-    )?;
+    let sheet = "classes 2\nlimit 2\nwaste 16\nrow 16\nrow 16\n";
+    let mut written = String::from_str(rt.alloc(), sheet)?;
     written.push_str(REPORT)?;
+    let call = Call::Run {
+        limit: 2,
+        step: 1,
+        quarantine: 64,
+    };
+    answers(&rt, call, TRACE, &written)
+}
+
+// the engine answers and writes this, in the second attempt at the latest
+fn answers(
+    rt: &(impl Abort + AllocGlobal),
+    call: Call,
+    input: &str,
+    written: &str,
+) -> Result<(), Fail> {
     for _attempt in 0..2 {
         let mut to = sink(rt.alloc())?;
-        let end = run(
-            rt.alloc(),
-            2,
-            1,
-            QUARANTINED,
-            &mut source(TRACE.as_bytes()),
-            &mut to,
-        );
-        if answered(&rt, end, &to, &written) {
+        let end = call_on(rt, call, &mut source(input.as_bytes()), &mut to);
+        if answered(rt, end, &to, written) {
             return Ok(());
         }
     }
-    refused_twice(&rt)
+    refused_twice(rt)
 }
 
 // whether the engine answered and wrote this; where it was refused memory, nothing was written
