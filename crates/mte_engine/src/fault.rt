@@ -85,7 +85,7 @@ impl fmt::Display for ToolFault {
 impl std::error::Error for ToolFault {}
 
 /// Why an input has no answer.
-#[derive(Debug, Clone, Copy, PartialEq, Eq)]
+#[derive(Clone, Copy)]
 pub enum AnswerError {
     /// The allocator refused memory.
     OutOfMemory,
