@@ -71,9 +71,10 @@ pub(crate) fn first_event<const COPY: u8>(text: &[u8]) -> Option<(Event, &[u8])>
         b'r' if word == REAL => realloc(text),
         b'f' if word == FREE => free(text),
         b'l' if word == LOAD => load(text),
+        // before `store`, though it is seldom: the program then tests for `store` first
+        b's' if word == SUBG => subg(text),
         b's' if word == STOR => store(text),
         b'a' if word == ADDG => addg(text),
-        b's' if word == SUBG => subg(text),
         _ => None,
     }
 }
