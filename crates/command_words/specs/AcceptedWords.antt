@@ -129,9 +129,9 @@ abbrev pub HasWords : Command → App → Type 0
 HasWords command words = (app_of command ≡ words) × ((fields_of command).has_globals ≡ false)
 
 -- The second is the first, a command without subcommands, with words added.
-abbrev pub Adds : {E : Type 0} → (App → App) → Result Command E → Result Command E → Type 0
-Adds add old new = (a : App) → IfOk old (λ c. HasWords c a) → IfOk new (λ c. HasWords c (add a))
+abbrev pub Adds : {E : Type 0} → (App → App) → Command → Result Command E → Type 0
+Adds add old new = (a : App) → HasWords old a → IfOk new (λ c. HasWords c (add a))
 
 -- The second is the first, the program so far, with commands added.
-abbrev pub AddsCommands : {E : Type 0} → (App → App) → Result Command E → Result Command E → Type 0
-AddsCommands add old new = (a : App) → IfOk old (λ c. app_of c ≡ a) → IfOk new (λ c. app_of c ≡ add a)
+abbrev pub AddsCommands : {E : Type 0} → (App → App) → Command → Result Command E → Type 0
+AddsCommands add old new = (a : App) → app_of old ≡ a → IfOk new (λ c. app_of c ≡ add a)

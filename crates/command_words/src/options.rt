@@ -69,6 +69,7 @@ const QUARANTINE: NumberOption = NumberOption {
 
 impl NumberOption {
     // the option for clap
+    #[inline(always)]
     fn arg<'a>(self, alloc: Global) -> Arg<'a>
         ensures { IsOption result (option_rule self.name.now (self.least, self.most) (option_map (λ t. t.now) self.default)) }
     {
@@ -79,6 +80,7 @@ impl NumberOption {
     }
 
     // an option for clap, which refuses numbers outside the bounds
+    #[inline(always)]
     fn number_arg<'a>(self, alloc: Global) -> Arg<'a>
         ensures { IsOption result (number_rule self.name.now (self.least, self.most)) }
     {
@@ -106,36 +108,35 @@ impl NumberOption {
 }
 
 /// Adds `--limit` and `--step` to a command.
-pub fn with_limits<'a>(
-    alloc: Global,
-    command: Result<Command<'a>, AllocError>,
-) -> Result<Command<'a>, AllocError>
+#[inline(always)]
+pub fn with_limits<'a>(alloc: Global, command: Command<'a>) -> Result<Command<'a>, AllocError>
     ensures { Adds with_limits command.entry result }
 {
-    with_option(alloc, with_option(alloc, command, LIMIT), STEP)
+    let command = with_option(alloc, command, LIMIT)?;
+    with_option(alloc, command, STEP)
 }
 
 /// Adds the options of the heap's configuration to a command: `--granules`, `--seed` and `--quarantine`.
-pub fn with_config<'a>(
-    alloc: Global,
-    command: Result<Command<'a>, AllocError>,
-) -> Result<Command<'a>, AllocError>
+#[inline(always)]
+pub fn with_config<'a>(alloc: Global, command: Command<'a>) -> Result<Command<'a>, AllocError>
     ensures { Adds with_config command.entry result }
 {
-    let command = with_option(alloc, command, GRANULES);
-    with_option(alloc, with_option(alloc, command, SEED), QUARANTINE)
+    let command = with_option(alloc, command, GRANULES)?;
+    let command = with_option(alloc, command, SEED)?;
+    with_option(alloc, command, QUARANTINE)
 }
 
 // adds an option to a command
+#[inline(always)]
 fn with_option<'a>(
     alloc: Global,
-    command: Result<Command<'a>, AllocError>,
+    command: Command<'a>,
     option: NumberOption,
 ) -> Result<Command<'a>, AllocError>
     ensures { Adds (λ a. with_rule a (option_rule option.name.now (option.least, option.most) (option_map (λ t. t.now) option.default)))
         command.entry result }
 {
-    command?.arg(option.arg(alloc))
+    command.arg(option.arg(alloc))
 }
 
 /// The most classes that the options allow. `BadOption` if they name no number from 1 to 32.

@@ -34,8 +34,9 @@ docs/FORMATS.md in the repository has the formats and all codes.";
 pub fn command<'a>(alloc: Global) -> Result<Command<'a>, AllocError>
     ensures { IfOk result (λ command. app_of command ≡ program) }
 {
-    let command = with_table_commands(alloc, Ok(top_words(alloc)));
-    with_trace_commands(alloc, with_history_commands(alloc, command))
+    let command = with_table_commands(alloc, top_words(alloc))?;
+    let command = with_history_commands(alloc, command)?;
+    with_trace_commands(alloc, command)
 }
 
 // the words of the program itself: one of its commands has to be named
@@ -51,52 +52,44 @@ fn top_words<'a>(alloc: Global) -> Command<'a>
 }
 
 // adds the commands that read a profile
-fn with_table_commands<'a>(
-    alloc: Global,
-    command: Result<Command<'a>, AllocError>,
-) -> Result<Command<'a>, AllocError>
+fn with_table_commands<'a>(alloc: Global, command: Command<'a>) -> Result<Command<'a>, AllocError>
     ensures { AddsCommands with_table_commands command.entry result }
 {
-    let command = with_command(alloc, command, score::WORDS);
-    let command = with_command(alloc, command, tune::WORDS);
+    let command = with_command(alloc, command, score::WORDS)?;
+    let command = with_command(alloc, command, tune::WORDS)?;
     with_command(alloc, command, check::WORDS)
 }
 
 // adds the commands that read a history
-fn with_history_commands<'a>(
-    alloc: Global,
-    command: Result<Command<'a>, AllocError>,
-) -> Result<Command<'a>, AllocError>
+fn with_history_commands<'a>(alloc: Global, command: Command<'a>) -> Result<Command<'a>, AllocError>
     ensures { AddsCommands with_history_commands command.entry result }
 {
-    let command = with_command(alloc, command, footprint::WORDS);
-    let command = with_command(alloc, command, fit::WORDS);
+    let command = with_command(alloc, command, footprint::WORDS)?;
+    let command = with_command(alloc, command, fit::WORDS)?;
     with_command(alloc, command, check_fit::WORDS)
 }
 
 // adds the commands that read a trace
-fn with_trace_commands<'a>(
-    alloc: Global,
-    command: Result<Command<'a>, AllocError>,
-) -> Result<Command<'a>, AllocError>
+fn with_trace_commands<'a>(alloc: Global, command: Command<'a>) -> Result<Command<'a>, AllocError>
     ensures { AddsCommands with_trace_commands command.entry result }
 {
-    let command = with_command(alloc, command, profile::WORDS);
-    let command = with_command(alloc, command, replay::WORDS);
+    let command = with_command(alloc, command, profile::WORDS)?;
+    let command = with_command(alloc, command, replay::WORDS)?;
     with_command(alloc, command, run::WORDS)
 }
 
 // adds a command
+#[inline(always)]
 fn with_command<'a>(
     alloc: Global,
-    command: Result<Command<'a>, AllocError>,
+    command: Command<'a>,
     words: Words,
 ) -> Result<Command<'a>, AllocError>
     ensures { AddsCommands (λ a. with_command a (described words)) command.entry result }
 {
-    match command.ok().zip(words.command(alloc).ok()) {
-        Some((command, words)) => command.subcommand(words),
-        None => Err(AllocError),
+    match words.command(alloc) {
+        Ok(words) => command.subcommand(words),
+        Err(error) => Err(error),
     }
 }
 

@@ -44,18 +44,20 @@ pub struct Words {
 
 impl Words {
     /// The command for clap.
+    #[inline(always)]
     pub fn command<'a>(self, alloc: Global) -> Result<Command<'a>, AllocError>
         ensures { IfOk result (λ command. HasWords command (described self)) }
     {
-        let command = Ok(self.without_options(alloc));
+        let command = self.without_options(alloc);
         match self.options {
-            Options::Nothing => command,
+            Options::Nothing => Ok(command),
             Options::Limits => with_limits(alloc, command),
             Options::Config => with_config(alloc, command),
-            Options::LimitsAndConfig => with_config(alloc, with_limits(alloc, command)),
+            Options::LimitsAndConfig => with_config(alloc, with_limits(alloc, command)?),
         }
     }
 
+    #[inline(always)]
     fn without_options<'a>(self, alloc: Global) -> Command<'a>
         ensures { HasWords result (new_app self.name.now) }
     {
