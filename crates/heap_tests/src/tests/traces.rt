@@ -29,24 +29,40 @@ fn read_pieces(rt: &impl Abort, alloc: Global, pieces: &[&[u8]]) -> Result<Seen,
     let mut events = Vec::new(alloc);
     let mut answer = Ok(());
     for piece in pieces {
-        assert!(rt; !reader.is_finished());
-        let fed = reader.feed(piece);
-        assert!(rt; answer.is_ok() || fed == answer, "an error stays");
-        answer = fed;
+        answer = feed(rt, &mut reader, piece, answer);
         take_events(&mut reader, &mut events)?;
     }
+    let answer = finish(rt, &mut reader, answer);
+    take_events(&mut reader, &mut events)?;
+    Ok(Seen { events, answer })
+}
+
+// feeds a piece after one that was answered so
+fn feed(
+    rt: &impl Abort,
+    reader: &mut TraceReader,
+    piece: &[u8],
+    before: Result<(), TraceError>,
+) -> Result<(), TraceError> {
+    assert!(rt; !reader.is_finished());
+    let fed = reader.feed(piece);
+    assert!(rt; before.is_ok() || fed == before, "an error stays");
+    fed
+}
+
+fn finish(
+    rt: &impl Abort,
+    reader: &mut TraceReader,
+    before: Result<(), TraceError>,
+) -> Result<(), TraceError> {
     assert!(rt; !reader.is_finished());
     let finished = reader.finish();
     assert!(rt;
-        answer.is_ok() || finished == answer,
+        before.is_ok() || finished == before,
         "an error stays at the end"
     );
     same(rt, &reader.is_finished(), &finished.is_ok(), &"finished");
-    take_events(&mut reader, &mut events)?;
-    Ok(Seen {
-        events,
-        answer: finished,
-    })
+    finished
 }
 
 fn take_events(reader: &mut TraceReader, events: &mut Vec<Event>) -> Result<(), Fail> {
@@ -70,20 +86,24 @@ fn gives(
     let mut bytes = Vec::new(alloc);
     for place in 0..text.len() {
         bytes.push(&text[place..place + 1])?;
-        let (front, after) = text.split_at(place);
-        agrees(rt, read_pieces(rt, alloc, &[front, after])?, events, answer)?;
     }
-    agrees(rt, read_pieces(rt, alloc, &bytes)?, events, answer)?;
-    agrees(rt, read_pieces(rt, alloc, &[text])?, events, answer)
+    agrees(rt, alloc, &bytes, events, answer)?;
+    for place in 0..text.len() {
+        let (front, after) = text.split_at(place);
+        agrees(rt, alloc, &[front, after], events, answer)?;
+    }
+    agrees(rt, alloc, &[text], events, answer)
 }
 
-// What was read is what was wanted. Where memory was refused, its events are the first of those.
+// What is read of the pieces is what was wanted. Where memory was refused, its events are the first of those.
 fn agrees(
     rt: &impl Abort,
-    seen: Seen,
+    alloc: Global,
+    pieces: &[&[u8]],
     events: &[Event],
     answer: Result<(), TraceError>,
 ) -> Result<(), Fail> {
+    let seen = read_pieces(rt, alloc, pieces)?;
     if seen.answer == Err(TraceError::OutOfMemory) {
         assert!(rt; events.starts_with(seen.events.as_slice()));
         seen.answer?;

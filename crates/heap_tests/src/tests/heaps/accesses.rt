@@ -2,7 +2,7 @@
 use super::calls::Step::{
     Addg, Free, Load, LoadFault, MakeUp, Malloc, Mapped, Pointer, Store, StoreFault, Subg,
 };
-use super::calls::{Step, play, pointer, tag_fault};
+use super::calls::{Step, Trace, play, pointer, tag_fault};
 use std::test::Fail;
 use tag_machine::Fault;
 use tagged_heap::FreeError;
@@ -71,30 +71,26 @@ const MADE_POINTER: &[Step] = &[
     Free(2, Err(FreeError::NotLive)),
 ];
 
-#[test]
-fn accesses(rt: HostRuntime) -> Result<(), Fail> {
-    play(&rt, "headers are out of reach", &[2], 0, HEADERS)?;
-    play(
-        &rt,
+const TRACES: &[Trace] = &[
+    ("headers are out of reach", &[2], 0, HEADERS),
+    (
         "header neighbour and dead chunk fault",
         &[2, 4],
         64,
         NEIGHBOURS,
-    )?;
-    play(&rt, "lowest granule is reported", &[2], 0, TWO_GRANULES)?;
-    play(&rt, "shorter chunk leaves a tail", &[3], 0, TAILS)?;
-    play(
-        &rt,
-        "addg and subg reach the neighbour",
-        &[2],
-        0,
-        UP_AND_DOWN,
-    )?;
-    play(
-        &rt,
+    ),
+    ("lowest granule is reported", &[2], 0, TWO_GRANULES),
+    ("shorter chunk leaves a tail", &[3], 0, TAILS),
+    ("addg and subg reach the neighbour", &[2], 0, UP_AND_DOWN),
+    (
         "chunk freed by a made pointer is dead",
         &[2],
         64,
         MADE_POINTER,
-    )
+    ),
+];
+
+#[test]
+fn accesses(rt: HostRuntime) -> Result<(), Fail> {
+    play(&rt, TRACES)
 }

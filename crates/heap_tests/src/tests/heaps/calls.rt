@@ -74,23 +74,26 @@ macro_rules! pointer {
 pub(crate) use pointer;
 pub(crate) use tag_fault;
 
-/// Makes the calls on a heap of 64 granules with seed 1, and compares what they answer. The name stands in the message of a call that
-/// answers otherwise.
-pub fn play(
-    rt: &(impl Abort + AllocGlobal),
-    name: &str,
-    classes: &[u16],
-    quarantine: u32,
-    steps: &[Step],
-) -> Result<(), Fail> {
-    let table = ClassTable::from_classes(classes)?;
-    let mut heap = Heap::new(rt.alloc(), &table, config(rt, quarantine))?;
-    let mut pointers = [0; 8];
-    for (number, step) in steps.iter().enumerate() {
-        let holds = holds(rt, &mut heap, &mut pointers, *step);
-        assert!(rt; holds, "step {number}: {name}");
+/// A name, the classes of a heap and the bytes of its quarantine, and the calls. The name stands in the message of a call that answers
+/// otherwise.
+pub type Trace = (&'static str, &'static [u16], u32, &'static [Step]);
+
+/// Makes the calls of each trace on a heap of 64 granules with seed 1, and compares what they answer.
+pub fn play(rt: &(impl Abort + AllocGlobal), traces: &[Trace]) -> Result<(), Fail> {
+    for (name, classes, quarantine, steps) in traces {
+        let table = ClassTable::from_classes(classes)?;
+        let mut heap = Heap::new(rt.alloc(), &table, config(rt, *quarantine))?;
+        make_calls(rt, &mut heap, name, steps);
     }
     Ok(())
+}
+
+fn make_calls(rt: &impl Abort, heap: &mut Heap, name: &str, steps: &[Step]) {
+    let mut pointers = [0; 8];
+    for (number, step) in steps.iter().enumerate() {
+        let holds = holds(rt, heap, &mut pointers, *step);
+        assert!(rt; holds, "step {number}: {name}");
+    }
 }
 
 // Makes the call: whether it answers so.
@@ -102,6 +105,16 @@ fn holds(rt: &impl Abort, heap: &mut Heap, pointers: &mut [u64; 8], step: Step) 
             let given = realloc(rt, heap, pointers[w % 8], n);
             is_kept(pointers, v, given.ok())
         }
+        Step::MakeUp(v, pointer) => is_kept(pointers, v, Some(pointer)),
+        Step::Null(n, cause) => heap.malloc(n) == Err(cause),
+        Step::Free(v, ended) => free(rt, heap, pointers[v % 8]) == ended,
+        Step::NoRealloc(v, n, error) => realloc(rt, heap, pointers[v % 8], n) == Err(error),
+        _ => is_stepped(rt, heap, pointers, step),
+    }
+}
+
+fn is_stepped(rt: &impl Abort, heap: &mut Heap, pointers: &mut [u64; 8], step: Step) -> bool {
+    match step {
         Step::Addg(v, w, u6, u4) => {
             assert!(rt; u6 < 64 && u4 < 16);
             let sum = heap.addg(pointers[w % 8], u6, u4);
@@ -112,10 +125,6 @@ fn holds(rt: &impl Abort, heap: &mut Heap, pointers: &mut [u64; 8], step: Step) 
             let difference = heap.subg(pointers[w % 8], u6, u4);
             is_kept(pointers, v, Some(difference))
         }
-        Step::MakeUp(v, pointer) => is_kept(pointers, v, Some(pointer)),
-        Step::Null(n, cause) => heap.malloc(n) == Err(cause),
-        Step::Free(v, ended) => free(rt, heap, pointers[v % 8]) == ended,
-        Step::NoRealloc(v, n, error) => realloc(rt, heap, pointers[v % 8], n) == Err(error),
         _ => is_accessed(rt, heap, pointers, step),
     }
 }

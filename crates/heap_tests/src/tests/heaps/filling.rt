@@ -1,7 +1,6 @@
 //! The largest region with the most classes, filled twice.
 use crate::tests::support::same;
 use class_table::ClassTable;
-use std::alloc::Global;
 use std::process::Abort;
 use std::test::Fail;
 use tagged_heap::{Config, Heap};
@@ -19,8 +18,8 @@ const CONFIG: Config = Config {
 };
 
 /// Requests the largest size of each class until the class is exhausted, and gives all pointers.
-fn fill(alloc: Global, heap: &mut Heap) -> Result<Vec<u64>, Fail> {
-    let mut given = Vec::new(alloc);
+fn fill(rt: &(impl Abort + AllocGlobal), heap: &mut Heap) -> Result<Vec<u64>, Fail> {
+    let mut given = Vec::new(rt.alloc());
     for class in CLASSES {
         let size = 16 * u32::from(class.saturating_sub(1));
         for _ in 0..8192u32 {
@@ -30,6 +29,7 @@ fn fill(alloc: Global, heap: &mut Heap) -> Result<Vec<u64>, Fail> {
             }
         }
     }
+    same(rt, &given.len(), &25_294, &"chunks");
     Ok(given)
 }
 
@@ -46,11 +46,9 @@ fn free_all(rt: &impl Abort, heap: &mut Heap, pointers: &[u64]) {
 fn every_class_is_filled_twice(rt: HostRuntime) -> Result<(), Fail> {
     let table = ClassTable::from_classes(&CLASSES)?;
     let mut heap = Heap::new(rt.alloc(), &table, CONFIG)?;
-    let first = fill(rt.alloc(), &mut heap)?;
-    same(&rt, &first.len(), &25_294, &"first chunks");
+    let first = fill(&rt, &mut heap)?;
     free_all(&rt, &mut heap, &first);
-    let second = fill(rt.alloc(), &mut heap)?;
-    same(&rt, &second.len(), &25_294, &"second chunks");
+    let _second = fill(&rt, &mut heap)?;
     same(&rt, &heap.frees(), &25_294, &"frees");
     Ok(())
 }

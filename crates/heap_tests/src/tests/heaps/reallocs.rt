@@ -2,7 +2,7 @@
 use super::calls::Step::{
     Free, Frees, Kind, Load, LoadFault, Malloc, NoRealloc, Pointer, Realloc, Store,
 };
-use super::calls::{Step, play, pointer, tag_fault};
+use super::calls::{Step, Trace, play, pointer, tag_fault};
 use std::test::Fail;
 use tagged_heap::{FreeError, NullCause, PlaceKind, ReallocError};
 
@@ -66,16 +66,14 @@ const SMALLER: &[Step] = &[
     Load(3, 0, COPIED),
 ];
 
+const TRACES: &[Trace] = &[
+    ("resizes in place and moves", &[3, 5], 0, IN_PLACE_AND_MOVED),
+    ("shrunk chunk leaves a tail", &[3], 0, SHRUNK),
+    ("refused chunk stays live", &[2, 31], 0, STAYS_LIVE),
+    ("smaller size is copied", &[2, 5], 0, SMALLER),
+];
+
 #[test]
 fn reallocs(rt: HostRuntime) -> Result<(), Fail> {
-    play(
-        &rt,
-        "resizes in place and moves",
-        &[3, 5],
-        0,
-        IN_PLACE_AND_MOVED,
-    )?;
-    play(&rt, "shrunk chunk leaves a tail", &[3], 0, SHRUNK)?;
-    play(&rt, "refused chunk stays live", &[2, 31], 0, STAYS_LIVE)?;
-    play(&rt, "smaller size is copied", &[2, 5], 0, SMALLER)
+    play(&rt, TRACES)
 }

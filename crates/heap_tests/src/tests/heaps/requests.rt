@@ -2,7 +2,7 @@
 use super::calls::Step::{
     Addg, Calloc, Free, Load, LoadFault, Malloc, Mapped, NoRealloc, Null, Pointer, Store,
 };
-use super::calls::{Step, play, pointer, tag_fault};
+use super::calls::{Step, Trace, play, pointer, tag_fault};
 use std::test::Fail;
 use tag_machine::Fault;
 use tagged_heap::{FreeError, NullCause, ReallocError};
@@ -56,10 +56,14 @@ const TAIL_KEPT: &[Step] = &[
     Load(3, 16, &[0xee; 16]),
 ];
 
+const TRACES: &[Trace] = &[
+    ("three ways to get null", &[64], 0, NULLS),
+    ("refusals come in their order", &[2], 0, REFUSALS),
+    ("calloc zeroes its granules", &[2], 0, ZEROED),
+    ("calloc keeps the tail", &[3], 0, TAIL_KEPT),
+];
+
 #[test]
 fn requests(rt: HostRuntime) -> Result<(), Fail> {
-    play(&rt, "three ways to get null", &[64], 0, NULLS)?;
-    play(&rt, "refusals come in their order", &[2], 0, REFUSALS)?;
-    play(&rt, "calloc zeroes its granules", &[2], 0, ZEROED)?;
-    play(&rt, "calloc keeps the tail", &[3], 0, TAIL_KEPT)
+    play(&rt, TRACES)
 }

@@ -2,7 +2,7 @@
 use super::calls::Step::{
     Addg, FirstWord, Free, Frees, HeaderIn, Load, LoadFault, Malloc, Pointer, StoreFault,
 };
-use super::calls::{Step, play, pointer, tag_fault};
+use super::calls::{Step, Trace, play, pointer, tag_fault};
 use chunk_header::{Header, State};
 use std::test::Fail;
 use tagged_heap::FreeError;
@@ -103,28 +103,19 @@ const TAG_AGAIN: &[Step] = &[
     Pointer(2, pointer!(1, 5)),
 ];
 
-#[test]
-fn reuse(rt: HostRuntime) -> Result<(), Fail> {
-    play(
-        &rt,
-        "quarantine releases past its limit",
-        &[2],
-        64,
-        RELEASED,
-    )?;
-    play(
-        &rt,
-        "first of two classes",
-        &[2, 4],
-        0,
-        FIRST_OF_TWO_CLASSES,
-    )?;
-    play(&rt, "freed last is given first", &[2], 0, LAST_FIRST)?;
-    play(
-        &rt,
+const TRACES: &[Trace] = &[
+    ("quarantine releases past its limit", &[2], 64, RELEASED),
+    ("first of two classes", &[2, 4], 0, FIRST_OF_TWO_CLASSES),
+    ("freed last is given first", &[2], 0, LAST_FIRST),
+    (
         "freed pointer faults until the next free",
         &[2],
         0,
         TAG_AGAIN,
-    )
+    ),
+];
+
+#[test]
+fn reuse(rt: HostRuntime) -> Result<(), Fail> {
+    play(&rt, TRACES)
 }

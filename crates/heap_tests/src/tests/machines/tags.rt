@@ -76,24 +76,23 @@ fn lends_its_memory(rt: HostRuntime) -> Result<(), Fail> {
     play(&rt, LENT)
 }
 
+const MISMATCH: Fault = Fault::TagCheck {
+    granule: 2,
+    memory_tag: 5,
+    pointer_tag: 3,
+};
+
+const SHOWN: &[(Fault, &str)] = &[
+    (Fault::Unmapped, "50 Unmapped"),
+    (Fault::Alignment, "51 Alignment"),
+    (MISMATCH, "52 TagCheck"),
+];
+
 #[test]
 fn shows_faults_as_code_and_name(rt: HostRuntime) -> Result<(), Fail> {
-    let fault = Fault::TagCheck {
-        granule: 2,
-        memory_tag: 5,
-        pointer_tag: 3,
-    };
-    for (fault, text) in [
-        (Fault::Unmapped, "50 Unmapped"),
-        (Fault::Alignment, "51 Alignment"),
-        (fault, "52 TagCheck"),
-    ] {
-        same(
-            &rt,
-            &format!(in rt.alloc(); "{fault}")?.as_str(),
-            &text,
-            &fault,
-        );
+    for (fault, text) in SHOWN {
+        let shown = format!(in rt.alloc(); "{fault}")?;
+        same(&rt, &shown.as_str(), text, fault);
     }
     Ok(())
 }
