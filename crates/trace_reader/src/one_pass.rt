@@ -1,6 +1,6 @@
 //! The event of a text's first line, where that line spells one, read in one pass over its bytes. `line` judges every other line word by
 //! word, which is slower and finds each fault. An event that is missing here is read by `line`.
-ghost use Rattle.std.specs.Prelude.{◌≡◌, ◌≤◌, ◌<◌, ◌+◌, ◌^◌, ◌++◌, ◌∷◌, [], IfSome, length, nat_abs};
+ghost use Rattle.std.specs.Prelude.{◌≡◌, ◌≢◌, ◌≤◌, ◌<◌, ◌+◌, ◌^◌, ◌++◌, ◌∷◌, [], IfSome, length, nat_abs};
 ghost use Rattle.std.specs.Int.{to_le_bytes, w32};
 ghost use Rattle.std.specs.Fmt.{decimal, signed_decimal};
 ghost use Rattle.trace_event.specs.Ranges.{IsAccessOf, IsInRange, IsMove, IsRequest, IsVariable};
@@ -66,45 +66,49 @@ pub(crate) fn first_event<const COPY: u8>(text: &[u8]) -> Option<(Event, &[u8])>
     let (word, text) = first_word(text)?;
     // by the first letter, so that the compiler makes a table of jumps
     match (word % 256) as u8 {
-        b'm' if word == MALL => malloc(text),
-        b'c' if word == CALL => calloc(text),
-        b'r' if word == REAL => realloc(text),
+        b'm' if word == MALL => request_of(MALL, b"oc ", text),
+        b'c' if word == CALL => request_of(CALL, b"oc ", text),
+        b'r' if word == REAL => request_of(REAL, b"loc ", text),
         b'f' if word == FREE => free(text),
         b'l' if word == LOAD => load(text),
         // before `store`, though it is seldom: the program then tests for `store` first
-        b's' if word == SUBG => subg(text),
+        b's' if word == SUBG => move_of(SUBG, text),
         b's' if word == STOR => store(text),
-        b'a' if word == ADDG => addg(text),
+        b'a' if word == ADDG => move_of(ADDG, text),
         _ => None,
     }
 }
 
 // The functions below read the events, each from the text after the first four letters of its name.
+// the requests; `rest` is the rest of the name, with the space after it
 #[inline(always)]
-fn malloc(text: &[u8]) -> Option<(Event, &[u8])>
-    ensures spelled { IfSome result (λ found. to_le_bytes w32 MALL ++ text.now ≡ event_line found.0 ++ 10 ∷ found.1.now) }
+fn request_of<'a>(letters: u32, rest: &[u8], text: &'a [u8]) -> Option<(Event, &'a [u8])>
+    requires { (letters ≡ REAL → rest.now ≡ codes "loc ") × (letters ≢ REAL → rest.now ≡ codes "oc ") }
+    ensures spelled { IfSome result
+        (λ found. to_le_bytes w32 letters ++ text.now ≡ event_line found.0 ++ 10 ∷ found.1.now) }
     ensures range { IfSome result (λ found. IsInRange found.0) }
 {
-    let (v, n, after) = request(after_name(b"oc ", text)?)?;
-    Some((Event::Malloc { v, n }, after))
+    let (v, n, after) = request(after_name(rest, text)?)?;
+    match letters {
+        MALL => Some((Event::Malloc { v, n }, after)),
+        CALL => Some((Event::Calloc { v, n }, after)),
+        REAL => Some((Event::Realloc { v, n }, after)),
+        _ => None,
+    }
 }
 
 #[inline(always)]
-fn calloc(text: &[u8]) -> Option<(Event, &[u8])>
-    ensures spelled { IfSome result (λ found. to_le_bytes w32 CALL ++ text.now ≡ event_line found.0 ++ 10 ∷ found.1.now) }
+fn move_of(letters: u32, text: &[u8]) -> Option<(Event, &[u8])>
+    ensures spelled { IfSome result
+        (λ found. to_le_bytes w32 letters ++ text.now ≡ event_line found.0 ++ 10 ∷ found.1.now) }
     ensures range { IfSome result (λ found. IsInRange found.0) }
 {
-    let (v, n, after) = request(after_name(b"oc ", text)?)?;
-    Some((Event::Calloc { v, n }, after))
-}
-
-#[inline(always)]
-fn realloc(text: &[u8]) -> Option<(Event, &[u8])>
-    ensures spelled { IfSome result (λ found. to_le_bytes w32 REAL ++ text.now ≡ event_line found.0 ++ 10 ∷ found.1.now) }
-    ensures range { IfSome result (λ found. IsInRange found.0) }
-{
-    let (v, n, after) = request(after_name(b"loc ", text)?)?;
-    Some((Event::Realloc { v, n }, after))
+    let (v, w, u6, u4, after) = move_pointer(after_name(b" ", text)?)?;
+    match letters {
+        ADDG => Some((Event::Addg { v, w, u6, u4 }, after)),
+        SUBG => Some((Event::Subg { v, w, u6, u4 }, after)),
+        _ => None,
+    }
 }
 
 #[inline(always)]
@@ -133,24 +137,6 @@ fn store(text: &[u8]) -> Option<(Event, &[u8])>
     let (v, off, len, text) = access(b' ', after_name(b"e ", text)?)?;
     let (byte, after) = byte(text)?;
     Some((Event::Store { v, off, len, byte }, after))
-}
-
-#[inline(always)]
-fn addg(text: &[u8]) -> Option<(Event, &[u8])>
-    ensures spelled { IfSome result (λ found. to_le_bytes w32 ADDG ++ text.now ≡ event_line found.0 ++ 10 ∷ found.1.now) }
-    ensures range { IfSome result (λ found. IsInRange found.0) }
-{
-    let (v, w, u6, u4, after) = move_pointer(after_name(b" ", text)?)?;
-    Some((Event::Addg { v, w, u6, u4 }, after))
-}
-
-#[inline(always)]
-fn subg(text: &[u8]) -> Option<(Event, &[u8])>
-    ensures spelled { IfSome result (λ found. to_le_bytes w32 SUBG ++ text.now ≡ event_line found.0 ++ 10 ∷ found.1.now) }
-    ensures range { IfSome result (λ found. IsInRange found.0) }
-{
-    let (v, w, u6, u4, after) = move_pointer(after_name(b" ", text)?)?;
-    Some((Event::Subg { v, w, u6, u4 }, after))
 }
 
 // the first four bytes of a text as a word, and the text after them
