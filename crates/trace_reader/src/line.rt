@@ -168,6 +168,7 @@ fn load_in(words: &[&[u8]]) -> Result<Event, TraceFault>
     load_from(v, off, len)
 }
 
+// a load, from its three words
 fn load_from(v: &[u8], off: &[u8], len: &[u8]) -> Result<Event, TraceFault>
     ensures { result ≡ load_of (v.now ∷ off.now ∷ len.now ∷ []) }
 {
@@ -186,6 +187,7 @@ fn store_in(words: &[&[u8]]) -> Result<Event, TraceFault>
     store_from(v, off, len, byte)
 }
 
+// a store, from its four words
 fn store_from(v: &[u8], off: &[u8], len: &[u8], byte: &[u8]) -> Result<Event, TraceFault>
     ensures { result ≡ store_of (v.now ∷ off.now ∷ len.now ∷ byte.now ∷ []) }
 {
@@ -220,6 +222,7 @@ fn move_in(words: &[&[u8]]) -> Result<(u16, u16, u8, u8), TraceFault>
     move_from(v, w, u6, u4)
 }
 
+// the numbers of a move, from its four words
 fn move_from(v: &[u8], w: &[u8], u6: &[u8], u4: &[u8]) -> Result<(u16, u16, u8, u8), TraceFault>
     ensures { (event : ℕ → ℕ → ℕ → ℕ → EventView)
         → made (λ x. event x.0 x.1 x.2 x.3) result ≡ move_of event (v.now ∷ w.now ∷ u6.now ∷ u4.now ∷ []) }

@@ -79,8 +79,8 @@ pub(crate) fn first_event<const COPY: u8>(text: &[u8]) -> Option<(Event, &[u8])>
     }
 }
 
-// The functions below read the events, each from the text after the first four letters of its name.
-// the requests; `rest` is the rest of the name, with the space after it
+// The functions below read the events, each from the text after the first four letters of its name. Of a request, `rest` is the rest of the
+// name, with the space after it.
 #[inline(always)]
 fn request_of<'a>(letters: u32, rest: &[u8], text: &'a [u8]) -> Option<(Event, &'a [u8])>
     requires { (letters ≡ REAL → rest.now ≡ codes "loc ") × (letters ≢ REAL → rest.now ≡ codes "oc ") }
