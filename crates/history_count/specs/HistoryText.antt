@@ -149,10 +149,6 @@ history_from number reading (line ∷ ls) =
 abbrev pub first_reading : ℕ → Reading
 first_reading count = record { history = nothing_counted count; next = 0; is_ended = false }
 
--- what the lines from the second one on spell
-abbrev pub entries_from : History → List (List ℕ) → Result History (ℕ × HistoryFault)
-entries_from history ls = history_from 2 (record { history = history; next = 0; is_ended = false }) ls
-
 abbrev pub history_after : Option ℕ → List (List ℕ) → Result History (ℕ × HistoryFault)
 history_after None ls = Err (1, BadSnapshots)
 history_after (Some count) ls = history_from 2 (first_reading count) ls
