@@ -32,18 +32,18 @@ def lanes():
     return max(1, min(len(os.sched_getaffinity(0)), free // MEMORY_OF_A_PROOF))
 
 
-def cost(folder):
-    """What the proof of a crate takes, by guess: as much as that of ten functions to read what it stands on, and the functions of its code."""
+def lines(folder):
+    """The lines of a crate's code, by which the time of its proof is guessed."""
     files = [os.path.join(at, name) for at, _, names in os.walk(os.path.join(folder, "src")) for name in names]
-    return 10 + sum(len(re.findall(rb"(?m)^ *(?:pub(?:\(crate\))? )?(?:unsafe )?fn ", open(file, "rb").read())) for file in files)
+    return sum(len(open(file, "rb").readlines()) for file in files)
 
 
 def chains(crates, below):
-    """For each crate the cost of the dearest chain from it up to the program, its own included."""
+    """For each crate the lines of the longest chain from it up to the program, its own included."""
     longest = {}
     for name in reversed(list(below)):
         above = [longest[other] for other in below if name in below[other]]
-        longest[name] = cost(crates.folder(name)) + max(above, default=0)
+        longest[name] = lines(crates.folder(name)) + max(above, default=0)
     return longest
 
 
