@@ -89,7 +89,7 @@ fn first_row<C: CostSource>(alloc: Global, costs: &mut C) -> Result<Row, AllocEr
     Ok(row)
 }
 
-// a row of as many zeros as there are places, with the last place as each end
+// a row with 0 as each cost and the last place as each end
 fn unfilled_row(alloc: Global, places: usize) -> Result<Row, AllocError>
     ensures costs_length { IfOk result (λ row. length row.costs.items ≡ places) }
     ensures ends_length { IfOk result (λ row. length row.ends.items ≡ places) }

@@ -71,7 +71,8 @@ impl NumberOption {
     // the option for clap
     #[inline(always)]
     fn arg<'a>(self, alloc: Global) -> Arg<'a>
-        ensures { IsOption result (option_rule self.name.now (self.least, self.most) (option_map (λ t. t.now) self.default)) }
+        ensures { IsOption result
+            (option_rule self.name.now (self.least, self.most) (option_map (λ t. t.now) self.default)) }
     {
         match self.default {
             Some(text) => self.number_arg(alloc).default_value(text),
@@ -133,7 +134,9 @@ fn with_option<'a>(
     command: Command<'a>,
     option: NumberOption,
 ) -> Result<Command<'a>, AllocError>
-    ensures { Adds (λ a. with_rule a (option_rule option.name.now (option.least, option.most) (option_map (λ t. t.now) option.default)))
+    ensures { Adds
+        (λ a. with_rule a
+        (option_rule option.name.now (option.least, option.most) (option_map (λ t. t.now) option.default)))
         command.entry result }
 {
     command.arg(option.arg(alloc))

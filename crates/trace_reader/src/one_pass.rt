@@ -113,7 +113,8 @@ fn move_of(letters: u32, text: &[u8]) -> Option<(Event, &[u8])>
 
 #[inline(always)]
 fn free(text: &[u8]) -> Option<(Event, &[u8])>
-    ensures spelled { IfSome result (λ found. to_le_bytes w32 FREE ++ text.now ≡ event_line found.0 ++ 10 ∷ found.1.now) }
+    ensures spelled { IfSome result
+        (λ found. to_le_bytes w32 FREE ++ text.now ≡ event_line found.0 ++ 10 ∷ found.1.now) }
     ensures range { IfSome result (λ found. IsInRange found.0) }
 {
     let (v, after) = variable(b'\n', after_name(b" ", text)?)?;
@@ -122,7 +123,8 @@ fn free(text: &[u8]) -> Option<(Event, &[u8])>
 
 #[inline(always)]
 fn load(text: &[u8]) -> Option<(Event, &[u8])>
-    ensures spelled { IfSome result (λ found. to_le_bytes w32 LOAD ++ text.now ≡ event_line found.0 ++ 10 ∷ found.1.now) }
+    ensures spelled { IfSome result
+        (λ found. to_le_bytes w32 LOAD ++ text.now ≡ event_line found.0 ++ 10 ∷ found.1.now) }
     ensures range { IfSome result (λ found. IsInRange found.0) }
 {
     let (v, off, len, after) = access(b'\n', after_name(b" ", text)?)?;
@@ -131,7 +133,8 @@ fn load(text: &[u8]) -> Option<(Event, &[u8])>
 
 #[inline(always)]
 fn store(text: &[u8]) -> Option<(Event, &[u8])>
-    ensures spelled { IfSome result (λ found. to_le_bytes w32 STOR ++ text.now ≡ event_line found.0 ++ 10 ∷ found.1.now) }
+    ensures spelled { IfSome result
+        (λ found. to_le_bytes w32 STOR ++ text.now ≡ event_line found.0 ++ 10 ∷ found.1.now) }
     ensures range { IfSome result (λ found. IsInRange found.0) }
 {
     let (v, off, len, text) = access(b' ', after_name(b"e ", text)?)?;

@@ -186,8 +186,9 @@ fn keeps_all(rt: &impl Abort, quarantine: &mut Quarantine, memory: &mut Memory, 
     requires granules { length memory.old ≡ layout.now.granules }
     requires linked { LinksStand quarantine.old layout.now (region_of layout.now memory.old) }
     ensures granules { length memory.new ≡ layout.now.granules }
-    ensures queued { (queue : List ℕ) → AreQueued quarantine.old layout.now (region_of layout.now memory.old) queue →
-        AreQueued quarantine.new layout.now (region_of layout.now memory.new) queue }
+    ensures queued { (queue : List ℕ)
+        → AreQueued quarantine.old layout.now (region_of layout.now memory.old) queue
+        → AreQueued quarantine.new layout.now (region_of layout.now memory.new) queue }
 {
     let out = quarantine.next_out(memory, layout);
     assert!(rt; out.is_none());

@@ -114,7 +114,7 @@ fn a_trace_of_a_million_lines(rt: HostRuntime) -> Result<(), Fail> {
     Ok(())
 }
 
-// Inputs of as many lines as each power of two, of one fewer and of one more.
+// Inputs whose number of lines is a power of two, one less or one more.
 #[test]
 fn engines_about_each_power_of_two(rt: HostRuntime) -> Result<(), Fail> {
     let mut power: usize = 1;
