@@ -60,3 +60,7 @@ last_piece bytes text rest reader last profile counts so_far more =
 pub OnOk_then : {A E P Q : Type 0} (r : Result A E) → (P → Q) → OnOk r P → OnOk r Q
 OnOk_then (Ok x) more holds = more holds
 OnOk_then (Err e) more holds = tt
+
+pub OnOk_both : {A E P P' Q : Type 0} (r : Result A E) → (P → P' → Q) → OnOk r P → OnOk r P' → OnOk r Q
+OnOk_both (Ok x) more holds holds' = more holds holds'
+OnOk_both (Err e) more holds holds' = tt

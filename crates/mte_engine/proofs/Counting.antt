@@ -1,15 +1,11 @@
 -- Events that are taken out of a list and counted, one by one.
 use Rattle.std.proofs.Common.{◌≡◌, ℕ, suc, ◌≤◌, List, [], ◌∷◌, ◌++◌, length, drop, Some, None, refl, sym, ap, ◌∙◌, arith, append_assoc}
-use Rattle.std.specs.Prelude.{slice_get, take, Option}
-use Rattle.std.proofs.Math.Seq.{take-append_seam}
-use Rattle.line_text.specs.Prefixes.{IsPrefix}
+use Rattle.std.specs.Prelude.{slice_get, Option}
 use Rattle.std.specs.List.{cons_option}
 use Rattle.std.proofs.lemmas.List.Elements.{filter_map-append}
 use Rattle.replay_theory.specs.Losses.{requested_sizes}
 use Rattle.replay_theory.specs.Totals.{request_size}
 use Rattle.trace_event.specs.declared.event.Event.{Event}
-use Rattle.tuner_theory.specs.Profiles.{Profile as Counted}
-use Rattle.mte_engine.specs.Traces.{profile_of_events}
 
 pub first_of : {A : Type 0} (xs : List A) (x : A) → slice_get xs 0 ≡ Some x → xs ≡ x ∷ drop 1 xs
 first_of [] x e = cc
@@ -38,11 +34,3 @@ pub one_requested : (sizes : List ℕ) (taken : List Event) (event : Event)
 one_requested sizes taken event =
     append_assoc sizes (requested_sizes taken) (requested_sizes (event ∷ []))
     ∙ ap (λ (t : List ℕ). sizes ++ t) (sym (filter_map-append request_size taken (event ∷ [])))
-
--- events that were counted, and more after them
-pub counted_from : (old new : List Event) (profile profile' : Counted) → IsPrefix old new → length new ≤ 1000000
-    → profile ≡ profile_of_events old
-    → (length new ≤ 1000000 → profile ≡ profile_of_events (take (length old) new) → profile' ≡ profile_of_events new)
-    → profile' ≡ profile_of_events new
-counted_from old new profile profile' front few is counted =
-    counted few (is ∙ ap profile_of_events (sym (ap (take (length old)) front.is ∙ take-append_seam old front.after)))

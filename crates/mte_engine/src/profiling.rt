@@ -14,7 +14,7 @@ use byte_streams::{ByteSink, ByteSource, Input, Text};
 use line_text::first_line;
 use profile_count::Profile;
 use std::alloc::{AllocError, Global};
-use trace_reader::TraceReader;
+use trace_reader::{TraceReader, Unobserved};
 
 /// Reads a trace, and writes the profile of its requests: how often each size was requested by a malloc, a calloc or a realloc, also where
 /// a replay would refuse it. Of the trace it keeps no more than the events of one piece and the unfinished line.
@@ -85,7 +85,7 @@ fn profile_of_trace(alloc: Global, input: CountedTrace) -> Result<(Text, Status)
         mut reader,
         mut profile,
     } = input;
-    end(&mut reader, 0)?;
+    end(&mut reader, 0, &mut Unobserved)?;
     count_out(&mut reader, &mut profile);
     let mut text = Vec::new(alloc);
     profile.write(&mut text)?;

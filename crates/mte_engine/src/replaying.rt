@@ -16,7 +16,7 @@ use byte_streams::{ByteSink, ByteSource, Input};
 use line_text::first_line;
 use replay_core::Config;
 use std::alloc::{AllocError, Global};
-use trace_reader::TraceReader;
+use trace_reader::{TraceReader, Unobserved};
 
 /// Reads a class line and then a trace, replays the trace on a new heap over that table, and writes the report: a line for each event that
 /// has one, and the totals. A fault in the replay is a line of the report, and the replay goes on.
@@ -80,14 +80,14 @@ impl Input for LineAndTrace {
 
     fn take(&mut self, piece: &[u8]) -> Result<(), AllocError> {
         if self.line_has_ended {
-            return feed(&mut self.reader, piece);
+            return feed(&mut self.reader, piece, &mut Unobserved);
         }
         let Some((end, trace)) = first_line(piece) else {
             return self.line.extend_from_slice(piece);
         };
         self.line.extend_from_slice(end)?;
         self.line_has_ended = true;
-        feed(&mut self.reader, trace)
+        feed(&mut self.reader, trace, &mut Unobserved)
     }
 }
 
@@ -122,7 +122,7 @@ fn answer_to_parts(
         → GivesAnswer report_left (ReplayAnswers config bytes) result }
 {
     let table = read_table(line)?;
-    end(&mut reader, 1)?;
+    end(&mut reader, 1, &mut Unobserved)?;
     let report = Report::new(alloc, &table, config, reader, Vec::new(alloc))?;
     Ok((report, Status::Done))
 }

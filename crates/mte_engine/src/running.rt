@@ -13,7 +13,7 @@ ghost use Rattle.trace_reader.specs.TraceLine.{most_events};
 use crate::engine::{Engine, Status, run_engine};
 use crate::fault::{AnswerError, ToolFault};
 use crate::report::Report;
-use crate::trace_counting::count_from;
+use crate::trace_counting::Requests;
 use crate::trace_feeding::{end, feed};
 use byte_streams::{ByteSink, ByteSource, Input};
 use class_tuner::tune;
@@ -75,7 +75,7 @@ impl Engine for RunEngine {
         let profile = Profile::new(alloc)?;
         Ok(WholeTrace {
             reader: TraceReader::new(alloc),
-            profile,
+            requests: Requests { profile },
         })
     }
 
@@ -84,22 +84,20 @@ impl Engine for RunEngine {
     }
 }
 
-// The events of a trace, and what they request. The events of a piece are counted while they are in the cache.
+// The events of a trace, and what they request, which is counted as they are read: the reader then knows the kind of an event, which a
+// later test would mispredict.
 #[derive(Drop)]
 struct WholeTrace {
     reader: TraceReader,
-    profile: Profile,
+    requests: Requests,
     ghost open: { is_finished reader ≡ false },
 }
 
 impl Input for WholeTrace {
-    ghost has_taken = { λ input bytes. KeepsEventsAndCounts input.reader input.profile bytes };
+    ghost has_taken = { λ input bytes. KeepsEventsAndCounts input.reader input.requests.profile bytes };
 
     fn take(&mut self, piece: &[u8]) -> Result<(), AllocError> {
-        let before = self.reader.events().len();
-        feed(&mut self.reader, piece)?;
-        count_from(&mut self.profile, &self.reader.events(), before);
-        Ok(())
+        feed(&mut self.reader, piece, &mut self.requests)
     }
 }
 
@@ -113,7 +111,7 @@ fn answer_to(
 ) -> Result<(Report, Status), AnswerError>
     requires options { AreTuneOptions limit step }
     requires config { IsConfig config }
-    ensures { (bytes : List ℕ) → KeepsEventsAndCounts input.reader input.profile bytes
+    ensures { (bytes : List ℕ) → KeepsEventsAndCounts input.reader input.requests.profile bytes
         → GivesAnswer report_left (RunAnswers limit step config bytes) result }
 {
     let (reader, profile) = ended(input)?;
@@ -131,15 +129,13 @@ fn ended(input: WholeTrace) -> Result<(TraceReader, Profile), AnswerError>
         (λ error. HasEnded 0 (finished input.reader).state (Err error)) }
     ensures events { IfOk result (λ all. all.0 ≡ finished input.reader) }
     ensures few { IfOk result (λ all. length all.0.events ≤ most_events) }
-    ensures counts { IfOk result (λ all. input.profile ≡ profile_of_events input.reader.events →
+    ensures counts { IfOk result (λ all. input.requests.profile ≡ profile_of_events input.reader.events →
         all.1 ≡ profile_of_events all.0.events) }
 {
     let WholeTrace {
         mut reader,
-        mut profile,
+        mut requests,
     } = input;
-    let before = reader.events().len();
-    end(&mut reader, 0)?;
-    count_from(&mut profile, &reader.events(), before);
-    Ok((reader, profile))
+    end(&mut reader, 0, &mut requests)?;
+    Ok((reader, requests.profile))
 }

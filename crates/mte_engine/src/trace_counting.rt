@@ -5,13 +5,30 @@ ghost use Rattle.profile_count.specs.Requests.{profile_of_sizes};
 ghost use Rattle.trace_reader.specs.TraceLine.{most_events};
 ghost use Rattle.tuner_theory.specs.Profiles.{greatest_count};
 ghost use Rattle.mte_engine.specs.Traces.{CountsFront, KeepsCounts, profile_of_events};
+ghost use Rattle.trace_event.specs.declared.event.Event.{Event as EventView};
 ghost use Rattle.trace_reader.specs.Reading.{is_finished};
 
 use crate::trace_feeding::feed;
 use profile_count::Profile;
 use replay_core::{Event, request_size};
 use std::alloc::AllocError;
-use trace_reader::{Events, TraceReader};
+use trace_reader::{Observer, TraceReader, Unobserved};
+
+/// The requests of a trace, counted as its events are read. There must be at most 1,000,000 events in all, so that no count gets full.
+#[derive(Drop)]
+pub struct Requests {
+    /// How often each size was requested so far.
+    pub profile: Profile,
+}
+
+impl Observer for Requests {
+    ghost has_seen = { λ requests events. length events ≤ most_events → requests.profile ≡ profile_of_events events };
+
+    #[inline(always)]
+    fn see(&mut self, event: &Event) {
+        count(&mut self.profile, event);
+    }
+}
 
 /// Takes all events out of the reader, and counts what they request.
 pub fn count_out(reader: &mut TraceReader, profile: &mut Profile)
@@ -36,7 +53,7 @@ pub fn feed_counted(
         KeepsCounts reader.new profile.new (bytes ++ piece.now)) }
     ensures unfinished { is_finished reader.new ≡ false }
 {
-    feed(reader, piece)?;
+    feed(reader, piece, &mut Unobserved)?;
     count_out(reader, profile);
     Ok(())
 }
@@ -59,17 +76,6 @@ pub fn count_lines<'a>(reader: &mut TraceReader, profile: &mut Profile, text: &'
         rest = after;
     }
     rest
-}
-
-/// Counts what the events from a place on request. There must be at most 1,000,000 events in all, so that no count gets full.
-pub fn count_from(profile: &mut Profile, events: &Events<'_>, from: usize)
-    requires { from ≤ length events.now }
-    ensures { length events.now ≤ most_events → profile.old ≡ profile_of_events (take from events.now) →
-        profile.new ≡ profile_of_events events.now }
-{
-    for place in from..events.len() {
-        count(profile, &events.at(place));
-    }
 }
 
 // Counts what an event requests.

@@ -9,6 +9,7 @@ mod hex_values;
 mod kept_event;
 pub mod laws;
 mod line;
+mod observer;
 mod one_pass;
 mod reader;
 mod status;
@@ -16,5 +17,6 @@ mod words;
 
 pub use events::Events;
 pub use fault::{TraceError, TraceFault};
+pub use observer::{Observer, Unobserved};
 pub use reader::TraceReader;
 pub use trace_event::Event;

@@ -30,11 +30,8 @@ const ABOVE: u32 = 0x0076_7677;
 // the highest bit of each digit's byte, and all bits of the byte after them
 const HIGH_BITS: u32 = 0xff80_8080;
 
-/// The copy of `first_event` for events that are handed out at once.
-pub(crate) const AT_ONCE: u8 = 0;
-
-/// The copy for events that wait.
-pub(crate) const KEPT: u8 = 1;
+/// The `Caller` that hands events out at once.
+pub(crate) struct AtOnce;
 
 // The first four letters of the events' names, as words: the first letter is the lowest byte.
 const MALL: u32 = 0x6c6c_616d;
@@ -54,9 +51,9 @@ const ADDG: u32 = 0x6764_6461;
 const SUBG: u32 = 0x6762_7573;
 
 /// The event of the first line of a text, and the text after that line. `None` leaves the line to `line`, which finds an event or a fault.
-/// Each caller has a `COPY` of its own: the compiler puts a function of this length into its caller only where it has no other.
+/// Each `Caller` has a copy of its own: the compiler puts a function of this length into its caller only where it has no other.
 #[inline(always)]
-pub(crate) fn first_event<const COPY: u8>(text: &[u8]) -> Option<(Event, &[u8])>
+pub(crate) fn first_event<Caller>(text: &[u8]) -> Option<(Event, &[u8])>
     ensures spelled { IfSome result (λ found. text.now ≡ event_line found.0 ++ 10 ∷ found.1.now) }
     ensures range { IfSome result (λ found. IsInRange found.0) }
 {

@@ -1,4 +1,4 @@
-ghost use Rattle.std.specs.Prelude.{◌≡◌, ◌≢◌, ◌≤◌, ◌+◌, [], ◌∷◌, ◌++◌, drop, length, slice_get, false, true, All, Err, IfNone, IfOk, IfSome, MatchResult, OnOk, is_ok};
+ghost use Rattle.std.specs.Prelude.{◌≡◌, ◌≢◌, ◌≤◌, ◌+◌, [], ◌∷◌, ◌++◌, drop, length, slice_get, false, true, All, Err, IfErr, IfNone, IfOk, IfSome, MatchResult, OnOk, is_ok};
 ghost use Rattle.line_text.specs.Lines.{IsLine, ended};
 ghost use Rattle.trace_reader.specs.declared.fault.TraceError.TheVariants.{OutOfMemory};
 ghost use Rattle.trace_event.specs.Ranges.{IsInRange};
@@ -14,7 +14,8 @@ use crate::events::Events;
 use crate::fault::{TraceError, TraceFault};
 use crate::kept_event::KeptEvent;
 use crate::line::{LONGEST_LINE, MOST_EVENTS, event_in};
-use crate::one_pass::{AT_ONCE, first_event};
+use crate::observer::{Observer, Unobserved};
+use crate::one_pass::{AtOnce, first_event};
 use crate::status::Status;
 use arrayvec::ArrayVec;
 use line_text::first_line;
@@ -78,13 +79,30 @@ impl TraceReader {
         ensures prefix { IsPrefix self.new.events (fed self.old piece.now).events }
         ensures unfinished { is_finished self.new ≡ false }
     {
+        self.feed_observed(piece, &mut Unobserved)
+    }
+
+    /// `feed`, with an observer that sees the events, each before it is kept. If it saw those that waited before, it has then seen those that
+    /// wait, unless memory ran out.
+    pub fn feed_observed<O: Observer>(
+        &mut self,
+        piece: &[u8],
+        observer: &mut O,
+    ) -> Result<(), TraceError>
+        requires { is_finished self.old ≡ false }
+        ensures reached { HasReached self.old (fed self.old piece.now) self.new result }
+        ensures failed { (error : TraceError) → self.old.state ≡ Failed error → self.new ≡ self.old }
+        ensures unfinished { is_finished self.new ≡ false }
+        ensures seen { result ≢ Err OutOfMemory →
+            O.has_seen observer.old self.old.events → O.has_seen observer.new self.new.events }
+    {
         if let Status::Failed(error) = self.status {
             return Err(error);
         }
         let mut text = piece;
         while let Some((line, after)) = first_line(text) {
-            self.end_line(line)?;
-            text = self.take_events(after)?;
+            self.end_line(line, observer)?;
+            text = self.take_events(after, observer)?;
         }
         self.keep(text)
     }
@@ -101,11 +119,23 @@ impl TraceReader {
         ensures finished { is_finished self.new ≡ is_ok result }
         ensures few { OnOk result (length self.new.events ≤ MOST_EVENTS) }
     {
+        self.finish_observed(&mut Unobserved)
+    }
+
+    /// `finish`, with an observer, as in `feed_observed`.
+    pub fn finish_observed<O: Observer>(&mut self, observer: &mut O) -> Result<(), TraceError>
+        requires { is_finished self.old ≡ false }
+        ensures reached { HasReached self.old (finished self.old) self.new result }
+        ensures failed { (error : TraceError) → self.old.state ≡ Failed error → self.new ≡ self.old }
+        ensures finished { is_finished self.new ≡ is_ok result }
+        ensures few { OnOk result (length self.new.events ≤ MOST_EVENTS) }
+        ensures seen { O.has_seen observer.old self.old.events → O.has_seen observer.new self.new.events }
+    {
         if let Status::Failed(error) = self.status {
             return Err(error);
         }
         if !self.rest.is_empty() {
-            self.judge_rest()?;
+            self.judge_rest(observer)?;
         }
         self.status = Status::Finished;
         Ok(())
@@ -160,7 +190,7 @@ impl TraceReader {
         if self.lines == MOST_EVENTS {
             return None;
         }
-        let (event, after) = first_event::<AT_ONCE>(text)?;
+        let (event, after) = first_event::<AtOnce>(text)?;
         self.lines += 1;
         Some((event, after))
     }
@@ -174,12 +204,19 @@ impl TraceReader {
     }
 
     // Takes the events of the lines in front of a text, up to the first line that is not read in one pass, and returns the text from there.
-    fn take_events<'a>(&mut self, text: &'a [u8]) -> Result<&'a [u8], TraceError>
+    fn take_events<'a, O: Observer>(
+        &mut self,
+        text: &'a [u8],
+        observer: &mut O,
+    ) -> Result<&'a [u8], TraceError>
         requires { is_open self.old ≡ true }
         ensures way { MatchResult result
             (λ rest. IsOnTheWay self.old text.now self.new rest.now)
             (λ error. HasReached self.old (fed self.old text.now) self.new (Err error)) }
         ensures shorter { IfOk result (λ rest. length rest.now ≤ length text.now) }
+        ensures memory { IfErr result (λ error. error ≡ OutOfMemory) }
+        ensures seen { OnOk result
+            (O.has_seen observer.old self.old.events → O.has_seen observer.new self.new.events) }
     {
         if !self.rest.is_empty() {
             return Ok(text);
@@ -187,7 +224,7 @@ impl TraceReader {
         let mut batch = [KeptEvent::Free { v: 0 }; BATCH];
         let mut rest = text;
         loop {
-            let (count, after) = self.take_batch(&mut batch, rest)?;
+            let (count, after) = self.take_batch(&mut batch, rest, observer)?;
             if count == 0 {
                 return Ok(after);
             }
@@ -198,10 +235,11 @@ impl TraceReader {
     // Takes the events of the lines in front of a text, as many as a batch has room for and up to the first line that is not read in one
     // pass. Returns how many they are, and the text after them.
     #[inline(always)]
-    fn take_batch<'a>(
+    fn take_batch<'a, O: Observer>(
         &mut self,
         batch: &mut [KeptEvent; BATCH],
         text: &'a [u8],
+        observer: &mut O,
     ) -> Result<(usize, &'a [u8]), TraceError>
         requires { is_at_start self.old ≡ true }
         ensures way { MatchResult result
@@ -209,9 +247,12 @@ impl TraceReader {
             (λ error. HasReached self.old (fed self.old text.now) self.new (Err error)) }
         ensures start { IfOk result (λ _. is_at_start self.new ≡ true) }
         ensures shorter { IfOk result (λ taken. taken.0 + length taken.1.now ≤ length text.now) }
+        ensures memory { IfErr result (λ error. error ≡ OutOfMemory) }
+        ensures seen { OnOk result
+            (O.has_seen observer.old self.old.events → O.has_seen observer.new self.new.events) }
     {
         let room = (MOST_EVENTS - self.lines) as usize;
-        let (count, after) = events_in_front(batch, room.min(BATCH), text);
+        let (count, after) = events_in_front(batch, observer, room.min(BATCH), text);
         if self.events.extend(&batch[..count]).is_err() {
             self.status = Status::Failed(TraceError::OutOfMemory);
             return Err(TraceError::OutOfMemory);
@@ -221,39 +262,47 @@ impl TraceReader {
     }
 
     // ends the unfinished line with these bytes and a newline
-    fn end_line(&mut self, end: &[u8]) -> Result<(), TraceError>
+    fn end_line<O: Observer>(&mut self, end: &[u8], observer: &mut O) -> Result<(), TraceError>
         requires open { is_open self.old ≡ true }
         requires line { IsLine end.now }
-        ensures { HasReached self.old (line_ended self.old end.now) self.new result }
+        ensures reached { HasReached self.old (line_ended self.old end.now) self.new result }
+        ensures seen { O.has_seen observer.old self.old.events → O.has_seen observer.new self.new.events }
     {
         if self.rest.is_empty() {
             let judged = event_in(self.lines + 1, end);
-            return self.add(judged);
+            return self.add(judged, observer);
         }
         self.keep(end)?;
-        self.judge_rest()
+        self.judge_rest(observer)
     }
 
     // judges the unfinished line as a whole line
-    fn judge_rest(&mut self) -> Result<(), TraceError>
+    fn judge_rest<O: Observer>(&mut self, observer: &mut O) -> Result<(), TraceError>
         requires { is_open self.old ≡ true }
-        ensures { HasReached self.old (line_ended self.old []) self.new result }
+        ensures reached { HasReached self.old (line_ended self.old []) self.new result }
+        ensures seen { O.has_seen observer.old self.old.events → O.has_seen observer.new self.new.events }
     {
         let judged = event_in(self.lines + 1, self.rest.as_slice());
-        self.add(judged)
+        self.add(judged, observer)
     }
 
     // keeps the event of the line that was judged, or stops at its fault
-    fn add(&mut self, judged: Result<Event, TraceFault>) -> Result<(), TraceError>
+    fn add<O: Observer>(
+        &mut self,
+        judged: Result<Event, TraceFault>,
+        observer: &mut O,
+    ) -> Result<(), TraceError>
         requires open { is_open self.old ≡ true }
         requires judged { IsJudgementIn self.old.state judged }
-        ensures { HasReached self.old (with_judged self.old judged) self.new result }
+        ensures reached { HasReached self.old (with_judged self.old judged) self.new result }
+        ensures seen { O.has_seen observer.old self.old.events → O.has_seen observer.new self.new.events }
     {
         match judged {
             Ok(event) => {
                 if self.events.push(event).is_err() {
                     return self.fail(TraceError::OutOfMemory);
                 }
+                observer.see(&event);
                 self.lines += 1;
                 self.rest.clear();
                 Ok(())
@@ -268,6 +317,7 @@ impl TraceReader {
         requires line { IsLine bytes.now }
         ensures answer { result ≡ answer_of self.new.state }
         ensures reading { self.new ≡ fed self.old bytes.now }
+        ensures events { self.new.events ≡ self.old.events }
     {
         let number = self.lines + 1;
         if self.rest.try_extend_from_slice(bytes).is_err() {

@@ -1,4 +1,4 @@
-use Rattle.std.proofs.Common.{◌+◌, ◌∙◌, ◌++◌, ◌∷◌, [], List, All, ap, map, refl, take, sym, subst, arith, rules}
+use Rattle.std.proofs.Common.{append_assoc, ◌+◌, ◌∙◌, ◌++◌, ◌∷◌, [], List, All, ap, map, refl, take, sym, subst, arith, rules}
 use Rattle.std.proofs.lemmas.Grind.{take-set_at}
 use Rattle.std.proofs.lemmas.List.{map-append}
 use Rattle.std.proofs.lemmas.List.Elements.{All-push}
@@ -10,7 +10,7 @@ use Rattle.trace_reader.proofs.SpelledEvents.{one_line_more}
 use Rattle.trace_reader.proofs.batch.events_in_front.Goals as goal
 
 pub lines-preserved : goal.lines-preserved
-lines-preserved c =
+lines-preserved g c =
     let inv = c.lines.invariant in
     let batch = c.lines.batch in
     let count = c.lines.count in
@@ -25,4 +25,6 @@ lines-preserved c =
       range = subst (All IsInRange) (sym taken) (All-push IsInRange before event inv.range c.in-Some.ensures.range);
       few = omega arith;
       room = search rules;
+      seen = λ events saw. subst (g.O.Observer.has_seen c.see.new.self) (append_assoc events before (event ∷ []) ∙ ap (λ (es : List Event). events ++ es) (sym taken))
+          (c.see.ensures (events ++ before) (inv.seen events saw));
     }

@@ -1,17 +1,20 @@
-use Rattle.std.proofs.Common.{◌≡◌, ◌≤◌, ◌-◌, ◌++◌, All, length, take}
+use Rattle.std.proofs.Common.{◌≡◌, ◌≤◌, ◌-◌, ◌++◌, All, List, length, take}
 use Rattle.std.specs.Prelude.{map}
 use Rattle.trace_event.specs.Ranges.{IsInRange}
+use Rattle.trace_event.specs.declared.event.Event.{Event}
 use Rattle.trace_reader.specs.Kept.{event_of}
 use Rattle.trace_reader.specs.TraceLine.{event_lines}
 use Rattle.trace_reader.proofs.batch.events_in_front.Given as goal
 
 abbrev pub invariant-lines : goal.invariant-lines
-invariant-lines l = record {
+invariant-lines g l = record {
   lines : l.text ≡ event_lines (map event_of (take l.count l.batch)) ++ l.rest;
   range : All IsInRange (map event_of (take l.count l.batch));
   few : l.count ≤ l.most;
   room : length l.batch ≡ length l.fn.batch;
+  seen : (events : List Event) → g.O.Observer.has_seen l.fn.observer events
+      → g.O.Observer.has_seen l.observer (events ++ map event_of (take l.count l.batch));
 }
 
 abbrev pub decreases-lines : goal.decreases-lines
-decreases-lines l = l.most - l.count
+decreases-lines g l = l.most - l.count

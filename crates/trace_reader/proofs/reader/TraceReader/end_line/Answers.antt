@@ -7,8 +7,8 @@ use Rattle.trace_reader.proofs.Ending.{IsPrefix-ended, is_open-kept, line_ended-
 use Rattle.trace_reader.proofs.Reaching.{IsPrefix-fed, came}
 use Rattle.trace_reader.proofs.reader.TraceReader.end_line.Goals as goal
 
-pub returns-in_err-keep : goal.returns-in_err-keep
-returns-in_err-keep c =
+pub returns-in_err-keep-clause-reached : goal.returns-in_err-keep-clause-reached
+returns-in_err-keep-clause-reached g c =
     let old = c.args.self.now in
     let end = c.args.end.now in
     let error = c.in_err-keep.field-0.0 in
@@ -20,12 +20,12 @@ returns-in_err-keep c =
     (answer ∙ ap (λ (r : Reading). answer_of r.state) long) (IsPrefix-ended old end))
 
 pub judge_rest-requires : goal.judge_rest-requires
-judge_rest-requires c =
+judge_rest-requires g c =
     let answer = c.in_ok-keep.ensures.answer ∙ ap (λ (r : Reading). answer_of r.state) c.in_ok-keep.ensures.reading in
     rw c.in_ok-keep.ensures.reading (is_open-kept c.args.self.now c.args.end.now c.requires.open c.requires.line answer)
 
-pub returns : goal.returns
-returns c =
+pub returns-clause-reached : goal.returns-clause-reached
+returns-clause-reached g c =
     let old = c.args.self.now in
     let end = c.args.end.now in
     let mid = c.keep.new.self in
@@ -35,4 +35,4 @@ returns c =
     let front =
     prefix_of_prefix old.events (fed old end).events mid.events (IsPrefix-fed old end)
     (equal_is_prefix _ _ (sym (ap (λ (r : Reading). r.events) kept))) in
-    reached_from old mid (line_ended mid []) (line_ended old end) c.judge_rest.new.self c.judge_rest.result same front c.judge_rest.ensures
+    reached_from old mid (line_ended mid []) (line_ended old end) c.judge_rest.new.self c.judge_rest.result same front c.judge_rest.ensures.reached

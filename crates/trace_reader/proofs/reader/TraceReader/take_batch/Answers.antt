@@ -12,7 +12,7 @@ use Rattle.trace_reader.proofs.SpelledEvents.{batch_taken, lines_are_long}
 use Rattle.trace_reader.proofs.reader.TraceReader.take_batch.Goals as goal
 
 pub returns-then-is_err-clause-way : goal.returns-then-is_err-clause-way
-returns-then-is_err-clause-way c =
+returns-then-is_err-clause-way g c =
     let old = c.args.self.now in
     let kept = not_pushed c.extend.result _ (sym c.is_err.ensures.value ∙ c.if-is_err.true) c.extend.ensures.err in
     ran_out old (fed old c.args.text.now) _ (Err OutOfMemory)
@@ -20,7 +20,7 @@ returns-then-is_err-clause-way c =
     (kept ∙ ap (λ (r : Reading). r.events) c.self.view_is)) refl (IsPrefix-fed old c.args.text.now)
 
 pub returns-clause-way : goal.returns-clause-way
-returns-clause-way c =
+returns-clause-way g c =
     let i = c.self.inside in
     let count = c.events_in_front-count.result.0 in
     let kept = take count c.events_in_front-count.new.batch in
@@ -37,7 +37,7 @@ returns-clause-way c =
     c.events_in_front-count.ensures.range c.events_in_front-count.ensures.lines).0
 
 pub returns-clause-shorter : goal.returns-clause-shorter
-returns-clause-shorter c =
+returns-clause-shorter g c =
     let count = c.events_in_front-count.result.0 in
     let batch = c.events_in_front-count.new.batch in
     omega (
@@ -48,7 +48,7 @@ returns-clause-shorter c =
     )
 
 pub invariant_of-self-2 : goal.invariant_of-self-2
-invariant_of-self-2 c = grind (arith, common_steps)
+invariant_of-self-2 g c = grind (arith, common_steps)
 
 pub invariant_of-self : goal.invariant_of-self
-invariant_of-self c = grind (arith, common_steps)
+invariant_of-self g c = grind (arith, common_steps)

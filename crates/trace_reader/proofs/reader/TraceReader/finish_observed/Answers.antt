@@ -1,25 +1,25 @@
-use Rattle.std.proofs.Common.{◌≡◌, ◌≤◌, ◌∙◌, Ok, sym, ap, true, eqb-true, length, rules, arith}
+use Rattle.std.proofs.Common.{◌≡◌, ◌≤◌, ◌∙◌, Err, Ok, sym, ap, true, eqb-true, length, rules, arith}
 use Rattle.std.proofs.lemmas.Result.{err_from_is_err_and}
 use Rattle.trace_reader.specs.Reached.{HasReached}
 use Rattle.trace_reader.specs.Reading.{Reading, finished, is_open}
 use Rattle.trace_reader.specs.Reading.State.{Finished}
 use Rattle.trace_reader.specs.TraceLine.{most_events}
 use Rattle.trace_reader.proofs.Ending.{finish_empty, finish_failed, finish_line, finished-failed, finished_after, not_empty, state_failed, unchanged_if_failed}
-use Rattle.trace_reader.proofs.Reaching.{IsPrefix-finished}
-use Rattle.trace_reader.proofs.reader.TraceReader.finish.Goals as goal
-use Rattle.trace_reader.proofs.reader.TraceReader.finish.Goals.{then-not-is_empty+in_ok-judge_rest, else-not-is_empty}
+use Rattle.trace_reader.proofs.Reaching.{IsPrefix-finished, came}
+use Rattle.trace_reader.proofs.reader.TraceReader.finish_observed.Goals as goal
+use Rattle.trace_reader.proofs.reader.TraceReader.finish_observed.Goals.{then-not-is_empty+in_ok-judge_rest, else-not-is_empty}
 
-pub returns-in-Failed-clause-reading : goal.returns-in-Failed-clause-reading
-returns-in-Failed-clause-reading c =
+pub returns-in-Failed-clause-reached : goal.returns-in-Failed-clause-reached
+returns-in-Failed-clause-reached g c =
     let i = c.self.inside in
-    λ other. sym (finished-failed c.args.self.now c.in-Failed.error
-    (state_failed c.args.self.now i.events i.lines i.rest.items i.status c.in-Failed.error c.self.view_is c.in-Failed.is))
-
-pub returns-in-Failed-clause-prefix : goal.returns-in-Failed-clause-prefix
-returns-in-Failed-clause-prefix c = IsPrefix-finished c.args.self.now
+    let old = c.args.self.now in
+    let now =
+    sym (finished-failed old c.in-Failed.error
+    (state_failed old i.events i.lines i.rest.items i.status c.in-Failed.error c.self.view_is c.in-Failed.is)) in
+    came old (finished old) old (Err c.in-Failed.error) now (search rules) (IsPrefix-finished old)
 
 pub returns-in_err-judge_rest : goal.returns-in_err-judge_rest
-returns-in_err-judge_rest c =
+returns-in_err-judge_rest g c =
     let old = c.args.self.now in
     let i = c.self.inside in
     let open_now : is_open old ≡ true = search rules in
@@ -27,13 +27,13 @@ returns-in_err-judge_rest c =
     let p = err_from_is_err_and c.from_residual.result c.from_residual.ensures.1 in
     let r =
     finish_failed old c.judge_rest.new.self i.events i.lines i.rest.items i.status c.in_err-judge_rest.field-0.0 c.self.view_is
-    open_now some c.in_err-judge_rest.ensures in
+    open_now some c.in_err-judge_rest.ensures.reached in
     let failed = unchanged_if_failed old c.judge_rest.new.self open_now in
     let finished_now = finished_after old c.judge_rest.new.self c.in_err-judge_rest.field-0.0 r in
     rw (p.1, p.2) (search (r, failed, finished_now))
 
 pub returns : goal.returns
-returns c =
+returns g c =
     let old = c.args.self.now in
     let i = c.self.inside in
     let open_now : is_open old ≡ true = search rules in
@@ -42,11 +42,16 @@ returns c =
     elim c.if-not-is_empty.branch [
       | then-not-is_empty+in_ok-judge_rest w ↦ finish_line old w.judge_rest.new.self i.events i.lines i.rest.items i.status
           c.self-2.inside.events c.self.view_is open_now (not_empty i.rest.items c.is_empty.result c.is_empty.ensures (search rules))
-          w.in_ok-judge_rest.ensures (ap (λ (r : Reading). r.events) (c.self-2.view_is ∙ w.self-is))
+          w.in_ok-judge_rest.ensures.reached (ap (λ (r : Reading). r.events) (c.self-2.view_is ∙ w.self-is))
       | else-not-is_empty w ↦ finish_empty old i.events i.lines i.rest.items i.status c.self-2.inside.events c.self.view_is
           open_now (eqb-true (length i.rest.items) 0 (sym c.is_empty.ensures ∙ search rules))
           (ap (λ (r : Reading). r.events) (c.self-2.view_is ∙ w.self-is))
     ] in
     let failed = unchanged_if_failed old new open_now in
     let few : length new.events ≤ most_events = omega arith in
-    search (r, failed, few)
+    let seen : g.O.Observer.has_seen c.args.observer.now old.events → g.O.Observer.has_seen c.if-not-is_empty.observer new.events =
+    elim c.if-not-is_empty.branch [
+      | then-not-is_empty+in_ok-judge_rest w ↦ λ saw. search (saw, w.in_ok-judge_rest.ensures.seen, w.self-is, w.observer-is, rules)
+      | else-not-is_empty w ↦ λ saw. search (saw, w.self-is, w.observer-is, rules)
+    ] in
+    search (r, failed, few, seen)
