@@ -1,7 +1,7 @@
 //! The program: its words, its standard input and output, and how it ends.
 ghost use Rattle.std.specs.Prelude.{◌≡◌};
-ghost use Rattle.command_line.specs.Exit.{IsRefusedEnd};
-ghost use Rattle.command_line.specs.declared.end.End.TheVariants.{Ended};
+ghost use Rattle.mte_tool.specs.Exit.{IsRefusedEnd};
+ghost use Rattle.mte_tool.specs.declared.end.End.TheVariants.{Ended};
 
 use crate::end::End;
 use crate::running::{CallEnd, run_call_of};

@@ -1,7 +1,7 @@
 //! How the program ends.
 ghost use Rattle.std.specs.Prelude.{◌≡◌};
 ghost use Rattle.std.specs.Process.{exit_status};
-ghost use Rattle.command_line.specs.Exit.{status_of};
+ghost use Rattle.mte_tool.specs.Exit.{status_of};
 
 use mte_engine::{Status, ToolFault};
 use std::process::{ExitCode, Termination};

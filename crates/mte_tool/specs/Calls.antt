@@ -16,8 +16,8 @@ use Rattle.mte_engine.specs.declared.fault.ToolFault.{ToolFault}
 use Rattle.command_words.specs.declared.call.Call.{Call}
 use Rattle.command_words.specs.declared.call.Call.TheVariants.{Score, Tune, Check, Footprint, Fit, CheckFit, Profile, Replay, Run}
 use Rattle.command_words.specs.declared.refusal.Refusal.{Refusal}
-use Rattle.command_line.specs.declared.running.CallEnd.{CallEnd}
-use Rattle.command_line.specs.declared.running.CallEnd.TheVariants.{Done, Failed, Refused}
+use Rattle.mte_tool.specs.declared.running.CallEnd.{CallEnd}
+use Rattle.mte_tool.specs.declared.running.CallEnd.TheVariants.{Done, Failed, Refused}
 use Rattle.heap_theory.specs.Config.{IsConfig}
 
 -- What each command's engine wants of its options.

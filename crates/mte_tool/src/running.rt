@@ -2,7 +2,7 @@
 ghost use Rattle.std.specs.Prelude.{◌≡◌, map, string_bytes};
 ghost use Rattle.command_words.specs.Words.{AreRefused, Mean};
 ghost use Rattle.mte_engine.specs.Outcome.{IsReady, Runs};
-ghost use Rattle.command_line.specs.Calls.{IsValid, MatchEnd, answers_of};
+ghost use Rattle.mte_tool.specs.Calls.{IsValid, MatchEnd, answers_of};
 
 use command_words::{Call, Fit, Refusal, Replay, Run, Tune, read_call};
 use mte_engine::{ByteSink, ByteSource, Status, ToolFault};

@@ -4,7 +4,7 @@ use Rattle.clap.specs.Words.{Row, Text}
 use Rattle.command_words.specs.Calls.{HasConfig, IsCall}
 use Rattle.command_words.specs.declared.call.Call.{Call}
 use Rattle.command_words.specs.declared.call.Call.TheVariants.{Score, Tune, Check, Footprint, Fit, CheckFit, Profile, Replay, Run}
-use Rattle.command_line.specs.Calls.{IsValid}
+use Rattle.mte_tool.specs.Calls.{IsValid}
 use Rattle.heap_theory.specs.Config.{IsConfig}
 use Rattle.heap_theory.specs.declared.config.Config.{Config}
 
