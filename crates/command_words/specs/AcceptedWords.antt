@@ -1,14 +1,17 @@
 -- The words that the program takes.
-use Rattle.std.specs.Prelude.{◌≡◌, ℕ, List, [], ◌∷◌, IfOk, Option, Result, Some, None, codes, pos, true, false}
+use Rattle.std.specs.Prelude.{◌≡◌, ℕ, List, [], ◌∷◌, Option, Some, None, codes, option_map, pos, true, false}
 use Rattle.clap.specs.Words.{App, Rule, new_app, new_rule, app_of, with_rule, with_subcommand, rule_of}
 use Rattle.clap.specs.Simple.{on_top}
 use Rattle.clap.specs.declared.builder.arg.Arg.{Arg}
 use Rattle.clap.specs.declared.builder.command.Command.{Command}
 use Rattle.clap.specs.declared.builder.command.Command.TheViews.{out-Command as fields_of}
 use Rattle.clap.specs.declared.builder.value_parser.ValueParser.TheVariants.{Signed}
+use Rattle.command_words.specs.declared.commands.CommandName.{CommandName}
+use Rattle.command_words.specs.declared.commands.CommandName.TheVariants.{Score, Tune, Check, Footprint, Fit, CheckFit, Profile, Replay, Run}
 use Rattle.command_words.specs.declared.commands.shared_help.Options.{Options}
 use Rattle.command_words.specs.declared.commands.shared_help.Options.TheVariants.{Nothing, Limits, Config, LimitsAndConfig}
 use Rattle.command_words.specs.declared.commands.shared_help.Words.{Words}
+use Rattle.command_words.specs.declared.options.NumberOption.{NumberOption}
 use Rattle.command_words.specs.Bounds.{granules_bounds, limit_bounds, quarantine_bounds, seed_bounds, step_bounds}
 use Rattle.command_words.specs.Spellings.{
   check_fit_name,
@@ -100,6 +103,17 @@ replay_words = with_config (new_app replay_name)
 abbrev pub run_words : App
 run_words = with_config (with_limits (new_app run_name))
 
+abbrev pub words_named : CommandName → App
+words_named Score = score_words
+words_named Tune = tune_words
+words_named Check = check_words
+words_named Footprint = footprint_words
+words_named Fit = fit_words
+words_named CheckFit = check_fit_words
+words_named Profile = profile_words
+words_named Replay = replay_words
+words_named Run = run_words
+
 -- The program: one of its commands has to be named.
 abbrev pub top : App
 top = on_top (λ s. record s { has_version = true; subcommand_required = true; arg_required_else_help = true }) (new_app (codes "mte_tool"))
@@ -128,10 +142,12 @@ IsOption option rule = (rule_of option ≡ rule) × (option.global ≡ false)
 abbrev pub HasWords : Command → App → Type 0
 HasWords command words = (app_of command ≡ words) × ((fields_of command).has_globals ≡ false)
 
--- The second is the first, a command without subcommands, with words added.
-abbrev pub Adds : {E : Type 0} → (App → App) → Command → Result Command E → Type 0
-Adds add old new = (a : App) → HasWords old a → IfOk new (λ c. HasWords c (add a))
+-- The words `a` with an option as its description says, and with the command of this name.
+abbrev pub rule_for : NumberOption → Rule
+rule_for option = option_rule option.name.now (option.least, option.most) (option_map (λ t. t.now) option.default)
 
--- The second is the first, the program so far, with commands added.
-abbrev pub AddsCommands : {E : Type 0} → (App → App) → Command → Result Command E → Type 0
-AddsCommands add old new = (a : App) → app_of old ≡ a → IfOk new (λ c. app_of c ≡ add a)
+abbrev pub with_option : App → NumberOption → App
+with_option a option = with_rule a (rule_for option)
+
+abbrev pub with_named : App → CommandName → App
+with_named a name = with_command a (words_named name)

@@ -1,18 +1,18 @@
 //! The options that commands share.
-ghost use Rattle.std.specs.Prelude.{ℕ, ◌<◌, ◌^◌, MatchOption, MatchResult, option_map};
+ghost use Rattle.std.specs.Prelude.{ℕ, ◌<◌, ◌^◌, MatchOption, MatchResult};
 ghost use Rattle.clap.specs.Words.{found_of, rows_of, with_rule};
 ghost use Rattle.command_words.specs.Calls.{HasConfig, HasLimit, HasNumber, HasNumberIn, HasSeed, HasStep, IsRead};
-ghost use Rattle.command_words.specs.AcceptedWords.{Adds, IsOption, number_rule, option_rule, with_config, with_limits};
+ghost use Rattle.command_words.specs.AcceptedWords.{IsOption, number_rule, rule_for};
 
 use crate::refusal::OptionFault;
-use clap::{Arg, ArgMatches, Command, value_parser};
+use clap::{Arg, ArgMatches, value_parser};
 use class_table::{FEWEST_GRANULES, MOST_CLASSES, MOST_GRANULES, is_step};
 use heap_theory::Config;
-use std::alloc::{AllocError, Global};
+use std::alloc::Global;
 
-// An option whose value is a number within bounds. In the code, its name, its bounds and its help stand here alone.
+/// An option whose value is a number within bounds. In the code, its name, its bounds and its help stand here alone.
 #[derive(Clone, Copy)]
-struct NumberOption {
+pub struct NumberOption {
     name: &'static str,
     value_name: &'static str,
     least: u32,
@@ -67,12 +67,20 @@ const QUARANTINE: NumberOption = NumberOption {
     help: "Bytes of freed blocks held back from reuse, 0 to 4194304",
 };
 
+/// `--limit` and `--step`.
+pub const LIMITS: &[NumberOption] = &[LIMIT, STEP];
+
+/// The options of the heap's configuration: `--granules`, `--seed` and `--quarantine`.
+pub const CONFIG: &[NumberOption] = &[GRANULES, SEED, QUARANTINE];
+
+/// All of these.
+pub const LIMITS_AND_CONFIG: &[NumberOption] = &[LIMIT, STEP, GRANULES, SEED, QUARANTINE];
+
 impl NumberOption {
-    // the option for clap
+    /// The option for clap.
     #[inline(always)]
-    fn arg<'a>(self, alloc: Global) -> Arg<'a>
-        ensures { IsOption result
-            (option_rule self.name.now (self.least, self.most) (option_map (λ t. t.now) self.default)) }
+    pub fn arg<'a>(&self, alloc: Global) -> Arg<'a>
+        ensures { IsOption result (rule_for self.now) }
     {
         match self.default {
             Some(text) => self.number_arg(alloc).default_value(text),
@@ -82,8 +90,8 @@ impl NumberOption {
 
     // an option for clap, which refuses numbers outside the bounds
     #[inline(always)]
-    fn number_arg<'a>(self, alloc: Global) -> Arg<'a>
-        ensures { IsOption result (number_rule self.name.now (self.least, self.most)) }
+    fn number_arg<'a>(&self, alloc: Global) -> Arg<'a>
+        ensures { IsOption result (number_rule self.now.name.now (self.now.least, self.now.most)) }
     {
         Arg::new(alloc, self.name)
             .long(self.name)
@@ -106,40 +114,6 @@ impl NumberOption {
             Err(OptionFault::BadOption)
         }
     }
-}
-
-/// Adds `--limit` and `--step` to a command.
-#[inline(always)]
-pub fn with_limits<'a>(alloc: Global, command: Command<'a>) -> Result<Command<'a>, AllocError>
-    ensures { Adds with_limits command.entry result }
-{
-    let command = with_option(alloc, command, LIMIT)?;
-    with_option(alloc, command, STEP)
-}
-
-/// Adds the options of the heap's configuration to a command: `--granules`, `--seed` and `--quarantine`.
-#[inline(always)]
-pub fn with_config<'a>(alloc: Global, command: Command<'a>) -> Result<Command<'a>, AllocError>
-    ensures { Adds with_config command.entry result }
-{
-    let command = with_option(alloc, command, GRANULES)?;
-    let command = with_option(alloc, command, SEED)?;
-    with_option(alloc, command, QUARANTINE)
-}
-
-// adds an option to a command
-#[inline(always)]
-fn with_option<'a>(
-    alloc: Global,
-    command: Command<'a>,
-    option: NumberOption,
-) -> Result<Command<'a>, AllocError>
-    ensures { Adds
-        (λ a. with_rule a
-        (option_rule option.name.now (option.least, option.most) (option_map (λ t. t.now) option.default)))
-        command.entry result }
-{
-    command.arg(option.arg(alloc))
 }
 
 /// The most classes that the options allow. `BadOption` if they name no number from 1 to 32.

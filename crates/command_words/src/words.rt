@@ -1,12 +1,11 @@
 //! The words of the command line, and the call that they mean.
 ghost use Rattle.std.specs.Prelude.{◌≡◌, IfOk, MatchResult, map, string_bytes};
 ghost use Rattle.clap.specs.Words.{app_of};
-ghost use Rattle.command_words.specs.AcceptedWords.{AddsCommands, described, program, top, with_command, with_history_commands, with_table_commands, with_trace_commands};
+ghost use Rattle.command_words.specs.AcceptedWords.{program, top};
 ghost use Rattle.command_words.specs.Words.{AreRefused, Mean};
 
 use crate::call::{Call, call_of};
-use crate::commands::shared_help::Words;
-use crate::commands::{check, check_fit, fit, footprint, profile, replay, run, score, tune};
+use crate::commands::COMMANDS;
 use crate::refusal::Refusal;
 use clap::Command;
 use std::alloc::{AllocError, Global};
@@ -34,9 +33,11 @@ docs/FORMATS.md in the repository has the formats and all codes.";
 pub fn command<'a>(alloc: Global) -> Result<Command<'a>, AllocError>
     ensures { IfOk result (λ command. app_of command ≡ program) }
 {
-    let command = with_table_commands(alloc, top_words(alloc))?;
-    let command = with_history_commands(alloc, command)?;
-    with_trace_commands(alloc, command)
+    let mut command = top_words(alloc);
+    for name in COMMANDS {
+        command = command.subcommand(name.words().command(alloc, name.after())?)?;
+    }
+    Ok(command)
 }
 
 // the words of the program itself: one of its commands has to be named
@@ -49,48 +50,6 @@ fn top_words<'a>(alloc: Global) -> Command<'a>
         .after_help(AFTER)
         .subcommand_required(true)
         .arg_required_else_help(true)
-}
-
-// adds the commands that read a profile
-fn with_table_commands<'a>(alloc: Global, command: Command<'a>) -> Result<Command<'a>, AllocError>
-    ensures { AddsCommands with_table_commands command.entry result }
-{
-    let command = with_command(alloc, command, score::WORDS)?;
-    let command = with_command(alloc, command, tune::WORDS)?;
-    with_command(alloc, command, check::WORDS)
-}
-
-// adds the commands that read a history
-fn with_history_commands<'a>(alloc: Global, command: Command<'a>) -> Result<Command<'a>, AllocError>
-    ensures { AddsCommands with_history_commands command.entry result }
-{
-    let command = with_command(alloc, command, footprint::WORDS)?;
-    let command = with_command(alloc, command, fit::WORDS)?;
-    with_command(alloc, command, check_fit::WORDS)
-}
-
-// adds the commands that read a trace
-fn with_trace_commands<'a>(alloc: Global, command: Command<'a>) -> Result<Command<'a>, AllocError>
-    ensures { AddsCommands with_trace_commands command.entry result }
-{
-    let command = with_command(alloc, command, profile::WORDS)?;
-    let command = with_command(alloc, command, replay::WORDS)?;
-    with_command(alloc, command, run::WORDS)
-}
-
-// adds a command
-#[inline(always)]
-fn with_command<'a>(
-    alloc: Global,
-    command: Command<'a>,
-    words: Words,
-) -> Result<Command<'a>, AllocError>
-    ensures { AddsCommands (λ a. with_command a (described words)) command.entry result }
-{
-    match words.command(alloc) {
-        Ok(words) => command.subcommand(words),
-        Err(error) => Err(error),
-    }
 }
 
 /// The call that these words mean. The first word is the program's name.

@@ -10,7 +10,8 @@ const ABOUT: About = about!(
     ", whoever wrote it."
 );
 
-const AFTER: &str = help_text!(
+/// The text after the options in its own help.
+pub const AFTER: &str = help_text!(
     "\
 Standard input is a sheet, and then a profile:
 
@@ -59,6 +60,5 @@ Refused input, exit status 2:
 pub const WORDS: Words = Words {
     name: NAME,
     about: ABOUT,
-    after: AFTER,
     options: Options::Nothing,
 };

@@ -17,7 +17,8 @@ const ABOUT: About = about!(
     "Find the class table that takes least over a history, with a certificate"
 );
 
-const AFTER: &str = help_text!(
+/// The text after the options in its own help.
+pub const AFTER: &str = help_text!(
     "\
 Standard input is a history:
 
@@ -54,7 +55,6 @@ of 4 granules takes 3 blocks of 64 bytes, two classes take 3 blocks of 32 and on
 pub const WORDS: Words = Words {
     name: NAME,
     about: ABOUT,
-    after: AFTER,
     options: Options::Limits,
 };
 

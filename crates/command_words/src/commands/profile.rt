@@ -7,7 +7,8 @@ pub const NAME: &str = "profile";
 
 const ABOUT: About = about!("Count how often a trace requests each size");
 
-const AFTER: &str = help_text!(
+/// The text after the options in its own help.
+pub const AFTER: &str = help_text!(
     "Standard input is a trace, a line for each event:",
     trace_lines,
     "The output is a profile, the input of `tune`:
@@ -28,6 +29,5 @@ Refused input, exit status 2:",
 pub const WORDS: Words = Words {
     name: NAME,
     about: ABOUT,
-    after: AFTER,
     options: Options::Nothing,
 };

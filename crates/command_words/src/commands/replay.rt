@@ -16,7 +16,8 @@ pub const NAME: &str = "replay";
 
 const ABOUT: About = about!("Run a trace on the heap with memory tags, with a given class table");
 
-const AFTER: &str = help_text!(
+/// The text after the options in its own help.
+pub const AFTER: &str = help_text!(
     "Standard input is a class line, and then a trace, a line for each event:
 
 ",
@@ -55,7 +56,6 @@ Refused input, exit status 2; line 1 is the class line, the trace begins in line
 pub const WORDS: Words = Words {
     name: NAME,
     about: ABOUT,
-    after: AFTER,
     options: Options::Config,
 };
 

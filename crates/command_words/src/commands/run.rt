@@ -21,7 +21,8 @@ Find the class table that wastes least on the sizes that a trace requests, and r
 heap with memory tags, with that table.",
 };
 
-const AFTER: &str = help_text!(
+/// The text after the options in its own help.
+pub const AFTER: &str = help_text!(
     "Standard input is a trace, a line for each event:",
     trace_lines,
     "The output is the sheet that `tune` writes for the trace's profile:
@@ -59,7 +60,6 @@ writes the lines `classes 2`, `limit 1`, `waste 0` and `row 0`, then
 pub const WORDS: Words = Words {
     name: NAME,
     about: ABOUT,
-    after: AFTER,
     options: Options::LimitsAndConfig,
 };
 

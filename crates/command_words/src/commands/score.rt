@@ -7,7 +7,8 @@ pub const NAME: &str = "score";
 
 const ABOUT: About = about!("Report how many bytes a class table wastes on a profile");
 
-const AFTER: &str = help_text!(
+/// The text after the options in its own help.
+pub const AFTER: &str = help_text!(
     "\
 Standard input is a class line, and then a profile:
 
@@ -38,6 +39,5 @@ Refused input, exit status 2:",
 pub const WORDS: Words = Words {
     name: NAME,
     about: ABOUT,
-    after: AFTER,
     options: Options::Nothing,
 };

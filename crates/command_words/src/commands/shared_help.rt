@@ -1,9 +1,9 @@
 //! What the words of the commands share: how clap gets them, and the parts of the help that several of them have.
-ghost use Rattle.std.specs.Prelude.{IfOk};
-ghost use Rattle.clap.specs.Words.{new_app};
-ghost use Rattle.command_words.specs.AcceptedWords.{HasWords, described};
+ghost use Rattle.std.specs.Prelude.{◌≡◌, IfOk, fold};
+ghost use Rattle.clap.specs.Words.{App, new_app};
+ghost use Rattle.command_words.specs.AcceptedWords.{HasWords, described, with_option, with_options};
 
-use crate::options::{with_config, with_limits};
+use crate::options::{CONFIG, LIMITS, LIMITS_AND_CONFIG, NumberOption};
 use clap::Command;
 use std::alloc::{AllocError, Global};
 
@@ -29,42 +29,52 @@ pub enum Options {
     LimitsAndConfig,
 }
 
-/// A command's name, its help and its options.
+impl Options {
+    // the options, in the order in which the help lists them
+    fn list(self) -> &'static [NumberOption]
+        ensures { (a : App) → fold with_option a result.now ≡ with_options self a }
+    {
+        match self {
+            Options::Nothing => &[],
+            Options::Limits => LIMITS,
+            Options::Config => CONFIG,
+            Options::LimitsAndConfig => LIMITS_AND_CONFIG,
+        }
+    }
+}
+
+/// A command's name, what it does, and its options.
 #[derive(Clone, Copy)]
 pub struct Words {
     /// The command's name.
     pub name: &'static str,
     /// What the command does.
     pub about: About,
-    /// The text after the options in the command's own help.
-    pub after: &'static str,
     /// Its options.
     pub options: Options,
 }
 
 impl Words {
-    /// The command for clap.
+    /// The command for clap, with the text after the options in the command's own help.
     #[inline(always)]
-    pub fn command<'a>(self, alloc: Global) -> Result<Command<'a>, AllocError>
-        ensures { IfOk result (λ command. HasWords command (described self)) }
+    pub fn command<'a>(&self, alloc: Global, after: &'static str) -> Result<Command<'a>, AllocError>
+        ensures { IfOk result (λ command. HasWords command (described self.now)) }
     {
-        let command = self.without_options(alloc);
-        match self.options {
-            Options::Nothing => Ok(command),
-            Options::Limits => with_limits(alloc, command),
-            Options::Config => with_config(alloc, command),
-            Options::LimitsAndConfig => with_config(alloc, with_limits(alloc, command)?),
+        let mut command = self.without_options(alloc, after);
+        for option in self.options.list() {
+            command = command.arg(option.arg(alloc))?;
         }
+        Ok(command)
     }
 
     #[inline(always)]
-    fn without_options<'a>(self, alloc: Global) -> Command<'a>
-        ensures { HasWords result (new_app self.name.now) }
+    fn without_options<'a>(&self, alloc: Global, after: &'static str) -> Command<'a>
+        ensures { HasWords result (new_app self.now.name.now) }
     {
         Command::new(alloc, self.name)
             .about(self.about.line)
             .long_about(self.about.sentence)
-            .after_help(self.after)
+            .after_help(after)
     }
 }
 

@@ -17,7 +17,8 @@ const ABOUT: About = about!(
     "Find the class table that wastes least on a profile, with a certificate"
 );
 
-const AFTER: &str = help_text!(
+/// The text after the options in its own help.
+pub const AFTER: &str = help_text!(
     "\
 Standard input is a profile:
 
@@ -54,7 +55,6 @@ waste 104 bytes, two waste 8.
 pub const WORDS: Words = Words {
     name: NAME,
     about: ABOUT,
-    after: AFTER,
     options: Options::Limits,
 };
 

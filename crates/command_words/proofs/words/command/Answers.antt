@@ -1,4 +1,9 @@
+use Rattle.std.proofs.Common.{◌∙◌}
+use Rattle.command_words.proofs.Tables.{command_more}
 use Rattle.command_words.proofs.words.command.Goals as goal
 
-pub returns : goal.returns
-returns c = c.with_trace_commands.ensures _ (c.in_ok-command-2.ensures _ (c.in_ok-command.ensures _ c.top_words.ensures))
+pub loop-name-preserved : goal.loop-name-preserved
+loop-name-preserved c =
+    let words = c.in_ok-command.ensures in
+    let added = c.in_ok-command-2.ensures in
+    added.shape words.1 ∙ command_more _ _ _ _ _ _ c.loop-name-test.true c.loop-name.invariant (words.0 ∙ c.words.ensures)

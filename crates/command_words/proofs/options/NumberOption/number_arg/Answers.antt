@@ -12,7 +12,7 @@ within_bounds least most low high = search rules
 
 pub returns : goal.returns
 returns c =
-    let self = c.args.self in
+    let self = c.args.self.now in
     let number = Signed (pos self.least) (pos self.most) in
     let narrow = rw (c.value_parser.ensures, c.new-2.ensures.start, c.new-2.ensures.end) at c.range.ensures in
     let range : c.range.result ≡ number = narrow ∙ within_bounds self.least self.most (omega arith) (omega arith) in

@@ -1,15 +1,12 @@
+use Rattle.std.proofs.Common.{◌∙◌, arith, refl}
+use Rattle.command_words.proofs.Tables.{option_more}
 use Rattle.command_words.proofs.commands.shared_help.Words.command.Goals as goal
 
-pub returns-in-Nothing : goal.returns-in-Nothing
-returns-in-Nothing c = rw c.in-Nothing.is c.without_options-command.ensures
-
-pub returns-in-Limits : goal.returns-in-Limits
-returns-in-Limits c = rw c.in-Limits.is (c.with_limits.ensures _ c.without_options-command.ensures)
-
-pub returns-in-Config : goal.returns-in-Config
-returns-in-Config c = rw c.in-Config.is (c.with_config.ensures _ c.without_options-command.ensures)
-
-pub returns-in_ok-with_limits-in-LimitsAndConfig : goal.returns-in_ok-with_limits-in-LimitsAndConfig
-returns-in_ok-with_limits-in-LimitsAndConfig c =
-    let limits = c.in_ok-with_limits-in-LimitsAndConfig.ensures _ c.without_options-command.ensures in
-    rw c.in-LimitsAndConfig.is (c.with_config-in-LimitsAndConfig.ensures _ limits)
+pub loop-option-preserved : goal.loop-option-preserved
+loop-option-preserved c =
+    let before = c.loop-option.invariant in
+    let option = c.arg.ensures in
+    let added = c.in_ok-command.ensures in (
+      added.shape option.1 ∙ option_more _ _ _ _ _ _ c.loop-option-test.true before.0 option.0,
+      added.globals ∙ rw (before.1, option.1) refl,
+    )

@@ -1,4 +1,0 @@
-use Rattle.command_words.proofs.options.with_limits.Goals as goal
-
-pub returns : goal.returns
-returns c = λ a has. c.with_option-2.ensures _ (c.in_ok-command.ensures a has)
