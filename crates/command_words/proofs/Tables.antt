@@ -1,7 +1,7 @@
 -- A loop over a table adds what the table's values describe.
 use Rattle.std.proofs.Common.{◌≡◌, ℕ, ◌+◌, ◌<◌, List, fold, get_or, length, take, ap, sym, ◌∙◌}
 use Rattle.std.proofs.lemmas.List.Sums.{fold_more}
-use Rattle.clap.specs.Words.{App, Rule, Shape, with_rule, with_subcommand}
+use Rattle.clap.specs.Words.{App, Rule, with_rule, with_subcommand}
 use Rattle.command_words.specs.AcceptedWords.{rule_for, with_named, with_option, words_named}
 use Rattle.command_words.specs.declared.commands.CommandName.{CommandName}
 use Rattle.command_words.specs.declared.options.NumberOption.{NumberOption}

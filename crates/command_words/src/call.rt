@@ -13,7 +13,7 @@ use crate::refusal::OptionFault;
 use clap::ArgMatches;
 
 /// A command with its options.
-#[derive(Debug, Clone, Copy)]
+#[derive(Clone, Copy)]
 pub enum Call {
     Score,
     Tune(Tune),

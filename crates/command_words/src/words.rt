@@ -35,7 +35,10 @@ pub fn command<'a>(alloc: Global) -> Result<Command<'a>, AllocError>
 {
     let mut command = top_words(alloc);
     for name in COMMANDS {
-        command = command.subcommand(name.words().command(alloc, name.after())?)?;
+        match name.words().command(alloc, name.after()) {
+            Ok(words) => command = command.subcommand(words)?,
+            Err(error) => return Err(error),
+        }
     }
     Ok(command)
 }

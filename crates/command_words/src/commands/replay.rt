@@ -60,7 +60,7 @@ pub const WORDS: Words = Words {
 };
 
 /// The command's options.
-#[derive(Debug, Clone, Copy)]
+#[derive(Clone, Copy)]
 pub struct Replay {
     /// The configuration of the heap.
     pub config: Config,

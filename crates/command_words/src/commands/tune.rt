@@ -59,7 +59,7 @@ pub const WORDS: Words = Words {
 };
 
 /// The command's options.
-#[derive(Debug, Clone, Copy)]
+#[derive(Clone, Copy)]
 pub struct Tune {
     /// The most classes of the table, 1 to 32.
     pub limit: u8,

@@ -4,6 +4,6 @@ use Rattle.command_words.proofs.words.command.Goals as goal
 
 pub loop-name-preserved : goal.loop-name-preserved
 loop-name-preserved c =
-    let words = c.in_ok-command.ensures in
-    let added = c.in_ok-command-2.ensures in
+    let words = c.in-Ok.ensures in
+    let added = c.in_ok-command-in-Ok.ensures in
     added.shape words.1 ∙ command_more _ _ _ _ _ _ c.loop-name-test.true c.loop-name.invariant (words.0 ∙ c.words.ensures)

@@ -1,4 +1,4 @@
-use Rattle.std.proofs.Common.{◌∙◌, arith, refl}
+use Rattle.std.proofs.Common.{◌∙◌, refl}
 use Rattle.command_words.proofs.Tables.{option_more}
 use Rattle.command_words.proofs.commands.shared_help.Words.command.Goals as goal
 
