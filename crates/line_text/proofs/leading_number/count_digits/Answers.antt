@@ -1,5 +1,5 @@
 use Rattle.std.proofs.Common.{◌+◌, sym, ◌∙◌, arith}
-use Rattle.line_text.proofs.Digits.{one_more, digits_more}
+use Rattle.line_text.proofs.Digits.{one_more, digits_more, room_for_one}
 use Rattle.line_text.proofs.LeadingDigits.{leading_up_to, reaches}
 use Rattle.line_text.proofs.leading_number.count_digits.Goals as goal
 
@@ -38,3 +38,9 @@ returns-then-not-is_ascii_digit c =
     let i = c.loop-byte.invariant in
     leading_up_to c.args.text.now c.loop-byte.byte-index _ _ (omega arith) i.end i.few i.digits i.value
     (λ within. sym c.is_ascii_digit.ensures.value ∙ c.if-not-is_ascii_digit.true)
+
+pub overflow_add-value : goal.overflow_add-value
+overflow_add-value c = grind (arith, room_for_one)
+
+pub overflow_mul-value : goal.overflow_mul-value
+overflow_mul-value c = grind (arith, room_for_one)

@@ -1,4 +1,5 @@
 use Rattle.std.proofs.Common.{◌≡◌, ◌-◌, ◌<◌, length, arith, inl, inr}
+use Rattle.std.proofs.lemmas.Grind.{common_steps}
 use Rattle.std.proofs.lemmas.Bool.{cases_lt}
 use Rattle.potential_check.proofs.TightEnds.{walked-all, walked-end, walked-more}
 use Rattle.potential_check.proofs.edge_walk.is_tight_row.Goals as goal
@@ -41,3 +42,9 @@ returns c = (
       (λ j some below. all.0.each 0 j (omega (arith, c.loop-place.invariant.walked.within)) some
       (omega (arith, c.loop-place.invariant.walked.within))),
 )
+
+pub loop-place-init : goal.loop-place-init
+loop-place-init c = grind (arith, common_steps)
+
+pub returns-then-is_empty : goal.returns-then-is_empty
+returns-then-is_empty c = grind (arith, common_steps)

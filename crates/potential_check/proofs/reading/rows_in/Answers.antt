@@ -1,4 +1,5 @@
 use Rattle.std.proofs.Common.{◌≡◌, ◌<◌, [], ◌∷◌, add-one, ◌++◌, refl, sym, ◌∙◌, length, arith, ap, length-append}
+use Rattle.std.proofs.lemmas.Grind.{common_steps}
 use Rattle.std.proofs.lemmas.List.{length-map, map-append}
 use Rattle.class_table.specs.declared.table.TheConstants.{MOST_CLASSES}
 use Rattle.tuner_theory.specs.Lists.{lists_of}
@@ -48,3 +49,6 @@ loop-words-preserved c =
 
 pub returns-clause-rows : goal.returns-clause-rows
 returns-clause-rows c = rw c.new.ensures (rows_from-end _ _ _ _ c.loop-words.invariant.rows c.in_default.ensures.none.1)
+
+pub loop-words-smaller : goal.loop-words-smaller
+loop-words-smaller c = grind (arith, common_steps)

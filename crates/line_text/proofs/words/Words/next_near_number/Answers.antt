@@ -1,4 +1,5 @@
 use Rattle.std.proofs.Common.{◌≡◌, ℕ, List, refl, ◌∙◌, take, sym, ap, arith, inl, inr, ne_eqb}
+use Rattle.std.proofs.lemmas.Grind.{common_steps}
 use Rattle.std.proofs.lemmas.List.{take-take, take_rest}
 use Rattle.std.specs.Option.{option_map}
 use Rattle.std.specs.Str.Parse.{digits_value}
@@ -66,3 +67,9 @@ returns-then-bytes-size-ne32-clause-number c =
       | then-bytes-size-ne32-via-else-bytes-size-ne32+else-size-eq0+then-size-gt1 w ↦
           near_no_number line size near (inr (rw c.in_ok-bytes.ensures.cases.0 at w.if-size-gt1.true))
     ]))
+
+pub slice_bounds-self-start : goal.slice_bounds-self-start
+slice_bounds-self-start c = grind (arith, common_steps)
+
+pub slice_bounds-self-count : goal.slice_bounds-self-count
+slice_bounds-self-count c = grind (arith, common_steps)
