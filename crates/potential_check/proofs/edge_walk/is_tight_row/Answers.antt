@@ -1,12 +1,12 @@
 use Rattle.std.proofs.Common.{◌≡◌, ◌-◌, ◌<◌, length, arith, inl, inr}
 use Rattle.std.proofs.lemmas.Grind.{common_steps}
-use Rattle.std.proofs.lemmas.Bool.{cases_lt}
+use Rattle.std.proofs.lemmas.Bool.{cases_lt, false≢true}
 use Rattle.potential_check.proofs.TightEnds.{walked-all, walked-end, walked-more}
 use Rattle.potential_check.proofs.edge_walk.is_tight_row.Goals as goal
 
 pub returns-in-None : goal.returns-in-None
 returns-in-None c = (
-  λ holds. absurd cc,
+  λ holds. absurd (false≢true holds),
   λ (hold, tight).
       let some : c.loop-place.place - 1 < length c.args.row.now = omega arith in
       let end = walked-end c.args.spans.now c.requires.step c.args.before.now c.args.row.now c.requires.row.full

@@ -1,12 +1,12 @@
 use Rattle.std.proofs.Common.{arith}
-use Rattle.std.proofs.lemmas.Bool.{both_ways}
+use Rattle.std.proofs.lemmas.Bool.{both_ways, false≢true}
 use Rattle.potential_check.specs.RowConditions.{EdgesHold}
 use Rattle.potential_check.proofs.RowConditions.{adjacent, adjacent-more}
 use Rattle.potential_check.proofs.sheet_on_spans.all_edges_hold.Goals as goal
 
 pub returns-then-not-edges_hold : goal.returns-then-not-edges_hold
 returns-then-not-edges_hold c = (
-  λ is. absurd cc,
+  λ is. absurd (false≢true is),
   λ all. absurd (both_ways c.edges_hold.result c.if-not-edges_hold.true (c.edges_hold.ensures.1
       (adjacent (EdgesHold c.args.spans.now) c.args.rows.now c.loop-index.index _ _ (omega arith) c.row.ensures c.row-in-loop-index.ensures all))),
 )
