@@ -1,4 +1,5 @@
-use Rattle.std.proofs.Common.{◌∙◌, refl}
+use Rattle.std.proofs.Common.{◌∙◌, arith, refl}
+use Rattle.std.proofs.lemmas.Grind.{common_steps}
 use Rattle.command_words.proofs.Tables.{option_more}
 use Rattle.command_words.proofs.commands.shared_help.Words.command.Goals as goal
 
@@ -10,3 +11,6 @@ loop-option-preserved c =
       added.shape option.1 ∙ option_more _ _ _ _ _ _ c.loop-option-test.true before.0 option.0,
       added.globals ∙ rw (before.1, option.1) refl,
     )
+
+pub returns : goal.returns
+returns c = grind (arith, common_steps)
