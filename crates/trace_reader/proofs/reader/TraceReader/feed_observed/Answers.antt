@@ -26,12 +26,7 @@ returns-in_err-end_line g c =
     c.in_err-end_line.ensures.reached in
     let failed = unchanged_if_failed old c.end_line.new.self (search rules) in
     let unfinished = unfinished_after old c.end_line.new.self c.args.piece.now (Err c.in_err-end_line.field-0.0) c.requires r in
-    rw (p.1, p.2) (record {
-      reached = r;
-      failed = failed;
-      unfinished = unfinished;
-      seen = λ other saw. c.in_err-end_line.ensures.seen (c.loop-line.invariant.seen saw);
-    })
+    rw (p.1, p.2) (search (r, failed, unfinished, c.in_err-end_line.ensures.seen, c.loop-line.invariant.seen))
 
 pub take_events-requires : goal.take_events-requires
 take_events-requires g c =
@@ -79,9 +74,4 @@ returns g c =
     (c.keep.ensures.answer ∙ ap (λ (r : Reading). answer_of r.state) now) (IsPrefix-fed old c.args.piece.now) in
     let failed = unchanged_if_failed old c.keep.new.self (search rules) in
     let unfinished = unfinished_after old c.keep.new.self c.args.piece.now c.keep.result c.requires r in
-    record {
-      reached = r;
-      failed = failed;
-      unfinished = unfinished;
-      seen = λ other saw. rw c.keep.ensures.events (c.loop-line.invariant.seen saw);
-    }
+    search (r, failed, unfinished, c.loop-line.invariant.seen, c.keep.ensures.events)
