@@ -1,6 +1,5 @@
 -- How a list is shown as a slot comes in front of it, or leaves it.
-use Rattle.std.proofs.Common.{◌≡◌, ◌≢◌, ℕ, ◌+◌, ◌<◌, ◌≤◌, List, [], ◌∷◌, length, drop, refl, sym, subst, ⊎_elim, arith}
-use Rattle.std.specs.Prelude.{Contains}
+use Rattle.std.proofs.Common.{◌≡◌, ◌≢◌, ℕ, ◌+◌, ◌<◌, ◌≤◌, List, [], ◌∷◌, length, drop, refl, sym, subst, ⊎_elim, arith, Contains}
 use Rattle.heap_theory.specs.Links.{IsLinked}
 use Rattle.heap_theory.specs.Region.{Region, next_in, with_slot_link}
 use Rattle.heap_theory.proofs.ListSearch.{Contains-cases, Contains-tail, AllPairs-first}

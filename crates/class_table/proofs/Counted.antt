@@ -1,6 +1,5 @@
 -- Numbers that are known to be at most another one.
-use Rattle.std.specs.Prelude.{slice_index}
-use Rattle.std.proofs.Common.{◌≡◌, ℕ, ◌*◌, ◌/◌, ◌%◌, ◌^◌, ◌<◌, ◌≤◌, List, arith, subst}
+use Rattle.std.proofs.Common.{◌≡◌, ℕ, ◌*◌, ◌/◌, ◌%◌, ◌^◌, ◌<◌, ◌≤◌, List, arith, subst, slice_index}
 use Rattle.std.proofs.Math.Nat.{mul-div-le, mul-le-mul_left, pow-le-pow_right}
 use Rattle.class_table.specs.Counts.{AreAtMost, AreCounts}
 

@@ -1,6 +1,5 @@
 -- The call that words mean.
-use Rattle.std.proofs.Common.{◌≡◌, List, Option, Some, None}
-use Rattle.std.specs.Prelude.{option_map}
+use Rattle.std.proofs.Common.{◌≡◌, List, Option, Some, None, option_map}
 use Rattle.clap.specs.Words.{Row, Text}
 use Rattle.command_words.specs.Calls.{Names}
 use Rattle.command_words.specs.declared.commands.replay.Replay.{Replay as ReplayOptions}

@@ -1,10 +1,9 @@
 -- The program's words are plain enough for clap to say what it makes of any words.
 use Rattle.std.proofs.Common.{◌≡◌, List, [], ap, inl, inr, refl, subst, sym, true, ◌∙◌}
-use Rattle.clap.specs.Words.{App, HasMatchesOf, Text, fault_of, is_simple, is_simple_and_free, subcommand_of, subcommand_rows_of}
+use Rattle.clap.specs.Words.{App, HasMatchesOf, Text, fault_of, is_simple, is_simple_and_free, subcommand_of, subcommand_rows_of, kind_of}
 use Rattle.clap.specs.declared.parser.matches.ArgMatches.{ArgMatches}
 use Rattle.clap.proofs.OnLiterals.{clap_on_literals}
 use Rattle.clap.specs.Kinds.{HasKind, IsAmong}
-use Rattle.clap.specs.Words.{kind_of}
 use Rattle.clap.specs.declared.error.Error.{Error}
 use Rattle.command_words.specs.AcceptedWords.{program}
 use Rattle.command_words.specs.Words.{AreRefused, IsFromClap}

@@ -13,22 +13,7 @@ use Rattle.command_words.specs.declared.commands.shared_help.Options.TheVariants
 use Rattle.command_words.specs.declared.commands.shared_help.Words.{Words}
 use Rattle.command_words.specs.declared.options.NumberOption.{NumberOption}
 use Rattle.command_words.specs.Bounds.{granules_bounds, limit_bounds, quarantine_bounds, seed_bounds, step_bounds}
-use Rattle.command_words.specs.Spellings.{
-  check_fit_name,
-  check_name,
-  fit_name,
-  footprint_name,
-  granules_name,
-  limit_name,
-  profile_name,
-  quarantine_name,
-  replay_name,
-  run_name,
-  score_name,
-  seed_name,
-  step_name,
-  tune_name,
-}
+use Rattle.command_words.specs.Spellings.{check_fit_name, check_name, fit_name, footprint_name, granules_name, limit_name, profile_name, quarantine_name, replay_name, run_name, score_name, seed_name, step_name, tune_name}
 
 -- An option of this name whose value is a number within these bounds.
 abbrev pub number_rule : List ℕ → ℕ × ℕ → Rule

@@ -4,22 +4,7 @@ use Rattle.std.specs.Str.Parse.{IsNumeral, without_leading_plus, digits_value}
 use Rattle.clap.specs.Words.{Row, Text, one_of}
 use Rattle.class_table.specs.Steps.{IsStep}
 use Rattle.command_words.specs.Bounds.{granules_bounds, limit_bounds, quarantine_bounds, seed_bounds, step_bounds}
-use Rattle.command_words.specs.Spellings.{
-  check_fit_name,
-  check_name,
-  fit_name,
-  footprint_name,
-  granules_name,
-  limit_name,
-  profile_name,
-  quarantine_name,
-  replay_name,
-  run_name,
-  score_name,
-  seed_name,
-  step_name,
-  tune_name,
-}
+use Rattle.command_words.specs.Spellings.{check_fit_name, check_name, fit_name, footprint_name, granules_name, limit_name, profile_name, quarantine_name, replay_name, run_name, score_name, seed_name, step_name, tune_name}
 use Rattle.command_words.specs.declared.call.Call.{Call}
 use Rattle.command_words.specs.declared.call.Call.TheVariants.{Score, Tune, Check, Footprint, Fit, CheckFit, Profile, Replay, Run}
 use Rattle.heap_theory.specs.declared.config.Config.{Config}

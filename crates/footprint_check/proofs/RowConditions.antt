@@ -1,6 +1,5 @@
 -- The conditions on rows, one more row and one more place.
-use Rattle.std.proofs.Common.{◌≡◌, ℕ, suc, ◌+◌, ◌-◌, ◌<◌, ◌≤◌, List, [], length, slice_index, slice_index_or, arith, ap, sym, ◌∙◌}
-use Rattle.std.specs.Prelude.{◌↔◌, IsTrue}
+use Rattle.std.proofs.Common.{◌≡◌, ℕ, suc, ◌+◌, ◌-◌, ◌<◌, ◌≤◌, List, [], length, slice_index, slice_index_or, arith, ap, sym, ◌∙◌, ◌↔◌, IsTrue}
 use Rattle.footprint_check.specs.RowConditions.{AreRowTests, DropsHoldAt, DropsHoldBefore, EdgeHoldsAt, EdgesHoldAt, EdgesHoldBefore, LastHoldsBefore}
 use Rattle.footprint_check.specs.declared.row_tests.RowTests.{RowTests}
 use Rattle.tuner_theory.specs.Rows.{number_at}

@@ -1,6 +1,5 @@
 -- The verdict on the rows of a fit whose table meets its conditions.
-use Rattle.std.proofs.Common.{◌≡◌, ℕ, Bool, true, false, not, max, List, arith, rules, sym, ◌∙◌}
-use Rattle.std.specs.Prelude.{◌↔◌, IsTrue}
+use Rattle.std.proofs.Common.{◌≡◌, ℕ, Bool, true, false, not, max, List, arith, rules, sym, ◌∙◌, ◌↔◌, IsTrue}
 use Rattle.footprint_check.specs.RowConditions.{AreRowTests}
 use Rattle.footprint_check.specs.declared.row_tests.RowTests.{RowTests}
 use Rattle.tuner_theory.specs.Fits.{Fit, IsFitVerdict, MeetsOnHistory}

@@ -1,7 +1,6 @@
 -- Where two lists have the same bytes, their granules have the same tags and bytes.
-use Rattle.std.specs.Prelude.{slice_range, slice_index, ◌⊎◌}
 use Rattle.std.specs.Int.{w64, from_le_bytes}
-use Rattle.std.proofs.Common.{◌≡◌, ℕ, ◌+◌, ◌*◌, ◌/◌, ◌%◌, ◌<◌, ◌≤◌, List, length, sym, ap, subst, ◌∙◌, arith, inl, inr, ⊎_elim}
+use Rattle.std.proofs.Common.{◌≡◌, ℕ, ◌+◌, ◌*◌, ◌/◌, ◌%◌, ◌<◌, ◌≤◌, List, length, sym, ap, subst, ◌∙◌, arith, inl, inr, ⊎_elim, slice_range, slice_index, ◌⊎◌}
 use Rattle.std.proofs.lemmas.Bool.{cases_lt}
 use Rattle.std.proofs.lemmas.Grind.{same_number_lists}
 use Rattle.machine_theory.specs.Memory.{Granule, no_granule, granule_at, tag_at, byte_at, word_at}

@@ -1,6 +1,5 @@
 -- Each call keeps a sound heap, and gives out a slot or leaves what was given out.
-use Rattle.std.proofs.Common.{arith, ◌≡◌, ℕ, ◌*◌, ◌<◌, Bool, true, false, cond, List, length, get_or, refl, sym, ◌∙◌, subst, Some, None, Option, Result, Ok, Err}
-use Rattle.std.specs.Prelude.{◌==◌, slice_set, min, replicate}
+use Rattle.std.proofs.Common.{arith, ◌≡◌, ℕ, ◌*◌, ◌<◌, Bool, true, false, cond, List, length, get_or, refl, sym, ◌∙◌, subst, Some, None, Option, Result, Ok, Err, ◌==◌, slice_set, min, replicate}
 use Rattle.std.specs.Result.{result_ok}
 use Rattle.std.proofs.lemmas.List.{get_or-set_same, get_or-set_other}
 use Rattle.machine_theory.specs.declared.fault.Fault.{Fault}

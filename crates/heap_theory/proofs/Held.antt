@@ -1,6 +1,5 @@
 -- What the queue and the lists hold.
-use Rattle.std.proofs.Common.{◌≡◌, ℕ, ◌+◌, ◌-◌, ◌<◌, ◌≤◌, true, List, [], ◌∷◌, sym, ◌∙◌, subst, inl, inr, arith}
-use Rattle.std.specs.Prelude.{AllPairs, Contains, slice_get, Some, length}
+use Rattle.std.proofs.Common.{◌≡◌, ℕ, ◌+◌, ◌-◌, ◌<◌, ◌≤◌, true, List, [], ◌∷◌, sym, ◌∙◌, subst, inl, inr, arith, AllPairs, Contains, slice_get, Some, length}
 use Rattle.std.proofs.lemmas.Bool.{and_from, and_parts, cases_lt, leb-true, le-leb}
 use Rattle.class_table.specs.Layout.{slot_count, block_bytes}
 use Rattle.heap_theory.specs.QueueAndLists.{IsChain, IsFreedList, AgreeWithMarks, HoldsQuarantined, HoldsReleased}

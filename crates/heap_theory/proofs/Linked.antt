@@ -1,6 +1,5 @@
 -- Lists that are linked through headers.
-use Rattle.std.proofs.Common.{◌≡◌, ◌≢◌, ℕ, ◌<◌, List, [], ◌∷◌, ◌++◌, length, suc, refl, sym, ap, subst, inl, inr, arith, drop}
-use Rattle.std.specs.Prelude.{Contains, AllPairs}
+use Rattle.std.proofs.Common.{◌≡◌, ◌≢◌, ℕ, ◌<◌, List, [], ◌∷◌, ◌++◌, length, suc, refl, sym, ap, subst, inl, inr, arith, drop, Contains, AllPairs}
 use Rattle.heap_theory.specs.Links.{IsLinked, last_link}
 use Rattle.heap_theory.proofs.ListSearch.{Contains-head, Contains-tail, Contains-cases, Contains-none, AllPairs-cons, AllPairs-nil}
 

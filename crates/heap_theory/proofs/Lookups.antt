@@ -1,6 +1,5 @@
 -- What is true of the slot that a request is given, and of the chunk that a pointer names.
-use Rattle.std.proofs.Common.{◌≡◌, ℕ, ◌^◌, ◌<◌, ◌≤◌, Bool, true, List, refl, sym, ap, ◌∙◌, inl, arith, Some, None, Option, Result, Ok, Err}
-use Rattle.std.specs.Prelude.{◌==◌, ◌&&◌, nat_le, All}
+use Rattle.std.proofs.Common.{◌≡◌, ℕ, ◌^◌, ◌<◌, ◌≤◌, Bool, true, List, refl, sym, ap, ◌∙◌, inl, arith, Some, None, Option, Result, Ok, Err, ◌==◌, ◌&&◌, nat_le, All}
 use Rattle.std.specs.Option.{ok_or, option_or}
 use Rattle.std.specs.List.{range_with_len, list_all}
 use Rattle.std.proofs.lemmas.Bool.{eqb-true, leb-true, ltb-true, and_parts, cases_Bool}

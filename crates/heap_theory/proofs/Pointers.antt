@@ -1,6 +1,5 @@
 -- Which slot a pointer names, and which fresh slot is the lowest.
-use Rattle.std.proofs.Common.{◌≡◌, ℕ, ◌^◌, ◌<◌, Bool, true, false, get_or, refl, sym, ap, ◌∙◌, subst, arith, Some, None, Option}
-use Rattle.std.specs.Prelude.{◌==◌, ◌&&◌, slice_get, ◌↔◌, IsTrue, IsFalse, Ok}
+use Rattle.std.proofs.Common.{◌≡◌, ℕ, ◌^◌, ◌<◌, Bool, true, false, get_or, refl, sym, ap, ◌∙◌, subst, arith, Some, None, Option, ◌==◌, ◌&&◌, slice_get, ◌↔◌, IsTrue, IsFalse, Ok}
 use Rattle.std.specs.List.{find, position_or_len, range_with_len}
 use Rattle.std.proofs.lemmas.Bool.{and_from, and_parts, cond-true, eq-eqb, eqb-true, lt-ltb, false_from_ne_true, both_ways}
 use Rattle.std.proofs.lemmas.List.Folds.{find_at}

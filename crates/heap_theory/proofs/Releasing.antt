@@ -1,6 +1,5 @@
 -- The front of the queue is released to its class's list.
-use Rattle.std.proofs.Common.{◌≡◌, ℕ, ◌+◌, ◌<◌, ◌≤◌, List, [], ◌∷◌, length, get_or, sym, ◌∙◌, subst, inl, inr, arith}
-use Rattle.std.specs.Prelude.{Contains, slice_get, slice_set, Some}
+use Rattle.std.proofs.Common.{◌≡◌, ℕ, ◌+◌, ◌<◌, ◌≤◌, List, [], ◌∷◌, length, get_or, sym, ◌∙◌, subst, inl, inr, arith, Contains, slice_get, slice_set, Some}
 use Rattle.std.proofs.lemmas.Bool.{cases_eq, cases_lt}
 use Rattle.std.proofs.lemmas.List.{get_or-set_same, get_or-set_other, length-set}
 use Rattle.class_table.specs.Layout.{block_bytes}

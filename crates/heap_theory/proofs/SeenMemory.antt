@@ -1,6 +1,5 @@
 -- What is seen of a memory without the bytes of its headers.
-use Rattle.std.proofs.Common.{◌≡◌, ◌⊎◌, ℕ, ◌+◌, ◌-◌, ◌*◌, ◌/◌, ◌%◌, ◌<◌, ◌≤◌, Bool, true, false, cond, List, [], length, replicate, refl, sym, ap, ◌∙◌, subst, inl, inr, arith}
-use Rattle.std.specs.Prelude.{slice_index, IsTrue, ◌≢◌, None, IsFalse}
+use Rattle.std.proofs.Common.{◌≡◌, ◌⊎◌, ℕ, ◌+◌, ◌-◌, ◌*◌, ◌/◌, ◌%◌, ◌<◌, ◌≤◌, Bool, true, false, cond, List, [], length, replicate, refl, sym, ap, ◌∙◌, subst, inl, inr, arith, slice_index, IsTrue, ◌≢◌, None, IsFalse}
 use Rattle.std.proofs.lemmas.Bool.{cases_lt, cases_Bool, cases_order, cond-false, cond_both, eqb-true, both_ways, and_left, and_right, lt-leb, le-ltb, false_from_ne_true}
 use Rattle.std.proofs.lemmas.List.{length-replicate, get_or-replicate, get_or_past, get_or_default}
 use Rattle.std.proofs.lemmas.List.Folds.{Any-from_list_any}

@@ -1,6 +1,5 @@
 -- The tag that is drawn for a slot is one that it may take, and not the one that it was last given out with.
-use Rattle.std.proofs.Common.{◌≡◌, ◌≢◌, ℕ, ◌%◌, ◌^◌, ◌<◌, Bool, true, false, cond, refl, arith}
-use Rattle.std.specs.Prelude.{bit_or, ◌==◌}
+use Rattle.std.proofs.Common.{◌≡◌, ◌≢◌, ℕ, ◌%◌, ◌^◌, ◌<◌, Bool, true, false, cond, refl, arith, bit_or, ◌==◌}
 use Rattle.std.proofs.lemmas.Bool.{eqb-true, eqb-false}
 use Rattle.machine_theory.specs.Instructions.{drawn_tag}
 use Rattle.heap_theory.proofs.TheoryLemmas as laws

@@ -1,7 +1,6 @@
 -- Which accesses are faults, and which granule a tag fault names.
-use Rattle.std.proofs.Common.{◌≡◌, ◌≢◌, ◌⊎◌, ℕ, zero, suc, ◌+◌, ◌-◌, ◌*◌, ◌<◌, ◌≤◌, Bool, true, false, not, cond, List, length, refl, ap, ◌∙◌, subst, inl, inr, arith, Some, None, Option}
+use Rattle.std.proofs.Common.{◌≡◌, ◌≢◌, ◌⊎◌, ℕ, zero, suc, ◌+◌, ◌-◌, ◌*◌, ◌<◌, ◌≤◌, Bool, true, false, not, cond, List, length, refl, ap, ◌∙◌, subst, inl, inr, arith, Some, None, Option, ◌==◌, ◌↔◌, IsSome, IsTrue, option_map}
 use Rattle.std.specs.List.{find, range_with_len}
-use Rattle.std.specs.Prelude.{◌==◌, ◌↔◌, IsSome, IsTrue, option_map}
 use Rattle.std.proofs.lemmas.Bool.{cases_Bool, false_from_ne_true, iff_false, cond-true, cond-false, eqb-true, eqb-false, cases_lt, not-true, not-false, and_parts, and_from, ltb-true, leb-true, lt-ltb, le-leb}
 use Rattle.machine_theory.specs.Address.{logical_tag, place_of, region_start, granule_of, Holds, Touches}
 use Rattle.machine_theory.specs.Memory.{Granule, tag_at}

@@ -1,6 +1,5 @@
 -- Addresses: their tags and places, and what a short move leaves of them.
-use Rattle.std.proofs.Common.{◌≡◌, ℕ, ◌+◌, ◌<◌, ◌≤◌, ◌^◌, ℤ, arith}
-use Rattle.std.specs.Prelude.{nat_abs}
+use Rattle.std.proofs.Common.{◌≡◌, ℕ, ◌+◌, ◌<◌, ◌≤◌, ◌^◌, ℤ, arith, nat_abs}
 use Rattle.machine_theory.specs.Address.{Holds, logical_tag, moved_by, place_of, region_start}
 
 pub tag_fits : (address : ℕ) → logical_tag address < 16

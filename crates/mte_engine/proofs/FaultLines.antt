@@ -1,7 +1,5 @@
 -- An input that is refused for its table or for its profile has its first fault in the line of the refusal.
-use Rattle.std.proofs.Common.{◌≡◌, ℕ, suc, ◌+◌, ◌-◌, ◌<◌, ◌≤◌, List, [], ◌∷◌, ◌++◌, take, drop, codes}
-use Rattle.std.proofs.Common.{Option, Some, None, Result, Ok, Err, refl, sym, ap, ◌∙◌, append_assoc, arith}
-use Rattle.std.specs.Prelude.{All, length}
+use Rattle.std.proofs.Common.{◌≡◌, ℕ, suc, ◌+◌, ◌-◌, ◌<◌, ◌≤◌, List, [], ◌∷◌, ◌++◌, take, drop, codes, All, length, Option, Some, None, Result, Ok, Err, refl, sym, ap, ◌∙◌, append_assoc, arith}
 use Rattle.std.specs.Fmt.{decimal}
 use Rattle.std.proofs.lemmas.Fmt.{decimal_digit}
 use Rattle.std.proofs.lemmas.List.{drop-take, length-drop, take-take}
@@ -17,8 +15,7 @@ use Rattle.class_table.proofs.LawLemmas.{class_line_is_full, first_fault_is_refu
 use Rattle.profile_count.specs.Counts.{nothing_counted}
 use Rattle.profile_count.specs.ProfileText.{IsRefusedAt, SpellsProfile, profile_from, profile_of, profile_of_lines}
 use Rattle.profile_count.specs.declared.fault.ProfileFault.{ProfileFault}
-use Rattle.profile_count.proofs.LawLemmas.{first_fault_is_refused as profile_fault_is_refused, lines_before_it_spell}
-use Rattle.profile_count.proofs.LawLemmas.{profile_is_spelled, refused_line_is_there, spelled_profile_is_read}
+use Rattle.profile_count.proofs.LawLemmas.{first_fault_is_refused as profile_fault_is_refused, lines_before_it_spell, profile_is_spelled, refused_line_is_there, spelled_profile_is_read}
 use Rattle.potential_check.specs.Leading.{leading_lines, lines_after}
 use Rattle.potential_check.specs.SheetText.{SpellsSheet, sheet_of_lines}
 use Rattle.potential_check.proofs.LawLemmas.{read_is_spelled}

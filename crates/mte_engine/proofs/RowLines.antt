@@ -1,6 +1,5 @@
 -- The lines of the rows of a sheet or a fit, one after the other.
-use Rattle.std.proofs.Common.{◌≡◌, ℕ, ◌+◌, ◌≤◌, List, ◌++◌, codes, drop, length, Some, append_assoc, arith}
-use Rattle.std.specs.Prelude.{slice_get}
+use Rattle.std.proofs.Common.{◌≡◌, ℕ, ◌+◌, ◌≤◌, List, ◌++◌, codes, drop, length, Some, append_assoc, arith, slice_get}
 use Rattle.std.proofs.lemmas.List.Elements.{All-weaker}
 use Rattle.class_table.specs.NamedLines.{named_line}
 use Rattle.class_table.specs.declared.sizes.TheConstants.{MOST_NEEDS}

@@ -14,8 +14,7 @@ use Rattle.trace_reader.specs.Reading.State.{Failed, Finished}
 use Rattle.trace_reader.specs.TraceText.{Trace, trace_from, trace_of}
 use Rattle.trace_reader.specs.declared.fault.TraceError.TheVariants.{Line}
 use Rattle.trace_reader.specs.declared.fault.TraceFault.{TraceFault}
-use Rattle.trace_reader.proofs.LawLemmas.{events_are_few, fed_after_events, finished_after_events}
-use Rattle.trace_reader.proofs.LawLemmas.{one_piece_is_the_text, pieces_are_joined, pieces_have_few_events}
+use Rattle.trace_reader.proofs.LawLemmas.{events_are_few, fed_after_events, finished_after_events, one_piece_is_the_text, pieces_are_joined, pieces_have_few_events}
 use Rattle.tuner_theory.specs.Profiles.{Profile as Counted}
 use Rattle.mte_engine.specs.Outcome.{GivesFault}
 use Rattle.mte_engine.specs.Profile.{ProfileAnswers, profile_answer}

@@ -1,6 +1,5 @@
 -- The line of a name and one number: it is read as this number, and no other line is.
-use Rattle.std.proofs.Common.{◌≡◌, ℕ, ◌<◌, ◌^◌, Bool, true, List, [], ◌∷◌, Option, Some, refl, sym, ◌∙◌, arith}
-use Rattle.std.specs.Prelude.{option_and_then}
+use Rattle.std.proofs.Common.{◌≡◌, ℕ, ◌<◌, ◌^◌, Bool, true, List, [], ◌∷◌, Option, Some, refl, sym, ◌∙◌, arith, option_and_then}
 use Rattle.std.proofs.lemmas.List.Elements.{All-nil, All-cons}
 use Rattle.class_table.specs.NamedLines.{named_line, numbers_in}
 use Rattle.class_table.proofs.LawLemmas.{IsName, line_of_read_numbers, named_numbers_are_read}

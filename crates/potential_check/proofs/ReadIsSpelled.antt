@@ -1,7 +1,6 @@
 -- What is read as a sheet or a fit is its text, line by line.
-use Rattle.std.proofs.Common.{◌≡◌, ℕ, zero, suc, ◌≤◌, List, [], ◌∷◌, ◌++◌, length, map, Option, Some, Result, Ok, refl, subst, arith, codes, ne_eqb}
+use Rattle.std.proofs.Common.{◌≡◌, ℕ, zero, suc, ◌≤◌, List, [], ◌∷◌, ◌++◌, length, map, Option, Some, Result, Ok, refl, subst, arith, codes, ne_eqb, All}
 use Rattle.std.specs.Option.{ok_or}
-use Rattle.std.specs.Prelude.{All}
 use Rattle.std.proofs.lemmas.Option.{some_pair_parts}
 use Rattle.line_text.specs.FirstFault.{◌>>=◌}
 use Rattle.class_table.specs.Steps.{IsStep}

@@ -1,7 +1,6 @@
 -- Reading the numbers of a line, word by word.
-use Rattle.std.proofs.Common.{◌≡◌, ℕ, ◌<◌, ◌≤◌, Bool, true, List, [], ◌∷◌, ◌++◌, length, Option, Some, None, option_map, drop, refl, slice_get, arith, leb, length-append, append_assoc, append-nil}
+use Rattle.std.proofs.Common.{◌≡◌, ℕ, ◌<◌, ◌≤◌, Bool, true, List, [], ◌∷◌, ◌++◌, length, Option, Some, None, option_map, drop, refl, slice_get, arith, leb, length-append, append_assoc, append-nil, option_and_then}
 use Rattle.std.specs.List.{list_all}
-use Rattle.std.specs.Prelude.{option_and_then}
 use Rattle.std.proofs.lemmas.Bool.{and_left, and_right, lt-leb, le-leb}
 use Rattle.std.proofs.lemmas.List.Folds.{list_all-append}
 use Rattle.class_table.specs.declared.sizes.TheConstants.{MOST_NEEDS}

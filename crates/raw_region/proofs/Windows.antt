@@ -1,7 +1,6 @@
 -- Runs within a window of bytes that is read or written at once.
-use Rattle.std.specs.Prelude.{slice_range}
 use Rattle.std.specs.List.{range_with_len}
-use Rattle.std.proofs.Common.{◌≡◌, ℕ, ◌+◌, ◌-◌, ◌<◌, ◌≤◌, ◌++◌, Bool, cond, true, false, ltb, List, [], ◌∷◌, length, take, drop, map, replicate, suc, refl, w8, ◌^◌, sym, ap, ◌∙◌, arith}
+use Rattle.std.proofs.Common.{◌≡◌, ℕ, ◌+◌, ◌-◌, ◌<◌, ◌≤◌, ◌++◌, Bool, cond, true, false, ltb, List, [], ◌∷◌, length, take, drop, map, replicate, suc, refl, w8, ◌^◌, sym, ap, ◌∙◌, arith, slice_range}
 use Rattle.std.proofs.lemmas.Bool.{ltb-false, ltb-true}
 use Rattle.std.proofs.lemmas.List.{take-take, take-append-drop, drop-append-le, length-append, length-drop, length-replicate, append_assoc}
 use Rattle.std.proofs.lemmas.Simd.{length-chunk, put_chunk_is, put_chunk_whole, tops_compared}

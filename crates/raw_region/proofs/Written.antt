@@ -1,7 +1,6 @@
 -- A run that is written changes only its bytes.
-use Rattle.std.specs.Prelude.{slice_range, slice_index, ◌⊎◌, get_or}
 use Rattle.std.specs.Int.{w64, from_le_bytes}
-use Rattle.std.proofs.Common.{◌≡◌, ℕ, ◌+◌, ◌-◌, ◌<◌, ◌≤◌, ◌++◌, List, length, take, drop, sym, ap, subst, ◌∙◌, arith, inl, inr}
+use Rattle.std.proofs.Common.{◌≡◌, ℕ, ◌+◌, ◌-◌, ◌<◌, ◌≤◌, ◌++◌, List, length, take, drop, sym, ap, subst, ◌∙◌, arith, inl, inr, slice_range, slice_index, ◌⊎◌, get_or}
 use Rattle.std.proofs.lemmas.List.{take-append-drop, length-append, length-drop, length-take-le, drop-drop, append_assoc, take-append-le, get_or-take, get_or-drop, drop-take}
 use Rattle.std.proofs.Math.Seq.{drop-append-add}
 use native.Mathlib.Nat.{add-zero}

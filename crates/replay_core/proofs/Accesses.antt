@@ -1,7 +1,6 @@
 -- Accesses through a variable.
-use Rattle.std.proofs.Common.{◌≡◌, ◌≢◌, ℕ, ◌≤◌, Bool, true, false, refl, sym, ◌∙◌, subst, inl, inr, arith}
+use Rattle.std.proofs.Common.{◌≡◌, ◌≢◌, ℕ, ◌≤◌, Bool, true, false, refl, sym, ◌∙◌, subst, inl, inr, arith, ℤ, nat_abs, List, length, replicate, Option, Some, None, Ok}
 use Rattle.std.specs.Int.{w32, cast_signed, cast_unsigned}
-use Rattle.std.specs.Prelude.{ℤ, nat_abs, List, length, replicate, Option, Some, None, Ok}
 use Rattle.std.proofs.lemmas.Int.{to_z-of_z, fits_signed_from_abs}
 use Rattle.machine_theory.specs.declared.fault.Fault.{Fault}
 use Rattle.machine_theory.specs.Access.{IsMapped, access_fault, is_mapped, ok_unless, stored}

@@ -1,6 +1,5 @@
 -- What is lost on a request, and how large totals become.
-use Rattle.std.proofs.Common.{◌≡◌, ℕ, suc, ◌+◌, ◌*◌, ◌^◌, ◌<◌, ◌≤◌, Bool, true, false, cond, List, [], ◌∷◌, ap, ◌∙◌, arith, Option, Some, None}
-use Rattle.std.specs.Prelude.{All, is_some}
+use Rattle.std.proofs.Common.{◌≡◌, ℕ, suc, ◌+◌, ◌*◌, ◌^◌, ◌<◌, ◌≤◌, Bool, true, false, cond, List, [], ◌∷◌, ap, ◌∙◌, arith, Option, Some, None, All, is_some}
 use Rattle.std.specs.Option.{option_map_or}
 use Rattle.class_table.specs.Sizes.{loss_of, serves}
 use Rattle.class_table.specs.Tables.{IsLegalTable, class_for, loss_of_size}

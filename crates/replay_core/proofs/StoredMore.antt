@@ -1,6 +1,5 @@
 -- What is stored of the run with one more event follows from the event and from what was stored before it.
-use Rattle.std.proofs.Common.{◌≡◌, ℕ, ◌+◌, List, [], ◌∷◌, ◌++◌, length, refl, sym, ap, ◌∙◌, arith}
-use Rattle.std.specs.Prelude.{zip}
+use Rattle.std.proofs.Common.{◌≡◌, ℕ, ◌+◌, List, [], ◌∷◌, ◌++◌, length, refl, sym, ap, ◌∙◌, arith, zip}
 use Rattle.class_table.specs.Layout.{Partition}
 use Rattle.trace_event.specs.declared.event.Event.{Event}
 use Rattle.replay_theory.specs.Report.{report, report_line, report_lines, totals_text}

@@ -1,6 +1,5 @@
 -- What hardens the heap, in a sound run.
-use Rattle.std.proofs.Common.{◌≡◌, ◌≢◌, ℕ, ◌+◌, ◌-◌, ◌*◌, ◌%◌, ◌^◌, ◌<◌, ◌≤◌, true, length, refl, sym, ap, ◌∙◌, subst, inl, inr, arith}
-use Rattle.std.specs.Prelude.{ℤ}
+use Rattle.std.proofs.Common.{◌≡◌, ◌≢◌, ℕ, ◌+◌, ◌-◌, ◌*◌, ◌%◌, ◌^◌, ◌<◌, ◌≤◌, true, length, refl, sym, ap, ◌∙◌, subst, inl, inr, arith, ℤ}
 use Rattle.std.proofs.lemmas.Bool.{false≢true}
 use Rattle.machine_theory.specs.Address.{logical_tag, place_of, with_tag, region_start, Touches}
 use Rattle.machine_theory.specs.Memory.{tag_at}

@@ -1,6 +1,5 @@
 -- The layout of a heap stays, whatever happens.
-use Rattle.std.proofs.Common.{◌≡◌, ℕ, Bool, true, false, cond, List, [], ◌∷◌, refl, ◌∙◌, Result, Ok, Err, Option, Some, None, arith}
-use Rattle.std.specs.Prelude.{fold}
+use Rattle.std.proofs.Common.{◌≡◌, ℕ, Bool, true, false, cond, List, [], ◌∷◌, refl, ◌∙◌, Result, Ok, Err, Option, Some, None, arith, fold}
 use Rattle.machine_theory.specs.declared.fault.Fault.{Fault}
 use Rattle.class_table.specs.Layout.{Partition}
 use Rattle.trace_event.specs.declared.event.Event.{Event}

@@ -1,8 +1,7 @@
 -- What each event of a served run loses, and so what the run does.
-use Rattle.std.proofs.Common.{◌≡◌, ℕ, ◌+◌, ◌<◌, ◌≤◌, Bool, true, false, cond, List, [], ◌∷◌, refl, ap, ◌∙◌, subst, arith, Result, Ok, Err, Option, Some, None}
+use Rattle.std.proofs.Common.{◌≡◌, ℕ, ◌+◌, ◌<◌, ◌≤◌, Bool, true, false, cond, List, [], ◌∷◌, refl, ap, ◌∙◌, subst, arith, Result, Ok, Err, Option, Some, None, ◌==◌, ◌&&◌, nat_le, nat_lt, is_some, zip, count_by, IsSome}
 use Rattle.std.specs.List.{AllByRecursion as ByRecursion, cons_option}
 use Rattle.std.specs.Option.{ok_or}
-use Rattle.std.specs.Prelude.{◌==◌, ◌&&◌, nat_le, nat_lt, is_some, zip, count_by, IsSome}
 use Rattle.std.proofs.lemmas.Bool.{true≢false, cond_both, le-leb, leb-false, lt-leb}
 use Rattle.std.proofs.lemmas.List.Elements.{recursion_from_All}
 use Rattle.std.proofs.lemmas.List.Sums.{sum_by-cons}

@@ -1,6 +1,5 @@
 -- Traces with `realloc` over 64 granules with seed 1, and the headers of a trace, worked out.
-use Rattle.std.proofs.Common.{◌≡◌, List, [], ◌∷◌, ◌++◌, refl}
-use Rattle.std.specs.Prelude.{pos, replicate}
+use Rattle.std.proofs.Common.{◌≡◌, List, [], ◌∷◌, ◌++◌, refl, pos, replicate}
 use Rattle.trace_event.specs.declared.event.Event.{Event}
 use Rattle.trace_event.specs.declared.event.Event.TheVariants.{Malloc, Realloc, Free, Load, Store, Addg}
 use Rattle.heap_theory.specs.declared.refusal.FreeError.TheVariants.{NotLive}

@@ -1,6 +1,5 @@
 -- Each event keeps a run sound, so every run is.
-use Rattle.std.proofs.Common.{◌≡◌, ℕ, List, [], ◌∷◌, length, get_or, set, refl, sym, ◌∙◌, subst, inl, arith, None, Option}
-use Rattle.std.specs.Prelude.{fold, replicate}
+use Rattle.std.proofs.Common.{◌≡◌, ℕ, List, [], ◌∷◌, length, get_or, set, refl, sym, ◌∙◌, subst, inl, arith, None, Option, fold, replicate}
 use Rattle.std.proofs.lemmas.Bool.{cases_eq, cases_lt}
 use Rattle.std.proofs.lemmas.List.{get_or-set_same, get_or-set_other, length-set, get_or_past, length-replicate}
 use Rattle.machine_theory.specs.Address.{moved_by}

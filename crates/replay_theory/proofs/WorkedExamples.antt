@@ -1,6 +1,5 @@
 -- Traces over 64 granules with seed 1, worked out: their answers and totals.
-use Rattle.std.proofs.Common.{◌≡◌, [], ◌∷◌, ◌++◌, refl}
-use Rattle.std.specs.Prelude.{pos, negsuc, replicate}
+use Rattle.std.proofs.Common.{◌≡◌, [], ◌∷◌, ◌++◌, refl, pos, negsuc, replicate}
 use Rattle.trace_event.specs.declared.event.Event.TheVariants.{Malloc, Calloc, Free, Load, Store, Addg, Subg}
 use Rattle.heap_theory.specs.declared.refusal.FreeError.TheVariants.{Misplaced, NotLive, WrongTag}
 use Rattle.heap_theory.specs.declared.refusal.NullCause.TheVariants.{Large, NoClass, Exhausted}

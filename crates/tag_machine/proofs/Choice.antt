@@ -1,6 +1,5 @@
 -- The allowed tags after a tag, as the set bits of a mask that is turned.
-use Rattle.std.proofs.Common.{◌≡◌, ◌≢◌, ℕ, zero, suc, ◌+◌, ◌-◌, ◌*◌, ◌/◌, ◌%◌, ◌^◌, ◌<◌, ◌≤◌, max, Bool, true, false, not, cond, List, [], ◌∷◌, map, length, refl, sym, ap, ◌∙◌, inl, inr, arith, ◌⊎◌}
-use Rattle.std.specs.Prelude.{◌==◌, bit_or, slice_index}
+use Rattle.std.proofs.Common.{◌≡◌, ◌≢◌, ℕ, zero, suc, ◌+◌, ◌-◌, ◌*◌, ◌/◌, ◌%◌, ◌^◌, ◌<◌, ◌≤◌, max, Bool, true, false, not, cond, List, [], ◌∷◌, map, length, refl, sym, ap, ◌∙◌, inl, inr, arith, ◌⊎◌, ◌==◌, bit_or, slice_index}
 use Rattle.std.specs.Int.{bit_at, bit_not, rotate_right, w16}
 use Rattle.std.specs.List.{filter, range_with_len}
 use Rattle.std.specs.Int.Count.{ones, ones_in}

@@ -1,10 +1,9 @@
 -- What a call makes of a heap, by what is chosen for it.
-use Rattle.std.proofs.Common.{◌≡◌, ℕ, ◌<◌, List, refl, ap, ◌∙◌, inl, inr, Ok, Err, ◌≢◌, ◌+◌, ◌⊎◌, true, false, sym, subst, arith, Result}
+use Rattle.std.proofs.Common.{◌≡◌, ℕ, ◌<◌, List, refl, ap, ◌∙◌, inl, inr, Ok, Err, ◌≢◌, ◌+◌, ◌⊎◌, true, false, sym, subst, arith, Result, MatchResult, IfOk, IfErr, OnErr, IsTrue, if◌then◌else◌, is_some, ◌↔◌}
 use Rattle.heap_theory.specs.Calls.{given_out, with_payload, move_with, moved, payload_bytes, free_step, realloc_step}
 use Rattle.heap_theory.specs.Lookups.{slot_for_request, Chunk, IsReusable}
 use Rattle.class_table.specs.Sizes.{chunk_granules}
 use Rattle.heap_theory.specs.State.{Heap, slot_in, state_at, is_fresh, pointer_to, is_released}
-use Rattle.std.specs.Prelude.{MatchResult, IfOk, IfErr, OnErr, IsTrue, if◌then◌else◌, is_some, ◌↔◌}
 use Rattle.std.specs.Result.{result_map_both, result_ok, IsErrAnd}
 use Rattle.std.proofs.lemmas.List.{get_or-set_other}
 use Rattle.heap_theory.specs.declared.refusal.NullCause.{NullCause}

@@ -1,6 +1,5 @@
 -- A slot is taken for a request and given out.
-use Rattle.std.proofs.Common.{◌≡◌, ℕ, suc, ◌+◌, ◌^◌, ◌<◌, ◌≤◌, true, false, List, length, drop, refl, sym, ap, ◌∙◌, subst, inl, inr, arith, Some, None, Option, Ok, Err}
-use Rattle.std.specs.Prelude.{Contains, slice_get, slice_index, slice_set, bit_or, nat_lt}
+use Rattle.std.proofs.Common.{◌≡◌, ℕ, suc, ◌+◌, ◌^◌, ◌<◌, ◌≤◌, true, false, List, length, drop, refl, sym, ap, ◌∙◌, subst, inl, inr, arith, Some, None, Option, Ok, Err, Contains, slice_get, slice_index, slice_set, bit_or, nat_lt}
 use Rattle.std.specs.Option.{ok_or, option_and_then}
 use Rattle.std.proofs.lemmas.Bool.{cond-true, cond-false, lt-ltb, le-ltb}
 use Rattle.std.proofs.lemmas.Option.{slice_get-get_or}

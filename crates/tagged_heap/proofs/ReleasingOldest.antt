@@ -1,6 +1,5 @@
 -- A slot is let go by the quarantine and put into its class's list.
-use Rattle.std.proofs.Common.{◌≡◌, ◌≢◌, ℕ, suc, ◌+◌, ◌<◌, ◌≤◌, ◌⊎◌, List, ◌∷◌, length, drop, refl, sym, ap, ◌∙◌, subst, inl, inr, arith, Some}
-use Rattle.std.specs.Prelude.{Contains, slice_get, slice_index, slice_set}
+use Rattle.std.proofs.Common.{◌≡◌, ◌≢◌, ℕ, suc, ◌+◌, ◌<◌, ◌≤◌, ◌⊎◌, List, ◌∷◌, length, drop, refl, sym, ap, ◌∙◌, subst, inl, inr, arith, Some, Contains, slice_get, slice_index, slice_set}
 use Rattle.std.proofs.lemmas.Bool.{cases_eq, cases_lt, lt-ltb, le-ltb, cond-true, cond-false}
 use Rattle.std.proofs.lemmas.Option.{slice_get_within}
 use Rattle.machine_theory.specs.Memory.{Granule, IsMemory}

@@ -1,6 +1,5 @@
 -- The class of a request by its number.
-use Rattle.std.proofs.Common.{◌≡◌, ℕ, ◌*◌, ◌-◌, ◌<◌, ◌≤◌, Bool, true, List, length, eqb, ltb, nat_eq, sym, ap, ◌∙◌, inl, inr, arith, Some, Result, Ok, Err}
-use Rattle.std.specs.Prelude.{slice_get, slice_index, option_and_then, IfOk, IfErr}
+use Rattle.std.proofs.Common.{◌≡◌, ℕ, ◌*◌, ◌-◌, ◌<◌, ◌≤◌, Bool, true, List, length, eqb, ltb, nat_eq, sym, ap, ◌∙◌, inl, inr, arith, Some, Result, Ok, Err, slice_get, slice_index, option_and_then, IfOk, IfErr}
 use Rattle.std.specs.Option.{ok_or}
 use Rattle.std.specs.Result.{result_eq, result_map_both}
 use Rattle.std.proofs.lemmas.Bool.{cases_eq, cond-true, cond-false, eq-eqb, eqb-true, ne_eqb, lt-ltb, le-ltb, leb-true}

@@ -1,6 +1,5 @@
 -- The chunk of a live slot is taken back, and the slot goes into the quarantine.
-use Rattle.std.proofs.Common.{◌≡◌, ◌≢◌, ℕ, zero, suc, ◌+◌, ◌^◌, ◌<◌, ◌≤◌, List, [], ◌∷◌, ◌++◌, length, refl, sym, ap, ◌∙◌, subst, inl, inr, arith}
-use Rattle.std.specs.Prelude.{Contains, bit_or}
+use Rattle.std.proofs.Common.{◌≡◌, ◌≢◌, ℕ, zero, suc, ◌+◌, ◌^◌, ◌<◌, ◌≤◌, List, [], ◌∷◌, ◌++◌, length, refl, sym, ap, ◌∙◌, subst, inl, inr, arith, Contains, bit_or}
 use Rattle.std.proofs.lemmas.Bool.{cases_eq, le-ltb, cond-false}
 use Rattle.machine_theory.specs.Instructions.{drawn_tag}
 use Rattle.machine_theory.specs.Machine.{Machine}

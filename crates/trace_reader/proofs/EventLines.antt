@@ -1,7 +1,6 @@
 -- From an event to its line: the event is read from it.
-use Rattle.std.proofs.Common.{◌≡◌, ℕ, suc, ◌+◌, ◌<◌, ◌≤◌, ◌^◌, true, false, leb, List, [], ◌∷◌, length, Ok, refl, ap, ◌∙◌, arith, ℤ, pos, negsuc, nat_abs, ne_eqb, length-append}
+use Rattle.std.proofs.Common.{◌≡◌, ℕ, suc, ◌+◌, ◌<◌, ◌≤◌, ◌^◌, true, false, leb, List, [], ◌∷◌, length, Ok, refl, ap, ◌∙◌, arith, ℤ, pos, negsuc, nat_abs, ne_eqb, length-append, codes, All}
 use Rattle.std.specs.Fmt.{decimal, signed_decimal}
-use Rattle.std.specs.Prelude.{codes, All}
 use Rattle.std.specs.List.{list_all}
 use Rattle.std.proofs.lemmas.Bool.{le-leb, le-ltb, leb-true}
 use Rattle.std.proofs.lemmas.Fmt.{length-decimal-le}

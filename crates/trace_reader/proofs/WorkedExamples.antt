@@ -1,6 +1,5 @@
 -- Texts of traces, worked out: their events, and their first fault with its line.
-use Rattle.std.proofs.Common.{◌≡◌, ℕ, List, [], ◌∷◌, ◌++◌, Some, None, Ok, Err, refl, pos, negsuc}
-use Rattle.std.specs.Prelude.{codes, replicate}
+use Rattle.std.proofs.Common.{◌≡◌, ℕ, List, [], ◌∷◌, ◌++◌, Some, None, Ok, Err, refl, pos, negsuc, codes, replicate}
 use Rattle.line_text.specs.Hexadecimal.{hex_of}
 use Rattle.line_text.specs.Lines.{lines, words, text_of}
 use Rattle.line_text.specs.Numbers.{number_of}

@@ -1,6 +1,5 @@
 -- Valid potentials bound the waste of every rest from below: of the requests above any place.
-use Rattle.std.proofs.Common.{◌≡◌, ℕ, zero, suc, ◌+◌, ◌*◌, ◌<◌, ◌≤◌, ◌%◌, max, List, [], ◌∷◌, length, slice_index, cond, ltb, leb, Option, arith, refl, ap, subst, ◌∙◌, inl, inr}
-use Rattle.std.specs.Prelude.{IsSome}
+use Rattle.std.proofs.Common.{◌≡◌, ℕ, zero, suc, ◌+◌, ◌*◌, ◌<◌, ◌≤◌, ◌%◌, max, List, [], ◌∷◌, length, slice_index, cond, ltb, leb, Option, arith, refl, ap, subst, ◌∙◌, inl, inr, IsSome}
 use Rattle.std.proofs.lemmas.Bool.{cases_lt, cond_both, cond-false, le-ltb, lt-leb}
 use Rattle.class_table.proofs.LawLemmas.{AreClassesAbove, classes_of_legal_table}
 use Rattle.tuner_theory.specs.Best.{IsCandidate}

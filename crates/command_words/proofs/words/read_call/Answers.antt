@@ -1,7 +1,6 @@
-use Rattle.std.proofs.Common.{subst, Option}
+use Rattle.std.proofs.Common.{subst, Option, List}
 use Rattle.std.proofs.lemmas.Result.{err_from_is_err_and}
 use Rattle.clap.specs.Words.{Row, Text}
-use Rattle.std.proofs.Common.{List}
 use Rattle.command_words.specs.Calls.{IsCall, IsNoCall}
 use Rattle.command_words.proofs.PlainWords.{found_in, refused_in}
 use Rattle.command_words.proofs.words.read_call.Goals as goal

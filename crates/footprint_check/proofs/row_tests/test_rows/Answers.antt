@@ -1,11 +1,9 @@
-use Rattle.std.proofs.Common.{◌≡◌, ℕ, ◌+◌, ◌-◌, ◌<◌, ◌≤◌, length, List, slice_index, leb, arith, refl, rules, ap, sym, ◌∙◌}
-use Rattle.std.specs.Prelude.{◌↔◌, IsTrue}
+use Rattle.std.proofs.Common.{◌≡◌, ℕ, ◌+◌, ◌-◌, ◌<◌, ◌≤◌, length, List, slice_index, leb, arith, refl, rules, ap, sym, ◌∙◌, ◌↔◌, IsTrue}
 use Rattle.std.proofs.lemmas.Bool.{le-leb, leb-true}
 use Rattle.std.proofs.lemmas.List.{get_or_default, with_items_is}
 use Rattle.std.specs.Vec.{with_items}
 use Rattle.footprint_check.specs.CallCounts.{span_count}
-use Rattle.footprint_check.proofs.CallCounts.{count-first}
-use Rattle.footprint_check.proofs.CallCounts.{few_spans}
+use Rattle.footprint_check.proofs.CallCounts.{count-first, few_spans}
 use Rattle.footprint_check.proofs.RowConditions.{tests-at_end, drops-both, edges-both, last-both}
 use Rattle.footprint_check.proofs.row_tests.test_rows.Goals as goal
 

@@ -1,5 +1,4 @@
-use Rattle.std.proofs.Common.{◌≡◌, ℕ, ◌<◌, List, length}
-use Rattle.std.specs.Prelude.{slice_index_or}
+use Rattle.std.proofs.Common.{◌≡◌, ℕ, ◌<◌, List, length, slice_index_or}
 use Rattle.potential_check.proofs.sheet_on_spans.have_length.Given as goal
 
 abbrev pub invariant-loop-index : goal.invariant-loop-index

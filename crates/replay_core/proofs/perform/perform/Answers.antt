@@ -1,5 +1,4 @@
-use Rattle.std.proofs.Common.{ap, subst, sym, ◌∙◌}
-use Rattle.std.specs.Prelude.{slice_index}
+use Rattle.std.proofs.Common.{ap, subst, sym, ◌∙◌, slice_index}
 use Rattle.machine_theory.specs.Address.{moved_by}
 use Rattle.heap_theory.specs.HeapTags.{IsTaggedOrUnmapped}
 use Rattle.trace_event.specs.Ranges.{IsInRange}

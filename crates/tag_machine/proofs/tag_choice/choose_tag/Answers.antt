@@ -1,5 +1,4 @@
-use Rattle.std.proofs.Common.{◌≡◌, ℕ, true, ◌+◌, ◌-◌, ◌%◌, sym, ap, ◌∙◌, arith}
-use Rattle.std.specs.Prelude.{slice_index}
+use Rattle.std.proofs.Common.{◌≡◌, ℕ, true, ◌+◌, ◌-◌, ◌%◌, sym, ap, ◌∙◌, arith, slice_index}
 use Rattle.std.specs.Int.Count.{ones}
 use Rattle.machine_theory.specs.Tags.{is_excluded, choose_tag}
 use Rattle.tag_machine.specs.MaskBits.{set_bits}

@@ -1,5 +1,4 @@
-use Rattle.std.proofs.Common.{ℕ, ap, ◌∙◌, arith}
-use Rattle.std.specs.Prelude.{slice_index}
+use Rattle.std.proofs.Common.{ℕ, ap, ◌∙◌, arith, slice_index}
 use Rattle.chunk_header.specs.HeaderView.{seen}
 use Rattle.heap_theory.specs.Header.{Header}
 use Rattle.heap_theory.specs.Header.Standing.{Freed}

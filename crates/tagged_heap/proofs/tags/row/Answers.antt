@@ -1,5 +1,4 @@
-use Rattle.std.proofs.Common.{◌≡◌, ℕ, ◌+◌, ◌*◌, ◌/◌, ◌%◌, ◌^◌, ◌<◌, refl, arith}
-use Rattle.std.specs.Prelude.{bit_or}
+use Rattle.std.proofs.Common.{◌≡◌, ℕ, ◌+◌, ◌*◌, ◌/◌, ◌%◌, ◌^◌, ◌<◌, refl, arith, bit_or}
 use Rattle.heap_theory.specs.Calls.{parity_exclude}
 use Rattle.tag_machine.specs.Rows.{row_mask}
 use Rattle.tagged_heap.proofs.tags.row.Goals as goal

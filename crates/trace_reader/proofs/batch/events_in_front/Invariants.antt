@@ -1,5 +1,4 @@
-use Rattle.std.proofs.Common.{◌≡◌, ◌≤◌, ◌-◌, ◌++◌, All, List, length, take}
-use Rattle.std.specs.Prelude.{map}
+use Rattle.std.proofs.Common.{◌≡◌, ◌≤◌, ◌-◌, ◌++◌, All, List, length, take, map}
 use Rattle.trace_event.specs.Ranges.{IsInRange}
 use Rattle.trace_event.specs.declared.event.Event.{Event}
 use Rattle.trace_reader.specs.Kept.{event_of}

@@ -1,5 +1,4 @@
-use Rattle.std.proofs.Common.{◌≡◌, ℕ, ◌-◌, List, [], drop, ap, sym, subst, ◌∙◌, arith}
-use Rattle.std.specs.Prelude.{slice_index, slice_get}
+use Rattle.std.proofs.Common.{◌≡◌, ℕ, ◌-◌, List, [], drop, ap, sym, subst, ◌∙◌, arith, slice_index, slice_get}
 use Rattle.heap_theory.specs.Region.{region_of}
 use Rattle.class_lists.specs.Lists.{ShowsList}
 use Rattle.class_lists.proofs.ListChanges.{shown_none}

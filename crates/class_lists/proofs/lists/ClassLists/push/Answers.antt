@@ -1,5 +1,4 @@
-use Rattle.std.proofs.Common.{◌<◌, sym, subst, ◌∙◌}
-use Rattle.std.specs.Prelude.{slice_index}
+use Rattle.std.proofs.Common.{◌<◌, sym, subst, ◌∙◌, slice_index}
 use Rattle.heap_theory.specs.Region.{region_of}
 use Rattle.heap_theory.proofs.Regions.{as_many_headers, length-headers_of, own_link}
 use Rattle.class_lists.proofs.ListChanges.{shown_beside, shown_pushed}

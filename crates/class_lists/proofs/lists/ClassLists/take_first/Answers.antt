@@ -1,5 +1,4 @@
-use Rattle.std.proofs.Common.{◌≡◌, ℕ, ◌+◌, List, ◌∷◌, drop, get_or-set_same, ap, sym, subst, ◌∙◌}
-use Rattle.std.specs.Prelude.{slice_index, slice_get}
+use Rattle.std.proofs.Common.{◌≡◌, ℕ, ◌+◌, List, ◌∷◌, drop, get_or-set_same, ap, sym, subst, ◌∙◌, slice_index, slice_get}
 use Rattle.heap_theory.specs.Region.{next_in, region_of}
 use Rattle.class_lists.specs.Lists.{ShowsList}
 use Rattle.class_lists.proofs.ListChanges.{shown_beside, shown_first, shown_rest, first_not_in_rest}

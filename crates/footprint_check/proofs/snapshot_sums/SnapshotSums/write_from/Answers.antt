@@ -1,5 +1,4 @@
-use Rattle.std.proofs.Common.{◌≡◌, ℕ, ◌+◌, ◌*◌, ◌<◌, ◌≤◌, [], length, List, slice_index, slice_index_or, arith, ap, ◌∙◌}
-use Rattle.std.specs.Prelude.{Vec}
+use Rattle.std.proofs.Common.{◌≡◌, ℕ, ◌+◌, ◌*◌, ◌<◌, ◌≤◌, [], length, List, slice_index, slice_index_or, arith, ap, ◌∙◌, Vec}
 use Rattle.std.specs.declared.alloc.Global.{Global}
 use Rattle.footprint_check.specs.declared.snapshot_sums.SnapshotSums.{SnapshotSums}
 use Rattle.tuner_theory.proofs.Lists.{lists-length, row-read_at}

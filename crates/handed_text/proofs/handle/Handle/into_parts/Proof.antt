@@ -1,8 +1,7 @@
 -- `into_parts` moves a pointer, and what it leads to goes with it.
 use mathlib.Core.Path.{◌≡◌, refl, sym, subst}
 use mathlib.Core.List.{List, [], ◌∷◌, ◌++◌}
-use Rattle.std.proofs.Common.{Option, Some, None}
-use Rattle.std.specs.Prelude.{IsSome}
+use Rattle.std.proofs.Common.{Option, Some, None, IsSome}
 use seplogic.Ra.Ura.{Ura}
 use mir.Raw.{raw as bare}
 use mir.Val.{Val, vptr, vstruct, vnil, vcons, of_list}

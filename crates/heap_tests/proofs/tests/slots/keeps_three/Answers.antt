@@ -1,5 +1,4 @@
-use Rattle.std.proofs.Common.{ℕ, ◌<◌, ◌∷◌, [], List, subst, ⊎_elim, arith, rules}
-use Rattle.std.specs.Prelude.{Contains}
+use Rattle.std.proofs.Common.{ℕ, ◌<◌, ◌∷◌, [], List, subst, ⊎_elim, arith, rules, Contains}
 use Rattle.class_table.specs.Layout.{Partition}
 use Rattle.heap_theory.specs.Region.{Region, region_of}
 use Rattle.heap_theory.proofs.ListSearch.{Contains-cases}

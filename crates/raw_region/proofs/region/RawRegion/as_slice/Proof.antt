@@ -4,9 +4,8 @@ use borrow.Rule.ByKnown.{shr_slice_Learns}
 use denote.Known.{uint_known}
 use denote.RawPtr.{block_of, count_of}
 use denote.Slice.{ShrSlice, slice_val}
-use Rattle.std.proofs.Common.{Bor}
+use Rattle.std.proofs.Common.{Bor, All}
 use Rattle.std.proofs.Words.{pointer_in, pointer_out, word_in, word_out}
-use Rattle.std.specs.Prelude.{All}
 use Rattle.raw_region.proofs.Fields.{R, sees, pointer_twice, length_twice}
 use Rattle.raw_region.specs.contracts.region.RawRegion.as_slice as f
 use Rattle.raw_region.proofs.region.RawRegion.as_slice.Statement.{statement}

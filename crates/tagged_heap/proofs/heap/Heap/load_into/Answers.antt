@@ -1,6 +1,5 @@
 -- An access that succeeds touches no header, so it reads what is seen.
-use Rattle.std.proofs.Common.{◌≡◌, take, sym, ap, ◌∙◌, subst, inl, inr}
-use Rattle.std.specs.Prelude.{OnOk}
+use Rattle.std.proofs.Common.{◌≡◌, take, sym, ap, ◌∙◌, subst, inl, inr, OnOk}
 use Rattle.machine_theory.specs.Access.{access_fault, ok_unless, loaded}
 use Rattle.tagged_heap.specs.HeapFields.{state_of}
 use Rattle.tagged_heap.proofs.PayloadWritten.{tagged_access, load_seen, fault_cases}

@@ -1,5 +1,4 @@
-use Rattle.std.proofs.Common.{◌≡◌, ◌<◌, length, refl, sym, ap, ◌∙◌, subst, inl, inr, arith, Some, None}
-use Rattle.std.specs.Prelude.{OnErr, OnOk, All}
+use Rattle.std.proofs.Common.{◌≡◌, ◌<◌, length, refl, sym, ap, ◌∙◌, subst, inl, inr, arith, Some, None, OnErr, OnOk, All}
 use Rattle.std.proofs.lemmas.List.Elements.{All-from_get_or}
 use Rattle.machine_theory.specs.declared.fault.Fault.{Fault}
 use Rattle.machine_theory.specs.Access.{access_fault, ok_unless, stored}
