@@ -24,3 +24,6 @@ loop-turn-preserved g c =
         room = inv.room;
       },
     )
+
+pub returns-in_default-clause-read : goal.returns-in_default-clause-read
+returns-in_default-clause-read g c = omega (arith, c.loop-turn.invariant.1.failed, c.in_default.ensures.failed)
