@@ -3,9 +3,10 @@
 
 FOLDER is the repository, PROGRAM the crate of the program. rt has a lock on a crate and on all crates below it, so it proves one crate at a
 time in a folder. Here each crate is proved in a copy of its own, with links to the libraries below it, as soon as these are built. The crate
-with the longest chain of others above it has as many jobs as there are lanes; those beside it have one each, and give way to it. What rt
-keeps is moved to the repository, also where the build is cut off, and rt goes on with it. Standard error counts the crates, of which the
-program itself, left to rt, is the last; standard output has what rt said.
+with the longest chain of others above it has as many jobs as there are lanes; those beside it have one each, and give way to it. A crate
+that the program alone stands on waits until no other is left to begin, since the cores are idle only beside the last of them. What rt keeps is
+moved to the repository, also where the build is cut off, and rt goes on with it. Standard error counts the crates, of which the program
+itself, left to rt, is the last; standard output has what rt said.
 """
 
 import os
@@ -85,11 +86,14 @@ class Build:
         self.folder = os.path.join(crates.folder(program), "out", "first_build")
         self.chain = chains(crates, self.below)
         self.left = sorted(set(self.below) - {program}, key=self.chain.get, reverse=True)
+        # what only the program stands on
+        self.last = set(self.left).difference(*(self.below[it] for it in self.left))
         self.running, self.proved = {}, set()
 
     def begin(self, lanes):
         """Begins the crates whose libraries are there, while lanes are idle."""
-        for name in [it for it in self.left if self.proved.issuperset(self.below[it])][: lanes - len(self.running)]:
+        rest = [it for it in self.left if it not in self.last] or self.left
+        for name in [it for it in rest if self.proved.issuperset(self.below[it])][: lanes - len(self.running)]:
             self.left.remove(name)
             is_first = all(self.chain[name] >= self.chain[it.name] for it in self.running.values())
             how = (lanes, []) if is_first else (1, GIVES_WAY)
