@@ -1,6 +1,6 @@
 -- Reading the numbers of a line, word by word, into their places.
-use Rattle.std.proofs.Common.{◌≡◌, ◌≢◌, ℕ, ◌+◌, ◌<◌, ◌≤◌, Bool, true, false, List, [], ◌∷◌, ◌++◌, length, map, set, take, drop, Option, Some, None, option_map, slice_get, refl, sym, ◌∙◌, arith, append_assoc, append-nil, length-append}
-use Rattle.std.proofs.lemmas.List.{length-set, map-append, take_all, take_more_set}
+use Rattle.std.proofs.Common.{◌≡◌, ◌≢◌, ℕ, ◌+◌, ◌<◌, Bool, true, false, nat_lt, List, [], ◌∷◌, ◌++◌, length, map, set, take, drop, Option, Some, None, option_map, slice_get, refl, sym, ◌∙◌, arith, append_assoc, append-nil, length-append}
+use Rattle.std.proofs.lemmas.List.{map-append, take_more_set}
 use Rattle.class_table.specs.NamedLines.{numbers_of}
 use Rattle.line_text.specs.Numbers.{classified, number_of}
 use Rattle.line_text.specs.declared.number.Number.{Number}
@@ -30,24 +30,16 @@ no_next_word (w ∷ ws) none = absurd cc
 abbrev numbers_on : List ℕ → List (List ℕ) → Option (List ℕ)
 numbers_on front ws = option_map (λ ns. front ++ ns) (numbers_of ws)
 
-pub record FillsSoFar (all rest : List (List ℕ)) (count place : ℕ) (is_too_long : Bool) (filled : List ℕ) : Type 0 where
-  pub front : List ℕ
-  pub read : numbers_of all ≡ numbers_on front rest
-  pub size : length filled ≡ count
-  pub within : place ≤ count
-  pub short : is_too_long ≡ false → (length front ≡ place) × (take place filled ≡ map capped front)
-  pub long : is_too_long ≡ true → (count < length front) × (place ≡ count)
-
 number_more : (front : List ℕ) (w : List ℕ) (rest : List (List ℕ)) (n : ℕ) → number_of w ≡ Some n
     → numbers_on front (w ∷ rest) ≡ numbers_on (front ++ n ∷ []) rest
 unfolding numbers_of
 number_more front w rest n is = grind (arith, option_map, append_assoc)
 
--- a word that is no number
-pub fills-no_number : (all rest new : List (List ℕ)) (count place : ℕ) (is_too_long : Bool) (filled w : List ℕ)
-    → FillsSoFar all rest count place is_too_long filled → rest ≡ w ∷ new → number_of w ≡ None → numbers_of all ≡ None
+-- where all words before it were numbers, a word that is none
+pub none_on : (all rest new : List (List ℕ)) (front w : List ℕ) → numbers_of all ≡ numbers_on front rest → rest ≡ w ∷ new → number_of w ≡ None
+    → numbers_of all ≡ None
 unfolding numbers_of
-fills-no_number all rest new count place is_too_long filled w so_far parts none = so_far.read ∙ rw (parts, none) refl
+none_on all rest new front w so_far parts none = so_far ∙ rw (parts, none) refl
 
 -- the number that was read of a word
 pub read_number : (o : Option ℕ) (number : ℕ) → Some number ≡ option_map capped o → (n : ℕ) × (o ≡ Some n) × (number ≡ capped n)
@@ -56,54 +48,61 @@ read_number o number is = grind arith
 pub no_number : (o : Option ℕ) (read : Option ℕ) → read ≡ None → read ≡ option_map capped o → o ≡ None
 no_number o read is also = grind arith
 
--- a number more than there are places for
-pub fills-over : (all rest new : List (List ℕ)) (count place : ℕ) (is_too_long : Bool) (filled w : List ℕ) (n : ℕ)
-    → FillsSoFar all rest count place is_too_long filled → rest ≡ w ∷ new → number_of w ≡ Some n → place ≡ count
-    → FillsSoFar all new count place true filled
-fills-over all rest new count place is_too_long filled w n so_far parts is full = record {
-  front = so_far.front ++ n ∷ [];
-  read = so_far.read ∙ rw parts (number_more so_far.front w new n is);
-  size = so_far.size;
-  within = so_far.within;
-  short = λ e. absurd cc;
-  long = λ e. (longer is_too_long refl, full);
-}
-  where
-    longer : (b : Bool) → is_too_long ≡ b → count < length (so_far.front ++ n ∷ [])
-    longer true e = omega (arith, length-append so_far.front (n ∷ []), so_far.long e)
-    longer false e = omega (arith, length-append so_far.front (n ∷ []), (so_far.short e).0)
+-- ---- the places
+
+pub record FillsSoFar (all rest : List (List ℕ)) (place : ℕ) (filled : List ℕ) : Type 0 where
+  pub front : List ℕ
+  pub read : numbers_of all ≡ numbers_on front rest
+  pub size : length front ≡ place
+  pub put : take place filled ≡ map capped front
 
 -- a number more
-pub fills-more : (all rest new : List (List ℕ)) (count place : ℕ) (is_too_long : Bool) (filled w : List ℕ) (n number : ℕ)
-    → FillsSoFar all rest count place is_too_long filled → rest ≡ w ∷ new → number_of w ≡ Some n → number ≡ capped n → place ≢ count
-    → FillsSoFar all new count (place + 1) is_too_long (set filled place number)
-fills-more all rest new count place is_too_long filled w n number so_far parts is capped_is room = record {
+pub fills-more : (all rest new : List (List ℕ)) (place : ℕ) (filled w : List ℕ) (n number : ℕ)
+    → FillsSoFar all rest place filled → rest ≡ w ∷ new → number_of w ≡ Some n → number ≡ capped n → place < length filled
+    → FillsSoFar all new (place + 1) (set filled place number)
+fills-more all rest new place filled w n number so_far parts is capped_is room = record {
   front = so_far.front ++ n ∷ [];
   read = so_far.read ∙ rw parts (number_more so_far.front w new n is);
-  size = length-set filled place number ∙ so_far.size;
-  within = omega (arith, so_far.within);
-  short = λ e. (
-    omega (arith, length-append so_far.front (n ∷ []), (so_far.short e).0),
-    at_end e,
-  );
-  long = λ e. absurd (room (so_far.long e).1);
+  size = omega (arith, length-append so_far.front (n ∷ []), so_far.size);
+  put =
+      take_more_set filled place number room
+      ∙ rw (so_far.put, capped_is) (sym (map-append capped so_far.front (n ∷ [])));
 }
+
+-- no word more: there are too few
+pub fills-few : (all rest : List (List ℕ)) (place : ℕ) (filled : List ℕ) → FillsSoFar all rest place filled → rest ≡ [] → place < length filled
+    → (numbers : List ℕ) × (numbers_of all ≡ Some numbers) × (length numbers ≢ length filled)
+unfolding numbers_of
+fills-few all rest place filled so_far none more = grind (arith, append-nil)
+
+-- ---- the words after the places
+
+pub record EndsSoFar (all rest : List (List ℕ)) (is_too_long : Bool) : Type 0 where
+  pub front : List ℕ
+  pub read : numbers_of all ≡ numbers_on front rest
+  pub long : is_too_long ≡ nat_lt 0 (length front)
+
+-- a number more
+pub ends-more : (all rest new : List (List ℕ)) (is_too_long : Bool) (w : List ℕ) (n : ℕ) → EndsSoFar all rest is_too_long → rest ≡ w ∷ new
+    → number_of w ≡ Some n → EndsSoFar all new true
+ends-more all rest new is_too_long w n so_far parts is = record {
+  front = so_far.front ++ n ∷ [];
+  read = so_far.read ∙ rw parts (number_more so_far.front w new n is);
+  long = grind (arith, length-append);
+}
+
+-- no word more
+pub ends-all : (all rest : List (List ℕ)) (is_too_long : Bool) → EndsSoFar all rest is_too_long → rest ≡ [] → is_too_long ≡ false
+    → numbers_of all ≡ Some []
+unfolding numbers_of
+ends-all all rest is_too_long so_far none short = so_far.read ∙ rw (none, empty so_far.front (sym short ∙ so_far.long)) refl
   where
-    at_end : is_too_long ≡ false → take (place + 1) (set filled place number) ≡ map capped (so_far.front ++ n ∷ [])
-    at_end e =
-        take_more_set filled place number (omega (arith, so_far.within, so_far.size))
-        ∙ rw ((so_far.short e).1, capped_is) (sym (map-append capped so_far.front (n ∷ [])))
+    empty : (front : List ℕ) → false ≡ nat_lt 0 (length front) → front ≡ []
+    empty [] none = refl
+    empty (n ∷ ns) none = grind arith
 
--- no word more: the places are filled
-pub fills-all : (all rest : List (List ℕ)) (count place : ℕ) (is_too_long : Bool) (filled : List ℕ)
-    → FillsSoFar all rest count place is_too_long filled → rest ≡ [] → is_too_long ≡ false → count ≤ place
-    → (numbers : List ℕ) × (numbers_of all ≡ Some numbers) × (length numbers ≡ count) × (filled ≡ map capped numbers)
+-- or words came
+pub ends-longer : (all rest : List (List ℕ)) (is_too_long : Bool) → EndsSoFar all rest is_too_long → rest ≡ [] → is_too_long ≡ true
+    → (numbers : List ℕ) × (numbers_of all ≡ Some numbers) × (length numbers ≢ 0)
 unfolding numbers_of
-fills-all all rest count place is_too_long filled so_far none short full = grind (arith, take_all, append-nil)
-
--- or there are more or fewer numbers
-pub fills-other : (all rest : List (List ℕ)) (count place : ℕ) (is_too_long : Bool) (filled : List ℕ)
-    → FillsSoFar all rest count place is_too_long filled → rest ≡ [] → (is_too_long ≡ false → place < count)
-    → (numbers : List ℕ) × (numbers_of all ≡ Some numbers) × (length numbers ≢ count)
-unfolding numbers_of
-fills-other all rest count place is_too_long filled so_far none other = grind (arith, append-nil)
+ends-longer all rest is_too_long so_far none long = grind (arith, append-nil)

@@ -1,5 +1,5 @@
 //! What a line of a history says.
-ghost use Rattle.std.specs.Prelude.{◌≡◌, ◌≤◌, ℕ, length, Option, IfSome};
+ghost use Rattle.std.specs.Prelude.{◌≡◌, ◌≤◌, ℕ, [], length, Option, IfSome};
 ghost use Rattle.std.specs.Option.{option_map};
 ghost use Rattle.class_table.specs.NamedLines.{numbers_of};
 ghost use Rattle.line_text.specs.Lines.{words};
@@ -84,7 +84,8 @@ fn entry_after(
     words: Words<'_>,
     counts: &mut [u32],
 ) -> Result<Subject, HistoryFault>
-    ensures { GivesEntry result counts.new (entry_with_numbers (length counts.old) next subject (numbers_of words.entry)) }
+    ensures { GivesEntry result counts.new
+        (entry_with_numbers (length counts.old) next subject (numbers_of words.entry)) }
 {
     let Some(subject) = subject else {
         return Err(HistoryFault::Counted(ProfileFault::BadLine));
@@ -103,21 +104,30 @@ fn entry_after(
 fn fill(mut words: Words<'_>, counts: &mut [u32]) -> Result<(), HistoryFault>
     ensures { Fills result counts.new (length counts.old) (numbers_of words.entry) }
 {
-    let places = counts.len();
-    let mut place = 0;
-    let mut is_too_long = false;
-    while let Some(read) = words.next_as_number() {
+    for place in 0..counts.len() {
+        let Some(read) = words.next_as_number() else {
+            return Err(HistoryFault::WrongLength);
+        };
         let Some(number) = capped(read) else {
             return Err(HistoryFault::Counted(ProfileFault::BadLine));
         };
-        if place == places {
-            is_too_long = true;
-            continue;
-        }
         counts[place] = number;
-        place += 1;
     }
-    if is_too_long || place < places {
+    end(words)
+}
+
+// the words after the last place: none may come, and one that is no number is found before that
+fn end(mut words: Words<'_>) -> Result<(), HistoryFault>
+    ensures { Fills result [] 0 (numbers_of words.entry) }
+{
+    let mut is_too_long = false;
+    while let Some(read) = words.next_as_number() {
+        let Some(_) = capped(read) else {
+            return Err(HistoryFault::Counted(ProfileFault::BadLine));
+        };
+        is_too_long = true;
+    }
+    if is_too_long {
         return Err(HistoryFault::WrongLength);
     }
     Ok(())
@@ -155,7 +165,12 @@ fn are_in_range(counts: &[u32]) -> bool
 fn are_few(counts: &[u32]) -> bool
     ensures { result ≡ are_few counts.now }
 {
-    counts.iter().all(|count| *count <= GREATEST_COUNT)
+    // (all are looked at: then the compiler takes eight at a time)
+    let mut are_few = true;
+    for count in counts {
+        are_few &= *count <= GREATEST_COUNT;
+    }
+    are_few
 }
 
 // whether some count is not 0
