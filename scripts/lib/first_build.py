@@ -2,11 +2,11 @@
 """Proves the crates below a program side by side, before the program is built for the first time: `first_build.py FOLDER PROGRAM`.
 
 FOLDER is the repository, PROGRAM the crate of the program. rt has a lock on a crate and on all crates below it, so it proves one crate at a
-time in a folder. Here each crate is proved in a copy of its own, with links to the libraries below it, as soon as these are built. The crate
-with the longest chain of others above it has as many jobs as there are lanes; those beside it have one each, and give way to it. A crate
-that the program alone stands on waits until no other is left to begin, since the cores are idle only beside the last of them. What rt keeps is
+time in a folder. Here each crate is proved in a copy of its own, with links to the libraries below it, as soon as these are built. A proof
+with several jobs takes two fifths more processor time. So a crate has one job, and gives way to that with the longest chain of others above
+it, which also has the lanes that are left over. What the program alone stands on begins beside the last of the others. What rt keeps is
 moved to the repository, also where the build is cut off, and rt goes on with it. Standard error counts the crates, of which the program
-itself, left to rt, is the last; standard output has what rt said.
+itself, left to rt, is the last; standard output has what rt said. `first_build.py` alone prints how many lanes there are.
 """
 
 import os
@@ -92,11 +92,16 @@ class Build:
 
     def begin(self, lanes):
         """Begins the crates whose libraries are there, while lanes are idle."""
-        rest = [it for it in self.left if it not in self.last] or self.left
-        for name in [it for it in rest if self.proved.issuperset(self.below[it])][: lanes - len(self.running)]:
+        idle = lanes - len(self.running)
+        can = [it for it in self.left if self.proved.issuperset(self.below[it])]
+        begun = [it for it in can if it not in self.last][:idle]
+        if self.last.issuperset(set(self.left).difference(begun)):
+            begun += [it for it in can if it in self.last][: idle - len(begun)]
+        for name in begun:
             self.left.remove(name)
             is_first = all(self.chain[name] >= self.chain[it.name] for it in self.running.values())
-            how = (lanes, []) if is_first else (1, GIVES_WAY)
+            jobs = lanes if name in self.last else 1 + idle - len(begun)
+            how = (jobs, []) if is_first else (1, GIVES_WAY)
             proof = Proof(self.crates, name, self.folder, *how)
             self.running[proof.run.pid] = proof
 
@@ -133,4 +138,7 @@ def main(root, program):
 if __name__ == "__main__":
     for number in (signal.SIGTERM, signal.SIGHUP):
         signal.signal(number, lambda it, frame: sys.exit(128 + it))
-    sys.exit(main(*sys.argv[1:]))
+    if len(sys.argv) == 1:
+        print(lanes())
+    else:
+        sys.exit(main(*sys.argv[1:]))
