@@ -5,7 +5,7 @@ ghost use Rattle.footprint_check.specs.RowConditions.{AreRowTests, DropsHoldAt, 
 ghost use Rattle.tuner_theory.specs.Rows.{HasShape};
 
 use crate::span_costs::SpanCosts;
-use certificates::{Rows, number_in_row};
+use certificates::Rows;
 use class_table::MOST_NEEDS;
 use std::alloc::{AllocError, Global};
 
@@ -99,11 +99,12 @@ fn edge_holds_at(costs: &[u64], before: &[u64], number: u64, i: usize) -> bool
     requires place { i < 2 ^ 16 }
     ensures { IsTrue result ↔ EdgeHoldsAt costs.now before.now number i }
 {
-    for j in i + 1..before.len() + 1 {
+    let last = before.len();
+    for j in i + 1..last {
         // not a sum, which might not fit 64 bits
-        if number.saturating_sub(costs[j]) > number_in_row(before, j) {
+        if number.saturating_sub(costs[j]) > before[j] {
             return false;
         }
     }
-    true
+    last <= i || number <= costs[last]
 }
