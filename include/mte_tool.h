@@ -14,7 +14,7 @@ extern "C" {
 #endif
 
 /* the version of this interface; mte_tool_version() gives the library's own */
-#define MTE_TOOL_VERSION 1
+#define MTE_TOOL_VERSION 2
 
 /* How a call ended. */
 enum {
@@ -23,7 +23,8 @@ enum {
     MTE_TOOL_REFUSED = 2,       /* the text is the first fault of the input, as "30 BadLine line 2", without a newline */
     MTE_TOOL_OUT_OF_MEMORY = 3, /* the text is empty */
     MTE_TOOL_BAD_OPTION = 4,    /* an option is out of its range; the text is empty */
-    MTE_TOOL_MISUSE = 5         /* the call is not as it has to be: a pointer is null that must not be, or as the call says; nothing was done */
+    MTE_TOOL_MISUSE = 5         /* the call is not as it has to be: a pointer is null that must not be, the text holds an answer, or as the call
+                                   says; nothing was done */
 };
 
 typedef struct mte_tool_ending {
@@ -33,17 +34,17 @@ typedef struct mte_tool_ending {
 } mte_tool_ending;
 
 /* The options. Each call reads its own, and the others may have any value: tune and fit read the last two, replay and
-   mte_tool_heap_new the first three, run all. */
+   mte_tool_heap_new the first three, run all. Each has 64 bits, so that a number out of its range stays one: it is MTE_TOOL_BAD_OPTION. */
 typedef struct mte_tool_options {
-    uint32_t granules;   /* the granules of the heap, 64 to 262144 */
-    uint32_t quarantine; /* the bytes of freed blocks that it holds back, 0 to 4194304 */
-    uint16_t seed;       /* of the random tags, 1 to 65535 */
-    uint8_t limit;       /* the most classes of the table, 1 to 32 */
-    uint8_t step;        /* the granules that each class is a multiple of: 1, 2, 4 or 8 */
+    uint64_t granules;   /* the granules of the heap, 64 to 262144 */
+    uint64_t quarantine; /* the bytes of freed blocks that it holds back, 0 to 4194304 */
+    uint64_t seed;       /* of the random tags, 1 to 65535 */
+    uint64_t limit;      /* the most classes of the table, 1 to 32 */
+    uint64_t step;       /* the granules that each class is a multiple of: 1, 2, 4 or 8 */
 } mte_tool_options;
 
-/* The program's own defaults, with this limit; for a call that reads no limit, any number. In C++ a `limit` that is no constant has to be a
-   uint8_t. */
+/* The program's own defaults, with this limit; for a call that reads no limit, any number. In C++ a `limit` that is no constant has to be
+   unsigned. */
 #define MTE_TOOL_OPTIONS(limit) {65536, 65536, 1, (limit), 1}
 
 /* A text that the library holds for its caller. It begins as MTE_TOOL_TEXT, the empty text, and mte_tool_free makes it that again. `length`
@@ -59,7 +60,8 @@ typedef struct mte_tool_text {
 uint32_t mte_tool_version(void);
 
 /* The calls. The input is what `text` holds, and after it the `length` bytes at `input`. The answer takes its place in `text`, whose memory
-   is the caller's to free. So a text must be empty before a call whose input is `input` alone. `input` may be null if `length` is 0. */
+   is the caller's to free. A text that holds an answer is no input, and the call ends with MTE_TOOL_MISUSE: free the text first, or say
+   mte_tool_continue. `input` may be null if `length` is 0. */
 mte_tool_ending mte_tool_score(const uint8_t *input, size_t length, mte_tool_text *text);
 mte_tool_ending mte_tool_tune(mte_tool_options options, const uint8_t *input, size_t length, mte_tool_text *text);
 mte_tool_ending mte_tool_check(const uint8_t *input, size_t length, mte_tool_text *text);
@@ -70,9 +72,13 @@ mte_tool_ending mte_tool_profile(const uint8_t *input, size_t length, mte_tool_t
 mte_tool_ending mte_tool_replay(mte_tool_options options, const uint8_t *input, size_t length, mte_tool_text *text);
 mte_tool_ending mte_tool_run(mte_tool_options options, const uint8_t *input, size_t length, mte_tool_text *text);
 
-/* Appends a piece to a text, for an input that comes in pieces. Returns MTE_TOOL_DONE; or MTE_TOOL_OUT_OF_MEMORY or MTE_TOOL_MISUSE, which
-   leave the text as it was. `piece` may be null if `length` is 0. */
+/* Appends a piece to a text, for an input that comes in pieces. Returns MTE_TOOL_DONE; or MTE_TOOL_OUT_OF_MEMORY, or MTE_TOOL_MISUSE, also
+   where the text holds an answer. These leave the text as it was. `piece` may be null if `length` is 0. */
 uint32_t mte_tool_append(mte_tool_text *text, const uint8_t *piece, size_t length);
+
+/* Lets the answer that a text holds be the beginning of the next input, such as the sheet of mte_tool_tune for mte_tool_check. Returns
+   MTE_TOOL_DONE, or MTE_TOOL_MISUSE for null. Another text stays as it is. */
+uint32_t mte_tool_continue(mte_tool_text *text);
 
 /* Copies bytes of a text into the room, from the byte `from` on (the first is 0), as many as there are and as fit. Returns how many, and 0
    for a misuse. No byte 0 is put after them. `room` may be null if `length` is 0. */
@@ -117,8 +123,8 @@ mte_tool_numbers mte_tool_tune_arrays(mte_tool_options options, mte_tool_profile
                                       uint64_t *rows, size_t row_room);
 
 /* The verdict on a sheet for a profile, whoever made it: `class_count` classes, made for these options, with the waste that it claims and
-   the `row_count` numbers of its certificate. MTE_TOOL_DONE: no table wastes less. MTE_TOOL_NO: it is refused, and `fault` says by which
-   condition. MTE_TOOL_MISUSE: the numbers of the certificate can't be cut in `limit` rows of one length. */
+   the `row_count` numbers of its certificate. MTE_TOOL_DONE: no table within these options wastes less. MTE_TOOL_NO: it is refused, and
+   `fault` says by which condition. MTE_TOOL_MISUSE: the numbers of the certificate can't be cut in `limit` rows of one length. */
 mte_tool_numbers mte_tool_check_arrays(mte_tool_options options, const uint16_t *classes, size_t class_count, uint64_t waste,
                                        const uint64_t *rows, size_t row_count, mte_tool_profile_arrays profile);
 
@@ -177,7 +183,7 @@ mte_tool_outcome mte_tool_heap_store(mte_tool_heap *heap, uint64_t address, cons
 
 /* ADDG: the address `granules` granules (0 to 63) further up, with the tag that `step` (0 to 15) counts up from its own. A number out of its
    range is MTE_TOOL_BAD_OPTION. */
-mte_tool_outcome mte_tool_heap_addg(mte_tool_heap *heap, uint64_t address, uint8_t granules, uint8_t step);
+mte_tool_outcome mte_tool_heap_addg(mte_tool_heap *heap, uint64_t address, uint64_t granules, uint64_t step);
 
 /* Frees the heap, and leaves MTE_TOOL_HEAP. Null is let pass. */
 void mte_tool_heap_close(mte_tool_heap *heap);

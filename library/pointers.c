@@ -1,18 +1,29 @@
-/* The functions of mte_tool.h: each looks for null pointers, and then calls the proved function of crates/mte_c. Nothing here is proved. */
+/* The functions of mte_tool.h: each looks for null pointers, and for numbers that are too large for the arguments of the proved function of
+   crates/mte_c, and then calls that. Nothing here is proved. */
 #include "../include/mte_tool.h"
+
+/* the options as the proved functions have them */
+typedef struct narrow_options {
+    uint32_t granules;
+    uint32_t quarantine;
+    uint16_t seed;
+    uint8_t limit;
+    uint8_t step;
+} narrow_options;
 
 /* the proved functions; a slice is a pointer and a length */
 uint32_t mte_c_version(void);
 mte_tool_ending mte_c_score(const uint8_t *, size_t, mte_tool_text *);
-mte_tool_ending mte_c_tune(mte_tool_options, const uint8_t *, size_t, mte_tool_text *);
+mte_tool_ending mte_c_tune(narrow_options, const uint8_t *, size_t, mte_tool_text *);
 mte_tool_ending mte_c_check(const uint8_t *, size_t, mte_tool_text *);
 mte_tool_ending mte_c_footprint(const uint8_t *, size_t, mte_tool_text *);
-mte_tool_ending mte_c_fit(mte_tool_options, const uint8_t *, size_t, mte_tool_text *);
+mte_tool_ending mte_c_fit(narrow_options, const uint8_t *, size_t, mte_tool_text *);
 mte_tool_ending mte_c_check_fit(const uint8_t *, size_t, mte_tool_text *);
 mte_tool_ending mte_c_profile(const uint8_t *, size_t, mte_tool_text *);
-mte_tool_ending mte_c_replay(mte_tool_options, const uint8_t *, size_t, mte_tool_text *);
-mte_tool_ending mte_c_run(mte_tool_options, const uint8_t *, size_t, mte_tool_text *);
+mte_tool_ending mte_c_replay(narrow_options, const uint8_t *, size_t, mte_tool_text *);
+mte_tool_ending mte_c_run(narrow_options, const uint8_t *, size_t, mte_tool_text *);
 uint32_t mte_c_append(const uint8_t *, size_t, mte_tool_text *);
+void mte_c_continue(mte_tool_text *);
 size_t mte_c_read(mte_tool_text *, size_t, uint8_t *, size_t);
 void mte_c_free(mte_tool_text *);
 mte_tool_numbers mte_arrays_score(const uint16_t *, size_t, const uint32_t *, size_t, const uint32_t *, size_t);
@@ -49,6 +60,17 @@ static const uint8_t *or_none(const uint8_t *bytes) {
     return bytes ? bytes : &no_bytes;
 }
 
+/* The options for the proved functions. A number that is too large for its place becomes one that is out of the option's range too. */
+static narrow_options narrowed(mte_tool_options options) {
+    narrow_options narrow;
+    narrow.granules = options.granules > UINT32_MAX ? 0 : (uint32_t)options.granules;
+    narrow.quarantine = options.quarantine > UINT32_MAX ? UINT32_MAX : (uint32_t)options.quarantine;
+    narrow.seed = options.seed > UINT16_MAX ? 0 : (uint16_t)options.seed;
+    narrow.limit = options.limit > UINT8_MAX ? 0 : (uint8_t)options.limit;
+    narrow.step = options.step > UINT8_MAX ? 0 : (uint8_t)options.step;
+    return narrow;
+}
+
 #define CALL(name)                                                                                 \
     mte_tool_ending mte_tool_##name(const uint8_t *input, size_t length, mte_tool_text *text) {    \
         if (!text || is_missing(input, length)) return misuse;                                     \
@@ -59,7 +81,7 @@ static const uint8_t *or_none(const uint8_t *bytes) {
     mte_tool_ending mte_tool_##name(mte_tool_options options, const uint8_t *input, size_t length, \
                                     mte_tool_text *text) {                                         \
         if (!text || is_missing(input, length)) return misuse;                                     \
-        return mte_c_##name(options, or_none(input), length, text);                                \
+        return mte_c_##name(narrowed(options), or_none(input), length, text);                      \
     }
 
 CALL(score)
@@ -79,6 +101,12 @@ uint32_t mte_tool_version(void) {
 uint32_t mte_tool_append(mte_tool_text *text, const uint8_t *piece, size_t length) {
     if (!text || is_missing(piece, length)) return MTE_TOOL_MISUSE;
     return mte_c_append(or_none(piece), length, text);
+}
+
+uint32_t mte_tool_continue(mte_tool_text *text) {
+    if (!text) return MTE_TOOL_MISUSE;
+    mte_c_continue(text);
+    return MTE_TOOL_DONE;
 }
 
 size_t mte_tool_read(mte_tool_text *text, size_t from, uint8_t *room, size_t length) {
@@ -116,14 +144,16 @@ mte_tool_numbers mte_tool_score_arrays(const uint16_t *classes, size_t class_cou
 mte_tool_numbers mte_tool_tune_arrays(mte_tool_options options, mte_tool_profile_arrays profile, uint16_t *classes, size_t class_room,
                                       uint64_t *rows, size_t row_room) {
     uint64_t no_row;
+    narrow_options narrow = narrowed(options);
     if (!classes || is_missing(rows, row_room) || !is_whole(profile)) return misused_numbers;
-    return mte_arrays_tune(options.limit, options.step, SLICES(profile), classes, class_room, rows ? rows : &no_row, row_room);
+    return mte_arrays_tune(narrow.limit, narrow.step, SLICES(profile), classes, class_room, rows ? rows : &no_row, row_room);
 }
 
 mte_tool_numbers mte_tool_check_arrays(mte_tool_options options, const uint16_t *classes, size_t class_count, uint64_t waste,
                                        const uint64_t *rows, size_t row_count, mte_tool_profile_arrays profile) {
+    narrow_options narrow = narrowed(options);
     if (is_missing(classes, class_count) || is_missing(rows, row_count) || !is_whole(profile)) return misused_numbers;
-    return mte_arrays_check(options.limit, options.step, waste, classes ? classes : (const uint16_t *)&no_numbers, class_count,
+    return mte_arrays_check(narrow.limit, narrow.step, waste, classes ? classes : (const uint16_t *)&no_numbers, class_count,
                             rows ? rows : &no_numbers, row_count, SLICES(profile));
 }
 
@@ -137,7 +167,8 @@ static uint32_t request(size_t size) {
 }
 
 mte_tool_outcome mte_tool_heap_new(mte_tool_heap *heap, mte_tool_options options, const uint16_t *classes, size_t class_count) {
-    heap_settings settings = {options.granules, options.quarantine, options.seed};
+    narrow_options narrow = narrowed(options);
+    heap_settings settings = {narrow.granules, narrow.quarantine, narrow.seed};
     if (!heap || is_missing(classes, class_count)) return misused_heap;
     return mte_heap_new(settings, classes ? classes : (const uint16_t *)&no_numbers, class_count, heap);
 }
@@ -169,8 +200,10 @@ mte_tool_outcome mte_tool_heap_store(mte_tool_heap *heap, uint64_t address, cons
     return mte_heap_store(heap, address, or_none(bytes), length);
 }
 
-mte_tool_outcome mte_tool_heap_addg(mte_tool_heap *heap, uint64_t address, uint8_t granules, uint8_t step) {
-    return heap ? mte_heap_addg(heap, address, granules, step) : misused_heap;
+mte_tool_outcome mte_tool_heap_addg(mte_tool_heap *heap, uint64_t address, uint64_t granules, uint64_t step) {
+    uint8_t narrow_granules = granules > UINT8_MAX ? UINT8_MAX : (uint8_t)granules; /* out of range too */
+    uint8_t narrow_step = step > UINT8_MAX ? UINT8_MAX : (uint8_t)step;
+    return heap ? mte_heap_addg(heap, address, narrow_granules, narrow_step) : misused_heap;
 }
 
 void mte_tool_heap_close(mte_tool_heap *heap) {

@@ -2,7 +2,7 @@
 // `engines.begin(line, trace, options)` is a replay that goes on event by event. Runs in a page's worker and in node.
 "use strict";
 
-const ENDED = ["done", "no", "refused", "out of memory", "bad option"];
+const ENDED = ["done", "no", "refused", "out of memory", "bad option", "misuse"];
 const DEFAULTS = { limit: 8, step: 1, granules: 65536, seed: 1, quarantine: 65536 };
 
 // The structures of options as the calling convention passes them, in two words: granules and quarantine; seed, and limit and step.

@@ -5,7 +5,7 @@ const EVENTS = /^(malloc|calloc|realloc|free|load|store|addg|subg)( |$)/;
 const PART = 1024;
 const MOST_LISTED = 200;
 const MOST_EDITED = 500000;
-const watched = { events: 0, k: 0, faults: [], stops: [], notes: new Map() };
+const watched = { events: 0, k: 0, faults: [], told: [], totals: [], stops: [], notes: new Map(), profile: "" };
 Object.assign(watched, { shown: null, asked: null, chosen: null, part: 0, granules: 0 });
 
 const FIELDS = { granules: "The number of granules", seed: "The seed", quarantine: "The quarantine", "heap-limit": "The limit of classes" };
@@ -38,7 +38,8 @@ function showLine(number) {
 }
 
 /** Puts a trace into the editor. No browser's editor is fast with a million lines, so a long trace stays out of it. */
-function edit(text) {
+function edit(text, name) {
+  watched.name = name;
   watched.long = text.length > MOST_EDITED ? text : null;
   $("trace").value = watched.long === null ? text : "";
   $("trace").placeholder = watched.long === null ? "" : "The trace is too long for the editor. Another can be written here.";
@@ -46,34 +47,34 @@ function edit(text) {
 
 /** Takes a trace with the table, the heap and the notes that it comes with, as find_faults makes it. */
 async function takeGiven(text, name, { line, heap, notes }) {
-  edit(text);
+  edit(text, name);
   $("tuned").checked = false;
   $("line").value = line;
   for (const [id, value] of Object.entries(heap)) $(id).value = value;
   watched.notes = new Map(notes);
-  if (!(await replayTrace())) return;
-  say(`${name}: a trace of ${counted(watched.events, "event")}, with ${counted(notes.length, "error")} of the program.`, false, "heap");
+  if (await replayTrace()) sayTrace(true, `, with ${counted(notes.length, "error")} of the program`);
+  else sayTrace(false);
 }
 
 /** Takes a trace. A small one gets the smallest region in which no class runs out of slots, so that all of it is seen. */
 async function takeTrace(text, name) {
-  edit(text);
+  edit(text, name);
   watched.notes = new Map();
   const isSmall = text.length < 4096;
   $("quarantine").value = isSmall ? 256 : 65536;
   for (const granules of isSmall ? [128, 256, 1024, 4096, 65536] : [65536]) {
     $("granules").value = granules;
-    if (!(await replayTrace())) return;
+    if (!(await replayTrace())) return sayTrace(false);
     if (watched.totals.includes("null exhausted 0")) break;
   }
-  say(`${name}: a trace of ${counted(watched.events, "event")}.`, false, "heap");
+  return sayTrace(true);
 }
 
 /** Replays the trace of the editor. */
 async function replayTrace() {
   if (!Object.entries(FIELDS).every(([id, name]) => inRange(id, name))) return false;
   const trace = watched.long ?? $("trace").value;
-  const profile = await ask("call", { command: "profile", options: {}, input: trace });
+  const profile = await ask("trace", { input: trace });
   if (profile.status) {
     const fault = faultWords(profile.text);
     tellTrace(fault.words);
@@ -92,22 +93,45 @@ async function replayTrace() {
     return false;
   }
   const options = heapOptions();
-  const { events, faults, totals } = await ask("replay", { line, trace, options });
-  Object.assign(watched, { events, faults, totals, granules: options.granules, k: -1, chosen: null });
-  tellTrace(`${counted(events, "event")}, ${grouped(faults.length)} of them with a fault or a refusal.`, true);
+  const events = await ask("replay", { line, options });
+  watched.of = watched.name;
+  Object.assign(watched, { events, faults: [], told: [], totals: [], granules: options.granules, k: -1, chosen: null, profile: profile.text });
+  tellTrace(`${counted(events, "event")}.`, true);
   $("at").max = $("events").value = events;
-  $("totals").textContent = totals.join("\n");
-  showFaults();
   $("granule").textContent = "None is chosen.";
+  showFaults();
   await go(0);
+  await readReport();
   return true;
+}
+
+/** The faults, the refusals and the totals: they come after the first picture, which wants none of them. */
+async function readReport() {
+  Object.assign(watched, await ask("report"));
+  tellTrace(`${counted(watched.events, "event")}, ${grouped(watched.faults.length)} of them with a fault or a refusal.`, true);
+  $("totals").textContent = watched.totals.join("\n");
+  showFaults();
+}
+
+/** Replays what stands in the editor: an example, a file, or a trace of the user's own. */
+async function replayEdited() {
+  watched.notes = new Map();
+  sayTrace(await replayTrace());
+}
+
+/** Says above the view which trace it shows, and returns whether that is the one that was just taken. */
+function sayTrace(went, more = "") {
+  const still = watched.of ? ` The picture is still of ${watched.of}.` : "";
+  if (went) say(`${watched.name}: a trace of ${counted(watched.events, "event")}${more}.`, false, "heap");
+  else say(`${watched.name} is not replayed: the words under "The trace" say why.${still}`, true, "heap");
+  return went;
 }
 
 /** Lists the faults and refusals, and the errors that notes tell of, whether the heap catches them or not. */
 function showFaults() {
-  const words = new Map(watched.faults.map(([k, report]) => [k, reportWords(report)]));
+  const words = new Map(watched.told.map(([k, report]) => [k, reportWords(report)]));
   for (const [k, note] of watched.notes) words.set(k, note);
-  watched.stops = [...words.keys()].sort((a, b) => a - b);
+  watched.stops = [...new Set([...watched.faults, ...watched.notes.keys()])].sort((a, b) => a - b);
   const item = (k) => `<li><button data-k="${k}">${k}: ${escaped(words.get(k))}</button></li>`;
   $("faults").innerHTML = watched.stops.slice(0, MOST_LISTED).map(item).join("");
   const more = watched.stops.length - MOST_LISTED;
@@ -256,6 +280,13 @@ function summary(s, first, count) {
   return KINDS.map((kind, i) => `${numbers[i]} ${kind}`).join(", ");
 }
 
+/** A color of the style as the four bytes of a pixel: a canvas gives it back as #RRGGBB. */
+function rgba(g, color) {
+  g.fillStyle = color;
+  const bits = parseInt(g.fillStyle.slice(1), 16);
+  return [bits >> 16, (bits >> 8) & 255, bits & 255, 255];
+}
+
 /** The whole region, a pixel for each granule; the part that the grid shows is framed. */
 function drawOverview() {
   const canvas = $("overview");
@@ -264,11 +295,11 @@ function drawOverview() {
   const [s, columns] = [watched.shown, 512];
   [canvas.width, canvas.height] = [columns, Math.ceil(watched.granules / columns)];
   const g = canvas.getContext("2d");
-  const colors = [css("--back"), css("--header"), css("--shade"), css("--line")];
-  for (let i = 0; i < watched.granules; i++) {
-    g.fillStyle = s.kinds[i] === 4 ? (watched.hues ??= Array.from({ length: 16 }, (_, t) => hue(t)))[s.tags[i]] : colors[s.kinds[i]];
-    g.fillRect(i % columns, Math.floor(i / columns), 1, 1);
-  }
+  const image = g.createImageData(columns, canvas.height);
+  const kinds = ["--back", "--header", "--shade", "--line"].map((name) => rgba(g, css(name)));
+  const hues = Array.from({ length: 16 }, (_, tag) => rgba(g, hue(tag)));
+  for (let i = 0; i < watched.granules; i++) image.data.set(s.kinds[i] === 4 ? hues[s.tags[i]] : kinds[s.kinds[i]], 4 * i);
+  g.putImageData(image, 0, 0);
   g.strokeStyle = css("--bad");
   g.strokeRect(0.5, watched.part / columns + 0.5, columns - 1, PART / columns - 1);
 }
@@ -322,11 +353,12 @@ function startHeap() {
   $("fault-next").onclick = KEYS.f;
   $("fault-before").onclick = KEYS.b;
   $("at").oninput = () => go(Number($("at").value));
-  $("run").onclick = () => {
-    watched.notes = new Map();
-    replayTrace();
+  $("run").onclick = told(replayEdited);
+  $("trace").oninput = () => {
+    watched.long = null;
+    watched.name = "your own trace";
+    $("example").value = "";
   };
-  $("trace").oninput = () => (watched.long = null);
   $("line").oninput = () => ($("tuned").checked = false);
   $("faults").onclick = (event) => event.target.dataset.k && go(Number(event.target.dataset.k));
   $("grid").onpointermove = (event) => event.pointerType === "mouse" && watched.shown && choose(granuleAt(event));
@@ -352,7 +384,6 @@ function startHeap() {
     if (tuner.kind) showCurve();
   });
   matchMedia("(prefers-color-scheme: dark)").addEventListener("change", () => {
-    watched.hues = undefined;
     drawKey();
     drawGrid();
   });

@@ -261,9 +261,29 @@ class HeapModel {
     return kind < 3 ? 0 : this.slots.get(this.layout.slotAt(granule).number).chunkTag;
   }
 
+  /** The tags and the kinds of all granules, as tagAt and kindAt have them one by one. */
+  picture() {
+    const { classes, share, first, granules } = this.layout;
+    const [tags, kinds] = [new Uint8Array(granules), new Uint8Array(granules)];
+    classes.forEach((size, classNumber) => {
+      for (let number = first[classNumber]; number < first[classNumber + 1]; number++) {
+        const start = classNumber * share + (number - first[classNumber]) * size;
+        kinds[start] = 1;
+        kinds.fill(2, start + 1, start + size);
+        const slot = this.slots.get(number);
+        if (!slot) continue;
+        const end = start + 1 + chunkGranules(slot.size);
+        kinds.fill(slot.isLive ? 4 : 3, start + 1, end);
+        tags.fill(slot.chunkTag, start + 1, end);
+      }
+    });
+    return { tags, kinds };
+  }
+
   /** The first granule at which a picture of the engine is another than this model's, or -1. */
   differsFrom({ tags, kinds }) {
-    for (let g = 0; g < tags.length; g++) if (tags[g] !== this.tagAt(g) || kinds[g] !== this.kindAt(g)) return g;
+    const own = this.picture();
+    for (let g = 0; g < tags.length; g++) if (tags[g] !== own.tags[g] || kinds[g] !== own.kinds[g]) return g;
     return -1;
   }
 }

@@ -57,7 +57,7 @@ class Picture {
 
 /** The least total by the number of classes, and each table as a point {name, classes, total, style}. Where OF is given, the levels are its
  * percents, and else bytes. */
-function drawCurve(svg, least, tables, total, of) {
+function drawCurve(svg, least, tables, label, of) {
   const highest = Math.max(least[Math.min(7, least.length - 1)], ...tables.map((t) => t.total));
   const unit = of ? of / 100 : 1024 ** Math.floor(Math.log(Math.max(1, highest)) / Math.log(1024));
   const levelText = (level) => (of ? `${shortLevel(level)}%` : level ? byteText(level * unit) : "0");
@@ -75,7 +75,7 @@ function drawCurve(svg, least, tables, total, of) {
     picture.mark(t.style, x(t.classes), y(t.total), `${t.name}: ${classesText(t.classes)}, ${bytesText(t.total)}`);
   }
   const [one, all] = [bytesText(least[0]), bytesText(least.at(-1))];
-  picture.finish(`The least ${total} by the number of classes: ${one} with one, ${all} with ${least.length}.`);
+  picture.finish(`${label}: ${one} with one, ${all} with ${least.length}.`);
 }
 
 const octaves = (size) => Math.log2(Math.max(size, 8)) - 3;
@@ -92,7 +92,7 @@ function barsOf(sizes, perOctave) {
   return groups;
 }
 
-/** The bytes by size, the borders of the best table, and those of another under the bars. */
+/** The bytes by size, the borders of the table, and those of another under the bars. */
 function drawHistogram(svg, sizes, classes, other) {
   const perOctave = svg.parentElement.clientWidth < 500 ? 4 : 8;
   const groups = barsOf(sizes, perOctave);
@@ -115,5 +115,5 @@ function drawHistogram(svg, sizes, classes, other) {
   for (const c of other) picture.parts.push(`<path class="scudo" d="M${short(x(16 * c - 16))} ${picture.lower + 2}v8"/>`);
   for (const [size, words] of TICKS) picture.text(x(size), picture.lower + 26, words, size === TICKS.at(-1)[0] ? "end" : "middle");
   picture.text((picture.left + picture.right) / 2, picture.height - 4, "size in bytes");
-  picture.finish(`The bytes by size, in ${counted(groups.size, "bar")}, with ${counted(classes.length, "border")} of the best table.`);
+  picture.finish(`The bytes by size, in ${counted(groups.size, "bar")}, with ${counted(classes.length, "border")} of the table.`);
 }

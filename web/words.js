@@ -23,18 +23,6 @@ const REASONS = {
   made: "The pointer was made by addg or subg, and happens to have the tag of that memory.",
   place: "The block was resized in place, and the old pointer is still its own.",
 };
-const SHEET_CODES = {
-  39: "a class is no multiple of the step",
-  40: "there are more classes than the limit",
-  41: "a counted size has no class",
-  42: "the total that the sheet states is not that of its table",
-  43: "there are not as many rows as the limit, or a row does not have one number for each distinct need",
-  44: "a number of the first row is above what one class costs on all requests after its place",
-  45: "a number is above the number at its place in the row before",
-  46: "a number is above what one more class makes of the row before",
-  47: "the first number of the last row is not the total: the rows do not show that no other table is better",
-  49: "the footprint that the fit states is not that of its table",
-};
 const INPUT_CODES = {
   20: "there are more than 32 classes",
   21: "a class is not from 2 to 1024",
@@ -43,7 +31,7 @@ const INPUT_CODES = {
   30: "a line of a profile has a size up to 16368 and a count, or the word large and a count at the end",
   31: "the sizes do not ascend",
   32: "a count is not from 1 to 1000000000",
-  34: "a history begins with the line snapshots T, with T from 1 to 64",
+  34: "a history begins with the line snapshots T, with T from 1 to 1024",
   35: "the line does not have a number for each snapshot",
   36: "the line does not have the form of a fit",
   48: "the line does not have the form of a sheet",
@@ -158,13 +146,4 @@ function faultWords(text) {
   const [, code, name, , line] = /^error (\d+) (\w+)( line (\d+))?/.exec(text.trim()) ?? [];
   if (!code) return { words: text.trim() || "the engine gave no answer", line: 0 };
   return { words: `${line ? `Line ${line}: ` : ""}${INPUT_CODES[code] ?? name} (${code} ${name}).`, line: Number(line ?? 0) };
-}
-
-/** The verdict of check or check-fit in a sentence. */
-function verdictWords(text, what) {
-  const [word, code, name] = text.trim().split(" ");
-  if (word === "optimal") return `Optimal: of all tables within this limit and step that serve everything counted, none has less ${what}.`;
-  const may = "Its table may still be a best one; the sheet does not show it.";
-  const table = Number(code) <= 41 ? "So its table is not among those in question." : may;
-  return `Refused, ${code} ${name}: ${SHEET_CODES[code]}. ${table}`;
 }

@@ -4,33 +4,68 @@
 
 const KEPT_PICTURES = 64;
 const MOST_KEPT_BYTES = 1 << 26;
+const [NEWLINE, NINE] = [10, 57];
+const [PART_LINES, MOST_TOLD] = [1024, 200];
 let engines = null;
+let taken = null;
 let replay = null;
 
-/** A replay with its trace, its report and the model that names what the picture shows. */
-class Replay {
-  constructor({ line, trace, options }) {
-    Object.assign(this, { line, trace, options, lines: trace.split("\n"), kept: new Map() });
-    if (this.lines.at(-1) === "") this.lines.pop();
-    const classes = line.split(" ").slice(1).map(Number);
-    this.steps = engines.begin(line, trace, options);
-    this.model = new HeapModel(classes, options);
-    this.starts = [this.model.copy()];
-    this.every = Math.max(1024, Math.ceil(this.lines.length / 64));
-    const report = engines.call("replay", options, `${line}\n${trace}`);
-    if (report.status) throw new Error(report.text || report.ended);
-    this.readReport(report.text);
+/** The lines of a long text in bytes. A part of them is decoded when one of its lines is asked for. */
+class Lines {
+  constructor(bytes) {
+    const starts = [];
+    let [length, begin] = [0, 0];
+    for (let at = 0; at < bytes.length; at++) {
+      if (bytes[at] !== NEWLINE && at < bytes.length - 1) continue;
+      if (length % PART_LINES === 0) starts.push(begin);
+      length += 1;
+      begin = at + 1;
+    }
+    Object.assign(this, { bytes, starts, length, decoded: null });
   }
 
-  readReport(text) {
-    this.report = new Map();
-    this.totals = [];
-    for (const line of text.split("\n")) {
-      const found = /^(\d+) (.*)$/.exec(line);
-      if (found) this.report.set(Number(found[1]), found[2]);
-      else if (line) this.totals.push(line);
+  at(i) {
+    const part = Math.floor(i / PART_LINES);
+    if (this.decoded !== part) {
+      this.lines = asText(this.bytes.subarray(this.starts[part], this.starts[part + 1])).split("\n");
+      this.decoded = part;
     }
-    this.faults = [...this.report].filter(([, words]) => !words.startsWith("data"));
+    return this.lines[i % PART_LINES];
+  }
+}
+
+/** A replay with its trace, its report and the model that names what the picture shows. The first picture wants neither the report nor the
+ * model, so they come when they are asked for. */
+class Replay {
+  constructor({ line, options }) {
+    Object.assign(this, { line, options, trace: taken, kept: new Map() });
+    const classes = line.split(" ").slice(1).map(Number);
+    this.steps = engines.begin(line, this.trace.bytes, options);
+    this.model = new HeapModel(classes, options);
+    this.starts = [this.model.copy()];
+    this.every = Math.max(1024, Math.ceil(this.trace.lines.length / 64));
+  }
+
+  /** The line of the report for each event that has one. */
+  get report() {
+    if (!this.read) this.readReport();
+    return this.read;
+  }
+
+  readReport() {
+    const answer = engines.call("replay", this.options, joined(asBytes(`${this.line}\n`), this.trace.bytes));
+    if (answer.status) throw new Error(answer.text || answer.ended);
+    const [report, faults] = [new Map(), []];
+    const lines = answer.text.split("\n");
+    // an event's line begins with its number, and the totals after them with words
+    let i = 0;
+    for (; i < lines.length && lines[i].charCodeAt(0) <= NINE; i++) {
+      const space = lines[i].indexOf(" ");
+      const [k, words] = [Number(lines[i].slice(0, space)), lines[i].slice(space + 1)];
+      report.set(k, words);
+      if (!words.startsWith("data")) faults.push(k);
+    }
+    Object.assign(this, { read: report, faults, totals: lines.slice(i).filter(Boolean) });
   }
 
   /** The model before event k + 1, from the last start before it. */
@@ -38,7 +73,7 @@ class Replay {
     const from = Math.min(Math.floor(k / this.every), this.starts.length - 1);
     let model = this.model.events <= k && this.model.events >= from * this.every ? this.model : this.starts[from].copy();
     for (let i = model.events; i < k; i++) {
-      this.outcome = model.step(eventOf(this.lines[i]));
+      this.outcome = model.step(eventOf(this.trace.lines.at(i)));
       if (model.events === this.starts.length * this.every) this.starts.push(model.copy());
     }
     this.model = model;
@@ -51,7 +86,7 @@ class Replay {
     let first = k;
     if (k < this.steps.done) {
       this.steps.free();
-      this.steps = engines.begin(this.line, this.trace, this.options);
+      this.steps = engines.begin(this.line, this.trace.bytes, this.options);
       first = Math.max(0, k - window + 1);
     }
     while (this.steps.done < first) this.steps.go();
@@ -76,12 +111,12 @@ class Replay {
     const model = this.modelAfter(k);
     const differs = model.differsFrom({ tags, kinds });
     const queue = { queue: this.queue(), held: model.held, limit: model.limit };
-    return { k, tags, kinds, line: this.lines[k - 1] ?? "", ...told, ...queue, differs };
+    return { k, tags, kinds, line: k ? this.trace.lines.at(k - 1) : "", ...told, ...queue, differs };
   }
 
   /** The k-th event in words: the law that its fault is an instance of, or why its error is let pass. */
   tell(k) {
-    const event = eventOf(this.lines[k - 1]);
+    const event = eventOf(this.trace.lines.at(k - 1));
     const before = this.modelAfter(k - 1).copy();
     const model = this.modelAfter(k);
     const [outcome, report] = [this.outcome, this.report.get(k)];
@@ -122,6 +157,13 @@ class Replay {
   }
 }
 
+function joined(first, second) {
+  const bytes = new Uint8Array(first.length + second.length);
+  bytes.set(first);
+  bytes.set(second, first.length);
+  return bytes;
+}
+
 const ANSWERS = {
   async start({ tool, steps }) {
     engines = await Engines.load(tool, steps);
@@ -130,11 +172,23 @@ const ANSWERS = {
   call({ command, options, input }) {
     return engines.call(command, options, input);
   },
+  /** Takes a trace, text or bytes, and returns its profile, or its fault. */
+  trace({ input }) {
+    const bytes = asBytes(input);
+    const answer = engines.call("profile", {}, bytes);
+    if (!answer.status) taken = { bytes, lines: new Lines(bytes) };
+    return answer;
+  },
   replay(words) {
     replay?.steps.free();
     replay = null;
     replay = new Replay(words);
-    return { events: replay.lines.length, faults: replay.faults, totals: replay.totals };
+    return replay.trace.lines.length;
+  },
+  /** The faults and refusals by their events, the first of them in words, and the totals. */
+  report() {
+    const { report, faults, totals } = replay;
+    return { faults, told: faults.slice(0, MOST_TOLD).map((k) => [k, report.get(k)]), totals };
   },
   show({ k }) {
     return replay.show(k);

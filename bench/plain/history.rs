@@ -3,7 +3,7 @@
 use crate::profile::{GREATEST_COUNT, LARGEST};
 use crate::text::Scanner;
 
-const MOST_SNAPSHOTS: u64 = 64;
+const MOST_SNAPSHOTS: u64 = 1024;
 
 pub struct History {
     /// How many snapshots there are.

@@ -29,7 +29,7 @@ int main(int argc, char **argv) {
         return 2;
     }
     const std::string profile((std::istreambuf_iterator<char>(std::cin)), {});
-    const mte_tool_options options = MTE_TOOL_OPTIONS(static_cast<uint8_t>(limit));
+    const mte_tool_options options = MTE_TOOL_OPTIONS(static_cast<uint64_t>(limit));
     Text sheet;
     const auto ending = mte_tool_tune(options, reinterpret_cast<const uint8_t *>(profile.data()), profile.size(), &sheet.held);
     if (ending.end != MTE_TOOL_DONE) {

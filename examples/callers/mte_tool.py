@@ -11,8 +11,7 @@ class Text(ctypes.Structure):
 
 
 class Options(ctypes.Structure):
-    _fields_ = [("granules", ctypes.c_uint32), ("quarantine", ctypes.c_uint32), ("seed", ctypes.c_uint16),
-                ("limit", ctypes.c_uint8), ("step", ctypes.c_uint8)]
+    _fields_ = [(name, ctypes.c_uint64) for name in ("granules", "quarantine", "seed", "limit", "step")]
 
 
 class Ending(ctypes.Structure):
@@ -26,7 +25,8 @@ def call(library, command, data, **options):
     """How a command ended, and its text."""
     function = getattr(library, "mte_tool_" + command.replace("-", "_"))
     function.restype, text = Ending, Text()
-    chosen = Options(**{"granules": 65536, "quarantine": 65536, "seed": 1, "step": 1, **options})
+    chosen = {"granules": 65536, "quarantine": 65536, "seed": 1, "step": 1, **options}
+    chosen = Options(**{name: min(number, 2**64 - 1) for name, number in chosen.items()})  # ctypes cuts a larger one
     first = [chosen] if command in ("tune", "fit", "replay", "run") else []
     function.argtypes = ([Options] if first else []) + BYTES + TEXT
     ending = function(*first, data, len(data), ctypes.byref(text))

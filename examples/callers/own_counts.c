@@ -10,7 +10,7 @@ enum { LARGEST = 16368 };
 int main(int count, char **words) {
     static uint32_t counted[LARGEST + 1], sizes[LARGEST + 1], counts[LARGEST + 1];
     mte_tool_profile_arrays profile = {sizes, counts, 0};
-    mte_tool_options options = MTE_TOOL_OPTIONS((uint8_t)(count == 2 ? atoi(words[1]) : 0));
+    mte_tool_options options = MTE_TOOL_OPTIONS(count == 2 ? strtoul(words[1], NULL, 10) : 0);
     uint16_t classes[MTE_TOOL_MOST_CLASSES];
     mte_tool_numbers tuned, checked;
     uint64_t *rows;
@@ -23,7 +23,7 @@ int main(int count, char **words) {
             sizes[profile.length] = size;
             counts[profile.length++] = counted[size];
         }
-    room = options.limit * profile.length;
+    room = MTE_TOOL_MOST_CLASSES * profile.length;
     if (!(rows = malloc((room + 1) * sizeof *rows))) return 3;
     tuned = mte_tool_tune_arrays(options, profile, classes, MTE_TOOL_MOST_CLASSES, rows, room);
     if (tuned.end != MTE_TOOL_DONE) {

@@ -6,7 +6,7 @@ mod library {
     #[repr(C)]
     pub struct Text { handle: *mut std::ffi::c_void, length: usize }
     #[repr(C)]
-    pub struct Options { pub granules: u32, pub quarantine: u32, pub seed: u16, pub limit: u8, pub step: u8 }
+    pub struct Options { pub granules: u64, pub quarantine: u64, pub seed: u64, pub limit: u64, pub step: u64 }
     #[repr(C)]
     pub struct Ending { pub end: u32, pub fault: u32, pub line: u64 }
 

@@ -6,8 +6,9 @@ import os
 import select
 import shutil
 import subprocess
-import tempfile
 import time
+
+import private_folder
 
 NAMES = ("chromium", "chromium-browser", "google-chrome")
 
@@ -25,12 +26,12 @@ class Page:
     """A page in a browser of its own, in a window of this size."""
 
     def __init__(self, url, width=1100, height=900, dark=False, seconds=60):
-        self.folder = tempfile.TemporaryDirectory(ignore_cleanup_errors=True)
+        self.folder = private_folder.temporary_folder()
         self.deadline = time.monotonic() + seconds
         down, self.down = os.pipe()
         self.up, up = os.pipe()
         words = [browser(), "--headless=new", "--no-sandbox", "--disable-gpu", "--hide-scrollbars", "--remote-debugging-pipe",
-                 f"--user-data-dir={self.folder.name}", f"--window-size={width},{height}", "about:blank"]  # fmt: skip
+                 f"--user-data-dir={self.folder.path}", f"--window-size={width},{height}", "about:blank"]  # fmt: skip
         # Chromium reads its commands from 3, and answers on 4
         words = ["sh", "-c", f'exec "$@" 3<&{down} 4>&{up}', "sh", *words]
         quiet = {"stdin": subprocess.DEVNULL, "stdout": subprocess.DEVNULL, "stderr": subprocess.DEVNULL}
@@ -61,7 +62,7 @@ class Page:
         self.process.wait()
         os.close(self.down)
         os.close(self.up)
-        self.folder.cleanup()
+        self.folder.remove()
 
     def message(self):
         while b"\0" not in self.rest:

@@ -1,16 +1,61 @@
-"""Prints the history in a file of counts, as shims/sizes.c writes it: `counts.py COUNTS NOTES`. NOTES is the file again, read later: a
-snapshot that was written over meanwhile has another time there, and is left out. The exit status is 1 if nothing was counted."""
+"""The profile and the history in a file of counts, as shims/sizes.c writes it: words of 64 bits, a page of notes and then the counters."""
 
-import array
-import os
-import sys
+import operator
 
-sys.dont_write_bytecode = True
-sys.path.insert(0, os.path.dirname(os.path.realpath(__file__)))
-import texts  # noqa: E402
+import texts
+from checksum import ODD, WORD, folded
 
 PAGE, COUNTERS = 4096 // 8, texts.LARGEST_SIZE + 2  # in words of 8 bytes
 TAKEN, SNAPSHOTS = 13, 64  # the place and the number of `taken` in struct notes
+MOST = PAGE + SNAPSHOTS * COUNTERS
+ALL, LIVE, HISTORY = 0x315A49534C4C41, 0x315A495345564C, 0x315A4953534948  # all requests, live blocks, and those over time
+FORMS = (0, ALL, LIVE, HISTORY)  # none yet
+SEAL, COUNTED, UPDATING, SUMS = 77, 78, 79, 80  # the places in struct notes of what shows a wild store of the program
+UPDATED = 0x6465746164707521
+IN_FLIGHT = 64  # requests that were being counted where processes were killed
+WEIGHTS = [(2 * counter + 1) * ODD % WORD for counter in range(COUNTERS)]
+
+
+def is_whole(words):
+    """Whether it has a page of notes and 1 to 64 times the counters."""
+    slots, rest = divmod(len(words) - PAGE, COUNTERS)
+    return not rest and 1 <= slots <= SNAPSHOTS
+
+
+def is_sound(words, later):
+    """Whether the form and the counts are those that the library wrote. `later` is the first page, read once more."""
+    form = words[0]
+    if not form:
+        return not any(words)
+    if words[SEAL] != folded((form, 8 * (len(words) - PAGE))):
+        return False
+    if form == ALL:
+        counted = sum(words[PAGE : PAGE + COUNTERS])
+        return words[COUNTED] - IN_FLIGHT <= counted <= later[COUNTED]
+    slots = (len(words) - PAGE) // COUNTERS
+    return all(is_sound_snapshot(words, later, k) for k in range(slots))
+
+
+def is_sound_snapshot(words, later, k):
+    taken = words[TAKEN + k]
+    if k and (not taken or taken != later[TAKEN + k]) or not k and words[UPDATING] == UPDATED:
+        return True  # it is not there, or only half
+    place = PAGE + k * COUNTERS
+    counters = words[place : place + COUNTERS]
+    return (sum(map(operator.mul, counters, WEIGHTS)) + taken * ODD - words[SUMS + k]) % WORD == 0
+
+
+def profile_of(words):
+    """The first counters as a profile, which is empty where nothing was counted."""
+    counters = words[PAGE : PAGE + COUNTERS]
+    return texts.profile_text({"large" if size > texts.LARGEST_SIZE else size: count for size, count in enumerate(counters)})
+
+
+def history_text(words, later):
+    """The history as a text, empty where nothing was counted. `later` is the file's first page, read once more: a snapshot that was written
+    over meanwhile has another time there, and is left out."""
+    history = history_of(words, later[TAKEN : TAKEN + SNAPSHOTS])
+    return texts.history_text(history) if history.counts else ""
 
 
 def history_of(words, taken_later):
@@ -26,15 +71,3 @@ def history_of(words, taken_later):
         if any(counts):
             history["large" if size > texts.LARGEST_SIZE else size] = counts
     return texts.History(len(places), history)
-
-
-def print_history(names):
-    words = array.array("Q", texts.read(names[0]))
-    later = array.array("Q", texts.read(names[1], 8 * PAGE))
-    history = history_of(words, later[TAKEN : TAKEN + SNAPSHOTS])
-    if not history.counts:
-        return 1
-    return texts.write(texts.history_text(history))
-
-
-texts.main("profile_program", print_history)

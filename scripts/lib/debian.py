@@ -9,13 +9,10 @@ import texts
 from texts import Refused
 
 ABOUT = """\
-An allocator with size classes rounds each request up to the next of a few block sizes, and the rest is lost. This package finds, for the
-requests of your program, the table of sizes that loses the least, or that takes the least memory over time, with a certificate that
-anybody can check. It also replays the calls of a program on a hardened heap with memory tags, modelled after Arm's Memory Tagging
+An allocator with size classes rounds each request up to the next of a few block sizes, and the rest is lost. This package makes tables of
+sizes for the requests of your program: one tuned to lose little, and one that takes little memory over time. Each has a certificate, by
+which anybody can check how good it is. It also replays the calls of a program on a hardened heap with memory tags, modelled after Arm's Memory Tagging
 Extension."""
-PROVED = """\
-Every function of the program and of the library for C is proved to be safe, to return and to meet its contract. The scripts, the page and
-the heap of the page in WebAssembly are tested, and not proved."""
 
 
 def paragraph(text):
@@ -40,9 +37,9 @@ Depends: libc6 (>= {packaging.least_glibc(tree)}), python3 (>= 3.9)
 {recommended}Suggests: {helped}
 Section: devel
 Priority: optional
-Description: best tables of size classes, proved, and a heap with memory tags
+Description: size-class tables with certificates, and a heap with memory tags
 {paragraph(ABOUT)} .
-{paragraph(PROVED)} .
+{paragraph(packaging.trusted(parts))} .
 {paragraph(built)}"""
 
 
@@ -83,7 +80,7 @@ def put_control(tree, parts):
     tree.write("DEBIAN/control", control(tree, parts))
     tree.write("DEBIAN/md5sums", sums)
     if parts.library:
-        tree.write("DEBIAN/shlibs", f"libmte_tool 0 {packaging.NAME}\n")
+        tree.write("DEBIAN/shlibs", f"libmte_tool 2 {packaging.NAME}\n")
         tree.write("DEBIAN/triggers", "activate-noawait ldconfig\n")
 
 

@@ -1,15 +1,36 @@
-"""Reads the log that a program of traced_cc writes (scripts/shims/accesses/log.c says what its lines are).
+"""Reads the log that a program of traced_cc writes (scripts/shims/accesses/log.c says what its head and its lines are).
 
-A log of a large program has millions of records, so they stand in columns of numbers, and so do the blocks."""
+A log of a large program has millions of records, so they stand in columns of numbers, and so do the blocks. A log may come from anywhere: a
+number that no program can have is refused before anything is made of it."""
 
+import os
+import re
+import stat
+import struct
 from array import array
 from collections import namedtuple
 
+import checksum
 from texts import LARGEST_SIZE, MOST_COUNT
 
 WINDOW = 64  # the bytes of the longest access of a trace
 
+HEAD, FORM = 128, b"ACCESS1\0"
+MARK = struct.Struct("<5Q")  # length, sum, not_logged, state, check
+RUNNING, ENDED, CUT = 1, 2, 3
+MOST_BYTES = (1 << 30) + (8 << 20)  # the runtime takes a gibibyte, and a piece of eight mebibytes
+LONGEST_LINE = 4096
+MOST_SIZE = 1 << 47  # of an address space
+LONGEST_RIGHT = 16  # of a right access: it is in one granule
+MOST_UNRECORDED = 1 << 20  # blocks that handlers of signals requested
+PIECE = 1 << 20
+STACK = re.compile(rb"([0-9]{1,10})(?::([0-9a-f]{1,16}(?:,[0-9a-f]{1,16}){0,5}))?")
+
 Module = namedtuple("Module", "low high offset path")
+
+
+class NoLog(Exception):
+    """The file is no log."""
 
 
 class Error(namedtuple("Error", "letter block offset size stack state")):
@@ -26,9 +47,71 @@ class Error(namedtuple("Error", "letter block offset size stack state")):
         return begin, min(self.offset + self.size - begin, WINDOW)
 
 
+class Text:
+    """The lines of a log, and what is missing of it."""
+
+    def __init__(self, file):
+        if os.fstat(file.fileno()).st_size > HEAD + MOST_BYTES:
+            raise NoLog
+        self.file, self.missing, self.is_damaged = file, [], False
+        head = file.read(HEAD)
+        self.is_empty = not head.strip(b"\0")
+        if self.is_empty:
+            self.missing.append("the log is empty: it could not be written")
+            return
+        if len(head) < HEAD or not head.startswith(FORM):
+            raise NoLog
+        (turn,) = struct.unpack_from("<Q", head, len(FORM))
+        marks = [MARK.unpack_from(head, len(FORM) + 8 + at * MARK.size) for at in range(2)]
+        if turn > 1 or not is_whole(marks[turn]):
+            self._damaged("its head was overwritten")
+            marks = [mark for mark in marks if is_whole(mark)] or [(0, 0, 0, ENDED, 0)]
+            turn = -1
+        self.length, self.sum, self.not_logged, self.state, _ = marks[turn]
+
+    def _damaged(self, how):
+        self.is_damaged = True
+        self.missing.append(f"the log is damaged: {how}. What it tells may be wrong")
+
+    def lines(self):
+        """The whole lines that the head speaks of."""
+        left, found, rest = 0 if self.is_empty else self.length, 0, b""
+        while left:
+            piece = self.file.read(min(left, PIECE))
+            if not piece:
+                self.missing.append(f"the log has {self.length - left} of its {self.length} bytes")
+                return
+            left -= len(piece)
+            found = checksum.crc(piece, found)
+            *lines, rest = (rest + piece).split(b"\n")
+            if len(rest) > LONGEST_LINE:
+                break
+            yield from lines
+        if not self.is_empty and (left or rest or found != self.sum) and not self.is_damaged:
+            self._damaged("a line has no end" if left or rest else "its checksum is another one")
+
+    def say_end(self):
+        """Adds what is missing where all that there is of the log was read."""
+        if self.is_empty:
+            return
+        if self.state == CUT:
+            self.missing.append(f"the log could not grow at {self.length} bytes: what the program did later is not in it")
+        elif self.state != ENDED:
+            how = "it was killed, ran another one in its place, or still runs"
+            self.missing.append(f"the program did not come to its end: {how}. What it did until then is told")
+        if self.not_logged:
+            self.missing.append(f"wrong accesses that the runtime could not log: {self.not_logged}")
+
+
+def is_whole(mark):
+    """Whether the check of a mark is right."""
+    return checksum.folded(mark[:4]) == mark[4]
+
+
 class Log:
     """Records in their order. A record has a letter and up to three numbers: m and c (block, size), r (old block, new block, size),
-    f (block), l and s (block, offset, length), and E (number of the error, from 0). Blocks are numbered from 1."""
+    f (block), l and s (block, offset, length), and E (number of the error, from 0). Blocks are numbered from 1. What is `missing` of the
+    log is a list of sentences."""
 
     def __init__(self, path):
         self.letters = bytearray()
@@ -38,45 +121,71 @@ class Log:
         self.next = array("q", [0])  # of a block: the one that a realloc made from it, or 0
         self.stacks = [""]  # a stack is a text PC,PC,..; block 0 and stack 0 are unknown ones
         self.errors, self.modules = [], []
-        self.not_logged = 0
-        self.is_whole, self.is_cut = False, False
         self._numbers = {0: 0}
-        with open(path, "rb") as file:
-            for line in file:
-                if not line.endswith(b"\n"):
-                    break  # a killed program's last line, and the rest of the file, which is bytes 0
+        self._unrecorded = set()  # blocks that a handler of a signal requested have no record
+        self._taken_back = set()
+        descriptor = os.open(path, os.O_RDONLY | os.O_NONBLOCK | os.O_NOCTTY | os.O_CLOEXEC)
+        with open(descriptor, "rb") as file:
+            if not stat.S_ISREG(os.fstat(descriptor).st_mode):
+                raise NoLog
+            text = Text(file)
+            self._read_all(text)
+            text.say_end()
+        self.missing, self.is_empty, self.is_damaged = text.missing, text.is_empty, text.is_damaged
+        self._drop_taken_back()
+
+    def _read_all(self, text):
+        lines = text.lines()
+        for number, line in enumerate(lines, 1):
+            try:
                 self._read(line)
+            except (NoLog, ValueError, IndexError, KeyError, OverflowError):
+                for _ in lines:  # the checksum says whether this was a log once
+                    pass
+                if text.missing:
+                    text.missing.append(f"nothing is read of the log from its line {number} on")
+                    return
+                raise NoLog from None
 
     def _read(self, line):
-        words = line.split()
-        letter = words[0]
+        letter, *words = line.split(b" ")
         if letter in (b"l", b"s"):
-            self._add(letter, int(words[1]), int(words[2]), int(words[3]))
+            block, offset, length = map(int, words)
+            self._know(block)
+            if block not in self._unrecorded:
+                if not (self.ended[block] == -1 and 0 <= offset and 0 < length <= LONGEST_RIGHT and offset + length <= self.size[block]):
+                    raise NoLog
+                self._add(letter, block, offset, length)
         elif letter in (b"m", b"c"):
-            block, size = int(words[1]), int(words[2])
-            self._block(block, size, self._stack(words[3]), block)
-            self._add(letter, block, size)
+            block, size, stack = words
+            self._block(int(block), int(size), self._stack(stack), int(block))
+            self._add(letter, int(block), int(size))
         elif letter == b"f":
-            block = int(words[1])
-            self.ended[block] = self._stack(words[2])
-            self._add(letter, block)
+            block, stack = words
+            self._end(int(block), self._stack(stack))
+            self._add(letter, int(block))
         elif letter == b"r":
-            old, new, size = int(words[1]), int(words[2]), int(words[3])
-            stack = self._stack(words[4])
-            self.ended[old], self.next[old] = stack, new
+            old, new, size = map(int, words[:3])
+            stack = self._stack(words[3])
+            self._end(old, stack)
             self._block(new, size, stack, self.chain[old])
+            self.next[old] = new
             self._add(letter, old, new, size)
         elif letter == b"M":
-            low, high, offset, path = line[2:-1].decode(errors="surrogateescape").split(" ", 3)
+            low, high, offset, path = b" ".join(words).decode(errors="surrogateescape").split(" ", 3)
+            if "\0" in path or max(len(low), len(high), len(offset)) > 16:
+                raise NoLog
             self.modules.append(Module(int(low, 16), int(high, 16), int(offset, 16), path))
-        elif letter == b"Z":
-            self.is_whole, self.not_logged = True, int(words[1])
-        elif letter == b"C":
-            self.is_cut = True
         elif letter == b"-":
-            self._stack(words[-1])
+            (number,) = map(int, words)
+            if not 0 < number <= len(self.errors):
+                raise NoLog
+            self._taken_back.add(number - 1)
+        elif letter in (b"L", b"S", b"x", b"o", b"n"):
+            *numbers, stack = words
+            self._error(letter.decode(), list(map(int, numbers)), self._stack(stack))
         else:
-            self._error(letter.decode(), [int(word) for word in words[1:-1]], self._stack(words[-1]))
+            raise NoLog
 
     def _add(self, letter, first, second=0, third=0):
         self.letters += letter
@@ -84,23 +193,63 @@ class Log:
         self.second.append(second)
         self.third.append(third)
 
-    def _block(self, block, size, stack, chain):
-        while len(self.size) <= block:  # a block that a handler of a signal requested has no record
+    def _know(self, block):
+        """Makes place for a block, and for those before it."""
+        if not 0 < block <= len(self.size) + MOST_UNRECORDED - len(self._unrecorded):
+            raise NoLog
+        while len(self.size) <= block:
+            self._unrecorded.add(len(self.size))
             for column, value in ((self.size, 0), (self.made, 0), (self.ended, -1), (self.chain, len(self.size)), (self.next, 0)):
                 column.append(value)
+
+    def _block(self, block, size, stack, chain):
+        if block < len(self.size) or not 0 <= size < MOST_SIZE:
+            raise NoLog
+        self._know(block)
+        self._unrecorded.discard(block)
         self.size[block], self.made[block], self.chain[block] = size, stack, chain
 
+    def _end(self, block, stack):
+        self._know(block)
+        if self.ended[block] != -1:
+            raise NoLog
+        self.ended[block] = stack
+
     def _error(self, letter, numbers, stack):
+        if len(numbers) != {"x": 2, "o": 0, "n": 0}.get(letter, 3):
+            raise NoLog
         block, offset, size = (numbers + [0, 0, 0])[:3]
+        if letter in "LS":
+            size %= 1 << 64  # a size of size_t that is above all is printed as a negative number
+        if not -MOST_SIZE < offset < MOST_SIZE or (letter in "LS" and not size):
+            raise NoLog
+        if block:
+            self._know(block)
         state = "live" if self.ended[block] == -1 else "resized" if self.next[block] else "freed"
         self._add(b"E", len(self.errors))
         self.errors.append(Error(letter, block, offset, size, stack, state))
 
+    def _drop_taken_back(self):
+        """The runtime took some errors back as it learned more; their records are left as frees of no block, which are passed over."""
+        if not self._taken_back:
+            return
+        errors, self.errors = self.errors, []
+        for at, letter in enumerate(self.letters):
+            if letter != ord("E"):
+                continue
+            if self.first[at] in self._taken_back:
+                self.letters[at], self.first[at] = ord("f"), 0
+            else:
+                self.errors.append(errors[self.first[at]])
+                self.first[at] = len(self.errors) - 1
+
     def _stack(self, word):
-        number, _, pcs = word.decode().partition(":")
-        number = int(number)
-        if pcs:  # its first time; a stack that the runtime has no number for has 0
-            self.stacks.append(pcs)
+        match = STACK.fullmatch(word)
+        if not match:
+            raise NoLog
+        number = int(match[1])
+        if match[2]:  # its first time; a stack that the runtime has no number for has 0
+            self.stacks.append(match[2].decode())
             if not number:
                 return len(self.stacks) - 1
             self._numbers[number] = len(self.stacks) - 1

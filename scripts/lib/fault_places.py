@@ -2,6 +2,7 @@
 
 import os
 import shutil
+import stat
 import struct
 import subprocess
 from collections import defaultdict
@@ -36,8 +37,9 @@ class Places:
                     asked[address] = offset - begin + virtual - 1
         if not asked or not shutil.which("addr2line"):
             return
-        words = ["addr2line", "-a", "-f", "-C", "-i", "-e", path, *map(hex, asked.values())]
-        lines = subprocess.run(words, stdout=subprocess.PIPE, stderr=subprocess.DEVNULL).stdout.decode(errors="replace").splitlines()
+        words, given = ["addr2line", "-a", "-f", "-C", "-i", "-e", path], "\n".join(map(hex, asked.values())).encode()
+        lines = subprocess.run(words, input=given, stdout=subprocess.PIPE, stderr=subprocess.DEVNULL).stdout.decode(errors="replace").split("\n")
+        lines.pop()
         # an address alone, and then a function and a source for each inlined frame
         addresses, frames = iter(asked), None
         at = 0
@@ -75,14 +77,16 @@ def name(source, function, _):
 
 
 def loaded_segments(path):
-    """(offset in the file, address, bytes) of what is loaded of a 64-bit ELF file."""
+    """(offset in the file, address, bytes) of what is loaded of a 64-bit ELF file; nothing where it is none, or a log names a pipe."""
     try:
-        with open(path, "rb") as file:
+        with open(path, "rb", opener=lambda path, how: os.open(path, how | os.O_NONBLOCK)) as file:
+            if not stat.S_ISREG(os.fstat(file.fileno()).st_mode):
+                return []
             header = file.read(64)
             table, = struct.unpack_from("<Q", header, 32)
             size, count = struct.unpack_from("<HH", header, 54)
             file.seek(table)
             entries = [struct.unpack_from("<IIQQQQQQ", file.read(size)) for _ in range(count)]
-    except (OSError, struct.error):
+    except (OSError, OverflowError, struct.error):
         return []
     return [(entry[2], entry[3], entry[5]) for entry in entries if entry[0] == 1]

@@ -4,6 +4,7 @@ from collections import Counter
 
 import fault_trace
 from fault_places import CALLERS, Places
+from running import printable
 
 ORDER = ("caught", "not caught", "not replayed")
 
@@ -100,7 +101,8 @@ def notes(log, trace, report):
     for error, verdict in asked:
         result, why = outcome(verdict, report)
         did = f"{places.show(error.stack)}: {sentence(error, log)}"
-        told.append((verdict.event, f"{did}. {result.capitalize()}: {why}. {history(error, log, places).capitalize()}."))
+        text = f"{did}. {result.capitalize()}: {why}. {history(error, log, places).capitalize()}."
+        told.append((verdict.event, printable(text)))
     return told
 
 
@@ -113,9 +115,12 @@ def totals(log, trace, report):
         lines += [f"    {number}: {why}" for (of, why), number in reasons.items() if of == result]
     lines.append(f"events {len(trace.lines)}")
     lines += [f"left out: {number} {words}" for words, number in sorted(trace.left_out.items())]
-    if log.not_logged:
-        lines.append(f"not recorded: {log.not_logged} accesses")
     return lines
+
+
+def incomplete(log):
+    """A line for each thing that is missing of the log."""
+    return [f"incomplete: {each}" for each in log.missing]
 
 
 def answers(verdicts):

@@ -13,6 +13,8 @@ from texts import LARGEST_SIZE
 
 MOST_REQUEST = 2147483647  # of a trace
 MOST_MOVE = 63
+MOST_MOVES = 2000  # of one wrong free
+MOST_OFFSET = 1_048_576  # of a trace
 
 # What became of an error: `asked` has the promise, and the event that asks; `ruled` is refused by a rule, and no event can say it; `large`
 # and `left` are not replayed, for the reason of the promise.
@@ -146,8 +148,12 @@ class Trace:
         if error.is_free():
             if error.offset % 16:
                 return verdict("ruled", MISPLACED)
+            if abs(error.offset) > 16 * MOST_MOVE * MOST_MOVES:
+                return verdict("left", NEVER_GIVEN)
             return verdict("asked", *self._wrong_free(variable, pointer, error.offset // 16))
         offset, length = error.window(self.log.size[error.block])
+        if abs(offset) > MOST_OFFSET:
+            return verdict("left", NEVER_GIVEN)
         promise = self.slots.access(pointer, offset, length)
         if promise.reason == LAST_GRANULE and error.state == "resized":
             promise = promise._replace(reason=IN_PLACE)

@@ -1,15 +1,15 @@
-"""What a profile, the sheet of its best table and other tables come to: the figures that tune_program and report show.
+"""What a profile, its sheet and other tables come to: the figures that tune_program and report show.
 
 The program itself scores, checks and tunes; here is only what its outputs mean for memory."""
 
 import os
 from collections import namedtuple
 
+import claims
 import texts
 
-GRANULE = 16  # bytes; a block begins with a header of one granule
+GRANULE = claims.GRANULE  # bytes; a block begins with a header of one granule
 NOTHING = "no bytes are counted in requests of at most 16,368 bytes: there is nothing to tune"
-FITTED = "the fitted table"
 OverTime = namedtuple("OverTime", "history fitted fit")  # texts: the history, the one that was fitted, and the fit of that
 OTHERS = [("Scudo's default", "scudo.classes"), ("Scudo's for Android", "scudo_android.classes")]
 
@@ -23,12 +23,12 @@ def profile_text(profile):
 
 
 def with_largest(profile):
-    """The profile with a request that class 1024 alone serves, so that its best table has this class. It adds no waste."""
+    """The profile with a request that class 1024 alone serves, so that each table for it has this class. It adds no waste."""
     return profile if profile.get(texts.LARGEST_SIZE) else {**profile, texts.LARGEST_SIZE: 1}
 
 
 def with_largest_block(history):
-    """The history with a block that class 1024 alone serves, so that its fitted table has this class. It adds at most 16 KiB."""
+    """The history with a block at each snapshot that class 1024 alone serves, so that each table for it has this class. It adds 16 KiB."""
     counts = history.counts.get(texts.LARGEST_SIZE) or [1] * history.snapshots
     return history._replace(counts={**history.counts, texts.LARGEST_SIZE: counts})
 
@@ -70,9 +70,9 @@ class Table:
 
 class Figures:
     """The figures of a profile, a sheet of it as text, and other tables as [(name, classes)]; with a history, those of its fit's table too,
-    and each table's footprint."""
+    and each table's footprint. GIVEN and HISTORY_GIVEN are what the profile and the history are called."""
 
-    def __init__(self, profile, sheet, others, over_time=None):
+    def __init__(self, profile, sheet, others, over_time=None, given="the profile", history_given="the history"):
         self.counts = {size: profile[size] for size in sorted(profile.keys() - {"large"}) if profile[size]}
         self.large = profile.get("large", 0)
         self.requests = sum(self.counts.values())
@@ -80,21 +80,32 @@ class Figures:
         if not self.bytes:
             raise texts.Refused(3, NOTHING)
         self.sheet = texts.parse_sheet(sheet)
-        self.best = Table("the best table", self.sheet.classes, profile)
+        self.best = Table(claims.name("profile"), self.sheet.classes, profile)
         if self.best.waste is None:
             unserved = f"the sheet's table does not serve {self.best.unserved} bytes, which the profile counts"
             raise texts.Refused(2, f"{unserved}: is it the sheet of another profile?")
         self.tuned, self.verdict = self.checked(profile, sheet)
+        self.judged = claims.Judged(
+            "profile", self.verdict, self.sheet.limit, self.sheet.step, self.sheet.classes, given, self.best.waste, self.forced
+        )
         self.others = [Table(name, classes, profile) for name, classes in others]
-        self.fitted = None
+        self.fitted = self.fit_judged = None
         if over_time is not None:
-            _, self.fit_verdict = run(["check-fit"], over_time.fit + over_time.fitted)
-            self.fitted = Table(FITTED, texts.parse_fit(over_time.fit).classes, profile)
-            self.others.append(self.fitted)
-            for table in (self.best, *self.others):
-                table.over(over_time.history)
+            self.fit(over_time, profile, history_given)
         _, tuned = run(["tune", "--limit", "32", "--step", str(self.sheet.step)], profile_text(self.tuned))
-        self.least = [row[0] for row in texts.parse_sheet(tuned).rows]  # the least waste of 1, 2, .. classes
+        # the least waste of at most 1, 2, .. classes that serve the profile, and have the classes that are forced
+        self.least = [row[0] for row in texts.parse_sheet(tuned).rows]
+
+    def fit(self, over_time, profile, given):
+        """The table of the fit, and the footprint of each."""
+        fit = texts.parse_fit(over_time.fit)
+        self.fitted = Table(claims.name("history"), fit.classes, profile)
+        self.others.append(self.fitted)
+        for table in (self.best, *self.others):
+            table.over(over_time.history)
+        forced = () if over_time.fitted == over_time.history else (texts.LARGEST_CLASS,)
+        _, verdict = run(["check-fit"], over_time.fit + over_time.fitted)
+        self.fit_judged = claims.Judged("history", verdict, fit.limit, fit.step, fit.classes, given, self.fitted.footprint, forced)
 
     @staticmethod
     def checked(profile, sheet):
@@ -108,19 +119,15 @@ class Figures:
 
     @property
     def forced(self):
-        """Whether the sheet is of the profile with class 1024 forced."""
-        return self.tuned.get(texts.LARGEST_SIZE) != self.counts.get(texts.LARGEST_SIZE)
-
-    @property
-    def optimal(self):
-        return self.verdict == "optimal"
+        """The classes that are forced: 1024, where the sheet is of the profile with a request that wants it, else none."""
+        return () if self.tuned.get(texts.LARGEST_SIZE) == self.counts.get(texts.LARGEST_SIZE) else (texts.LARGEST_CLASS,)
 
     def blocks(self, table):
         """The bytes of the blocks that the counted requests take: headers, requests and waste."""
         return GRANULE * self.requests + self.bytes + table.waste
 
     def saving(self, table):
-        """By how many bytes the blocks of the best table are less."""
+        """By how many bytes the blocks of the sheet's table are less."""
         return table.waste - self.best.waste
 
     def map_saving(self, table, objective):
@@ -130,7 +137,7 @@ class Figures:
         return None if table.waste is None else self.saving(table)
 
     def classes(self):
-        """For each class of the best table: its block in bytes, the least and the greatest size it serves, requests, bytes lost."""
+        """For each class of the sheet's table: its block in bytes, the least and the greatest size it serves, requests, bytes lost."""
         below = -1
         for granules in self.best.classes:
             most = GRANULE * granules - GRANULE
@@ -138,16 +145,13 @@ class Figures:
             yield GRANULE * granules, below + 1, most, sum(served.values()), sum((most - size) * count for size, count in served.items())
             below = most
 
-    def proof(self):
-        """What is known of the best table, in a sentence or two."""
-        classes = f"at most {self.sheet.limit} class{'es' if self.sheet.limit > 1 else ''}"
-        if self.sheet.step > 1:
-            classes += f", each a multiple of {GRANULE * self.sheet.step} bytes,"
-        if not self.optimal:
-            return f"`check` says `{self.verdict}`: this sheet does not show that its table is a best one for this profile."
-        if texts.unproved():
-            return f"Nothing is proved: MTE_TOOL names another program. It found no table of {classes} that loses less."
-        return f"Proved: `check` says `optimal`, so no table of {classes} that serves these requests loses less."
+    def known(self):
+        """What is known of the table of the sheet, and, with a history, of that of the fit."""
+        return [claims.sentence(judged, texts.trust()) for judged in (self.judged, self.fit_judged) if judged]
+
+    def unheld(self):
+        """What `check` and `check-fit` say where nothing follows."""
+        return [claims.says(judged) for judged in (self.judged, self.fit_judged) if judged and not claims.holds(judged)]
 
 
 def other_tables(paths):

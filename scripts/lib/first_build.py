@@ -11,15 +11,18 @@ alone prints how many lanes there are.
 """
 
 import os
-import re
-import shutil
-import signal
-import subprocess
 import sys
-import tempfile
 
 sys.dont_write_bytecode = True
-from crate_list import CrateList
+import running  # noqa: E402
+
+import re  # noqa: E402
+import shutil  # noqa: E402
+import signal  # noqa: E402
+import subprocess  # noqa: E402
+import tempfile  # noqa: E402
+
+from crate_list import CrateList  # noqa: E402
 
 MEMORY_OF_A_PROOF = 4 << 30
 
@@ -129,7 +132,12 @@ class Build:
         shutil.rmtree(self.folder, ignore_errors=True)
 
 
-def main(root, program):
+def main(words):
+    if not words:
+        return print(lanes())
+    for number in (signal.SIGTERM, signal.SIGHUP):
+        signal.signal(number, lambda it, frame: sys.exit(128 + it))
+    root, program = words
     build = Build(CrateList(root), program)
     try:
         return build.prove(lanes())
@@ -138,9 +146,4 @@ def main(root, program):
 
 
 if __name__ == "__main__":
-    for number in (signal.SIGTERM, signal.SIGHUP):
-        signal.signal(number, lambda it, frame: sys.exit(128 + it))
-    if len(sys.argv) == 1:
-        print(lanes())
-    else:
-        sys.exit(main(*sys.argv[1:]))
+    running.run("mte_tool", main)

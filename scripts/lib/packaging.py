@@ -14,16 +14,18 @@ from collections import namedtuple
 
 import completions
 import helps
+import manifest
 import manual
 import texts
 import web_page
 from texts import Refused
 
 NAME = "mte-tool"
-# what is packed: the program's path, the library's folder and the page's modules, or None; where each of these comes from; and names
-Parts = namedtuple("Parts", "program library modules origins left_out version commit time kit maintainer")
-COMMANDS = """check_sheet draw_waste find_faults memcached_profile memcached_sizes merge_profiles page profile_program report scudo_classes
-trace_program traced_c++ traced_cc tune_program""".split()
+# what is packed: the program's path, its manifest, the library's folder and the page's modules, or None; where each of these comes from;
+# and names
+Parts = namedtuple("Parts", "program manifest library modules origins left_out version commit time kit maintainer")
+COMMANDS = """check_sheet draw_waste find_faults manifest memcached_profile memcached_sizes merge_profiles page profile_program report
+scudo_classes trace_program traced_c++ traced_cc tune_program""".split()
 RECORDERS = ("sizes", "trace")
 MULTIARCH = "x86_64-linux-gnu"  # what the toolchain builds for
 SHARE, PRIVATE, LIBRARIES = f"usr/share/{NAME}", f"usr/lib/{NAME}", f"usr/lib/{MULTIARCH}"
@@ -107,9 +109,20 @@ def stripped(tree, name):
 
 
 def put_program(tree, parts):
+    """The program, and its manifest with the hash that it has without its symbols."""
     tree.copy(parts.program, "usr/bin/mte_tool", 0o755)
     stripped(tree, "usr/bin/mte_tool")
     tree.link(f"{PRIVATE}/mte_tool", "usr/bin/mte_tool")
+    packed = parts.manifest._replace(program=manifest.hash_of(tree.path("usr/bin/mte_tool")))
+    tree.write(manifest.path_of(f"{PRIVATE}/mte_tool"), manifest.text_of(packed))
+
+
+def trusted(parts):
+    """What is known of the program, for the package's description."""
+    if parts.manifest.proofs != "proved":
+        return "Nothing shows that this build of the program is proved."
+    return """Every function of the program and of the library for C is proved to be safe, to return and to meet its contract. The scripts,
+    the page and the heap of the page in WebAssembly are tested, and not proved."""
 
 
 def modules_of_commands():
@@ -249,7 +262,7 @@ document has `scripts/tune_program ..`, type `mte_tune_program ..`, and `mte_too
 
     mte_tune_program sqlite3 :memory: < /{SHARE}/examples/sqlite_large.sql
 
-takes a program to its best table.
+takes a program to a table of its own. `mte_manifest` prints of which sources the program was built, and whether it is proved.
 
 Where it comes from
 -------------------
@@ -259,9 +272,9 @@ Where it comes from
 What is not here
 ----------------
 
-- the proofs: /usr/bin/mte_tool is what they were checked for, but they are in the repository, with the contracts and the crates. Links of
-  the documents to `crates` lead there.
-- the scripts that build and test: `library`, `package`, `bench`, `edits`, `refuse_memory` and `tests`.
+- the proofs: they are in the repository, with the contracts and the crates. Links of the documents to `crates` lead there.
+- the scripts that build and test: `library`, `package`, `bench`, `edits`, `refuse_memory` and `tests`; and `statement`, which reads the
+  crates.
 
 Left out of this package, because it could not be made or was not wanted:
 

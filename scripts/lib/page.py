@@ -2,6 +2,8 @@
 
 import math
 
+import claims
+import html_safe
 import texts
 from figures import GRANULE, byte_text, class_text, kibibytes, number, numbered, percent
 from pictures import Picture, escape, shown
@@ -34,7 +36,7 @@ th { font-weight: 600; vertical-align: bottom; white-space: normal }
 th:first-child { text-align: left }
 tbody th { font-weight: 400; white-space: nowrap }
 #tables tbody th { min-width: 5rem; overflow-wrap: break-word; white-space: normal }
-.best > * { font-weight: 600 }
+.tuned > * { font-weight: 600 }
 .empty > * { color: var(--soft) }
 .share { display: inline-block; min-width: 4.25em; color: var(--soft); font-weight: 400 }
 pre { background: var(--shade); border: 1px solid var(--line); border-radius: 6px; padding: .75rem; white-space: pre-wrap }
@@ -63,7 +65,7 @@ svg text { fill: var(--soft); font: 12px system-ui, -apple-system, "Segoe UI", "
 }
 """
 
-COLORS = 6  # --c0, of the best table, to --c5
+COLORS = 6  # --c0, of the tuned table, to --c5
 SIZE_TICKS = [(16, "16"), (64, "64"), (256, "256"), (1024, "1 KiB"), (4096, "4 KiB"), (16384, "16 KiB")]
 FIRST_OCTAVE, OCTAVES = 3, 11  # the sizes from 8 bytes to 16 KiB
 
@@ -77,11 +79,12 @@ def page(figures, name, counted, warnings, check, check_fit=None, tables=None):
     default = figures.others[0]
     if default.waste is not None:
         lead += f" {default.name} loses {numbered(default.waste, 'byte')}, {share(figures, default)}."
-    forced = " Class 1024 is kept by a request of 16,368 bytes, which adds no waste." if figures.forced else ""
-    over_time = " The footprint is the most memory of the classes over time; the fitted table has the least." if figures.fitted else ""
-    proved = int(figures.proof().startswith("Proved"))
+    over_time = " The footprint is the most memory of the classes over time." if figures.fitted else ""
+    known = figures.known()
+    proved = int(claims.holds(figures.judged) and texts.trust().is_proved)
+    caption = claims.curve_caption("profile", figures.sheet.step, figures.judged.given, figures.forced)
     where = "" if texts.IS_PACKAGED else " at the top of the repository of <code>mte_tool</code>"
-    return f"""<!DOCTYPE html>
+    return html_safe.with_policy(f"""<!DOCTYPE html>
 <html lang="en">
 <head>
 <meta charset="utf-8">
@@ -92,7 +95,8 @@ def page(figures, name, counted, warnings, check, check_fit=None, tables=None):
 <body>
 <h1>Size classes for {escape(name)}</h1>
 <p class="lead">{escape(lead)}</p>
-<p id="proof" data-verdict="{escape(figures.verdict)}" data-proved="{proved}">{with_code(figures.proof())}</p>
+<p id="proof" data-verdict="{escape(figures.verdict)}" data-proved="{proved}">{with_code(known[0])}</p>
+{f'<p id="proof-fit">{with_code(known[1])}</p>' if figures.fitted else ""}
 {lines(f'<p class="warning">{escape(text)}</p>' for text in warnings)}
 {f'<p><a href="{tables}">Try other tables for these counts</a>, in a page that tunes and checks as you turn its knobs.</p>' * bool(tables)}
 <dl>
@@ -103,19 +107,18 @@ def page(figures, name, counted, warnings, check, check_fit=None, tables=None):
 </dl>
 <h2>Each table</h2>
 <div class="scroll"><table id="tables">
-{headings("Table", "Classes", "Waste, bytes", "The best one saves", *["Footprint"] * bool(figures.fitted))}
-<tbody>{table_row(figures, best, "best")}
+{headings("Table", "Classes", "Waste, bytes", "The tuned one saves", *["Footprint"] * bool(figures.fitted))}
+<tbody>{table_row(figures, best, "tuned")}
 {lines(table_row(figures, table, f"other-{at}") for at, table in enumerate(figures.others))}</tbody>
 </table></div>
 <p class="soft">A block has a header of 16 bytes, the bytes that were requested, and those that are lost by rounding: the
-waste. Its share is of the requested bytes. The saving has its share of all blocks with that table.{forced}{over_time}</p>
+waste. Its share is of the requested bytes. The saving has its share of all blocks with that table.{over_time}</p>
 <h2>How many classes?</h2>
 <figure>{curve(figures, "wide", 760, 340)}{curve(figures, "narrow", 340, 260)}
 {curve_key(figures)}
-<figcaption>The line is the least waste that a table of so many classes can have. Where it leaves the picture, it goes on
-upwards.</figcaption></figure>
+<figcaption>{escape(caption)} Where it leaves the picture, it goes on upwards.</figcaption></figure>
 <details><summary>The line in numbers</summary><div class="scroll"><table id="curve">
-{headings("Classes", "Least waste, bytes")}
+{headings("Classes", claims.TEMPLATES["profile.curve.column"])}
 <tbody>{lines(least_row(figures, *row) for row in enumerate(figures.least, 1))}</tbody>
 </table></div></details>
 <h2>What was requested</h2>
@@ -123,19 +126,19 @@ upwards.</figcaption></figure>
 {border_key(figures)}
 <figcaption>A bar is the bytes that were requested in neighbouring sizes. A border is the largest size that a class
 serves.</figcaption></figure>
-<h2>The classes of the best table</h2>
+<h2>The classes of the tuned table</h2>
 <div class="scroll"><table id="classes">
 {headings("Block, bytes", "Sizes served", "Requests", "Bytes lost", "Share")}
 <tbody>{lines(class_row(figures, *row) for row in figures.classes())}</tbody>
 </table></div>
 <h2>Check it again</h2>
-<p>This is the best table as a class line, in granules of 16 bytes:</p>
+<p>This is the tuned table as a class line, in granules of 16 bytes:</p>
 <pre id="class-line">{class_text(best.classes)}</pre>
 <p>The sheet has this table and its certificate. Run this{where}:</p>
 <pre id="check">{escape(check)}</pre>
 {fit_section(figures, check_fit) if figures.fitted else ""}</body>
 </html>
-"""
+""")
 
 
 def fit_section(figures, check):
@@ -183,16 +186,16 @@ def table_row(figures, table, kind):
     else:
         cells += cell("waste", table.waste, with_share(number(table.waste), table.waste, figures.bytes))
         saving = figures.saving(table)
-        cells += "<td></td>" if kind == "best" else cell("saving", saving, with_share(kibibytes(saving), saving, figures.blocks(table)))
+        cells += "<td></td>" if kind == "tuned" else cell("saving", saving, with_share(kibibytes(saving), saving, figures.blocks(table)))
     if figures.fitted:
         cells += "<td></td>" if table.footprint is None else cell("footprint", table.footprint, kibibytes(table.footprint))
-    form = ' class="best"' if kind == "best" else ""
+    form = ' class="tuned"' if kind == "tuned" else ""
     return f'<tr data-table="{kind}"{form}>{cells}</tr>'
 
 
 def least_row(figures, classes, waste):
     text = with_share(number(waste), waste, figures.bytes)
-    return f'<tr data-classes="{classes}"><th scope="row">{classes}</th>{cell("least", waste, text)}</tr>'
+    return f'<tr data-classes="{classes}"><th scope="row">{classes}</th>{cell("lowest", waste, text)}</tr>'
 
 
 def class_row(figures, block, least, most, requests, lost):
@@ -244,7 +247,7 @@ def curve_key(figures):
 
 def curve(figures, kind, width, height):
     """The least waste by the number of classes, and each table as a point."""
-    picture = Picture(kind, width, height, 46, "least waste, share of the requested bytes")
+    picture = Picture(kind, width, height, 46, claims.TEMPLATES["profile.curve.axis"])
     most = max([len(figures.least)] + [len(table.classes) for _, table in served(figures)])
     # as high as the worst table, or as 8 classes, and some more: tables of very few classes waste far more
     highest = max([figures.least[:8][-1]] + [table.waste for _, table in served(figures)])
@@ -266,11 +269,11 @@ def curve(figures, kind, width, height):
     for style, table in reversed(served(figures)):
         title = f"{table.name}: {len(table.classes)} classes, {number(table.waste)} bytes"
         picture.parts.append(mark(style, *at(len(table.classes), table.waste), title))
-    return picture.svg("The least waste by the number of classes")
+    return picture.svg(claims.TEMPLATES["profile.curve"])
 
 
 def border_key(figures):
-    return key([(0, "borders of the best table"), (style_of(0), f"borders of {figures.others[0].name}")])
+    return key([(0, f"borders of {figures.best.name}"), (style_of(0), f"borders of {figures.others[0].name}")])
 
 
 def bars(counts, per_octave):
@@ -285,7 +288,7 @@ def bars(counts, per_octave):
 
 
 def histogram(figures, kind, width, height, per_octave):
-    """The requested bytes by size, on a logarithmic scale. Under it are the class borders of the best table and of Scudo's default."""
+    """The requested bytes by size, on a logarithmic scale. Under it are the class borders of the tuned table and of Scudo's default."""
     picture = Picture(kind, width, height, 90, "requested bytes")
     groups = bars(figures.counts, per_octave)
     highest = max(total for *_, total in groups.values())
@@ -309,7 +312,7 @@ def histogram(figures, kind, width, height, per_octave):
     for size, words in SIZE_TICKS:
         picture.tick(x(size), words)
     borders(figures.best, picture.top, picture.bottom, 'stroke="var(--c0)" stroke-opacity=".25"')
-    for row, (words, style, table) in enumerate([("best", 0, figures.best), ("Scudo", style_of(0), figures.others[0])]):
+    for row, (words, style, table) in enumerate([("tuned", 0, figures.best), ("Scudo", style_of(0), figures.others[0])]):
         y = picture.bottom + 26 + 20 * row
         picture.text(picture.left - 6, y + 12, words, "end")
         borders(table, y, y + 16, f'stroke="var(--c{style})" stroke-width="1.5"')

@@ -3,9 +3,12 @@
 import html
 import math
 
+import html_safe
+
 
 def escape(text):
-    return html.escape(str(text))
+    """A text within a page or a picture. A name from outside may have any byte: what is no text in it is shown escaped."""
+    return html.escape(html_safe.shown(text))
 
 
 def shown(value):

@@ -5,11 +5,14 @@ static library is proved once more over the libraries that `rt ci` left, and bui
   python3 static_libraries.py FOLDER CRATE..    builds libCRATE.a of each crate in that folder"""
 
 import os
-import shutil
-import subprocess
 import sys
 
-from crate_list import CrateList
+import running
+
+import shutil  # noqa: E402
+import subprocess  # noqa: E402
+
+from crate_list import CrateList  # noqa: E402
 
 ROOT = os.path.dirname(os.path.dirname(os.path.dirname(os.path.realpath(__file__))))
 
@@ -83,8 +86,15 @@ def build(crate, archive, toolchain):
     run(compiled, cwd=place)
 
 
-def main():
-    folder, *crates = sys.argv[1:]
+def main(words):
+    folder, *crates = words
+    try:
+        make(folder, crates)
+    except (subprocess.CalledProcessError, OSError) as error:
+        raise running.Refused(running.FAILED, str(error)) from None
+
+
+def make(folder, crates):
     for crate in crates:
         archive = os.path.join(os.path.abspath(folder), f"lib{crate}.a")
         if are_left(crate):
@@ -96,7 +106,4 @@ def main():
 
 
 if __name__ == "__main__":
-    try:
-        main()
-    except (subprocess.CalledProcessError, OSError) as error:
-        sys.exit(f"static_libraries: {error}")
+    running.run("static_libraries", main)

@@ -1,13 +1,4 @@
-"""What the Python scripts share: texts in, standard output, the program mte_tool, and how a script ends.
-
-A script finds this module from its own real path, so that a link to it works, and leaves no compiled file beside it:
-
-    sys.dont_write_bytecode = True
-    sys.path.insert(0, os.path.join(os.path.dirname(os.path.realpath(__file__)), "lib"))
-    import texts
-
-    def merge(words): ..                     # raises texts.Refused(2, "what is wrong, and how to mend it")
-    texts.main("merge_profiles", merge)
+"""What the Python scripts share: texts in, standard output, and the program mte_tool. A script begins and ends by `running`.
 
 docs/FORMATS.md says what the texts are. Files are read as bytes, since they may hold anything; no message shows a byte that is no text.
 """
@@ -16,9 +7,14 @@ import functools
 import io
 import os
 import re
+import shlex
 import subprocess
 import sys
 from collections import defaultdict, namedtuple
+
+import claims
+import manifest
+from running import Refused, printable
 
 SCRIPTS = os.path.dirname(os.path.dirname(os.path.realpath(__file__)))
 ROOT = os.path.dirname(SCRIPTS)
@@ -30,7 +26,7 @@ BUILT = os.path.join(ROOT, "mte_tool" if IS_PACKAGED else "crates/mte_tool/out/m
 LARGEST_SIZE = 16_368  # the largest request that a class serves, in bytes; a larger one is `large`
 MOST_COUNT = 1_000_000_000  # the most that a line of a profile counts
 MOST_CLASSES = 32
-MOST_SNAPSHOTS = 64
+MOST_SNAPSHOTS = 1024
 MOST_INPUT = 67_108_864  # the most bytes that the program reads
 LARGEST_CLASS = 1024  # in granules
 
@@ -39,36 +35,13 @@ MOST_DIGITS = 4_000  # of a number; Python itself converts 4,300
 
 DIGITS = b"0123456789"
 LARGE = b"%d" % (LARGEST_SIZE + 1)
-COUNTED = re.compile(rb"[ \t]*(0*[0-9]{1,%d}|large)[ \t]+(0*[0-9]{1,%d})[ \t]*" % (MOST_DIGITS, MOST_DIGITS))
+COUNTED = re.compile(rb"[ \t]*([0-9]+|large)[ \t]+([0-9]+)[ \t]*")
 EVENT_WORDS = (b"malloc", b"calloc", b"realloc", b"free", b"load", b"store", b"addg", b"subg")
 SHEET_WORDS = (b"classes", b"limit", b"step", b"waste", b"footprint", b"row")
 
 Sheet = namedtuple("Sheet", "classes limit step waste rows")
 Fit = namedtuple("Fit", "classes limit step footprint rows")
 History = namedtuple("History", "snapshots counts")  # how many snapshots; for each size, and `large`, its count at each of them
-
-
-class Refused(Exception):
-    """Ends a script with this status and this line on standard error: 2 refuses words or input, 3 is a failure."""
-
-    def __init__(self, status, text):
-        super().__init__(text)
-        self.status = status
-        self.text = text
-
-
-def main(name, function):
-    """Ends the process with what function(words) returns as the status, None for 0, or as it is refused."""
-    try:
-        if sys.stdout is None:
-            raise Refused(3, "standard output is closed")
-        status = function(sys.argv[1:]) or 0
-    except Refused as refused:
-        say(name, refused.text)
-        status = refused.status
-    except KeyboardInterrupt:
-        status = 130
-    sys.exit(status)
 
 
 def called(name):
@@ -94,21 +67,30 @@ def as_called(text):
     return script_names().sub(here, text) if IS_PACKAGED else text
 
 
-def write_help(text):
-    """Writes a help, so that its examples can be run as they stand, and the documents that it names are found."""
+def quoted(word: str) -> str:
+    """A word for the shell, all of whose characters are text: bash, zsh and ksh know the others by their numbers in $'..'."""
+    if word.isprintable():
+        return shlex.quote(word)
+    return "$'" + "".join(chr(b) if 32 <= b < 127 and b not in b"\\'" else f"\\x{b:02x}" for b in os.fsencode(word)) + "'"
+
+
+def help_text(text):
+    """A help, so that its examples can be run as they stand, and the documents that it names are found."""
     if IS_PACKAGED:
         places = {name: os.path.realpath(os.path.join(ROOT, name)) for name in ("docs", "examples")}
         text = re.sub(r"(?<![\w/.-])(docs|examples)/(?=\w)", lambda match: f"{places[match[1]]}/", as_called(text))
-    write(text)
+    return text
+
+
+def write_help(text):
+    write(help_text(text))
 
 
 def say(name, text):
     """A line on standard error. A name of a file may have any character: those that move the cursor are shown escaped."""
-    name, text = called(name), as_called(text)
     if sys.stderr is not None:
-        shown = "".join(c if c.isprintable() else c.encode("unicode_escape").decode() for c in text.replace("\t", " "))
         try:
-            print(f"{name}: {shown}", file=sys.stderr, flush=True)
+            print(f"{called(name)}: {printable(as_called(text))}", file=sys.stderr, flush=True)
         except OSError:
             pass  # there is nowhere left to say it
 
@@ -203,7 +185,7 @@ def parse_history(data, name="the history"):
     if not match or int(match[1]) > MOST_SNAPSHOTS:
         if wrong := encoding(first):
             raise Refused(2, f"{name}: {wrong}")
-        if COUNTED.fullmatch(first):
+        if counted(first):
             raise Refused(2, f"{name}: line 1 is of a profile, and no history: `profile_program --history` records one")
         if first.split(b" ")[0] in EVENT_WORDS + SHEET_WORDS:
             raise fault(first, 1, name, "SIZE N1 .. NT")
@@ -260,6 +242,16 @@ def history_text(history):
     return "".join(lines)
 
 
+def profile_text(counts):
+    """A profile as FORMATS.md has it, scaled down as a history is."""
+    top = max(counts.values(), default=0)
+    lines = []
+    for size in [*range(LARGEST_SIZE + 1), "large"]:
+        if count := counts.get(size):
+            lines.append(f"{size} {-(-count * MOST_COUNT // top) if top > MOST_COUNT else count}\n")
+    return "".join(lines)
+
+
 def whole_lines(file, path):
     """The bytes of a file in pieces of whole lines. The last line is given the newline that it may lack."""
     rest = b""
@@ -290,13 +282,20 @@ def add_lines(counts, piece):
     if piece.translate(None, DIGITS) == b" \n" * lines and len(words) == 2 * lines and len(max(words, key=len)) <= MOST_DIGITS:
         sizes, numbers = words[::2], words[1::2]
     else:
-        matches = [COUNTED.fullmatch(line) for line in lines_of(piece)]
-        if not all(matches):
+        pairs = [counted(line) for line in lines_of(piece)]
+        if not all(pairs):
             return False
-        sizes, numbers = [match[1].replace(b"large", LARGE) for match in matches], [match[2] for match in matches]
+        sizes, numbers = [size.replace(b"large", LARGE) for size, _ in pairs], [number for _, number in pairs]
     for size, number in zip(map(int, sizes), map(int, numbers)):
         counts[size] += number
     return True
+
+
+def counted(line):
+    """The size and the count of a line, without leading zeros, or None where it is no such line or a number has too many digits."""
+    match = COUNTED.fullmatch(line)
+    pair = match and [word.lstrip(b"0") or b"0" for word in match.groups()]
+    return pair if pair and len(max(pair, key=len)) <= MOST_DIGITS else None
 
 
 def lines_of(text):
@@ -308,7 +307,7 @@ def lines_of(text):
 def refuse_line(piece, line, path):
     """Refuses the first faulty line of a piece that begins at this line."""
     for text in lines_of(piece):
-        if not COUNTED.fullmatch(text):
+        if not counted(text):
             raise fault(text, line, path)
         line += 1
     raise AssertionError("no line is faulty")
@@ -375,7 +374,7 @@ def parse_class_line(text, name="the class line"):
         raise Refused(2, f"{name}: {wrong}")
     if text.split(b" ", 1)[0] in EVENT_WORDS:
         raise Refused(2, f"{name}: line 1 is of a trace, and no class line: `mte_tool run` makes the sheet of a trace")
-    if COUNTED.fullmatch(text):
+    if counted(text):
         raise Refused(2, f"{name}: line 1 is of a profile, and no class line: `mte_tool tune` makes the sheet of a profile")
     if is_history(text):
         raise Refused(2, f"{name}: line 1 is of a history, and no class line: `mte_tool fit` makes the fit of a history")
@@ -422,10 +421,13 @@ def parse_parts(text, name, kind, cost, make):
     return make(classes, numbers[b"limit"], numbers[b"step"], numbers[cost], rows)
 
 
-def unproved():
-    """What to say where MTE_TOOL names another program than the proved one, else None."""
-    other = os.environ.get("MTE_TOOL")
-    return f"MTE_TOOL names another program, {other}: nothing is proved of what it answers" if other else None
+@functools.lru_cache(maxsize=None)
+def trust() -> claims.Trust:
+    """Whether the program that answers is a proved one: no other that MTE_TOOL names, but the one of its manifest."""
+    if os.environ.get("MTE_TOOL"):
+        return claims.Trust(False, "MTE_TOOL names another program")
+    why = manifest.why_unproved(program(), None if IS_PACKAGED else ROOT)
+    return claims.Trust(not why, why)
 
 
 @functools.lru_cache(maxsize=None)
@@ -433,7 +435,7 @@ def program():
     """The path of the program: $MTE_TOOL, or the proved one, built first where that has to be."""
     other = os.environ.get("MTE_TOOL")
     if other:
-        say("mte_tool", unproved())
+        say("mte_tool", claims.another_program(other))
         return os.path.abspath(other)
     launcher = os.path.join(SCRIPTS, "mte_tool")
     # the launcher says on standard error how far its build is

@@ -1,12 +1,14 @@
 """Puts the page of scripts/page together from the sources in web/ and the engines in WebAssembly."""
 
 import base64
-import importlib.machinery
-import importlib.util
-import json
+import functools
 import os
 import subprocess
 
+import claims
+import html_safe
+import manifest
+import scudo_map
 import texts
 import webassembly
 
@@ -14,9 +16,11 @@ WEB = os.path.join(webassembly.ROOT, "web")
 KEPT = "page.wasm"  # the module in the folder `out` of its crate; not NAME.wasm, which rt lib removes
 # in the order in which they use one another
 WORKER = ("engine", "model", "words", "worker")
-SCRIPT = ("model", "words", "pictures", "tune", "heap", "main")
+SCRIPT = ("model", "words", "claims", "pictures", "tune", "heap", "main")
 # the crate of each module, and how the names of its exported functions begin
 MODULES = {"tool": ("mte_c", "mte_c_"), "steps": ("mte_step", "mte_step_")}
+# what the page's policy lets it do: compile the engines, and start the worker that it makes of its own text
+ALLOWED = {"script-src": "'wasm-unsafe-eval'", "worker-src": "blob:"}
 EXAMPLES = {
     "the requests of sqlite3": "sqlite.profile",
     "the requests of jq": "jq.profile",
@@ -32,7 +36,7 @@ def source(name):
 
 def scripts(names):
     """The sources as one script; no word in it ends the element that it stands in."""
-    return "\n".join(source(f"{name}.js") for name in names).replace("</", "<\\/")
+    return html_safe.code("\n".join(source(f"{name}.js") for name in names))
 
 
 def example(name):
@@ -55,8 +59,29 @@ def kept_at(name):
     return os.path.join(webassembly.ROOT, "crates", MODULES[name][0], "out", KEPT)
 
 
+@functools.lru_cache(maxsize=None)
+def sources_at_first():
+    """The hash of the sources, as they were when it was asked for first."""
+    return manifest.sources_of(webassembly.ROOT)
+
+
 def is_old(kept, newest):
-    return not os.path.exists(kept) or os.stat(kept).st_mtime < newest
+    """Whether a module has to be built: it is older than a source, or not the one of the manifest that its build wrote beside it."""
+    if not os.path.exists(kept) or os.stat(kept).st_mtime < newest:
+        return True
+    return not texts.IS_PACKAGED and bool(manifest.why_unproved(kept, None) or manifest.read(kept).sources != sources_at_first())
+
+
+def keep(kept, data, newest, sources):
+    """Keeps a module that was just built of sources with this hash, with its manifest; none where they have changed since."""
+    with open(f"{kept}.new", "wb") as file:
+        file.write(data)
+    os.utime(f"{kept}.new", (newest, newest))
+    os.replace(f"{kept}.new", kept)
+    if manifest.sources_of(webassembly.ROOT) == sources:
+        version = webassembly.run(["rt", "version"]).split("\n")[0]
+        with open(manifest.path_of(kept), "w", encoding="ascii") as file:
+            file.write(manifest.text_of(manifest.Manifest(manifest.hash_of(kept), sources, version, "proved")))
 
 
 def at_hand():
@@ -69,17 +94,13 @@ def at_hand():
 
 
 def engines(tell=lambda words: None):
-    """The bytes of each module, built where a source is newer than it."""
+    """The bytes of each module, built where it is none of these sources."""
     found, newest = {}, newest_source()
     for name, (crate, prefix) in MODULES.items():
         kept = kept_at(name)
         if is_old(kept, newest):
             tell(f"proving {crate} and compiling it to WebAssembly; the first time this takes as long as proving all")
-            data = webassembly.wasm(crate, prefix)
-            with open(f"{kept}.new", "wb") as file:
-                file.write(data)
-            os.utime(f"{kept}.new", (newest, newest))
-            os.replace(f"{kept}.new", kept)
+            keep(kept, webassembly.wasm(crate, prefix), newest, sources_at_first())
         with open(kept, "rb") as file:
             found[name] = file.read()
     return found
@@ -99,34 +120,28 @@ def built(name):
         raise texts.Refused(3, f"the engines of the page could not be built: {error}") from None
 
 
-def scudo_map():
-    """The C++ of a table, from the script that prints it."""
-    path = os.path.join(texts.SCRIPTS, "scudo_classes")
-    loader = importlib.machinery.SourceFileLoader("scudo_classes", path)
-    made = importlib.util.module_from_spec(importlib.util.spec_from_loader("scudo_classes", loader))
-    loader.exec_module(made)
-    return made.MAP + made.AS_DEFAULT
-
-
-def page(modules, profile=None, trace=None, replay=None):
-    """The page. A profile (or a history) and a trace are (name, text), or left out. A trace may come with its replay: the class line, the
-    numbers of the heap, and notes, each (event, text)."""
+def page(modules, profile=None, trace=None, replay=None, options=None):
+    """The page. A profile (or a history) and a trace are (name, text), or left out. OPTIONS are those with which it tunes first: the limit,
+    the step, and whether class 1024 is kept. A trace may come with its replay: the class line, the numbers of the heap, and notes, each
+    (event, text)."""
     data = {name: base64.b64encode(bytes_).decode() for name, bytes_ in modules.items()}
     data["examples"] = {name: example(file) for name, file in EXAMPLES.items()}
     data["scudo"], data["android"] = example("scudo.classes").strip(), example("scudo_android.classes").strip()
-    data["map"] = scudo_map()
-    data["given"] = {name: {"name": of[0], "text": of[1]} for name, of in (("profile", profile), ("trace", trace)) if of}
+    data["claims"], data["map"] = claims.templates(), scudo_map.for_page()
+    data["given"] = {name: {"name": html_safe.shown(of[0]), "text": of[1]} for name, of in (("profile", profile), ("trace", trace)) if of}
+    if options:
+        data["given"]["options"] = options
     if replay:
         data["given"]["replay"] = replay
     parts = {
         "STYLE": source("style.css").strip(),
         "WORKER": scripts(WORKER).strip(),
         "SCRIPT": scripts(SCRIPT).strip(),
-        "DATA": json.dumps(data, ensure_ascii=True).replace("</", "<\\/"),
+        "DATA": html_safe.data(data),
     }
     whole = source("page.html")
     for name, text in parts.items():
         before, mark, after = whole.partition(f"@{name}@")
         assert mark, f"web/page.html has no @{name}@"
         whole = before + text + after
-    return whole
+    return html_safe.with_policy(whole, ALLOWED)

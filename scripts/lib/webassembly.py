@@ -5,8 +5,8 @@ nothing proves the steps of this file. scripts/tests/page compares what comes ou
 import os
 import re
 import shutil
-import tempfile
 
+import private_folder
 import static_libraries
 from static_libraries import ROOT, run
 
@@ -161,7 +161,7 @@ def with_narrow_tables(data):
 
 def wasm(crate, prefix):
     """The bytes of the crate's library as WebAssembly of 32 bits. Its functions that begin with PREFIX are exported."""
-    with tempfile.TemporaryDirectory() as folder:
+    with private_folder.temporary() as folder:
         module = f"{folder}/module.bc"
         llvm_module(crate, module, folder)
         wide = linked(as_wasm64(module, prefix, folder), folder)

@@ -27,8 +27,10 @@
 #include <sys/resource.h>
 #include <sys/stat.h>
 #include <unistd.h>
+#include "checksum.h"
+#include "private_folder.h"
 
-// The first page of the file. The scripts read it: scripts/shims/recording.
+// The first page of the file. The scripts read it: lib/recording.py.
 enum { PAGE = 4096, NAME = 1024 };
 struct notes {
   uint64_t form;            // which library's file it is
@@ -45,6 +47,13 @@ struct notes {
   uint64_t wrong;           // frees of what is no live block
   uint64_t ended;           // why the trace ended: 1 that many events are the most, 2 there is no more room in the file
   uint64_t taken[64];       // sizes.c: for each snapshot the request after which it was taken, 0 where there is none
+  // What a wild store of the program did to the file is seen by these.
+  uint64_t seal;            // of the form and the room after the notes, which stay
+  uint64_t all;             // sizes.c: the sum of the counters, where all processes count
+  uint64_t updated;         // UPDATED while the snapshot of the peak is not whole
+  uint64_t sums[64];        // sizes.c: of each snapshot: the sum of its counters by their weights, and of `taken`
+  uint64_t turn;            // trace.c: which of the two marks is whole wherever the program ends
+  struct mark { uint64_t length, events, ended, sum, check; } marks[2];
   char allocator[NAME] __attribute__((aligned(NAME)));  // the file that has the allocator of the last process that has another one
 };
 _Static_assert(sizeof(struct notes) <= PAGE, "the notes are one page");
@@ -187,24 +196,31 @@ static void say(const char *variable, const char *file, const char *what, int er
   if (write(STDERR_FILENO, line, length) < 0) return;
 }
 
+// why a file that is open is not one to write to, or null
+static const char *not_own(const struct stat *status) {
+  if (!S_ISREG(status->st_mode)) return "it is no file";
+  if (is_anothers(status)) return "it is another user's file";  // who could cut it off, and so end the program
+  if (status->st_mode & 022) return "others can change it";
+  if (status->st_nlink > 1) return "it has another name too";
+  return NULL;
+}
+
 // Maps the file of an environment variable: a page of notes, and then at most `most` bytes but at least `least`, all of them with a place on
 // the disk: a write to a page that gets none would end the program. Null where that can't be. With RECORDING_QUIET there is no word where the
 // file's folder is gone: a script made it for its own run, and the program runs on.
 static void *map_file(const char *variable, uint64_t form, size_t least, size_t most, size_t *room) {
   char *file = getenv(variable);
   if (!file || !*file) return NULL;
-  int opened = open(file, O_RDWR | O_CREAT | O_CLOEXEC | O_NOFOLLOW | O_NONBLOCK | O_NOCTTY, 0666);
-  const char *wrong = NULL;
-  int error = 0;
+  const char *wrong;
+  int opened = open_private(file, O_CREAT, &wrong), error = 0;
   void *mapped = MAP_FAILED;
   struct stat status;
   if (opened < 0) {
-    if (errno == ENOENT && getenv("RECORDING_QUIET")) return NULL;
-    wrong = "the file can't be made or opened", error = errno;
-  } else if (fstat(opened, &status) || !S_ISREG(status.st_mode)) {
+    if (!wrong && errno == ENOENT && getenv("RECORDING_QUIET")) return NULL;
+    if (!wrong) wrong = "the file can't be made or opened", error = errno;
+  } else if (status_of(opened, &status)) {
     wrong = "it is no file";
-  } else if (status.st_uid && status.st_uid != geteuid()) {  // who could cut it off, and so end the program
-    wrong = "it is another user's file";
+  } else if ((wrong = not_own(&status))) {
   } else if (status.st_size >= (off_t)(PAGE + least)) {
     most = status.st_size - PAGE;
   } else if (status.st_size) {
@@ -234,6 +250,7 @@ static void *map_file(const char *variable, uint64_t form, size_t least, size_t 
     return NULL;
   }
   *room = most;
+  ((struct notes *)mapped)->seal = folded((const uint64_t[]){form, most}, 2);
   return mapped;
 }
 

@@ -17,11 +17,13 @@ static uint64_t early[COUNTERS], *counts = early;  // `early` until the file is 
 static int live;                                   // whether blocks are followed until they are freed
 static int is_other;                               // whether another process is the one that is counted
 
+static uint64_t early_all, *all = &early_all;      // the requests that all processes counted; the same for `early`
+
 static size_t counter_of(size_t size) { return size < LARGE ? size : LARGE; }
 
 static void request(size_t size) {
   if (live ? !here->recorded : is_other) note_other();
-  else if (!live) __atomic_fetch_add(&counts[counter_of(size)], 1, __ATOMIC_RELAXED);
+  else if (!live) __atomic_fetch_add(all, 1, __ATOMIC_RELAXED), __atomic_fetch_add(&counts[counter_of(size)], 1, __ATOMIC_RELAXED);
 }
 
 // Live blocks. `now` counts them; `counts` is a copy of it at the peak. Only the counters in `changed` differ from the copy.
@@ -29,11 +31,19 @@ static int64_t now[COUNTERS], bytes, peak;
 static unsigned short changed[COUNTERS];
 static char is_changed[COUNTERS];
 static int changes;
+static uint64_t sum;  // of `now`: each counter by its weight
+static uint64_t weight(size_t counter) { return (2 * counter + 1) * ODD; }
 static pthread_mutex_t lock = PTHREAD_MUTEX_INITIALIZER;
 
 // The snapshots. `counts` is the first; those that follow it are at multiples of the spacing.
 static uint64_t requests, spacing = 1;
 static int snapshots;
+static const uint64_t UPDATED = 0x6465746164707521;
+
+static void seal_snapshot(int k) {
+  notes->sums[k] = sum + requests * ODD;
+  __atomic_store_n(&notes->taken[k], requests, __ATOMIC_RELEASE);
+}
 
 static int free_snapshot(void) {
   int k = 1;
@@ -51,21 +61,26 @@ static void take_snapshot(void) {
     __atomic_thread_fence(__ATOMIC_SEQ_CST);  // who looks while it is written sees that none is there
   }
   memcpy(counts + (size_t)k * COUNTERS, now, sizeof now);
-  __atomic_store_n(&notes->taken[k], requests, __ATOMIC_RELEASE);
+  seal_snapshot(k);
+}
+
+static void update_peak(void) {
+  __atomic_store_n(&notes->updated, UPDATED, __ATOMIC_SEQ_CST);
+  notes->most = peak = bytes;
+  for (int i; changes; is_changed[i] = 0) i = changed[--changes], counts[i] = now[i];
+  seal_snapshot(0);
+  __atomic_store_n(&notes->updated, 0, __ATOMIC_RELEASE);
 }
 
 static void change(size_t size, int64_t by) {
   if (!here->recorded) return;
   size_t i = counter_of(size);
   pthread_mutex_lock(&lock);
-  now[i] += by;
+  now[i] += by, sum += by * weight(i);
   requests += by > 0;
   bytes += by * (int64_t)size;
   if (!is_changed[i]) is_changed[i] = 1, changed[changes++] = i;
-  if (bytes > peak) {
-    notes->most = peak = bytes, notes->taken[0] = requests;
-    for (; changes; is_changed[i] = 0) i = changed[--changes], counts[i] = now[i];
-  }
+  if (bytes > peak) update_peak();
   if (snapshots > 1 && by > 0 && !(requests & (spacing - 1))) take_snapshot();
   pthread_mutex_unlock(&lock);
 }
@@ -228,6 +243,7 @@ static void begin(void) {
   if (untouched) return;
   counts = (uint64_t *)((char *)notes + PAGE);
   if (!follow) {
+    __atomic_fetch_add(all = &notes->all, early_all, __ATOMIC_RELAXED);
     for (int i = 0; i < COUNTERS; i++) __atomic_fetch_add(&counts[i], early[i], __ATOMIC_RELAXED);
     return;
   }
@@ -236,7 +252,7 @@ static void begin(void) {
   if (is_other) return;
   if (history) snapshots = room / sizeof early < SNAPSHOTS ? room / sizeof early : SNAPSHOTS;
   // of what the process ran before in its own place
-  memset(notes->taken, 0, sizeof notes->taken), notes->most = 0, memset(counts, 0, sizeof early);
+  memset(notes->taken, 0, sizeof notes->taken), memset(notes->sums, 0, sizeof notes->sums), notes->most = 0, memset(counts, 0, sizeof early);
   is_aligned_own = is_same((void *)next.memalign, (void *)next.malloc) && is_same((void *)next.posix_memalign, (void *)next.malloc);
   live = 1;
 }

@@ -33,16 +33,34 @@ static void **place_of(void *pointer) {
   return &table[i];
 }
 
-static int is_tracing(void) { return text && here->recorded && !notes->ended; }
+static struct mark now;  // what the next mark is
+
+static int is_tracing(void) { return text && here->recorded && !now.ended; }
+
+// Two marks take turns, so that one is whole wherever the program ends.
+static void write_mark(void) {
+  static int turn;
+  notes->length = now.length, notes->events = now.events, notes->ended = now.ended;
+  now.check = folded(&now.length, 4);
+  notes->marks[turn = !turn] = now;
+  __atomic_store_n(&notes->turn, turn, __ATOMIC_RELEASE);
+}
 
 // Whether there is room for an event, with the two that it may have beside it; else the trace ends here.
 static int has_room(void) {
-  if (notes->events + 3 > most) notes->ended = 1;
-  else if (end - text < 3 * LINE) notes->ended = 2;
-  return !notes->ended;
+  if (now.ended) return 0;
+  if (now.events + 3 > most) now.ended = 1;
+  else if (end - text < 3 * LINE) now.ended = 2;
+  if (now.ended) write_mark();
+  return !now.ended;
 }
 
-#define LINE_OF(...) (text += snprintf(text, LINE, __VA_ARGS__), notes->events++, notes->length = text - (char *)notes - PAGE)
+static void end_line(int length) {
+  now.sum = crc(now.sum, text, length);
+  text += length, now.length += length, now.events++;
+  write_mark();
+}
+#define LINE_OF(...) end_line(snprintf(text, LINE, __VA_ARGS__))
 
 // the variable that holds the pointer; for a null pointer the lowest one that holds none; SHARED if there is none
 static int variable_of(void *pointer) {
@@ -124,7 +142,7 @@ static void lose(void *pointer) {
   if (!place && has_room()) {
     LINE_OF("load %d 0 1\n", variable);
     LINE_OF("free %d\n", variable);
-    variables[variable] = NULL, freed[variable] = pointer, freed_at[variable] = notes->events;
+    variables[variable] = NULL, freed[variable] = pointer, freed_at[variable] = now.events;
   } else if (place) {
     if (*place) *place = &gone;
     else wrong(pointer, NULL);
@@ -242,6 +260,7 @@ static void begin(void) {
   record_here(!is_other);
   if (is_other) return;
   most = first ? strtoul(first, NULL, 10) : EVENTS;
-  notes->length = notes->events = notes->variables = notes->shared = notes->wrong = notes->ended = 0;
+  notes->variables = notes->shared = notes->wrong = 0;
   text = (char *)notes + PAGE, end = text + room;
+  write_mark();
 }

@@ -73,7 +73,7 @@ static call read_call(const char *folder, int number) {
     char *words = (char *)read_file(folder, number, "call", &n);
     if (sscanf(words, "%15s %u %u %u %u %u %u %u %lu", c.command, &limit, &step, &granules, &seed, &quarantine, &end, &fault, &line) != 9)
         exit(2);
-    c.options = (mte_tool_options){granules, quarantine, (uint16_t)seed, (uint8_t)limit, (uint8_t)step};
+    c.options = (mte_tool_options){granules, quarantine, seed, limit, step};
     c.ending = (mte_tool_ending){end, fault, line};
     c.input = read_file(folder, number, "input", &c.length);
     c.want = read_file(folder, number, "want", &c.want_length);

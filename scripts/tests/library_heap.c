@@ -61,7 +61,7 @@ static void perform(mte_tool_heap *heap, uint64_t *at, const char *line, long nu
         memset(bytes, (int)byte, sizeof bytes);
         o = mte_tool_heap_store(heap, at[v] + (uint64_t)a, bytes, (size_t)b);
     } else if (!strcmp(word, "addg") && sscanf(line, "%*s %*d %*d %*d %ld", &c) == 1)
-        set(at + v, (o = mte_tool_heap_addg(heap, at[a], (uint8_t)b, (uint8_t)c), &o), 0);
+        set(at + v, (o = mte_tool_heap_addg(heap, at[a], (uint64_t)b, (uint64_t)c), &o), 0);
     else exit(2);
     write_line(out, number, &o, is_load ? bytes : NULL, (size_t)b);
 }
@@ -96,7 +96,7 @@ int main(int count, char **words) {
     if (fread(whole, 1, (1 << 26) - 1, file) == 0 && !feof(file)) return 2;
     fclose(file);
     trace = whole;
-    options = (mte_tool_options){(uint32_t)atol(words[2]), (uint32_t)atol(words[4]), (uint16_t)atol(words[3]), 0, 0};
+    options = (mte_tool_options){(uint64_t)atol(words[2]), (uint64_t)atol(words[4]), (uint64_t)atol(words[3]), 0, 0};
     for (i = 5; i < count; i++) classes[class_count++] = (uint16_t)atol(words[i]);
     if (in_threads) {
         char *first = replay(NULL);

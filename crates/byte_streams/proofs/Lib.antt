@@ -1,1 +1,2 @@
+mod HistoryWalks
 pub mod Transfers

@@ -1,9 +1,8 @@
 -- A step of the reading loop and of the writing loop.
-use Rattle.std.proofs.Common.{◌≡◌, ℕ, zero, suc, ◌<◌, ◌≤◌, List, ◌++◌, length, take, drop, Option, Some, None, Ok, refl, sym, ap, ◌∙◌, arith, append_assoc}
+use Rattle.std.proofs.Common.{◌≡◌, ℕ, ◌≤◌, List, ◌++◌, length, take, drop, Option, Some, None, sym, ap, ◌∙◌, append_assoc}
 use Rattle.std.proofs.lemmas.List.{take-append-drop, take-append-le}
 use Rattle.std.proofs.Math.Seq.{take-append_seam}
 use Rattle.std.specs.Io.KnownBytes.{Appends, Consumes}
-use Rattle.byte_streams.specs.Streams.{failed_writes}
 
 -- ---- reading
 
@@ -19,6 +18,10 @@ consumes_more None now next a b e f = tt
 consumes_more (Some xs) None next a b e f = absurd e
 consumes_more (Some xs) (Some ys) None a b e f = absurd f
 consumes_more (Some xs) (Some ys) (Some zs) a b e f = e ∙ ap (λ (t : List ℕ). a ++ t) f ∙ sym (append_assoc a b zs)
+
+-- the bytes that were moved in a first part and then in a second
+pub moved_more : (first now next a b : List ℕ) → now ≡ first ++ a → next ≡ now ++ b → next ≡ first ++ (a ++ b)
+moved_more first now next a b e f = f ∙ ap (λ (t : List ℕ). t ++ b) e ∙ append_assoc first a b
 
 -- ---- writing
 
@@ -39,8 +42,3 @@ appends_more None now next a b e f = tt
 appends_more (Some xs) None next a b e f = absurd e
 appends_more (Some xs) (Some ys) None a b e f = absurd f
 appends_more (Some xs) (Some ys) (Some zs) a b e f = f ∙ ap (λ (t : List ℕ). t ++ b) e ∙ append_assoc xs a b
-
-pub no_failure : (E : Type 0) (n len : ℕ) → 0 < n → n ≤ len → failed_writes {E = E} (Ok n) len ≡ 0
-no_failure E zero len some fits = absurd (omega arith)
-no_failure E (suc n) zero some fits = refl
-no_failure E (suc n) (suc len) some fits = refl

@@ -1,3 +1,4 @@
+pub mod Moved
 pub mod Transfer
 pub mod Streams
 pub mod TextLeft

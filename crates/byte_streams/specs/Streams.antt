@@ -1,27 +1,30 @@
--- What a source and a sink show of themselves, and which of their calls count as failed.
-use Rattle.std.specs.Prelude.{ℕ, zero, suc, ◌<◌, ◌^◌, List, Option, Result, Ok, Err}
+-- What a source and a sink show of themselves.
+use Rattle.std.specs.Prelude.{ℕ, zero, suc, Bool, List, Option, Some, None}
+use Rattle.byte_streams.specs.declared.history.History.{History}
 
 pub record SourceState : Type 0 where
   pub remaining : Option (List ℕ)  -- the bytes that are still to come, where they are known
-  pub reads : ℕ  -- how often it was read; promised below 2^63 only
+  pub given : List ℕ  -- all bytes that it has given so far
+  pub at_end : Bool  -- whether its last good read had room and gave none
+  pub reads : ℕ  -- how often it was read
   pub failed : ℕ  -- how many reads failed
 
 pub record SinkState : Type 0 where
-  pub taken : Option (List ℕ)  -- the bytes taken so far, where they are known
+  pub taken : Option (List ℕ)  -- the bytes that it holds, where they are known
+  pub written : List ℕ  -- all bytes that it has taken so far
   pub failed : ℕ  -- how many writes failed
 
--- So few calls have failed that the failure of one more can be counted.
-abbrev pub HaveFewFailed : ℕ → Type 0
-HaveFewFailed failed = failed < 2 ^ 63
+-- What a source shows that keeps the history of its reads.
+abbrev pub source_state : Option (List ℕ) → History → SourceState
+source_state remaining reads =
+    record { remaining = remaining; given = reads.bytes; at_end = reads.at_end; reads = reads.calls; failed = reads.failed }
 
--- How many failed reads a read adds.
-abbrev pub failed_reads : {E : Type 0} → Result ℕ E → ℕ
-failed_reads (Ok n) = 0
-failed_reads (Err e) = 1
+-- What a sink shows that keeps the history of its writes.
+abbrev pub sink_state : Option (List ℕ) → History → SinkState
+sink_state taken writes = record { taken = taken; written = writes.bytes; failed = writes.failed }
 
--- How many failed writes a write of this many bytes adds. A write that takes none of them has failed too.
-abbrev pub failed_writes : {E : Type 0} → Result ℕ E → ℕ → ℕ
-failed_writes (Ok n) zero = 0
-failed_writes (Ok zero) (suc len) = 1
-failed_writes (Ok (suc n)) (suc len) = 0
-failed_writes (Err e) len = 1
+-- How many calls still succeed before one fails, after one more call: the one that fails is the last that was to.
+abbrev pub one_call_fewer : Option ℕ → Option ℕ
+one_call_fewer None = None
+one_call_fewer (Some zero) = None
+one_call_fewer (Some (suc n)) = Some n

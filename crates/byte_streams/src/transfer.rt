@@ -1,6 +1,5 @@
 //! The two loops: reading a whole input, and writing a whole text.
 ghost use Rattle.std.specs.Prelude.{◌≡◌, [], IfOk, vec_len};
-ghost use Rattle.byte_streams.specs.Streams.{HaveFewFailed};
 ghost use Rattle.byte_streams.specs.Transfer.{HasRead, HasWritten, IsReadFewTimes};
 
 use crate::fault::ReadError;
@@ -22,8 +21,7 @@ pub fn read_all<R: ByteSource, I: Input>(
     source: &mut R,
     input: &mut I,
 ) -> Result<(), ReadError>
-    requires source { HaveFewFailed (R.state source.old).failed }
-    requires input { I.has_taken input.old [] }
+    requires { I.has_taken input.old [] }
     ensures read { HasRead (I.has_taken input.new) (R.state source.old) (R.state source.new) result }
     ensures few { IsReadFewTimes (R.state source.old) (R.state source.new) }
 {
@@ -55,14 +53,10 @@ fn new_piece(alloc: Global) -> Result<Vec<u8>, AllocError>
 
 /// Writes all pieces of the output. It takes no memory.
 pub fn write_all<O: Output, W: ByteSink>(output: &mut O, sink: &mut W) -> Result<(), Failure>
-    requires { HaveFewFailed (W.state sink.old).failed }
     ensures { HasWritten (O.rest output.old) (W.state sink.old) (W.state sink.new) result }
 {
     while !output.piece().is_empty() {
         let n = sink.write(output.piece())?;
-        if n == 0 {
-            return Err(Failure);
-        }
         output.advance(n);
     }
     Ok(())

@@ -4,7 +4,7 @@ ghost use Rattle.mte_engine.specs.Outcome.{Answer, AnswersInput};
 ghost use Rattle.mte_engine.specs.Tune.{AreTuneOptions, TuneAnswers};
 ghost use Rattle.mte_engine.specs.declared.engine.Status.{Status};
 
-use mte_engine::{MemorySink, MemorySource, ToolFault, tune};
+use mte_engine::{History, MemorySink, MemorySource, ToolFault, tune};
 use std::alloc::Global;
 
 /// The sheet that `tune` writes for a profile, both as texts. The options are `tune`'s. The errors are those of the engine: `Input` with the
@@ -16,16 +16,15 @@ pub fn tuned_sheet(alloc: Global, limit: u8, step: u8, profile: &[u8]) -> Result
 {
     let mut source = MemorySource {
         rest: profile,
+        reads: History::new(),
         most: usize::MAX,
         until_failure: None,
-        reads: 0,
-        failed: 0,
     };
     let mut sink = MemorySink {
         text: Vec::new(alloc),
+        writes: History::new(),
         most: usize::MAX,
         until_failure: None,
-        failed: 0,
     };
     tune(alloc, limit, step, &mut source, &mut sink)?;
     Ok(sink.text)

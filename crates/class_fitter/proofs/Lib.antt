@@ -3,3 +3,5 @@ pub mod Fits
 pub mod Numbers
 pub mod OneFit
 pub mod Places
+pub mod Blocks
+pub mod Falling

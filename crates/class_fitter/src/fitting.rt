@@ -68,7 +68,7 @@ pub fn fit(alloc: Global, history: &History, limit: u8, step: u8) -> Result<Fitt
         (λ fitted. fitted.evaluations ≡ span_count (places (peaks history.now.snapshots) step)) }
 {
     let spans = Spans::new(alloc, history.peaks(), step)?;
-    let mut costs = HistorySpans::new(alloc, history.snapshots(), &spans)?;
+    let mut costs = HistorySpans::new(alloc, history, &spans)?;
     let filled = fill_places(alloc, &mut costs, limit)?;
     let evaluations = costs.calls();
     let table = tuned_table(&spans, &filled.ends, limit);

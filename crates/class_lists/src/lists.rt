@@ -6,7 +6,7 @@ ghost use Rattle.std.specs.Prelude.{◌≡◌, ◌+◌, ◌<◌, ◌≤◌, ℕ,
 
 use arrayvec::ArrayVec;
 use chunk_header::{set_link, unlink};
-use class_table::{Layout, MOST_CLASSES};
+use class_table::{Layout, MOST_CLASSES, Slot};
 use granule_memory::Memory;
 use std::marker::Model;
 
@@ -116,6 +116,33 @@ impl ClassLists {
         let start = layout.slot_of_class(number, slot).start;
         self.take_first(memory, layout, number, slot, start);
         Some(slot)
+    }
+
+    /// As `pop_of_class`, with the granule and the class of the slot.
+    pub fn pop_place(
+        &mut self,
+        memory: &mut Memory,
+        layout: &Layout,
+        number: usize,
+    ) -> Option<(u32, Slot)>
+        requires number { number < length self.old }
+        requires class { (s : ℕ) → slice_index self.old number ≡ s + 1 → IsClassOf layout.now s number }
+        requires granules { length memory.old ≡ layout.now.granules }
+        ensures none { IfNone result (slice_index self.old number ≡ 0) }
+        ensures same { IfNone result ((self.new ≡ self.old) × (memory.new ≡ memory.old)) }
+        ensures taken { IfSome result
+            (λ found. TakesFirst layout.now memory.old memory.new self.old self.new number found.0) }
+        ensures place { IfSome result (λ found.
+            (found.1.start ≡ (slot_of layout.now found.0).start) × (found.1.class ≡ (slot_of layout.now found.0).class)) }
+    {
+        let front = self.front(number);
+        if front == 0 {
+            return None;
+        }
+        let slot = front - 1;
+        let place = layout.slot_of_class(number, slot);
+        self.take_first(memory, layout, number, slot, place.start);
+        Some((slot, place))
     }
 
     // takes this slot, the first of the list, off it; `start` is its header granule

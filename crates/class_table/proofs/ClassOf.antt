@@ -1,5 +1,5 @@
 -- The class of a slot, by the first slots of all classes.
-use Rattle.std.proofs.Common.{◌≡◌, ℕ, ◌+◌, ◌-◌, ◌*◌, ◌<◌, ◌≤◌, List, length, map, get_or, sym, ◌∙◌, ap, subst, arith, zero-add, inl, inr, slice_get, Some}
+use Rattle.std.proofs.Common.{◌≡◌, ℕ, ◌+◌, ◌-◌, ◌*◌, ◌<◌, ◌≤◌, List, length, map, get_or, sym, ◌∙◌, ap, subst, arith, zero-add, inl, inr, slice_get, slice_index, Some}
 use Rattle.std.specs.List.{range_with_len}
 use Rattle.std.specs.List.Sorted.{IsNonDecreasingBy}
 use Rattle.std.proofs.lemmas.Bool.{cases_lt}
@@ -22,6 +22,14 @@ get_or-firsts_of layout number d within = grind (arith, get_or-map-range_with_le
 
 pub firsts_of-ascending : (layout : Partition) → IsNonDecreasingBy (λ first. first) (firsts_of layout)
 firsts_of-ascending layout a b d le within = grind (arith, length-firsts_of, get_or-firsts_of, first_slots_ascend)
+
+-- the last of them is above each slot
+pub last_of_firsts : (layout : Partition) (slot : ℕ) → slot < slot_count layout →
+    slot < slice_index (firsts_of layout) (length (firsts_of layout) - 1)
+last_of_firsts layout slot within =
+    let long = length-firsts_of layout in
+    let at : length (firsts_of layout) - 1 ≡ length layout.classes = omega arith in
+    rw (at, get_or-firsts_of layout (length layout.classes) 0 (omega arith), ← slots_of_classes_are_all layout) within
 
 pub class_of_point : (layout : Partition) (slot point : ℕ) → slot < slot_count layout → point ≤ length (firsts_of layout) →
     ((k d : ℕ) → k < length (firsts_of layout) → k < point → get_or (firsts_of layout) k d ≤ slot) →

@@ -12,6 +12,7 @@ use Rattle.std.proofs.lemmas.Option.{get_or_from_slice_get, slice_get_past}
 use Rattle.std.proofs.lemmas.List.{get_or_default}
 use Rattle.std.proofs.lemmas.List.Quantifiers.{position-Some}
 use Rattle.std.proofs.lemmas.List.Kept.{AllPairs-from_increasing}
+use Rattle.class_table.specs.Counts.{AreCounts}
 use Rattle.class_table.specs.Sizes.{need_of, serves}
 use Rattle.class_table.specs.Tables.{IsLegalTable, IsLeastServing, class_for, class_number_for}
 
@@ -108,3 +109,23 @@ number_counted n classes number place within = grind arith
 pub none_counted : (n : ℕ) (classes : List ℕ) (number : ℕ) → position_or_len (serves n) classes ≡ number → length classes ≤ number →
     None ≡ class_number_for classes n
 none_counted n classes number place past = grind arith
+
+-- ---- by a table of counts
+
+-- a class has at most 1,024 granules
+pub none_past_counts : (classes : List ℕ) (n : ℕ) → IsLegalTable 1 classes → 1024 ≤ div_ceil n 16 → None ≡ class_number_for classes n
+none_past_counts classes n legal past =
+    none_counted n classes (length classes)
+    (counted_place 1 classes n (length classes) legal (omega arith)
+    (λ k d within less. omega (arith, past, legal.in_range k d within))
+    (λ k d from within. absurd (omega arith)))
+    (omega arith)
+
+pub place_by_counts : (classes counts : List ℕ) (n : ℕ) → IsLegalTable 1 classes → AreCounts counts 1 classes → div_ceil n 16 < 1024 →
+    position_or_len (serves n) classes ≡ slice_index counts (div_ceil n 16)
+place_by_counts classes counts n legal are within =
+    let granules : ℕ = div_ceil n 16 in
+    let known = are.each granules within in
+    counted_place 1 classes n (slice_index counts granules) legal known.bound
+    (λ k d inside less. let least = known.below k d less in omega (arith, least))
+    (λ k d from inside. let more = are.above granules k d within from inside in omega (arith, more))

@@ -7,7 +7,8 @@ pub record AreAtMost (numbers : List ℕ) (n count : ℕ) : Type 0 where
   pub bound : count ≤ length numbers
   pub below : (k d : ℕ) → k < count → slice_index_or numbers k d ≤ n
 
--- Count k says of so many of the first numbers that they are at most k steps.
+-- Count k says how many of the numbers are at most k steps.
 pub record AreCounts (counts : List ℕ) (step : ℕ) (numbers : List ℕ) : Type 0 where
   pub long : length counts ≡ COUNTS
   pub each : (place : ℕ) → place < COUNTS → AreAtMost numbers (step * place) (slice_index counts place)
+  pub above : (place k d : ℕ) → place < COUNTS → slice_index counts place ≤ k → k < length numbers → step * place < slice_index_or numbers k d

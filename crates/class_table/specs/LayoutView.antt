@@ -1,10 +1,11 @@
 -- What a `Layout` keeps.
-use Rattle.std.specs.Prelude.{◌≡◌, ◌+◌, ◌^◌, ◌≤◌, length, map}
+use Rattle.std.specs.Prelude.{◌≡◌, ◌+◌, ◌*◌, ◌^◌, ◌≤◌, length, map}
 use Rattle.std.specs.List.{range_with_len}
 use Rattle.class_table.specs.Counts.{AreCounts}
-use Rattle.class_table.specs.Layout.{Partition, IsPartition, share_of, first_slot}
+use Rattle.class_table.specs.Layout.{Partition, IsPartition, share_of, slot_count, first_slot}
 use Rattle.class_table.specs.declared.layout.Layout.TheInside.{Inside}
 use Rattle.class_table.specs.declared.layout.TheConstants.{LARGEST_SHIFT}
+use Rattle.class_table.specs.declared.counts.TheConstants.{COUNTS}
 
 abbrev pub partition_of : Inside → Partition
 partition_of layout = record { classes = layout.classes.items; granules = layout.granules }
@@ -18,3 +19,4 @@ pub record IsLayout (layout : Inside) : Type 0 where
   pub class_counts : AreCounts layout.class_counts 1 layout.classes.items
   pub slot_counts : AreCounts layout.slot_counts (2 ^ layout.slot_shift) layout.firsts.items
   pub slot_shift : layout.slot_shift ≤ LARGEST_SHIFT
+  pub reach : slot_count (partition_of layout) ≤ COUNTS * 2 ^ layout.slot_shift

@@ -1,9 +1,9 @@
-ghost use Rattle.std.specs.Prelude.{◌≡◌, ◌+◌, ◌/◌, ◌<◌, ◌≤◌, length, slice_get, slice_index, IfNone, IfSome, None, Some};
+ghost use Rattle.std.specs.Prelude.{◌≡◌, ◌+◌, ◌*◌, ◌/◌, ◌^◌, ◌<◌, ◌≤◌, length, slice_get, slice_index, IfNone, IfSome, None, Some};
 ghost use Rattle.class_table.specs.Sizes.{IsBlockSize};
 ghost use Rattle.class_table.specs.Layout.{IsClassOf, IsPartition, block_bytes, first_slot, share_of, slot_count, slot_of, slot_over};
 ghost use Rattle.class_table.specs.Tables.{class_number_for, loss_of_size};
 
-use crate::counts::{COUNTS, count_up_to, counts_at};
+use crate::counts::{COUNTS, count_below_last, counts_at};
 use crate::sizes::{GRANULE_BYTES, LARGEST_COUNTED, SMALLEST_CLASS, payload_bytes};
 use crate::table::{ClassTable, MOST_CLASSES};
 use arrayvec::ArrayVec;
@@ -119,15 +119,14 @@ impl Layout {
         ensures number { result ≡ class_number_for self.now.classes n }
         ensures within { IfSome result (λ number. number < length self.now.classes) }
     {
+        let classes = self.classes.len();
         // a class serves n bytes exactly if it has more granules than they fill: the header takes one
         let granules = n.div_ceil(GRANULE_BYTES);
-        let known = self.class_counts[(granules as usize).min(COUNTS - 1)];
-        let number = count_up_to(&self.classes, granules, known) as usize;
-        if number < self.classes.len() {
-            Some(number)
-        } else {
-            None
+        if granules as usize >= COUNTS {
+            return None;
         }
+        let number = usize::from(self.class_counts[granules as usize]);
+        if number < classes { Some(number) } else { None }
     }
 
     /// How many slots the region has.
@@ -155,8 +154,8 @@ impl Layout {
         ensures from { first_slot self.now result ≤ slot }
         ensures to { slot < first_slot self.now (result + 1) }
     {
-        let known = self.slot_counts[((slot >> self.slot_shift) as usize).min(COUNTS - 1)];
-        count_up_to(&self.firsts, slot, known) as usize - 1
+        let known = self.slot_counts[(slot >> self.slot_shift) as usize];
+        count_below_last(&self.firsts, slot, known) - 1
     }
 
     /// The granule and the class of the slot of this number, which must be below `slots()`.
@@ -267,8 +266,13 @@ fn share_of_each(classes: usize, granules: u32) -> u32
 // The power of 2 that the counts of this many slots have as their step: the least with which they reach the last slot. The classes of the
 // largest blocks have few slots, so a larger step would leave several classes to be searched.
 fn shift_for(slots: u32) -> u32
-    ensures { result ≤ LARGEST_SHIFT }
+    requires { slots ≤ MOST_SLOTS }
+    ensures shift { result ≤ LARGEST_SHIFT }
+    ensures reach { slots ≤ COUNTS * 2 ^ result }
 {
-    let steps = slots / COUNTS as u32;
-    (u32::BITS - steps.leading_zeros()).min(LARGEST_SHIFT)
+    let mut shift = 0;
+    while slots > (COUNTS as u32) << shift {
+        shift += 1;
+    }
+    shift
 }

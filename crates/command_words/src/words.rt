@@ -11,8 +11,8 @@ use clap::Command;
 use std::alloc::{AllocError, Global};
 
 const ABOUT: &str = "\
-Find the size-class table that wastes least, or takes least, for what a program really allocates,
-prove that it does, and run the program's allocations on a heap with memory tags.";
+Find the table of at most K size classes that wastes least, or takes least, for what a program
+allocates, prove that it does, and run the program's allocations on a heap with memory tags.";
 
 const AFTER: &str = "\
 All input is read from standard input; no file is opened. `mte_tool COMMAND --help` explains a

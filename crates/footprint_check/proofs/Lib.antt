@@ -4,3 +4,4 @@ pub mod RowConditions
 pub mod Snapshots
 pub mod UpTo
 pub mod Verdicts
+pub mod Narrow

@@ -1,8 +1,16 @@
 -- The conditions on rows, one more row and one more place.
 use Rattle.std.proofs.Common.{◌≡◌, ℕ, suc, ◌+◌, ◌-◌, ◌<◌, ◌≤◌, List, [], length, slice_index, slice_index_or, arith, ap, sym, ◌∙◌, ◌↔◌, IsTrue}
-use Rattle.footprint_check.specs.RowConditions.{AreRowTests, DropsHoldAt, DropsHoldBefore, EdgeHoldsAt, EdgesHoldAt, EdgesHoldBefore, LastHoldsBefore}
+use Rattle.footprint_check.specs.RowConditions.{AreRowTests, DropsHoldAt, DropsHoldBefore, EdgeHoldsAt, EdgesHoldAt, EdgesHoldBefore, GrowAfter, LastHoldsBefore}
 use Rattle.footprint_check.specs.declared.row_tests.RowTests.{RowTests}
+use Rattle.tuner_theory.specs.Growing.{IsGrowing}
 use Rattle.tuner_theory.specs.Rows.{number_at}
+
+-- ---- the costs from a place
+
+pub costs-grow : (cost : ℕ → ℕ → ℕ) (d i : ℕ) (costs : List ℕ) → IsGrowing cost d → length costs ≡ d + 1
+    → ((j : ℕ) → i < j → j ≤ d → slice_index costs j ≡ cost i j) → GrowAfter i costs
+costs-grow cost d i costs grows size are j m after jm lt =
+    omega (arith, are j after (omega arith), are m (omega arith) (omega arith), grows i i j m (omega arith) after jm (omega arith))
 
 -- ---- one row more
 

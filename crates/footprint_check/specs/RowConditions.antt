@@ -16,6 +16,18 @@ pub record AreRowTests (cost : ℕ → ℕ → ℕ) (d : ℕ) (rows : List (List
 pub record EdgeHoldsAt (costs before : List ℕ) (number i : ℕ) : Type 0 where
   pub each : (j : ℕ) → i < j → j ≤ length before → number ≤ slice_index costs j + slice_index before j
 
+-- It is within those to the places from start to below stop.
+pub record WithinEdges (costs before : List ℕ) (number start stop : ℕ) : Type 0 where
+  pub each : (j : ℕ) → start ≤ j → j < stop → number ≤ slice_index costs j + slice_index before j
+
+-- The numbers do not rise;
+abbrev pub Falls : List ℕ → Type 0
+Falls numbers = (j m : ℕ) → j ≤ m → m < length numbers → slice_index numbers m ≤ slice_index numbers j
+
+-- the costs after place i do not fall.
+abbrev pub GrowAfter : ℕ → List ℕ → Type 0
+GrowAfter i costs = (j m : ℕ) → i < j → j ≤ m → m < length costs → slice_index costs j ≤ slice_index costs m
+
 -- Each later row up to row `stop` is within its edges at place i.
 pub record EdgesHoldAt (costs : List ℕ) (rows : List (List ℕ)) (d i stop : ℕ) : Type 0 where
   pub each : (k j : ℕ) → 1 ≤ k → k < stop → i < j → j ≤ d → number_at rows (suc k) i ≤ slice_index costs j + number_at rows k j

@@ -30,7 +30,7 @@ pub fn check_fit(alloc: Global, history: &History, fit: &Fit) -> Result<Verdict,
         return Ok(Verdict::Refused(refusal));
     }
     let spans = Spans::new(alloc, history.peaks(), fit.step)?;
-    rows_verdict(alloc, history.snapshots(), &spans, fit)
+    rows_verdict(alloc, history, &spans, fit)
 }
 
 // the first refusal for the table, with the step, the limit and the footprint

@@ -1,10 +1,9 @@
 //! The rows of a fit, and the order in which they are tested.
 ghost use Rattle.std.specs.Prelude.{◌≡◌, ◌↔◌, IfOk, IsTrue};
 ghost use Rattle.certificates.specs.FitView.{fit_of};
-ghost use Rattle.tuner_theory.specs.Lists.{lists_of};
 ghost use Rattle.certificates.specs.Spanned.{IsSpanned};
 ghost use Rattle.tuner_theory.specs.Fits.{IsFitVerdict, MeetsOnHistory};
-ghost use Rattle.tuner_theory.specs.Histories.{AreSnapshots, peaks};
+ghost use Rattle.tuner_theory.specs.Histories.{peaks};
 ghost use Rattle.tuner_theory.specs.Rows.{HasShape};
 ghost use Rattle.tuner_theory.specs.Sheets.{AreMetBefore};
 ghost use Rattle.tuner_theory.specs.declared.verdict.Refusal.TheVariants.{Shape};
@@ -12,27 +11,27 @@ ghost use Rattle.tuner_theory.specs.declared.verdict.Refusal.TheVariants.{Shape}
 use crate::history_spans::HistorySpans;
 use crate::row_tests::test_rows;
 use certificates::{Fit, Rows, Spans};
+use history_count::History;
 use std::alloc::{AllocError, Global};
 use tuner_theory::{Refusal, Verdict};
 
-/// The verdict on a fit whose table meets its conditions. `spans` must be over the peaks of the snapshots, at the step of the fit.
+/// The verdict on a fit whose table meets its conditions. `spans` must be over the peaks of the history, at the step of the fit.
 pub(crate) fn rows_verdict(
     alloc: Global,
-    snapshots: &[Vec<u32>],
+    history: &History,
     spans: &Spans<'_>,
     fit: &Fit,
 ) -> Result<Verdict, AllocError>
-    requires snapshots { AreSnapshots (lists_of snapshots.now) }
     requires spans { IsSpanned spans.now }
-    requires peaks { spans.now.counts ≡ peaks (lists_of snapshots.now) }
+    requires peaks { spans.now.counts ≡ peaks history.now.snapshots }
     requires step { spans.now.step ≡ fit.now.step }
-    requires table { AreMetBefore (MeetsOnHistory (lists_of snapshots.now) (fit_of fit.now)) Shape }
-    ensures { IfOk result (IsFitVerdict (lists_of snapshots.now) (fit_of fit.now)) }
+    requires table { AreMetBefore (MeetsOnHistory history.now.snapshots (fit_of fit.now)) Shape }
+    ensures { IfOk result (IsFitVerdict history.now.snapshots (fit_of fit.now)) }
 {
     if !has_shape(&fit.rows, fit.limit, spans.places()) {
         return Ok(Verdict::Refused(Refusal::Shape));
     }
-    let mut costs = HistorySpans::new(alloc, snapshots, spans)?;
+    let mut costs = HistorySpans::new(alloc, history, spans)?;
     let tests = test_rows(alloc, &mut costs, &fit.rows)?;
     if !tests.last_class {
         return Ok(Verdict::Refused(Refusal::LastClass));

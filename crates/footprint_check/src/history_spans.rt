@@ -1,14 +1,14 @@
 ghost use Rattle.std.specs.Prelude.{◌≡◌, ◌+◌, IfOk, refl};
 ghost use Rattle.std.proofs.Common.{add-zero, add_assoc, ap, sym};
-ghost use Rattle.tuner_theory.specs.Lists.{lists_of};
 ghost use Rattle.certificates.specs.Spanned.{IsSpanned};
 ghost use Rattle.tuner_theory.specs.Footprint.{span_footprint};
-ghost use Rattle.tuner_theory.specs.Histories.{AreSnapshots, peaks};
+ghost use Rattle.tuner_theory.specs.Histories.{peaks};
 ghost use Rattle.tuner_theory.specs.Spans.{places};
 
 use crate::snapshot_sums::SnapshotSums;
 use crate::span_costs::SpanCosts;
 use certificates::Spans;
+use history_count::History;
 use std::alloc::{AllocError, Global};
 
 /// The span footprints of a history as a source of costs: what the class of a span's last need takes for the blocks of the span, in bytes.
@@ -19,29 +19,28 @@ pub struct HistorySpans<'a> {
 }
 
 impl<'a> HistorySpans<'a> {
-    /// The span footprints of some snapshots, with no call counted. `spans` must be over the peaks of these snapshots. Its step is theirs.
+    /// The span footprints of a history, with no call counted. `spans` must be over its peaks. Its step is theirs.
     /// The only error is that the allocator refuses memory.
     pub fn new(
         alloc: Global,
-        snapshots: &'a [Vec<u32>],
+        history: &'a History,
         spans: &'a Spans<'a>,
     ) -> Result<HistorySpans<'a>, AllocError>
-        requires snapshots { AreSnapshots (lists_of snapshots.now) }
         requires spans { IsSpanned spans.now }
-        requires peaks { spans.now.counts ≡ peaks (lists_of snapshots.now) }
+        requires peaks { spans.now.counts ≡ peaks history.now.snapshots }
         ensures cost { let step = spans.now.step in IfOk result
-            (λ s. ⟦<HistorySpans<'a> as SpanCosts>⟧.cost s ≡ span_footprint (lists_of snapshots.now) step) }
+            (λ s. ⟦<HistorySpans<'a> as SpanCosts>⟧.cost s ≡ span_footprint history.now.snapshots step) }
         ensures places { IfOk result
             (λ s. ⟦<HistorySpans<'a> as SpanCosts>⟧.place_count s ≡ places spans.now.counts spans.now.step) }
         ensures calls { IfOk result (λ s. ⟦<HistorySpans<'a> as SpanCosts>⟧.call_count s ≡ 0) }
     {
-        let sums = SnapshotSums::new(alloc, snapshots, spans)?;
+        let sums = SnapshotSums::new(alloc, history, spans)?;
         Ok(HistorySpans { sums, calls: 0 })
     }
 }
 
 impl<'a> SpanCosts for HistorySpans<'a> {
-    ghost cost = { λ s. span_footprint (lists_of s.sums.snapshots.now) s.sums.spans.now.step };
+    ghost cost = { λ s. span_footprint s.sums.history.now.snapshots s.sums.spans.now.step };
 
     ghost place_count = { λ s. places s.sums.spans.now.counts s.sums.spans.now.step };
 
@@ -63,6 +62,8 @@ impl<'a> SpanCosts for HistorySpans<'a> {
     }
 
     ghost is_small = { λ s. s.sums.small };
+
+    ghost grows = { λ s. s.sums.grows };
 
     ghost adds_calls = { λ s n. refl };
 

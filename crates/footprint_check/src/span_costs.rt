@@ -1,4 +1,5 @@
 ghost use Rattle.std.specs.Prelude.{◌≡◌, ℕ, ◌+◌, ◌-◌, ◌^◌, ◌<◌, ◌≤◌, length, slice_index};
+ghost use Rattle.tuner_theory.specs.Growing.{IsGrowing};
 
 /// A source of the costs of spans, which counts how many it is asked for. A span goes from a place to a later one. Places are counted from
 /// 1, and place 0 is before them all. One call gives the costs of all spans from a place. Code over any source knows costs by `write_from`
@@ -36,6 +37,9 @@ pub trait SpanCosts {
 
     /// No cost is above 2^60.
     ghost is_small: { (s : Self) (i j : ℕ) → i < j → j ≤ place_count s → cost s i j ≤ 2 ^ 60 };
+
+    /// A span within another one costs no more.
+    ghost grows: { (s : Self) → IsGrowing (cost s) (place_count s) };
 
     /// `after_calls` adds to the count of calls, and changes nothing else.
     ghost adds_calls: { (s : Self) (n : ℕ) → call_count (after_calls s n) ≡ call_count s + n };

@@ -1,7 +1,7 @@
 -- A run of bytes that is written into the list is written into the granules, and a run of one byte past them is the tag of a run of
 -- granules.
 use Rattle.std.specs.Int.{byte_at, bytes_low_first}
-use Rattle.std.proofs.Common.{◌≡◌, ℕ, zero, suc, ◌+◌, ◌-◌, ◌*◌, ◌<◌, ◌≤◌, ◌++◌, List, length, take, drop, sym, ap, subst, ◌∙◌, lit<, arith, inl, inr, ⊎_elim, if◌then◌else◌, slice_range, slice_index, ◌⊎◌, All, replicate}
+use Rattle.std.proofs.Common.{◌≡◌, ℕ, zero, suc, ◌+◌, ◌-◌, ◌*◌, ◌<◌, ◌≤◌, ◌++◌, List, length, take, drop, refl, sym, ap, subst, ◌∙◌, lit<, arith, inl, inr, ⊎_elim, if◌then◌else◌, slice_range, slice_index, ◌⊎◌, All, replicate}
 use Rattle.std.proofs.lemmas.Bool.{cases_lt, cond-true, cond-false, and_from, and_left, and_right, le-leb, lt-ltb, lt-leb, le-ltb}
 use Rattle.std.proofs.lemmas.Grind.{same_number_lists}
 use Rattle.std.proofs.lemmas.List.{length-append, length-take-le, length-drop, length-replicate, get_or-take, get_or-drop, get_or_append_left, get_or-append_right, get_or-replicate}
@@ -262,6 +262,43 @@ module _ (xs ys : List ℕ) (count : ℕ) (memory : List Granule) (laid : IsLaid
       where
         old : (h : ℕ) → h < count → (h < first) ⊎ (first + n ≤ h) → slice_index ys (16 * count + h) < 16
         old h inner out = subst (λ (k : ℕ). k < 16) (sym (other_tag h out)) (laid.tags h inner)
+
+-- ---- the tags of some granules, and then 0 as the tag of those after them
+
+module _ (xs zs : List ℕ) (count : ℕ) (memory : List Granule) (laid : IsLaidOut xs count) (view : granules_of xs count ≡ memory)
+    (first n rest t place : ℕ) (lies : place ≡ 16 * length memory + first)
+    (at : zs
+    ≡ with_bytes (with_bytes xs place (replicate (place + n - place) t)) (place + n) (replicate (place + n + rest - (place + n)) 0))
+    (fits : first + n + rest ≤ length memory) (small : t < 16) where
+  abbrev once : List ℕ
+  once = with_bytes xs place (replicate (place + n - place) t)
+
+  inner : first + n ≤ length memory
+  inner = omega (arith, fits)
+
+  once_is : granules_of once count ≡ tagged first n t memory
+  once_is = tagged_is xs once count memory laid view first n t place lies refl inner
+
+  once_fits : IsLaidOut once count
+  once_fits = tagged_fits xs once count memory laid view first n t place lies refl inner small
+
+  same_long : length (tagged first n t memory) ≡ length memory
+  same_long = ap length (sym once_is) ∙ granules_counted once count ∙ sym (granules_counted xs count) ∙ ap length view
+
+  second_lies : place + n ≡ 16 * length (tagged first n t memory) + (first + n)
+  second_lies = omega (arith, lies, same_long)
+
+  second_fits : first + n + rest ≤ length (tagged first n t memory)
+  second_fits = omega (arith, fits, same_long)
+
+  pub cleared_is : granules_of zs count ≡ tagged (first + n) rest 0 (tagged first n t memory)
+  cleared_is =
+      tagged_is once zs count (tagged first n t memory) once_fits once_is (first + n) rest 0 (place + n) second_lies at second_fits
+
+  pub cleared_fits : IsLaidOut zs count
+  cleared_fits =
+      tagged_fits once zs count (tagged first n t memory) once_fits once_is (first + n) rest 0 (place + n) second_lies at second_fits
+      (lit< tt)
 
 -- ---- a list of zeros
 

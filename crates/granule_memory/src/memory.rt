@@ -113,6 +113,22 @@ impl Memory {
         self.region.fill(place, place + count as usize, tag);
     }
 
+    /// Gives `count` granules from `first` on the Allocation Tag `tag`, which must be below 16, and the `rest` granules after them tag 0.
+    /// They must end at `granules()` or before. No byte changes.
+    #[tactic(auto, using(crate::proofs::Granules::granules_counted))]
+    #[inline(always)]
+    pub fn set_tags_then_clear(&mut self, first: u32, count: u32, rest: u32, tag: u8)
+        requires granules { first + count + rest ≤ length self.old }
+        requires tag { tag < 16 }
+        ensures tagged { self.new ≡ tagged (first + count) rest 0 (tagged first count tag self.old) }
+        ensures memory { IsMemory self.new }
+    {
+        let place = self.place_of_tag(first);
+        let middle = place + count as usize;
+        self.region
+            .fill_then_clear(place, middle, middle + rest as usize, tag);
+    }
+
     /// Byte `i`, 0 to 15, of granule `g`, which must be below `granules()`.
     #[tactic(auto, using(crate::proofs::Granules::granules_counted, crate::proofs::Granules::byte_is))]
     pub fn byte(&self, g: u32, i: usize) -> u8

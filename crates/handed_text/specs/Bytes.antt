@@ -1,5 +1,5 @@
--- The bytes of a text that C holds.
-use Rattle.std.specs.Prelude.{ℕ, List, ◌++◌, [], Option, Some, None, take, drop, length}
+-- The bytes of a text that C holds, and whether they are an answer.
+use Rattle.std.specs.Prelude.{◌≡◌, ◌⊎◌, ℕ, Bool, true, false, List, ◌++◌, [], Option, Some, None, take, drop, length}
 use Rattle.handed_text.specs.declared.held.Held.{Held}
 use Rattle.handed_text.specs.declared.text.HandedText.{HandedText}
 
@@ -9,6 +9,18 @@ held_bytes (Some held) = held.text.items
 
 abbrev pub bytes_of : HandedText → List ℕ
 bytes_of text = held_bytes text.handle.held
+
+abbrev pub is_held_answer : Option Held → Bool
+is_held_answer None = false
+is_held_answer (Some held) = held.is_answer
+
+-- Whether the bytes are the answer of a call. The empty text is none.
+abbrev pub is_answer_of : HandedText → Bool
+is_answer_of text = is_held_answer text.handle.held
+
+-- What a call leaves: an answer, or the empty text.
+abbrev pub IsLeft : HandedText → Type 0
+IsLeft text = (bytes_of text ≡ []) ⊎ (is_answer_of text ≡ true)
 
 -- The room with as much of these bytes at its start as it holds.
 abbrev pub filled : List ℕ → List ℕ → List ℕ

@@ -5,4 +5,6 @@
 pub struct Held {
     /// Its bytes.
     pub text: Vec<u8>,
+    /// Whether a call left them, as its answer.
+    pub is_answer: bool,
 }

@@ -19,8 +19,8 @@ pub struct HandedText {
 }
 
 impl HandedText {
-    ghost use Rattle.std.specs.Prelude.{None, ◌++◌, [], drop, min, ◌-◌, OnOk, OnErr};
-    ghost use Rattle.handed_text.specs.Bytes.{bytes_of, filled};
+    ghost use Rattle.std.specs.Prelude.{None, ◌++◌, [], drop, min, ◌-◌, OnOk, OnErr, false};
+    ghost use Rattle.handed_text.specs.Bytes.{IsLeft, bytes_of, filled, is_answer_of};
 
     /// The empty text.
     pub fn new() -> HandedText
@@ -32,37 +32,73 @@ impl HandedText {
         }
     }
 
+    /// Whether its bytes are the answer of a call.
+    pub fn is_answer(&mut self, alloc: Global) -> bool
+        ensures answer { result ≡ is_answer_of self.old }
+        ensures bytes { bytes_of self.new ≡ bytes_of self.old }
+        ensures kept { is_answer_of self.new ≡ is_answer_of self.old }
+    {
+        if self.length == 0 {
+            return false;
+        }
+        let held = self.open(alloc);
+        let is_answer = held.is_answer;
+        self.close(held);
+        is_answer
+    }
+
+    /// Lets its bytes be the beginning of an input, also where they are an answer.
+    pub fn make_input(&mut self, alloc: Global)
+        ensures bytes { bytes_of self.new ≡ bytes_of self.old }
+        ensures input { is_answer_of self.new ≡ false }
+    {
+        if self.length == 0 {
+            return;
+        }
+        let mut held = self.open(alloc);
+        held.is_answer = false;
+        self.close(held);
+    }
+
     /// Its bytes. The empty text is left.
     pub fn take(&mut self, alloc: Global) -> Vec<u8>
         ensures bytes { result.items ≡ bytes_of self.old }
         ensures left { bytes_of self.new ≡ [] }
+        ensures input { is_answer_of self.new ≡ false }
     {
         if self.length == 0 {
             return Vec::new(alloc);
         }
-        let Held { text } = Box::into_inner(self.open(alloc));
+        let Held { text, is_answer: _ } = Box::into_inner(self.open(alloc));
         text
     }
 
-    /// Takes these bytes in place of its own, whose memory it frees. If memory runs out, the empty text is left.
+    /// Takes these bytes, the answer of a call, in place of its own, whose memory it frees. If memory runs out, the empty text is left.
     pub fn put(&mut self, alloc: Global, text: Vec<u8>) -> Result<(), AllocError>
         ensures put { OnOk result (bytes_of self.new ≡ text.items) }
         ensures empty { OnErr result (bytes_of self.new ≡ []) }
+        ensures left { IsLeft self.new }
     {
         self.clear(alloc);
         if !text.is_empty() {
-            self.close(Box::new(alloc, Held { text })?);
+            let answer = Held {
+                text,
+                is_answer: true,
+            };
+            self.close(Box::new(alloc, answer)?);
         }
         Ok(())
     }
 
-    /// Appends these bytes. If memory runs out, the text stays as it is.
+    /// Appends these bytes to an input. If memory runs out, the text stays as it is.
     pub fn append(&mut self, alloc: Global, piece: &[u8]) -> Result<(), AllocError>
+        requires { is_answer_of self.old ≡ false }
         ensures appended { OnOk result (bytes_of self.new ≡ bytes_of self.old ++ piece.now) }
         ensures kept { OnErr result (bytes_of self.new ≡ bytes_of self.old) }
+        ensures input { is_answer_of self.new ≡ false }
     {
         if self.length == 0 {
-            return self.put(alloc, Vec::from_slice(alloc, piece)?);
+            return self.begin(alloc, Vec::from_slice(alloc, piece)?);
         }
         let mut held = self.open(alloc);
         let extended = held.text.extend_from_slice(piece);
@@ -75,6 +111,7 @@ impl HandedText {
         ensures room { room.new ≡ filled (drop from (bytes_of self.old)) room.old }
         ensures count { result ≡ min (length room.old) (length (bytes_of self.old) - from) }
         ensures kept { bytes_of self.new ≡ bytes_of self.old }
+        ensures answer { is_answer_of self.new ≡ is_answer_of self.old }
     {
         if self.length <= from {
             return 0;
@@ -87,15 +124,34 @@ impl HandedText {
 
     /// Frees its memory. The empty text is left.
     pub fn clear(&mut self, alloc: Global)
-        ensures { bytes_of self.new ≡ [] }
+        ensures bytes { bytes_of self.new ≡ [] }
+        ensures input { is_answer_of self.new ≡ false }
     {
         let _bytes = self.take(alloc);
+    }
+
+    // the first bytes of an input, put into the empty text
+    fn begin(&mut self, alloc: Global, text: Vec<u8>) -> Result<(), AllocError>
+        requires { self.old.length ≡ 0 }
+        ensures put { OnOk result (bytes_of self.new ≡ text.items) }
+        ensures empty { OnErr result (bytes_of self.new ≡ []) }
+        ensures input { is_answer_of self.new ≡ false }
+    {
+        if !text.is_empty() {
+            let held = Held {
+                text,
+                is_answer: false,
+            };
+            self.close(Box::new(alloc, held)?);
+        }
+        Ok(())
     }
 
     // the box of a text that is not empty; the empty text is left
     fn open(&mut self, alloc: Global) -> Box<Held>
         requires { 0 < self.old.length }
         ensures bytes { result.value.text.items ≡ bytes_of self.old }
+        ensures answer { result.value.is_answer ≡ is_answer_of self.old }
         ensures some { 0 < vec_len result.value.text }
         ensures left { self.new.handle.held ≡ None }
     {
@@ -107,7 +163,8 @@ impl HandedText {
     fn close(&mut self, held: Box<Held>)
         requires empty { self.old.handle.held ≡ None }
         requires some { 0 < vec_len held.value.text }
-        ensures { bytes_of self.new ≡ held.value.text.items }
+        ensures bytes { bytes_of self.new ≡ held.value.text.items }
+        ensures answer { is_answer_of self.new ≡ held.value.is_answer }
     {
         let length = held.text.len();
         *self = HandedText {

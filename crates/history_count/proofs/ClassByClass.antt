@@ -1,5 +1,5 @@
 -- What a table takes, a class at a time: each class serves the sizes from where the one before it ends.
-use Rattle.std.proofs.Common.{◌≡◌, ℕ, zero, suc, ◌+◌, ◌-◌, ◌*◌, ◌<◌, ◌≤◌, ◌&&◌, List, [], ◌∷◌, length, get_or, drop, cond, leb, ltb, refl, sym, ap, ◌∙◌, arith, add-one, All, slice_index}
+use Rattle.std.proofs.Common.{◌≡◌, ℕ, zero, suc, ◌+◌, ◌-◌, ◌*◌, ◌^◌, ◌<◌, ◌≤◌, ◌&&◌, List, [], ◌∷◌, length, get_or, drop, cond, leb, ltb, refl, sym, ap, ◌∙◌, arith, add-one, All, slice_index}
 use Rattle.std.proofs.Math.Nat.{mul-le-mul}
 use Rattle.std.proofs.Math.Seq.{drop-cons}
 use Rattle.std.proofs.lemmas.Bool.{le-leb, le-ltb, lt-leb, lt-ltb}
@@ -18,7 +18,9 @@ use Rattle.tuner_theory.specs.Waste.{sum_below}
 use Rattle.tuner_theory.proofs.Footprint.{footprint_is_sum}
 use Rattle.tuner_theory.proofs.Rounding.{rounded-positive}
 use Rattle.tuner_theory.proofs.Sums.{sum_below-more, sum_none}
+use Rattle.history_count.specs.CountedLines.{AreSizes, IsCutAt, spread}
 use Rattle.history_count.specs.Histories.{blocks_from}
+use Rattle.history_count.proofs.CutLines.{most-lines, most-small}
 
 -- ---- where the sizes that need more granules begin
 
@@ -123,3 +125,59 @@ module _ (snapshots : List (List ℕ)) (table : List ℕ) (are : AreSnapshots sn
   pub taken-all : (number from total : ℕ) → TakenSoFar snapshots table number from total → length table ≤ number
       → total ≡ footprint_of snapshots table
   taken-all number from total so_far all = grind (arith, drop_all)
+
+-- ---- the same by the lines of the sizes
+
+-- What the first classes take, where the lines up to this one are those of their sizes.
+pub record TakenByLines (sizes : List ℕ) (columns : List (List ℕ)) (table : List ℕ) (number line total : ℕ) : Type 0 where
+  pub from : ℕ
+  pub cut : IsCutAt sizes line from
+  pub taken : TakenSoFar (spread sizes columns) table number from total
+
+module _ (sizes : List ℕ) (columns : List (List ℕ)) (table : List ℕ) (sizes_are : AreSizes sizes)
+    (long : All (λ column. length column ≡ length sizes) columns) (are : AreSnapshots (spread sizes columns)) (legal : IsLegalTable 1 table) where
+  pub by_lines-none : TakenByLines sizes columns table 0 0 0
+  by_lines-none = record {
+    from = 0;
+    cut = record { within = omega arith; below = λ k lt. absurd (omega arith); above = λ k le lt. omega arith };
+    taken = taken-none (spread sizes columns) table are legal;
+  }
+
+  module _ (number line total class : ℕ) (so_far : TakenByLines sizes columns table number line total) (within : number < length table)
+      (is : get_or table number 0 ≡ class) where
+    order : so_far.from ≤ 16 * class - 15
+    order = taken-order (spread sizes columns) table are legal number so_far.from total class so_far.taken within is
+
+    pub by_lines-below : (k : ℕ) → k < line → slice_index sizes k < 16 * class - 15
+    by_lines-below k lt = omega (arith, so_far.cut.below k lt, order)
+
+    module _ (next : ℕ) (cut : IsCutAt sizes next (16 * class - 15)) where
+      same : most (blocks_from line next) columns ≡ most (blocks_from so_far.from (16 * class - 15)) (spread sizes columns)
+      same = most-lines sizes columns line next so_far.from (16 * class - 15) sizes_are long so_far.cut cut
+
+      small : (blocks : ℕ) → blocks ≡ most (blocks_from line next) columns → blocks ≤ greatest_count * (16 * class - 15 - so_far.from)
+      small blocks are_most =
+          omega (arith, are_most, same, most-small (spread sizes columns) so_far.from (16 * class - 15) are.counts order)
+
+      pub by_lines-small : (bytes blocks : ℕ) → bytes ≤ 16 * class → blocks ≡ most (blocks_from line next) columns
+          → total + bytes * blocks ≤ 16 * LARGEST_CLASS * greatest_count * (16 * class - 15)
+      by_lines-small bytes blocks few are_most =
+          taken-small (spread sizes columns) table are legal number so_far.from total class so_far.taken within is bytes blocks few
+          (small blocks are_most)
+
+      pub by_lines-end : 16 * class - 15 ≤ largest_counted + 1
+      by_lines-end = taken-end (spread sizes columns) table are legal number so_far.from total class so_far.taken within is
+
+      pub by_lines-more : (bytes blocks : ℕ) → bytes ≡ 16 * class → blocks ≡ most (blocks_from line next) columns
+          → TakenByLines sizes columns table (number + 1) next (total + bytes * blocks)
+      by_lines-more bytes blocks of_class are_most = record {
+        from = 16 * class - 15;
+        cut = cut;
+        taken = taken-more (spread sizes columns) table are legal number so_far.from total class so_far.taken within is bytes blocks of_class
+            (are_most ∙ same) (small blocks are_most);
+      }
+
+  pub by_lines-all : (number line total : ℕ) → TakenByLines sizes columns table number line total → length table ≤ number
+      → (total ≡ footprint_of (spread sizes columns) table) × (total < 2 ^ 58)
+  by_lines-all number line total so_far all =
+      (taken-all (spread sizes columns) table are legal number so_far.from total so_far.taken all, omega (arith, so_far.taken.small, so_far.taken.inside))

@@ -1,5 +1,5 @@
 -- The counts of one size in all snapshots, and what is left where they are set.
-use Rattle.std.proofs.Common.{◌≡◌, ◌≢◌, ℕ, zero, suc, ◌+◌, ◌<◌, ◌≤◌, List, [], ◌∷◌, length, get_or, set, take, refl, sym, ap, ◌∙◌, arith, All}
+use Rattle.std.proofs.Common.{◌≡◌, ◌≢◌, ℕ, suc, ◌≤◌, List, [], ◌∷◌, length, set, refl, sym, ap, ◌∙◌, arith, All}
 use Rattle.std.proofs.lemmas.Grind.{same_number_lists, common_steps}
 use Rattle.std.proofs.lemmas.List.{get_or-set_other, get_or-set_same, length-set}
 use Rattle.std.proofs.lemmas.List.Elements.{All-cons, All-head, All-nil, All-set, All-tail}
@@ -14,35 +14,6 @@ unfolding with_counts
 with_counts-length [] n counts = refl
 with_counts-length (s ∷ ss) n [] = refl
 with_counts-length (s ∷ ss) n (c ∷ cs) = ap suc (with_counts-length ss n cs)
-
-pub with_counts-none : (snapshots : List (List ℕ)) (n : ℕ) → with_counts snapshots n [] ≡ snapshots
-unfolding with_counts
-with_counts-none [] n = refl
-with_counts-none (s ∷ ss) n = refl
-
--- the snapshot from which on none is changed
-pub with_counts-ahead : (snapshots : List (List ℕ)) (n t : ℕ) (counts : List ℕ)
-    → get_or (with_counts snapshots n (take t counts)) t [] ≡ get_or snapshots t []
-unfolding with_counts
-with_counts-ahead [] n t counts = refl
-with_counts-ahead (s ∷ ss) n zero counts = ap (λ (l : List (List ℕ)). get_or l 0 []) (with_counts-none (s ∷ ss) n)
-with_counts-ahead (s ∷ ss) n (suc t) [] = refl
-with_counts-ahead (s ∷ ss) n (suc t) (c ∷ cs) = with_counts-ahead ss n t cs
-
-more_set : (snapshots : List (List ℕ)) (n t : ℕ) (counts : List ℕ) → t < length counts → length counts ≤ length snapshots
-    → set (with_counts snapshots n (take t counts)) t (set (get_or (with_counts snapshots n (take t counts)) t []) n (get_or counts t 0))
-    ≡ with_counts snapshots n (take (suc t) counts)
-unfolding with_counts
-more_set snapshots n t [] lt le = absurd (omega arith)
-more_set [] n t (c ∷ cs) lt le = absurd (omega arith)
-more_set (s ∷ ss) n zero (c ∷ cs) lt le = ap (λ (l : List (List ℕ)). set s n c ∷ l) (sym (with_counts-none ss n))
-more_set (s ∷ ss) n (suc t) (c ∷ cs) lt le = ap (λ (l : List (List ℕ)). set s n c ∷ l) (more_set ss n t cs (omega arith) (omega arith))
-
--- one snapshot more
-pub with_counts-more : (snapshots : List (List ℕ)) (n t : ℕ) (counts : List ℕ) → t < length counts → length counts ≤ length snapshots
-    → set (with_counts snapshots n (take t counts)) t (set (get_or (with_counts snapshots n (take t counts)) t []) n (get_or counts t 0))
-    ≡ with_counts snapshots n (take (t + 1) counts)
-with_counts-more snapshots n t counts lt le = let next : t + 1 ≡ suc t = omega arith in rw next (more_set snapshots n t counts lt le)
 
 -- they are snapshots where the counts are in range
 pub with_counts-counts : (snapshots : List (List ℕ)) (n : ℕ) (counts : List ℕ) → All AreCounts snapshots

@@ -1,5 +1,6 @@
 pub mod ClassByClass
 pub mod Columns
+pub mod CutLines
 pub mod Entries
 pub mod EntryLines
 pub mod Filling
@@ -11,3 +12,4 @@ pub mod Peaks
 pub mod ReadIsSpelled
 pub mod SizeLines
 pub mod SpelledIsRead
+pub mod SpreadLines

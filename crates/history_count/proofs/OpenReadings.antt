@@ -10,7 +10,7 @@ use Rattle.history_count.specs.HistoryText.{Entry, Reading, first_reading, is_so
 use Rattle.history_count.specs.declared.line.Subject.TheVariants.{Size}
 use Rattle.history_count.proofs.Columns.{counts_of-other, with_counts-counts, with_counts-length}
 use Rattle.history_count.proofs.EntryLines.{IsNext}
-use Rattle.history_count.proofs.Peaks.{empty-length, empty-nothing, holds-empty}
+use Rattle.history_count.proofs.Peaks.{empty-length, empty-nothing, empty-are}
 
 pub record IsOpen (r : Reading) : Type 0 where
   pub snapshots : AreSnapshots r.history.snapshots
@@ -20,7 +20,7 @@ pub record IsOpen (r : Reading) : Type 0 where
   pub none : (k : ℕ) → r.next ≤ k → is_some_counted (counts_of r.history.snapshots k) ≡ false
 
 pub is_open-first : (count : ℕ) → 1 ≤ count → count ≤ MOST_SNAPSHOTS → IsOpen (first_reading count)
-is_open-first count some few = grind (arith, holds-empty, empty-length, empty-nothing)
+is_open-first count some few = grind (arith, empty-are, empty-length, empty-nothing)
 
 abbrev pub size_entry : ℕ → List ℕ → Entry
 size_entry size counts = record { subject = Size size; counts = counts }

@@ -1,20 +1,20 @@
 -- The peaks of snapshots, by the counts of each size.
-use Rattle.std.proofs.Common.{◌≡◌, ℕ, zero, suc, ◌+◌, ◌≤◌, false, List, [], ◌∷◌, ◌++◌, length, get_or, set, refl, sym, ◌∙◌, arith, All, slice_index}
+use Rattle.std.proofs.Common.{◌≡◌, ℕ, zero, suc, ◌+◌, ◌≤◌, false, List, [], ◌∷◌, length, get_or, set, refl, ◌∙◌, arith, All, slice_index}
 use Rattle.std.proofs.lemmas.Bool.{cases_eq}
 use Rattle.std.proofs.lemmas.Grind.{same_number_lists}
-use Rattle.std.proofs.lemmas.List.{get_or-set_other, get_or-set_same, length-replicate, length-set, replicate-append-replicate}
+use Rattle.std.proofs.lemmas.List.{get_or-set_other, get_or-set_same, length-replicate, length-set}
 use Rattle.std.proofs.lemmas.List.Elements.{All-cons, All-from_get_or, All-head, All-nil, All-tail}
 use Rattle.class_table.specs.Sizes.{largest_counted}
-use Rattle.profile_count.specs.Counts.{nothing_counted as no_requests, with_count, zeros}
-use Rattle.profile_count.proofs.LawLemmas.{each_is_zero, length-zeros, zeros_are_counts}
-use Rattle.tuner_theory.specs.Histories.{most, peaks}
-use Rattle.tuner_theory.specs.Profiles.{AreCounts, Profile, greatest_count}
+use Rattle.profile_count.specs.Counts.{zeros}
+use Rattle.profile_count.proofs.LawLemmas.{each_is_zero, zeros_are_counts}
+use Rattle.tuner_theory.specs.Histories.{AreSnapshots, most, peaks}
+use Rattle.tuner_theory.specs.Profiles.{AreCounts, greatest_count}
 use Rattle.tuner_theory.specs.declared.most_snapshots.TheConstants.{MOST_SNAPSHOTS}
 use Rattle.tuner_theory.proofs.Footprint.{peak-at, peaks-length}
 use Rattle.tuner_theory.proofs.Spans.{count-small}
-use Rattle.history_count.specs.Histories.{History, HoldsHistory, counts_of, empty_snapshots, greatest_of, nothing_counted, with_counts}
+use Rattle.history_count.specs.Histories.{counts_of, empty_snapshots, greatest_of, with_counts}
 use Rattle.history_count.specs.HistoryText.{is_some_counted}
-use Rattle.history_count.proofs.Columns.{counts_of-other, counts_of-same, with_counts-counts, with_counts-length}
+use Rattle.history_count.proofs.Columns.{counts_of-other, counts_of-same}
 
 most-greatest : (snapshots : List (List ℕ)) (n : ℕ) → most (λ s. slice_index s n) snapshots ≡ greatest_of (counts_of snapshots n)
 most-greatest [] n = refl
@@ -44,14 +44,6 @@ unfolding empty_snapshots
 empty-counts zero = All-nil AreCounts
 empty-counts (suc n) = grind (arith, zeros_are_counts, empty-counts n)
 
-pub empty-none : empty_snapshots 0 ≡ []
-unfolding empty_snapshots
-empty-none = refl
-
-pub empty-more : (count : ℕ) → empty_snapshots (count + 1) ≡ empty_snapshots count ++ zeros (largest_counted + 1) ∷ []
-unfolding empty_snapshots
-empty-more count = sym (replicate-append-replicate count 1 (zeros (largest_counted + 1)))
-
 pub empty-length : (count : ℕ) → length (empty_snapshots count) ≡ count
 unfolding empty_snapshots
 empty-length count = length-replicate count (zeros (largest_counted + 1))
@@ -80,12 +72,6 @@ counts-small (s ∷ ss) n are =
     All-cons (λ count. count ≤ greatest_count) (slice_index s n) (counts_of ss n) (count-small s n (All-head AreCounts s ss are))
     (counts-small ss n (All-tail AreCounts s ss are))
 
--- ---- what a history keeps
-
-pub holds-empty : (count : ℕ) → 1 ≤ count → count ≤ MOST_SNAPSHOTS → HoldsHistory (nothing_counted count) no_requests
-holds-empty count some few = grind (arith, empty-length, empty-counts, length-zeros, zeros-small, peaks-empty)
-
-pub holds-set : (h : History) (kept : Profile) (n : ℕ) (counts : List ℕ) → HoldsHistory h kept → n ≤ largest_counted
-    → length counts ≡ length h.snapshots → All (λ count. count ≤ greatest_count) counts
-    → HoldsHistory (record { snapshots = with_counts h.snapshots n counts; large = h.large }) (with_count kept n (greatest_of counts))
-holds-set h kept n counts holds small size few = grind (arith, with_counts-length, with_counts-counts, peaks-set)
+-- They are snapshots.
+pub empty-are : (count : ℕ) → 1 ≤ count → count ≤ MOST_SNAPSHOTS → AreSnapshots (empty_snapshots count)
+empty-are count some few = grind (arith, empty-length, empty-counts)

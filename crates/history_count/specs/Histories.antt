@@ -43,8 +43,3 @@ greatest_of (count ∷ counts) = max count (greatest_of counts)
 -- How many blocks a snapshot has of the sizes from one up to the one before another.
 abbrev pub blocks_from : ℕ → ℕ → List ℕ → ℕ
 blocks_from from end snapshot = sum_below (slice_index snapshot) end - sum_below (slice_index snapshot) from
-
--- What a history keeps beside its counts.
-pub record HoldsHistory (history : History) (kept : Profile) : Type 0 where
-  pub is_history : IsHistory history
-  pub peaks : kept ≡ peak_profile history.snapshots

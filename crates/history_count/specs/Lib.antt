@@ -1,3 +1,4 @@
+pub mod CountedLines
 pub mod FaultText
 pub mod Histories
 pub mod HistoryText

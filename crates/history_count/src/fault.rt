@@ -10,7 +10,7 @@ use thiserror::Error;
 /// What is wrong with a line of a history. Each is shown as its code and name.
 #[derive(Debug, Clone, Copy, PartialEq, Eq)]
 pub enum HistoryFault {
-    /// The first line is not `snapshots T` with T from 1 to 64, or there is none.
+    /// The first line is not `snapshots T` with T from 1 to 1,024, or there is none.
     BadSnapshots,
     /// A later line does not have T numbers after its first word.
     WrongLength,

@@ -1,86 +1,87 @@
 //! The counts of a history, and what follows from them alone.
-ghost use Rattle.std.specs.Prelude.{◌≡◌, ◌<◌, ◌≤◌, ◌^◌, ℕ, [], None, IsSome, IfOk, IfSome, IfNone, All, length, slice_index_or, slice_set};
+ghost use Rattle.std.specs.Prelude.{◌≡◌, ◌<◌, ◌≤◌, ◌^◌, ℕ, None, IsSome, IfSome, IfNone, All, length};
 ghost use Rattle.class_table.specs.Tables.{class_for};
-ghost use Rattle.profile_count.specs.Counts.{unserved_of, zeros};
+ghost use Rattle.profile_count.specs.Counts.{unserved_of};
 ghost use Rattle.tuner_theory.specs.Footprint.{footprint_of};
 ghost use Rattle.tuner_theory.specs.Histories.{peaks};
-ghost use Rattle.tuner_theory.specs.Profiles.{AreCounts, IsCounted, greatest_count};
+ghost use Rattle.tuner_theory.specs.Profiles.{IsCounted, greatest_count};
 ghost use Rattle.tuner_theory.specs.Waste.{Serves};
-ghost use Rattle.history_count.specs.Histories.{IsHistory, greatest_of, nothing_counted, peak_profile, with_counts};
+ghost use Rattle.history_count.specs.CountedLines.{AreLinesOf, HoldsLines, spread};
+ghost use Rattle.history_count.specs.Histories.{IsHistory, peak_profile};
 ghost use Rattle.tuner_theory.specs.Lists.{lists_of};
 
+use crate::counted_lines::CountedLines;
 use crate::footprint::table_bytes;
-use class_table::{ClassTable, LARGEST_COUNTED};
+use class_table::ClassTable;
 use profile_count::Profile;
-use std::alloc::{AllocError, Global};
 use std::marker::Model;
-use tuner_theory::MOST_SNAPSHOTS;
 
-// a count for each size up to the largest that is counted
-const SIZES: usize = LARGEST_COUNTED as usize + 1;
-
-/// How many blocks of each size from 0 to 16,368 bytes were live at each of 1 to 64 snapshots, and how many larger ones. Each count is at
+/// How many blocks of each size from 0 to 16,368 bytes were live at each of 1 to 1,024 snapshots, and how many larger ones. Each count is at
 /// most 1,000,000,000.
 #[derive(Debug, Drop)]
 pub struct History {
-    // for each snapshot a count of each size
-    snapshots: Vec<Vec<u32>>,
-    // for each size the most blocks of it that were live at a snapshot
-    peaks: Profile,
+    lines: CountedLines,
     // for each snapshot a count of the large blocks
     large: Vec<u32>,
 }
 
 impl Model for History {
-    ghost use Rattle.history_count.specs.Histories.{History as Counted, HoldsHistory};
+    ghost use Rattle.history_count.specs.CountedLines.{HoldsHistory, spread};
+    ghost use Rattle.history_count.specs.Histories.{History as Counted};
     ghost use Rattle.tuner_theory.specs.Lists.{lists_of};
 
     ghost Value = { Counted };
 
-    ghost view = { λ h. record { snapshots = lists_of h.snapshots.items; large = h.large.items } };
+    ghost view = { λ h. record { snapshots = spread h.lines.sizes.items (lists_of h.lines.columns.items); large = h.large.items } };
 
-    ghost invariant = { λ h. HoldsHistory (record { snapshots = lists_of h.snapshots.items; large = h.large.items }) h.peaks };
+    ghost invariant = { λ h. HoldsHistory h.lines.sizes.items (lists_of h.lines.columns.items) h.large.items h.lines.peaks };
+}
+
+/// The lines of a history: the sizes that are counted, ascending, in bytes, and for each snapshot a count for each of them.
+#[derive(Clone, Copy, Drop)]
+pub struct Lines<'a> {
+    /// The sizes.
+    pub sizes: &'a [u32],
+    /// The counts.
+    pub columns: &'a [Vec<u32>],
 }
 
 impl History {
-    /// A history of so many snapshots that counts nothing. The only error is that the allocator refuses memory.
-    pub(crate) fn new(alloc: Global, count: usize) -> Result<History, AllocError>
-        requires some { 1 ≤ count }
-        requires few { count ≤ MOST_SNAPSHOTS }
-        ensures { IfOk result (λ history. history ≡ nothing_counted count) }
+    /// The history of some lines, with the counts of the large blocks.
+    pub(crate) fn new(lines: CountedLines, large: Vec<u32>) -> History
+        requires lines { HoldsLines (length large.items) lines.sizes.items (lists_of lines.columns.items) lines.peaks }
+        requires large { All (λ count. count ≤ greatest_count) large.items }
+        ensures snapshots { result.snapshots ≡ spread lines.sizes.items (lists_of lines.columns.items) }
+        ensures large { result.large ≡ large.items }
     {
-        let mut snapshots = Vec::new(alloc);
-        for _ in 0..count {
-            snapshots.push(zeros(alloc, SIZES)?)?;
-        }
-        Ok(History {
-            snapshots,
-            peaks: Profile::new(alloc)?,
-            large: zeros(alloc, count)?,
-        })
+        History { lines, large }
     }
 
-    /// How many snapshots there are, 1 to 64.
+    /// How many snapshots there are, 1 to 1,024.
     pub fn snapshot_count(&self) -> usize
         ensures count { result ≡ length self.now.snapshots }
         ensures history { IsHistory self.now }
     {
-        self.snapshots.len()
+        self.large.len()
     }
 
-    /// The snapshots. Each has a count for each size from 0 to 16,368 bytes.
-    pub fn snapshots(&self) -> &[Vec<u32>]
-        ensures snapshots { lists_of result.now ≡ self.now.snapshots }
+    /// The lines. A size that has none is not counted in any snapshot.
+    pub fn lines(&self) -> Lines<'_>
+        ensures lines { AreLinesOf self.now.snapshots result.sizes.now (lists_of result.columns.now) }
         ensures history { IsHistory self.now }
     {
-        &self.snapshots
+        Lines {
+            sizes: &self.lines.sizes,
+            columns: &self.lines.columns,
+        }
     }
 
     /// The most blocks of each size that were live at a snapshot, as a profile. It has no large ones.
     pub fn peaks(&self) -> &Profile
-        ensures { result.now ≡ peak_profile self.now.snapshots }
+        ensures profile { result.now ≡ peak_profile self.now.snapshots }
+        ensures history { IsHistory self.now }
     {
-        &self.peaks
+        &self.lines.peaks
     }
 
     /// How many blocks of sizes above 16,368 bytes were live at each snapshot. They count for nothing.
@@ -88,28 +89,6 @@ impl History {
         ensures { result.now ≡ self.now.large }
     {
         &self.large
-    }
-
-    /// Sets the counts of a size, one for each snapshot.
-    pub(crate) fn set_counts(&mut self, n: u32, counts: &[u32])
-        requires size { n ≤ LARGEST_COUNTED }
-        requires places { length counts.now ≡ length self.old.snapshots }
-        requires in_range { All (λ count. count ≤ greatest_count) counts.now }
-        ensures snapshots { self.new.snapshots ≡ with_counts self.old.snapshots n counts.now }
-        ensures large { self.new.large ≡ self.old.large }
-    {
-        write_counts(&mut self.snapshots, n as usize, counts);
-        self.peaks.set_count(n, greatest(counts));
-    }
-
-    /// Sets the counts of the large blocks, one for each snapshot.
-    pub(crate) fn set_large(&mut self, counts: &[u32])
-        requires places { length counts.now ≡ length self.old.snapshots }
-        requires in_range { All (λ count. count ≤ greatest_count) counts.now }
-        ensures snapshots { self.new.snapshots ≡ self.old.snapshots }
-        ensures large { self.new.large ≡ counts.now }
-    {
-        self.large.copy_from_slice(counts);
     }
 
     /// The least counted size that has no class in the table, in bytes. `None` if the table serves the history.
@@ -121,7 +100,7 @@ impl History {
             (λ n. (m : ℕ) → m < n → IsCounted (peaks self.now.snapshots) m → IsSome (class_for table.now m)) }
         ensures none { IfNone result (Serves (peaks self.now.snapshots) table.now) }
     {
-        self.peaks.unserved(table)
+        self.lines.peaks.unserved(table)
     }
 
     /// The bytes that a table takes: for each class, its block size times the most blocks of the class that were live at a snapshot.
@@ -131,47 +110,6 @@ impl History {
         ensures footprint { result ≡ footprint_of self.now.snapshots table.now }
         ensures small { result < 2 ^ 58 }
     {
-        table_bytes(&self.snapshots, table)
+        table_bytes(&self.lines.sizes, &self.lines.columns, table)
     }
-}
-
-// this many zeros
-#[tactic(auto, unfolding(profile_count::specs::Counts::zeros))]
-fn zeros(alloc: Global, n: usize) -> Result<Vec<u32>, AllocError>
-    ensures { IfOk result (λ counts. counts.items ≡ zeros n) }
-{
-    vec![in alloc; 0u32; n]
-}
-
-// sets the counts of a size in all snapshots
-fn write_counts(snapshots: &mut [Vec<u32>], n: usize, counts: &[u32])
-    requires size { n < SIZES }
-    requires snapshots { All AreCounts (lists_of snapshots.old) }
-    requires places { length counts.now ≡ length snapshots.old }
-    ensures { lists_of snapshots.new ≡ with_counts (lists_of snapshots.old) n counts.now }
-{
-    for t in 0..counts.len() {
-        write_count(snapshots, t, n, counts[t]);
-    }
-}
-
-// sets the count of a size in one snapshot
-fn write_count(snapshots: &mut [Vec<u32>], t: usize, n: usize, count: u32)
-    requires snapshot { t < length snapshots.old }
-    requires size { n < length (slice_index_or (lists_of snapshots.old) t []) }
-    ensures { lists_of snapshots.new
-        ≡ slice_set (lists_of snapshots.old) t (slice_set (slice_index_or (lists_of snapshots.old) t []) n count) }
-{
-    snapshots[t][n] = count;
-}
-
-// the greatest of the counts
-fn greatest(counts: &[u32]) -> u32
-    ensures { result ≡ greatest_of counts.now }
-{
-    let mut most = 0;
-    for count in counts {
-        most = most.max(*count);
-    }
-    most
 }

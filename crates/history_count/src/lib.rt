@@ -2,6 +2,7 @@
 //! memory over one.
 #![tactic(auto)]
 
+mod counted_lines;
 mod fault;
 mod footprint;
 mod history;
@@ -10,5 +11,6 @@ mod line;
 mod reading;
 
 pub use fault::{HistoryError, HistoryFault};
-pub use history::History;
+pub use footprint::{blocks_between, line_from};
+pub use history::{History, Lines};
 pub use tuner_theory::MOST_SNAPSHOTS;

@@ -2,7 +2,7 @@
 use Rattle.std.proofs.lemmas.Grind.{common_steps}
 use Rattle.std.proofs.Common.{◌≡◌, ℕ, suc, ◌+◌, ◌*◌, ◌-◌, ◌/◌, ◌%◌, ◌^◌, ◌<◌, ◌∙◌, List, [], ◌∷◌, All, length, get_or, map, refl, sym, ap, arith, true}
 use Rattle.std.specs.Char.{is_ascii_digit, digit_value}
-use Rattle.std.specs.Int.{from_le_bytes, w32, w64}
+use Rattle.std.specs.Int.{from_le_bytes, w32}
 use Rattle.std.specs.Int.Bits.{bit_and, bit_or}
 use Rattle.std.specs.List.{list_all}
 use Rattle.std.proofs.Math.Pow.{split}
@@ -85,26 +85,6 @@ pub record IsDigitWord (bytes : List ℕ) (size word : ℕ) : Type 0 where
   pub small : All (λ d. d < 10) (values bytes)
   pub full : length (values bytes) ≡ size
   pub is : word ≡ word_of (values bytes)
-
-pub eight_digits : (bytes : List ℕ) (n : ℕ) → length bytes ≡ 8 → ((i : ℕ) → get_or bytes i 0 < 256) → n ≡ from_le_bytes w64 bytes
-    → bit_and
-    (bit_or ((n + 14974415777481871312) % 2 ^ 64) (((n + 14974415777481871312) % 2 ^ 64 + 8536140394893047414) % 2 ^ 64))
-    9259542123273814144
-    ≡ 0
-    → IsDigitWord bytes 8 ((n + 14974415777481871312) % 2 ^ 64)
-eight_digits bytes n eight small is clear = go bytes eight small is
-  where
-    go : (bs : List ℕ) → length bs ≡ 8 → ((i : ℕ) → get_or bs i 0 < 256) → n ≡ from_le_bytes w64 bs
-        → IsDigitWord bs 8 ((n + 14974415777481871312) % 2 ^ 64)
-    go (a ∷ b ∷ c ∷ d ∷ e ∷ f ∷ g ∷ h ∷ []) eight small is =
-        let bs : List ℕ = a ∷ b ∷ c ∷ d ∷ e ∷ f ∷ g ∷ h ∷ [] in
-        let x = (n + 14974415777481871312) % 2 ^ 64 in
-        let fits : n < 2 ^ 64 = omega (arith, is, small 0, small 1, small 2, small 3, small 4, small 5, small 6, small 7) in
-        let found =
-        are_digits bs x ((x + 8536140394893047414) % 2 ^ 64) (1 - (n + 14974415777481871312) / 2 ^ 64) ((x + 8536140394893047414) / 2 ^ 64)
-        (All-from_get_or (λ b. b < 256) bs 0 (λ i _. small i)) (omega (arith, is, fits)) (omega arith) clear in
-        record { digits = found.digits; small = found.small; full = refl; is = omega (arith, found.word) }
-    go bs eight small is = absurd (omega (arith, eight))
 
 pub four_digits : (bytes : List ℕ) (n : ℕ) → length bytes ≡ 4 → ((i : ℕ) → get_or bytes i 0 < 256) → n ≡ from_le_bytes w32 bytes
     → bit_and

@@ -81,7 +81,7 @@ pub leading_up_to : (text : List ℕ) (i end value : ℕ) → i ≤ length text 
     → (i < length text → is_ascii_digit (get_or text i 0) ≡ false) → AreLeading (Some (value, end)) text
 leading_up_to text i end value le is few all read other = grind (arith, ends_at)
 
-prefix_len-take : (text : List ℕ) (n : ℕ) → prefix_len is_ascii_digit (take n text) ≡ min n (prefix_len is_ascii_digit text)
+pub prefix_len-take : (text : List ℕ) (n : ℕ) → prefix_len is_ascii_digit (take n text) ≡ min n (prefix_len is_ascii_digit text)
 prefix_len-take text zero = omega arith
 prefix_len-take [] (suc n) = omega arith
 prefix_len-take (c ∷ text) (suc n) = grind (arith, min, prefix_len-take text n)

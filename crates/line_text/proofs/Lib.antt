@@ -11,6 +11,7 @@ pub mod FullLines
 pub mod HexDigits
 pub mod LeadingDigits
 pub mod DigitDistance
+pub mod LeadingWord
 pub mod LineFaults
 pub mod NearNumbers
 pub mod Prefixes

@@ -7,6 +7,9 @@ use Rattle.line_text.specs.Lines.{line_of}
 use Rattle.line_text.specs.declared.number.Number.{Number}
 use Rattle.line_text.specs.declared.number.Number.TheVariants.{NoNumber, TooLarge, Value}
 
+abbrev pub is_no_digit : ℕ → Bool
+is_no_digit byte = not (is_ascii_digit byte)
+
 -- Digits, without a leading 0: 48 is `0`.
 abbrev pub is_numeral : List ℕ → Bool
 is_numeral word = list_all is_ascii_digit word && not (length word == 0) && (length word == 1 || not (slice_index word 0 == 48))

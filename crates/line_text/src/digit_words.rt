@@ -1,32 +1,58 @@
 //! Eight or four digits at once: the bytes are one word, and each multiplication doubles the number of digits that are joined.
-ghost use Rattle.std.specs.Prelude.{◌≡◌, ◌<◌, ℕ, All, Bool, IfSome, List, length, take};
+ghost use Rattle.std.specs.Prelude.{◌≡◌, ◌<◌, ℕ, All, Bool, IfSome, List, length, map, take};
 ghost use Rattle.std.specs.Char.{is_ascii_digit};
 ghost use Rattle.std.specs.Int.Digits.{number_from_digits};
-ghost use Rattle.std.specs.List.{list_all};
+ghost use Rattle.std.specs.List.{list_all, prefix_len};
+ghost use Rattle.std.specs.Simd.Lanes.{mask_l};
 ghost use Rattle.std.specs.Str.Parse.{digits_value};
-ghost use Rattle.line_text.specs.Numbers.{word_of};
+ghost use Rattle.line_text.specs.Numbers.{is_no_digit, word_of};
+
+use std::simd::prelude::*;
 
 // the byte `0`, eight times
 const ZEROS: u64 = 0x3030_3030_3030_3030;
-
-// A digit's value and this make less than 128, and a larger value makes more.
-const ABOVE: u64 = 0x7676_7676_7676_7676;
-
-// the highest bit of each byte
-const HIGH_BITS: u64 = 0x8080_8080_8080_8080;
 
 // the first of each two bytes, and the first two of each four
 const FIRST_BYTES: u64 = 0x00ff_00ff_00ff_00ff;
 
 const FIRST_PAIRS: u64 = 0x0000_ffff_0000_ffff;
 
-/// The value of the first eight bytes of a text, if all are digits.
+/// How many of eight bytes are digits, up to the first that is none, and the value of these digits.
 #[inline(always)]
-pub(crate) fn eight_digits(text: &[u8]) -> Option<u64>
-    ensures digits { IfSome result (λ _. list_all is_ascii_digit (take 8 text.now) ≡ Bool.true) }
-    ensures value { IfSome result (λ value. value ≡ digits_value 10 (take 8 text.now)) }
+pub(crate) fn leading_eight(bytes: &[u8; 8]) -> (usize, u64)
+    ensures count { result.0 ≡ prefix_len is_ascii_digit bytes.now }
+    ensures value { result.1 ≡ digits_value 10 (take result.0 bytes.now) }
 {
-    digits_in_eight(text.first_chunk::<8>()?)
+    let count = digits_of(no_digits(u8x8::from_array(*bytes)));
+    if count == 0 {
+        return (0, 0);
+    }
+    // the digits go to the upper bytes, with zeros in front of them
+    let digits = u64::from_le_bytes(*bytes).wrapping_sub(ZEROS);
+    (count, joined(digits << (64 - 8 * count)))
+}
+
+// for each byte a bit, set where the byte is no digit
+#[inline(always)]
+fn no_digits(bytes: u8x8) -> u64
+    ensures { result ≡ mask_l (map is_no_digit bytes) }
+{
+    (bytes - u8x8::splat(b'0'))
+        .simd_ge(u8x8::splat(10))
+        .to_bitmask()
+}
+
+// how many bytes are before the first whose bit is set
+#[inline(always)]
+fn digits_of(others: u64) -> usize
+    ensures { (bytes : List ℕ) → length bytes ≡ 8 → others ≡ mask_l (map is_no_digit bytes)
+        → result ≡ prefix_len is_ascii_digit bytes }
+{
+    if others == 0 {
+        8
+    } else {
+        others.trailing_zeros() as usize
+    }
 }
 
 /// The value of the first four bytes of a text, if all are digits.
@@ -36,18 +62,6 @@ pub(crate) fn four_digits(text: &[u8]) -> Option<u32>
     ensures value { IfSome result (λ value. value ≡ digits_value 10 (take 4 text.now)) }
 {
     digits_in_four(text.first_chunk::<4>()?)
-}
-
-#[inline(always)]
-fn digits_in_eight(bytes: &[u8; 8]) -> Option<u64>
-    ensures digits { IfSome result (λ _. list_all is_ascii_digit bytes.now ≡ Bool.true) }
-    ensures value { IfSome result (λ value. value ≡ digits_value 10 bytes.now) }
-{
-    let digits = u64::from_le_bytes(*bytes).wrapping_sub(ZEROS);
-    if (digits | digits.wrapping_add(ABOVE)) & HIGH_BITS != 0 {
-        return None;
-    }
-    Some(joined(digits))
 }
 
 #[inline(always)]

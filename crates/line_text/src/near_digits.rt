@@ -5,7 +5,7 @@ ghost use Rattle.std.specs.List.{list_all};
 ghost use Rattle.std.specs.Str.Parse.{digits_value};
 ghost use Rattle.line_text.specs.Numbers.{AreNear};
 
-use crate::digit_words::{eight_digits, four_digits};
+use crate::digit_words::{four_digits, leading_eight};
 use crate::number::SHORT_DIGITS;
 
 /// How many digits are at the start of these bytes, and their value; `None` if all bytes are digits.
@@ -14,27 +14,28 @@ use crate::number::SHORT_DIGITS;
 pub(crate) fn near_digits(bytes: &[u8; SHORT_DIGITS]) -> Option<(usize, u64)>
     ensures { AreNear result bytes.now }
 {
-    match eight_digits(bytes) {
-        Some(value) => further_digits(bytes, 8, value),
-        None => further_digits(bytes, 0, 0),
+    let Some(first) = bytes.first_chunk::<8>() else {
+        return last_digits(bytes, 0, 0);
+    };
+    let (count, value) = leading_eight(first);
+    if count < 8 {
+        return Some((count, value));
     }
+    further_digits(bytes, value)
 }
 
-// The same, where the first bytes are known to be digits of this value.
-#[inline(always)]
-fn further_digits(bytes: &[u8; SHORT_DIGITS], known: usize, value: u64) -> Option<(usize, u64)>
-    requires known { known ≤ 8 }
-    requires digits { list_all is_ascii_digit (take known bytes.now) ≡ Bool.true }
-    requires value { value ≡ digits_value 10 (take known bytes.now) }
+// The same, where the first eight bytes are known to be digits of this value.
+fn further_digits(bytes: &[u8; SHORT_DIGITS], value: u64) -> Option<(usize, u64)>
+    requires digits { list_all is_ascii_digit (take 8 bytes.now) ≡ Bool.true }
+    requires value { value ≡ digits_value 10 (take 8 bytes.now) }
     ensures { AreNear result bytes.now }
 {
-    match four_digits(&bytes[known..]) {
-        Some(four) => last_digits(bytes, known + 4, value * 10_000 + u64::from(four)),
-        None => last_digits(bytes, known, value),
+    match four_digits(&bytes[8..]) {
+        Some(four) => last_digits(bytes, 12, value * 10_000 + u64::from(four)),
+        None => last_digits(bytes, 8, value),
     }
 }
 
-#[inline(always)]
 fn last_digits(bytes: &[u8; SHORT_DIGITS], known: usize, value: u64) -> Option<(usize, u64)>
     requires known { known ≤ SHORT_DIGITS }
     requires digits { list_all is_ascii_digit (take known bytes.now) ≡ Bool.true }

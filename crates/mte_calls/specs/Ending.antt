@@ -1,9 +1,12 @@
 -- What C is told of the end of a call.
-use Rattle.std.specs.Prelude.{◌≡◌, ℕ, List, Some, unwrap_or, Result}
+use Rattle.std.specs.Prelude.{◌≡◌, ℕ, List, ◌++◌, Some, unwrap_or, Result}
+use Rattle.handed_text.specs.Bytes.{bytes_of}
+use Rattle.handed_text.specs.declared.ends.TheConstants.{MISUSE}
+use Rattle.handed_text.specs.declared.text.HandedText.{HandedText}
 use Rattle.line_text.specs.Numbers.{leading_number_of}
-use Rattle.mte_calls.specs.Answered.{IsAnswered, IsAnsweredIf}
+use Rattle.mte_calls.specs.Answered.{IsAnswered, IsAnsweredIf, IsCalled}
 use Rattle.mte_calls.specs.declared.ended.Ended.{Ended}
-use Rattle.mte_calls.specs.declared.ended.Ended.TheVariants.{Done as HasDone, No as HasNo, Refused as IsRefused, OutOfMemory as RanOut, BadOption as HasBadOption}
+use Rattle.mte_calls.specs.declared.ended.Ended.TheVariants.{Done as HasDone, No as HasNo, Refused as IsRefused, OutOfMemory as RanOut, BadOption as HasBadOption, Misuse as IsMisuse}
 use Rattle.mte_calls.specs.declared.structures.Ending.{Ending}
 use Rattle.mte_calls.specs.declared.structures.TheConstants.{DONE, NO, REFUSED, OUT_OF_MEMORY, BAD_OPTION}
 use Rattle.mte_engine.specs.FaultLines.{line_of_fault}
@@ -18,6 +21,7 @@ number_of_end HasNo = NO
 number_of_end (IsRefused fault) = REFUSED
 number_of_end RanOut = OUT_OF_MEMORY
 number_of_end HasBadOption = BAD_OPTION
+number_of_end IsMisuse = MISUSE
 
 -- The code of a fault is the number at the start of its text. Where there is no fault, both numbers are 0; and so is the line of a fault
 -- that has none.
@@ -30,15 +34,17 @@ pub record Shows (ended : Ended) (ending : Ending) : Type 0 where
   pub number : ending.end ≡ number_of_end ended
   pub fault : ShowsFault ended ending.fault ending.line
 
--- What a C function with these answers leaves: the end, and the text.
-pub record Answers (answers : List ℕ → Result Answer InputFault → Type 0) (input text : List ℕ) (ending : Ending) : Type 0 where
+-- What a C function with these answers leaves of a text: the end, and what the text holds then. Its input is what the text held, and after
+-- it these bytes.
+pub record Answers (answers : List ℕ → Result Answer InputFault → Type 0) (old : HandedText) (input : List ℕ) (new : HandedText)
+    (ending : Ending) : Type 0 where
   pub ended : Ended
   pub shown : Shows ended ending
-  pub answered : IsAnswered answers input ended text
+  pub called : IsCalled old new ended (IsAnswered answers (bytes_of old ++ input) ended (bytes_of new))
 
 -- The same for a function that tests its options first.
-pub record AnswersIf (options : Type 0) (answers : List ℕ → Result Answer InputFault → Type 0) (input text : List ℕ) (ending : Ending)
-    : Type 0 where
+pub record AnswersIf (options : Type 0) (answers : List ℕ → Result Answer InputFault → Type 0) (old : HandedText) (input : List ℕ)
+    (new : HandedText) (ending : Ending) : Type 0 where
   pub ended : Ended
   pub shown : Shows ended ending
-  pub answered : IsAnsweredIf options answers input ended text
+  pub called : IsCalled old new ended (IsAnsweredIf options answers (bytes_of old ++ input) ended (bytes_of new))

@@ -1,7 +1,7 @@
 //! The engines over inputs in memory.
 ghost use Rattle.std.specs.Prelude.{◌++◌};
-ghost use Rattle.handed_text.specs.Bytes.{bytes_of};
-ghost use Rattle.mte_calls.specs.Answered.{IsAnswered, IsAnsweredIf};
+ghost use Rattle.handed_text.specs.Bytes.{IsLeft, bytes_of};
+ghost use Rattle.mte_calls.specs.Answered.{IsAnswered, IsAnsweredIf, IsCalled};
 ghost use Rattle.mte_calls.specs.Options.{AreRunOptions};
 ghost use Rattle.mte_engine.specs.Check.{CheckAnswers};
 ghost use Rattle.mte_engine.specs.CheckFit.{CheckFitAnswers};
@@ -15,7 +15,7 @@ ghost use Rattle.mte_engine.specs.Tune.{AreTuneOptions, TuneAnswers};
 ghost use Rattle.heap_theory.specs.Config.{IsConfig};
 
 use crate::ended::Ended;
-use crate::handing::{hand_out, new_sink};
+use crate::handing::{hand_out, new_sink, take_input};
 use crate::options::{are_tune_options, is_config};
 use crate::two_parts::TwoParts;
 use handed_text::HandedText;
@@ -24,9 +24,12 @@ use std::alloc::Global;
 
 /// `score` of a class line and a profile.
 pub fn score(alloc: Global, input: &[u8], text: &mut HandedText) -> Ended
-    ensures { IsAnswered ScoreAnswers (bytes_of text.old ++ input.now) result (bytes_of text.new) }
+    ensures { IsCalled text.old text.new result
+        (IsAnswered ScoreAnswers (bytes_of text.old ++ input.now) result (bytes_of text.new)) }
 {
-    let first = text.take(alloc);
+    let Some(first) = take_input(alloc, text) else {
+        return Ended::Misuse;
+    };
     let mut source = TwoParts::new(&first, input);
     let mut sink = new_sink(alloc);
     let end = mte_engine::score(alloc, &mut source, &mut sink);
@@ -35,14 +38,31 @@ pub fn score(alloc: Global, input: &[u8], text: &mut HandedText) -> Ended
 
 /// `tune` of a profile, with these options.
 pub fn tune(alloc: Global, limit: u8, step: u8, input: &[u8], text: &mut HandedText) -> Ended
-    ensures { IsAnsweredIf (AreTuneOptions limit step) (TuneAnswers limit step)
-        (bytes_of text.old ++ input.now) result (bytes_of text.new) }
+    ensures { IsCalled text.old text.new result (IsAnsweredIf (AreTuneOptions limit step) (TuneAnswers limit step)
+        (bytes_of text.old ++ input.now) result (bytes_of text.new)) }
 {
+    let Some(first) = take_input(alloc, text) else {
+        return Ended::Misuse;
+    };
     if !are_tune_options(limit, step) {
-        text.clear(alloc);
         return Ended::BadOption;
     }
-    let first = text.take(alloc);
+    tune_input(alloc, limit, step, first, input, text)
+}
+
+// `tune` of an input in two parts
+fn tune_input(
+    alloc: Global,
+    limit: u8,
+    step: u8,
+    first: Vec<u8>,
+    input: &[u8],
+    text: &mut HandedText,
+) -> Ended
+    requires { AreTuneOptions limit step }
+    ensures answer { IsAnswered (TuneAnswers limit step) (first.items ++ input.now) result (bytes_of text.new) }
+    ensures left { IsLeft text.new }
+{
     let mut source = TwoParts::new(&first, input);
     let mut sink = new_sink(alloc);
     let end = mte_engine::tune(alloc, limit, step, &mut source, &mut sink);
@@ -51,9 +71,12 @@ pub fn tune(alloc: Global, limit: u8, step: u8, input: &[u8], text: &mut HandedT
 
 /// `check` of a sheet and a profile.
 pub fn check(alloc: Global, input: &[u8], text: &mut HandedText) -> Ended
-    ensures { IsAnswered CheckAnswers (bytes_of text.old ++ input.now) result (bytes_of text.new) }
+    ensures { IsCalled text.old text.new result
+        (IsAnswered CheckAnswers (bytes_of text.old ++ input.now) result (bytes_of text.new)) }
 {
-    let first = text.take(alloc);
+    let Some(first) = take_input(alloc, text) else {
+        return Ended::Misuse;
+    };
     let mut source = TwoParts::new(&first, input);
     let mut sink = new_sink(alloc);
     let end = mte_engine::check(alloc, &mut source, &mut sink);
@@ -62,9 +85,12 @@ pub fn check(alloc: Global, input: &[u8], text: &mut HandedText) -> Ended
 
 /// `footprint` of a class line and a history.
 pub fn footprint(alloc: Global, input: &[u8], text: &mut HandedText) -> Ended
-    ensures { IsAnswered FootprintAnswers (bytes_of text.old ++ input.now) result (bytes_of text.new) }
+    ensures { IsCalled text.old text.new result
+        (IsAnswered FootprintAnswers (bytes_of text.old ++ input.now) result (bytes_of text.new)) }
 {
-    let first = text.take(alloc);
+    let Some(first) = take_input(alloc, text) else {
+        return Ended::Misuse;
+    };
     let mut source = TwoParts::new(&first, input);
     let mut sink = new_sink(alloc);
     let end = mte_engine::footprint(alloc, &mut source, &mut sink);
@@ -73,14 +99,31 @@ pub fn footprint(alloc: Global, input: &[u8], text: &mut HandedText) -> Ended
 
 /// `fit` of a history, with these options.
 pub fn fit(alloc: Global, limit: u8, step: u8, input: &[u8], text: &mut HandedText) -> Ended
-    ensures { IsAnsweredIf (AreTuneOptions limit step) (FitAnswers limit step)
-        (bytes_of text.old ++ input.now) result (bytes_of text.new) }
+    ensures { IsCalled text.old text.new result (IsAnsweredIf (AreTuneOptions limit step) (FitAnswers limit step)
+        (bytes_of text.old ++ input.now) result (bytes_of text.new)) }
 {
+    let Some(first) = take_input(alloc, text) else {
+        return Ended::Misuse;
+    };
     if !are_tune_options(limit, step) {
-        text.clear(alloc);
         return Ended::BadOption;
     }
-    let first = text.take(alloc);
+    fit_input(alloc, limit, step, first, input, text)
+}
+
+// `fit` of an input in two parts
+fn fit_input(
+    alloc: Global,
+    limit: u8,
+    step: u8,
+    first: Vec<u8>,
+    input: &[u8],
+    text: &mut HandedText,
+) -> Ended
+    requires { AreTuneOptions limit step }
+    ensures answer { IsAnswered (FitAnswers limit step) (first.items ++ input.now) result (bytes_of text.new) }
+    ensures left { IsLeft text.new }
+{
     let mut source = TwoParts::new(&first, input);
     let mut sink = new_sink(alloc);
     let end = mte_engine::fit(alloc, limit, step, &mut source, &mut sink);
@@ -89,9 +132,12 @@ pub fn fit(alloc: Global, limit: u8, step: u8, input: &[u8], text: &mut HandedTe
 
 /// `check-fit` of a fit and a history.
 pub fn check_fit(alloc: Global, input: &[u8], text: &mut HandedText) -> Ended
-    ensures { IsAnswered CheckFitAnswers (bytes_of text.old ++ input.now) result (bytes_of text.new) }
+    ensures { IsCalled text.old text.new result
+        (IsAnswered CheckFitAnswers (bytes_of text.old ++ input.now) result (bytes_of text.new)) }
 {
-    let first = text.take(alloc);
+    let Some(first) = take_input(alloc, text) else {
+        return Ended::Misuse;
+    };
     let mut source = TwoParts::new(&first, input);
     let mut sink = new_sink(alloc);
     let end = mte_engine::check_fit(alloc, &mut source, &mut sink);
@@ -100,9 +146,12 @@ pub fn check_fit(alloc: Global, input: &[u8], text: &mut HandedText) -> Ended
 
 /// `profile` of a trace.
 pub fn profile(alloc: Global, input: &[u8], text: &mut HandedText) -> Ended
-    ensures { IsAnswered ProfileAnswers (bytes_of text.old ++ input.now) result (bytes_of text.new) }
+    ensures { IsCalled text.old text.new result
+        (IsAnswered ProfileAnswers (bytes_of text.old ++ input.now) result (bytes_of text.new)) }
 {
-    let first = text.take(alloc);
+    let Some(first) = take_input(alloc, text) else {
+        return Ended::Misuse;
+    };
     let mut source = TwoParts::new(&first, input);
     let mut sink = new_sink(alloc);
     let end = mte_engine::profile(alloc, &mut source, &mut sink);
@@ -111,14 +160,15 @@ pub fn profile(alloc: Global, input: &[u8], text: &mut HandedText) -> Ended
 
 /// `replay` of a class line and a trace, on a heap that is set up so.
 pub fn replay(alloc: Global, config: Config, input: &[u8], text: &mut HandedText) -> Ended
-    ensures { IsAnsweredIf (IsConfig config) (ReplayAnswers config)
-        (bytes_of text.old ++ input.now) result (bytes_of text.new) }
+    ensures { IsCalled text.old text.new result (IsAnsweredIf (IsConfig config) (ReplayAnswers config)
+        (bytes_of text.old ++ input.now) result (bytes_of text.new)) }
 {
+    let Some(first) = take_input(alloc, text) else {
+        return Ended::Misuse;
+    };
     if !is_config(config) {
-        text.clear(alloc);
         return Ended::BadOption;
     }
-    let first = text.take(alloc);
     let mut source = TwoParts::new(&first, input);
     let mut sink = new_sink(alloc);
     let end = mte_engine::replay(alloc, config, &mut source, &mut sink);
@@ -134,14 +184,33 @@ pub fn run(
     input: &[u8],
     text: &mut HandedText,
 ) -> Ended
-    ensures { IsAnsweredIf (AreRunOptions limit step config) (RunAnswers limit step config)
-        (bytes_of text.old ++ input.now) result (bytes_of text.new) }
+    ensures { IsCalled text.old text.new result (IsAnsweredIf (AreRunOptions limit step config) (RunAnswers limit step config)
+        (bytes_of text.old ++ input.now) result (bytes_of text.new)) }
 {
+    let Some(first) = take_input(alloc, text) else {
+        return Ended::Misuse;
+    };
     if !are_tune_options(limit, step) || !is_config(config) {
-        text.clear(alloc);
         return Ended::BadOption;
     }
-    let first = text.take(alloc);
+    run_input(alloc, limit, step, config, first, input, text)
+}
+
+// `run` of an input in two parts
+fn run_input(
+    alloc: Global,
+    limit: u8,
+    step: u8,
+    config: Config,
+    first: Vec<u8>,
+    input: &[u8],
+    text: &mut HandedText,
+) -> Ended
+    requires options { AreTuneOptions limit step }
+    requires config { IsConfig config }
+    ensures answer { IsAnswered (RunAnswers limit step config) (first.items ++ input.now) result (bytes_of text.new) }
+    ensures left { IsLeft text.new }
+{
     let mut source = TwoParts::new(&first, input);
     let mut sink = new_sink(alloc);
     let end = mte_engine::run(alloc, limit, step, config, &mut source, &mut sink);

@@ -15,4 +15,6 @@ pub enum Ended {
     OutOfMemory,
     /// An option is out of its range. There is no text.
     BadOption,
+    /// The text holds an answer that nobody made an input. It stays as it is.
+    Misuse,
 }

@@ -1,23 +1,38 @@
-//! Handing an answer out to the text that the caller gave.
-ghost use Rattle.std.specs.Prelude.{◌≡◌, []};
-ghost use Rattle.handed_text.specs.Bytes.{bytes_of};
+//! Taking the first part of an input out of the text that the caller gave, and handing an answer out to it.
+ghost use Rattle.std.specs.Prelude.{◌≡◌, [], false, true};
+ghost use Rattle.std.specs.Option.{ForNone, ForSome};
+ghost use Rattle.handed_text.specs.Bytes.{IsLeft, bytes_of, is_answer_of};
 ghost use Rattle.mte_calls.specs.Answered.{EndsWith, HandsOut};
 
 use crate::ended::Ended;
 use handed_text::HandedText;
-use mte_engine::{MemorySink, Status, ToolFault};
+use mte_engine::{History, MemorySink, Status, ToolFault};
 use std::alloc::{AllocError, Global};
+
+/// The bytes of the text, with which an input begins; the empty text is left. `None` and the text as it was if it holds an answer.
+pub fn take_input(alloc: Global, text: &mut HandedText) -> Option<Vec<u8>>
+    ensures taken { ForSome result (λ first. first.items ≡ bytes_of text.old) }
+    ensures input { ForSome result (λ _. is_answer_of text.old ≡ false) }
+    ensures left { ForSome result (λ _. bytes_of text.new ≡ []) }
+    ensures answer { ForNone result (is_answer_of text.old ≡ true) }
+    ensures bytes { ForNone result (bytes_of text.new ≡ bytes_of text.old) }
+    ensures kept { ForNone result (is_answer_of text.new ≡ true) }
+{
+    if text.is_answer(alloc) {
+        return None;
+    }
+    Some(text.take(alloc))
+}
 
 /// A sink that has taken nothing, and fails only if the allocator refuses memory.
 pub fn new_sink(alloc: Global) -> MemorySink
-    ensures text { result.text.items ≡ [] }
-    ensures failed { result.failed ≡ 0 }
+    ensures { result.text.items ≡ [] }
 {
     MemorySink {
         text: Vec::new(alloc),
+        writes: History::new(),
         most: usize::MAX,
         until_failure: None,
-        failed: 0,
     }
 }
 
@@ -29,7 +44,8 @@ pub fn hand_out(
     written: Vec<u8>,
     text: &mut HandedText,
 ) -> Ended
-    ensures { HandsOut end written.items result (bytes_of text.new) }
+    ensures answer { HandsOut end written.items result (bytes_of text.new) }
+    ensures left { IsLeft text.new }
 {
     match end {
         Ok(Status::Done) => ended_with(alloc, Ended::Done, written, text),
@@ -44,7 +60,8 @@ pub fn hand_out(
 
 // this end with this text, unless memory runs out
 fn ended_with(alloc: Global, ended: Ended, written: Vec<u8>, text: &mut HandedText) -> Ended
-    ensures { EndsWith ended written.items result (bytes_of text.new) }
+    ensures text { EndsWith ended written.items result (bytes_of text.new) }
+    ensures left { IsLeft text.new }
 {
     match text.put(alloc, written) {
         Ok(()) => ended,

@@ -3,6 +3,7 @@ ghost use Rattle.std.specs.Prelude.{◌≡◌};
 
 use crate::ended::Ended;
 use crate::faults::{code_of, line_of};
+use handed_text::MISUSE;
 use replay_core::Config;
 
 /// Done.
@@ -55,7 +56,7 @@ impl Options {
 #[repr(C)]
 #[derive(Clone, Copy)]
 pub struct Ending {
-    /// The number of the end, 0 to 4.
+    /// The number of the end, 0 to 5.
     pub end: u32,
     /// The code of the fault, or 0.
     pub fault: u32,
@@ -80,6 +81,7 @@ impl Ending {
             },
             Ended::OutOfMemory => Ending::without_fault(OUT_OF_MEMORY),
             Ended::BadOption => Ending::without_fault(BAD_OPTION),
+            Ended::Misuse => Ending::without_fault(MISUSE),
         }
     }
 

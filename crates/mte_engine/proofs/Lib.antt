@@ -14,3 +14,5 @@ pub mod TableAnd
 pub mod TracePieces
 pub mod RowLines
 pub mod RunAnswers
+pub mod KnownInput
+pub mod LawLemmas

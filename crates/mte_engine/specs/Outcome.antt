@@ -1,8 +1,7 @@
 -- What an engine writes for an input, and how a call of it ends.
-use Rattle.std.specs.Prelude.{◌≡◌, ◌↔◌, ◌<◌, ℕ, List, ◌++◌, length, Option, Some, None, Result, Ok, Err, IfOk, nat_lt, MatchBool, ⊤}
-use Rattle.std.specs.Io.KnownBytes.{Appends, IsAtEnd}
-use Rattle.byte_streams.specs.Transfer.{IsReadFewTimes, most_input}
-use Rattle.byte_streams.specs.Streams.{HaveFewFailed, SinkState, SourceState}
+use Rattle.std.specs.Prelude.{◌≡◌, ◌↔◌, ◌<◌, ◌≤◌, ℕ, List, ◌++◌, length, Result, Ok, Err, nat_lt, MatchBool, ⊤}
+use Rattle.byte_streams.specs.Transfer.{HasEnded, HasGiven, HasTaken, IsReadFewTimes, most_input}
+use Rattle.byte_streams.specs.Streams.{SinkState, SourceState}
 use Rattle.mte_engine.specs.declared.engine.Status.{Status}
 use Rattle.mte_engine.specs.declared.fault.AnswerError.{AnswerError}
 use Rattle.mte_engine.specs.declared.fault.AnswerError.TheVariants.{OutOfMemory as NoMemoryToAnswer, Input as Refused}
@@ -47,36 +46,24 @@ fault_of_answer (Refused fault) = Input fault
 
 -- ---- a call of an engine
 
--- What a call wrote, if these are the answers to its input. `before` and `after` are the bytes that the sink had taken, if it knows
--- them. Where the engine finished, the sink took the whole text; after a failed write a prefix of it; after any other fault nothing.
-abbrev pub Reports : (Result Answer InputFault → Type 0) → Option (List ℕ) → Option (List ℕ) → Result Status ToolFault → Type 0
-Reports answers before after (Ok status) =
-    (text : List ℕ) × answers (Ok (record { text = text; status = status })) × Appends before after text
-Reports answers before after (Err OutOfMemory) = after ≡ before
-Reports answers before after (Err (Input fault)) = answers (Err fault) × (after ≡ before)
-Reports answers before after (Err ReadFault) = after ≡ before
-Reports answers before after (Err WriteFault) =
-    (written rest : List ℕ) × (status : Status) × answers (Ok (record { text = written ++ rest; status = status }))
-    × Appends before after written
+-- This is the answer to exactly the bytes that the source gave. It had given all of them, or more than an input may have.
+abbrev pub AnswersGiven : (List ℕ → Result Answer InputFault → Type 0) → SourceState → SourceState → Result Answer InputFault → Type 0
+AnswersGiven answers source source' answer =
+    (input : List ℕ) × HasGiven source source' input × AnswersInput answers input answer × (length input ≤ most_input → HasEnded source')
 
--- The same for an input that the source knows; nothing is said of one that it doesn't.
-abbrev pub ReportsFor : (List ℕ → Result Answer InputFault → Type 0) → Option (List ℕ) → Option (List ℕ) → Option (List ℕ) →
+-- What a call wrote. Where the engine finished, the sink took the whole text of the answer; after a failed write a prefix of it; after any
+-- other fault the sink is the value that it was.
+abbrev pub Reports : (List ℕ → Result Answer InputFault → Type 0) → SourceState → SourceState → {W : Type 0} → (W → SinkState) → W → W →
     Result Status ToolFault → Type 0
-ReportsFor answers None before after result = ⊤
-ReportsFor answers (Some input) before after result = Reports (AnswersInput answers input) before after result
-
--- After any fault but that of a write the sink is the value that it was.
-abbrev pub IsQuiet : {W : Type 0} → W → W → Result Status ToolFault → Type 0
-IsQuiet before after (Ok status) = ⊤
-IsQuiet before after (Err OutOfMemory) = after ≡ before
-IsQuiet before after (Err (Input fault)) = after ≡ before
-IsQuiet before after (Err ReadFault) = after ≡ before
-IsQuiet before after (Err WriteFault) = ⊤
-
--- An engine may be called: fewer than 2^63 calls of the source and of the sink have failed.
-pub record IsReady (source : SourceState) (sink : SinkState) : Type 0 where
-  pub reading : HaveFewFailed source.failed
-  pub writing : HaveFewFailed sink.failed
+Reports answers source source' state sink sink' (Ok status) =
+    (text : List ℕ) × AnswersGiven answers source source' (Ok (record { text = text; status = status }))
+    × HasTaken (state sink) (state sink') text
+Reports answers source source' state sink sink' (Err OutOfMemory) = sink' ≡ sink
+Reports answers source source' state sink sink' (Err (Input fault)) = AnswersGiven answers source source' (Err fault) × (sink' ≡ sink)
+Reports answers source source' state sink sink' (Err ReadFault) = sink' ≡ sink
+Reports answers source source' state sink sink' (Err WriteFault) =
+    (written rest : List ℕ) × (status : Status) × AnswersGiven answers source source' (Ok (record { text = written ++ rest; status = status }))
+    × HasTaken (state sink) (state sink') written
 
 -- What a call of an engine with these answers does, from a source to a sink.
 pub record Runs (answers : List ℕ → Result Answer InputFault → Type 0) (source source' : SourceState) {W : Type 0} (state : W → SinkState)
@@ -85,10 +72,7 @@ pub record Runs (answers : List ℕ → Result Answer InputFault → Type 0) (so
   -- a failed read is reported exactly where one failed, and so is a failed write
   pub read_fault : (result ≡ Err ReadFault) ↔ (source.failed < source'.failed)
   pub write_fault : (result ≡ Err WriteFault) ↔ ((state sink).failed < (state sink').failed)
-  -- what was written is the answer to the bytes that were to come; an engine that finishes has read all of them
-  pub answer : ReportsFor answers source.remaining (state sink).taken (state sink').taken result
-  pub consumed : IfOk result (λ _. IsAtEnd source'.remaining)
-  -- after a fault other than that of a write the sink is as it was
-  pub quiet : IsQuiet sink sink' result
+  -- what was written is the answer to the bytes that the source gave
+  pub answer : Reports answers source source' state sink sink' result
   -- how often the source is read is bounded
   pub few_reads : IsReadFewTimes source source'

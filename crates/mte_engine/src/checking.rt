@@ -1,7 +1,7 @@
 //! `check`: the verdict on a sheet, whoever wrote it.
 ghost use Rattle.std.specs.Prelude.{◌≡◌, IfOk};
 ghost use Rattle.mte_engine.specs.Check.{CheckAnswers, verdict_text};
-ghost use Rattle.mte_engine.specs.Outcome.{GivesAnswer, IsReady, Runs};
+ghost use Rattle.mte_engine.specs.Outcome.{GivesAnswer, Runs};
 ghost use Rattle.byte_streams.specs.TextLeft.{text_left};
 
 use crate::engine::{Engine, Status, run_engine};
@@ -23,7 +23,6 @@ pub fn check<R: ByteSource, W: ByteSink>(
     source: &mut R,
     sink: &mut W,
 ) -> Result<Status, ToolFault>
-    requires { IsReady (R.state source.old) (W.state sink.old) }
     ensures { Runs CheckAnswers (R.state source.old) (R.state source.new) W.state sink.old sink.new result }
 {
     run_engine(alloc, &CheckEngine, source, sink)

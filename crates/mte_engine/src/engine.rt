@@ -1,7 +1,7 @@
 //! An engine reads a whole input, works out its answer, and then writes the answer.
 ghost use Rattle.std.specs.Prelude.{[], IfOk, List, ℕ, Result};
 ghost use Rattle.mte_engine.specs.declared.fault.InputFault.{InputFault};
-ghost use Rattle.mte_engine.specs.Outcome.{Answer, GivesAnswer, IsReady, Runs};
+ghost use Rattle.mte_engine.specs.Outcome.{Answer, GivesAnswer, Runs};
 
 use crate::fault::{AnswerError, ToolFault};
 use byte_streams::{ByteSink, ByteSource, Input, Output, read_all, write_all};
@@ -46,7 +46,6 @@ pub fn run_engine<E: Engine, R: ByteSource, W: ByteSink>(
     source: &mut R,
     sink: &mut W,
 ) -> Result<Status, ToolFault>
-    requires { IsReady (R.state source.old) (W.state sink.old) }
     ensures { Runs (E.answers engine.now) (R.state source.old) (R.state source.new) W.state sink.old sink.new result }
 {
     let mut input = engine.input(alloc)?;

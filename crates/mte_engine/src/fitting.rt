@@ -1,6 +1,6 @@
 //! `fit`: the class table of least footprint over a history, with its certificate.
 ghost use Rattle.mte_engine.specs.Fit.{FitAnswers};
-ghost use Rattle.mte_engine.specs.Outcome.{GivesAnswer, IsReady, Runs};
+ghost use Rattle.mte_engine.specs.Outcome.{GivesAnswer, Runs};
 ghost use Rattle.mte_engine.specs.SheetLeft.{sheet_left};
 ghost use Rattle.mte_engine.specs.Tune.{AreTuneOptions};
 
@@ -26,7 +26,6 @@ pub fn fit<R: ByteSource, W: ByteSink>(
     sink: &mut W,
 ) -> Result<Status, ToolFault>
     requires options { AreTuneOptions limit step }
-    requires ready { IsReady (R.state source.old) (W.state sink.old) }
     ensures { Runs (FitAnswers limit step) (R.state source.old) (R.state source.new) W.state sink.old sink.new result }
 {
     run_engine(alloc, &FitEngine { limit, step }, source, sink)

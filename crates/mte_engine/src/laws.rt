@@ -85,7 +85,7 @@ pub fn law_fault_lines()
 pub fn law_numbers()
     ensures classes { (MOST_CLASSES ≡ 32) × (SMALLEST_CLASS ≡ 2) × (LARGEST_CLASS ≡ 1024) × (LINE_BYTES ≡ 168) }
     ensures sizes { (GRANULE_BYTES ≡ 16) × (largest_counted ≡ 16368) × (greatest_count ≡ 1000000000) }
-    ensures rows { (MOST_SNAPSHOTS ≡ 64) × (MOST_NEEDS ≡ 1023) }
+    ensures rows { (MOST_SNAPSHOTS ≡ 1024) × (MOST_NEEDS ≡ 1023) }
     ensures traces { (longest_line ≡ 80) × (most_events ≡ 1000000) }
     ensures requests { (LAST_VARIABLE ≡ 1023) × (LARGEST_REQUEST ≡ 2147483647) }
     ensures accesses { (FARTHEST_ACCESS ≡ 1048576) × (LONGEST_ACCESS ≡ 64) }

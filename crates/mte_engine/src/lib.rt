@@ -1,8 +1,8 @@
 //! The engines of the tool, each from a source of bytes to a sink of bytes: `score`, `tune` and `check` over profiles, `footprint`, `fit`
 //! and `check_fit` over histories, `profile`, `replay` and `run` over traces. A program gives an engine any `ByteSource` and `ByteSink`;
 //! `byte_streams`, of which this crate hands on what a caller needs, has a pair over memory and one over the readers and writers of std.
-//! Where source and sink know their bytes, the contracts say what an engine writes, and what it has written when a write fails. In every
-//! case they say when a failed read and a failed write are reported, and that after every fault but that of a write the sink is unchanged.
+//! The contracts say that an engine writes the answer to the bytes that the source gave, and what it has written when a write fails; when a
+//! failed read and a failed write are reported; and that after every fault but that of a write the sink is unchanged.
 #![tactic(auto)]
 
 mod checking;
@@ -24,7 +24,8 @@ mod trace_feeding;
 mod tuning;
 
 pub use byte_streams::{
-    ByteSink, ByteSource, Failure, MOST_INPUT, MemorySink, MemorySource, StreamSink, StreamSource,
+    ByteSink, ByteSource, Failure, History, MOST_INPUT, MemorySink, MemorySource, StreamSink,
+    StreamSource,
 };
 pub use checking::check;
 pub use engine::Status;

@@ -1,7 +1,7 @@
 //! `footprint`: what a table takes of memory over a history.
 ghost use Rattle.std.specs.Prelude.{◌≡◌, IfOk};
 ghost use Rattle.mte_engine.specs.Footprint.{FootprintAnswers, measured};
-ghost use Rattle.mte_engine.specs.Outcome.{GivesAnswer, IsReady, Runs};
+ghost use Rattle.mte_engine.specs.Outcome.{GivesAnswer, Runs};
 ghost use Rattle.byte_streams.specs.TextLeft.{text_left};
 
 use crate::engine::{Engine, Status, run_engine};
@@ -24,7 +24,6 @@ pub fn footprint<R: ByteSource, W: ByteSink>(
     source: &mut R,
     sink: &mut W,
 ) -> Result<Status, ToolFault>
-    requires { IsReady (R.state source.old) (W.state sink.old) }
     ensures { Runs FootprintAnswers (R.state source.old) (R.state source.new) W.state sink.old sink.new result }
 {
     run_engine(alloc, &FootprintEngine, source, sink)

@@ -1,5 +1,5 @@
 //! `profile`: how often each size is requested in a trace.
-ghost use Rattle.mte_engine.specs.Outcome.{GivesAnswer, IsReady, Runs};
+ghost use Rattle.mte_engine.specs.Outcome.{GivesAnswer, Runs};
 ghost use Rattle.mte_engine.specs.Profile.{ProfileAnswers};
 ghost use Rattle.byte_streams.specs.TextLeft.{text_left};
 ghost use Rattle.mte_engine.specs.Traces.{KeepsCounts};
@@ -8,7 +8,7 @@ ghost use Rattle.trace_reader.specs.Reading.{is_finished};
 
 use crate::engine::{Engine, Status, run_engine};
 use crate::fault::{AnswerError, ToolFault};
-use crate::trace_counting::{count_lines, count_out, feed_counted};
+use crate::trace_counting::{count_out, count_rest, feed_counted};
 use crate::trace_feeding::end;
 use byte_streams::{ByteSink, ByteSource, Input, Text};
 use line_text::first_line;
@@ -26,7 +26,6 @@ pub fn profile<R: ByteSource, W: ByteSink>(
     source: &mut R,
     sink: &mut W,
 ) -> Result<Status, ToolFault>
-    requires { IsReady (R.state source.old) (W.state sink.old) }
     ensures { Runs ProfileAnswers (R.state source.old) (R.state source.new) W.state sink.old sink.new result }
 {
     run_engine(alloc, &ProfileEngine, source, sink)
@@ -70,7 +69,7 @@ impl Input for CountedTrace {
         while let Some((line, after)) = first_line(text) {
             feed_counted(&mut self.reader, &mut self.profile, line)?;
             feed_counted(&mut self.reader, &mut self.profile, b"\n")?;
-            text = count_lines(&mut self.reader, &mut self.profile, after);
+            text = count_rest(&mut self.reader, &mut self.profile, after)?;
         }
         feed_counted(&mut self.reader, &mut self.profile, text)
     }

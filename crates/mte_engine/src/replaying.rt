@@ -1,5 +1,5 @@
 //! `replay`: the report on a trace, replayed on the tagged heap over a class table.
-ghost use Rattle.mte_engine.specs.Outcome.{GivesAnswer, IsReady, Runs};
+ghost use Rattle.mte_engine.specs.Outcome.{GivesAnswer, Runs};
 ghost use Rattle.mte_engine.specs.Replay.{ReplayAnswers};
 ghost use Rattle.heap_theory.specs.Config.{IsConfig};
 ghost use Rattle.mte_engine.specs.ReportLeft.{report_left};
@@ -31,8 +31,7 @@ pub fn replay<R: ByteSource, W: ByteSink>(
     source: &mut R,
     sink: &mut W,
 ) -> Result<Status, ToolFault>
-    requires config { IsConfig config }
-    requires ready { IsReady (R.state source.old) (W.state sink.old) }
+    requires { IsConfig config }
     ensures { Runs (ReplayAnswers config) (R.state source.old) (R.state source.new) W.state sink.old sink.new result }
 {
     run_engine(alloc, &ReplayEngine { config }, source, sink)

@@ -1,5 +1,5 @@
 //! `run`: the class table of least waste for a trace, and the replay of the trace on the tagged heap over that table.
-ghost use Rattle.mte_engine.specs.Outcome.{GivesAnswer, IsReady, Runs};
+ghost use Rattle.mte_engine.specs.Outcome.{GivesAnswer, Runs};
 ghost use Rattle.heap_theory.specs.Config.{IsConfig};
 ghost use Rattle.mte_engine.specs.ReportLeft.{report_left};
 ghost use Rattle.mte_engine.specs.Run.{RunAnswers};
@@ -42,7 +42,6 @@ pub fn run<R: ByteSource, W: ByteSink>(
 ) -> Result<Status, ToolFault>
     requires options { AreTuneOptions limit step }
     requires config { IsConfig config }
-    requires ready { IsReady (R.state source.old) (W.state sink.old) }
     ensures { Runs (RunAnswers limit step config) (R.state source.old) (R.state source.new)
         W.state sink.old sink.new result }
 {

@@ -1,7 +1,7 @@
 //! `score`: what a table wastes on a profile.
 ghost use Rattle.std.specs.Prelude.{◌≡◌, ◌++◌, ◌∷◌, [], IfOk};
 ghost use Rattle.std.specs.Fmt.{decimal};
-ghost use Rattle.mte_engine.specs.Outcome.{GivesAnswer, IsReady, Runs};
+ghost use Rattle.mte_engine.specs.Outcome.{GivesAnswer, Runs};
 ghost use Rattle.mte_engine.specs.Score.{ScoreAnswers, scored};
 ghost use Rattle.byte_streams.specs.TextLeft.{text_left};
 
@@ -25,7 +25,6 @@ pub fn score<R: ByteSource, W: ByteSink>(
     source: &mut R,
     sink: &mut W,
 ) -> Result<Status, ToolFault>
-    requires { IsReady (R.state source.old) (W.state sink.old) }
     ensures { Runs ScoreAnswers (R.state source.old) (R.state source.new) W.state sink.old sink.new result }
 {
     run_engine(alloc, &ScoreEngine, source, sink)

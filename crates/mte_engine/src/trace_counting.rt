@@ -1,5 +1,5 @@
 //! Counting what the events of a trace request.
-ghost use Rattle.std.specs.Prelude.{◌≡◌, ◌++◌, ◌+◌, ◌<◌, ◌≤◌, List, ℕ, [], ◌∷◌, length, take, false, OnOk};
+ghost use Rattle.std.specs.Prelude.{◌≡◌, ◌++◌, ◌+◌, ◌<◌, ◌≤◌, List, ℕ, [], ◌∷◌, length, take, false, IfOk, OnOk};
 ghost use Rattle.replay_theory.specs.Losses.{requested_sizes};
 ghost use Rattle.profile_count.specs.Requests.{profile_of_sizes};
 ghost use Rattle.trace_reader.specs.TraceLine.{most_events};
@@ -76,6 +76,25 @@ pub fn count_lines<'a>(reader: &mut TraceReader, profile: &mut Profile, text: &'
         rest = after;
     }
     rest
+}
+
+/// As `count_lines`; but a reader that has failed is fed all of the text, at which it does not look.
+pub fn count_rest<'a>(
+    reader: &mut TraceReader,
+    profile: &mut Profile,
+    text: &'a [u8],
+) -> Result<&'a [u8], AllocError>
+    requires { is_finished reader.old ≡ false }
+    ensures counted { IfOk result (λ rest. (bytes : List ℕ) → KeepsCounts reader.old profile.old bytes →
+        CountsFront bytes text.now reader.new profile.new rest.now) }
+    ensures shorter { IfOk result (λ rest. length rest.now ≤ length text.now) }
+    ensures unfinished { is_finished reader.new ≡ false }
+{
+    if reader.is_at_start() {
+        return Ok(count_lines(reader, profile, text));
+    }
+    feed_counted(reader, profile, text)?;
+    Ok(&text[text.len()..])
 }
 
 // Counts what an event requests.

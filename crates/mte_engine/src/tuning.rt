@@ -1,5 +1,5 @@
 //! `tune`: the class table of least waste for a profile, with its certificate.
-ghost use Rattle.mte_engine.specs.Outcome.{GivesAnswer, IsReady, Runs};
+ghost use Rattle.mte_engine.specs.Outcome.{GivesAnswer, Runs};
 ghost use Rattle.mte_engine.specs.SheetLeft.{sheet_left};
 ghost use Rattle.mte_engine.specs.Tune.{AreTuneOptions, TuneAnswers};
 
@@ -25,7 +25,6 @@ pub fn tune<R: ByteSource, W: ByteSink>(
     sink: &mut W,
 ) -> Result<Status, ToolFault>
     requires options { AreTuneOptions limit step }
-    requires ready { IsReady (R.state source.old) (W.state sink.old) }
     ensures { Runs (TuneAnswers limit step) (R.state source.old) (R.state source.new) W.state sink.old sink.new result }
 {
     run_engine(alloc, &TuneEngine { limit, step }, source, sink)

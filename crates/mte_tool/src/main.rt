@@ -1,5 +1,5 @@
 //! `mte_tool`: size-class tables, and a heap with memory tags, on what a program really allocates. It runs the call that the words of its
-//! command line mean (`command_words`) by the call's engine (`mte_engine`), over the standard streams.
+//! command line mean (`command_words`) by the call's engine (`mte_engine`), from standard input to standard output.
 #![tactic(auto)]
 
 mod end;
@@ -7,8 +7,11 @@ mod program;
 mod running;
 
 use crate::end::End;
-use std::io::IsTerminal;
+use mte_engine::{StreamSink, StreamSource};
+use std::io::{Input, IsTerminal, writer};
 
 fn main(rt: HostRuntime) -> End {
-    program::run(&rt, rt.stdin().is_terminal())
+    let mut source = StreamSource::new(rt.reader());
+    let mut sink = StreamSink::new(writer(&rt));
+    program::run(&rt, rt.stdin().is_terminal(), &mut source, &mut sink)
 }

@@ -1,5 +1,7 @@
 //! The program: its words, its standard input and output, and how it ends.
-ghost use Rattle.std.specs.Prelude.{◌≡◌};
+ghost use Rattle.std.specs.Prelude.{◌≡◌, List, ℕ, map, string_bytes};
+ghost use Rattle.command_words.specs.Words.{Mean};
+ghost use Rattle.mte_tool.specs.WholeRun.{AreNew, HasRun};
 ghost use Rattle.mte_tool.specs.Exit.{IsRefusedEnd};
 ghost use Rattle.mte_tool.specs.declared.end.End.TheVariants.{Ended};
 
@@ -7,9 +9,8 @@ use crate::end::End;
 use crate::running::{CallEnd, run_call_of};
 use clap::error::ErrorKind;
 use command_words::{Refusal, command, read_call};
-use mte_engine::{Status, StreamSink, StreamSource, ToolFault};
+use mte_engine::{ByteSink, ByteSource, Status, ToolFault};
 use std::io;
-use std::io::writer;
 use std::rt::Env;
 
 const NOT_TEXT: &str = "a word of the command line is not UTF-8";
@@ -19,20 +20,40 @@ const WAITS: &str =
 
 const TIP: &str = "tip: the input is standard input, and no file is named: mte_tool COMMAND < FILE";
 
-/// Runs the program on the words of its command line, from standard input to standard output. If it refuses the words or the command fails,
-/// it prints why on standard error. Before it reads standard input from a terminal, it says on standard error that it waits.
-pub fn run<R: Env + AllocGlobal + Input + Print + Eprint>(rt: &R, at_terminal: bool) -> End {
-    let words = match words(rt) {
-        Ok(words) => words,
-        Err(refusal) => return refuse(rt, &refusal),
-    };
+/// Runs the program on the words of its command line, from the source to the sink. If it refuses the words or the command fails,
+/// it prints why on standard error. Before it reads the source from a terminal, it says on standard error that it waits.
+pub fn run<R: Env + AllocGlobal + Print + Eprint, S: ByteSource, W: ByteSink>(
+    rt: &R,
+    at_terminal: bool,
+    source: &mut S,
+    sink: &mut W,
+) -> End
+    requires { AreNew (S.state source.old) (W.state sink.old) }
+    ensures { HasRun (λ call. (words : List (List ℕ)) × Mean words call)
+        (S.state source.new) (W.state sink.new) result }
+{
+    match words(rt) {
+        Ok(words) => run_words(rt, at_terminal, words.as_slice(), source, sink),
+        Err(refusal) => refuse(rt, &refusal),
+    }
+}
+
+/// Runs the call that these words mean, from the source to the sink.
+pub fn run_words<R: AllocGlobal + Print + Eprint, S: ByteSource, W: ByteSink>(
+    rt: &R,
+    at_terminal: bool,
+    words: &[String],
+    source: &mut S,
+    sink: &mut W,
+) -> End
+    requires { AreNew (S.state source.old) (W.state sink.old) }
+    ensures { HasRun (Mean (map string_bytes words.now)) (S.state source.new) (W.state sink.new) result }
+{
     // read here for the hint alone: `run_call_of` reads the words itself, so that its contract covers the whole run
-    if at_terminal && read_call(rt.alloc(), words.as_slice()).is_ok() {
+    if at_terminal && read_call(rt.alloc(), words).is_ok() {
         let _ = eprintln!(rt; "{WAITS}");
     }
-    let mut source = StreamSource::new(rt.reader());
-    let mut sink = StreamSink::new(writer(rt));
-    match run_call_of(rt.alloc(), words.as_slice(), &mut source, &mut sink) {
+    match run_call_of(rt.alloc(), words, source, sink) {
         CallEnd::Done(status) => finish(rt, Ok(status)),
         CallEnd::Failed(fault) => finish(rt, Err(fault)),
         CallEnd::Refused(refusal) => refuse(rt, &refusal),

@@ -1,7 +1,7 @@
 //! The call that the words of the command line mean, run by its engine.
 ghost use Rattle.std.specs.Prelude.{◌≡◌, map, string_bytes};
 ghost use Rattle.command_words.specs.Words.{AreRefused, Mean};
-ghost use Rattle.mte_engine.specs.Outcome.{IsReady, Runs};
+ghost use Rattle.mte_engine.specs.Outcome.{Runs};
 ghost use Rattle.mte_tool.specs.Calls.{IsValid, MatchEnd, answers_of};
 
 use command_words::{Call, Fit, Refusal, Replay, Run, Tune, read_call};
@@ -26,7 +26,6 @@ pub fn run_call_of<R: ByteSource, W: ByteSink>(
     source: &mut R,
     sink: &mut W,
 ) -> CallEnd
-    requires { IsReady (R.state source.old) (W.state sink.old) }
     ensures { MatchEnd result
         (λ end. (call : Call) × Mean (map string_bytes words.now) call
         × Runs (answers_of call) (R.state source.old) (R.state source.new) W.state sink.old sink.new end)
@@ -48,8 +47,7 @@ pub fn run_call<R: ByteSource, W: ByteSink>(
     source: &mut R,
     sink: &mut W,
 ) -> Result<Status, ToolFault>
-    requires valid { IsValid call }
-    requires ready { IsReady (R.state source.old) (W.state sink.old) }
+    requires { IsValid call }
     ensures { Runs (answers_of call) (R.state source.old) (R.state source.new) W.state sink.old sink.new result }
 {
     match call {

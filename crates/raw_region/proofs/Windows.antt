@@ -1,11 +1,11 @@
 -- Runs within a window of bytes that is read or written at once.
-use Rattle.std.specs.List.{range_with_len}
-use Rattle.std.proofs.Common.{◌≡◌, ℕ, ◌+◌, ◌-◌, ◌<◌, ◌≤◌, ◌++◌, Bool, cond, true, false, ltb, List, [], ◌∷◌, length, take, drop, map, replicate, suc, refl, w8, ◌^◌, sym, ap, ◌∙◌, arith, slice_range}
-use Rattle.std.proofs.lemmas.Bool.{ltb-false, ltb-true}
-use Rattle.std.proofs.lemmas.List.{take-take, take-append-drop, drop-append-le, length-append, length-drop, length-replicate, append_assoc}
-use Rattle.std.proofs.lemmas.Simd.{length-chunk, put_chunk_is, put_chunk_whole, tops_compared}
+use Rattle.std.proofs.Common.{◌≡◌, ℕ, ◌+◌, ◌-◌, ◌≤◌, ◌++◌, List, length, take, drop, replicate, sym, ap, ◌∙◌, arith, slice_range}
+use Rattle.std.proofs.lemmas.List.{take-take, take-append-drop, take-append-le, take-replicate, drop-drop, length-append, length-drop, length-take-le, length-replicate, append_assoc}
+use Rattle.std.proofs.lemmas.Simd.{length-chunk, put_chunk_is, put_chunk_whole}
+use Rattle.std.proofs.Math.Seq.{take-append-add}
 use Rattle.std.specs.Simd.Lanes.{chunk, put_chunk}
-use lib.Lanes.{sel_l, top, zip2}
+use Rattle.raw_region.specs.Bytes.{with_bytes}
+use Rattle.raw_region.proofs.Written.{drop-with_bytes, length-with_bytes, slice_range-add}
 
 -- the first bytes of a window are those of the run
 pub window_read : (bytes to : List ℕ) (i count : ℕ) → length to ≡ 64 → i + 64 ≤ length bytes → count ≤ 64
@@ -16,47 +16,60 @@ window_read bytes to i count long within few =
     ap (take count) (put_chunk_whole to read (omega (arith, length-chunk i 64 bytes within)))
     ∙ take-take count 64 (drop i bytes) few ∙ ap (λ (n : ℕ). take n (drop i bytes)) (sym back)
 
--- one lane more
-lanes_next : (x : ℕ) (xs rest : List ℕ) (from to value : ℕ) (b : Bool) → ltb from to ≡ b
-    → rest ≡ replicate (to - (from + 1)) value ++ drop (to - (from + 1)) xs
-    → cond b value x ∷ rest ≡ replicate (to - from) value ++ drop (to - from) (x ∷ xs)
-lanes_next x xs rest from to value true is more =
-    let below : from < to = ltb-true from to is in
-    let one : to - from ≡ suc (to - (from + 1)) = omega arith in
-    rw (one, more) refl
-lanes_next x xs rest from to value false is more =
-    let past : to ≤ from = ltb-false from to is in
-    let none : to - from ≡ 0 = omega arith in
-    let none-after : to - (from + 1) ≡ 0 = omega arith in
-    let same = rw none-after at more in
-    rw (none, same) refl
+-- a window that is written
+pub window_put : (bytes window : List ℕ) (i : ℕ) → i + length window ≤ length bytes → put_chunk i bytes window ≡ with_bytes bytes i window
+window_put bytes window i fits =
+    put_chunk_is i bytes window fits
+    ∙ ap (λ (t : List ℕ). take i bytes ++ (window ++ t)) (drop-drop (length window) i bytes)
+    ∙ sym (append_assoc (take i bytes) window (drop (i + length window) bytes))
 
--- lanes of one value up to a place, and of a list from there on
-lanes_up_to : (xs : List ℕ) (from to value : ℕ) → to ≤ from + length xs →
-    sel_l (zip2 ltb (range_with_len from (length xs)) (replicate (length xs) to)) (replicate (length xs) value) xs
-    ≡ replicate (to - from) value ++ drop (to - from) xs
-lanes_up_to [] from to value within =
-    let none : to - from ≡ 0 = omega arith in
-    rw none refl
-lanes_up_to (x ∷ xs) from to value within =
-    lanes_next x xs _ from to value (ltb from to) refl (lanes_up_to xs (from + 1) to value (omega arith))
+-- the first bytes of a window of one byte
+pub window_taken : (xs : List ℕ) (from to v : ℕ) → from ≤ to → to ≤ from + 32 → from + 32 ≤ length xs →
+    take to (with_bytes xs from (replicate 32 v)) ≡ take from xs ++ replicate (to - from) v
+window_taken xs from to v less few fits =
+    let front : List ℕ = take from xs in let n : ℕ = to - from in
+    let front-long : length front ≡ from = length-take-le from xs (omega arith) in
+    let long : length (front ++ replicate 32 v) ≡ from + 32 =
+    omega (arith, length-append front (replicate 32 v), length-replicate {A = ℕ} 32 v) in
+    let at : to ≡ length front + n = omega arith in
+    let ends : from + length (replicate 32 v) ≡ from + 32 = omega (arith, length-replicate {A = ℕ} 32 v) in
+    take-append-le to (front ++ replicate 32 v) (drop (from + length (replicate 32 v)) xs) (omega arith)
+    ∙ ap (λ (k : ℕ). take k (front ++ replicate 32 v)) at ∙ take-append-add front (replicate 32 v) n
+    ∙ ap (λ (t : List ℕ). front ++ t) (take-replicate n 32 v (omega arith))
 
--- a window whose first lanes are filled
-pub window_filled : (window : List ℕ) (count value : ℕ) → 32 ≤ length window → count ≤ 32 →
-    put_chunk 0 window
-    (sel_l (map (top 7) (zip2 (λ a b. cond (ltb a b) (2 ^ 8 - 1) 0) (range_with_len 0 32) (replicate 32 count))) (replicate 32 value)
-    (chunk 0 32 window))
-    ≡ replicate count value ++ drop count window
-window_filled window count value long few =
-    let old : List ℕ = chunk 0 32 window in
-    let whole : length old ≡ 32 = length-chunk 0 32 window (omega arith) in
-    let count-0 : count - 0 ≡ count = omega arith in
-    let lanes : sel_l (zip2 ltb (range_with_len 0 32) (replicate 32 count)) (replicate 32 value) old ≡ replicate count value ++ drop count old =
-    rw (whole, count-0) at (lanes_up_to old 0 count value (omega arith)) in
-    let filled : List ℕ = replicate count value ++ drop count old in
-    let filled-long : length filled ≡ 32 =
-    omega (arith, length-append (replicate count value) (drop count old), length-replicate count value, length-drop count old) in
-    rw (tops_compared w8 ltb (range_with_len 0 32) (replicate 32 count), lanes, put_chunk_is 0 window filled (omega arith), filled-long)
-    (append_assoc (replicate count value) (drop count old) (drop 32 window)
-    ∙ ap (λ (t : List ℕ). replicate count value ++ t)
-    (sym (drop-append-le count old (drop 32 window) (omega arith)) ∙ ap (drop count) (take-append-drop 32 window)))
+-- A window of one byte is written to a list that from some place on is as an old one, and then the old bytes after a shorter run.
+pub overlaid : (old xs ys zs rest : List ℕ) (from to v : ℕ) → from ≤ to → to ≤ from + 32 → to + 32 ≤ length xs → to + 32 ≤ length old →
+    drop (to + 32) xs ≡ drop (to + 32) old → ys ≡ with_bytes xs from (replicate 32 v) → rest ≡ slice_range old to (to + 32) →
+    zs ≡ with_bytes ys to rest → zs ≡ take from xs ++ replicate (to - from) v ++ drop to old
+overlaid old xs ys zs rest from to v less few fits fits-old same window saved put =
+    let run : List ℕ = replicate 32 v in
+    let run-long : length run ≡ 32 = length-replicate {A = ℕ} 32 v in
+    let after : List ℕ = drop to old in
+    let rest-is : rest ≡ take 32 after = saved ∙ slice_range-add old to 32 in
+    let rest-long : length rest ≡ 32 = ap length rest-is ∙ length-take-le 32 after (omega (arith, length-drop to old)) in
+    let ends : to + length rest ≡ to + 32 = omega arith in
+    let head : take to ys ≡ take from xs ++ replicate (to - from) v =
+    ap (take to) window ∙ window_taken xs from to v less few (omega arith) in
+    let tail : drop (to + length rest) ys ≡ drop 32 after =
+    ap (λ (k : ℕ). drop k ys) ends ∙ ap (drop (to + 32)) window ∙ drop-with_bytes xs run from (omega arith) (to + 32) (omega arith) ∙ same
+    ∙ sym (drop-drop 32 to old) in
+    put ∙ ap (λ (t : List ℕ). take to ys ++ rest ++ t) tail
+    ∙ ap (λ (t : List ℕ). t ++ rest ++ drop 32 after) head
+    ∙ append_assoc (take from xs ++ replicate (to - from) v) rest (drop 32 after)
+    ∙ ap (λ (t : List ℕ). take from xs ++ replicate (to - from) v ++ (t ++ drop 32 after)) rest-is
+    ∙ ap (λ (t : List ℕ). take from xs ++ replicate (to - from) v ++ t) (take-append-drop 32 after)
+
+-- and two such windows, one after the other
+pub overlaid_twice : (old once twice zs rest : List ℕ) (from middle to v : ℕ) → from ≤ middle → middle ≤ from + 32 → middle ≤ to →
+    to ≤ middle + 32 → from + 96 ≤ length old → once ≡ with_bytes old from (replicate 32 v) →
+    twice ≡ with_bytes once middle (replicate 32 0) → rest ≡ slice_range old to (to + 32) → zs ≡ with_bytes twice to rest →
+    zs ≡ take from old ++ replicate (middle - from) v ++ replicate (to - middle) 0 ++ drop to old
+overlaid_twice old once twice zs rest from middle to v first few second fewer fits one two saved put =
+    let run : List ℕ = replicate 32 v in
+    let run-long : length run ≡ 32 = length-replicate {A = ℕ} 32 v in
+    let once-long : length once ≡ length old = ap length one ∙ length-with_bytes old run from (omega arith) in
+    let same : drop (to + 32) once ≡ drop (to + 32) old =
+    ap (drop (to + 32)) one ∙ drop-with_bytes old run from (omega arith) (to + 32) (omega arith) in
+    overlaid old once twice zs rest middle to 0 second fewer (omega arith) (omega arith) same two saved put
+    ∙ ap (λ (t : List ℕ). t ++ replicate (to - middle) 0 ++ drop to old)
+    (ap (take middle) one ∙ window_taken old from middle v first few (omega arith))

@@ -1,12 +1,12 @@
 -- A run that is written changes only its bytes.
 use Rattle.std.specs.Int.{w64, from_le_bytes}
-use Rattle.std.proofs.Common.{◌≡◌, ℕ, ◌+◌, ◌-◌, ◌<◌, ◌≤◌, ◌++◌, List, length, take, drop, sym, ap, subst, ◌∙◌, arith, inl, inr, slice_range, slice_index, ◌⊎◌, get_or}
-use Rattle.std.proofs.lemmas.List.{take-append-drop, length-append, length-drop, length-take-le, drop-drop, append_assoc, take-append-le, get_or-take, get_or-drop, drop-take}
-use Rattle.std.proofs.Math.Seq.{drop-append-add}
+use Rattle.std.proofs.Common.{◌≡◌, ℕ, ◌+◌, ◌-◌, ◌<◌, ◌≤◌, ◌++◌, List, length, take, drop, replicate, sym, ap, subst, ◌∙◌, arith, inl, inr, slice_range, slice_index, ◌⊎◌, get_or}
+use Rattle.std.proofs.lemmas.List.{take-append-drop, length-append, length-drop, length-take-le, drop-drop, append_assoc, take-append-le, get_or-take, get_or-drop, drop-take, length-replicate}
+use Rattle.std.proofs.Math.Seq.{drop-append-add, take-append_seam}
 use native.Mathlib.Nat.{add-zero}
 use Rattle.raw_region.specs.Bytes.{word_at, with_bytes, ChangesOnly}
 
-slice_range-add : (xs : List ℕ) (j n : ℕ) → slice_range xs j (j + n) ≡ take n (drop j xs)
+pub slice_range-add : (xs : List ℕ) (j n : ℕ) → slice_range xs j (j + n) ≡ take n (drop j xs)
 slice_range-add xs j n = let e : j + n - j ≡ n = omega arith in ap (λ (k : ℕ). take k (drop j xs)) e
 
 module _ (xs new : List ℕ) (i : ℕ) (fits : i + length new ≤ length xs) where
@@ -20,7 +20,7 @@ module _ (xs new : List ℕ) (i : ℕ) (fits : i + length new ≤ length xs) whe
       ap (take j) (append_assoc front new rest) ∙ take-append-le j front (new ++ rest) in_front ∙
       sym (take-append-le j front (drop i xs) in_front) ∙ ap (take j) (take-append-drop i xs)
 
-  drop-with_bytes : (j : ℕ) → i + length new ≤ j → drop j ys ≡ drop j xs
+  pub drop-with_bytes : (j : ℕ) → i + length new ≤ j → drop j ys ≡ drop j xs
   drop-with_bytes j past =
       let front = take i xs ++ new in let rest = drop (i + length new) xs in let n : ℕ = j - (i + length new) in
       let at : j ≡ length front + n = omega (arith, length-append (take i xs) new, length-take-le i xs (omega arith)) in
@@ -43,7 +43,7 @@ module _ (xs new : List ℕ) (i : ℕ) (fits : i + length new ≤ length xs) whe
   range-with_bytes j n (inr past) =
       slice_range-add ys j n ∙ ap (take n) (drop-with_bytes j past) ∙ sym (slice_range-add xs j n)
 
-  length-with_bytes : length ys ≡ length xs
+  pub length-with_bytes : length ys ≡ length xs
   length-with_bytes =
       let front = take i xs ++ new in
       omega (
@@ -72,3 +72,42 @@ changes_only xs new ys i to written ends fits =
     let within : i + length new ≤ length xs = omega arith in
     subst (λ (k : ℕ). ChangesOnly xs ys i k) ends
     (subst (λ (zs : List ℕ). ChangesOnly xs zs i (i + length new)) (sym written) (changes xs new i within))
+
+-- ---- a run that is filled, with the run after it filled too
+
+pub filled_twice : (xs ys : List ℕ) (from middle to a b : ℕ) → from ≤ middle → middle ≤ to → to ≤ length xs →
+    ys ≡ take from xs ++ replicate (middle - from) a ++ drop middle xs →
+    take middle ys ++ replicate (to - middle) b ++ drop to ys
+    ≡ take from xs ++ replicate (middle - from) a ++ replicate (to - middle) b ++ drop to xs
+filled_twice xs ys from middle to a b first second fits written =
+    let front : List ℕ = take from xs ++ replicate (middle - from) a in
+    let rest : List ℕ = drop middle xs in
+    let long : length front ≡ middle =
+    omega (
+      arith,
+      length-append (take from xs) (replicate (middle - from) a),
+      length-take-le from xs (omega arith),
+      length-replicate {A = ℕ} (middle - from) a,
+    ) in
+    let n : ℕ = to - middle in let at : to ≡ length front + n = omega arith in let back : middle + n ≡ to = omega arith in
+    let head : take middle ys ≡ front =
+    ap (take middle) written ∙ ap (λ (k : ℕ). take k (front ++ rest)) (sym long) ∙ take-append_seam front rest in
+    let tail : drop to ys ≡ drop to xs =
+    ap (drop to) written ∙ ap (λ (k : ℕ). drop k (front ++ rest)) at ∙ drop-append-add front rest n ∙ drop-drop n middle xs
+    ∙ ap (λ (k : ℕ). drop k xs) back in
+    ap (λ (zs : List ℕ). zs ++ replicate (to - middle) b ++ drop to ys) head
+    ∙ ap (λ (zs : List ℕ). front ++ replicate (to - middle) b ++ zs) tail
+
+-- a run of one byte that is written
+filled_once : (xs : List ℕ) (from to a : ℕ) → from ≤ to →
+    with_bytes xs from (replicate (to - from) a) ≡ take from xs ++ replicate (to - from) a ++ drop to xs
+filled_once xs from to a less =
+    let ends : from + length (replicate (to - from) a) ≡ to = omega (arith, length-replicate {A = ℕ} (to - from) a) in
+    ap (λ (k : ℕ). take from xs ++ replicate (to - from) a ++ drop k xs) ends
+
+pub written_twice : (xs : List ℕ) (from middle to a b : ℕ) → from ≤ middle → middle ≤ to → to ≤ length xs →
+    with_bytes (with_bytes xs from (replicate (middle - from) a)) middle (replicate (to - middle) b)
+    ≡ take from xs ++ replicate (middle - from) a ++ replicate (to - middle) b ++ drop to xs
+written_twice xs from middle to a b first second fits =
+    let ys : List ℕ = with_bytes xs from (replicate (middle - from) a) in
+    filled_once ys middle to b second ∙ filled_twice xs ys from middle to a b first second fits (filled_once xs from middle a first)

@@ -4,7 +4,7 @@ ghost use Rattle.std.specs.Borrow.{sem};
 ghost use Rattle.std.specs.Int.{w64, to_le_bytes};
 ghost use Rattle.std.specs.Prelude.{◌≡◌, ◌+◌, ◌-◌, ◌<◌, ◌≤◌, ◌^◌, ℕ, All, IfOk, List, length, replicate, slice_index, slice_range, slice_set, take};
 
-use crate::short_fill::fill_run;
+use crate::short_fill::{fill_run, fill_then_clear};
 use crate::zeros::write_zeros;
 use std::alloc::{AllocError, Allocator, Global};
 use std::marker::Model;
@@ -122,6 +122,15 @@ impl RawRegion {
         ensures others { ChangesOnly self.old self.new from to }
     {
         fill_run(self.as_mut_slice(), from, to, b);
+    }
+
+    /// Writes `b` to each place from `from` to `middle - 1`, and 0 to each from there to `to - 1`. `to` must be at most the length.
+    pub fn fill_then_clear(&mut self, from: usize, middle: usize, to: usize, b: u8)
+        requires { (from ≤ middle) × (middle ≤ to) × (to ≤ length self.old) }
+        ensures { self.new
+            ≡ with_bytes (with_bytes self.old from (replicate (middle - from) b)) middle (replicate (to - middle) 0) }
+    {
+        fill_then_clear(self.as_mut_slice(), from, middle, to, b);
     }
 
     /// Fills `to` with the bytes from place `i` on, in one copy.

@@ -1,19 +1,14 @@
 //! A run of bytes is filled. Most runs that a heap fills are the tags of one chunk, 1 to 64 bytes, and for these a call of the C library's
-//! memset, with the branches in it that such lengths mispredict, costs more than the stores. So a run of up to 32 bytes is written together
-//! with the bytes after it, which keep their values, and one of up to 64 by two stores, which may overlap. A loop would not do: the compiler
-//! makes a call of memset of it.
-ghost use Rattle.std.specs.Prelude.{◌≡◌, ◌++◌, ◌*◌, ◌-◌, ◌≤◌, drop, length, replicate, take};
+//! memset, with the branches in it that such lengths mispredict, costs more than the stores. So a run of up to 32 bytes is written as a whole
+//! window, and the bytes after the run, which were read before, are written over what the window has too much. A run of up to 64 is written by
+//! two windows, which may overlap. A loop would not do: the compiler makes a call of memset of it.
+ghost use Rattle.raw_region.specs.Bytes.{with_bytes};
+ghost use Rattle.std.specs.Prelude.{◌≡◌, ◌++◌, ◌+◌, ◌*◌, ◌-◌, ◌≤◌, drop, length, replicate, slice_range, take};
 
 use std::simd::prelude::*;
 
 // the bytes that are written together
 const WINDOW: usize = 32;
-
-// the places in a window
-const PLACES: [u8; WINDOW] = [
-    0, 1, 2, 3, 4, 5, 6, 7, 8, 9, 10, 11, 12, 13, 14, 15, 16, 17, 18, 19, 20, 21, 22, 23, 24, 25,
-    26, 27, 28, 29, 30, 31,
-];
 
 /// Writes `value` to each of the bytes from place `from` to place `to - 1`.
 #[inline(always)]
@@ -22,8 +17,10 @@ pub(crate) fn fill_run(bytes: &mut [u8], from: usize, to: usize, value: u8)
     ensures { bytes.new ≡ take from bytes.old ++ replicate (to - from) value ++ drop to bytes.old }
 {
     let count = to - from;
-    if count <= WINDOW && bytes.len() - from >= WINDOW {
-        fill_first(&mut bytes[from..], count, value);
+    if count <= WINDOW && bytes.len() - from >= 2 * WINDOW {
+        let rest = window_at(bytes, to);
+        put_window(bytes, from, u8x32::splat(value));
+        put_window(bytes, to, rest);
     } else if count >= WINDOW && count <= 2 * WINDOW {
         fill_both_ends::<WINDOW>(&mut bytes[from..to], value);
     } else {
@@ -31,19 +28,41 @@ pub(crate) fn fill_run(bytes: &mut [u8], from: usize, to: usize, value: u8)
     }
 }
 
-// Writes `value` to each of the first `count` bytes of a window, 0 to 32. It reads the whole window and writes it back, so no branch depends
-// on `count`.
+/// Writes `value` to each of the bytes from place `from` to place `middle - 1`, and 0 to each from there to place `to - 1`.
 #[inline(always)]
-fn fill_first(window: &mut [u8], count: usize, value: u8)
-    requires window { WINDOW ≤ length window.old }
-    requires few { count ≤ WINDOW }
-    ensures { window.new ≡ replicate count value ++ drop count window.old }
+pub(crate) fn fill_then_clear(bytes: &mut [u8], from: usize, middle: usize, to: usize, value: u8)
+    requires { (from ≤ middle) × (middle ≤ to) × (to ≤ length bytes.old) }
+    ensures { bytes.new ≡ take from bytes.old ++ replicate (middle - from) value ++ replicate (to - middle) 0 ++ drop to bytes.old }
 {
-    let old = u8x32::from_slice(window);
-    let is_first = u8x32::from_array(PLACES).simd_lt(u8x32::splat(count as u8));
-    is_first
-        .select(u8x32::splat(value), old)
-        .copy_to_slice(window);
+    if middle - from <= WINDOW && to - middle <= WINDOW && bytes.len() - from >= 3 * WINDOW {
+        let rest = window_at(bytes, to);
+        put_window(bytes, from, u8x32::splat(value));
+        put_window(bytes, middle, u8x32::splat(0));
+        put_window(bytes, to, rest);
+        return;
+    }
+    fill_run(bytes, from, middle, value);
+    if middle < to {
+        fill_run(bytes, middle, to, 0);
+    }
+}
+
+// The window of bytes from place `at` on.
+#[inline(always)]
+fn window_at(bytes: &[u8], at: usize) -> u8x32
+    requires { at + WINDOW ≤ length bytes.now }
+    ensures { result ≡ slice_range bytes.now at (at + WINDOW) }
+{
+    u8x32::from_slice(&bytes[at..])
+}
+
+// Writes a window to the bytes from place `at` on.
+#[inline(always)]
+fn put_window(bytes: &mut [u8], at: usize, window: u8x32)
+    requires { at + WINDOW ≤ length bytes.old }
+    ensures { bytes.new ≡ with_bytes bytes.old at window }
+{
+    window.copy_to_slice(&mut bytes[at..]);
 }
 
 // Writes `value` to each of `N` to `2 * N` bytes: to the first `N` and to the last `N`.

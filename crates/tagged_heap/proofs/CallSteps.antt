@@ -93,7 +93,7 @@ chunk_stays h s n chunk is reusable = grind (arith, get_or-set_other, live_apart
 pub chunk_written : (h : Heap) (s : ℕ) (bytes : List ℕ) (chunk : Found) → IsChunk h chunk → IsChunk (with_payload h s bytes) chunk
 unfolding with_payload
 chunk_written h s bytes chunk is =
-    record { slot = is.slot; start = is.start; class = is.class; number = is.number; live = is.live }
+    record { slot = is.slot; start = is.start; class = is.class; number = is.number; numbered = is.numbered; live = is.live }
 
 pub same_slot : (h : Heap) (s n r : ℕ) → slot_in (given_out h s n) r ≡ slot_in h r
 unfolding given_out

@@ -160,11 +160,6 @@ module _ {h : Heap} {frees : ℕ} {p : Parts} {counters : List ℕ} (held : IsAt
             t.below refl);
       }
 
-  -- it is one of the class's slots
-  pub taken_class : {m1 : List Granule} {fronts' counters' : List ℕ} (s : ℕ) → IsTaken h p held.kept m1 fronts' counters' s n →
-      IsClassOf h.layout s number
-  taken_class s t = grind (arith, listed, share_of_slot, laws.class_by_number)
-
   -- neither is there
   pub exhausted : {m1 : List Granule} {fronts' counters' : List ℕ} →
       Takes h.layout p.memory m1 p.fronts fronts' counters counters' number None →
@@ -200,6 +195,7 @@ has_class {h} {frees} {p} {counters} held number within =
       in_fronts = subst (λ n. number < n) (sym k.listed.long) (within_lists k number within);
       front = λ s. front_class k number s within;
       in_counters = in_counters;
+      counter_from = held.fresh.from number in_counters;
       counter = held.fresh.to number in_counters;
       region = region_is k;
       memory_is = k.memory_is;

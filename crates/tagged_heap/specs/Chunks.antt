@@ -6,7 +6,7 @@ use Rattle.machine_theory.specs.Memory.{Granule, IsMemory}
 use Rattle.class_table.specs.Sizes.{largest_counted, chunk_granules}
 use Rattle.class_table.specs.Layout.{Partition, slot_count, slot_of, end_of}
 use Rattle.heap_theory.specs.Calls.{parity_exclude}
-use Rattle.heap_theory.specs.Header.{Header}
+use Rattle.heap_theory.specs.Header.{Header, class_number}
 use Rattle.heap_theory.specs.Region.{region_of, header_in}
 use Rattle.heap_theory.specs.State.{Heap, slot_in, state_at, IsSlot}
 use Rattle.heap_theory.specs.State.State.{Live as Given}
@@ -33,7 +33,8 @@ pub record IsChunk (heap : Heap) (chunk : Chunk) : Type 0 where
   pub start : chunk.place.start ≡ (slot_in heap chunk.slot).start
   pub class : chunk.place.class ≡ (slot_in heap chunk.slot).class
   pub number : slice_get heap.layout.classes chunk.number ≡ Some (slot_in heap chunk.slot).class
-  pub live : (tag : ℕ) × (state_at heap chunk.slot ≡ Given chunk.size tag)
+  pub numbered : chunk.number ≡ class_number heap.layout chunk.slot
+  pub live : state_at heap chunk.slot ≡ Given chunk.size chunk.tag
 
 -- a slot of the layout in this memory, with room for the chunk of n bytes
 pub record HasRoom (layout : Partition) (memory : List Granule) (s n : ℕ) : Type 0 where

@@ -23,6 +23,7 @@ pub record HasClass (layout : Partition) (memory : List Granule) (fronts counter
   pub in_fronts : number < length fronts
   pub front : (s : ℕ) → slice_index fronts number ≡ s + 1 → IsClassOf layout s number
   pub in_counters : number < length counters
+  pub counter_from : first_slot layout number ≤ slice_index counters number
   pub counter : slice_index counters number ≤ first_slot layout (number + 1)
   pub region : length memory ≡ layout.granules
   pub memory_is : IsMemory memory

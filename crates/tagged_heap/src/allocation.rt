@@ -69,6 +69,7 @@ impl Heap {
     }
 
     /// Gives out the slot for a request of n bytes, or says why there is none.
+    #[inline(always)]
     pub(crate) fn allocate(&mut self, n: u32) -> Result<Given, NullCause>
         ensures slot { result_map_both (λ given. given.slot) (λ cause. cause) result
             ≡ slot_for_request self.old.state n }
@@ -83,7 +84,7 @@ impl Heap {
     {
         let number = class_number_for(&self.layout, n)?;
         let memory = self.machine.memory_mut();
-        let slot = take_slot(
+        let (slot, place) = take_slot(
             memory,
             &self.layout,
             &mut self.lists,
@@ -91,7 +92,6 @@ impl Heap {
             number,
         )
         .ok_or(NullCause::Exhausted)?;
-        let place = self.layout.slot_of_class(number, slot);
         let address = give_out(&mut self.machine, &self.layout, slot, place, n);
         Ok(Given {
             slot,

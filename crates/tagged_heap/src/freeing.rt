@@ -26,13 +26,14 @@ use machine_theory::GRANULE_BYTES;
 use quarantine_core::Quarantine;
 use tag_machine::logical_tag;
 
-/// A live chunk: its slot, where the slot lies, the number of its class in the table, and the number of bytes that were requested.
+/// A live chunk: its slot, where the slot lies, the number of its class in the table, the number of bytes that were requested, and its tag.
 #[derive(Clone, Copy)]
 pub(crate) struct Chunk {
     pub(crate) slot: u32,
     pub(crate) place: Slot,
     pub(crate) number: usize,
     pub(crate) size: u32,
+    pub(crate) tag: u8,
 }
 
 impl Heap {
@@ -44,6 +45,7 @@ impl Heap {
     /// if no chunk is live in the slot; otherwise `WrongTag` if the live chunk has another tag than `p`. So `free` accepts exactly null and
     /// the pointers that were given out for live chunks.
     #[tactic(auto, unfolding(heap_theory::specs::Calls::free_step))]
+    #[inline(never)]
     pub fn free(&mut self, p: u64) -> Result<(), FreeError>
         requires few { self.old.frees < 2 ^ 48 }
         ensures answer { result ≡ (free_step self.old.state p).answer }
@@ -62,6 +64,7 @@ impl Heap {
     }
 
     /// The live chunk at p, or why there is none.
+    #[inline(always)]
     pub(crate) fn chunk(&self, p: u64) -> Result<Chunk, FreeError>
         ensures ok { IfOk result
             (λ chunk. chunk_at self.now.state p ≡ Ok (record { slot = chunk.slot; size = chunk.size })) }
@@ -87,19 +90,36 @@ impl Heap {
             place: Slot { start, class },
             number,
             size: u32::from(header.size),
+            tag: header.tag,
         })
     }
 
     /// Takes a live chunk back.
+    #[inline(always)]
     pub(crate) fn free_chunk(&mut self, chunk: Chunk)
         requires live { IsChunk self.old.state chunk }
         requires few { self.old.frees < 2 ^ 48 }
         ensures { self.new
             ≡ record { state = freed self.old.state chunk.slot chunk.size; frees = self.old.frees + 1 } }
     {
-        let Chunk { slot, place, .. } = chunk;
+        let Chunk {
+            slot,
+            place,
+            number,
+            size,
+            tag,
+        } = chunk;
         let Slot { start, class } = place;
-        retire(&mut self.machine, &self.layout, slot, start, self.total);
+        let mark = self.total;
+        let before = Header {
+            state: State::Live,
+            size: size as u16,
+            tag,
+            class: number as u8,
+            next: 0,
+            mark: 0,
+        };
+        retire(&mut self.machine, &self.layout, slot, start, before, mark);
         let bytes = GRANULE_BYTES as u32 * class;
         let memory = self.machine.memory_mut();
         self.quarantine.put(memory, &self.layout, slot, bytes);
@@ -110,6 +130,7 @@ impl Heap {
 }
 
 // Releases the oldest slots of the quarantine to their classes' lists while it holds more than its limit.
+#[inline(always)]
 fn release_oldest(
     memory: &mut Memory,
     layout: &Layout,

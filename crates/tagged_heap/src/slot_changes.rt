@@ -1,7 +1,8 @@
 //! The changes of one slot's chunk: it is given out, resized and taken back, with its header and its tags.
+ghost use Rattle.chunk_header.specs.HeaderView.{seen};
 ghost use Rattle.class_table.specs.Layout.{slot_of};
 ghost use Rattle.heap_theory.specs.Calls.{chunk_tagged};
-ghost use Rattle.heap_theory.specs.Header.{with_header};
+ghost use Rattle.heap_theory.specs.Header.{FitsWords, with_header};
 ghost use Rattle.class_table.specs.Sizes.{chunk_granules};
 ghost use Rattle.heap_theory.specs.State.{payload_place, payload_start};
 ghost use Rattle.machine_theory.specs.Address.{with_tag};
@@ -20,6 +21,7 @@ use tag_machine::Machine;
 
 /// Gives out the slot that lies at `place` for `n` bytes, at most 16,368, for which it must have room. Draws a tag, writes the header and
 /// tags the chunk. Returns the address of the payload under that tag.
+#[inline(always)]
 pub(crate) fn give_out(
     machine: &mut Machine,
     layout: &Layout,
@@ -59,6 +61,7 @@ pub(crate) fn give_out(
 }
 
 /// Resizes the chunk of the live slot that lies at `place` to `n` bytes, under the tag that it has. The slot must have room for them.
+#[inline(always)]
 pub(crate) fn resize(machine: &mut Machine, layout: &Layout, slot: u32, place: Slot, n: u32)
     requires room { HasRoom layout.now machine.old.memory slot n }
     requires start { place.start ≡ (slot_of layout.now slot).start }
@@ -80,8 +83,19 @@ pub(crate) fn resize(machine: &mut Machine, layout: &Layout, slot: u32, place: S
     tag_chunk(machine, place, n, before.tag);
 }
 
-/// Takes back the chunk of a live slot, whose header is granule `start`: draws a tag, writes the header with this mark, and tags the chunk.
-pub(crate) fn retire(machine: &mut Machine, layout: &Layout, slot: u32, start: u32, mark: u64)
+/// Takes back the chunk of a live slot, whose header is granule `start` and was `before`: draws a tag, writes the header with this mark, and
+/// tags the chunk.
+#[inline(always)]
+pub(crate) fn retire(
+    machine: &mut Machine,
+    layout: &Layout,
+    slot: u32,
+    start: u32,
+    before: Header,
+    mark: u64,
+)
+    requires before { seen before ≡ header_in (region_of layout.now machine.old.memory) slot }
+    requires fits { FitsWords (seen before) }
     requires room { let before = header_in (region_of layout.now machine.old.memory) slot in
         HasRoom layout.now machine.old.memory slot before.size }
     requires start { start ≡ (slot_of layout.now slot).start }
@@ -96,7 +110,6 @@ pub(crate) fn retire(machine: &mut Machine, layout: &Layout, slot: u32, start: u
         } }
     ensures memory { IsMemory machine.new.memory }
 {
-    let before = header(machine.memory(), layout, slot, start);
     let (other, _) = draw(machine, 0, slot, before.tag);
     let after = Header {
         state: State::Quarantined,

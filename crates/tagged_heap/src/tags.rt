@@ -48,6 +48,7 @@ fn row(slot: u32, last: u8) -> usize
 }
 
 /// Gives the granules of the chunk for a request of `n` bytes this tag, and the rest of the slot's payload tag 0.
+#[inline(always)]
 pub(crate) fn tag_chunk(machine: &mut Machine, slot: Slot, n: u32, tag: u8)
     requires inside { slot.start + slot.class ≤ length machine.old.memory }
     requires memory { IsMemory machine.old.memory }
@@ -62,6 +63,5 @@ pub(crate) fn tag_chunk(machine: &mut Machine, slot: Slot, n: u32, tag: u8)
     let first = slot.start + 1;
     let chunk = chunk_granules(n);
     let memory = machine.memory_mut();
-    memory.set_tags(first, chunk, tag);
-    memory.set_tags(first + chunk, slot.class - 1 - chunk, 0);
+    memory.set_tags_then_clear(first, chunk, slot.class - 1 - chunk, tag);
 }

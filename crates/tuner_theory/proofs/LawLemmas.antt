@@ -1,5 +1,6 @@
 -- What the proofs of the crates above cite of places, spans, least rows and sheets.
 pub use Rattle.tuner_theory.proofs.Canonical.{one_canonical, rows-canonical}
+pub use Rattle.tuner_theory.proofs.Growing.{span_footprints_grow, spans_grow}
 pub use Rattle.tuner_theory.proofs.LeastRows.{ends_are_later, ends_ascend, least_rows_are_valid, one_least_rows, rows-same}
 pub use Rattle.tuner_theory.proofs.Needs.{few_places, place_is_class, places_ascend}
 pub use Rattle.tuner_theory.proofs.Rests.{one_rest, tuned_rows_are_rests}

@@ -10,7 +10,7 @@ abbrev pub most : (List ℕ → ℕ) → List (List ℕ) → ℕ
 most measure [] = 0
 most measure (snapshot ∷ snapshots) = max (measure snapshot) (most measure snapshots)
 
--- The snapshots of a history: 1 to 64.
+-- The snapshots of a history: 1 to 1,024.
 pub record AreSnapshots (snapshots : List (List ℕ)) : Type 0 where
   pub some : 1 ≤ length snapshots
   pub few : length snapshots ≤ MOST_SNAPSHOTS

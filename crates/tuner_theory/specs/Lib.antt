@@ -1,6 +1,7 @@
 pub mod Best
 pub mod Fits
 pub mod Footprint
+pub mod Growing
 pub mod Histories
 pub mod Intervals
 pub mod Lists

@@ -1,2 +1,2 @@
 /// The most snapshots of a history.
-pub const MOST_SNAPSHOTS: usize = 64;
+pub const MOST_SNAPSHOTS: usize = 1024;

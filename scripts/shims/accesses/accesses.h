@@ -99,6 +99,6 @@ int is_logging(void);
 void put_record(char kind, int count, ...);
 void put_stack(struct caller);
 void put_end(void);
-size_t place_in_log(void);
-void take_back(size_t place);
+long number_of_wrong(void);
+void take_back(long number);
 extern long not_logged;

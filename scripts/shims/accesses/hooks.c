@@ -70,14 +70,15 @@ static struct block *live_at(address a, size_t size) {
 // the last one if the first one is right then. If it was the first one itself, the record is taken back at the call for the last one.
 static __thread struct half {
   address at, *frame;
-  size_t size, record;
+  size_t size;
+  long record;
   int is_guess;
 } half __attribute__((tls_model("initial-exec")));
 
 // whether the access is wrong
 static int see(address a, size_t size, int store, struct caller from) {
   if (busy) {  // in a handler of a signal that came in the runtime
-    not_logged++;
+    not_logged += !live_at(a, size);
     return 0;
   }
   enter();
@@ -100,7 +101,7 @@ void touch_slowly(address a, size_t size, int store, struct caller from) {
 
 static void touch_half(address a, size_t size, int store, struct caller from) {
   if (busy) {
-    not_logged++;
+    not_logged += !live_at(a, 1);
     return;
   }
   enter();
@@ -114,9 +115,9 @@ static void touch_half(address a, size_t size, int store, struct caller from) {
   } else {
     int is_guess = live_at(a - size + 1, 1) != NULL;
     address begin = is_guess ? a - size + 1 : a;
-    half = (struct half){a, from.frame, size, place_in_log(), is_guess};
+    long before = number_of_wrong();
     wrong(owner(begin), begin, size, store, from);
-    if (half.record == place_in_log()) half.record = 0;
+    half = (struct half){a, from.frame, size, number_of_wrong() > before ? number_of_wrong() : 0, is_guess};
   }
   leave();
 }

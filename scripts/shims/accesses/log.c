@@ -1,18 +1,20 @@
-// The log, a text with a record in each line. Numbers are decimal, addresses of the program hexadecimal:
+// The log: a head, and a text with a record in each line. Numbers are decimal, addresses of the program hexadecimal:
 //
 //   m BLOCK SIZE STACK         a malloc; c a calloc; blocks are numbered from 1
 //   r OLD NEW SIZE STACK       a realloc; f BLOCK STACK a free
 //   l BLOCK OFFSET SIZE        a right load; s a right store
 //   L BLOCK OFFSET SIZE STACK  a wrong load; S a wrong store; block 0 stands for a freed one that is forgotten, or with the offset 1 for
 //                              an address that was never given out
-//   - BLOCK OFFSET SIZE STACK  a wrong access that was taken back; only its stack counts
+//   - NUMBER                   the wrong access or free of this number, counted from 1, is taken back
 //   x BLOCK OFFSET STACK       a wrong free of an address of a block; o STACK of a forgotten one, n STACK of one that was never given out
 //   M LOW HIGH OFFSET PATH     a file that is mapped with code
-//   Z NOT_LOGGED               the end of the program; C where the log could not grow
 //
 // A stack is NUMBER:PC,PC,.. at its first time, the innermost of at most six return addresses first, and later NUMBER.
-// The file is mapped, so that a killed program leaves its log; it ends with bytes 0.
+// The file is mapped, so that a killed program leaves its log. After each record the head has the length of the text, its checksum, and
+// whether the program came to its end. So what a wild store, a cut or an end in the middle of a record did to the log is seen.
 #include "accesses.h"
+#include "../checksum.h"
+#include "../private_folder.h"
 #include <errno.h>
 #include <fcntl.h>
 #include <stdarg.h>
@@ -27,11 +29,24 @@ enum { FRAMES = 6, STACKS = 1 << 17, MODULES = 256, MOST_NAME = 1024, MARGIN = 4
 #define PIECE ((size_t)8 << 20)
 #define LOG_SIZE ((size_t)1 << 30)
 
+// Two marks take turns, so that one is whole wherever the program ends. The sum is the CRC-32 of the text. scripts/lib/fault_log.py reads it.
+enum end { RUNNING = 1, ENDED, CUT };
+struct mark { uint64_t length, sum, not_logged, state, check; };
+struct head { char form[8]; uint64_t turn; struct mark marks[2]; };
+enum { HEAD = 128 };
+static const char FORM[8] = "ACCESS1";
+_Static_assert(sizeof(struct head) <= HEAD, "the text begins after the head");
+
 long not_logged;
 static char *log_start, *log_end;  // up to its end the file has memory
 static char *text;                 // where the next byte goes; null while nothing is logged
+static char *marked;               // where the text that the head speaks of ends
+static uint32_t sum;
+static enum end state = RUNNING;
+static pid_t process;
 static const char *pattern;
 static char log_name[MOST_NAME];
+static struct { dev_t device; ino_t number; } log_file;
 static struct module { address low, high; } modules[MODULES];
 static int number_of_modules;
 static __thread address stack_low __attribute__((tls_model("initial-exec"))), stack_high __attribute__((tls_model("initial-exec")));
@@ -46,23 +61,47 @@ static void put_number(unsigned long value, unsigned base) {
   while (n) put(digits[--n]);
 }
 
-void put_end(void) { put('\n'); }
-
-// where the next record begins; a place is the same in the log of a child
-size_t place_in_log(void) { return text ? text - log_start : 0; }
-
-// the record that begins at this place, if there is one: the log begins with a mapping
-void take_back(size_t place) {
-  if (text && place) log_start[place] = '-';
+static void write_mark(void) {
+  struct head *head = (struct head *)log_start;
+  static int turn;
+  struct mark mark = {marked - log_start - HEAD, sum, not_logged, state, 0};
+  mark.check = folded(&mark.length, 4);
+  copy_bytes(head->form, FORM, sizeof FORM);
+  head->marks[turn = !turn] = mark;
+  __atomic_store_n(&head->turn, turn, __ATOMIC_RELEASE);
 }
 
-// The log grows by its name, since the program may have closed each file that it did not open.
+static long wrong_records;
+long number_of_wrong(void) { return wrong_records; }
+
+void put_end(void) {
+  put('\n');
+  sum = crc(sum, marked, text - marked);
+  marked = text;
+  write_mark();
+}
+
+// a record of a wrong access, by its number
+void take_back(long number) {
+  if (number && is_logging()) put_record('-', 1, number), put_end();
+}
+
+// The log again, by its name, since the program may have closed each file that it did not open; -1 where another file has that name now.
+static int open_again(void) {
+  const char *wrong;
+  struct stat status;
+  int file = open_private(log_name, 0, &wrong);
+  if (file < 0 || (!status_of(file, &status) && status.st_dev == log_file.device && status.st_ino == log_file.number)) return file;
+  syscall(SYS_close, file);
+  return -1;
+}
+
 static int grow(void) {
   int error = errno, file = -1;
   struct rlimit limit;
   size_t size = log_end - log_start;
   if (size < LOG_SIZE && !getrlimit(RLIMIT_FSIZE, &limit) && limit.rlim_cur >= size + PIECE)
-    file = syscall(SYS_openat, AT_FDCWD, log_name, O_RDWR | O_CLOEXEC);
+    file = open_again();
   if (file >= 0) {
     long failed = syscall(SYS_fallocate, file, 0, size, PIECE);
     if (failed && (errno == EOPNOTSUPP || errno == ENOSYS)) failed = syscall(SYS_ftruncate, file, size + PIECE);
@@ -70,7 +109,8 @@ static int grow(void) {
     syscall(SYS_close, file);
   }
   if ((size_t)(log_end - log_start) == size) {
-    if (size) memcpy(text, "C\n", 2);
+    state = CUT;
+    if (size) write_mark();
     text = NULL;
   }
   errno = error;
@@ -81,6 +121,7 @@ int is_logging(void) { return text && (text + MARGIN <= log_end || grow()); }
 
 void put_record(char kind, int count, ...) {
   va_list numbers;
+  wrong_records += strchr("LSxon", kind) != NULL;
   va_start(numbers, count);
   put(kind);
   while (count--) {
@@ -115,7 +156,7 @@ static void read_mapping(char *line, address in_stack) {
   for (int i = 0; i < 3; i++) put(' '), put_number(i == 0 ? low : i == 1 ? high : offset, 16);
   put(' ');
   while (*path) put(*path++);
-  put('\n');
+  put_end();
 }
 
 // the mappings as the kernel says them, not the loader, whose locks others may hold: new modules, or the bounds of the stack
@@ -172,39 +213,73 @@ void put_stack(struct caller from) {
   put(' ');
   put_number(stacks[at].number, 10);
   for (int i = 0; is_new && i < n; i++) put(i ? ',' : ':'), put_number(pcs[i], 16);
-  put('\n');
+  put_end();
   for (int i = 0; is_new && i < n; i++) find_module(pcs[i]);
 }
 
-// The file of the name is made, and this process alone has it. Where there is a log already, as after a fork, it is copied.
-static void open_log(void) {
-  int is_one_of_many = 0, file;
-  size_t used = text ? text - log_start : 0;
-  char *to = log_name, *old = log_start, *old_end = log_end;
-  for (const char *from = pattern; *from && to < log_name + MOST_NAME - 32; from++)
-    if (from[0] == '%' && from[1] == 'p') {
-      char digits[24];
-      unsigned long process = syscall(SYS_getpid), n = 0;
-      do digits[n++] = '0' + process % 10;
-      while (process /= 10);
-      while (n) *to++ = digits[--n];
-      from++;
-      is_one_of_many = 1;
-    } else *to++ = *from;
-  *to = 0;
-  text = NULL;
-  file = syscall(SYS_openat, AT_FDCWD, log_name, O_RDWR | O_CREAT | O_EXCL | O_CLOEXEC, 0666);
-  for (char again = '2'; file < 0 && is_one_of_many && again <= '9'; again++) {  // the process has run another program before
-    to[0] = '.', to[1] = again, to[2] = 0;
-    file = syscall(SYS_openat, AT_FDCWD, log_name, O_RDWR | O_CREAT | O_EXCL | O_CLOEXEC, 0666);
+// The name of the log of this process. Whether it has %p, where each process has a log of its own; -1 where it is too long.
+static int name_log(char **end) {
+  int is_one_of_many = 0;
+  char *to = log_name;
+  for (const char *from = pattern; *from; from++) {
+    if (to >= log_name + MOST_NAME - 32) return -1;
+    if (from[0] != '%' || from[1] != 'p') {
+      *to++ = *from;
+      continue;
+    }
+    char digits[24];
+    unsigned long process = syscall(SYS_getpid), n = 0;
+    do digits[n++] = '0' + process % 10;
+    while (process /= 10);
+    while (n) *to++ = digits[--n];
+    from++;
+    is_one_of_many = 1;
   }
+  *to = 0, *end = to;
+  return is_one_of_many;
+}
+
+// A new file of this process alone; -1 where there is none.
+static int make_log(void) {
+  char *end = log_name;
+  const char *wrong = NULL;
+  int is_one_of_many = name_log(&end), file = is_one_of_many < 0 ? -1 : open_private(log_name, O_CREAT | O_EXCL, &wrong);
+  for (char again = '2'; file < 0 && !wrong && is_one_of_many > 0 && again <= '9'; again++) {  // the process has run another program before
+    end[0] = '.', end[1] = again, end[2] = 0;
+    file = open_private(log_name, O_CREAT | O_EXCL, &wrong);
+  }
+  struct stat status;
+  if (file >= 0 && !status_of(file, &status)) log_file.device = status.st_dev, log_file.number = status.st_ino;
+  static const char begin[] = "traced_cc: ACCESSES: ", rest[] = "; nothing is logged\n";
+  if (wrong && syscall(SYS_write, 2, begin, sizeof begin - 1) > 0 && syscall(SYS_write, 2, wrong, strlen(wrong)) > 0)
+    syscall(SYS_write, 2, rest, sizeof rest - 1);
+  return file;
+}
+
+// The log begins with the records of the one before the fork.
+static void begin_log(const char *old, size_t used) {
+  text = log_start + HEAD;
+  if (used) copy_bytes(text, old, used);
+  sum = crc(0, text, used);
+  marked = text += used;
+  process = syscall(SYS_getpid);
+  write_mark();
+}
+
+// Where there is a log already, as after a fork, it is copied into the new one.
+static void open_log(void) {
+  size_t used = text ? text - log_start - HEAD : 0;
+  char *old = log_start, *old_end = log_end;
+  text = NULL;
+  int file = make_log();
   if (file >= 0) {
     char *mapped = mmap(NULL, LOG_SIZE, PROT_READ | PROT_WRITE, MAP_SHARED, file, 0);
     syscall(SYS_close, file);
     if (mapped != MAP_FAILED) {
       log_start = log_end = text = mapped;
-      while (text && (size_t)(log_end - log_start) < used + MARGIN) grow();
-      if (text && used) copy_bytes(text, old, used), text += used;
+      marked = log_start + HEAD, sum = 0;
+      while (text && (size_t)(log_end - log_start) < HEAD + used + MARGIN) grow();
+      if (text) begin_log(old + HEAD, used);
     }
   }
   if (old_end) munmap(old, LOG_SIZE);
@@ -221,6 +296,28 @@ static void in_child(void) {
   else munmap(log_start, LOG_SIZE), text = NULL;
 }
 
+// The program may go to another folder before its log grows.
+static void make_absolute(void) {
+  static char absolute[MOST_NAME];
+  if (*pattern == '/' || syscall(SYS_getcwd, absolute, sizeof absolute) < 0) return;
+  size_t length = strlen(absolute);
+  if (length + strlen(pattern) + 2 > sizeof absolute) return;
+  absolute[length] = '/';
+  memcpy(absolute + length + 1, pattern, strlen(pattern) + 1);
+  pattern = absolute;
+}
+
+// The program came to its end, which may also be in a handler of a signal that came in the runtime, or in a child that has the memory of
+// its parent until it runs another program. What other threads do from now on is still logged.
+static __attribute__((destructor)) void stop(void) {
+  if (!text || process != syscall(SYS_getpid)) return;
+  int is_held = busy++ ? !pthread_mutex_trylock(&accesses_lock) : !pthread_mutex_lock(&accesses_lock);
+  state = ENDED;
+  if (text) write_mark();
+  if (is_held) pthread_mutex_unlock(&accesses_lock);
+  busy--;
+}
+
 // Requests of constructors that ran before are logged now.
 static __attribute__((constructor(101))) void start(void) {
   begin();
@@ -228,6 +325,7 @@ static __attribute__((constructor(101))) void start(void) {
   pattern = getenv("ACCESSES");
   if (!pattern || (only && strcmp(only, program_invocation_short_name))) return;
   enter();
+  make_absolute();
   open_log();
   if (is_logging()) read_mappings(0);
   for (uint32_t number = 1; number <= number_of_blocks() && is_logging(); number++) {
@@ -236,10 +334,11 @@ static __attribute__((constructor(101))) void start(void) {
   }
   leave();
   pthread_atfork(before_fork, in_parent, in_child);
+  at_quick_exit(stop);
 }
 
-static __attribute__((destructor)) void stop(void) {
-  enter();
-  if (is_logging()) put_record('Z', 1, not_logged), put_end();
-  leave();
+SHOWN void _exit(int status) {
+  stop();
+  for (;;) syscall(SYS_exit_group, status);
 }
+SHOWN void _Exit(int status) { _exit(status); }

@@ -6,7 +6,7 @@ use crate::commands::shared_help::{About, Options, Words, about, help_text};
 pub const NAME: &str = "check";
 
 const ABOUT: About = about!(
-    "Check whether a sheet proves that its class table wastes least on a profile",
+    "Check whether a sheet proves that no table within its limit wastes less",
     ", whoever wrote it."
 );
 

@@ -6,7 +6,7 @@ use crate::commands::shared_help::{About, Options, Words, about, help_text};
 pub const NAME: &str = "check-fit";
 
 const ABOUT: About = about!(
-    "Check whether a fit proves that its class table takes least over a history",
+    "Check whether a fit proves that no table within its limit takes less",
     ", whoever wrote it."
 );
 

@@ -14,7 +14,7 @@ use clap::ArgMatches;
 pub const NAME: &str = "fit";
 
 const ABOUT: About = about!(
-    "Find the class table that takes least over a history, with a certificate"
+    "Find the table of at most K classes that takes least over a history, with a certificate"
 );
 
 /// The text after the options in its own help.

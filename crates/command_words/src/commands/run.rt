@@ -15,10 +15,10 @@ use heap_theory::Config;
 pub const NAME: &str = "run";
 
 const ABOUT: About = About {
-    line: "Find the best class table for a trace, and run the trace with it",
+    line: "Tune a class table for a trace, and run the trace with it",
     sentence: "\
-Find the class table that wastes least on the sizes that a trace requests, and run the trace on the
-heap with memory tags, with that table.",
+Find the table of at most K classes that wastes least on the sizes that a trace requests, and run
+the trace on the heap with memory tags, with that table.",
 };
 
 /// The text after the options in its own help.

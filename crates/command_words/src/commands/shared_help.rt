@@ -119,7 +119,7 @@ macro_rules! help_text {
     };
     (@[$($done:tt)*] history_lines $($rest:tt)*) => {
         help_text!(@[$($done)*
-            "  snapshots T        the number of moments at which blocks were counted, 1 to 64
+            "  snapshots T        the number of moments at which blocks were counted, 1 to 1024
   SIZE N1 .. NT      a size in bytes, 0 to 16368, and how many blocks of it were live at each
                      snapshot, 0 to 1000000000, not all of them 0; sizes ascend
   large N1 .. NT     how many blocks of more than 16368 bytes were, if any; it is the last line, and

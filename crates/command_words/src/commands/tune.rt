@@ -14,7 +14,7 @@ use clap::ArgMatches;
 pub const NAME: &str = "tune";
 
 const ABOUT: About = about!(
-    "Find the class table that wastes least on a profile, with a certificate"
+    "Find the table of at most K classes that wastes least on a profile, with a certificate"
 );
 
 /// The text after the options in its own help.

@@ -1,5 +1,4 @@
 //! The engines with their options, as values, so that one table runs them all.
-ghost use Rattle.mte_engine.specs.Outcome.{IsReady};
 ghost use Rattle.mte_engine.specs.Tune.{AreTuneOptions};
 ghost use Rattle.std.specs.Prelude.{◌↔◌, IsTrue};
 ghost use Rattle.heap_theory.specs.Config.{IsConfig};
@@ -47,9 +46,7 @@ pub fn call_on<R: ByteSource, W: ByteSink>(
     call: Call,
     source: &mut R,
     sink: &mut W,
-) -> Result<Status, ToolFault>
-    requires { IsReady (R.state source.old) (W.state sink.old) }
-{
+) -> Result<Status, ToolFault> {
     match call {
         Call::Score => score(rt.alloc(), source, sink),
         Call::Check => check(rt.alloc(), source, sink),
@@ -65,9 +62,7 @@ fn call_with_options<R: ByteSource, W: ByteSink>(
     call: Call,
     source: &mut R,
     sink: &mut W,
-) -> Result<Status, ToolFault>
-    requires { IsReady (R.state source.old) (W.state sink.old) }
-{
+) -> Result<Status, ToolFault> {
     match call {
         Call::Tune { limit, step } => {
             assert!(rt; are_tune_options(limit, step));

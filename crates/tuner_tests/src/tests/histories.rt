@@ -19,7 +19,7 @@ const FOOTPRINTS: &[(&str, &[u16], u64)] = &[
     (THREE, &[2, 1024], 4 * 32 + 3 * 16_384),
     (APART, &[3], 5 * 48),
     (APART, &[2, 3], 5 * 32 + 5 * 48),
-    ("snapshots 64\n", &[], 0),
+    ("snapshots 1024\n", &[], 0),
     ("snapshots 1\nlarge 1000000000\n", &[], 0),
     (
         "snapshots 2\n0 0 1000000000\n16368 1000000000 0\n",
@@ -69,10 +69,12 @@ fn a_history(rt: HostRuntime) -> Result<(), Fail> {
 // the snapshots of the first history
 fn has_snapshots(rt: &impl Abort, history: &History) {
     same(rt, &history.snapshot_count(), &3, &"snapshots");
+    let lines = history.lines();
+    same(rt, &lines.sizes, &[16, 40].as_slice(), &"sizes");
     let mut of_40 = [2, 3, 0].iter();
-    for snapshot in history.snapshots() {
-        same(rt, &snapshot.len(), &16_369, &"sizes");
-        same(rt, &snapshot.get(40), &of_40.next(), &"blocks of 40 bytes");
+    for column in lines.columns {
+        same(rt, &column.len(), &2, &"lines");
+        same(rt, &column.get(1), &of_40.next(), &"blocks of 40 bytes");
     }
     same(rt, &of_40.next(), &None, &"the last snapshot");
     let large = history.large();
@@ -97,7 +99,7 @@ const REFUSED: &[(&str, &str)] = &[
     ("16 1\n", "34 BadSnapshots line 1"),
     ("snapshots\n", "34 BadSnapshots line 1"),
     ("snapshots 0\n", "34 BadSnapshots line 1"),
-    ("snapshots 65\n", "34 BadSnapshots line 1"),
+    ("snapshots 1025\n", "34 BadSnapshots line 1"),
     ("snapshots 01\n", "34 BadSnapshots line 1"),
     ("snapshots 1 1\n", "34 BadSnapshots line 1"),
     ("snapshots 1\nsnapshots 1\n", "30 BadLine line 2"),

@@ -1,6 +1,6 @@
 use Rattle.std.proofs.Common.{◌≡◌, ◌≤◌, ◌++◌, length, take, arith}
 use Rattle.std.proofs.lemmas.List.{length-take, length-append}
-use Rattle.byte_streams.proofs.Transfers.{consumes_more, piece_of}
+use Rattle.byte_streams.proofs.Transfers.{consumes_more, moved_more, piece_of}
 use Rattle.byte_streams.proofs.transfer.read_all.Goals as goal
 
 pub loop-turn-preserved : goal.loop-turn-preserved
@@ -17,9 +17,13 @@ loop-turn-preserved g c =
         taken = c.in_ok-take.ensures bytes inv.taken;
         count = rw same (simp (length-append, length-take) (omega (arith, inv.count)));
         short = omega (arith, inv.short);
-        read = rw same (consumes_more _ _ _ bytes (take n buffer) inv.read c.in-Ok.ensures.bytes.0);
         failed = omega (arith, inv.failed, c.in-Ok.ensures.failed);
-        reads = λ few. omega (arith, inv.reads few, c.in-Ok.ensures.counted);
+        given =
+            rw same (record {
+              all = moved_more _ _ _ bytes (take n buffer) inv.given.all c.in-Ok.ensures.given;
+              known = consumes_more _ _ _ bytes (take n buffer) inv.given.known c.in-Ok.ensures.bytes.0;
+            });
+        reads = omega (arith, inv.reads, c.in-Ok.ensures.reads);
         turns = omega (arith, inv.turns);
         room = inv.room;
       },

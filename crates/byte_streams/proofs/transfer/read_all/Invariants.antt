@@ -1,5 +1,5 @@
-use Rattle.std.proofs.Common.{◌≡◌, ◌+◌, ◌^◌, ◌<◌, ◌≤◌, List, ℕ, length, vec_len}
-use Rattle.std.specs.Io.KnownBytes.{Consumes}
+use Rattle.std.proofs.Common.{◌≡◌, ◌+◌, ◌≤◌, List, ℕ, length, vec_len}
+use Rattle.byte_streams.specs.Transfer.{HasGiven}
 use Rattle.byte_streams.proofs.transfer.read_all.Given as goal
 
 abbrev pub invariant-loop-turn : goal.invariant-loop-turn
@@ -10,9 +10,9 @@ invariant-loop-turn g l =
       taken : g.I.Input.has_taken l.input bytes;
       count : length bytes ≡ l.taken;
       short : l.taken ≤ 67108864;
-      read : Consumes old.remaining new.remaining bytes;
       failed : new.failed ≡ old.failed;
-      reads : old.reads < 2 ^ 62 → new.reads ≡ old.reads + l._turn;
+      given : HasGiven old new bytes;
+      reads : new.reads ≡ old.reads + l._turn;
       turns : l._turn ≤ l.taken;
       room : vec_len l.piece ≡ 65536;
     }

@@ -1,6 +1,5 @@
-use Rattle.std.proofs.Common.{◌≡◌, ◌≤◌, ◌<◌, ◌++◌, length, take, ◌∙◌, arith}
-use Rattle.byte_streams.specs.declared.streams.Failure.{Failure}
-use Rattle.byte_streams.proofs.Transfers.{appends_more, first_ready, no_failure, written_more}
+use Rattle.std.proofs.Common.{◌≡◌, ◌≤◌, ◌++◌, length, take, arith}
+use Rattle.byte_streams.proofs.Transfers.{appends_more, first_ready, moved_more, written_more}
 use Rattle.byte_streams.proofs.transfer.write_all.Goals as goal
 
 pub loop-sink-preserved : goal.loop-sink-preserved
@@ -13,13 +12,14 @@ loop-sink-preserved g c =
     let handed = c.piece-in-loop-sink.ensures.ready in
     let first = c.piece-in-loop-sink.ensures.first in
     let bound : n ≤ length ready = rw handed at c.in_ok-n.ensures.bound in
-    let some : 0 < n = omega arith in
-    let same : take n ready ≡ take n rest = first_ready rest ready first.0 n first.1 bound in
-    let bytes = rw (handed, same) at c.in_ok-n.ensures.bytes in (
+    let same : take n ready ≡ take n rest = first_ready rest ready first.0 n first.1 bound in (
       written ++ take n rest,
       record {
         parts = written_more _ written rest _ n inv.parts c.advance.ensures;
-        taken = appends_more _ _ _ written (take n rest) inv.taken bytes;
-        failed = rw handed at c.in_ok-n.ensures.failed ∙ rw (no_failure Failure n (length ready) some bound, inv.failed) (omega arith);
+        taken = record {
+          all = moved_more _ _ _ written (take n rest) inv.taken.all (rw (handed, same) at c.in_ok-n.ensures.written);
+          known = appends_more _ _ _ written (take n rest) inv.taken.known (rw (handed, same) at c.in_ok-n.ensures.bytes);
+        };
+        failed = omega (arith, inv.failed, c.in_ok-n.ensures.failed);
       },
     )

@@ -1,5 +1,5 @@
 use Rattle.std.proofs.Common.{◌≡◌, List, ℕ, ◌++◌, length}
-use Rattle.std.specs.Io.KnownBytes.{Appends}
+use Rattle.byte_streams.specs.Transfer.{HasTaken}
 use Rattle.byte_streams.proofs.transfer.write_all.Given as goal
 
 abbrev pub invariant-loop-sink : goal.invariant-loop-sink
@@ -8,7 +8,7 @@ invariant-loop-sink g l =
     let new = g.W.ByteSink.state l.sink in
     (written : List ℕ) × record {
       parts : g.O.Output.rest l.fn.output ≡ written ++ g.O.Output.rest l.output;
-      taken : Appends old.taken new.taken written;
+      taken : HasTaken old new written;
       failed : new.failed ≡ old.failed;
     }
 

@@ -10,9 +10,9 @@ use Rattle.class_fitter.proofs.fitting.fit.Goals as goal
 
 pub fill_places-requires-clause-places : goal.fill_places-requires-clause-places
 fill_places-requires-clause-places c =
-    rw (c.in_ok-costs.ensures.places, c.in_ok-spans.ensures.spans, c.peaks.ensures)
+    rw (c.in_ok-costs.ensures.places, c.in_ok-spans.ensures.spans, c.peaks.ensures.profile)
     (few_places (peaks c.args.history.now.snapshots) c.args.step c.requires.step
-    (peaks_are_counts c.args.history.now.snapshots c.snapshots.ensures.history.snapshots))
+    (peaks_are_counts c.args.history.now.snapshots c.peaks.ensures.history.snapshots))
 
 pub tuned_table-table-requires-clause-later : goal.tuned_table-table-requires-clause-later
 tuned_table-table-requires-clause-later c =
@@ -22,11 +22,10 @@ tuned_table-table-requires-clause-later c =
     rw (
       c.in_ok-costs.ensures.cost,
       c.in_ok-costs.ensures.places,
-      c.snapshots.ensures.snapshots,
       c.in_ok-spans.ensures.spans,
-      c.peaks.ensures,
+      c.peaks.ensures.profile,
     ) at c.in_ok-filled.ensures.filled in
-    rw (c.deref.ensures.value, c.in_ok-spans.ensures.spans, c.peaks.ensures) (ends_are_later _ _ c.args.limit _ _ filled.least)
+    rw (c.deref.ensures.value, c.in_ok-spans.ensures.spans, c.peaks.ensures.profile) (ends_are_later _ _ c.args.limit _ _ filled.least)
 
 pub tuned_table-table-requires-clause-legal : goal.tuned_table-table-requires-clause-legal
 tuned_table-table-requires-clause-legal c =
@@ -36,12 +35,11 @@ tuned_table-table-requires-clause-legal c =
     rw (
       c.in_ok-costs.ensures.cost,
       c.in_ok-costs.ensures.places,
-      c.snapshots.ensures.snapshots,
       c.in_ok-spans.ensures.spans,
-      c.peaks.ensures,
+      c.peaks.ensures.profile,
     ) at c.in_ok-filled.ensures.filled in
-    rw (c.deref.ensures.value, c.in_ok-spans.ensures.spans, c.peaks.ensures)
-    (fit-legal c.args.history.now.snapshots c.snapshots.ensures.history.snapshots c.args.step c.requires.step c.args.limit c.requires.some
+    rw (c.deref.ensures.value, c.in_ok-spans.ensures.spans, c.peaks.ensures.profile)
+    (fit-legal c.args.history.now.snapshots c.peaks.ensures.history.snapshots c.args.step c.requires.step c.args.limit c.requires.some
     c.requires.few (lists_of c.in_ok-filled.filled.rows.items) (lists_of c.in_ok-filled.filled.ends.items) filled)
 
 pub returns-clause-fitted : goal.returns-clause-fitted
@@ -52,13 +50,12 @@ returns-clause-fitted c =
     rw (
       c.in_ok-costs.ensures.cost,
       c.in_ok-costs.ensures.places,
-      c.snapshots.ensures.snapshots,
       c.in_ok-spans.ensures.spans,
-      c.peaks.ensures,
+      c.peaks.ensures.profile,
     ) at c.in_ok-filled.ensures.filled in
     rw c.new-rows.ensures
-    (fit-made c.args.history.now.snapshots c.snapshots.ensures.history.snapshots c.args.step c.requires.step c.args.limit c.requires.some
+    (fit-made c.args.history.now.snapshots c.peaks.ensures.history.snapshots c.args.step c.requires.step c.args.limit c.requires.some
     c.requires.few (lists_of c.in_ok-filled.filled.rows.items) (lists_of c.in_ok-filled.filled.ends.items) filled
     c.tuned_table-table.result c.number-footprint.result
-    (rw (c.deref.ensures.value, c.in_ok-spans.ensures.spans, c.peaks.ensures) at c.tuned_table-table.ensures)
+    (rw (c.deref.ensures.value, c.in_ok-spans.ensures.spans, c.peaks.ensures.profile) at c.tuned_table-table.ensures)
     (rw (c.new-rows.ensures, c.from.ensures) at c.number-footprint.ensures))

@@ -87,7 +87,7 @@ const HISTORY_FAULTS: &[Case] = &[
     (b"16 1\n", "", "error 34 BadSnapshots line 1"),
     (b"snapshots\n", "", "error 34 BadSnapshots line 1"),
     (b"snapshots 0\n", "", "error 34 BadSnapshots line 1"),
-    (b"snapshots 65\n", "", "error 34 BadSnapshots line 1"),
+    (b"snapshots 1025\n", "", "error 34 BadSnapshots line 1"),
     (b"snapshots 02\n", "", "error 34 BadSnapshots line 1"),
     (b"snapshots 2 2\n", "", "error 34 BadSnapshots line 1"),
     (b"snapshots 2\n16 1\n", "", "error 35 WrongLength line 2"),

@@ -1,10 +1,11 @@
 //! A runner for the engines over traces: each input is read whole, in two pieces cut at each place, and a byte at a time.
 ghost use Rattle.std.specs.Prelude.{Some};
+ghost use Rattle.byte_streams.specs.Streams.{source_state};
 
 use crate::tests::calls::{Call, call_on};
 use crate::tests::streams::sink_with_room;
 use crate::tests::support::{ended, same};
-use mte_engine::{ByteSource, Failure};
+use mte_engine::{ByteSource, Failure, History};
 use std::process::Abort;
 use std::test::Fail;
 
@@ -91,9 +92,9 @@ fn check_cut(
 ) -> Result<(), Fail> {
     let mut from = Cut {
         rest: input.as_bytes(),
+        reads: History::new(),
         next: first,
         most,
-        reads: 0,
     };
     let mut to = sink_with_room(rt.alloc(), 4096)?;
     let end = call_on(rt, call, &mut from, &mut to);
@@ -108,25 +109,21 @@ fn check_cut(
 #[derive(Drop)]
 struct Cut<'a> {
     rest: &'a [u8],
+    reads: History,
     next: usize,
     most: usize,
-    reads: u64,
 }
 
 impl<'a> ByteSource for Cut<'a> {
-    ghost state = { λ s. record { remaining = Some s.rest.now; reads = s.reads; failed = 0 } };
-
-    fn failures(&self) -> u64 {
-        0
-    }
+    ghost state = { λ s. source_state (Some s.rest.now) s.reads };
 
     fn read(&mut self, buf: &mut [u8]) -> Result<usize, Failure> {
-        self.reads = self.reads.saturating_add(1);
         let n = self.rest.len().min(buf.len()).min(self.next.max(1));
         let (piece, rest) = self.rest.split_at(n);
         buf[..n].copy_from_slice(piece);
         self.rest = rest;
         self.next = self.most;
+        self.reads = self.reads.and_moved(buf, n);
         Ok(n)
     }
 }

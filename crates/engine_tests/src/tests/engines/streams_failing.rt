@@ -3,7 +3,7 @@ use super::support::Repeated;
 use crate::tests::calls::{Call, call_on};
 use crate::tests::streams::{sink, source};
 use crate::tests::support::{ended, same};
-use mte_engine::{ByteSink, ByteSource, StreamSink, StreamSource, score};
+use mte_engine::{History, StreamSink, StreamSource, score};
 use std::io::{ErrorKind, Read, Write};
 use std::process::Abort;
 use std::test::Fail;
@@ -90,14 +90,13 @@ const WHOLE: Streams = Streams {
     writes: None,
 };
 
-// Calls the engine over such streams: how it ends, how many reads and writes fail, and what is written.
+// Calls the engine over such streams: how it ends, and what is written.
 fn ends(
     rt: &(impl Abort + AllocGlobal),
     call: Call,
     input: &str,
     streams: Streams,
     wanted: &str,
-    failures: (u64, u64),
     written: &[u8],
 ) -> Result<(), Fail> {
     let mut from = source(input.as_bytes());
@@ -109,8 +108,6 @@ fn ends(
     let end = call_on(rt, call, &mut from, &mut to);
     let ends = ended(rt.alloc(), end)?;
     same(rt, &ends.as_str(), &wanted, &(input, streams));
-    let failed = (from.failures(), to.failures());
-    same(rt, &failed, &failures, &(input, streams));
     same(rt, &to.text.as_slice(), &written, &(input, streams));
     Ok(())
 }
@@ -128,7 +125,7 @@ fn read_fails(
         writes: Some(0),
         ..WHOLE
     };
-    ends(rt, call, input, streams, "error 81 ReadFault", (1, 0), b"")
+    ends(rt, call, input, streams, "error 81 ReadFault", b"")
 }
 
 // The last read is the one that finds the end.
@@ -152,8 +149,7 @@ fn write_fails(rt: &(impl Abort + AllocGlobal), case: Case, room: usize) -> Resu
     };
     assert!(rt; room <= written.len());
     let before = &written.as_bytes()[..room];
-    let wanted = "error 82 WriteFault";
-    ends(rt, call, input, streams, wanted, (0, 1), before)
+    ends(rt, call, input, streams, "error 82 WriteFault", before)
 }
 
 // Each write fails in turn, of a byte each.
@@ -212,7 +208,6 @@ fn fails_once(
 ) -> Result<(), Fail> {
     let mut to = StreamSink::new(filling);
     let end = call_on(rt, call, &mut source(input.as_bytes()), &mut to);
-    same(rt, &to.failures(), &1, &input);
     let ends = ended(rt.alloc(), end)?;
     same(rt, &ends.as_str(), &"error 82 WriteFault", &input);
     Ok(())
@@ -236,8 +231,7 @@ fn a_byte_at_a_time(rt: HostRuntime) -> Result<(), Fail> {
         ..WHOLE
     };
     for Case(call, input, written) in cases() {
-        let written = written.as_bytes();
-        ends(&rt, *call, input, streams, "done", (0, 0), written)?;
+        ends(&rt, *call, input, streams, "done", written.as_bytes())?;
     }
     Ok(())
 }
@@ -252,8 +246,8 @@ fn ends_on_letters(
 ) -> Result<(), Fail> {
     let mut from = Repeated {
         left,
+        reads: History::new(),
         most,
-        reads: 0,
     };
     let mut to = sink(rt.alloc())?;
     let end = call_on(rt, call, &mut from, &mut to);
@@ -351,7 +345,6 @@ fn a_failing_standard_reader(rt: HostRuntime) -> Result<(), Fail> {
     let end = score(rt.alloc(), &mut from, &mut to);
     let ends = ended(rt.alloc(), end)?;
     same(&rt, &ends.as_str(), &"error 81 ReadFault", &"the end");
-    same(&rt, &from.failures(), &1, &"failed reads");
     Ok(())
 }
 
@@ -361,6 +354,5 @@ fn a_failing_standard_writer(rt: HostRuntime) -> Result<(), Fail> {
     let end = score(rt.alloc(), &mut source(INPUT), &mut to);
     let ends = ended(rt.alloc(), end)?;
     same(&rt, &ends.as_str(), &"error 82 WriteFault", &"the end");
-    same(&rt, &to.failures(), &1, &"failed writes");
     Ok(())
 }

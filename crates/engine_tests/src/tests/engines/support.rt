@@ -1,28 +1,24 @@
 //! A source without an end.
 ghost use Rattle.std.specs.Prelude.{None};
+ghost use Rattle.byte_streams.specs.Streams.{source_state};
 
-use mte_engine::{ByteSource, Failure};
+use mte_engine::{ByteSource, Failure, History};
 
 /// Gives the byte `a` for ever, or so often.
 #[derive(Drop)]
 pub struct Repeated {
     /// How many bytes are still to come; none for ever.
     pub left: Option<usize>,
+    /// What its reads gave.
+    pub reads: History,
     /// The most bytes that a call moves; 0 stands for 1.
     pub most: usize,
-    /// How often it was read; the count stops at the greatest number.
-    pub reads: u64,
 }
 
 impl ByteSource for Repeated {
-    ghost state = { λ s. record { remaining = None; reads = s.reads; failed = 0 } };
-
-    fn failures(&self) -> u64 {
-        0
-    }
+    ghost state = { λ s. source_state None s.reads };
 
     fn read(&mut self, buf: &mut [u8]) -> Result<usize, Failure> {
-        self.reads = self.reads.saturating_add(1);
         let n = buf.len().min(self.most.max(1));
         let n = match self.left {
             None => n,
@@ -33,6 +29,7 @@ impl ByteSource for Repeated {
             }
         };
         buf[..n].fill(b'a');
+        self.reads = self.reads.and_moved(buf, n);
         Ok(n)
     }
 }

@@ -5,13 +5,10 @@ use Rattle.tuner_theory.specs.Fits.{IsFitVerdict}
 use Rattle.tuner_theory.proofs.FootprintLawLemmas.{optimal_fit_is_least}
 use Rattle.footprint_check.proofs.checker.check_fit.Goals as goal
 
-pub returns-clause-verdict : goal.returns-clause-verdict
-returns-clause-verdict c = rw c.snapshots.ensures.snapshots at c.rows_verdict.ensures
-
 pub returns-clause-least : goal.returns-clause-least
 returns-clause-least c =
     let snapshots = c.args.history.now.snapshots in
     let fit = fit_of c.args.fit.now in
     IfOk-weaker c.rows_verdict.result (IsFitVerdict snapshots fit) _
-    (λ verdict is optimal. optimal_fit_is_least snapshots fit c.snapshots.ensures.history.snapshots c.in_default.ensures.legal
-    (subst (IsFitVerdict snapshots fit) optimal is)) (returns-clause-verdict c)
+    (λ verdict is optimal. optimal_fit_is_least snapshots fit c.peaks.ensures.history.snapshots c.in_default.ensures.legal
+    (subst (IsFitVerdict snapshots fit) optimal is)) c.rows_verdict.ensures

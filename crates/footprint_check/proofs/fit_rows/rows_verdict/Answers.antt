@@ -1,33 +1,32 @@
 use Rattle.std.proofs.Common.{◌∙◌}
 use Rattle.footprint_check.proofs.Verdicts.{all-met, drop-broken, edge-broken, last-broken, not-tight}
 use Rattle.certificates.specs.FitView.{fit_of}
-use Rattle.tuner_theory.specs.Lists.{lists_of}
 use Rattle.footprint_check.proofs.fit_rows.rows_verdict.Goals as goal
 
 pub returns-then-not-tests : goal.returns-then-not-tests
 returns-then-not-tests c =
-    last-broken (lists_of c.args.snapshots.now) (fit_of c.args.fit.now) c.args.spans.now.counts c.args.spans.now.step c.requires.peaks
+    last-broken c.args.history.now.snapshots (fit_of c.args.fit.now) c.args.spans.now.counts c.args.spans.now.step c.requires.peaks
     c.requires.step _ _ _ c.in_ok-tests.tests c.in_ok-costs.ensures.cost c.in_ok-costs.ensures.places c.places.ensures.places
     c.requires.table (c.has_shape.ensures.0 c.if-not-has_shape.false) c.in_ok-tests.ensures.tests
     c.if-not-tests.true
 
 pub returns-then-not-tests-2 : goal.returns-then-not-tests-2
 returns-then-not-tests-2 c =
-    drop-broken (lists_of c.args.snapshots.now) (fit_of c.args.fit.now) c.args.spans.now.counts c.args.spans.now.step c.requires.peaks
+    drop-broken c.args.history.now.snapshots (fit_of c.args.fit.now) c.args.spans.now.counts c.args.spans.now.step c.requires.peaks
     c.requires.step _ _ _ c.in_ok-tests.tests c.in_ok-costs.ensures.cost c.in_ok-costs.ensures.places c.places.ensures.places
     c.requires.table (c.has_shape.ensures.0 c.if-not-has_shape.false) c.in_ok-tests.ensures.tests
     c.if-not-tests.false c.if-not-tests-2.true
 
 pub returns-then-not-tests-3 : goal.returns-then-not-tests-3
 returns-then-not-tests-3 c =
-    edge-broken (lists_of c.args.snapshots.now) (fit_of c.args.fit.now) c.args.spans.now.counts c.args.spans.now.step c.requires.peaks
+    edge-broken c.args.history.now.snapshots (fit_of c.args.fit.now) c.args.spans.now.counts c.args.spans.now.step c.requires.peaks
     c.requires.step _ _ _ c.in_ok-tests.tests c.in_ok-costs.ensures.cost c.in_ok-costs.ensures.places c.places.ensures.places
     c.requires.table (c.has_shape.ensures.0 c.if-not-has_shape.false) c.in_ok-tests.ensures.tests
     c.if-not-tests.false c.if-not-tests-2.false c.if-not-tests-3.true
 
 pub returns-then-number-fit : goal.returns-then-number-fit
 returns-then-number-fit c =
-    not-tight (lists_of c.args.snapshots.now) (fit_of c.args.fit.now) c.args.spans.now.counts c.args.spans.now.step c.requires.peaks
+    not-tight c.args.history.now.snapshots (fit_of c.args.fit.now) c.args.spans.now.counts c.args.spans.now.step c.requires.peaks
     c.requires.step _ _ _ c.in_ok-tests.tests c.in_ok-costs.ensures.cost c.in_ok-costs.ensures.places c.places.ensures.places
     c.requires.table (c.has_shape.ensures.0 c.if-not-has_shape.false) c.in_ok-tests.ensures.tests
     c.if-not-tests.false c.if-not-tests-2.false c.if-not-tests-3.false c.from.result c.number.result (c.from.ensures ∙ c.max.ensures)
@@ -35,7 +34,7 @@ returns-then-number-fit c =
 
 pub returns : goal.returns
 returns c =
-    all-met (lists_of c.args.snapshots.now) (fit_of c.args.fit.now) c.args.spans.now.counts c.args.spans.now.step c.requires.peaks
+    all-met c.args.history.now.snapshots (fit_of c.args.fit.now) c.args.spans.now.counts c.args.spans.now.step c.requires.peaks
     c.requires.step _ _ _ c.in_ok-tests.tests c.in_ok-costs.ensures.cost c.in_ok-costs.ensures.places c.places.ensures.places
     c.requires.table (c.has_shape.ensures.0 c.if-not-has_shape.false) c.in_ok-tests.ensures.tests
     c.if-not-tests.false c.if-not-tests-2.false c.if-not-tests-3.false c.from.result c.number.result (c.from.ensures ∙ c.max.ensures)

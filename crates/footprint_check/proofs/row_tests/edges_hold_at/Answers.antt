@@ -9,6 +9,22 @@ row-length : (rows : List (List ℕ)) (limit d k : ℕ) (row : List ℕ) → Has
     → row ≡ slice_index_or rows (k - 1) [] → length row ≡ d
 row-length rows limit d k row shape le one e = ap length e ∙ shape.row_lengths (k - 1) [] (omega (arith, shape.row_count))
 
+pub edge_holds_at-requires-clause-short : goal.edge_holds_at-requires-clause-short
+edge_holds_at-requires-clause-short c =
+    let rows = c.args.rows.now in
+    let read = sym (get_or_from_slice_get rows (c.loop-k.k - 1) c.row.result.now [] c.row.ensures) in
+    omega (
+      arith,
+      row-length rows (length rows) c.args.places c.loop-k.k c.row.result.now c.requires.shape (omega arith) (omega arith) read,
+      c.requires.few_places,
+    )
+
+pub edge_holds_at-requires-clause-fall : goal.edge_holds_at-requires-clause-fall
+edge_holds_at-requires-clause-fall c =
+    let rows = c.args.rows.now in
+    let read = sym (get_or_from_slice_get rows (c.loop-k.k - 1) c.row.result.now [] c.row.ensures) in
+    rw read (λ fallen. c.requires.fall fallen (c.loop-k.k - 1) (omega arith))
+
 pub returns-then-not-edge_holds_at : goal.returns-then-not-edge_holds_at
 returns-then-not-edge_holds_at c =
     let rows = c.args.rows.now in

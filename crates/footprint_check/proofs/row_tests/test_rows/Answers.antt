@@ -4,7 +4,8 @@ use Rattle.std.proofs.lemmas.List.{get_or_default, with_items_is}
 use Rattle.std.specs.Vec.{with_items}
 use Rattle.footprint_check.specs.CallCounts.{span_count}
 use Rattle.footprint_check.proofs.CallCounts.{count-first, few_spans}
-use Rattle.footprint_check.proofs.RowConditions.{tests-at_end, drops-both, edges-both, last-both}
+use Rattle.footprint_check.proofs.RowConditions.{costs-grow, tests-at_end, drops-both, edges-both, last-both}
+use Rattle.tuner_theory.specs.Growing.{IsGrowing}
 use Rattle.footprint_check.proofs.row_tests.test_rows.Goals as goal
 
 at-most : (a b x y : ℕ) → a ≡ x → b ≡ y → IsTrue (leb a b) ↔ (x ≤ y)
@@ -90,3 +91,21 @@ returns-clause-counted g c =
     let all : span_count d - span_count (d - c.loop-i.i) ≡ span_count (g.C.SpanCosts.place_count c.args.costs.now) =
     omega (arith, ap span_count none, ap span_count c.places-places.ensures) in
     c.loop-i.invariant.counted ∙ ap (g.C.SpanCosts.after_calls c.args.costs.now) all
+
+pub edges_hold_at-edge-requires-clause-grow : goal.edges_hold_at-edge-requires-clause-grow
+edges_hold_at-edge-requires-clause-grow g c =
+    let d = c.places-places.result in
+    let i = c.loop-i.i in
+    let cost = g.C.SpanCosts.cost c.args.costs.now in
+    let counted = c.loop-i.invariant.counted in
+    let same_places = ap g.C.SpanCosts.place_count counted ∙ g.met.C.SpanCosts.keeps_places _ _ in
+    let same_cost : g.C.SpanCosts.cost c.loop-i.costs ≡ cost = ap g.C.SpanCosts.cost counted ∙ g.met.C.SpanCosts.keeps_cost _ _ in
+    let from = with_items_is c.loop-i.from c.write_from.new.costs (omega (arith, c.write_from.ensures.size)) in
+    let costs : c.deref.result.now ≡ c.write_from.new.costs = c.deref.ensures.value ∙ from in
+    let size : length c.deref.result.now ≡ d + 1 =
+    ap length costs ∙ (c.write_from.ensures.size ∙ (ap length c.deref_mut.ensures.value ∙ c.loop-i.invariant.from_length)) in
+    let are : (j : ℕ) → i < j → j ≤ d → slice_index c.deref.result.now j ≡ cost i j =
+    (λ j after le. ap (λ (l : List ℕ). slice_index l j) costs ∙ (c.write_from.ensures.costs j after (omega (arith, same_places))
+    ∙ ap (λ (its : ℕ → ℕ → ℕ). its i j) same_cost)) in
+    let grows : IsGrowing cost d = rw c.places-places.ensures (g.met.C.SpanCosts.grows c.args.costs.now) in
+    costs-grow cost d i c.deref.result.now grows size are

@@ -8,25 +8,33 @@ use Rattle.tuner_theory.specs.Lists.{lists_of}
 use Rattle.tuner_theory.proofs.Lists.{lists-length, row-read_at}
 use Rattle.history_count.proofs.footprint.most_between.Goals as goal
 
-pub blocks_between-requires-clause-counts : goal.blocks_between-requires-clause-counts
-blocks_between-requires-clause-counts c =
-    let lists = lists_of c.args.snapshots.now in
-    let inside : c.loop-t.t < length lists = omega (arith, lists-length c.args.snapshots.now) in
-    let read = row-read_at c.args.snapshots.now c.loop-t.t c.index-snapshots-t.result c.deref.result.now inside
-    c.index-snapshots-t.is c.deref.ensures.value in
-    rw read (c.requires.snapshots.counts c.loop-t.t [] inside)
+pub blocks_between-requires-clause-size : goal.blocks_between-requires-clause-size
+blocks_between-requires-clause-size c =
+    let lists = lists_of c.args.columns.now in
+    let inside : c.loop-t.t < length lists = omega (arith, lists-length c.args.columns.now) in
+    let read = row-read_at c.args.columns.now c.loop-t.t c.index-columns-t.result c.deref.result.now inside
+    c.index-columns-t.is c.deref.ensures.value in
+    rw read (c.requires.long c.loop-t.t [] inside)
+
+pub blocks_between-requires-clause-few : goal.blocks_between-requires-clause-few
+blocks_between-requires-clause-few c = λ k.
+    let lists = lists_of c.args.columns.now in
+    let inside : c.loop-t.t < length lists = omega (arith, lists-length c.args.columns.now) in
+    let read = row-read_at c.args.columns.now c.loop-t.t c.index-columns-t.result c.deref.result.now inside
+    c.index-columns-t.is c.deref.ensures.value in
+    rw read (c.requires.few c.loop-t.t [] inside k)
 
 larger : (a b : ℕ) → ord_max nat_cmp a b ≡ max a b
 larger a b = grind (arith, nat_tests)
 
 pub loop-t-preserved : goal.loop-t-preserved
 loop-t-preserved c =
-    let lists = lists_of c.args.snapshots.now in
-    let blocks = blocks_from c.args.from c.args.end in
+    let lists = lists_of c.args.columns.now in
+    let blocks = blocks_from c.args.start c.args.stop in
     let t = c.loop-t.t in
-    let inside : t < length lists = omega (arith, lists-length c.args.snapshots.now) in
-    let read = row-read_at c.args.snapshots.now t c.index-snapshots-t.result c.deref.result.now inside
-    c.index-snapshots-t.is c.deref.ensures.value in
+    let inside : t < length lists = omega (arith, lists-length c.args.columns.now) in
+    let read = row-read_at c.args.columns.now t c.index-columns-t.result c.deref.result.now inside
+    c.index-columns-t.is c.deref.ensures.value in
     let parts : drop t lists ≡ get_or lists t [] ∷ drop (t + 1) lists = rw (add-one, drop-cons lists t [] inside) refl in
     let here : c.blocks_between.result ≡ blocks (get_or lists t []) = c.blocks_between.ensures.blocks ∙ ap blocks read in
     let is : c.max-most.result ≡ max c.loop-t.most c.blocks_between.result =

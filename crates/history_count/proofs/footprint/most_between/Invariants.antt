@@ -7,7 +7,7 @@ use Rattle.history_count.proofs.footprint.most_between.Given as goal
 
 abbrev pub invariant-loop-t : goal.invariant-loop-t
 invariant-loop-t l = record {
-  rest : max l.most (most (blocks_from l.from l.end) (drop l.t (lists_of l.snapshots)))
-      ≡ most (blocks_from l.from l.end) (lists_of l.snapshots);
-  small : l.most ≤ greatest_count * (l.end - l.from);
+  rest : max l.most (most (blocks_from l.start l.stop) (drop l.t (lists_of l.columns)))
+      ≡ most (blocks_from l.start l.stop) (lists_of l.columns);
+  small : l.most ≤ greatest_count * (l.stop - l.start);
 }

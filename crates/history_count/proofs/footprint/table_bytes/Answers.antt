@@ -1,48 +1,74 @@
-use Rattle.std.proofs.Common.{ap, ◌∙◌, arith}
+use Rattle.std.proofs.Common.{arith}
 use Rattle.std.proofs.lemmas.Option.{get_or_from_slice_get, slice_get_within}
-use Rattle.history_count.specs.Histories.{blocks_from}
 use Rattle.tuner_theory.specs.Lists.{lists_of}
-use Rattle.tuner_theory.specs.Histories.{most}
-use Rattle.history_count.proofs.ClassByClass.{taken-all, taken-more, taken-none, taken-order}
+use Rattle.history_count.proofs.CutLines.{few-lines}
+use Rattle.history_count.proofs.ClassByClass.{by_lines-all, by_lines-below, by_lines-end, by_lines-more, by_lines-none, by_lines-small}
 use Rattle.history_count.proofs.footprint.table_bytes.Goals as goal
 
 pub loop-number-init : goal.loop-number-init
-loop-number-init c = record {
-  taken = taken-none (lists_of c.args.snapshots.now) c.args.table.now c.requires c.len-number-end.ensures.legal;
-}
+loop-number-init c =
+    by_lines-none c.args.sizes.now (lists_of c.args.columns.now) c.args.table.now c.requires.sizes c.requires.columns.long c.requires.snapshots
+    c.len-number-end.ensures.legal
 
-pub most_between-requires-clause-order : goal.most_between-requires-clause-order
-most_between-requires-clause-order c =
+pub line_from-next-requires-clause-below : goal.line_from-next-requires-clause-below
+line_from-next-requires-clause-below c =
     let table = c.args.table.now in
     let class = c.class-class in
-    omega (
-      arith,
-      taken-order (lists_of c.args.snapshots.now) table c.requires c.len-number-end.ensures.legal c.loop-number.number c.loop-number.from
-          c.loop-number.total class.result c.loop-number.invariant.taken (slice_get_within table _ _ class.ensures.class)
-          (get_or_from_slice_get table _ _ 0 class.ensures.class),
-      c.class_end-end.ensures,
-    )
+    rw c.class_end.ensures
+    (by_lines-below c.args.sizes.now (lists_of c.args.columns.now) table c.requires.sizes c.requires.columns.long c.requires.snapshots
+    c.len-number-end.ensures.legal c.loop-number.number c.loop-number.line c.loop-number.total class.result c.loop-number.invariant
+    (slice_get_within table _ _ class.ensures.class) (get_or_from_slice_get table _ _ 0 class.ensures.class))
+
+pub most_between-requires-clause-stop : goal.most_between-requires-clause-stop
+most_between-requires-clause-stop c =
+    omega (arith, c.line_from-next.ensures.cut.within, few-lines c.args.sizes.now c.requires.sizes)
+
+pub overflow_mul-total : goal.overflow_mul-total
+overflow_mul-total c =
+    let table = c.args.table.now in
+    let class = c.class-class in
+    let cut = rw c.class_end.ensures at c.line_from-next.ensures.cut in
+    let small = by_lines-small c.args.sizes.now (lists_of c.args.columns.now) table c.requires.sizes c.requires.columns.long
+    c.requires.snapshots c.len-number-end.ensures.legal c.loop-number.number c.loop-number.line c.loop-number.total class.result
+    c.loop-number.invariant (slice_get_within table _ _ class.ensures.class) (get_or_from_slice_get table _ _ 0 class.ensures.class)
+    c.line_from-next.result cut c.from-block_bytes.result c.most_between.result (omega (arith, c.from-block_bytes.ensures, c.from.ensures))
+    c.most_between.ensures.most in
+    let end = by_lines-end c.args.sizes.now (lists_of c.args.columns.now) table c.requires.sizes c.requires.columns.long
+    c.requires.snapshots c.len-number-end.ensures.legal c.loop-number.number c.loop-number.line c.loop-number.total class.result
+    c.loop-number.invariant (slice_get_within table _ _ class.ensures.class) (get_or_from_slice_get table _ _ 0 class.ensures.class)
+    c.line_from-next.result cut in
+    omega (arith, small, end)
+
+pub overflow_add-total : goal.overflow_add-total
+overflow_add-total c =
+    let table = c.args.table.now in
+    let class = c.class-class in
+    let cut = rw c.class_end.ensures at c.line_from-next.ensures.cut in
+    let small = by_lines-small c.args.sizes.now (lists_of c.args.columns.now) table c.requires.sizes c.requires.columns.long
+    c.requires.snapshots c.len-number-end.ensures.legal c.loop-number.number c.loop-number.line c.loop-number.total class.result
+    c.loop-number.invariant (slice_get_within table _ _ class.ensures.class) (get_or_from_slice_get table _ _ 0 class.ensures.class)
+    c.line_from-next.result cut c.from-block_bytes.result c.most_between.result (omega (arith, c.from-block_bytes.ensures, c.from.ensures))
+    c.most_between.ensures.most in
+    let end = by_lines-end c.args.sizes.now (lists_of c.args.columns.now) table c.requires.sizes c.requires.columns.long
+    c.requires.snapshots c.len-number-end.ensures.legal c.loop-number.number c.loop-number.line c.loop-number.total class.result
+    c.loop-number.invariant (slice_get_within table _ _ class.ensures.class) (get_or_from_slice_get table _ _ 0 class.ensures.class)
+    c.line_from-next.result cut in
+    omega (arith, small, end)
 
 pub loop-number-preserved : goal.loop-number-preserved
 loop-number-preserved c =
     let table = c.args.table.now in
     let class = c.class-class in
-    record {
-      taken = rw c.class_end-end.ensures
-          (taken-more (lists_of c.args.snapshots.now) table c.requires c.len-number-end.ensures.legal c.loop-number.number
-          c.loop-number.from c.loop-number.total class.result c.loop-number.invariant.taken (slice_get_within table _ _ class.ensures.class)
-          (get_or_from_slice_get table _ _ 0 class.ensures.class) c.from-block_bytes.result c.most_between.result
-          (omega (arith, c.from-block_bytes.ensures, c.from.ensures))
-          (c.most_between.ensures.most
-          ∙ ap (λ end. most (blocks_from c.loop-number.from end) (lists_of c.args.snapshots.now)) c.class_end-end.ensures)
-          (omega (arith, c.most_between.ensures.small, c.class_end-end.ensures)));
-    }
+    let cut = rw c.class_end.ensures at c.line_from-next.ensures.cut in
+    by_lines-more c.args.sizes.now (lists_of c.args.columns.now) table c.requires.sizes c.requires.columns.long
+    c.requires.snapshots c.len-number-end.ensures.legal c.loop-number.number c.loop-number.line c.loop-number.total class.result
+    c.loop-number.invariant (slice_get_within table _ _ class.ensures.class) (get_or_from_slice_get table _ _ 0 class.ensures.class)
+    c.line_from-next.result cut c.from-block_bytes.result c.most_between.result (omega (arith, c.from-block_bytes.ensures, c.from.ensures))
+    c.most_between.ensures.most
 
 pub returns : goal.returns
 returns c =
-    let taken = c.loop-number.invariant.taken in
-    record {
-      footprint = taken-all (lists_of c.args.snapshots.now) c.args.table.now c.requires c.len-number-end.ensures.legal c.loop-number.number
-          c.loop-number.from c.loop-number.total taken (omega (arith, c.len-number-end.ensures.len));
-      small = omega (arith, taken.small, taken.inside);
-    }
+    let all = by_lines-all c.args.sizes.now (lists_of c.args.columns.now) c.args.table.now c.requires.sizes c.requires.columns.long
+    c.requires.snapshots c.len-number-end.ensures.legal c.loop-number.number c.loop-number.line c.loop-number.total c.loop-number.invariant
+    (omega (arith, c.len-number-end.ensures.len)) in
+    record { footprint = all.0; small = all.1 }

@@ -15,10 +15,8 @@ returns-in_err-write_all g c =
       read_fault = search rules;
       write_fault = search rules;
       answer =
-          write_failed (g.E.Engine.answers c.args.engine.now) (source c.args.source.now).remaining (source c.read_all.new.source).remaining
-          (sink c.args.sink.now).taken (sink c.write_all.new.sink).taken read.0 (g.E.Output.Output.rest output)
-          c.in_ok-output.status written.0 written.1 read.2 read.3 read.4 (c.in_ok-output.ensures read.0 read.1) written.2 written.3;
-      consumed = search rules;
-      quiet = search rules;
+          write_failed (g.E.Engine.answers c.args.engine.now) (source c.args.source.now) (source c.read_all.new.source) sink c.args.sink.now
+          c.write_all.new.sink read.0 (g.E.Output.Output.rest output) c.in_ok-output.status written.0 written.1 read.2 read.3 read.4
+          (c.in_ok-output.ensures read.0 read.1) written.2 written.3;
       few_reads = search rules;
     }

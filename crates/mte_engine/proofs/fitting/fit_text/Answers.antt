@@ -1,10 +1,11 @@
-use Rattle.std.proofs.Common.{◌∙◌, ap, List, ℕ}
+use Rattle.std.proofs.Common.{◌∙◌, ap, subst, List, ℕ}
 use Rattle.certificates.specs.FitView.{fit_of}
 use Rattle.potential_check.specs.FitText.{fit_text}
 use Rattle.certificates.specs.declared.fit.Fit.{Fit}
 use Rattle.tuner_theory.proofs.FootprintLawLemmas.{peaks_are_counts}
 use Rattle.tuner_theory.proofs.LawLemmas.{few_places}
-use Rattle.tuner_theory.specs.Histories.{peaks}
+use Rattle.history_count.specs.Histories.{History}
+use Rattle.tuner_theory.specs.Histories.{AreSnapshots, peaks}
 use Rattle.mte_engine.specs.declared.engine.Status.TheVariants.{Done}
 use Rattle.mte_engine.proofs.RowLines.{short_rows}
 use Rattle.mte_engine.proofs.fitting.fit_text.Goals as goal
@@ -12,8 +13,9 @@ use Rattle.mte_engine.proofs.fitting.fit_text.Goals as goal
 pub of_fit-requires : goal.of_fit-requires
 of_fit-requires c =
     let history = c.in_ok-history.history in
-    let is_history = (rw c.history.view_is at c.history.invariant.is_history).snapshots in
-    let few = few_places (peaks history.snapshots) c.args.step c.requires.options.is_step (peaks_are_counts history.snapshots is_history) in
+    let Good : History → Type 0 = λ h. AreSnapshots h.snapshots in
+    let are = subst Good c.history.view_is c.history.invariant.lines.snapshots in
+    let few = few_places (peaks history.snapshots) c.args.step c.requires.options.is_step (peaks_are_counts history.snapshots are) in
     rw c.into_fit.ensures (short_rows _ c.args.limit _ c.in_ok-fitted.ensures.fitted.shape few)
 
 pub returns : goal.returns

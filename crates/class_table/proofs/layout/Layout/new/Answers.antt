@@ -1,13 +1,15 @@
-use Rattle.std.proofs.Common.{◌≡◌, ◌+◌, ◌/◌, ◌^◌, length, get_or, arith, ◌∙◌, ap, subst}
+use Rattle.std.proofs.Common.{◌≡◌, ◌+◌, ◌/◌, ◌^◌, length, get_or, arith, sym, ◌∙◌, ap, subst}
 use Rattle.std.proofs.lemmas.Option.{get_or_from_slice_get}
 use Rattle.class_table.specs.Counts.{AreCounts}
-use Rattle.class_table.specs.Layout.{IsPartition}
+use Rattle.class_table.specs.Layout.{IsPartition, first_slot, slot_count}
 use Rattle.class_table.proofs.Counted.{counts_by_shift}
 use Rattle.class_table.proofs.ClassOf.{firsts_of-ascending}
 use Rattle.class_table.proofs.LeastClass.{ascending_classes}
 use Rattle.class_table.proofs.LayoutSoFar.{IsFilled-more, classes_all, firsts_all, length-numbers}
 use Rattle.class_table.proofs.FirstSlots.{first_slot-few}
+use Rattle.class_table.proofs.Slots.{slots_of_classes_are_all}
 use Rattle.class_table.proofs.layout.Layout.new.Goals as goal
+use Rattle.class_table.proofs.layout.Layout.new.Goals.{After-shift_for-slot_shift}
 
 pub push-requires-in-loop-number : goal.push-requires-in-loop-number
 push-requires-in-loop-number c =
@@ -55,6 +57,24 @@ counts_at-requires-2-clause-ascending c =
     rw (c.deref-2.ensures.0, c.push-2.ensures.items, firsts_all _ _ _ _ _ c.loop-number.invariant all)
     (firsts_of-ascending (record { classes = c.args.table.now; granules = c.args.granules }))
 
+-- the number of all slots
+slots_are : (c : After-shift_for-slot_shift) → slot_count (record { classes = c.args.table.now; granules = c.args.granules }) ≡ c.loop-number.slots
+slots_are c =
+    slots_of_classes_are_all (record { classes = c.args.table.now; granules = c.args.granules })
+    ∙ ap (first_slot (record { classes = c.args.table.now; granules = c.args.granules }))
+    (let all : length c.args.table.now ≡ c.loop-number.number = omega (arith, c.len-number-end.ensures.len) in all)
+    ∙ sym c.loop-number.invariant.slots
+
+pub shift_for-slot_shift-requires : goal.shift_for-slot_shift-requires
+shift_for-slot_shift-requires c =
+    let is : IsPartition (record { classes = c.args.table.now; granules = c.args.granules }) =
+    record { table = c.len.ensures.legal; least = c.requires.least; most = c.requires.most } in
+    omega (
+      arith,
+      c.loop-number.invariant.slots,
+      first_slot-few (record { classes = c.args.table.now; granules = c.args.granules }) c.loop-number.number is,
+    )
+
 pub invariant_of-result : goal.invariant_of-result
 invariant_of-result c =
     let all : c.loop-number.number ≡ length c.args.table.now = omega (arith, c.len-number-end.ensures.len) in
@@ -67,6 +87,7 @@ invariant_of-result c =
       slot_counts =
           let shift = c.shift_for-slot_shift.result in
           subst (AreCounts c.counts_at-2.result (2 ^ shift)) c.deref-2.ensures.0
-          (counts_by_shift _ _ shift c.shift_for-slot_shift.ensures c.counts_at-2.ensures);
-      slot_shift = c.shift_for-slot_shift.ensures;
+          (counts_by_shift _ _ shift c.shift_for-slot_shift.ensures.shift c.counts_at-2.ensures);
+      slot_shift = c.shift_for-slot_shift.ensures.shift;
+      reach = rw (slots_are (goal.at.invariant_of-result c).After-shift_for-slot_shift) c.shift_for-slot_shift.ensures.reach;
     })

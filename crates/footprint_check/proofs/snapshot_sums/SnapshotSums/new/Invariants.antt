@@ -4,5 +4,5 @@ use Rattle.footprint_check.proofs.snapshot_sums.SnapshotSums.new.Given as goal
 
 abbrev pub invariant-loop-t : goal.invariant-loop-t
 invariant-loop-t l = record {
-  first : AreSumsOfFirst (lists_of l.snapshots) l.spans.counts l.spans.step l.t (lists_of l.sums.items);
+  first : AreSumsOfFirst l.history.snapshots l.spans.counts l.spans.step l.t (lists_of l.sums.items);
 }

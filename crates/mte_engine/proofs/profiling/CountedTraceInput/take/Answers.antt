@@ -8,9 +8,9 @@ loop-line-preserved c = λ bytes keeps.
     let so_far = c.loop-line.invariant bytes keeps in
     let fed_line = c.in_ok-feed_counted.ensures.counted (bytes ++ so_far.front) so_far.keeps in
     let fed_newline = c.in_ok-feed_counted-2.ensures.counted ((bytes ++ so_far.front) ++ line) fed_line in
-    lines_more bytes c.args.piece.now c.loop-line.text.now line c.in-Some.after.now c.count_lines-text.result.now c.loop-line.self.reader
-    c.count_lines-text.new.reader c.loop-line.self.profile c.count_lines-text.new.profile so_far c.in-Some.ensures.cut
-    (c.count_lines-text.ensures.counted (((bytes ++ so_far.front) ++ line) ++ 10 ∷ []) fed_newline)
+    lines_more bytes c.args.piece.now c.loop-line.text.now line c.in-Some.after.now c.in_ok-text.text.now c.loop-line.self.reader
+    c.count_rest.new.reader c.loop-line.self.profile c.count_rest.new.profile so_far c.in-Some.ensures.cut
+    (c.in_ok-text.ensures.counted (((bytes ++ so_far.front) ++ line) ++ 10 ∷ []) fed_newline)
 
 pub returns : goal.returns
 returns c =

@@ -1,12 +1,13 @@
 use Rattle.std.proofs.Common.{◌≡◌, ℕ, sym, ap, ◌∙◌, Err, None, Result}
 use Rattle.std.proofs.lemmas.Result.{err_from_is_err_and}
 use Rattle.std.specs.Option.{ok_or}
+use Rattle.class_table.specs.declared.layout.Slot.{Slot}
 use Rattle.heap_theory.specs.declared.refusal.NullCause.{NullCause}
 use Rattle.heap_theory.specs.declared.refusal.NullCause.TheVariants.{Exhausted}
 use Rattle.heap_theory.specs.Calls.{given_out}
 use Rattle.tagged_heap.specs.HeapFields.{state_of, parts_of}
 use Rattle.tagged_heap.specs.HeapAtRest.{shown_heap}
-use Rattle.tagged_heap.proofs.Giving.{IsTaken, request_refused, has_class, taken, taken_class, exhausted, taken_room, given_held, given_shown, given_address}
+use Rattle.tagged_heap.proofs.Giving.{IsTaken, request_refused, has_class, taken, exhausted, taken_room, given_held, given_shown, given_address}
 use Rattle.tagged_heap.proofs.heap.Heap.allocate.Goals as goal
 use Rattle.tagged_heap.proofs.heap.Heap.allocate.Goals.{In_ok-slot, After-give_out-address}
 
@@ -27,9 +28,10 @@ returns-in_err-slot-clause-slot c =
     exhausted c.self.invariant c.args.n c.in_ok-number.number c.in_ok-number.ensures.ok.0 c.in_ok-number.ensures.ok.1
     c.in_ok-number.ensures.within takes in
     let p = err_from_is_err_and c.from_residual-in_err-slot.result c.from_residual-in_err-slot.ensures.1 in
-    let value : ◌≡◌ {A = Result ℕ NullCause} (Err c.in_err-slot.field-0.0) (Err Exhausted) =
+    let value : ◌≡◌ {A = Result (ℕ × Slot) NullCause} (Err c.in_err-slot.field-0.0) (Err Exhausted) =
     c.in_err-slot.ensures.value ∙ ap (λ o. ok_or o Exhausted) none in
-    rw (p.1, p.2, ← c.self.view_is) (value ∙ sym full)
+    let cause : c.in_err-slot.field-0.0 ≡ Exhausted = cc in
+    rw (p.1, p.2, ← c.self.view_is) (ap Err cause ∙ sym full)
 
 -- the slot that was taken
 took : (c : In_ok-slot) →
@@ -40,11 +42,6 @@ took c =
     c.in_ok-number.ensures.within c.in_ok-slot.slot
     (rw (c.memory_mut-memory.ensures.value, c.in_ok-slot.ensures.ok_part) at c.take_slot.ensures.takes) c.take_slot.ensures.memory
 
-pub slot_of_class-place-requires : goal.slot_of_class-place-requires
-slot_of_class-place-requires c =
-    taken_class c.self.invariant c.args.n c.in_ok-number.number c.in_ok-number.ensures.ok.0 c.in_ok-number.ensures.ok.1
-    c.in_ok-number.ensures.within c.in_ok-slot.slot (took (goal.at.slot_of_class-place-requires c).In_ok-slot)
-
 pub give_out-address-requires-clause-room : goal.give_out-address-requires-clause-room
 give_out-address-requires-clause-room c =
     taken_room c.self.invariant (took (goal.at.give_out-address-requires-clause-room c).In_ok-slot) c.in_ok-number.ensures.ok.0
@@ -54,25 +51,25 @@ shown : (c : After-give_out-address) →
     c.give_out-address.new.machine.seed c.give_out-address.new.machine.tag
     ≡ given_out (state_of c.self.inside) c.in_ok-slot.slot c.args.n
 shown c =
-    given_shown c.self.invariant (took c.before.before.before.before.before) c.give_out-address.new.machine
+    given_shown c.self.invariant (took c.before.before.before.before) c.give_out-address.new.machine
     c.give_out-address.ensures.machine c.give_out-address.ensures.memory
 
 pub invariant_of-self-2 : goal.invariant_of-self-2
 invariant_of-self-2 c =
     rw (shown c)
-    (given_held c.self.invariant (took c.before.before.before.before.before) c.give_out-address.new.machine
+    (given_held c.self.invariant (took c.before.before.before.before) c.give_out-address.new.machine
     c.give_out-address.ensures.machine c.give_out-address.ensures.memory)
 
 pub returns-clause-address : goal.returns-clause-address
 returns-clause-address c =
-    rw (← c.self.view_is) (given_address c.self.invariant (took c.before.before.before.before.before) c.give_out-address.result
+    rw (← c.self.view_is) (given_address c.self.invariant (took c.before.before.before.before) c.give_out-address.result
     c.give_out-address.ensures.address)
 
 pub returns-clause-given : goal.returns-clause-given
 returns-clause-given c = rw (← c.self.view_is) (λ k. record { state = shown c k; frees = c.self.inside.frees })
 
 pub returns-clause-slot : goal.returns-clause-slot
-returns-clause-slot c = rw (← c.self.view_is) (sym (took c.before.before.before.before.before).request)
+returns-clause-slot c = rw (← c.self.view_is) (sym (took c.before.before.before.before).request)
 
 pub returns-clause-in_range : goal.returns-clause-in_range
-returns-clause-in_range c = rw (← c.self.view_is) (took c.before.before.before.before.before).given.reusable.in_range
+returns-clause-in_range c = rw (← c.self.view_is) (took c.before.before.before.before).given.reusable.in_range

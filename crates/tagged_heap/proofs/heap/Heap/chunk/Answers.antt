@@ -81,9 +81,7 @@ returns-clause-live c =
       start = c.in-Some.ensures.start;
       class = c.class-class.ensures.class ∙ get_or_from_slice_get c.self.inside.layout.classes c.from-number.result _ 0 number;
       number = number;
-      live = (
-        _,
-        live (state_of c.self.inside) c.args.p c.in-Some.slot c.self.invariant.kept.from _ c.self.invariant.kept.sound
-            c.in-Some.ensures.slot (shows at.After-header-header) (ap standing_seen c.in-Live.is),
-      );
+      numbered = c.from-number.ensures ∙ ap (λ (x : Header). x.class) (shows at.After-header-header);
+      live = live (state_of c.self.inside) c.args.p c.in-Some.slot c.self.invariant.kept.from _ c.self.invariant.kept.sound
+          c.in-Some.ensures.slot (shows at.After-header-header) (ap standing_seen c.in-Live.is);
     })

@@ -1,12 +1,19 @@
-use Rattle.std.proofs.Common.{◌≡◌, ◌+◌, ◌*◌, ap, ◌∙◌, arith}
+use Rattle.std.proofs.Common.{◌≡◌, ◌+◌, ◌*◌, ap, sym, subst, ◌∙◌, arith}
+use Rattle.heap_theory.specs.Header.{Header, FitsWords}
+use Rattle.heap_theory.specs.Header.Standing.{Live}
+use Rattle.tagged_heap.specs.declared.freeing.Chunk.{Chunk}
 use Rattle.heap_theory.specs.Calls.{freed}
 use Rattle.tagged_heap.specs.HeapFields.{state_of}
 use Rattle.tagged_heap.specs.HeapAtRest.{shown_heap}
 use Rattle.tagged_heap.specs.Representation.{IsKept}
 use Rattle.tagged_heap.proofs.Kept.{class_most}
-use Rattle.tagged_heap.proofs.TakingBack.{retire_room, can_be_put, kept_freed, freed_held, freed_shown}
+use Rattle.tagged_heap.proofs.TakingBack.{live_fits, live_header, retire_room, can_be_put, kept_freed, freed_held, freed_shown}
 use Rattle.tagged_heap.proofs.heap.Heap.free_chunk.Goals as goal
-use Rattle.tagged_heap.proofs.heap.Heap.free_chunk.Goals.{After-put, After-from}
+use Rattle.tagged_heap.proofs.heap.Heap.free_chunk.Goals.{After-self, After-put, After-from}
+
+-- the header of a live chunk
+abbrev header_of_chunk : Chunk → Header
+header_of_chunk chunk = record { standing = Live; size = chunk.size; tag = chunk.tag; class = chunk.number; next = 0; mark = 0 }
 
 pub overflow_mul-bytes : goal.overflow_mul-bytes
 overflow_mul-bytes c =
@@ -16,7 +23,29 @@ overflow_mul-bytes c =
 pub retire-requires-clause-room : goal.retire-requires-clause-room
 retire-requires-clause-room c =
     let chunk = rw (← c.self.view_is) at c.requires.live in
-    retire_room c.self.invariant c.args.chunk.slot c.args.chunk.size chunk.live.0 chunk.slot chunk.live.1
+    retire_room c.self.invariant c.args.chunk.slot c.args.chunk.size c.args.chunk.tag chunk.slot chunk.live
+
+-- what the chunk's header says fits its words
+fits : (c : After-self) → FitsWords (header_of_chunk c.args.chunk)
+fits c =
+    let chunk = rw (← c.self.view_is) at c.requires.live in
+    subst (λ number. FitsWords (record (header_of_chunk c.args.chunk) { class = number })) (sym chunk.numbered)
+    (live_fits c.self.invariant c.args.chunk.slot c.args.chunk.size c.args.chunk.tag chunk.slot chunk.live)
+
+pub overflow_cast-before : goal.overflow_cast-before
+overflow_cast-before c = let f = fits (goal.at.overflow_cast-before c).After-self in record { fits = omega (arith, f.size) }
+
+pub overflow_cast-before-2 : goal.overflow_cast-before-2
+overflow_cast-before-2 c = let f = fits (goal.at.overflow_cast-before-2 c).After-self in record { fits = omega (arith, f.class) }
+
+pub retire-requires-clause-before : goal.retire-requires-clause-before
+retire-requires-clause-before c =
+    let chunk = rw (← c.self.view_is) at c.requires.live in
+    ap (λ number. record (header_of_chunk c.args.chunk) { class = number }) chunk.numbered
+    ∙ sym (live_header c.self.invariant c.args.chunk.slot c.args.chunk.size c.args.chunk.tag chunk.slot chunk.live)
+
+pub retire-requires-clause-fits : goal.retire-requires-clause-fits
+retire-requires-clause-fits c = fits (goal.at.retire-requires-clause-fits c).After-self
 
 pub retire-requires-clause-start : goal.retire-requires-clause-start
 retire-requires-clause-start c = let chunk = rw (← c.self.view_is) at c.requires.live in chunk.start
@@ -25,7 +54,7 @@ pub put-requires : goal.put-requires
 put-requires c =
     let chunk = rw (← c.self.view_is) at c.requires.live in
     rw c.memory_mut-memory.ensures.value
-    (can_be_put c.self.invariant c.args.chunk.slot c.args.chunk.size chunk.live.0 chunk.slot chunk.live.1
+    (can_be_put c.self.invariant c.args.chunk.slot c.args.chunk.size c.args.chunk.tag chunk.slot chunk.live
     (rw (← c.self.view_is) at c.requires.few) c.retire.new.machine c.retire.ensures.machine c.retire.ensures.memory
     (16 * c.args.chunk.place.class) (ap (λ n. 16 * n) chunk.class))
 
@@ -34,7 +63,7 @@ put : (c : After-put) → IsKept (freed (state_of c.self.inside) c.args.chunk.sl
     (record { memory = c.put.new.memory; quarantine = c.put.new.self; fronts = c.self.inside.lists })
 put c =
     let chunk = rw (← c.self.view_is) at c.requires.live in
-    kept_freed c.self.invariant c.args.chunk.slot c.args.chunk.size chunk.live.0 chunk.slot chunk.live.1
+    kept_freed c.self.invariant c.args.chunk.slot c.args.chunk.size c.args.chunk.tag chunk.slot chunk.live
     (rw (← c.self.view_is) at c.requires.few)
     c.retire.new.machine c.retire.ensures.machine c.retire.ensures.memory (16 * c.args.chunk.place.class)
     (rw c.memory_mut-memory.ensures.value at c.put.ensures.queued) c.put.ensures.value
@@ -62,7 +91,7 @@ shown : (c : After-from) →
 unfolding freed
 shown c =
     let chunk = rw (← c.self.view_is) at c.requires.live in
-    freed_shown c.self.invariant c.args.chunk.slot c.args.chunk.size chunk.live.0 chunk.slot chunk.live.1 (kept c) c.retire.new.machine
+    freed_shown c.self.invariant c.args.chunk.slot c.args.chunk.size c.args.chunk.tag chunk.slot chunk.live (kept c) c.retire.new.machine
     c.retire.ensures.machine (c.self.inside.total + c.from.result)
     (ap (λ b. c.self.inside.total + b) (c.from.ensures ∙ ap (λ n. 16 * n) chunk.class))
 
@@ -71,7 +100,7 @@ unfolding freed
 invariant_of-self c =
     let chunk = rw (← c.self.view_is) at c.requires.live in
     rw (shown (goal.at.invariant_of-self c).After-from)
-    (freed_held c.self.invariant c.args.chunk.slot c.args.chunk.size chunk.live.0 chunk.slot chunk.live.1
+    (freed_held c.self.invariant c.args.chunk.slot c.args.chunk.size c.args.chunk.tag chunk.slot chunk.live
     (rw (← c.self.view_is) at c.requires.few) (kept (goal.at.invariant_of-self c).After-from) c.release_oldest.ensures.held)
 
 pub returns : goal.returns

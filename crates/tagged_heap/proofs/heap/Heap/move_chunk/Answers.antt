@@ -11,13 +11,13 @@ use Rattle.tagged_heap.proofs.heap.Heap.move_chunk.Goals as goal
 pub copy_payload-requires-clause-apart : goal.copy_payload-requires-clause-apart
 copy_payload-requires-clause-apart c =
     let given = laws.request _ _ _ c.allocate.ensures.sound (sym c.in_ok-given.ensures.slot) in
-    live_apart _ _ _ _ _ c.requires.live.live.1 given.reusable
+    live_apart _ _ _ _ _ c.requires.live.live given.reusable
 
 pub copy_payload-requires-clause-source : goal.copy_payload-requires-clause-source
 copy_payload-requires-clause-source c =
     let room = (c.allocate.ensures.sound.tagged _ c.requires.live.slot).room in
     let live : chunk_granules_of (state_at c.args.self.now.state c.args.chunk.slot) ≡ chunk_granules c.args.chunk.size =
-    ap chunk_granules_of c.requires.live.live.1 in
+    ap chunk_granules_of c.requires.live.live in
     rw (c.in_ok-given.ensures.given, same_slot) (omega (arith, room, live, c.min.ensures))
 
 pub copy_payload-requires-clause-target : goal.copy_payload-requires-clause-target

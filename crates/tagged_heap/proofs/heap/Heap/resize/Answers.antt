@@ -24,14 +24,14 @@ shown : (c : After-resize) →
     ≡ resized (state_of c.self.inside) c.args.chunk.slot c.args.n
 shown c =
     let chunk = rw (← c.self.view_is) at c.requires.live in
-    resized_shown c.self.invariant c.args.chunk.slot c.args.chunk.size chunk.live.0 c.args.n chunk.slot chunk.live.1
+    resized_shown c.self.invariant c.args.chunk.slot c.args.chunk.size c.args.chunk.tag c.args.n chunk.slot chunk.live
     (rw (← c.self.view_is) at c.requires.room) c.resize.new.machine c.resize.ensures.machine c.resize.ensures.memory
 
 pub invariant_of-self : goal.invariant_of-self
 invariant_of-self c =
     let chunk = rw (← c.self.view_is) at c.requires.live in
     rw (shown c)
-    (resized_held c.self.invariant c.args.chunk.slot c.args.chunk.size chunk.live.0 c.args.n chunk.slot chunk.live.1
+    (resized_held c.self.invariant c.args.chunk.slot c.args.chunk.size c.args.chunk.tag c.args.n chunk.slot chunk.live
     (rw (← c.self.view_is) at c.requires.room) c.resize.new.machine c.resize.ensures.machine c.resize.ensures.memory)
 
 pub returns : goal.returns

@@ -1,0 +1,11 @@
+use Rattle.std.proofs.Common.{◌≡◌, ◌-◌, ℕ, slice_index}
+use Rattle.class_fitter.specs.PlaceByPlace.{end_cost}
+use Rattle.tuner_theory.specs.Rows.{IsLeastWithin}
+use Rattle.class_fitter.proofs.place.on_over.Given as goal
+
+abbrev pub invariant-loop-j : goal.invariant-loop-j
+invariant-loop-j l = record {
+  least : (low : ℕ) → IsLeastWithin (end_cost l.costs (slice_index l.before)) low (l.start - 1) l.first
+      → IsLeastWithin (end_cost l.costs (slice_index l.before)) low (l.j - 1) l.end;
+  value : l.least ≡ end_cost l.costs (slice_index l.before) l.end;
+}

@@ -1,0 +1,17 @@
+use Rattle.std.proofs.Common.{◌∙◌, arith}
+use Rattle.raw_region.proofs.Windows.{overlaid_twice}
+use Rattle.raw_region.proofs.Written.{filled_twice}
+use Rattle.raw_region.proofs.short_fill.fill_then_clear.Goals as goal
+
+pub returns-then-bytes-from : goal.returns-then-bytes-from
+returns-then-bytes-from c =
+    overlaid_twice c.args.bytes.now c.put_window.new.bytes c.put_window-then-bytes-from.new.bytes
+    c.put_window-then-bytes-from-2.new.bytes c.window_at-rest.result c.args.from c.args.middle c.args.to c.args.value c.requires.0
+    (omega arith) c.requires.1 (omega arith) (omega arith) c.put_window.ensures c.put_window-then-bytes-from.ensures
+    c.window_at-rest.ensures c.put_window-then-bytes-from-2.ensures
+
+pub returns-then-middle-to : goal.returns-then-middle-to
+returns-then-middle-to c =
+    c.fill_run-then-middle-to.ensures
+    ∙ filled_twice c.args.bytes.now c.fill_run.new.bytes c.args.from c.args.middle c.args.to c.args.value 0 c.requires.0 c.requires.1
+    c.requires.2 c.fill_run.ensures

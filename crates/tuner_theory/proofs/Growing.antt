@@ -1,0 +1,24 @@
+-- Costs of intervals grow with their spans.
+use Rattle.std.proofs.Common.{ℕ, ◌<◌, List, arith}
+use Rattle.class_table.specs.Steps.{IsStep}
+use Rattle.tuner_theory.specs.Footprint.{footprint_between, span_footprint}
+use Rattle.tuner_theory.specs.Growing.{IsGrowing}
+use Rattle.tuner_theory.specs.Histories.{AreSnapshots, peaks}
+use Rattle.tuner_theory.specs.Intervals.{IsIntervalCost, span_cost}
+use Rattle.tuner_theory.specs.Spans.{need_at, places}
+use Rattle.tuner_theory.proofs.Footprint.{footprint-cost}
+use Rattle.tuner_theory.proofs.Needs.{need_at-mono}
+use Rattle.tuner_theory.proofs.Rounding.{step-positive}
+
+pub spans_grow : (counts : List ℕ) (step : ℕ) → 0 < step → (between : ℕ → ℕ → ℕ) → IsIntervalCost counts step between
+    → IsGrowing (span_cost between counts step) (places counts step)
+spans_grow counts step pos between cost a i j b ai ij jb le =
+    cost (need_at counts step i) (need_at counts step j) (need_at counts step a) (need_at counts step b)
+    (need_at-mono counts step pos j b jb le)
+    (λ n counted above within. omega (arith, above, need_at-mono counts step pos a i ai (omega arith)))
+
+pub span_footprints_grow : (snapshots : List (List ℕ)) (step : ℕ) → IsStep step → AreSnapshots snapshots
+    → IsGrowing (span_footprint snapshots step) (places (peaks snapshots) step)
+span_footprints_grow snapshots step is_step are =
+    spans_grow (peaks snapshots) step (step-positive step is_step) (footprint_between snapshots step)
+    (footprint-cost snapshots are step)

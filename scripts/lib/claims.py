@@ -1,0 +1,184 @@
+"""The one home of each sentence that says of a table that it is a best one: that none wastes less, or that this is proved.
+
+No other text that a script, the page, the library or the package prints has the words proved, optimal, best, least or `no table`;
+scripts/tests/claims searches for them, and compares these sentences with all tables of small cases.
+
+A sentence is made from data: what was judged (Judged), and whether a proved program judged it (Trust). All words are in TEMPLATES, a flat
+dictionary from a name to a text with places like {limit}. `templates()` is that dictionary, plain enough for JSON, so that the page's
+script can have the same words. It fills them by these rules, KIND being profile or history:
+
+  {limit}    limit.one where the limit is 1, else limit.many; its {count} is the limit, its {block} is 16 * step
+  {forced}   forced.one where one class is forced, else forced.many; its {classes} are in granules, joined as in "1, 2 and 3"
+  {tables}   tables.own where no class is forced, else tables.forced; its {given} names what the user has
+  {claim}    KIND.claim; its {cost} is the table's waste or footprint on what the user has: "1 byte", "63,311 bytes"
+  says       where `holds`: KIND.says.own, or KIND.says.forced with the {size}s 16 * class - 16, joined and "1,234"
+             a verdict that is no `optimal`: KIND.refused with the {verdict} and its {meaning}, which is refusal.CODE
+             `optimal`, but not `holds`: KIND.other
+  sentence   where `holds` and the program is proved: prefix.proved and says; where it is not: KIND.unproved with {why}; else says
+
+The page prints says. A class is forced by one more request, or one more block at each moment, of 16 * class - 16 bytes: what that class
+holds. Each table that has the class serves the request without waste, and takes one more of its blocks. So the order of the tables that
+have the class stays: a table that is the first of all for what was judged, and has the class, is the first of these for the user's own.
+That needs a class that is a multiple of the step, or no table in question has it."""
+
+from collections import namedtuple
+from collections.abc import Iterable
+
+GRANULE = 16  # bytes
+
+# What `check` or `check-fit` judged. `kind` is profile or history. `verdict` is its answer, of a sheet or fit with this limit, step and
+# classes. `given` names what the user has, and `cost` is the table's waste or footprint on that. `forced` are the classes that one request
+# more, or one block more at each moment, forced into the table: empty where the user's own was judged.
+Judged = namedtuple("Judged", "kind verdict limit step classes given cost forced")
+# Whether the program that judged is a proved one; if not, why nothing is proved.
+Trust = namedtuple("Trust", "is_proved why")
+
+TEMPLATES = {
+    "limit.one": "at most 1 class, a multiple of {block} bytes",
+    "limit.many": "at most {count} classes, all multiples of {block} bytes",
+    "forced.one": "class {classes}",
+    "forced.many": "the classes {classes}",
+    "tables.own": "the tables of {limit}, that serve {given}",
+    "tables.forced": "the tables of {limit}, that serve {given} and have {forced}",
+    "profile.claim": "of {tables}, none wastes less on it than {cost}.",
+    "history.claim": "of {tables}, none takes less over it than {cost}.",
+    "profile.says.own": "`check` says `optimal`, so {claim}",
+    "history.says.own": "`check-fit` says `optimal`, so {claim}",
+    "profile.says.forced": "`check` says `optimal` with a request of {size} bytes added, so {claim}",
+    "history.says.forced": "`check-fit` says `optimal` with a block of {size} bytes added at each moment, so {claim}",
+    "prefix.proved": "Proved: ",
+    "profile.unproved": "Nothing is proved, since {why}. If its `check` is right, {claim}",
+    "history.unproved": "Nothing is proved, since {why}. If its `check-fit` is right, {claim}",
+    # the last line of a script that checks one sheet
+    "answer.proved": "optimal: {claim}",
+    "answer.unproved": "optimal, but nothing is proved, since {why}: {claim}",
+    "profile.refused": "`check` says `{verdict}`: nothing shows that this is a best table for {given}. {meaning}",
+    "history.refused": "`check-fit` says `{verdict}`: nothing shows that this is a best table for {given}. {meaning}",
+    "profile.other": "`check` says `optimal` of another profile, of which nothing follows for {given}.",
+    "history.other": "`check-fit` says `optimal` of another history, of which nothing follows for {given}.",
+    # {sheet}, {counts} and {costs} are sheet, profile and wastes, or fit, history and takes
+    "refusal.39": "A class is no multiple of the {sheet}'s step.",
+    "refusal.40": "The table has more classes than the {sheet}'s limit.",
+    "refusal.41": "A size of the {counts} has no class: the {sheet} is of another {counts}.",
+    "refusal.42": "The table does not waste what the sheet says: the sheet is of another profile, or one of the two was changed.",
+    "refusal.43": "The rows do not fit the {counts}: the {sheet} is of another {counts}, or a part of it is missing.",
+    "refusal.44": "Row 1 claims more than one class {costs}: the {sheet} is of another {counts}, or was changed.",
+    "refusal.45": "A row claims more than the row before it: the {sheet} was changed.",
+    "refusal.46": "A row claims more than the row before it allows: the {sheet} is of another {counts}, or was changed.",
+    "refusal.47": "The rows do not show that no other table {costs} less.",
+    "refusal.49": "The table does not take what the fit says: the fit is of another history, or one of the two was changed.",
+    # of a program that is not known to be proved
+    "program.other": "MTE_TOOL names another program, {path}: nothing is proved of what it answers",
+    "picture.unproved": "not proved: {why}",
+    # what a table is called
+    "profile.table": "the tuned table",
+    "history.table": "the fitted table",
+    # the curve over the number of classes: the rows of a sheet by `tune`, or of a fit by `fit`
+    "profile.curve": "Least waste by the number of classes",
+    "history.curve": "Least footprint by the number of classes",
+    "profile.curve.axis": "least waste, share of requested bytes",
+    "history.curve.axis": "least footprint, bytes",
+    "profile.curve.column": "Least waste, bytes",
+    "history.curve.column": "Least footprint, bytes",
+    "profile.curve.caption": "The line is the least waste on {given} by a table of at most so many classes, all multiples of {block} bytes{with}.",
+    "history.curve.caption": "The line is the least footprint over {given} of a table of at most so many classes, all multiples of {block} "
+    "bytes{with}.",
+    # {with} of these two; empty where no class is forced
+    "curve.with": ", that has {forced}",
+}
+
+
+def templates() -> dict[str, str]:
+    """All words of this module, for JSON."""
+    return dict(TEMPLATES)
+
+
+def byte_text(count: int) -> str:
+    return f"{count:,} byte{'' if count == 1 else 's'}"
+
+
+def class_text(count: int) -> str:
+    return f"{count} class{'' if count == 1 else 'es'}"
+
+
+def limit_words(limit: int, step: int) -> str:
+    return TEMPLATES["limit.one" if limit == 1 else "limit.many"].format(count=limit, block=GRANULE * step)
+
+
+def listed(words: Iterable) -> str:
+    """1, 2 and 3."""
+    *before, last = map(str, words)
+    return f"{', '.join(before)} and {last}" if before else last
+
+
+def forced_words(forced: Iterable[int]) -> str:
+    classes = list(forced)
+    return TEMPLATES["forced.one" if len(classes) == 1 else "forced.many"].format(classes=listed(classes))
+
+
+def holds(judged: Judged) -> bool:
+    """Whether the claim follows: the table is the first of all for what was judged, and has each class that was forced."""
+    return judged.verdict == "optimal" and all(each in judged.classes and each % judged.step == 0 for each in judged.forced)
+
+
+def claim(judged: Judged) -> str:
+    """The claim alone: among which tables none costs less than this one, and what it costs. Only where it holds."""
+    limit = limit_words(judged.limit, judged.step)
+    if judged.forced:
+        tables = TEMPLATES["tables.forced"].format(limit=limit, given=judged.given, forced=forced_words(judged.forced))
+    else:
+        tables = TEMPLATES["tables.own"].format(limit=limit, given=judged.given)
+    return TEMPLATES[f"{judged.kind}.claim"].format(tables=tables, cost=byte_text(judged.cost))
+
+
+def refusal(judged: Judged) -> str:
+    """What the refusal of a sheet or a fit means, in a sentence; empty for an answer that is none."""
+    words = judged.verdict.split(" ")
+    name = f"refusal.{words[1]}" if len(words) == 3 and words[0] == "refused" else ""
+    terms = ("fit", "history", "takes") if judged.kind == "history" else ("sheet", "profile", "wastes")
+    return TEMPLATES.get(name, "").format(**dict(zip(("sheet", "counts", "costs"), terms)))
+
+
+def says(judged: Judged) -> str:
+    """What the verdict means, whoever gave it."""
+    if not holds(judged):
+        name = "other" if judged.verdict == "optimal" else "refused"
+        words = TEMPLATES[f"{judged.kind}.{name}"].format(verdict=judged.verdict, given=judged.given, meaning=refusal(judged))
+        return words.rstrip()
+    size = listed(f"{GRANULE * each - GRANULE:,}" for each in judged.forced) if judged.forced else ""
+    return TEMPLATES[f"{judged.kind}.says.{'forced' if judged.forced else 'own'}"].format(size=size, claim=claim(judged))
+
+
+def sentence(judged: Judged, trust: Trust) -> str:
+    """What is known of the table, for a summary or a page."""
+    if not holds(judged):
+        return says(judged)
+    if trust.is_proved:
+        return TEMPLATES["prefix.proved"] + says(judged)
+    return TEMPLATES[f"{judged.kind}.unproved"].format(why=trust.why, claim=claim(judged))
+
+
+def answer(judged: Judged, trust: Trust) -> str:
+    """The last line of a script that checks one sheet, where the claim holds."""
+    return TEMPLATES["answer.proved" if trust.is_proved else "answer.unproved"].format(why=trust.why, claim=claim(judged))
+
+
+def not_proved(trust: Trust) -> str:
+    """The note in a picture of what such a program computed."""
+    return TEMPLATES["picture.unproved"].format(why=trust.why)
+
+
+def another_program(path: str) -> str:
+    """What is said before a program that MTE_TOOL names is run."""
+    return TEMPLATES["program.other"].format(path=path)
+
+
+def name(kind: str) -> str:
+    """What the table for a profile, or for a history, is called among others."""
+    return TEMPLATES[f"{kind}.table"]
+
+
+def curve_caption(kind: str, step: int, given: str, forced: Iterable[int]) -> str:
+    """What the line over the numbers of classes shows."""
+    among = TEMPLATES["curve.with"].format(forced=forced_words(forced)) if forced else ""
+    return TEMPLATES[f"{kind}.curve.caption"].format(given=given, block=GRANULE * step, **{"with": among})

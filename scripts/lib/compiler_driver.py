@@ -1,0 +1,135 @@
+"""The compiler drivers traced_cc and traced_c++: gcc or clang with the flags that show each load and store to a runtime, and with the
+runtime."""
+
+import glob
+import hashlib
+import os
+import platform
+import shutil
+import subprocess
+
+import private_folder
+import programs
+import texts
+from running import Refused
+
+HELP = """\
+Compile a C program so that scripts/find_faults can show its memory errors; traced_c++ compiles C++.
+
+Usage: traced_cc WORDS..    the words are those of gcc and clang; it also works as CC of make, cmake and configure
+
+It adds -g, frame pointers, a check before each load and store (-fsanitize=kernel-address), and a runtime as a shared library, which
+stands in ~/.cache/mte_tool (or under XDG_CACHE_HOME). There it has to stay, and nobody else may be able to change it. The program
+runs as before, some times slower. Compile the program itself and those of its libraries that are to be seen. It can't be static,
+nor can another sanitizer of addresses be asked for.
+
+  TRACED_CC    the C compiler, else gcc, or clang where there is no gcc; it builds the runtime, too
+  TRACED_CXX   the C++ compiler, else g++, or clang++
+
+Exit status: the compiler's; 3 if there is no compiler, the runtime could not be built or has no such place, or this help could
+not be written.
+
+Example:
+  traced_cc -g use.c -o use && find_faults ./use
+"""
+
+SHIMS = os.path.join(texts.SCRIPTS, "shims")
+SOURCES = [os.path.join(SHIMS, "accesses", name) for name in ("accesses.h", "blocks.c", "hooks.c", "libc.c", "log.c", "shadow.c")]
+HEADERS = sorted(glob.glob(os.path.join(SHIMS, "*.h")))
+RUNTIME = "libmte_accesses.so"
+RUNTIME_FLAGS = "-O2 -g -Wall -fPIC -shared -fvisibility=hidden -fno-builtin -fomit-frame-pointer".split() + [f"-Wl,-soname,{RUNTIME}"]
+TRACED_FLAGS = "-g -fno-omit-frame-pointer -fno-optimize-sibling-calls -fno-plt -fsanitize=kernel-address -U_FORTIFY_SOURCE".split()
+WITHOUT_LINK = ("-c", "-S", "-E", "-M", "-MM", "-r", "-v", "-V", "--version", "-fsyntax-only")
+PLACE = "set XDG_CACHE_HOME to a folder that only you can change"
+IS_X86 = platform.machine() == "x86_64"
+OFFSET = "0x7fff8000"  # of the shadow: accesses.h
+
+
+def found(variable: str, *names: str) -> str:
+    """The compiler that a variable names, or the first of these that is there."""
+    wanted = os.environ.get(variable)
+    path = shutil.which(wanted) and wanted if wanted else next(filter(None, map(shutil.which, names)), None)
+    if not path:
+        raise Refused(3, f"there is no {wanted or 'compiler'}: install gcc or clang, or set TRACED_CC and TRACED_CXX")
+    return path
+
+
+def is_clang(compiler: str) -> bool:
+    done = subprocess.run([compiler, "--version"], stdin=subprocess.DEVNULL, stdout=subprocess.PIPE, stderr=subprocess.DEVNULL)
+    return b"clang" in done.stdout
+
+
+def sources_sum() -> str:
+    whole = hashlib.sha256(" ".join(RUNTIME_FLAGS).encode())
+    for path in (*SOURCES, *HEADERS):
+        whole.update(texts.read(path))
+    return whole.hexdigest()[:16]
+
+
+def runtime(plain: str) -> str:
+    """The path of the runtime, built once for each version of its sources."""
+    try:
+        place = private_folder.cache(f"accesses-{sources_sum()}")
+    except Refused as refused:
+        raise Refused(3, f"the runtime has no place: {refused.text}: {PLACE}") from None
+    with place:
+        # it goes into the program as its rpath, by a list that has commas
+        if any(c in place.path for c in ":,$"):
+            raise Refused(3, f"the loader takes no path with a colon, a comma or a dollar sign, as in {place.path}: {PLACE}")
+        if not place.has(RUNTIME):
+            try:
+                with place.new_file(RUNTIME) as new:
+                    build(plain, new)
+            except OSError as error:
+                raise Refused(3, f"{place.path} can't be written: {error.strerror}: {PLACE}") from None
+        return place.file(RUNTIME)
+
+
+def build(plain: str, to: str) -> None:
+    # else a loop over bytes calls memset, which is the program's
+    own = [] if is_clang(plain) else ["-fno-tree-loop-distribute-patterns"]
+    words = [plain, *RUNTIME_FLAGS, *own, *(path for path in SOURCES if path.endswith(".c")), "-o", to, "-ldl", "-pthread"]
+    with private_folder.temporary() as folder:
+        done = subprocess.run(words, stdin=subprocess.DEVNULL, stdout=2, env={**os.environ, "TMPDIR": folder})
+    if done.returncode:
+        raise Refused(3, f"the runtime could not be compiled: it needs glibc, and room in {os.path.dirname(to)}")
+
+
+def traced_flags(compiler: str) -> list:
+    """On x86-64 the compiler's own check reads the shadow, whose place accesses.h says, and calls the runtime where that is closed."""
+    threshold = 1_000_000_000 if IS_X86 else 0
+    if is_clang(compiler):
+        # The experiment gives what clang's check calls other names than what gcc's does, since its arguments mean something else.
+        internal = [f"-asan-mapping-offset={OFFSET}", "-asan-force-experiment=1"] if IS_X86 else []
+        internal += [f"-asan-instrumentation-with-call-threshold={threshold}", "-asan-stack=0", "-asan-globals=0"]
+        return [*TRACED_FLAGS, *(word for flag in internal for word in ("-mllvm", flag)), "-Qunused-arguments"]
+    # Of a struct gcc looks at the first and the last byte, so a large one is copied by memcpy.
+    flags = [f"-fasan-shadow-offset={OFFSET}", "-mmemcpy-strategy=libcall:-1:noalign"] if IS_X86 else []
+    parameters = (f"asan-instrumentation-with-call-threshold={threshold}", "asan-stack=0", "asan-globals=0")
+    return [*TRACED_FLAGS, *flags, *(word for parameter in parameters for word in ("--param", parameter))]
+
+
+def links(words: list) -> bool:
+    return bool(words) and not any(word in WITHOUT_LINK or word.startswith(("-dump", "-print", "-q")) for word in words)
+
+
+def drive_c(words: list) -> None:
+    drive(words, is_for_cxx=False)
+
+
+def drive_cxx(words: list) -> None:
+    drive(words, is_for_cxx=True)
+
+
+def drive(words: list, is_for_cxx: bool) -> None:
+    if words == ["--help"]:
+        return texts.write_help(HELP)
+    plain = found("TRACED_CC", "gcc", "clang")
+    compiler = found("TRACED_CXX", "g++", "clang++") if is_for_cxx else plain
+    library = runtime(plain)
+    # the runtime comes before libc, so that its malloc is the program's
+    link = ["-Wl,--push-state,--no-as-needed", library, "-Wl,--pop-state", f"-Wl,-rpath,{os.path.dirname(library)}"] if links(words) else []
+    try:
+        programs.take_place([compiler, *link, *words, *traced_flags(compiler)])
+    except OSError as error:
+        raise Refused(3, f"{compiler} can't be run: {error.strerror}") from None

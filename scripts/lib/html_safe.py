@@ -1,0 +1,61 @@
+"""What makes a page in HTML keep to itself: data that ends no element, and a policy by which the browser runs only the page's own scripts and
+styles, and lets nothing out."""
+
+import base64
+import hashlib
+import json
+import re
+
+HEAD = '<meta charset="utf-8">\n'
+INLINE = re.compile(r"<(script|style)>(.*?)</\1>", re.DOTALL)
+# none of these may stand in a script: they end it, or begin what hides its end
+ENDS = re.compile(r"<!--|<script|</script", re.IGNORECASE)
+
+
+def shown(text: str) -> str:
+    """A text from outside. Characters that are no text, as a file's name may have them, are shown escaped, and raw bytes by their number."""
+    return "".join(c if c.isprintable() else escape_of(c) for c in str(text))
+
+
+def escape_of(character: str) -> str:
+    if "\udc80" <= character <= "\udcff":
+        return f"\\x{ord(character) - 0xDC00:02x}"
+    return character.encode("unicode_escape").decode()
+
+
+def data(value: object) -> str:
+    """A value in JSON for an element of the page: no text in it begins a tag or a comment."""
+    return json.dumps(value, ensure_ascii=True).replace("<", "\\u003c")
+
+
+def code(source: str) -> str:
+    """JavaScript for an element of the page. `</` stands there in strings alone, in which the backslash means nothing."""
+    text = source.replace("</", "<\\/")
+    if found := ENDS.search(text):
+        raise ValueError(f"a script of the page has {found[0]}")
+    return text
+
+
+def digest(text: str) -> str:
+    return f"'sha256-{base64.b64encode(hashlib.sha256(text.encode()).digest()).decode()}'"
+
+
+def policy(page: str, allowed: "dict[str, str] | None" = None) -> str:
+    """The Content-Security-Policy of a page: its inline scripts and styles by their digests, and nothing else but what is ALLOWED, sources
+    by the name of their directive."""
+    inline = {"script": [], "style": []}
+    for kind, text in INLINE.findall(page):
+        inline[kind].append(digest(text))
+    rules = {"default-src": ["'none'"], "script-src": inline["script"], "style-src": inline["style"], "connect-src": ["'none'"]}
+    rules.update({name: ["'none'"] for name in ("base-uri", "form-action")})
+    for name, sources in (allowed or {}).items():
+        rules[name] = [*rules.get(name, []), sources]
+    return "; ".join(" ".join([name, *(sources or ["'none'"])]) for name, sources in rules.items())
+
+
+def with_policy(page: str, allowed: "dict[str, str] | None" = None) -> str:
+    """The page with its policy, which stands before all that it speaks of."""
+    before, mark, after = page.partition(HEAD)
+    if not mark:
+        raise ValueError(f"the page has no line {HEAD.strip()}")
+    return f'{before}{mark}<meta http-equiv="Content-Security-Policy" content="{policy(page, allowed)}">\n{after}'

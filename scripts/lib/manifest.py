@@ -1,0 +1,123 @@
+"""The manifest of the built program: a small text beside it, that says of which sources and by which kit it was proved and built.
+
+    program SHA-256 of the program
+    sources SHA-256 of the list of the sources' SHA-256s
+    kit what `rt version` prints
+    proofs proved, or unproved
+
+The list is what this prints, in the repository's folder:
+
+    find crates.txt crates/*/src crates/*/specs crates/*/proofs -type f | LC_ALL=C sort | xargs sha256sum
+
+scripts/mte_tool writes the manifest after a build, and compares the program with it each time; it calls this module by itself:
+
+    manifest.py sources FOLDER                   prints the hash of the sources of the repository in FOLDER
+    manifest.py write FOLDER PROGRAM SOURCES     writes the manifest of a program that was just proved and built of sources with the hash
+                                                 SOURCES; where they have another one now, it says so in place of that"""
+
+import os
+import sys
+
+sys.dont_write_bytecode = True
+import running  # noqa: E402
+
+import hashlib  # noqa: E402
+import re  # noqa: E402
+import subprocess  # noqa: E402
+from collections import namedtuple  # noqa: E402
+
+Manifest = namedtuple("Manifest", "program sources kit proofs")
+LINES = re.compile(r"program ([0-9a-f]{64})\nsources ([0-9a-f]{64})\nkit ([^\n]{1,200})\nproofs (proved|unproved)\n")
+
+
+def path_of(program: str) -> str:
+    return f"{program}.manifest"
+
+
+def text_of(manifest: Manifest) -> str:
+    return "".join(f"{name} {value}\n" for name, value in manifest._asdict().items())
+
+
+def read(program: str) -> "Manifest | None":
+    """The manifest beside a program, if there is a whole one."""
+    try:
+        with open(path_of(program), encoding="ascii") as file:
+            found = LINES.fullmatch(file.read(1000))
+    except (OSError, UnicodeDecodeError):
+        return None
+    return Manifest(*found.groups()) if found else None
+
+
+def hash_of(path: "str | bytes") -> str:
+    with open(path, "rb") as file:
+        return hashlib.sha256(file.read()).hexdigest()
+
+
+def files_below(folder: bytes) -> list[bytes]:
+    """The paths of all files below a folder, where there is one."""
+    found = []
+    try:
+        with os.scandir(folder) as entries:
+            for entry in entries:
+                found += files_below(entry.path) if entry.is_dir(follow_symlinks=False) else [entry.path]
+    except (FileNotFoundError, NotADirectoryError):
+        pass
+    return found
+
+
+def sources_of(root: str) -> str:
+    """The hash of the sources of the repository in this folder."""
+    top = os.path.join(os.fsencode(root), b"")
+    files = [top + b"crates.txt"]
+    for crate in os.listdir(top + b"crates"):
+        for part in (b"src", b"specs", b"proofs"):
+            files += files_below(os.path.join(top, b"crates", crate, part))
+    listed = hashlib.sha256()
+    for path in sorted(files):
+        listed.update(f"{hash_of(path)}  ".encode() + path[len(top) :] + b"\n")
+    return listed.hexdigest()
+
+
+def write(root: str, program: str, before: str) -> None:
+    sources = sources_of(root)
+    if sources != before:
+        running.say("mte_tool", "the sources were changed while the program was built: nothing is proved of what it answers")
+        return
+    kit = subprocess.run(["rt", "version"], stdout=subprocess.PIPE, check=True, text=True).stdout.split("\n")[0]
+    place = path_of(program)
+    with open(f"{place}.new", "w", encoding="ascii") as file:
+        file.write(text_of(Manifest(hash_of(program), sources, kit, "proved")))
+    os.replace(f"{place}.new", place)
+
+
+def why_unproved(program: str, root: "str | None") -> str:
+    """Why this program is not known to be proved, or an empty text. ROOT is the repository of its sources, where there is one."""
+    manifest = read(program)
+    if manifest is None:
+        return "the program has no manifest"
+    try:
+        if hash_of(program) != manifest.program:
+            return "the program is not the one of its manifest"
+        if manifest.proofs != "proved":
+            return "its manifest says that the program was not proved"
+        if root is not None and sources_of(root) != manifest.sources:
+            return "the sources are not those of the program's manifest"
+    except OSError as error:
+        return f"a file can't be read that its manifest is of: {error.strerror}"
+    return ""
+
+
+def main(words: list[str]) -> None:
+    try:
+        if words[:1] == ["sources"] and len(words) == 2:
+            print(sources_of(words[1]))
+        elif words[:1] == ["write"] and len(words) == 4:
+            write(*words[1:])
+        else:
+            raise running.Refused(2, "it is `manifest.py sources FOLDER`, or `manifest.py write FOLDER PROGRAM SOURCES`")
+    except (OSError, subprocess.CalledProcessError) as error:
+        raise running.Refused(3, f"the manifest can't be made: {error}") from None
+
+
+if __name__ == "__main__":
+    running.run("manifest", main)

@@ -1,0 +1,325 @@
+"""Folders that no other user can change: the temporary folder of a run, and the cache of compiled libraries.
+
+A name is safe once nobody else can change where it leads. So each folder from / on is opened by a descriptor, without following a link, and
+tested: it is the user's or root's, and others may not write to it unless it has the sticky bit, as /tmp has. A link on the way has to be
+the user's or root's too, and is followed by the same steps. Only then is anything made. shims/private_folder.h does the same in C.
+
+    with private_folder.temporary() as folder: ..        # its path; it is removed at the end, by descriptors
+
+A shell script calls it:
+
+    work=$(python3 -B private_folder.py make NAME) || exit 3       # NAME is the script's own
+    python3 -B private_folder.py remove NAME "$work"
+"""
+
+import os
+import sys
+
+sys.dont_write_bytecode = True
+sys.path.insert(0, os.path.dirname(os.path.realpath(__file__)))
+import running  # noqa: E402
+
+import contextlib  # noqa: E402
+import errno  # noqa: E402
+import stat  # noqa: E402
+
+from running import Refused  # noqa: E402
+
+MOST_LINKS = 40
+LOOK = os.O_PATH | os.O_NOFOLLOW | os.O_CLOEXEC
+LIST = os.O_RDONLY | os.O_DIRECTORY | os.O_NOFOLLOW | os.O_CLOEXEC
+
+
+class NotPrivate(Exception):
+    """Others can change what is at this path."""
+
+    def __init__(self, path: str):
+        super().__init__(f"others can change {path}")
+        self.path = path
+
+
+def is_owned(status: os.stat_result) -> bool:
+    return status.st_uid in (0, os.geteuid())
+
+
+def is_written_by_others(status: os.stat_result) -> bool:
+    return bool(status.st_mode & 0o022)
+
+
+class Place:
+    """A folder that is open, and its path without links."""
+
+    def __init__(self, descriptor: int, path: str):
+        self.descriptor = descriptor
+        self.path = path
+
+    def close(self) -> None:
+        os.close(self.descriptor)
+
+    def __enter__(self) -> "Place":
+        return self
+
+    def __exit__(self, *_) -> None:
+        self.close()
+
+    def file(self, name: str) -> str:
+        return os.path.join(self.path, name)
+
+    def is_closed(self) -> bool:
+        """Whether others can't put files into it either."""
+        return not is_written_by_others(os.fstat(self.descriptor))
+
+    def has(self, name: str) -> bool:
+        """Whether it has a file of this name that nobody else can change; the folder itself is closed."""
+        try:
+            status = os.stat(name, dir_fd=self.descriptor, follow_symlinks=False)
+        except OSError:
+            return False
+        return stat.S_ISREG(status.st_mode) and is_owned(status) and not is_written_by_others(status)
+
+    def fill(self, folder: str) -> None:
+        """Copies the files of another folder into it. None may have a name that is taken."""
+        def new(name, flags):
+            return os.open(name, flags | os.O_NOFOLLOW | os.O_CLOEXEC, 0o644, dir_fd=self.descriptor)
+
+        for name in os.listdir(folder):
+            with open(os.path.join(folder, name), "rb") as source, open(name, "xb", opener=new) as copy:
+                while piece := source.read(1 << 20):
+                    copy.write(piece)
+
+    @contextlib.contextmanager
+    def new_file(self, name: str, mode: int = 0o755):
+        """The path of a new and empty file. It takes the name at the end, or is removed after an exception."""
+        new = f"new.{os.urandom(8).hex()}"
+        os.close(os.open(new, os.O_WRONLY | os.O_CREAT | os.O_EXCL | os.O_NOFOLLOW | os.O_CLOEXEC, 0o600, dir_fd=self.descriptor))
+        try:
+            yield self.file(new)
+            os.chmod(new, mode, dir_fd=self.descriptor)
+            os.rename(new, name, src_dir_fd=self.descriptor, dst_dir_fd=self.descriptor)
+        except BaseException:
+            with contextlib.suppress(OSError):
+                os.unlink(new, dir_fd=self.descriptor)
+            raise
+
+
+def opened(path: str, make: bool = False) -> Place:
+    """The folder of this path, once each folder and link on the way is tested. With `make`, a folder that is missing is made, for the user
+    alone. Raises NotPrivate, or OSError if there is no such folder."""
+    waiting = (path if path.startswith("/") else f"{os.getcwd()}/{path}").split("/")[::-1]
+    place = tested(os.open("/", LOOK), "/")
+    links = 0
+    while waiting:
+        name = waiting.pop()
+        if name in ("", "."):
+            continue
+        with place:
+            at = os.path.dirname(place.path) if name == ".." else place.file(name)
+            step = tested(entry(place, name, make), at)
+            if is_link(step):
+                links += 1
+                with step:
+                    target = os.readlink("", dir_fd=step.descriptor)
+                if links > MOST_LINKS:
+                    raise OSError(errno.ELOOP, os.strerror(errno.ELOOP), path)
+                waiting += target.split("/")[::-1]
+                step = tested(os.open("/", LOOK), "/") if target.startswith("/") else Place(os.dup(place.descriptor), place.path)
+        place = step
+    return place
+
+
+def entry(place: Place, name: str, make: bool) -> int:
+    try:
+        return os.open(name, LOOK, dir_fd=place.descriptor)
+    except FileNotFoundError:
+        if not make:
+            raise
+        with contextlib.suppress(FileExistsError):  # another run makes it too
+            make_folder(place, name)
+        return os.open(name, LOOK, dir_fd=place.descriptor)
+
+
+def make_folder(place: Place, name: str) -> None:
+    mask = os.umask(0o077)
+    try:
+        os.mkdir(name, 0o700, dir_fd=place.descriptor)
+    finally:
+        os.umask(mask)
+
+
+def is_link(step: Place) -> bool:
+    return stat.S_ISLNK(os.fstat(step.descriptor).st_mode)
+
+
+def tested(descriptor: int, path: str) -> Place:
+    """What is open, if it is a folder or a link that nobody else can move or replace."""
+    status = os.fstat(descriptor)
+    is_folder = stat.S_ISDIR(status.st_mode)
+    if not is_owned(status) or (is_folder and is_written_by_others(status) and not status.st_mode & stat.S_ISVTX):
+        os.close(descriptor)
+        raise NotPrivate(path)
+    if not is_folder and not stat.S_ISLNK(status.st_mode):
+        os.close(descriptor)
+        raise NotADirectoryError(errno.ENOTDIR, os.strerror(errno.ENOTDIR), path)
+    return Place(descriptor, path)
+
+
+def closed(path: str, make: bool = False) -> Place:
+    """The same, and others can't put files into the folder: what it has is the user's or root's."""
+    place = opened(path, make)
+    if not place.is_closed():
+        place.close()
+        raise NotPrivate(place.path)
+    return place
+
+
+def output(path: str) -> Place:
+    """A folder that a script is to fill, made if it is missing. It may be in a place that others can change: what stands there is written to
+    by the descriptor alone. Raises NotPrivate if it is another user's."""
+    above, name = os.path.split(os.path.abspath(path))
+    os.makedirs(above, exist_ok=True)
+    with Place(os.open(above, os.O_PATH | os.O_DIRECTORY | os.O_CLOEXEC), above) as place:
+        with contextlib.suppress(FileExistsError):
+            os.mkdir(name, 0o755, dir_fd=place.descriptor)
+        made = Place(os.open(name, LIST, dir_fd=place.descriptor), path)
+    if not is_owned(os.fstat(made.descriptor)):
+        made.close()
+        raise NotPrivate(path)
+    return made
+
+
+def is_safe(path: str) -> bool:
+    """Whether nobody else can change where this folder is."""
+    try:
+        opened(path).close()
+    except (NotPrivate, OSError):
+        return False
+    return True
+
+
+def cache(*names: str) -> Place:
+    """The folder of compiled libraries, or the one of these names below it. Refuses with the reason if nobody but others has it."""
+    base = os.environ.get("XDG_CACHE_HOME", "")
+    if not base.startswith("/"):
+        home = os.environ.get("HOME", "")
+        if not home.startswith("/"):
+            raise Refused(3, f"HOME is {'no absolute path' if home else 'not set'}")
+        base = os.path.join(home, ".cache")
+    path = os.path.join(base, "mte_tool", *names)
+    try:
+        return closed(path, make=True)
+    except NotPrivate as found:
+        raise Refused(3, str(found)) from None
+    except OSError as error:
+        raise Refused(3, f"{path} can't be made: {error.strerror}") from None
+
+
+def look_at(path: str, flags: int) -> int:
+    """An opener of `open` that waits for no pipe and follows no link in the place of the file."""
+    return os.open(path, flags | os.O_NOFOLLOW | os.O_NONBLOCK | os.O_CLOEXEC)
+
+
+class Folder:
+    """A new folder of the user's alone. `remove` removes what is in it and then itself, by descriptors, unless `keep` is set."""
+
+    def __init__(self, place: Place, name: str):
+        self.place, self.name, self.keep = place, name, False
+        self.path = place.file(name)
+        self.descriptor = os.open(name, LIST, dir_fd=place.descriptor)
+        status = os.fstat(self.descriptor)
+        if status.st_uid != os.geteuid() or status.st_mode & 0o077:
+            os.close(self.descriptor)
+            raise NotPrivate(self.path)
+
+    def __enter__(self) -> "Folder":
+        return self
+
+    def __exit__(self, *_) -> None:
+        self.remove()
+
+    def file(self, name: str) -> str:
+        return os.path.join(self.path, name)
+
+    def remove(self) -> None:
+        if not self.keep:
+            with contextlib.suppress(OSError):
+                empty(self.descriptor)
+                if self.is_here():
+                    os.rmdir(self.name, dir_fd=self.place.descriptor)
+        os.close(self.descriptor)
+        self.place.close()
+
+    def is_here(self) -> bool:
+        """Whether the name is still that of the folder."""
+        named = os.stat(self.name, dir_fd=self.place.descriptor, follow_symlinks=False)
+        return os.path.samestat(named, os.fstat(self.descriptor))
+
+
+def empty(descriptor: int) -> None:
+    """Removes all that is in an open folder. What is mounted there stays, and so does what can't be removed."""
+    device = os.fstat(descriptor).st_dev
+    for name in os.listdir(descriptor):
+        with contextlib.suppress(OSError):
+            if not stat.S_ISDIR(os.stat(name, dir_fd=descriptor, follow_symlinks=False).st_mode):
+                os.unlink(name, dir_fd=descriptor)
+                continue
+            below = os.open(name, LIST, dir_fd=descriptor)
+            try:
+                if os.fstat(below).st_dev == device:
+                    empty(below)
+            finally:
+                os.close(below)
+            os.rmdir(name, dir_fd=descriptor)
+
+
+def new_folder(place: Place, prefix: str = "mte_tool.") -> Folder:
+    """A new folder in a place that was tested."""
+    while True:
+        name = prefix + os.urandom(8).hex()
+        with contextlib.suppress(FileExistsError):
+            make_folder(place, name)
+            return Folder(place, name)
+
+
+def temporary_folder() -> Folder:
+    """A new folder in TMPDIR, or in /tmp if TMPDIR is missing or can't be written. A TMPDIR that others can change is refused."""
+    wanted = os.environ.get("TMPDIR") or "/tmp"
+    reason = ""
+    for where in dict.fromkeys((wanted, "/tmp")):
+        try:
+            return new_folder(opened(where))
+        except NotPrivate as found:
+            raise Refused(3, f"no folder can be made in {where} that only you can change, since {found}: set TMPDIR to another place") from None
+        except OSError as error:
+            reason = reason or error.strerror
+    raise Refused(3, f"no folder can be made in {wanted}: {reason}: set TMPDIR to another place")
+
+
+@contextlib.contextmanager
+def temporary():
+    """The path of such a folder, which is removed at the end."""
+    with temporary_folder() as folder:
+        yield folder.path
+
+
+def remove_named(path: str) -> None:
+    """Removes a folder that `make` printed."""
+    above, name = os.path.split(path)
+    try:
+        Folder(opened(above), name).remove()
+    except (NotPrivate, OSError) as error:
+        raise Refused(3, f"{path} can't be removed: {error}") from None
+
+
+def from_shell(words: list) -> None:
+    if words[:1] == ["make"] and len(words) == 2:
+        folder = temporary_folder()
+        folder.keep = True
+        print(folder.path)
+    elif words[:1] == ["remove"] and len(words) == 3:
+        remove_named(words[2])
+    else:
+        raise Refused(2, "it is `make NAME` or `remove NAME FOLDER`")
+
+
+if __name__ == "__main__":
+    running.run(sys.argv[2] if len(sys.argv) > 2 else "private_folder", from_shell)

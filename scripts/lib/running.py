@@ -1,0 +1,131 @@
+"""How each Python script begins and ends. A script imports this before all but os and sys:
+
+    sys.dont_write_bytecode = True
+    sys.path.insert(0, os.path.join(os.path.dirname(os.path.realpath(__file__)), "lib"))
+    import running
+
+    def merge(words): ..                     # raises texts.Refused(2, "what is wrong, and how to mend it")
+    running.run("merge_profiles", merge)
+
+From the import on, Ctrl-C ends the script quietly with status 130, as SIGTERM and SIGHUP do with 143 and 129; and what nobody foresaw ends it with status 3 and one line on standard
+error: no traceback, and no status 1, which means something else in most scripts. Nothing changes for a test that imports this."""
+
+import _signal  # the module signal alone takes longer to import than this one
+import os
+import sys
+
+FAILED, INTERRUPTED = 3, 130
+ENDING = (_signal.SIGTERM, _signal.SIGHUP)
+HERE = os.path.dirname(os.path.realpath(__file__))
+
+
+class Refused(Exception):
+    """Ends a script with this status and this line on standard error: 2 refuses words or input, 3 is a failure."""
+
+    def __init__(self, status: int, text: str):
+        super().__init__(text)
+        self.status = status
+        self.text = text
+
+
+def printable(text: str) -> str:
+    """A text that may come from outside, with those characters escaped that move the cursor, or that are half of one."""
+    return "".join(c if c.isprintable() else c.encode("unicode_escape", "surrogatepass").decode() for c in text.replace("\t", " "))
+
+
+def say(name: str, text: str) -> None:
+    """A line on standard error; texts.say where it is loaded, which knows what scripts are called."""
+    if "texts" in sys.modules and hasattr(sys.modules["texts"], "say"):
+        sys.modules["texts"].say(name, text)
+    elif sys.stderr is not None:
+        try:
+            print(f"{name}: {printable(text)}", file=sys.stderr, flush=True)
+        except OSError:
+            pass  # there is nowhere left to say it
+
+
+def fail(name: str, error: BaseException) -> int:
+    """Says in a line what nobody foresaw, and where; the status."""
+    if isinstance(error, BrokenPipeError):
+        say(name, "standard output can't be written: Broken pipe")
+    elif isinstance(error, MemoryError):
+        say(name, "there is not enough memory for this input")
+    else:
+        place = error.__traceback__
+        while place and place.tb_next:
+            place = place.tb_next
+        where = f" ({os.path.basename(place.tb_frame.f_code.co_filename)}:{place.tb_lineno})" if place else ""
+        what = " ".join(f"{type(error).__name__}: {error}".split())[:300]
+        say(name, f"this was not foreseen, please report it: {what}{where}")
+    return FAILED
+
+
+def end(name: str, status: int) -> None:
+    """Ends the process. Python's own end would write what is still to be printed, and speak of an output that fails."""
+    for stream in (sys.stdout, sys.stderr):
+        try:
+            if stream is not None:
+                stream.flush()
+        except OSError as error:
+            if stream is sys.stdout:
+                say(name, f"standard output can't be written: {error.strerror}")
+                status = status or FAILED
+            os.dup2(os.open(os.devnull, os.O_WRONLY), stream.fileno())
+    sys.exit(status)
+
+
+def run(name: str, main, prints: bool = True) -> None:
+    """Ends the process with what main(words) returns as the status, None for 0, or as it is refused. A script that PRINTS wants standard
+    output."""
+    # what main has made is removed on its way out
+    if _signal.getsignal(_signal.SIGINT) is quit_quietly:
+        _signal.signal(_signal.SIGINT, _signal.default_int_handler)
+    ending = [each for each in ENDING if _signal.getsignal(each) == _signal.SIG_DFL]
+    for each in ending:
+        _signal.signal(each, leave)
+    try:
+        if prints and sys.stdout is None:
+            raise Refused(FAILED, "standard output is closed")
+        status = main(sys.argv[1:]) or 0
+    except Refused as refused:
+        say(name, refused.text)
+        status = refused.status
+    except KeyboardInterrupt:
+        status = INTERRUPTED
+    except SystemExit as asked:
+        status = asked.code or 0
+    except Exception as error:
+        status = fail(name, error)
+    for each in ending:
+        _signal.signal(each, _signal.SIG_DFL)
+    begin()
+    end(name, status)
+
+
+def leave(number, frame) -> None:
+    sys.exit(128 + number)
+
+
+def quit_quietly(number, frame) -> None:
+    os._exit(INTERRUPTED)
+
+
+def unforeseen(kind, error, trace) -> None:
+    """In place of a traceback while modules are imported."""
+    os._exit(INTERRUPTED if kind is KeyboardInterrupt else fail(os.path.basename(sys.argv[0]), error))
+
+
+def begin() -> None:
+    if _signal.getsignal(_signal.SIGINT) is _signal.default_int_handler:  # and not ignored, as `nohup` and `&` may leave it
+        _signal.signal(_signal.SIGINT, quit_quietly)
+    sys.excepthook = unforeseen
+
+
+def is_run() -> bool:
+    """Whether the process runs a script of this folder or of the one above, and no test."""
+    place = os.path.dirname(os.path.realpath(getattr(sys.modules["__main__"], "__file__", None) or os.devnull))
+    return place in (HERE, os.path.dirname(HERE))
+
+
+if is_run():
+    begin()

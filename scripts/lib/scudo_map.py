@@ -1,0 +1,150 @@
+"""The C++ of a class table for LLVM's Scudo: the one text of it, which scripts/scudo_classes prints and the page fills in."""
+
+import textwrap
+
+from texts import LARGEST_CLASS, Refused
+
+GRANULE = 16  # bytes
+NO_CLASS = f"the table has no class below {LARGEST_CLASS}: was the profile, or the history, empty?"
+# of a table without class 1024: {size} is the largest size that it serves
+NEXT_OWN = "No class is tuned above {size} bytes: larger sizes, up to 16,384 bytes, get Scudo's own class of 16,400 bytes."
+
+MAP = """\
+// A table of COUNT tuned classes, in granules of 16 bytes, and Scudo's own from 16 to 128 KiB.
+NOTESstruct TunedClasses : DefaultSizeClassConfig {
+  static constexpr u16 Granules[] = {
+GRANULES
+      1025, 1281, 1537, 1793, 2049, 2561, 3073, 3585, 4097, 5121, 6145, 7169, 8193};
+};
+
+// A table that was changed into a wrong one does not compile.
+template <typename C> constexpr bool granulesAscend() {
+  for (uptr I = 1; I < sizeof(C::Granules) / sizeof(C::Granules[0]); ++I)
+    if (C::Granules[I - 1] >= C::Granules[I])
+      return false;
+  return true;
+}
+template <typename C> constexpr uptr lastGranules() {
+  return C::Granules[sizeof(C::Granules) / sizeof(C::Granules[0]) - 1];
+}
+static_assert(granulesAscend<TunedClasses>(), "the classes do not ascend");
+static_assert(TunedClasses::Granules[0] >= 2, "a class has no room for a header of 16 bytes and a granule");
+static_assert(TunedClasses::Granules[0] <= 1024, "there is no tuned class");
+static_assert(lastGranules<TunedClasses>() >= 1024, "the table does not serve 16,368 bytes");
+static_assert(lastGranules<TunedClasses>() <= 8193, "a class is above Scudo's largest");
+static_assert(sizeof(TunedClasses::Granules) <= 2 * (32 + 13), "there are more than 32 tuned classes and Scudo's 13");
+
+// The class of a size is looked up by its granules: the least that holds it.
+template <typename C> struct GranuleClassMap : SizeClassMapBase<C> {
+  static const uptr LargestClassId = sizeof(C::Granules) / sizeof(C::Granules[0]);
+  static const uptr NumClasses = LargestClassId + 1;
+  static const uptr BatchClassId = 0;
+  static const uptr MaxSize = 16UL * C::Granules[LargestClassId - 1];
+  static const decltype(C::MaxNumCachedHint) MaxNumCachedHint = C::MaxNumCachedHint;
+
+  struct Table {
+    u8 Id[MaxSize / 16 + 1] = {};
+    constexpr Table() {
+      for (uptr G = 0, I = 0; G <= MaxSize / 16; ++G) {
+        if (G > C::Granules[I])
+          ++I;
+        Id[G] = u8(I + 1);
+      }
+    }
+  };
+  static constexpr Table T = {};
+
+  static uptr getClassIdBySize(uptr Size) { return T.Id[(Size + 15) / 16]; }
+  static uptr getSizeByClassId(uptr Id) { return 16UL * C::Granules[Id - 1]; }
+  static u8 getSizeLSBByClassId(uptr Id) {
+    return u8(getLeastSignificantSetBitIndex(getSizeByClassId(Id)));
+  }
+  static constexpr bool usesCompressedLSBFormat() { return false; }
+};
+"""
+
+AS_DEFAULT = """\
+typedef GranuleClassMap<TunedClasses> DefaultSizeClassMap;
+"""
+
+# The options beside the map are those of DefaultConfig in LLVM 19's allocator_config.h, on a machine of 64 bits.
+CONFIG = """\
+// custom_scudo_config.h: Scudo's own configuration, but for the table of size classes. For LLVM 19, with -DSCUDO_USE_CUSTOM_CONFIG.
+#ifndef CUSTOM_SCUDO_CONFIG_H_
+#define CUSTOM_SCUDO_CONFIG_H_
+
+#if !SCUDO_CAN_USE_PRIMARY64
+#error "the table counts a header of 16 bytes, as Scudo has it on machines of 64 bits"
+#endif
+
+namespace scudo {
+
+MAP
+struct TunedConfig {
+  static const bool MaySupportMemoryTagging = true;
+  template <class A> using TSDRegistryT = TSDRegistryExT<A>;
+
+  struct Primary {
+    using SizeClassMap = GranuleClassMap<TunedClasses>;
+    static const uptr RegionSizeLog = 32U;
+    static const uptr GroupSizeLog = 21U;
+    typedef uptr CompactPtrT;
+    static const uptr CompactPtrScale = 0;
+    static const bool EnableRandomOffset = true;
+    static const uptr MapSizeIncrement = 1UL << 18;
+    static const s32 MinReleaseToOsIntervalMs = INT32_MIN;
+    static const s32 MaxReleaseToOsIntervalMs = INT32_MAX;
+  };
+  template <typename Config> using PrimaryT = SizeClassAllocator64<Config>;
+
+  struct Secondary {
+    struct Cache {
+      static const u32 EntriesArraySize = 32U;
+      static const u32 QuarantineSize = 0U;
+      static const u32 DefaultMaxEntriesCount = 32U;
+      static const uptr DefaultMaxEntrySize = 1UL << 19;
+      static const s32 MinReleaseToOsIntervalMs = INT32_MIN;
+      static const s32 MaxReleaseToOsIntervalMs = INT32_MAX;
+    };
+    template <typename Config> using CacheT = MapAllocatorCache<Config>;
+  };
+  template <typename Config> using SecondaryT = MapAllocator<Config>;
+};
+
+typedef TunedConfig Config;
+typedef TunedConfig DefaultConfig;
+
+} // namespace scudo
+
+#endif // CUSTOM_SCUDO_CONFIG_H_
+"""
+
+
+def warnings(classes: list[int]) -> list[str]:
+    """What the user of this table's map has to know."""
+    return [] if classes[-1:] == [LARGEST_CLASS] or not classes else [NEXT_OWN.format(size=f"{GRANULE * classes[-1] - GRANULE:,}")]
+
+
+def filled(classes: list[int]) -> str:
+    """The map of a table that ascends from 2 to 1024."""
+    granules = [f"{c}," for c in classes if c < LARGEST_CLASS]
+    if not granules:
+        raise Refused(2, NO_CLASS)
+    lines = textwrap.fill(" ".join(granules), 75, initial_indent=" " * 6, subsequent_indent=" " * 6)
+    notes = "".join(f"// {note}\n" for note in warnings(classes))
+    return MAP.replace("COUNT", str(len(granules))).replace("NOTES", notes).replace("GRANULES", lines)
+
+
+def as_default(classes: list[int]) -> str:
+    """The header that takes the place of Scudo's default map."""
+    return filled(classes) + AS_DEFAULT
+
+
+def config(classes: list[int]) -> str:
+    """LLVM 19's whole header custom_scudo_config.h."""
+    return CONFIG.replace("MAP", filled(classes), 1)
+
+
+def for_page() -> dict[str, str]:
+    """The words from which the page makes the same header."""
+    return {"text": MAP + AS_DEFAULT, "nextOwn": NEXT_OWN, "noClass": NO_CLASS}

@@ -1,0 +1,121 @@
+"""A statement as one page: a definition folds away, and a name leads to what it means. The page has no script."""
+
+import re
+from html import escape
+
+import html_safe
+import statements
+from statements import Definition, Example, Foreign, Key, Statement
+
+STYLE = """
+:root { color-scheme: light dark; --back: #ffffff; --text: #1f2328; --soft: #59636e; --line: #d1d9e0; --shade: #f6f8fa; --link: #0969da }
+@media (prefers-color-scheme: dark) {
+  :root { --back: #0d1117; --text: #e6edf3; --soft: #9198a1; --line: #3d444d; --shade: #151b23; --link: #4493f8 }
+}
+* { box-sizing: border-box }
+body { margin: 0 auto; padding: 1.5rem 1rem 3rem; max-width: 68rem; background: var(--back); color: var(--text); overflow-wrap: anywhere;
+  font: 16px/1.5 system-ui, -apple-system, "Segoe UI", "Noto Sans", "DejaVu Sans", sans-serif }
+h1 { font-size: 1.5rem; line-height: 1.25; margin: 0 0 .5rem }
+h2 { font-size: 1.15rem; margin: 2.25rem 0 .5rem; padding-top: .75rem; border-top: 1px solid var(--line) }
+p { margin: .5rem 0; max-width: 50rem }
+a { color: var(--link); text-decoration: none }
+a:hover, a:focus { text-decoration: underline }
+.comment { color: var(--soft) }
+.soft { color: var(--soft); font-size: .875rem; font-weight: 400 }
+pre { background: var(--shade); border: 1px solid var(--line); border-radius: 6px; padding: .75rem; margin: .5rem 0; overflow-x: auto }
+pre, code { font-family: ui-monospace, "DejaVu Sans Mono", monospace; font-size: .8125rem }
+details { margin: .75rem 0; border-left: 3px solid var(--line); padding-left: .75rem }
+details details { margin: .25rem 0; border-left: 0 }
+details:target { border-left-color: var(--link) }
+summary { cursor: pointer; font-weight: 600 }
+.names { columns: 14rem; list-style: none; padding: 0; font-size: .875rem }
+"""
+
+
+def name_of(key: Key) -> str:
+    return f"{statements.short(key)}::{key.name}"
+
+
+def ids(found: Statement) -> "dict[Key, str]":
+    """The place in the page of each definition. Numbers are plain in any browser."""
+    return {key: f"d{at}" for at, key in enumerate(dict.fromkeys(it.key for it in found.definitions), 1)}
+
+
+def linked(each: Definition, places: "dict[Key, str]") -> str:
+    """A definition's text, in which a name leads to its definition; a word of the kit's says so."""
+    parts, last = [], 0
+    for start, end, key in sorted(each.links, key=lambda link: link[:2]):
+        parts.append(plain(each.text[last:start]))
+        word = escape(each.text[start:end])
+        if isinstance(key, Foreign):
+            parts.append(f'<span title="{escape(key.name)}, of {escape(key.crate)}">{word}</span>')
+        else:
+            parts.append(f'<a href="#{places[key]}">{word}</a>')
+        last = end
+    return "".join(parts) + plain(each.text[last:])
+
+
+def plain(code: str) -> str:
+    """A text without links. Comments, which begin a line or follow two spaces, are set apart."""
+    return re.sub(r"(?m)(^ *|  )((?:--|//).*)$", r'\1<span class="comment">\2</span>', escape(code))
+
+
+def said(comment: str) -> str:
+    """A comment's words, in paragraphs."""
+    lines = [line.lstrip("-/").strip() for line in comment.split("\n")]
+    paragraphs = "\n".join(lines).split("\n\n") if comment else []
+    shown = (re.sub("`([^`]+)`", r"<code>\1</code>", escape(" ".join(each.split()))) for each in paragraphs)
+    return "".join(f"<p>{each}</p>\n" for each in shown)
+
+
+def worked(example: "Example | None") -> str:
+    if not example:
+        return ""
+    return f'<details><summary class="soft">worked out</summary>\n<pre>{escape(example.text)}</pre>\n</details>\n'
+
+
+def folded(each: Definition, places: "dict[Key, str]", example: "Example | None" = None) -> str:
+    place = f' id="{places[each.key]}"' if each.key in places else ""
+    where = escape(statements.short(each.key))
+    return (
+        f'<details open{place}><summary><code>{escape(each.key.name)}</code> <span class="soft">{where}</span></summary>\n'
+        f"{said(each.comment)}<pre>{linked(each, places)}</pre>\n{worked(example)}</details>\n"
+    )
+
+
+def names(found: Statement, places: "dict[Key, str]") -> str:
+    order = sorted(found.definitions, key=lambda it: (it.key.name.lower(), it.key.place))
+    items = "".join(f'<li><a href="#{places[it.key]}">{escape(it.key.name)}</a></li>\n' for it in order)
+    return f'<details><summary>All names</summary>\n<ul class="names">\n{items}</ul>\n</details>\n'
+
+
+def kit_words(found: Statement) -> str:
+    crates = sorted({it.crate for it in found.foreign})
+    return "".join(
+        f"<p>{escape(crate)}: <code>{escape(' '.join(it.name for it in found.foreign if it.crate == crate))}</code></p>\n" for crate in crates
+    )
+
+
+def page(found: Statement) -> str:
+    """The statement in HTML, with its policy."""
+    places, examples = ids(found), statements.examples()
+    title = found.title.replace("`", "")
+    lead = statements.counted(found) + ". Each definition stands where it is cited first." if found.contracts else statements.NO_CONTRACT
+    sections = [("The contract" if len(found.contracts) == 1 else "The contracts", "".join(folded(it, places) for it in found.contracts))]
+    sections.append(("The definitions", "".join(folded(it, places, examples.get(it.key)) for it in found.own)))
+    sections.append(("Types and constants of the source", "".join(folded(it, places) for it in found.items)))
+    sections.append(("Words that the kit defines", kit_words(found)))
+    body = "".join(f"<h2>{heading}</h2>\n{text}" for heading, text in sections if text)
+    return html_safe.with_policy(f"""<!DOCTYPE html>
+<html lang="en">
+<head>
+{html_safe.HEAD}<meta name="viewport" content="width=device-width, initial-scale=1">
+<title>{escape(title)}: the statement</title>
+<style>{STYLE}</style>
+</head>
+<body>
+<h1>{escape(title)}: what its contract says</h1>
+<p>{escape(lead)}</p>
+{names(found, places) if found.definitions else ""}{body}</body>
+</html>
+""")

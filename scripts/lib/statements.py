@@ -1,0 +1,697 @@
+"""What a reader has to read to believe a promise: the contract, and each definition that it reaches.
+
+The definitions are those of crates/*/specs. A name that a module `declared` gives is a type, a constant or a trait of the source, and its item
+is printed. Names of std and of clap are the kit's: they are listed, and not printed. A name that is none of these is an error."""
+
+import functools
+import os
+import re
+from dataclasses import dataclass, field
+
+from running import Refused
+
+ROOT = os.path.dirname(os.path.dirname(os.path.dirname(os.path.realpath(__file__))))
+CRATES = os.path.join(ROOT, "crates")
+
+# the public functions whose contracts are a promise: crates and names
+COMMANDS = {
+    name: (f"`{name}`", [("mte_engine", name.replace("-", "_"))])
+    for name in ("score", "tune", "check", "footprint", "fit", "check-fit", "profile", "replay", "run")
+}
+PROMISES = {
+    "safe": ("Safe and total", []),
+    "least-waste": ("The least waste, checked by anybody", [("mte_engine", name) for name in ("tune", "check", "fit", "check_fit")]),
+    "headline": ("The headline", [("mte_engine", "run")]),
+    "hardening": ("Hardening", [("replay_core", "laws")]),
+    "bounded": (
+        "Canonical and bounded",
+        [("mte_engine", "law_one_answer"), ("class_tuner", "fill_rows"), ("class_tuner", "tune"), ("class_fitter", "fit")],
+    ),
+}
+PROGRAM = {"program": ("The whole program, on its own streams", [("mte_tool", "program.run")])}
+TOPICS = {**COMMANDS, **PROMISES, **PROGRAM}
+# of the promise that no definition carries
+NO_CONTRACT = "The prover demands it of every function, with or without a contract; it cites no definition. docs/PROOFS.md says more."
+
+TOKEN = re.compile(r'(?P<comment>--[^\n]*|//[^\n]*)|(?P<string>"(?:\\.|[^"\\])*")|(?P<mark>[(){}\[\],;:.])|(?P<word>[^\s(){}\[\],;:."]+)')
+RUST_WORD = re.compile(r"(?P<comment>//[^\n]*|#\[[^\n]*\])|(?P<word>[A-Za-z_]\w*)|(?P<mark>[^\sA-Za-z_])")
+NUMBER = re.compile(r"0x[0-9A-Fa-f]+$|[0-9]+$")
+HEAD = re.compile(r"(?:abbrev |unfoldable |opaque |pub |(?P<kind>record |data ))*(?P<name>[^\s(){}:]+)")
+BEGINS = re.compile(r"(?:abbrev|unfoldable|opaque|pub|record|data) ")
+IMPORT = re.compile(r"(?m)^(?:ghost |    ghost )?(?:pub )?use ((?:Rattle|base|denote|contract)\.[\w.-]+)(?:\.\{([^}]*)\}| as (\w+))?;?$")
+RUST_USE = re.compile(r"(?ms)^(?:pub )?use ([a-z_][\w:]*?)(?:::\{([^}]*)\}|::(\w+))?(?: as (\w+))?;")
+GHOST = re.compile(r"(?m)^[ \t]*(?:ghost|requires|ensures)\b[^{\n;]*\{")
+# the language's own words
+OWN = set("Type × → λ let in record where elim as do = | ↦ ← Unit tt absurd ⊥ _".split())
+# constructors whose names begin as a variable's do
+PATTERN_WORDS = set("zero suc pos negsuc true false tt".split())
+# what Rust, and the kit's Rust, has without an import
+RUST_OWN = set(
+    """Self Vec String Option Some None Result Ok Err Box Drop Clone Copy Debug Default Eq PartialEq Ord PartialOrd Iterator Fn FnMut
+    FnOnce Sized Model Value""".split()
+)
+KIT_OWN = set("Env Print Eprint AllocGlobal HostRuntime".split())
+
+
+@dataclass(frozen=True)
+class Key:
+    """A definition of specs/ (place is its module), or an item of the source (place is its file)."""
+
+    place: str
+    name: str
+    is_source: bool = False
+
+
+@dataclass(frozen=True)
+class Foreign:
+    """A word of the kit's."""
+
+    crate: str
+    name: str
+
+
+@dataclass
+class Definition:
+    key: Key
+    file: str
+    comment: str
+    text: str
+    links: list = field(default_factory=list)  # (start, end, Key or Foreign) in the text, in the order in which they are followed
+
+    @property
+    def lines(self) -> int:
+        return sum(1 for line in self.text.split("\n") if line.strip() and not re.match(r"\s*(--|//)", line))
+
+
+@dataclass
+class Module:
+    name: str
+    file: str
+    blocks: dict  # name -> (comment, text)
+    constructors: dict  # name -> its data
+    imports: dict  # name -> (module, name)
+
+
+@dataclass
+class Source:
+    """A file of Rust."""
+
+    crate: str
+    file: str
+    text: str
+    imports: dict  # of ghost uses
+    uses: dict  # name -> its path, of Rust's
+
+
+class Unresolved(Exception):
+    """A name that is neither defined, nor declared, nor the kit's."""
+
+
+def is_own_crate(name: str) -> bool:
+    return os.path.isdir(os.path.join(CRATES, name))
+
+
+def read(path: str) -> str:
+    try:
+        with open(path, encoding="utf-8") as file:
+            return file.read()
+    except FileNotFoundError:
+        raise Unresolved(f"there is no file {os.path.relpath(path, ROOT)}") from None
+    except (OSError, ValueError) as error:
+        raise Refused(3, f"{path} can't be read: {error}") from error
+
+
+def imports_in(text: str) -> dict:
+    """What each name that a text imports is: its module and its name there."""
+    found = {}
+    for module, names, whole in IMPORT.findall(text):
+        if whole:
+            found[whole] = (module, whole)
+        for each in filter(None, (it.strip() for it in names.split(","))):
+            name, _, alias = each.partition(" as ")
+            found[(alias or name).strip()] = (module, name.strip())
+    return found
+
+
+def uses_in(text: str) -> dict:
+    """What each name that a source imports by Rust's `use` is: its path."""
+    found = {}
+    for path, names, last, alias in RUST_USE.findall(text):
+        for each in names.split(",") if names else [f"{last} as {alias}" if alias else last]:
+            name, _, new = each.strip().partition(" as ")
+            if name and "::" not in name:
+                found[(new or name).strip()] = path.split("::") + [name.strip()]
+    return found
+
+
+@functools.lru_cache(maxsize=None)
+def module(name: str) -> Module:
+    """A module of specs/, `Rattle.crate.specs.Name`."""
+    crate, _, path = name.removeprefix("Rattle.").partition(".specs.")
+    file = os.path.join(CRATES, crate, "specs", *path.split(".")) + ".antt"
+    text = read(file)
+    found = Module(name, file, {}, {}, imports_in(text))
+    comment, block, fixity, last = [], [], [], ""
+    for line in [*text.split("\n"), "abbrev "]:
+        begins = bool(BEGINS.match(line)) and not re.match(r"pub (use|mod) ", line)
+        outside = line.startswith(("--", "use ", "pub use ", "pub mod ")) or not line.strip()
+        if (begins or outside) and block:
+            head = HEAD.match(next(it for it in block if BEGINS.match(it)))
+            last = head["name"]
+            found.blocks[last] = ("\n".join(block_comment), "\n".join(block))
+            if (head["kind"] or "").strip() == "data":
+                found.constructors.update({it: last for it in re.findall(r"(?m)^  (\S+) :", "\n".join(block))})
+            block = []
+        if begins:
+            block, block_comment, comment, fixity = [*fixity, line], comment, [], []
+        elif block:
+            block.append(line)
+        elif line.startswith("--") and not line.startswith("-- ----"):
+            comment.append(line)
+        elif line.startswith("infix"):
+            fixity = [line]
+        elif outside:
+            comment = []
+        else:
+            raise Unresolved(f"{os.path.relpath(file, ROOT)}: this line belongs to no definition: {line}")
+    return found
+
+
+@functools.lru_cache(maxsize=None)
+def source(file: str) -> Source:
+    text = read(file)
+    crate = os.path.relpath(file, CRATES).split(os.sep)[0]
+    return Source(crate, file, text, imports_in(text), uses_in(text))
+
+
+@functools.lru_cache(maxsize=None)
+def sources_of(crate: str) -> tuple:
+    found = []
+    for folder, below, names in os.walk(os.path.join(CRATES, crate, "src")):
+        below.sort()
+        found += [os.path.join(folder, name) for name in sorted(names) if name.endswith(".rt")]
+    return tuple(found)
+
+
+# ---- items of the source
+
+
+def item_at(text: str, name: str, kinds: str) -> "re.Match | None":
+    return re.search(rf"(?m)^(?P<indent> *)(?:pub(?:\([a-z]*\))? )?(?:unsafe )?(?:{kinds}) {re.escape(name)}\b", text)
+
+
+def item_end(text: str, start: int) -> int:
+    """Where an item that is no function ends: after its braces, or its semicolon."""
+    depth = 0
+    for match in TOKEN.finditer(text, start):
+        mark = match["mark"]
+        if mark and mark in "([{":
+            depth += 1
+        elif mark and mark in ")]}":
+            depth -= 1
+            if depth == 0 and mark == "}":
+                return match.end()
+        elif mark == ";" and depth == 0:
+            return match.end()
+    return len(text)
+
+
+def signature_end(text: str, start: int, indent: str) -> int:
+    """Where the contract of a function ends, and its body begins."""
+    body = re.compile(rf"(?m)(?:^{indent}|(?<=\S) )\{{(?:\}})?$").search(text, start)
+    return body.start() if body else len(text)
+
+
+def commented(text: str, start: int) -> str:
+    """The comment above an item; attributes are left out."""
+    above = []
+    for line in reversed(text[:start].split("\n")[:-1]):
+        if not line.strip().startswith(("//", "#[")) or line.strip().startswith("//!"):
+            break
+        above.append(line.strip())
+    return "\n".join(line for line in reversed(above) if line.startswith("//"))
+
+
+def dedented(text: str, indent: str) -> str:
+    return "\n".join(line.removeprefix(indent) for line in text.split("\n"))
+
+
+@functools.lru_cache(maxsize=None)
+def item(crate: str, name: str, kinds: str, within: str = "") -> "tuple | None":
+    """An item of a crate: its file, comment and text. Of a type with a Model, what a clause sees of its values: its fields are the code's
+    own."""
+    files = sorted(sources_of(crate), key=lambda file: within not in file)
+    for file in files:
+        text = source(file).text
+        found = item_at(text, name, kinds)
+        if not found:
+            continue
+        if item_at(text[found.end() :], name, kinds):
+            raise Unresolved(f"{os.path.relpath(file, ROOT)} has two items {name}")
+        indent = found["indent"]
+        is_function = bool(re.search(r"\bfn\b", found[0]))
+        end = signature_end(text, found.end(), indent) if is_function else item_end(text, found.start())
+        shown = dedented(text[found.start() : end].rstrip(), indent)
+        model = re.search(rf"(?m)^impl(?:<[^\n]*>)? Model for {re.escape(name)}\b[^\n]*", text)
+        block = text[model.start() : item_end_of_brace(text, model.start())] if model else ""
+        if "    ghost Value" in block and not is_function:
+            start = block.index("    ghost Value")
+            value = block[start : item_end_of_brace(block, start)]
+            shown = f"{shown.split('{')[0].rstrip()} {{ .. }}\n\n{model[0]}\n{value};\n    ..\n}}"
+        return file, commented(text, found.start()), shown
+    return None
+
+
+KINDS = "enum|struct|trait|type|const"
+
+
+def source_key(crate: str, name: str, within: str = "", seen: tuple = ()) -> "Key | Foreign | None":
+    """The item with this name of a crate, which may hand on that of another."""
+    if not is_own_crate(crate):
+        return Foreign(crate, name)
+    found = item(crate, name, KINDS, within)
+    if found:
+        return Key(found[0], name, True)
+    for file in sources_of(crate):
+        path = source(file).uses.get(name)
+        if path and path[0] not in ("crate", "super", "self", crate) and path[0] not in seen:
+            return source_key(path[0], path[-1], "", (*seen, crate))
+    return None
+
+
+def declared(crate: str, name: str, folders: list) -> "Key | None":
+    """The item of a crate that one of its modules, in these folders, declares."""
+    path = os.path.join(CRATES, crate, "src", *(folders or ["lib"]))
+    for file in (f"{path}.rt", os.path.join(path, "mod.rt")):
+        if file in sources_of(crate) and item_at(source(file).text, name, KINDS):
+            return Key(file, name, True)
+    return None
+
+
+# ---- what a name is
+
+
+def target(place: str, name: str) -> "Key | Foreign":
+    """What an import of NAME from a module is."""
+    crate, _, path = place.removeprefix("Rattle.").partition(".")
+    if not is_own_crate(crate):
+        return Foreign(crate, name)
+    generated = re.match(r"specs\.(declared|contracts)\.(.*)", path)
+    if generated:
+        parts = generated[2].split(".")
+        if name in ("the_row", "Ghosts"):  # how the values of a type are stored, and a trait's ghost parts
+            parts.append("The")
+        at = next((at for at, part in enumerate(parts) if part.startswith("The")), None)
+        wanted = name if at is None or parts[at] == "TheConstants" else parts[at - 1]
+        folders = [part for part in parts if part[0].islower()]
+        found = declared(crate, wanted, folders)
+        if found:
+            return found
+        raise Unresolved(f"{place}.{name} is declared in no source")
+    try:
+        there = module(place)
+    except Unresolved:
+        place, _, data = place.rpartition(".")
+        there = module(place)
+        if there.constructors.get(name) != data:
+            raise
+        return Key(place, data)
+    if name in there.blocks:
+        return Key(place, name)
+    if name in there.constructors:
+        return Key(place, there.constructors[name])
+    if name in there.imports:  # handed on by `pub use`
+        return target(*there.imports[name])
+    raise Unresolved(f"{place} does not define {name}")
+
+
+def operators(names) -> dict:
+    """The parts of names with holes: `≡` of `◌≡◌`."""
+    return {part: name for name in names if "◌" in name and name != "◌" for part in name.split("◌") if part}
+
+
+def known_in(imports: dict, blocks, constructors: dict, place: str) -> dict:
+    """What each word means in a module or a source."""
+    known = {name: ("import", *found) for name, found in imports.items()}
+    known.update({name: ("here", place, name) for name in blocks})
+    known.update({name: ("here", place, data) for name, data in constructors.items()})
+    known.update({part: known[name] for part, name in operators(known).items()})
+    if ">>=" in known:
+        known["do"] = known[">>="]
+    return known
+
+
+def meaning(known: dict, word: str) -> "Key | Foreign | None":
+    if word not in known:
+        return None
+    kind, place, name = known[word]
+    return target(place, name) if kind == "import" else Key(place, name)
+
+
+# ---- what a text cites
+
+
+def is_variable(word: str) -> bool:
+    return (word[0].islower() or word[0] == "_") and word not in PATTERN_WORDS
+
+
+def bound_in(tokens: list, is_clause: bool, known: dict) -> set:
+    """The variables that a text binds: in parentheses before a colon, after λ and let, and in patterns."""
+    bound, words = set(), [token[0] for token in tokens]
+    for at, word in enumerate(words):
+        if word in ("(", "{"):
+            end = at + 1
+            while end < len(words) and words[end] not in "(){}[],;:.":
+                end += 1
+            if end < len(words) and words[end] == ":":
+                bound.update(words[at + 1 : end])
+        elif word == "λ":
+            end = at + 1
+            while end < len(words) and words[end] not in "(.":
+                bound.add(words[end])
+                end += 1
+        elif word == "let" and at + 1 < len(words):
+            bound.add(words[at + 1])
+        elif word == "←":
+            begin = at - 1
+            while words[at - 1] == ")" and words[begin] != "(":
+                begin -= 1
+            bound.update(words[begin:at])
+        elif word == "↦":
+            begin = at
+            while begin and words[begin] not in ("[", "|"):
+                begin -= 1
+            bound.update(filter(is_variable, words[begin + 1 : at]))
+    if is_clause:
+        depth = 0
+        for word in words:
+            depth += (word in "([{") - (word in ")]}")
+            if word == "=" and depth == 0:
+                break
+            if word not in "(){}[],;:.=" and (is_variable(word) or word not in known and word.isalpha()):
+                bound.add(word)
+    return bound - set("(){}[],;:.")
+
+
+def tokens_of(text: str, start: int = 0) -> list:
+    """The words and marks of a text with their places; comments and strings are left out."""
+    return [(it[0], start + it.start(), start + it.end()) for it in TOKEN.finditer(text) if it["mark"] or it["word"]]
+
+
+def cited(text: str, start: int, known: dict, bound: set, is_clause: bool, own: str, where: str) -> list:
+    """The links of a text of antt; the text begins at START of its definition."""
+    tokens, links = tokens_of(text, start), []
+    bound = bound | bound_in(tokens, is_clause, known)
+    for at, (word, begin, end) in enumerate(tokens):
+        before = tokens[at - 1] if at else ("", -1, -1)
+        after = tokens[at + 1][0] if at + 1 < len(tokens) else ""
+        is_field = before[0] == "." and before[2] == begin and at > 1 and tokens[at - 2][2] == before[1]
+        is_label = after == "=" and before[0] in ("{", ";") or after == ":" and before[0] == "pub"
+        if word in "(){}[],;:." or (word in OWN and word not in known) or word == own or is_field or is_label or NUMBER.match(word) or word in bound:
+            continue
+        if word in ("pub", "abbrev", "unfoldable", "opaque", "data"):
+            continue
+        found = meaning(known, word)
+        if not found:
+            raise Unresolved(f"{where}: nothing says what {word} is")
+        links.append((begin, end, found))
+    return links
+
+
+def chunks(text: str) -> "list[tuple[int, str, bool]]":
+    """A definition's signature, and its clauses or fields: each with its place, and whether it is a clause."""
+    starts = [0] + [match.end() for match in re.finditer(r"\n(?=[^\s}]|  pub )", text)]
+    ends = [start - 1 for start in starts[1:]] + [len(text)]
+    return [(start, text[start:end], start > 0 and not text.startswith("  pub ", start)) for start, end in zip(starts, ends)]
+
+
+def spec_definition(key: Key) -> Definition:
+    there = module(key.place)
+    comment, text = there.blocks[key.name]
+    known = known_in(there.imports, there.blocks, there.constructors, key.place)
+    found = Definition(key, there.file, comment, text)
+    own = {key.name} | {name for name, data in there.constructors.items() if data == key.name}
+    known = {word: it for word, it in known.items() if word not in own or it[1:] != (key.place, key.name)}
+    inner = bound_operators(key.name) | own
+    for start, part, is_clause in chunks(text):
+        if part.startswith(("unfolding ", "infix")):
+            continue
+        found.links += cited(part, start, known, inner, is_clause, key.name, short(key))
+        if text.startswith("pub record "):  # a record's parameters, and the fields before, are known in a field
+            inner = inner | bound_in(tokens_of(part), False, known) | set(re.findall(r"^  pub (\S+) :", part))
+    return found
+
+
+def bound_operators(name: str) -> set:
+    return {part for part in name.split("◌") if part} if "◌" in name else {name}
+
+
+def ghost_parts(text: str) -> "list[tuple[int, int]]":
+    """Where the clauses of an item stand, and what else is ghost."""
+    return [(match.end() - 1, item_end_of_brace(text, match.end() - 1)) for match in GHOST.finditer(text)]
+
+
+def item_end_of_brace(text: str, start: int) -> int:
+    depth = 0
+    for match in TOKEN.finditer(text, start):
+        if match["mark"] == "{":
+            depth += 1
+        elif match["mark"] == "}":
+            depth -= 1
+            if depth == 0:
+                return match.end()
+    return len(text)
+
+
+def source_links(file: str, text: str, own: str) -> list:
+    """The links of an item of the source: those of its clauses, and then those of its types."""
+    there = source(file)
+    known = known_in(there.imports, (), {}, "")
+    ghosts = ghost_parts(text)
+    plain = list(text)
+    for start, end in ghosts:
+        plain[start:end] = " " * (end - start)
+    rust = "".join(plain)
+    names = {it[0] for it in re.finditer(r"\b[a-z_]\w*(?=\s*[:=])", rust)} | set(re.findall(r"(?m)^\s*ghost (\w+)", rust)) | {"self", "result"}
+    generics = set(re.findall(r"[<,]\s*([A-Z]\w*)\s*(?=[:,>])", rust.split("(")[0])) | set(re.findall(r"(?m)^\s*type (\w+)", rust))
+    variants = set(re.findall(r"(?m)^    ([A-Z]\w*)(?=[,({ ])", rust)) if re.search(r"\benum\b", rust) else set()
+    types, links = [], []
+    for match in RUST_WORD.finditer(rust):
+        word = match["word"]
+        before = rust[: match.start()]
+        is_here = word in RUST_OWN | generics | variants | {own} and not re.search(r"\b[a-z_]\w*::$", before)
+        if not word or not word[0].isupper() or is_here:
+            continue
+        found = rust_meaning(there, word, before)
+        if not found:
+            raise Unresolved(f"{os.path.relpath(file, ROOT)}, {own}: nothing says what {word} is")
+        types.append((match.start(), match.end(), found))
+    for start, end in ghosts:
+        part = text[start:end]
+        scope = dict(known)
+        for word in set(re.findall(r"\b[A-Z]\w*", part)) - set(scope) - generics:
+            found = rust_meaning(there, word, "")
+            if found:
+                scope[word] = ("found", found, "")
+        bound = names | generics | (RUST_OWN - set(scope)) | bound_operators(own)
+        links += cited_in_clause(part, start, scope, bound, own, file)
+    return links + types
+
+
+def cited_in_clause(part: str, start: int, scope: dict, bound: set, own: str, file: str) -> list:
+    foreign = {word: it[1] for word, it in scope.items() if it[0] == "found"}
+    where = f"{os.path.relpath(file, ROOT)}, {own}"
+    links = cited(part, start, {word: it for word, it in scope.items() if word not in foreign}, bound | set(foreign), False, own, where)
+    for word, begin, end in tokens_of(part, start):
+        if word in foreign:
+            links.append((begin, end, foreign[word]))
+    return links
+
+
+def rust_meaning(there: Source, word: str, before: str) -> "Key | Foreign | None":
+    """What a type, a trait or a constant of Rust is."""
+    path = re.search(r"([a-z_]\w*)::$", before)
+    if path and path[1] in there.uses:
+        path = there.uses[path[1]]
+        return source_key(path[0], word) if path[0] != "crate" else source_key(there.crate, word)
+    if path:
+        return source_key(there.crate if path[1] in ("crate", "self", "super") else path[1], word)
+    if word in there.uses:
+        path = there.uses[word]
+        crate = there.crate if path[0] in ("crate", "self", "super") else path[0]
+        return source_key(crate, path[-1])
+    if word in KIT_OWN:
+        return Foreign("std", word)
+    return source_key(there.crate, word, there.file)
+
+
+def source_definition(key: Key) -> Definition:
+    crate = os.path.relpath(key.place, CRATES).split(os.sep)[0]
+    file, comment, text = item(crate, key.name, KINDS, key.place)
+    return Definition(key, file, comment, text, source_links(file, text, key.name))
+
+
+@functools.lru_cache(maxsize=None)
+def definition(key: Key) -> Definition:
+    return source_definition(key) if key.is_source else spec_definition(key)
+
+
+# ---- worked examples
+
+
+@dataclass
+class Example:
+    """A lemma that works a definition out: its comment and statement, with what its own file defines for it."""
+
+    file: str
+    name: str
+    text: str
+
+
+@functools.lru_cache(maxsize=None)
+def examples() -> dict:
+    """An example of each definition that has one: the shortest statement that cites it."""
+    found = {}
+    for crate in sorted(os.listdir(CRATES)):
+        folder = os.path.join(CRATES, crate, "proofs")
+        names = sorted(os.listdir(folder)) if os.path.isdir(folder) else []
+        for name in names:
+            if re.search(r"Examples\.antt$", name):
+                for key, example in examples_in(os.path.join(folder, name)):
+                    if key not in found or len(example.text) < len(found[key].text):
+                        found[key] = example
+    return found
+
+
+def examples_in(file: str) -> "list[tuple[Key, Example]]":
+    text = read(file)
+    imports = {name: it for name, it in imports_in(text).items() if is_own_crate(it[0].split(".")[1]) and ".specs." in it[0]}
+    local, lemmas = {}, {}
+    for part in re.split(r"\n\n+", text):
+        lines = part.rstrip().split("\n")
+        first = next((at for at, line in enumerate(lines) if not line.startswith(("--", "use ", "pub use "))), None)
+        if first is None:
+            continue
+        name = HEAD.match(lines[first])["name"]
+        after = next((at for at in range(first + 1, len(lines)) if not lines[at][0].isspace()), len(lines))
+        if not BEGINS.match(lines[first]) and "≡" in "\n".join(lines[first:after]):
+            lemmas[name] = "\n".join(lines[:after])
+        else:
+            local[name] = "\n".join(line for line in lines if not line.startswith("unfolding "))
+    pairs = []
+    for name, statement in lemmas.items():
+        own, words = [], [it[0] for it in tokens_of(statement)]
+        left = [word for word in words if word in local]
+        while left:
+            text_of_it = local[left.pop(0)]
+            if text_of_it not in own:
+                own.insert(0, text_of_it)
+                left += [it[0] for it in tokens_of(text_of_it) if it[0] in local]
+        example = Example(file, name, "\n\n".join([*own, statement]))
+        for word in sorted(set(words) & set(imports)):
+            key = target(*imports[word])
+            if isinstance(key, Key) and not key.is_source and key.name == word:
+                pairs.append((key, example))
+    return pairs
+
+
+# ---- contracts
+
+
+def function(crate: str, name: str) -> Definition:
+    """The contract of a public function; NAME may have its file in front, `program.run`."""
+    within, _, name = name.rpartition(".")
+    for file in sources_of(crate):
+        if within and not file.endswith(f"{os.sep}{within}.rt"):
+            continue
+        # a law may be a method
+        found = re.search(rf"(?m)^(?P<indent>{'(?:    )?' if name.startswith('law_') else ''})pub fn {name}\b", source(file).text)
+        if found:
+            text = source(file).text
+            end = signature_end(text, found.end(), found["indent"])
+            shown = dedented(text[found.start() : end].rstrip(), found["indent"])
+            links = source_links(file, shown, name)
+            if found["indent"]:
+                owner = re.findall(r"(?m)^impl (\w+) ", text[: found.start()])[-1]
+                at = shown.index("self")
+                links.append((at, at + len("self"), rust_meaning(source(file), owner, "")))
+            return Definition(Key(file, name, True), file, commented(text, found.start()), shown, links)
+    raise Unresolved(f"crate {crate} has no public function {name}")
+
+
+def laws(crate: str) -> list:
+    """The laws of a file `laws.rt`, and those that it hands on from other crates."""
+    text = source(os.path.join(CRATES, crate, "src/laws.rt")).text
+    found = [function(path.split("::")[0], name.strip()) for path, names in re.findall(r"(?ms)^pub use ([\w:]+)::\{([^}]*)\};", text)
+             for name in names.split(",") if name.strip()]
+    return found + [function(crate, name) for name in re.findall(r"pub fn (law_\w+)", text)]
+
+
+@dataclass
+class Statement:
+    topic: str
+    title: str
+    contracts: list
+    definitions: list  # of specs/ and of the source, each after what cites it first; a text has those of the source at its end
+    foreign: list
+
+    @property
+    def own(self) -> list:
+        return [it for it in self.definitions if not it.key.is_source]
+
+    @property
+    def items(self) -> list:
+        return [it for it in self.definitions if it.key.is_source]
+
+    @property
+    def counts(self) -> tuple:
+        """Definitions, lines and modules of specs/, and items of the source."""
+        own = self.own
+        return len(own), sum(it.lines for it in own), len({it.key.place for it in own}), len(self.items)
+
+
+def statement(topic: str) -> Statement:
+    """The contracts of a topic, and each definition that they reach, where it is cited first."""
+    title, functions = TOPICS[topic]
+    contracts = [it for crate, name in functions for it in (laws(crate) if name == "laws" else [function(crate, name)])]
+    order, foreign = {}, set()
+
+    def reach(found: Definition) -> None:
+        for _, _, key in found.links:
+            if isinstance(key, Foreign):
+                foreign.add(key)
+            elif key not in order:
+                order[key] = definition(key)
+                reach(order[key])
+
+    for contract in contracts:
+        reach(contract)
+    return Statement(topic, title, contracts, list(order.values()), sorted(foreign, key=lambda it: (it.crate, it.name)))
+
+
+def short(key: Key) -> str:
+    """How a definition's place is called: `mte_engine::Run`; of an item of the source its file."""
+    if key.is_source:
+        return os.path.relpath(key.place, ROOT)
+    crate, _, path = key.place.removeprefix("Rattle.").partition(".specs.")
+    return f"{crate}::{path}"
+
+
+def counted(found: Statement) -> str:
+    """The counts, in words."""
+    definitions, lines, modules, items = found.counts
+    return f"{definitions} definitions, {lines} lines in {modules} modules, and {items} types and constants of the source"
+
+
+def as_text(found: Statement) -> str:
+    """The statement, to be read from the top."""
+    parts = [f"{found.title}: {counted(found) if found.contracts else NO_CONTRACT}"]
+    place = None
+    for each in found.contracts + found.own + found.items:
+        if each.file != place:
+            place = each.file
+            parts.append(f"==== {os.path.relpath(place, ROOT)}")
+        parts.append((each.comment + "\n" if each.comment else "") + each.text)
+    for crate in sorted({it.crate for it in found.foreign}):
+        parts.append(f"==== words of {crate}, which the kit defines: {' '.join(it.name for it in found.foreign if it.crate == crate)}")
+    return "\n\n".join(parts) + "\n"
