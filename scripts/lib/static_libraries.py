@@ -87,6 +87,8 @@ def build(crate, archive, toolchain):
 
 
 def main(words):
+    if not words:
+        raise running.Refused(2, "it is `static_libraries.py FOLDER CRATE..`")
     folder, *crates = words
     try:
         make(folder, crates)

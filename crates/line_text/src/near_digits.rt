@@ -25,6 +25,7 @@ pub(crate) fn near_digits(bytes: &[u8; SHORT_DIGITS]) -> Option<(usize, u64)>
 }
 
 // The same, where the first eight bytes are known to be digits of this value.
+#[inline(always)]
 fn further_digits(bytes: &[u8; SHORT_DIGITS], value: u64) -> Option<(usize, u64)>
     requires digits { list_all is_ascii_digit (take 8 bytes.now) ≡ Bool.true }
     requires value { value ≡ digits_value 10 (take 8 bytes.now) }
@@ -36,6 +37,7 @@ fn further_digits(bytes: &[u8; SHORT_DIGITS], value: u64) -> Option<(usize, u64)
     }
 }
 
+#[inline(always)]
 fn last_digits(bytes: &[u8; SHORT_DIGITS], known: usize, value: u64) -> Option<(usize, u64)>
     requires known { known ≤ SHORT_DIGITS }
     requires digits { list_all is_ascii_digit (take known bytes.now) ≡ Bool.true }
