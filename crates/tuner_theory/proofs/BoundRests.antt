@@ -1,22 +1,23 @@
--- Valid potentials bound the waste of every rest from below: of the requests above any place.
-use Rattle.std.proofs.Common.{◌≡◌, ℕ, zero, suc, ◌+◌, ◌*◌, ◌<◌, ◌≤◌, ◌%◌, max, List, [], ◌∷◌, length, slice_index, cond, ltb, leb, Option, arith, refl, ap, subst, ◌∙◌, inl, inr, IsSome}
+-- Valid potentials bound what every rest costs from below: what is counted above any place.
+use Rattle.std.proofs.Common.{◌≡◌, ℕ, zero, suc, ◌+◌, ◌*◌, ◌<◌, ◌≤◌, ◌%◌, max, List, [], ◌∷◌, length, slice_index, cond, ltb, leb, Option, arith, refl, ap, sym, subst, ◌∙◌, inl, inr, IsSome}
 use Rattle.std.proofs.lemmas.Bool.{cases_lt, cond_both, cond-false, le-ltb, lt-leb}
 use Rattle.class_table.proofs.LawLemmas.{AreClassesAbove, classes_of_legal_table}
 use Rattle.tuner_theory.specs.Best.{IsCandidate}
+use Rattle.tuner_theory.specs.Intervals.{IsIntervalCost, cost_above, span_cost}
 use Rattle.tuner_theory.specs.Potentials.{AreValidPotentials}
 use Rattle.tuner_theory.specs.Rests.{counts_above, counts_above_from}
-use Rattle.tuner_theory.specs.Spans.{need_at, places, rounded_need, span_waste}
+use Rattle.tuner_theory.specs.Spans.{need_at, places, rounded_need, waste_between}
 use Rattle.tuner_theory.specs.Profiles.{IsCounted}
 use Rattle.tuner_theory.specs.Waste.{sum_below, waste_at, waste_of}
 use Rattle.tuner_theory.proofs.Bound.{bound}
 use Rattle.tuner_theory.proofs.Needs.{Reaches, place_is_counted, places_ascend}
 use Rattle.tuner_theory.proofs.Rounding.{rounded-positive}
 use Rattle.tuner_theory.proofs.Sums.{sum_same}
-use Rattle.tuner_theory.proofs.Tables.{ServesAbove, class_for-later, waste-cost, waste_above, waste_above-costs}
+use Rattle.tuner_theory.proofs.Tables.{ServesAbove, class_for-later, waste_above, waste_above-costs}
 
 -- ---- the counts above a need
 
-length-above : (m : ℕ) (counts : List ℕ) (step low : ℕ) → length (counts_above_from m counts step low) ≡ length counts
+pub length-above : (m : ℕ) (counts : List ℕ) (step low : ℕ) → length (counts_above_from m counts step low) ≡ length counts
 length-above m [] step low = refl
 length-above m (count ∷ counts) step low = omega (arith, length-above (suc m) counts step low)
 
@@ -35,32 +36,24 @@ kept x low v w e some = grind arith
 masked : (x low w v l : ℕ) → 2 ≤ x → w ≡ cond (leb x low) 0 v → w * l ≡ cond (ltb (max 1 low) x) (v * l) 0
 masked x low w v l two e = grind arith
 
-module _ (counts : List ℕ) (step i : ℕ) where
-  at-above : (n : ℕ) → slice_index (counts_above counts step i) n
-      ≡ cond (leb (rounded_need step n) (need_at counts step i)) 0 (slice_index counts n)
-  at-above n = grind (arith, index-above)
+pub left-above : (n : ℕ) (counts : List ℕ) (step low : ℕ)
+    → slice_index (counts_above_from 0 counts step low) n ≡ cond (leb (rounded_need step n) low) 0 (slice_index counts n)
+left-above n counts step low = grind (arith, index-above)
 
+module _ (counts : List ℕ) (step i : ℕ) where
   pub counted-above : (n : ℕ) → IsCounted (counts_above counts step i) n
       → IsCounted counts n × (need_at counts step i < rounded_need step n)
   counted-above n counted =
-      let both = kept (rounded_need step n) (need_at counts step i) (slice_index counts n) _ (at-above n) counted.1 in
+      let both = kept (rounded_need step n) (need_at counts step i) (slice_index counts n) _ (left-above n counts step (need_at counts step i)) counted.1 in
       ((omega (arith, counted.0, length-above 0 counts step (need_at counts step i)), both.1), both.0)
 
   pub counted-to : (n : ℕ) → IsCounted counts n → need_at counts step i < rounded_need step n → IsCounted (counts_above counts step i) n
   counted-to n counted above = (
     omega (arith, counted.0, length-above 0 counts step (need_at counts step i)),
-    omega (arith, counted.1, at-above n ∙ cond-false _ _ _ (lt-leb (rounded_need step n) (need_at counts step i) above)),
+    omega (arith, counted.1, left-above n counts step (need_at counts step i) ∙ cond-false _ _ _ (lt-leb (rounded_need step n) (need_at counts step i) above)),
   )
 
 module _ (counts : List ℕ) (step : ℕ) (pos : 0 < step) (i : ℕ) where
-  pub waste-above : (classes : List ℕ) → waste_of (counts_above counts step i) classes
-      ≡ waste_above counts step (max 1 (need_at counts step i)) classes
-  waste-above classes =
-      ap (sum_below _) (length-above 0 counts step (need_at counts step i))
-      ∙ sum_same _ _ (length counts)
-      (λ n lt. masked (rounded_need step n) (need_at counts step i) _ (slice_index counts n) _ (rounded-positive step pos n)
-      (at-above counts step i n))
-
   pub reach-low : i ≤ places counts step → Reaches counts step (max 1 (need_at counts step i)) (places counts step) i
   reach-low le = record {
     within = le;
@@ -72,27 +65,35 @@ module _ (counts : List ℕ) (step : ℕ) (pos : 0 < step) (i : ℕ) where
     ];
   }
 
--- ---- a table without the classes up to low: they serve no request above low
+-- ---- a cost of tables for what is counted above a place
 
-record Dropped (counts : List ℕ) (step low : ℕ) (classes : List ℕ) : Type 0 where
+-- The sum of the intervals from its need on. A class that is not above it costs nothing, since it serves nothing.
+pub record IsRestCost (cost : List ℕ → ℕ) (between : ℕ → ℕ → ℕ) (counts above : List ℕ) (step i : ℕ) : Type 0 where
+  pub from : (n : ℕ) → IsCounted above n → IsCounted counts n × (need_at counts step i < rounded_need step n)
+  pub to : (n : ℕ) → IsCounted counts n → need_at counts step i < rounded_need step n → IsCounted above n
+  pub sum : (classes : List ℕ) → AreClassesAbove step (max 1 (need_at counts step i)) classes
+      → cost classes ≡ cost_above between (max 1 (need_at counts step i)) classes
+  pub drop : (c : ℕ) (cs : List ℕ) → c ≤ max 1 (need_at counts step i) → 2 ≤ c → c % step ≡ 0 → AreClassesAbove step c cs
+      → cost (c ∷ cs) ≡ cost cs
+
+-- ---- a table without the classes up to low
+
+record Dropped (cost : List ℕ → ℕ) (counts : List ℕ) (step low : ℕ) (classes : List ℕ) : Type 0 where
   table : List ℕ
   above : AreClassesAbove step low table
   few : length table ≤ length classes
-  wasted : waste_above counts step low table ≡ waste_above counts step low classes
+  costs : cost table ≡ cost classes
   served : ServesAbove counts step low table
 
-module _ (counts : List ℕ) (step : ℕ) (pos : 0 < step) (low : ℕ) where
-  same-waste : (c n : ℕ) (cs : List ℕ) → c ≤ low → 2 ≤ c → c % step ≡ 0
-      → cond (ltb low (rounded_need step n)) (waste_at counts cs n) 0 ≡ cond (ltb low (rounded_need step n)) (waste_at counts (c ∷ cs) n) 0
-  same-waste c n cs le two multiple = grind (arith, cases_lt, class_for-later, cond-false, le-ltb)
-
+module _ (counts : List ℕ) (step : ℕ) (pos : 0 < step) (cost : List ℕ → ℕ) (low : ℕ)
+    (drop : (c : ℕ) (cs : List ℕ) → c ≤ low → 2 ≤ c → c % step ≡ 0 → AreClassesAbove step c cs → cost (c ∷ cs) ≡ cost cs) where
   drop-low : (base : ℕ) (classes : List ℕ) → 1 ≤ base → AreClassesAbove step base classes → ServesAbove counts step low classes
-      → Dropped counts step low classes
-  drop-low base [] one above served = record { table = []; above = tt; few = omega arith; wasted = refl; served = served }
+      → Dropped cost counts step low classes
+  drop-low base [] one above served = record { table = []; above = tt; few = omega arith; costs = refl; served = served }
   drop-low base (c ∷ cs) one above served =
       let two : 2 ≤ c = omega (arith, above.0) in
       elim (cases_lt low c) [
-        | inl over ↦ record { table = c ∷ cs; above = (over, above.1, above.2, above.3); few = omega arith; wasted = refl; served = served }
+        | inl over ↦ record { table = c ∷ cs; above = (over, above.1, above.2, above.3); few = omega arith; costs = refl; served = served }
         | inr under ↦ (let later = drop-low c cs (omega arith) above.3 (λ n counted lt.
             subst (λ (class : Option ℕ). IsSome class) (class_for-later step pos n c cs two above.2 (omega arith)) (served n counted lt)) in
             record {
@@ -100,27 +101,51 @@ module _ (counts : List ℕ) (step : ℕ) (pos : 0 < step) (low : ℕ) where
               above = later.above;
               few = omega (arith, later.few);
               served = later.served;
-              wasted = later.wasted ∙ sum_same _ _ (length counts) (λ n lt. same-waste c n cs under two above.2);
+              costs = omega (arith, later.costs, drop c cs under two above.2 above.3);
             })
       ]
 
 -- ---- potentials at every place
 
-module _ (counts : List ℕ) (step : ℕ) (pos : 0 < step) (limit : ℕ) (potential : ℕ → ℕ → ℕ)
-    (valid : AreValidPotentials (span_waste counts step) (places counts step) limit potential) where
-  pub rests-bound : (k i : ℕ) (classes : List ℕ) → k ≤ limit → i ≤ places counts step
-      → IsCandidate (counts_above counts step i) step k classes
-      → potential k i ≤ waste_of (counts_above counts step i) classes
-  rests-bound k i classes le within candidate =
+module _ (counts : List ℕ) (step : ℕ) (pos : 0 < step) (between : ℕ → ℕ → ℕ) (interval : IsIntervalCost counts step between) (limit : ℕ)
+    (potential : ℕ → ℕ → ℕ) (valid : AreValidPotentials (span_cost between counts step) (places counts step) limit potential)
+    (cost : List ℕ → ℕ) (above : List ℕ) (i : ℕ) (rest : IsRestCost cost between counts above step i) where
+  pub rests-bound : (k : ℕ) (classes : List ℕ) → k ≤ limit → i ≤ places counts step → IsCandidate above step k classes
+      → potential k i ≤ cost classes
+  rests-bound k classes le within candidate =
       let low = max 1 (need_at counts step i) in
       let served : ServesAbove counts step low classes =
-      (λ n counted above. candidate.serving n (counted-to counts step i n counted (omega arith))) in
-      let dropped = drop-low counts step pos low 1 classes (omega arith) (classes_of_legal_table step classes candidate.legal) served in
+      (λ n counted over. candidate.serving n (rest.to n counted (omega arith))) in
+      let dropped = drop-low counts step pos cost low rest.drop 1 classes (omega arith) (classes_of_legal_table step classes candidate.legal)
+      served in
       omega (
         arith,
-        waste-above counts step pos i classes,
-        dropped.wasted,
-        waste_above-costs counts step pos low dropped.table (omega arith) dropped.above,
-        bound counts step pos _ (waste-cost counts step) limit potential valid dropped.table k low i (omega arith)
+        dropped.costs,
+        rest.sum dropped.table dropped.above,
+        bound counts step pos between interval limit potential valid dropped.table k low i (omega arith)
             (reach-low counts step pos i within) dropped.above (omega (arith, dropped.few, candidate.few)) le dropped.served,
       )
+
+-- ---- the waste
+
+module _ (counts : List ℕ) (step : ℕ) (pos : 0 < step) (i : ℕ) where
+  waste-above : (classes : List ℕ) → waste_of (counts_above counts step i) classes
+      ≡ waste_above counts step (max 1 (need_at counts step i)) classes
+  waste-above classes =
+      ap (sum_below _) (length-above 0 counts step (need_at counts step i))
+      ∙ sum_same _ _ (length counts)
+      (λ n lt. masked (rounded_need step n) (need_at counts step i) _ (slice_index counts n) _ (rounded-positive step pos n)
+      (left-above n counts step (need_at counts step i)))
+
+  same-waste : (low c n : ℕ) (cs : List ℕ) → c ≤ low → 2 ≤ c → c % step ≡ 0
+      → cond (ltb low (rounded_need step n)) (waste_at counts (c ∷ cs) n) 0 ≡ cond (ltb low (rounded_need step n)) (waste_at counts cs n) 0
+  same-waste low c n cs le two multiple = grind (arith, cases_lt, class_for-later, cond-false, le-ltb)
+
+  pub waste-rest : IsRestCost (waste_of (counts_above counts step i)) (waste_between counts step) counts (counts_above counts step i) step i
+  waste-rest = record {
+    from = counted-above counts step i;
+    to = counted-to counts step i;
+    sum = λ classes above. waste-above classes ∙ waste_above-costs counts step pos _ classes (omega arith) above;
+    drop = λ c cs le two multiple above. waste-above (c ∷ cs) ∙ sum_same _ _ (length counts) (λ n lt. same-waste _ c n cs le two multiple)
+        ∙ sym (waste-above cs);
+  }

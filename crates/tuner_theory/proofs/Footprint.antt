@@ -65,11 +65,11 @@ module _ (snapshots : List (List ℕ)) (are : AreSnapshots snapshots) where
 -- ---- the blocks of each class
 
 -- of the blocks whose rounded need is above low, those whose class is this one
-abbrev blocks_above : ℕ → ℕ → List ℕ → ℕ → List ℕ → ℕ
+abbrev pub blocks_above : ℕ → ℕ → List ℕ → ℕ → List ℕ → ℕ
 blocks_above step low classes class s =
     sum_below (λ n. cond (ltb low (rounded_need step n)) (cond (is_class_of classes class n) (slice_index s n) 0) 0) (length s)
 
-abbrev footprint_above : List (List ℕ) → ℕ → ℕ → List ℕ → ℕ → ℕ
+abbrev pub footprint_above : List (List ℕ) → ℕ → ℕ → List ℕ → ℕ → ℕ
 footprint_above snapshots step low classes class = 16 * class * most (blocks_above step low classes class) snapshots
 
 at-first : (x low c v : ℕ) (b : Bool) → (x ≤ c → b ≡ true) → (c < x → b ≡ false)
@@ -93,13 +93,13 @@ module _ (step : ℕ) (pos : 0 < step) where
   first-is : (c class n : ℕ) (cs : List ℕ) → rounded_need step n ≤ c → is_class_of (c ∷ cs) class n ≡ eqb c class
   first-is c class n cs le = ap (λ (o : Option ℕ). option_map_or (λ its. eqb its class) o false) (class_for-first step pos n c cs le)
 
-  later-is : (c class n : ℕ) (cs : List ℕ) → 2 ≤ c → c % step ≡ 0 → c < rounded_need step n
+  pub later-is : (c class n : ℕ) (cs : List ℕ) → 2 ≤ c → c % step ≡ 0 → c < rounded_need step n
       → is_class_of (c ∷ cs) class n ≡ is_class_of cs class n
   later-is c class n cs two multiple lt =
       ap (λ (o : Option ℕ). option_map_or (λ its. eqb its class) o false) (class_for-later step pos n c cs two multiple lt)
 
   -- no size has a class that is not among the classes above low
-  no-class : (low class n : ℕ) (classes : List ℕ) → 1 ≤ low → class ≤ low → AreClassesAbove step low classes
+  pub no-class : (low class n : ℕ) (classes : List ℕ) → 1 ≤ low → class ≤ low → AreClassesAbove step low classes
       → is_class_of classes class n ≡ false
   no-class low class n [] one le above = refl
   no-class low class n (c ∷ cs) one le above =
@@ -123,7 +123,7 @@ module _ (step : ℕ) (pos : 0 < step) where
         (λ le. first-is c class n cs le ∙ other-number c class over) (λ lt. later-is c class n cs (omega (arith, above.0)) above.2 lt))
 
   -- what holds of each class above c
-  sum-later : (f g : ℕ → ℕ) (c low : ℕ) (classes : List ℕ) → ((class : ℕ) → c < class → f class ≡ g class) → c ≤ low
+  pub sum-later : (f g : ℕ → ℕ) (c low : ℕ) (classes : List ℕ) → ((class : ℕ) → c < class → f class ≡ g class) → c ≤ low
       → AreClassesAbove step low classes → sum_by f classes ≡ sum_by g classes
   sum-later f g c low [] each le above = refl
   sum-later f g c low (d ∷ ds) each le above =

@@ -6,6 +6,7 @@ pub mod ExampleProfiles
 pub mod ExampleSheets
 pub mod Footprint
 pub mod FootprintLawLemmas
+pub mod FootprintRests
 pub mod Growing
 pub mod Intervals
 pub mod LeastRows

@@ -1,40 +1,44 @@
--- The numbers of least rows are the least rests.
+-- The numbers of least rows are the least rests, by any cost that is a sum of intervals.
 use Rattle.std.proofs.Common.{◌≡◌, ℕ, zero, suc, ◌<◌, ◌≤◌, max, List, arith}
-use Rattle.tuner_theory.specs.Rests.{IsRest, counts_above}
+use Rattle.tuner_theory.specs.Intervals.{IsIntervalCost}
+use Rattle.tuner_theory.specs.Rests.{IsRest, IsRestBy, counts_above}
 use Rattle.tuner_theory.specs.Rows.{table_of_ends}
-use Rattle.tuner_theory.specs.Tuned.{AreTunedRows}
+use Rattle.tuner_theory.specs.Tuned.{AreRowsBy, AreTunedRows}
 use Rattle.tuner_theory.specs.Spans.{need_at, places, rounded_need, waste_between}
 use Rattle.tuner_theory.specs.Waste.{waste_of}
 use Rattle.class_table.proofs.LawLemmas.{legal_table_of_classes}
-use Rattle.tuner_theory.proofs.BoundRests.{counted-above, reach-low, rests-bound, waste-above}
+use Rattle.tuner_theory.proofs.BoundRests.{IsRestCost, reach-low, rests-bound, waste-rest}
 use Rattle.tuner_theory.proofs.LeastRows.{least_rows_are_valid}
 use Rattle.tuner_theory.proofs.Needs.{Reaches}
 use Rattle.tuner_theory.proofs.Rounding.{rounded-positive, step-positive}
-use Rattle.tuner_theory.proofs.Tables.{waste-cost, waste_above-costs}
+use Rattle.tuner_theory.proofs.Tables.{waste-cost}
 use Rattle.tuner_theory.proofs.TunedTable.{IsTableFor, table-tuned}
 
-module _ (counts : List ℕ) (step limit : ℕ) (rows ends : ℕ → ℕ → ℕ) (tuned : AreTunedRows counts step limit rows ends) where
-  rest-at : (k i : ℕ) → suc k ≤ limit → i < places counts step → IsRest counts step (suc k) i (rows (suc k) i)
-  rest-at k i le lt = record {
+module _ (between : ℕ → ℕ → ℕ) (counts : List ℕ) (step limit : ℕ) (interval : IsIntervalCost counts step between) (rows ends : ℕ → ℕ → ℕ)
+    (made : AreRowsBy between counts step limit rows ends) (cost : List ℕ → ℕ) (above : List ℕ) (i : ℕ)
+    (rest : IsRestCost cost between counts above step i) where
+  rest-at : (k : ℕ) → suc k ≤ limit → i < places counts step → IsRestBy cost above step (suc k) (rows (suc k) i)
+  rest-at k le lt = record {
     table = table;
     best = record {
       candidate = record {
-        legal = legal_table_of_classes step low table (omega arith) (omega (arith, is.few, tuned.few)) is.above;
+        legal = legal_table_of_classes step low table (omega arith) (omega (arith, is.few, made.few)) is.above;
         few = is.few;
-        serving = λ n counted. let c = counted-above counts step i n counted in is.served n c.0 (over n c.1);
+        serving = λ n counted. let c = rest.from n counted in is.served n c.0 (over n c.1);
       };
       least = λ other candidate.
           omega (
             arith,
-            wasted,
-            rests-bound counts step pos limit rows (least_rows_are_valid _ _ _ rows ends tuned.least) (suc k) i other le (omega arith) candidate,
+            costs,
+            rests-bound counts step pos between interval limit rows (least_rows_are_valid _ _ _ rows ends made.least) cost above i rest
+                (suc k) other le (omega arith) candidate,
           );
     };
-    wasted = wasted;
+    costs = costs;
   }
     where
       pos : 0 < step
-      pos = step-positive step tuned.is_step
+      pos = step-positive step made.is_step
 
       low : ℕ
       low = max 1 (need_at counts step i)
@@ -45,22 +49,28 @@ module _ (counts : List ℕ) (step limit : ℕ) (rows ends : ℕ → ℕ → ℕ
       table : List ℕ
       table = table_of_ends (need_at counts step) ends (places counts step) (suc k) i
 
-      is : IsTableFor (waste_between counts step) counts step (suc k) low (rows (suc k) i) table
-      is = table-tuned counts step tuned.is_step (omega (arith, tuned.are_counts.sizes)) _ (waste-cost counts step) limit rows ends tuned.least
-          k i low le (omega arith) r
+      is : IsTableFor between counts step (suc k) low (rows (suc k) i) table
+      is = table-tuned counts step made.is_step (omega (arith, made.are_counts.sizes)) between interval limit rows ends made.least k i low le
+          (omega arith) r
 
-      wasted : waste_of (counts_above counts step i) table ≡ rows (suc k) i
-      wasted =
-          omega (arith, waste-above counts step pos i table, waste_above-costs counts step pos low table (omega arith) is.above, is.costs)
+      costs : cost table ≡ rows (suc k) i
+      costs = omega (arith, rest.sum table is.above, is.costs)
 
       over : (n : ℕ) → need_at counts step i < rounded_need step n → low < rounded_need step n
       over n h = omega (arith, rounded-positive step pos n)
 
-  pub tuned_rows_are_rests : (k i : ℕ) → 1 ≤ k → k ≤ limit → i < places counts step → IsRest counts step k i (rows k i)
-  tuned_rows_are_rests zero i one le lt = absurd (omega arith)
-  tuned_rows_are_rests (suc k) i one le lt = rest-at k i le lt
+  pub rows_are_rests : (k : ℕ) → 1 ≤ k → k ≤ limit → i < places counts step → IsRestBy cost above step k (rows k i)
+  rows_are_rests zero one le lt = absurd (omega arith)
+  rows_are_rests (suc k) one le lt = rest-at k le lt
+
+pub tuned_rows_are_rests : (counts : List ℕ) (step limit : ℕ) (rows ends : ℕ → ℕ → ℕ) → AreTunedRows counts step limit rows ends
+    → (k i : ℕ) → 1 ≤ k → k ≤ limit → i < places counts step → IsRest counts step k i (rows k i)
+tuned_rows_are_rests counts step limit rows ends tuned k i =
+    rows_are_rests (waste_between counts step) counts step limit (waste-cost counts step) rows ends tuned
+        (waste_of (counts_above counts step i)) (counts_above counts step i) i
+        (waste-rest counts step (step-positive step tuned.is_step) i) k
 
 -- and a least rest is one number
-pub one_rest : (counts : List ℕ) (step k i v w : ℕ) → IsRest counts step k i v → IsRest counts step k i w → v ≡ w
-one_rest counts step k i v w a b =
-    omega (arith, a.wasted, b.wasted, a.best.least b.table b.best.candidate, b.best.least a.table a.best.candidate)
+pub one_rest : (cost : List ℕ → ℕ) (counts : List ℕ) (step k v w : ℕ) → IsRestBy cost counts step k v → IsRestBy cost counts step k w → v ≡ w
+one_rest cost counts step k v w a b =
+    omega (arith, a.costs, b.costs, a.best.least b.table b.best.candidate, b.best.least a.table a.best.candidate)

@@ -1,6 +1,8 @@
--- The least waste of the rest: of the requests whose need is above the one at a place.
-use Rattle.std.specs.Prelude.{◌≡◌, ℕ, suc, nat_le, if◌then◌else◌, List, [], ◌∷◌}
-use Rattle.tuner_theory.specs.Best.{IsBest}
+-- The least waste and the least footprint of the rest: of the sizes whose rounded need is above the one at a place.
+use Rattle.std.specs.Prelude.{◌≡◌, ℕ, suc, nat_le, if◌then◌else◌, List, [], ◌∷◌, map}
+use Rattle.tuner_theory.specs.Best.{IsBestBy}
+use Rattle.tuner_theory.specs.Footprint.{footprint_of}
+use Rattle.tuner_theory.specs.Histories.{peaks}
 use Rattle.tuner_theory.specs.Spans.{need_at, rounded_need}
 use Rattle.tuner_theory.specs.Waste.{waste_of}
 
@@ -14,8 +16,21 @@ counts_above_from n (count ∷ counts) step low =
 abbrev pub counts_above : List ℕ → ℕ → ℕ → List ℕ
 counts_above counts step i = counts_above_from 0 counts step (need_at counts step i)
 
--- The least rest: the least waste with which at most k classes serve the requests whose rounded need is above the one at place i.
-pub record IsRest (counts : List ℕ) (step k i waste : ℕ) : Type 0 where
+-- The least rest by a cost of tables: the least for which at most k classes serve what is counted.
+pub record IsRestBy (cost : List ℕ → ℕ) (counts : List ℕ) (step k rest : ℕ) : Type 0 where
   pub table : List ℕ
-  pub best : IsBest (counts_above counts step i) step k table
-  pub wasted : waste_of (counts_above counts step i) table ≡ waste
+  pub best : IsBestBy cost counts step k table
+  pub costs : cost table ≡ rest
+
+-- The least rest: the least waste with which at most k classes serve the requests whose rounded need is above the one at place i.
+abbrev pub IsRest : List ℕ → ℕ → ℕ → ℕ → ℕ → Type 0
+IsRest counts step k i waste = IsRestBy (waste_of (counts_above counts step i)) (counts_above counts step i) step k waste
+
+-- The snapshots of a history without the blocks of the sizes whose rounded need is at most the one at place i.
+abbrev pub snapshots_above : List (List ℕ) → ℕ → ℕ → List (List ℕ)
+snapshots_above snapshots step i = map (λ snapshot. counts_above_from 0 snapshot step (need_at (peaks snapshots) step i)) snapshots
+
+-- The least rest of a history: the least footprint with which at most k classes serve these.
+abbrev pub IsFootprintRest : List (List ℕ) → ℕ → ℕ → ℕ → ℕ → Type 0
+IsFootprintRest snapshots step k i footprint =
+    IsRestBy (footprint_of (snapshots_above snapshots step i)) (peaks (snapshots_above snapshots step i)) step k footprint

@@ -1,7 +1,7 @@
 use Rattle.tuner_theory.proofs.Bound.{potentials_bound_costs}
-use Rattle.tuner_theory.proofs.BoundRests.{rests-bound}
+use Rattle.tuner_theory.proofs.BoundRests.{rests-bound, waste-rest}
 use Rattle.tuner_theory.proofs.Rounding.{step-positive}
-use Rattle.tuner_theory.proofs.Tables.{waste-sum}
+use Rattle.tuner_theory.proofs.Tables.{waste-cost, waste-sum}
 use Rattle.tuner_theory.proofs.laws.law_potentials_bound.Goals as goal
 
 pub returns-clause-bound : goal.returns-clause-bound
@@ -11,4 +11,5 @@ returns-clause-bound c counts step limit potential classes is_step valid =
 
 pub returns-clause-everywhere : goal.returns-clause-everywhere
 returns-clause-everywhere c counts step limit potential k i classes is_step valid =
-    rests-bound counts step (step-positive step is_step) limit potential valid k i classes
+    let pos = step-positive step is_step in
+    rests-bound counts step pos _ (waste-cost counts step) limit potential valid _ _ i (waste-rest counts step pos i) k classes

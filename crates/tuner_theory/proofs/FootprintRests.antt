@@ -1,0 +1,137 @@
+-- The numbers of a fit's rows are the least footprints of what is left above each place.
+use Rattle.std.proofs.Common.{◌≡◌, ℕ, zero, suc, ◌*◌, ◌%◌, ◌<◌, ◌≤◌, max, Bool, true, false, List, [], ◌∷◌, length, map, slice_index, get_or, cond, ltb, leb, arith, refl, ap, sym, ◌∙◌, inl, inr, sum_by}
+use Rattle.std.proofs.lemmas.Bool.{cases_lt, cond_both}
+use Rattle.std.proofs.lemmas.Bool.Decides.{nat_tests}
+use Rattle.std.proofs.lemmas.List.Sums.{sum_by-cons}
+use Rattle.class_table.specs.Sizes.{largest_counted}
+use Rattle.class_table.proofs.LawLemmas.{AreClassesAbove}
+use Rattle.tuner_theory.specs.Footprint.{blocks, footprint_between, footprint_of, is_class_of}
+use Rattle.tuner_theory.specs.Histories.{AreSnapshots, most, peaks}
+use Rattle.tuner_theory.specs.Intervals.{cost_above}
+use Rattle.tuner_theory.specs.Profiles.{IsCounted}
+use Rattle.tuner_theory.specs.Rests.{IsFootprintRest, counts_above_from, snapshots_above}
+use Rattle.tuner_theory.specs.Spans.{need_at, places, rounded_need}
+use Rattle.tuner_theory.specs.Tuned.{AreFittedRows}
+use Rattle.tuner_theory.specs.Waste.{sum_below}
+use Rattle.tuner_theory.proofs.BoundRests.{IsRestCost, left-above, length-above}
+use Rattle.tuner_theory.proofs.Footprint.{blocks_above, footprint-above, footprint-cost, footprint_above, later-is, most-same, no-class, peak-at, peaks-length, sum-later}
+use Rattle.tuner_theory.proofs.Rests.{rows_are_rests}
+use Rattle.tuner_theory.proofs.Rounding.{rounded-positive, step-positive}
+use Rattle.tuner_theory.proofs.Sums.{sum_none, sum_same}
+
+most-map : (f : List ℕ → ℕ) (g : List ℕ → List ℕ) (snapshots : List (List ℕ)) → most f (map g snapshots) ≡ most (λ s. f (g s)) snapshots
+most-map f g [] = refl
+most-map f g (s ∷ ss) = ap (max (f (g s))) (most-map f g ss)
+
+most-none : (snapshots : List (List ℕ)) → most (λ s. 0) snapshots ≡ 0
+most-none [] = refl
+most-none (s ∷ ss) = omega (arith, most-none ss)
+
+most-cond : (b : Bool) (f : List ℕ → ℕ) (snapshots : List (List ℕ)) → most (λ s. cond b 0 (f s)) snapshots ≡ cond b 0 (most f snapshots)
+most-cond true f snapshots = most-none snapshots
+most-cond false f snapshots = refl
+
+-- one size: what is left of it, in a class or not
+left : (x low v w : ℕ) (b : Bool) → 2 ≤ x → w ≡ cond (leb x low) 0 v → cond b w 0 ≡ cond (ltb (max 1 low) x) (cond b v 0) 0
+left x low v w b two e = grind (arith, nat_tests)
+
+kept : (x low v w : ℕ) → w ≡ cond (leb x low) 0 v → 0 < w → (low < x) × (0 < v)
+kept x low v w e some = grind arith
+
+keep : (x low v w : ℕ) → w ≡ cond (leb x low) 0 v → low < x → w ≡ v
+keep x low v w e over = grind (arith, nat_tests)
+
+module _ (snapshots : List (List ℕ)) (step : ℕ) (pos : 0 < step) (i : ℕ) where
+  abbrev need : ℕ
+  need = need_at (peaks snapshots) step i
+
+  abbrev low : ℕ
+  low = max 1 need
+
+  abbrev pub above : List (List ℕ)
+  above = snapshots_above snapshots step i
+
+  -- ---- the sizes that are counted
+
+  peak-above : (n : ℕ) → n ≤ largest_counted
+      → slice_index (peaks above) n ≡ cond (leb (rounded_need step n) need) 0 (slice_index (peaks snapshots) n)
+  peak-above n le =
+      peak-at above n 0 le
+      ∙ most-map (λ s. slice_index s n) (λ s. counts_above_from 0 s step need) snapshots
+      ∙ most-same _ (λ s. cond (leb (rounded_need step n) need) 0 (slice_index s n)) snapshots (λ s. left-above n s step need)
+      ∙ most-cond (leb (rounded_need step n) need) (λ s. slice_index s n) snapshots
+      ∙ ap (λ v. cond (leb (rounded_need step n) need) 0 v) (sym (peak-at snapshots n 0 le))
+
+  from-above : (n : ℕ) → IsCounted (peaks above) n → IsCounted (peaks snapshots) n × (need < rounded_need step n)
+  from-above n counted =
+      let within : n ≤ largest_counted = omega (arith, counted.0, peaks-length above) in
+      let both = kept (rounded_need step n) need (slice_index (peaks snapshots) n) _ (peak-above n within) counted.1 in
+      ((omega (arith, within, peaks-length snapshots), both.1), both.0)
+
+  to-above : (n : ℕ) → IsCounted (peaks snapshots) n → need < rounded_need step n → IsCounted (peaks above) n
+  to-above n counted over =
+      let within : n ≤ largest_counted = omega (arith, counted.0, peaks-length snapshots) in
+      (
+        omega (arith, within, peaks-length above),
+        omega (arith, counted.1, keep (rounded_need step n) need (slice_index (peaks snapshots) n) _ (peak-above n within) over),
+      )
+
+  -- ---- the blocks of a class
+
+  blocks-left : (classes : List ℕ) (class : ℕ) → most (blocks classes class) above ≡ most (blocks_above step low classes class) snapshots
+  blocks-left classes class =
+      most-map (blocks classes class) (λ s. counts_above_from 0 s step need) snapshots
+      ∙ most-same _ _ snapshots (λ s. ap (sum_below _) (length-above 0 s step need)
+      ∙ sum_same _ _ (length s) (λ n lt. left (rounded_need step n) need (slice_index s n) _ (is_class_of classes class n)
+      (rounded-positive step pos n) (left-above n s step need)))
+
+  sum-above : (classes : List ℕ) → AreClassesAbove step low classes
+      → footprint_of above classes ≡ cost_above (footprint_between snapshots step) low classes
+  sum-above classes are =
+      sum-later step pos _ (footprint_above snapshots step low classes) 1 low classes
+      (λ class over. ap (λ m. 16 * class * m) (blocks-left classes class)) (omega arith) are
+      ∙ footprint-above step pos snapshots low classes (omega arith) are
+
+  -- a class that is not above the need has no block,
+  no-blocks : (c : ℕ) (cs : List ℕ) → c ≤ low → 2 ≤ c → c % step ≡ 0 → AreClassesAbove step c cs → (s : List ℕ)
+      → blocks_above step low (c ∷ cs) c s ≡ 0
+  no-blocks c cs le two multiple are s =
+      sum_none _ (length s) (λ n lt. none (rounded_need step n) (slice_index s n) (is_class_of (c ∷ cs) c n) (λ over.
+      later-is step pos c c n cs two multiple (omega arith) ∙ no-class step pos c c n cs (omega arith) (omega arith) are))
+    where
+      none : (x v : ℕ) (b : Bool) → (low < x → b ≡ false) → cond (ltb low x) (cond b v 0) 0 ≡ 0
+      none x v b is = grind (arith, nat_tests)
+
+  -- and the others have the same without it
+  same-blocks : (c class : ℕ) (cs : List ℕ) → c ≤ low → 2 ≤ c → c % step ≡ 0 → (s : List ℕ)
+      → blocks_above step low (c ∷ cs) class s ≡ blocks_above step low cs class s
+  same-blocks c class cs le two multiple s =
+      sum_same _ _ (length s) (λ n lt. same (rounded_need step n) (slice_index s n) _ _ (λ over.
+      later-is step pos c class n cs two multiple (omega arith)))
+    where
+      same : (x v : ℕ) (b later : Bool) → (low < x → b ≡ later) → cond (ltb low x) (cond b v 0) 0 ≡ cond (ltb low x) (cond later v 0) 0
+      same x v b later is = grind (arith, nat_tests)
+
+  drop-class : (c : ℕ) (cs : List ℕ) → c ≤ low → 2 ≤ c → c % step ≡ 0 → AreClassesAbove step c cs
+      → footprint_of above (c ∷ cs) ≡ footprint_of above cs
+  drop-class c cs le two multiple are =
+      omega (
+        arith,
+        sum_by-cons (λ class. 16 * class * most (blocks (c ∷ cs) class) above) c cs,
+        ap (λ m. 16 * c * m) (blocks-left (c ∷ cs) c ∙ most-same _ _ snapshots (no-blocks c cs le two multiple are) ∙ most-none snapshots),
+        sum-later step pos (λ class. 16 * class * most (blocks (c ∷ cs) class) above)
+            (λ class. 16 * class * most (blocks cs class) above) c c cs
+            (λ class over. ap (λ m. 16 * class * m) (blocks-left (c ∷ cs) class
+            ∙ most-same _ _ snapshots (same-blocks c class cs le two multiple) ∙ sym (blocks-left cs class))) (omega arith) are,
+      )
+
+  pub footprint-rest : IsRestCost (footprint_of above) (footprint_between snapshots step) (peaks snapshots) (peaks above) step i
+  footprint-rest = record { from = from-above; to = to-above; sum = sum-above; drop = drop-class }
+
+pub fitted_rows_are_rests : (snapshots : List (List ℕ)) (step limit : ℕ) (rows ends : ℕ → ℕ → ℕ) → AreSnapshots snapshots
+    → AreFittedRows snapshots step limit rows ends
+    → (k i : ℕ) → 1 ≤ k → k ≤ limit → i < places (peaks snapshots) step → IsFootprintRest snapshots step k i (rows k i)
+fitted_rows_are_rests snapshots step limit rows ends are fitted k i =
+    rows_are_rests (footprint_between snapshots step) (peaks snapshots) step limit (footprint-cost snapshots are step) rows ends fitted
+        (footprint_of (snapshots_above snapshots step i)) (peaks (snapshots_above snapshots step i)) i
+        (footprint-rest snapshots step (step-positive step fitted.is_step) i) k
