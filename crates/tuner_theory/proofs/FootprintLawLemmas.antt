@@ -37,7 +37,7 @@ optimal_fit_is_least snapshots fit are legal meets =
 
 -- ---- how large numbers are
 
-most-bounded : (f : List ℕ → ℕ) (bound : ℕ) (snapshots : List (List ℕ)) → All (λ s. f s ≤ bound) snapshots → most f snapshots ≤ bound
+pub most-bounded : (f : List ℕ → ℕ) (bound : ℕ) (snapshots : List (List ℕ)) → All (λ s. f s ≤ bound) snapshots → most f snapshots ≤ bound
 most-bounded f bound [] each = omega arith
 most-bounded f bound (s ∷ ss) each =
     omega (arith, each 0 [] (omega arith), most-bounded f bound ss (λ k d lt. each (suc k) d (omega arith)))
@@ -200,7 +200,7 @@ fitted_is_tuned counts classes step limit is_step are fitted =
 
 -- ---- larger histories
 
-sum-more : (f g : ℕ → ℕ) (classes : List ℕ) → ((class : ℕ) → f class ≤ g class) → sum_by f classes ≤ sum_by g classes
+pub sum-more : (f g : ℕ → ℕ) (classes : List ℕ) → ((class : ℕ) → f class ≤ g class) → sum_by f classes ≤ sum_by g classes
 sum-more f g [] each = omega arith
 sum-more f g (c ∷ cs) each = omega (arith, sum_by-cons f c cs, sum_by-cons g c cs, each c, sum-more f g cs each)
 

@@ -19,4 +19,8 @@ pub mod Sheets
 pub mod Spans
 pub mod Sums
 pub mod Tables
+pub mod TimelineBlocks
+pub mod TimelineCanonical
+pub mod TimelineSteps
+pub mod Timelines
 pub mod TunedTable

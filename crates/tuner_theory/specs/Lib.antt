@@ -12,5 +12,6 @@ pub mod Rows
 pub mod Sheets
 pub mod RefusalText
 pub mod Spans
+pub mod Timelines
 pub mod Tuned
 pub mod Waste

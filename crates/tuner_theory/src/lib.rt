@@ -7,8 +7,11 @@ pub mod footprint_laws;
 mod greatest_count;
 pub mod laws;
 mod most_snapshots;
+mod size_event;
+pub mod timeline_laws;
 mod verdict;
 
 pub use greatest_count::GREATEST_COUNT;
 pub use most_snapshots::MOST_SNAPSHOTS;
+pub use size_event::SizeEvent;
 pub use verdict::{FitRefusal, Refusal, Verdict};

@@ -1,0 +1,158 @@
+-- A table that is chosen for some moments, and takes no more over all of them, is the one that is chosen for the timeline.
+use Rattle.std.proofs.Common.{◌≡◌, ℕ, zero, suc, ◌+◌, ◌*◌, ◌<◌, ◌≤◌, Bool, true, false, List, [], ◌∷◌, length, slice_index, get_or, cond, eqb, arith, refl, ap, ◌∙◌, inl, inr, All, sum_by, Option, Some, None}
+use Rattle.std.specs.Option.{option_map_or}
+use Rattle.std.proofs.lemmas.Bool.{cases_lt, cond-true, eq-eqb, eqb-true}
+use Rattle.std.proofs.lemmas.List.{get_or-map, length-map}
+use Rattle.std.proofs.lemmas.List.Elements.{All-cons, All-nil}
+use Rattle.std.proofs.lemmas.List.Sums.{sum_by-cons}
+use Rattle.std.proofs.Math.Nat.{mul-le-mul, mul-le-mul_left}
+use Rattle.class_table.specs.Sizes.{largest_counted}
+use Rattle.class_table.specs.Tables.{class_for}
+use Rattle.tuner_theory.specs.Best.{IsCandidate, IsCanonicalBy, IsUsed}
+use Rattle.tuner_theory.specs.Footprint.{IsFitted, blocks, footprint_of, is_class_of}
+use Rattle.tuner_theory.specs.Histories.{most, peaks}
+use Rattle.tuner_theory.specs.Timelines.{AreMoments, footprint_over, history_at, moments, snapshot_at}
+use Rattle.tuner_theory.specs.Waste.{Serves, sum_below}
+use Rattle.tuner_theory.specs.declared.size_event.SizeEvent.{SizeEvent}
+use Rattle.tuner_theory.proofs.Footprint.{most-above, peak-at, peaks-length}
+use Rattle.tuner_theory.proofs.FootprintLawLemmas.{sum-more}
+use Rattle.tuner_theory.proofs.Timelines.{candidate-before, counted-later, moment-at, moments-length, snapshot-length, some-below, some_moments_take_less}
+
+-- ---- what is not 0
+
+positive-sum : (f : ℕ → ℕ) (m : ℕ) → 0 < sum_below f m → (n : ℕ) × (n < m) × (0 < f n)
+unfolding sum_below
+positive-sum f zero some = absurd (omega arith)
+positive-sum f (suc m) some =
+    elim (cases_lt 0 (f m)) [
+      | inl here ↦ (m, omega arith, here)
+      | inr none ↦ let before = positive-sum f m (omega arith) in (before.0, omega (arith, before.1), before.2)
+    ]
+
+positive-most : (f : List ℕ → ℕ) (ss : List (List ℕ)) → 0 < most f ss → (k : ℕ) × (k < length ss) × (0 < f (get_or ss k []))
+positive-most f [] some = absurd (omega arith)
+positive-most f (s ∷ ss) some =
+    elim (cases_lt 0 (f s)) [
+      | inl here ↦ (0, omega arith, here)
+      | inr none ↦ let later = positive-most f ss (omega arith) in (suc later.0, omega (arith, later.1), later.2)
+    ]
+
+term-below : (f : ℕ → ℕ) (n m : ℕ) → n < m → f n ≤ sum_below f m
+unfolding sum_below
+term-below f n zero lt = absurd (omega arith)
+term-below f n (suc m) lt =
+    elim (cases_lt n m) [
+      | inl before ↦ omega (arith, term-below f n m before)
+      | inr last ↦ let same : n ≡ m = omega arith in omega (arith, ap f same)
+    ]
+
+masked : (b : Bool) (v : ℕ) → 0 < cond b v 0 → (b ≡ true) × (0 < v)
+masked true v some = (refl, some)
+masked false v some = absurd (omega arith)
+
+class-of : (o : Option ℕ) (class : ℕ) → option_map_or (λ its. eqb its class) o false ≡ true → o ≡ Some class
+class-of None class is = cc
+class-of (Some its) class is = ap Some (eqb-true its class is)
+
+-- ---- classes that are used
+
+used-of-blocks : (events : List SizeEvent) (numbers classes : List ℕ) (class : ℕ)
+    → 0 < most (blocks classes class) (history_at events numbers) → IsUsed (peaks (history_at events numbers)) classes class
+used-of-blocks events numbers classes class some =
+    let history = history_at events numbers in
+    let there = positive-most (blocks classes class) history some in
+    let s = get_or history there.0 [] in
+    let n = positive-sum (λ n. cond (is_class_of classes class n) (slice_index s n) 0) (length s) there.2 in
+    let parts = masked (is_class_of classes class n.0) (slice_index s n.0) n.2 in
+    let len : length s ≡ largest_counted + 1 =
+    ap length (get_or-map (snapshot_at events) numbers there.0 0 [] (omega (arith, there.1, length-map numbers (snapshot_at events))))
+    ∙ snapshot-length events (get_or numbers there.0 0) in (
+      n.0,
+      (
+        omega (arith, n.1, len, peaks-length history),
+        omega (
+          arith,
+          parts.1,
+          peak-at history n.0 0 (omega (arith, n.1, len)),
+          most-above (λ t. slice_index t n.0) history there.0 [] there.1,
+        ),
+      ),
+      class-of (class_for classes n.0) class parts.0,
+    )
+
+blocks-of-used : (events : List SizeEvent) (classes : List ℕ) (class : ℕ) → IsUsed (peaks (moments events)) classes class
+    → 0 < most (blocks classes class) (moments events)
+blocks-of-used events classes class used =
+    let n = used.0 in
+    let le : n ≤ largest_counted = omega (arith, used.1.0, peaks-length (moments events)) in
+    let there = positive-most (λ s. slice_index s n) (moments events) (omega (arith, used.1.1, peak-at (moments events) n 0 le)) in
+    let s = get_or (moments events) there.0 [] in
+    let len : length s ≡ largest_counted + 1 =
+    ap length (moment-at events there.0 [] (omega (arith, there.1, moments-length events))) ∙ snapshot-length events there.0 in
+    let its : is_class_of classes class n ≡ true =
+    ap (λ (o : Option ℕ). option_map_or (λ its. eqb its class) o false) used.2 ∙ eq-eqb class class refl in
+    let term = term-below (λ m. cond (is_class_of classes class m) (slice_index s m) 0) n (length s) (omega (arith, len)) in
+    let value : cond (is_class_of classes class n) (slice_index s n) 0 ≡ slice_index s n = cond-true _ _ _ its in
+    omega (arith, there.2, term, value, most-above (blocks classes class) (moments events) there.0 [] there.1)
+
+-- ---- sums that are equal term by term
+
+terms-equal : (f g : ℕ → ℕ) (cs : List ℕ) → ((c : ℕ) → f c ≤ g c) → sum_by g cs ≤ sum_by f cs → All (λ c. g c ≤ f c) cs
+terms-equal f g [] each le = All-nil (λ c. g c ≤ f c)
+terms-equal f g (c ∷ cs) each le =
+    All-cons (λ c. g c ≤ f c) c cs
+    (omega (arith, sum_by-cons f c cs, sum_by-cons g c cs, sum-more f g cs each))
+    (terms-equal f g cs each (omega (arith, sum_by-cons f c cs, sum_by-cons g c cs, each c)))
+
+pub canonical_over : (events : List SizeEvent) (numbers : List ℕ) (step limit : ℕ) (classes : List ℕ) → AreMoments events numbers
+    → IsFitted (history_at events numbers) step limit classes → Serves (peaks (moments events)) classes
+    → footprint_over events classes ≡ footprint_of (history_at events numbers) classes
+    → IsCanonicalBy (footprint_over events) (peaks (moments events)) step limit classes
+canonical_over events numbers step limit classes are fitted serving same =
+    record {
+      best = record {
+        candidate = its;
+        least = λ other candidate.
+            omega (
+              arith,
+              same,
+              fitted.best.least other (candidate-before events numbers step limit other are candidate),
+              some_moments_take_less events numbers other are,
+            );
+      };
+      used = λ k d lt.
+          let used = fitted.used k d lt in
+          (used.0, counted-later events numbers used.0 are used.1, used.2);
+      least = λ other best used.
+          fitted.least other (record {
+            candidate = candidate-before events numbers step limit other are best.candidate;
+            least = λ third candidate.
+                omega (
+                  arith,
+                  same,
+                  some_moments_take_less events numbers other are,
+                  best.least classes its,
+                  fitted.best.least third candidate,
+                );
+          }) (λ k d lt.
+          let c = get_or other k d in
+          let over = blocks-of-used events other c (used k d lt) in
+          let equal = terms-equal (λ c. 16 * c * most (blocks other c) (history_at events numbers))
+          (λ c. 16 * c * most (blocks other c) (moments events)) other
+          (λ c. mul-le-mul_left (16 * c) (some-below (blocks other c) events numbers are.within))
+          (omega (
+            arith,
+            same,
+            best.least classes its,
+            fitted.best.least other (candidate-before events numbers step limit other are best.candidate),
+          )) k d lt in
+          let large : 16 * 2 ≤ 16 * c = omega (arith, (best.candidate.legal.in_range k d lt).0) in
+          used-of-blocks events numbers other c (elim (cases_lt 0 (most (blocks other c) (history_at events numbers))) [
+            | inl some ↦ some
+            | inr none ↦ let zero : most (blocks other c) (history_at events numbers) ≡ 0 = omega arith in
+                absurd (omega (arith, equal, ap (λ m. 16 * c * m) zero, mul-le-mul large over))
+          ]));
+    }
+  where
+    its : IsCandidate (peaks (moments events)) step limit classes
+    its = record { legal = fitted.best.candidate.legal; few = fitted.best.candidate.few; serving = serving }

@@ -1,0 +1,138 @@
+-- What a history of some moments says of the whole timeline.
+use Rattle.std.proofs.Common.{◌≡◌, ℕ, ◌+◌, ◌-◌, ◌*◌, ◌≤◌, List, [], ◌∷◌, length, take, slice_index, get_or, arith, ap, All}
+use Rattle.std.proofs.lemmas.List.{length-map, length-take}
+use Rattle.std.proofs.lemmas.List.Elements.{All-head, All-map, All-tail}
+use Rattle.std.proofs.lemmas.List.FromFn.{get_or-map-range_with_len, length-map-range_with_len}
+use Rattle.std.proofs.lemmas.List.Sums.{count_by-le-length}
+use Rattle.std.proofs.Math.Nat.{mul-le-mul_left}
+use Rattle.class_table.specs.Sizes.{largest_counted}
+use Rattle.class_table.specs.Tables.{IsLegalTable}
+use Rattle.tuner_theory.specs.Best.{IsCandidate}
+use Rattle.tuner_theory.specs.Fits.{Fit, IsFitVerdict}
+use Rattle.tuner_theory.specs.Footprint.{blocks, footprint_of}
+use Rattle.tuner_theory.specs.Histories.{AreSnapshots, most, peaks}
+use Rattle.tuner_theory.specs.Profiles.{AreCounts, IsCounted}
+use Rattle.tuner_theory.specs.Timelines.{AreMoments, IsLeastOver, IsTimeline, footprint_over, freed, history_at, is_request, moments, requested, snapshot_at}
+use Rattle.tuner_theory.specs.Waste.{Serves}
+use Rattle.tuner_theory.specs.declared.size_event.SizeEvent.{SizeEvent}
+use Rattle.tuner_theory.specs.declared.verdict.Refusal.TheVariants.{WasteWrong}
+use Rattle.tuner_theory.specs.declared.verdict.Verdict.TheVariants.{Optimal}
+use Rattle.tuner_theory.proofs.Footprint.{most-above, peak-at, peaks-length}
+use Rattle.tuner_theory.proofs.FootprintLawLemmas.{optimal_fit_is_least, sum-more}
+
+-- ---- snapshots
+
+pub snapshot-length : (events : List SizeEvent) (moment : ℕ) → length (snapshot_at events moment) ≡ largest_counted + 1
+unfolding snapshot_at
+snapshot-length events moment =
+    length-map-range_with_len (λ n. requested (take moment events) n - freed (take moment events) n) 0 (largest_counted + 1)
+
+pub live-at : (events : List SizeEvent) (moment n d : ℕ) → n ≤ largest_counted
+    → get_or (snapshot_at events moment) n d ≡ requested (take moment events) n - freed (take moment events) n
+unfolding snapshot_at
+live-at events moment n d le =
+    get_or-map-range_with_len (λ m. requested (take moment events) m - freed (take moment events) m) 0 (largest_counted + 1) n n d
+    (omega arith) (omega arith)
+
+pub moments-length : (events : List SizeEvent) → length (moments events) ≡ length events + 1
+unfolding moments
+moments-length events = length-map-range_with_len (snapshot_at events) 0 (length events + 1)
+
+pub moment-at : (events : List SizeEvent) (moment : ℕ) (d : List ℕ) → moment ≤ length events
+    → get_or (moments events) moment d ≡ snapshot_at events moment
+unfolding moments
+moment-at events moment d le =
+    get_or-map-range_with_len (snapshot_at events) 0 (length events + 1) moment moment d (omega arith) (omega arith)
+
+snapshot-counts : (events : List SizeEvent) (moment : ℕ) → IsTimeline events → AreCounts (snapshot_at events moment)
+snapshot-counts events moment timeline = record {
+  sizes = snapshot-length events moment;
+  in_range = λ n d lt.
+      omega (
+        arith,
+        live-at events moment n d (omega (arith, snapshot-length events moment)),
+        count_by-le-length (is_request n) (take moment events),
+        length-take moment events,
+        timeline.few,
+      );
+}
+
+pub moments_are_snapshots : (events : List SizeEvent) (numbers : List ℕ) → IsTimeline events → AreMoments events numbers
+    → AreSnapshots (history_at events numbers)
+moments_are_snapshots events numbers timeline are = record {
+  some = omega (arith, are.some, length-map numbers (snapshot_at events));
+  few = omega (arith, are.few, length-map numbers (snapshot_at events));
+  counts = All-map AreCounts (snapshot_at events) numbers (λ k d lt. snapshot-counts events (get_or numbers k d) timeline);
+}
+
+-- ---- some moments against all
+
+pub moment-below : (f : List ℕ → ℕ) (events : List SizeEvent) (moment : ℕ) → moment ≤ length events
+    → f (snapshot_at events moment) ≤ most f (moments events)
+moment-below f events moment le =
+    omega (arith, ap f (moment-at events moment [] le), most-above f (moments events) moment [] (omega (arith, moments-length events)))
+
+pub some-below : (f : List ℕ → ℕ) (events : List SizeEvent) (numbers : List ℕ) → All (λ number. number ≤ length events) numbers
+    → most f (history_at events numbers) ≤ most f (moments events)
+some-below f events [] within = omega arith
+some-below f events (n ∷ ns) within =
+    omega (
+      arith,
+      moment-below f events n (All-head (λ number. number ≤ length events) n ns within),
+      some-below f events ns (All-tail (λ number. number ≤ length events) n ns within),
+    )
+
+pub some_moments_take_less : (events : List SizeEvent) (numbers classes : List ℕ) → AreMoments events numbers
+    → footprint_of (history_at events numbers) classes ≤ footprint_over events classes
+some_moments_take_less events numbers classes are =
+    sum-more _ _ classes (λ class. mul-le-mul_left (16 * class) (some-below (blocks classes class) events numbers are.within))
+
+pub counted-later : (events : List SizeEvent) (numbers : List ℕ) (n : ℕ) → AreMoments events numbers
+    → IsCounted (peaks (history_at events numbers)) n → IsCounted (peaks (moments events)) n
+counted-later events numbers n are counted =
+    let here = peaks-length (history_at events numbers) in
+    let all = peaks-length (moments events) in
+    let lt = counted.0 in (
+      omega arith,
+      omega (
+        arith,
+        counted.1,
+        peak-at (history_at events numbers) n 0 (omega arith),
+        peak-at (moments events) n 0 (omega arith),
+        some-below (λ s. slice_index s n) events numbers are.within,
+      ),
+    )
+
+pub candidate-before : (events : List SizeEvent) (numbers : List ℕ) (step limit : ℕ) (classes : List ℕ) → AreMoments events numbers
+    → IsCandidate (peaks (moments events)) step limit classes → IsCandidate (peaks (history_at events numbers)) step limit classes
+candidate-before events numbers step limit classes are candidate = record {
+  legal = candidate.legal;
+  few = candidate.few;
+  serving = λ n counted. candidate.serving n (counted-later events numbers n are counted);
+}
+
+-- ---- fits
+
+pub fit_bounds_timeline : (events : List SizeEvent) (numbers : List ℕ) (fit : Fit) (other : List ℕ) → IsTimeline events
+    → AreMoments events numbers → IsLegalTable 1 fit.table → IsFitVerdict (history_at events numbers) fit Optimal
+    → IsCandidate (peaks (moments events)) fit.step fit.limit other → fit.footprint ≤ footprint_over events other
+fit_bounds_timeline events numbers fit other timeline are legal meets candidate =
+    let best = optimal_fit_is_least (history_at events numbers) fit (moments_are_snapshots events numbers timeline are) legal meets in
+    let says : fit.footprint ≡ footprint_of (history_at events numbers) fit.table = meets WasteWrong in
+    omega (
+      arith,
+      says,
+      best.least other (candidate-before events numbers fit.step fit.limit other are candidate),
+      some_moments_take_less events numbers other are,
+    )
+
+pub least_over_timeline : (events : List SizeEvent) (numbers : List ℕ) (fit : Fit) → IsTimeline events → AreMoments events numbers
+    → IsLegalTable 1 fit.table → IsFitVerdict (history_at events numbers) fit Optimal → Serves (peaks (moments events)) fit.table
+    → footprint_over events fit.table ≡ fit.footprint → IsLeastOver events fit.step fit.limit fit.table
+least_over_timeline events numbers fit timeline are legal meets serving same =
+    let best = optimal_fit_is_least (history_at events numbers) fit (moments_are_snapshots events numbers timeline are) legal meets in
+    record {
+      candidate = record { legal = best.candidate.legal; few = best.candidate.few; serving = serving };
+      least = λ other candidate.
+          omega (arith, same, fit_bounds_timeline events numbers fit other timeline are legal meets candidate);
+    }
