@@ -13,6 +13,7 @@ use Rattle.tuner_theory.specs.Spans.{places}
 use Rattle.tuner_theory.specs.Tuned.{AreFittedRows, tuned_table}
 use Rattle.tuner_theory.proofs.Footprint.{footprint_is_sum}
 use Rattle.tuner_theory.proofs.FootprintLawLemmas.{peaks_are_counts}
+use Rattle.tuner_theory.proofs.FootprintRests.{fitted_rows_are_rests}
 use Rattle.tuner_theory.proofs.LawLemmas.{rows-canonical, rows-optimal_by, step-positive}
 
 module _ (snapshots : List (List ℕ)) (are : AreSnapshots snapshots) (step : ℕ) (is_step : IsStep step) (limit : ℕ) (some : 1 ≤ limit)
@@ -45,6 +46,7 @@ module _ (snapshots : List (List ℕ)) (are : AreSnapshots snapshots) (step : �
         for_step = refl;
         takes = refl;
         shape = filled.rows_shape;
+        rests = fitted_rows_are_rests snapshots step limit (number_at rows) (number_at ends) are fitted-rows;
         ends = number_at ends;
         least = fitted-rows;
         optimal = rows-optimal_by _ (footprint_between snapshots) (peaks snapshots) step limit rows (number_at ends) sums fitted-rows

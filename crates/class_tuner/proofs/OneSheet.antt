@@ -22,7 +22,7 @@ one_sheet counts step limit a b of_a of_b =
     (of_a.for_step ∙ sym of_b.for_step)
     (of_a.wasted ∙ (wastes ∙ sym of_b.wasted))
     (rows-same a.rows b.rows limit _ of_a.shape of_b.shape
-    (λ k i one le lt. one_rest counts step k i (number_at a.rows k i) (number_at b.rows k i) (of_a.rests k i one le lt)
+    (λ k i one le lt. one_rest _ _ step k (number_at a.rows k i) (number_at b.rows k i) (of_a.rests k i one le lt)
     (of_b.rests k i one le lt)))
 
 -- ---- filled rows have one list of least ends each, so the span wastes are asked for one number of times

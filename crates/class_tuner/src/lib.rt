@@ -6,6 +6,7 @@ mod cost_source;
 mod costs;
 mod filling;
 mod halving;
+pub mod laws;
 mod read_off;
 mod tuning;
 

@@ -3,6 +3,7 @@ ghost use Rattle.std.specs.Prelude.{◌≡◌, ◌↔◌, ◌-◌, ◌≤◌, �
 ghost use Rattle.line_text.specs.FirstFault.{IsFirstFault};
 ghost use Rattle.line_text.specs.Lines.{lines, text_of};
 ghost use Rattle.profile_count.specs.ProfileText.{IsRefusedAt, SpellsProfile, profile_of};
+ghost use Rattle.profile_count.specs.Requests.{CountsRequests, profile_of_sizes};
 ghost use Rattle.tuner_theory.specs.Profiles.{Profile};
 
 /// A text that is read as a profile is that profile's text, and the text is read as the profile.
@@ -18,4 +19,9 @@ pub fn law_profile_fault()
     ensures line { (text : List ℕ) (n : ℕ) → IsRefusedAt n text → n ≤ length (lines text) }
     ensures before { (text : List ℕ) (n : ℕ) → IsRefusedAt n text
         → (p : Profile) × SpellsProfile (text_of (take (n - 1) (lines text))) p }
+{}
+
+/// The profile of requests counts the requests of each size up to 16,368 bytes, and those above.
+pub fn law_counted_requests()
+    ensures { (sizes : List ℕ) → CountsRequests (profile_of_sizes sizes) sizes }
 {}
