@@ -32,11 +32,6 @@ pub record IsTimeline (events : List SizeEvent) : Type 0 where
   pub few : length events ≤ greatest_count
   pub live : (moment n : ℕ) → n ≤ largest_counted → freed (take moment events) n ≤ requested (take moment events) n
 
--- Up to this moment each free finds a live block of its size.
-pub record IsLiveUpTo (events : List SizeEvent) (last : ℕ) : Type 0 where
-  pub live : (moment n : ℕ) → moment ≤ last → n ≤ largest_counted
-      → freed (take moment events) n ≤ requested (take moment events) n
-
 -- The moment after so many events: for each size that is counted, the blocks that are live, which were requested and not freed.
 unfoldable pub snapshot_at : List SizeEvent → ℕ → List ℕ
 snapshot_at events moment =
