@@ -4,7 +4,7 @@ use Rattle.std.specs.List.{AllZip}
 use Rattle.std.proofs.lemmas.Bool.{cases_lt, cond-false, cond-true, false≢true, le-leb, le-ltb, lt-ltb}
 use Rattle.std.proofs.lemmas.Bool.Decides.{nat_tests}
 use Rattle.std.proofs.lemmas.List.{ext_get_or}
-use Rattle.std.proofs.lemmas.List.Sums.{sum_by-cons, sum_by-le}
+use Rattle.std.proofs.lemmas.List.Sums.{sum_by-cons}
 use Rattle.std.proofs.Math.Nat.{le-max_right, mul-le-mul, mul-le-mul_left, mul-le-mul_right}
 use Rattle.class_table.specs.Sizes.{granule_bytes, largest_counted, loss_of}
 use Rattle.class_table.specs.Steps.{IsStep}
@@ -13,7 +13,7 @@ use Rattle.class_table.specs.declared.sizes.TheConstants.{LARGEST_CLASS}
 use Rattle.class_table.proofs.LawLemmas.{AreClassesAbove, classes_of_legal_table}
 use Rattle.tuner_theory.specs.Best.{IsCandidate, IsCanonical, IsCanonicalBy}
 use Rattle.tuner_theory.specs.Fits.{Fit, IsFitVerdict, sheet_of_fit}
-use Rattle.tuner_theory.specs.Footprint.{IsFitted, IsLeastFootprint, blocks, blocks_between, footprint_between, footprint_of, is_class_of, span_footprint}
+use Rattle.tuner_theory.specs.Footprint.{IsFitted, IsLeastFootprint, blocks, blocks_between, footprint_between, footprint_of, span_footprint}
 use Rattle.tuner_theory.specs.Histories.{AreSnapshots, most, peaks}
 use Rattle.tuner_theory.specs.Intervals.{cost_above}
 use Rattle.tuner_theory.specs.Profiles.{AreCounts, greatest_count}
@@ -72,30 +72,6 @@ span_footprints_fit snapshots step i j is_step are lt le =
               (λ n within. masked (rounded_need step n) (need_at (peaks snapshots) step i) (need_at (peaks snapshots) step j) _
               (count-small s n counts)),
         )
-
--- The footprint of any legal table fits 64 bits (`footprint_fits`).
-pub footprint_fits : (snapshots : List (List ℕ)) (step : ℕ) (classes : List ℕ) → AreSnapshots snapshots → IsLegalTable step classes
-    → footprint_of snapshots classes < 2 ^ 63
-footprint_fits snapshots step classes are legal =
-    omega (arith, sum_by-le (λ class. 16 * class * most (blocks classes class) snapshots) _ classes each, legal.few)
-  where
-    at : (class : ℕ) (s : List ℕ) → AreCounts s → blocks classes class s ≤ (largest_counted + 1) * greatest_count
-    at class s counts =
-        omega (
-          arith,
-          counts.sizes,
-          sum_bounded _ (length s) greatest_count
-              (λ n within. masked-bounded (is_class_of classes class n) _ greatest_count (count-small s n counts)),
-        )
-
-    each : All (λ class. 16 * class * most (blocks classes class) snapshots ≤ 16 * LARGEST_CLASS * ((largest_counted + 1) * greatest_count))
-        classes
-    each k d lt =
-        let class = get_or classes k d in
-        let size : 16 * class ≤ 16 * LARGEST_CLASS = omega (arith, (legal.in_range k d lt).1) in
-        let counted = most-bounded (blocks classes class) ((largest_counted + 1) * greatest_count) snapshots
-        (λ t e within. at class (get_or snapshots t e) (are.counts t e within)) in
-        mul-le-mul size counted
 
 -- ---- one snapshot
 
