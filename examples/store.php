@@ -1,5 +1,5 @@
 <?php
-// A store of documents with insertions, deletions and an index. It takes some seconds; docs/TUNING.md measures it.
+// A store of documents with insertions, deletions and an index. It takes some seconds; docs/MEASUREMENTS.md measures it.
 ini_set('memory_limit', '-1');
 mt_srand((int)(getenv('SEED') ?: 5));
 class Doc {

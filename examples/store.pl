@@ -1,4 +1,4 @@
-# A store of documents with insertions, deletions and an index; docs/TUNING.md measures it.
+# A store of documents with insertions, deletions and an index; docs/MEASUREMENTS.md measures it.
 use strict;
 use warnings;
 my (%docs, %index);
