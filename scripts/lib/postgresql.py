@@ -1,4 +1,4 @@
-"""A PostgreSQL of a test's own, and the load of examples/fleet as docs/TUNING.md has it."""
+"""A PostgreSQL of a test's own, and the load of examples/fleet as its README has it."""
 
 import contextlib
 import os
@@ -9,7 +9,7 @@ from collections.abc import Iterator
 
 import private_folder
 
-TUNING = os.path.join(os.path.dirname(os.path.realpath(__file__)), "../../docs/TUNING.md")
+COMMANDS = os.path.join(os.path.dirname(os.path.realpath(__file__)), "../../examples/fleet/README.md")
 
 
 def programs() -> str:
@@ -41,5 +41,5 @@ def started() -> Iterator[dict[str, str]]:
 
 def load() -> str:
     """The command that loads rows.tsv and makes fleet.profile of all rows in the table."""
-    with open(TUNING, encoding="utf-8") as file:
+    with open(COMMANDS, encoding="utf-8") as file:
         return re.search(r"(?m)^    (psql .*postgresql\.sql < rows\.tsv .*)$", file.read())[1]
