@@ -34,12 +34,15 @@ Example:
 """
 
 SHIMS = os.path.join(texts.SCRIPTS, "shims")
-SOURCES = [os.path.join(SHIMS, "accesses", name) for name in ("accesses.h", "blocks.c", "hooks.c", "libc.c", "log.c", "shadow.c")]
+SOURCES = sorted(glob.glob(os.path.join(SHIMS, "accesses", "*.[ch]")))
 HEADERS = sorted(glob.glob(os.path.join(SHIMS, "*.h")))
 RUNTIME = "libmte_accesses.so"
-RUNTIME_FLAGS = "-O2 -g -Wall -fPIC -shared -fvisibility=hidden -fno-builtin -fomit-frame-pointer".split() + [f"-Wl,-soname,{RUNTIME}"]
+RUNTIME_FLAGS = "-O2 -g -Wall -fPIC -shared -fvisibility=hidden -fno-builtin -fomit-frame-pointer -static-libgcc".split()
+RUNTIME_FLAGS += [f"-Wl,-soname,{RUNTIME}", "-Wl,--exclude-libs,ALL"]
 TRACED_FLAGS = "-g -fno-omit-frame-pointer -fno-optimize-sibling-calls -fno-plt -fsanitize=kernel-address -U_FORTIFY_SOURCE".split()
-WITHOUT_LINK = ("-c", "-S", "-E", "-M", "-MM", "-r", "-v", "-V", "--version", "-fsyntax-only")
+# else the compiler takes out a request that is freed unused, and a store to a block that is freed next
+TRACED_FLAGS += [f"-fno-builtin-{name}" for name in ("malloc", "calloc", "realloc", "free")]
+WITHOUT_LINK = ("-c", "-S", "-E", "-M", "-MM", "-r", "-V", "--version", "-fsyntax-only")
 PLACE = "set XDG_CACHE_HOME to a folder that only you can change"
 IS_X86 = platform.machine() == "x86_64"
 OFFSET = "0x7fff8000"  # of the shadow: accesses.h
@@ -110,7 +113,9 @@ def traced_flags(compiler: str) -> list:
 
 
 def links(words: list) -> bool:
-    return bool(words) and not any(word in WITHOUT_LINK or word.startswith(("-dump", "-print", "-q")) for word in words)
+    """Whether the words link a program or a library. With -v they may, where they name a file."""
+    has_input = any(not word.startswith("-") for word in words)
+    return has_input and not any(word in WITHOUT_LINK or word.startswith(("-dump", "-print", "-q")) for word in words)
 
 
 def drive_c(words: list) -> None:

@@ -24,17 +24,23 @@ MOST_SIZE = 1 << 47  # of an address space
 LONGEST_RIGHT = 16  # of a right access: it is in one granule
 MOST_UNRECORDED = 1 << 20  # blocks that handlers of signals requested
 PIECE = 1 << 20
-STACK = re.compile(rb"([0-9]{1,10})(?::([0-9a-f]{1,16}(?:,[0-9a-f]{1,16}){0,5}))?")
+MOST_TIMES = 1 << 63
+STACK = re.compile(rb"([0-9]{1,10})(?::([0-9a-f]{1,16}(?:,[0-9a-f]{1,16}){0,15}))?")
+ADDRESS = re.compile(rb"[0-9a-f]{1,16}")
+KERNEL = 128  # of a signal's codes: from 1 to below it, the address is that of the access
+SIGNALS = {4: "SIGILL", 6: "SIGABRT", 7: "SIGBUS", 8: "SIGFPE", 11: "SIGSEGV"}
 
 Module = namedtuple("Module", "low high offset path")
+Crash = namedtuple("Crash", "signal address stack")  # the name of the signal; the address is None where it is not known
 
 
 class NoLog(Exception):
     """The file is no log."""
 
 
-class Error(namedtuple("Error", "letter block offset size stack state")):
-    """A wrong access or free. The letter is the log's: L, S, x, o or n. The state is of the block then: live, freed or resized."""
+class Error(namedtuple("Error", "letter block offset size stack state times", defaults=(1,))):
+    """A wrong access or free. The letter is the log's: L, S, x, o or n. The state is of the block then: live, freed or resized. Times is how
+    often it came."""
 
     def is_free(self):
         return self.letter in "xon"
@@ -110,8 +116,9 @@ def is_whole(mark):
 
 class Log:
     """Records in their order. A record has a letter and up to three numbers: m and c (block, size), r (old block, new block, size),
-    f (block), l and s (block, offset, length), and E (number of the error, from 0). Blocks are numbered from 1. What is `missing` of the
-    log is a list of sentences."""
+    f (block), l and s (block, offset, length), and E (number of the error, from 0). Blocks are numbered from 1. `crash` is the Crash
+    that ended the program, `status` its exit status, each None where the log has none. What is `missing` of the log is a list of
+    sentences."""
 
     def __init__(self, path):
         self.letters = bytearray()
@@ -121,6 +128,8 @@ class Log:
         self.next = array("q", [0])  # of a block: the one that a realloc made from it, or 0
         self.stacks = [""]  # a stack is a text PC,PC,..; block 0 and stack 0 are unknown ones
         self.errors, self.modules = [], []
+        self.crash = self.status = None
+        self._times = {}
         self._numbers = {0: 0}
         self._unrecorded = set()  # blocks that a handler of a signal requested have no record
         self._taken_back = set()
@@ -132,6 +141,7 @@ class Log:
             self._read_all(text)
             text.say_end()
         self.missing, self.is_empty, self.is_damaged = text.missing, text.is_empty, text.is_damaged
+        self._count_times()
         self._drop_taken_back()
 
     def _read_all(self, text):
@@ -181,6 +191,21 @@ class Log:
             if not 0 < number <= len(self.errors):
                 raise NoLog
             self._taken_back.add(number - 1)
+        elif letter == b"+":
+            number, times = map(int, words)
+            if not 0 < number <= len(self.errors) or not 0 < times < MOST_TIMES:
+                raise NoLog
+            self._times[number - 1] = times
+        elif letter == b"C":
+            number, code, place, stack = words
+            if not ADDRESS.fullmatch(place) or int(number) not in SIGNALS:
+                raise NoLog
+            is_known = SIGNALS[int(number)] in ("SIGSEGV", "SIGBUS") and 0 < int(code) < KERNEL
+            self.crash = self.crash or Crash(SIGNALS[int(number)], int(place, 16) if is_known else None, self._stack(stack))
+        elif letter == b"e":
+            (self.status,) = map(int, words)
+            if not 0 <= self.status < 256:
+                raise NoLog
         elif letter in (b"L", b"S", b"x", b"o", b"n"):
             *numbers, stack = words
             self._error(letter.decode(), list(map(int, numbers)), self._stack(stack))
@@ -228,6 +253,10 @@ class Log:
         state = "live" if self.ended[block] == -1 else "resized" if self.next[block] else "freed"
         self._add(b"E", len(self.errors))
         self.errors.append(Error(letter, block, offset, size, stack, state))
+
+    def _count_times(self):
+        for at, times in self._times.items():
+            self.errors[at] = self.errors[at]._replace(times=times)
 
     def _drop_taken_back(self):
         """The runtime took some errors back as it learned more; their records are left as frees of no block, which are passed over."""

@@ -5,23 +5,43 @@ import shutil
 import stat
 import struct
 import subprocess
-from collections import defaultdict
+from collections import defaultdict, namedtuple
 
-CALLERS = 2  # that a place shows beside itself, where the function is a wrapper of the heap's
+RUNTIME = "libmte_accesses.so"
+SYSTEM = ("/usr/lib", "/lib", "/usr/include")
+
+
+class Frame(namedtuple("Frame", "function source line module")):
+    """A function that was called: source is its file's path and line a number, both None where they are not known. An inlined one has a
+    frame of its own."""
+
+    def is_own(self):
+        """Whether it is the program's, and not the system's."""
+        return bool(self.source) and is_own(self.module) and is_own(self.source)
+
+    def is_folded(self):
+        """Whether it tells nothing: it is of the runtime, or of the headers of a system's library, as a template is."""
+        return os.path.basename(self.module) == RUNTIME or bool(self.source) and is_own(self.module) and not is_own(self.source)
+
+    def show(self):
+        if not self.source:
+            return self.function
+        path, here = os.path.normpath(self.source), os.getcwd() + "/"
+        return f"{path[len(here):] if path.startswith(here) else os.path.basename(path)}:{self.line} in {self.function}"
 
 
 class Places:
     def __init__(self, log):
         self.log = log
-        self.frames = {}  # of an address: (source or None, function, whether it is the program's own), the innermost inlined first
+        self._frames = {}  # of an address, the innermost inlined first
 
     def learn(self, stacks):
         """Looks up the addresses of these stacks all at once."""
         wanted = defaultdict(dict)
-        for address in {int(pc, 16) for stack in stacks for pc in self.log.stacks[stack].split(",") if pc} - set(self.frames):
+        for address in {int(pc, 16) for stack in stacks for pc in self.log.stacks[stack].split(",") if pc} - set(self._frames):
             module = next((module for module in self.log.modules if module.low <= address < module.high), None)
             name = f"{os.path.basename(module.path)}+0x{address - module.low + module.offset:x}" if module else f"0x{address:x}"
-            self.frames[address] = [(None, name, False)]
+            self._frames[address] = [Frame(name, None, None, module.path if module else "")]
             if module:
                 wanted[module.path][address] = address - module.low + module.offset
         for path, offsets in wanted.items():
@@ -45,35 +65,45 @@ class Places:
         at = 0
         while at < len(lines):
             if lines[at].startswith("0x"):
-                frames = self.frames[next(addresses)]
+                frames = self._frames[next(addresses)]
                 unknown = frames.pop()
                 at += 1
                 continue
-            function, source = lines[at].split("(")[0], lines[at + 1].split(" (")[0]
+            function, (source, _, line) = short(lines[at]), lines[at + 1].split(" (")[0].rpartition(":")
             if not source.startswith("??"):
-                frames.append((source, function, is_own(path) and is_own(source)))
+                frames.append(Frame(function, source, int(line) if line.isdigit() else 0, path))
             at += 2
             if not frames and (at == len(lines) or lines[at].startswith("0x")):
-                frames.append(unknown)
+                is_named = not function.startswith("??")
+                frames.append(unknown._replace(function=f"{function} of {os.path.basename(path)}") if is_named else unknown)
 
-    def show(self, stack, callers=0):
-        """The innermost place of a stack in the program's own sources, and so many of its callers."""
-        frames = [frame for pc in self.log.stacks[stack].split(",") if pc for frame in self.frames.get(int(pc, 16), [])]
-        own = [frame for frame in frames if frame[0] and frame[2]]
-        shown = [name(*frame) for frame in (own or frames)[: 1 + callers]]
-        return ", from ".join(shown) if shown else "an unknown place"
+    def frames(self, stack):
+        """The frames of a stack of the log, the innermost first. Those that tell nothing are folded, and so are those before the program's
+        first function; where none is the program's, all are there."""
+        whole = [frame for pc in self.log.stacks[stack].split(",") if pc for frame in self._frames.get(int(pc, 16), [])]
+        own = [at for at, frame in enumerate(whole) if frame.is_own()]
+        return [frame for frame in whole[own[0] : own[-1] + 1] if not frame.is_folded()] if own else whole
+
+    def show(self, stack, callers=True):
+        """The innermost place of a stack in the program's own sources, and its callers."""
+        shown = [frame.show() for frame in self.frames(stack)]
+        return ", from ".join(shown if callers else shown[:1]) or "an unknown place"
 
 
 def is_own(path):
     """Whether a file is the program's, and not the system's."""
-    return not path.startswith(("/usr/lib", "/lib", "/usr/include")) and "/bits/" not in path
+    return not path.startswith(SYSTEM) and "/bits/" not in path
 
 
-def name(source, function, _):
-    if source is None:
-        return function
-    path, here = os.path.normpath(source), os.getcwd() + "/"
-    return f"{path[len(here):] if path.startswith(here) else os.path.basename(path)} in {function}"
+def short(function):
+    """A function's name without its parameters."""
+    kept = {"(anonymous namespace)": "\1", "operator()": "\2"}
+    for text, mark in kept.items():
+        function = function.replace(text, mark)
+    function = function.split("(")[0]
+    for text, mark in kept.items():
+        function = function.replace(mark, text)
+    return function
 
 
 def loaded_segments(path):

@@ -2,31 +2,38 @@
 
 from collections import Counter
 
-import fault_trace
-from fault_places import CALLERS, Places
+from fault_entries import CAUGHT, CRASH, NOT_CAUGHT, NOT_REPLAYED, RESULTS, entries, stacks_of
+from fault_places import Places
 from running import printable
 
-ORDER = ("caught", "not caught", "not replayed")
+MOST_USES = 8  # of a cause that are shown
 
 
 def outcome(verdict, report):
     """(caught, not caught or not replayed; why) of an error in a replay."""
     if verdict.kind == "ruled":
-        return "caught", verdict.promise.reason
+        return CAUGHT, verdict.promise.reason
     if verdict.kind in ("left", "large"):
-        return ("not replayed" if verdict.kind == "left" else "not caught"), verdict.promise.reason
+        return (NOT_REPLAYED if verdict.kind == "left" else NOT_CAUGHT), verdict.promise.reason
     line = report.get(verdict.event)
     if line is None:
-        return "not caught", verdict.promise.reason
+        return NOT_CAUGHT, verdict.promise.reason
     words = line.split(" ")
     if words[0] == "refused":
-        return "caught", f"{words[1]}, the free is refused (event {verdict.event})"
+        return CAUGHT, f"{words[1]}, the free is refused (event {verdict.event})"
     if words[1] == "unmapped":
-        return "caught", f"unmapped, it is outside the region (event {verdict.event})"
+        return CAUGHT, f"unmapped, it is outside the region (event {verdict.event})"
     granule, memory, pointer, kind = words[3], words[5], words[7], words[9]
     if verdict.is_free:
-        return "caught", f"wrong-tag, the slot has tag {memory}, the pointer tag {pointer} (asked by a load, event {verdict.event})"
-    return "caught", f"tag fault, granule {granule} has tag {memory} ({kind}), the pointer tag {pointer} (event {verdict.event})"
+        return CAUGHT, f"wrong-tag, the slot has tag {memory}, the pointer tag {pointer} (asked by a load, event {verdict.event})"
+    return CAUGHT, f"tag fault, granule {granule} has tag {memory} ({kind}), the pointer tag {pointer} (event {verdict.event})"
+
+
+def found_by(log, verdicts, report):
+    """(the entries of a log after its replay, the Places that name their frames)."""
+    places = Places(log)
+    places.learn(stacks_of(log, log.errors))
+    return entries(log, [(verdict, *outcome(verdict, report)) for verdict in verdicts], places), places
 
 
 def count(number, word):
@@ -34,7 +41,7 @@ def count(number, word):
 
 
 def sentence(error, log):
-    """What the program did."""
+    """What the program did; the runtime has the same words (tell.c)."""
     if error.letter == "n":
         return "free of an address that the heap never gave out"
     if error.is_free() and not error.block:
@@ -58,64 +65,77 @@ def sentence(error, log):
     return f"{access}, {count(error.offset, 'byte')} into {block}{gone}"
 
 
-def history(error, log, places):
-    """Where the block of an error was allocated, and freed or resized."""
-    made, ended = log.made[error.block], log.ended[error.block]
-    text = f"allocated at {places.show(made, CALLERS)}"
-    if error.state != "live":
-        text += f", {error.state} at {places.show(ended, CALLERS)}"
-    return text
+def crash_sentence(crash):
+    return crash.signal + (f" at the address 0x{crash.address:x}" if crash.address is not None else "")
 
 
-def grouped(log, verdicts, report):
-    """Errors with the same places and the same outcome are told once: a list of (error, outcome, why, how many)."""
-    groups = {}
-    for error, verdict in zip(log.errors, verdicts):
-        result, why = outcome(verdict, report)
-        made, ended = log.stacks[log.made[error.block]], log.stacks[max(log.ended[error.block], 0)]
-        key = (error.letter, error.state, log.stacks[error.stack].split(",")[0], made.split(",")[0], ended.split(",")[0], result)
-        groups.setdefault(key, [error, result, why, 0])[3] += 1
-    return groups.values()
+def history(entry, log, places):
+    """Where the block of an entry was allocated, and freed or resized: a line each."""
+    error = entry.uses[0].error
+    lines = [f"allocated at {places.show(entry.made)}"] if error.block else []
+    return lines + ([f"{error.state} at {places.show(entry.ended)}"] if error.block and error.state != "live" else [])
 
 
 def tell(log, trace, report):
     """The text of all errors and of the totals."""
-    places = Places(log)
-    groups = grouped(log, trace.verdicts, report)
-    places.learn({stack for error, *_ in groups for stack in (error.stack, log.made[error.block], max(log.ended[error.block], 0))})
-    lines = []
-    for error, result, why, times in groups:
-        lines.append(f"{places.show(error.stack)}: {sentence(error, log)}" + (f" ({times} times)" if times > 1 else ""))
-        lines.append(f"    {result}: {why}")
-        if error.block:
-            lines.append(f"    {history(error, log, places)}")
-    return lines + totals(log, trace, report)
+    found, places = found_by(log, trace.verdicts, report)
+    lines = [line for entry in found for line in tell_entry(entry, log, places)]
+    return lines + totals(log, found, trace)
+
+
+def tell_entry(entry, log, places):
+    """What was done and where, with the callers; what came of it; and the same of what else has this cause."""
+    place, *callers = [frame.show() for frame in places.frames(entry.stack)] or ["an unknown place"]
+    from_callers = [f"    from {caller}" for caller in callers]
+    if entry.kind == CRASH:
+        return [f"{place}: {crash_sentence(entry.crash)}", *from_callers]
+    first, *others = entry.uses
+    lines = [f"{place}: {sentence(first.error, log)}{often(first.times)}", *from_callers, f"    {first.result}: {first.why}"]
+    for use in others[: MOST_USES - 1]:
+        at = places.show(use.error.stack, callers=False)
+        lines.append(f"    then {at}: {sentence(use.error, log)}{often(use.times)}: {use.result}: {use.why}")
+    if len(others) >= MOST_USES:
+        lines.append(f"    and so at {count(len(others) - MOST_USES + 1, 'other place')}")
+    return lines + [f"    {line}" for line in history(entry, log, places)]
+
+
+def often(times):
+    return f" ({times} times)" if times > 1 else ""
 
 
 def notes(log, trace, report):
     """For each error that an event of the trace asks: the event, and what the program did, what came of it, and whose block it was."""
     asked = [(error, verdict) for error, verdict in zip(log.errors, trace.verdicts) if verdict.event]
     places = Places(log)
-    places.learn({stack for error, _ in asked for stack in (error.stack, log.made[error.block], max(log.ended[error.block], 0))})
+    places.learn(stacks_of(log, [error for error, _ in asked]))
     told = []
     for error, verdict in asked:
         result, why = outcome(verdict, report)
-        did = f"{places.show(error.stack)}: {sentence(error, log)}"
-        text = f"{did}. {result.capitalize()}: {why}. {history(error, log, places).capitalize()}."
+        text = f"{places.show(error.stack, callers=False)}: {sentence(error, log)}. {result.capitalize()}: {why}."
+        text += f" Allocated at {places.show(log.made[error.block])}."
+        if error.state != "live":
+            text += f" {error.state.capitalize()} at {places.show(log.ended[error.block])}."
         told.append((verdict.event, printable(text)))
     return told
 
 
-def totals(log, trace, report):
-    outcomes = [outcome(verdict, report) for verdict in trace.verdicts]
-    counts, reasons = Counter(result for result, _ in outcomes), Counter(both for both in outcomes if both[0] != "caught")
-    lines = [f"errors {len(log.errors)}"]
-    for result in ORDER:
-        lines.append(f"{result} {counts[result]}")
+def totals(log, found, trace):
+    lines = [f"errors {len(found)}"]
+    reasons = Counter((entry.result, entry.uses[0].why) for entry in found if entry.result not in (CAUGHT, None))
+    for result in RESULTS:
+        lines.append(f"{result} {sum(entry.result == result for entry in found)}")
         lines += [f"    {number}: {why}" for (of, why), number in reasons.items() if of == result]
+    if log.crash:
+        lines.append("crashed 1")
+    lines.append(f"wrong accesses and frees {sum(error.times for error in log.errors)}")
     lines.append(f"events {len(trace.lines)}")
     lines += [f"left out: {number} {words}" for words, number in sorted(trace.left_out.items())]
     return lines
+
+
+def ending(status):
+    """A line where the program did not end well."""
+    return [f"the program ended with status {status}"] if status else []
 
 
 def incomplete(log):
@@ -150,12 +170,13 @@ def tell_differences(differences, trace):
 
 
 def tell_seeds(log, trace, reports):
-    """A line for each error: over how many seeds it was caught, and what that rests on. Errors that say the same share a line."""
-    lines = {}
-    for at, error in enumerate(log.errors):
-        verdict = trace.verdicts[at]
-        results = Counter(outcome(verdict, report)[0] for report in reports)
-        text = sentence(error, log) + ": " + ", ".join(f"{result} {results[result]}" for result in ORDER if results[result])
-        reason = "law_own_pointer" if verdict.kind == "ruled" else verdict.promise.reason
-        lines.setdefault(f"{text} ({reason})", None)
-    return list(lines)
+    """A line for each use of each entry: over how many seeds it was caught, and what that rests on."""
+    found, places = found_by(log, trace.verdicts, reports[0])
+    lines = []
+    for entry in found:
+        for use in entry.uses:
+            results = Counter(outcome(use.verdict, report)[0] for report in reports)
+            counts = ", ".join(f"{result} {results[result]}" for result in RESULTS if results[result])
+            reason = "law_own_pointer" if use.verdict.kind == "ruled" else use.verdict.promise.reason
+            lines.append(f"{places.show(use.error.stack, callers=False)}: {sentence(use.error, log)}: {counts} ({reason})")
+    return lines

@@ -5,7 +5,10 @@
 //   shadow.c   what the compiler's own check before each load and store reads
 //   hooks.c    what this check calls where it doesn't know the access
 //   libc.c     functions of libc that load and store, and call no hook
-//   log.c      the log, with its stacks and modules; the start, the end and the forks of a process
+//   log.c      the log; the start, the end and the forks of a process
+//   stacks.c   stacks of return addresses, and the modules that they lie in
+//   crash.c    the signals that end a program
+//   tell.c     the line on standard error for what is wrong, as soon as it comes
 //
 // ACCESSES=FILE       the log; %p in it stands for the number of the process. Without it nothing is logged.
 // ACCESSES_ONLY=NAME  only a process whose program has this name makes a log.
@@ -57,9 +60,13 @@ static inline void enter(void) {
   pthread_mutex_lock(&accesses_lock);
 }
 
+// what is wrong is told once the lock is free
+extern __thread int has_to_tell __attribute__((tls_model("initial-exec")));
+void tell(void);
 static inline void leave(void) {
   pthread_mutex_unlock(&accesses_lock);
   busy--;
+  if (__builtin_expect(has_to_tell, 0)) tell();
 }
 
 static inline int is_in_arena(address a) { return a / ARENA_SIZE == ARENA / ARENA_SIZE; }
@@ -95,10 +102,39 @@ void copy_bytes(void *to, const void *from, size_t);
 void fill_bytes(void *to, int byte, size_t);
 
 // log.c: all but the last of a record's parts is followed by more
-int is_logging(void);
+enum { MOST_NAME = 1024 };
+int has_log(void);     // racy where the lock is not held
+int is_logging(void);  // wants the lock, as all below
 void put_record(char kind, int count, ...);
-void put_stack(struct caller);
+void put_text(const char *);
+void put_number(unsigned long value, unsigned base);
 void put_end(void);
+void drop_begun(void);
 long number_of_wrong(void);
 void take_back(long number);
+void end_log(int status);  // of the program; -1 where it is not known
 extern long not_logged;
+
+// hooks.c: how often the wrong accesses came; and what waited for the next access
+void put_times(void);
+void tell_guess(void);
+
+// stacks.c
+enum { FRAMES = 16 };
+struct stack { int count; address pcs[FRAMES]; };  // the innermost first
+struct module { address low, high, offset; const char *path; };
+void walk(struct caller, address below, struct stack *);
+void unwind(struct caller, struct stack *);
+void put_frames(const struct stack *);
+void put_stack(struct caller);
+const struct module *module_of(address pc);
+void learn_modules(void);
+
+// crash.c
+void watch_for_crashes(void);
+void watch_thread(void);
+
+// tell.c: what is wrong, by the letter of its record. It is told at the next `leave`
+struct wrong { char letter; int is_freed; long number, offset, size, block_size, signal; address at; struct stack stack; };
+void will_tell(const struct wrong *);
+extern pthread_mutex_t tell_lock;

@@ -140,7 +140,7 @@ static void end_block(struct block *block) {
 // A request from inside the runtime is libdl's or a handler's of a signal. It is served, and not logged.
 void *request(char kind, size_t size, size_t alignment, struct caller from) {
   int is_nested = busy, is_held = !is_nested || !pthread_mutex_trylock(&accesses_lock);
-  if (!is_nested) enter();
+  if (!is_nested) watch_thread(), enter(), tell_guess();
   struct block *block = new_block(size, alignment);
   if (block && !is_nested && is_logging()) {
     put_record(kind, 2, (long)(block - BLOCKS), (long)size);
@@ -152,22 +152,38 @@ void *request(char kind, size_t size, size_t alignment, struct caller from) {
   return block ? (void *)block->start : NULL;
 }
 
-// the live block that begins at the address; where there is none, the wrong free is logged
-static struct block *block_at(address a, struct caller from) {
+static struct block *live_block_at(address a) {
   struct block *block = owner(a);
-  if (block && block->start == a && block->state == LIVE) return block;
-  if (is_logging()) {
-    if (block) put_record('x', 2, (long)(block - BLOCKS), (long)(a - block->start));
-    else put_record(was_given_out(a) ? 'o' : 'n', 0);
-    put_stack(from);
-  }
+  return block && block->start == a && block->state == LIVE ? block : NULL;
+}
+
+// the live block that begins at the address; where there is none, the wrong free is logged
+static struct block *block_at(address a, struct caller from, struct stack *stack) {
+  struct block *live = live_block_at(a), *block = owner(a);
+  if (live || !is_logging()) return live;
+  struct wrong found = {.letter = was_given_out(a) ? 'o' : 'n', .at = a};
+  if (block) found = (struct wrong){'x', block->state == FREED, block - BLOCKS, (long)(a - block->start), 0, (long)block->size};
+  put_record(found.letter, block ? 2 : 0, found.number, found.offset);
+  if (!stack->count) walk(from, (address)__builtin_frame_address(0), stack);
+  put_frames(stack);
+  found.stack = *stack;
+  will_tell(&found);
   return NULL;
+}
+
+// the stack of a free that seems to be wrong, before the lock is held: the unwinder may wait for others
+static void look(address a, struct caller from, struct stack *stack) {
+  stack->count = 0;
+  if (has_log() && !live_block_at(a)) unwind(from, stack);
 }
 
 static void give_back(void *pointer, struct caller from) {
   if (!pointer || busy) return;
+  struct stack stack;
+  look((address)pointer, from, &stack);
   enter();
-  struct block *block = block_at((address)pointer, from);
+  tell_guess();
+  struct block *block = block_at((address)pointer, from, &stack);
   if (block) {
     if (is_logging()) {
       put_record('f', 1, (long)(block - BLOCKS));
@@ -182,8 +198,11 @@ static void give_back(void *pointer, struct caller from) {
 static void *resize(void *pointer, size_t size, struct caller from) {
   if (!pointer) return request('m', size, 16, from);
   if (!size) return give_back(pointer, from), NULL;
+  struct stack stack;
+  look((address)pointer, from, &stack);
   enter();
-  struct block *block = block_at((address)pointer, from), *new = new_block(size, 16), *old = owner((address)pointer);
+  tell_guess();
+  struct block *block = block_at((address)pointer, from, &stack), *new = new_block(size, 16), *old = owner((address)pointer);
   if (new) {
     if (is_logging()) {
       if (block) put_record('r', 3, (long)(block - BLOCKS), (long)(new - BLOCKS), (long)size);

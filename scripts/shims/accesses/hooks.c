@@ -8,19 +8,29 @@
 enum { MOST_RIGHT = 600000, MOST_WAITS = 1 << 22, SEEN = 1 << 16, TRIES = 64 };
 enum part { IN_FREED = 1, BEFORE_FREED, AFTER_FREED, BEFORE, IN_LAST_GRANULE, AFTER };
 
-static struct seen { address pc; uint32_t block, part; } seen[SEEN];
+static struct seen { address pc; uint32_t block, part; long record, times; } seen[SEEN];
 
-static int is_first(address pc, uint32_t block, uint32_t part) {
+// the entry of a wrong access, which may still be free; null where there is no room
+static struct seen *seen_at(address pc, uint32_t block, uint32_t part) {
   address hash = (pc * 0x9E3779B97F4A7C15u ^ block * 0xC2B2AE3D27D4EB4Fu ^ part * 0x165667B19E3779F9u) >> 20;
   for (int i = 0; i < TRIES; i++) {
     struct seen *entry = &seen[(hash + i) % SEEN];
-    if (entry->pc == pc && entry->block == block && entry->part == part) return 0;
-    if (entry->pc) continue;
-    *entry = (struct seen){pc, block, part};
-    return 1;
+    if (!entry->pc || (entry->pc == pc && entry->block == block && entry->part == part)) return entry;
   }
-  not_logged++;
-  return 0;
+  return NULL;
+}
+
+static int is_first(address pc, uint32_t block, uint32_t part) {
+  struct seen *entry = seen_at(pc, block, part);
+  if (!entry) return not_logged++, 0;
+  if (entry->pc) return entry->times++, 0;
+  *entry = (struct seen){pc, block, part, number_of_wrong() + 1, 1};
+  return 1;
+}
+
+void put_times(void) {
+  for (int i = 0; i < SEEN && number_of_wrong() && is_logging(); i++)
+    if (seen[i].times > 1) put_record('+', 2, seen[i].record, seen[i].times), put_end();
 }
 
 static enum part part_of(const struct block *block, long offset, long size) {
@@ -29,13 +39,31 @@ static enum part part_of(const struct block *block, long offset, long size) {
   return offset < 0 ? BEFORE : offset + size <= end ? IN_LAST_GRANULE : AFTER;
 }
 
-static void wrong(struct block *block, address a, size_t size, int store, struct caller from) {
-  uint32_t number = block ? block - BLOCKS : 0;
-  long offset = block ? (long)(a - block->start) : !was_given_out(a);
-  int part = block ? (int)part_of(block, offset, size) : (int)offset;
-  if (!is_logging() || !is_first(from.pc, number, 2 * part + store)) return;
-  put_record(store ? 'S' : 'L', 3, (long)number, offset, (long)size);
-  put_stack(from);
+static uint32_t number_of(const struct block *block) { return block ? block - BLOCKS : 0; }
+
+// which bytes a wrong access means
+static uint32_t part_and_kind(const struct block *block, address a, size_t size, int store) {
+  return 2 * (block ? (int)part_of(block, (long)(a - block->start), size) : !was_given_out(a)) + store;
+}
+
+// The stack of an access that seems to be wrong for the first time, before the lock is held: the unwinder may wait for others. Else it is
+// empty.
+static void look(address a, size_t size, int store, struct caller from, struct stack *stack) {
+  struct block *block = owner(a);
+  struct seen *entry = has_log() ? seen_at(from.pc, number_of(block), part_and_kind(block, a, size, store)) : NULL;
+  if (entry && !entry->pc) unwind(from, stack);
+}
+
+static void wrong(struct block *block, address a, size_t size, int store, struct caller from, struct stack *stack, struct wrong *to) {
+  struct wrong found = {store ? 'S' : 'L', block && block->state == FREED, number_of(block), block ? (long)(a - block->start) : !was_given_out(a),
+                        size, block ? (long)block->size : 0};
+  if (!is_logging() || !is_first(from.pc, found.number, part_and_kind(block, a, size, store))) return;
+  if (!stack->count) walk(from, (address)__builtin_frame_address(0), stack);
+  put_record(found.letter, 3, found.number, found.offset, found.size);
+  put_frames(stack);
+  found.stack = *stack;
+  if (to) *to = found;
+  else will_tell(&found);
 }
 
 static long logged, waits;
@@ -67,13 +95,19 @@ static struct block *live_at(address a, size_t size) {
 
 // Of an access whose size or alignment is not usual, clang looks at the first byte and then at the last one, and calls for each that is
 // closed. Only the next call shows which of the two a byte was: the last one comes right after the first. So a wrong byte is believed to be
-// the last one if the first one is right then. If it was the first one itself, the record is taken back at the call for the last one.
+// the last one if the first one is right then, and is told at the next call. If it was the first one itself, the record is taken back at the
+// call for the last one. It is told at a request, a free and the end too.
 static __thread struct half {
   address at, *frame;
   size_t size;
   long record;
   int is_guess;
+  struct wrong guess;  // what is still to be told of it, if its letter is not 0
 } half __attribute__((tls_model("initial-exec")));
+
+void tell_guess(void) {
+  if (half.guess.letter) will_tell(&half.guess), half.guess.letter = 0;
+}
 
 // whether the access is wrong
 static int see(address a, size_t size, int store, struct caller from) {
@@ -81,11 +115,15 @@ static int see(address a, size_t size, int store, struct caller from) {
     not_logged += !live_at(a, size);
     return 0;
   }
+  struct stack stack;
+  stack.count = 0;
+  if (!live_at(a, size)) look(a, size, store, from, &stack);
   enter();
   half.size = 0;
+  tell_guess();
   struct block *block = live_at(a, size);
   if (block) right(block, a - block->start, size, store);
-  else wrong(owner(a), a, size, store, from);
+  else wrong(owner(a), a, size, store, from, &stack, NULL);
   leave();
   return !block;
 }
@@ -104,20 +142,28 @@ static void touch_half(address a, size_t size, int store, struct caller from) {
     not_logged += !live_at(a, 1);
     return;
   }
+  struct stack stack;
+  stack.count = 0;
+  int is_guess = live_at(a - size + 1, 1) != NULL;
+  address begin = is_guess ? a - size + 1 : a;
+  if (!live_at(a, 1)) look(begin, size, store, from, &stack);
   enter();
   struct half first = half;
   struct block *block = live_at(a, 1);
   half.size = 0;
   if (first.size == size && first.at + size - 1 == a && first.frame == from.frame) {
-    if (first.is_guess) take_back(first.record), wrong(owner(first.at), first.at, size, store, from);
+    half.guess.letter = 0;
+    if (first.is_guess) take_back(first.record), wrong(owner(first.at), first.at, size, store, from, &first.guess.stack, NULL);
   } else if (block) {
+    tell_guess();
     right(block, a - block->start, 1, store);
   } else {
-    int is_guess = live_at(a - size + 1, 1) != NULL;
-    address begin = is_guess ? a - size + 1 : a;
+    tell_guess();
     long before = number_of_wrong();
-    wrong(owner(begin), begin, size, store, from);
-    half = (struct half){a, from.frame, size, number_of_wrong() > before ? number_of_wrong() : 0, is_guess};
+    half.guess.stack.count = 0;
+    wrong(owner(begin), begin, size, store, from, &stack, is_guess ? &half.guess : NULL);
+    half.at = a, half.frame = from.frame, half.size = size, half.is_guess = is_guess;
+    half.record = number_of_wrong() > before ? number_of_wrong() : 0;
   }
   leave();
 }

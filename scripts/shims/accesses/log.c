@@ -7,9 +7,12 @@
 //                              an address that was never given out
 //   - NUMBER                   the wrong access or free of this number, counted from 1, is taken back
 //   x BLOCK OFFSET STACK       a wrong free of an address of a block; o STACK of a forgotten one, n STACK of one that was never given out
+//   + NUMBER TIMES             the wrong access of this number came so often, where that is more than once
+//   C SIGNAL CODE ADDRESS STACK  the signal that ends the program, the kernel's code of it, and the address that was not to be had
+//   e STATUS                   the exit status
 //   M LOW HIGH OFFSET PATH     a file that is mapped with code
 //
-// A stack is NUMBER:PC,PC,.. at its first time, the innermost of at most six return addresses first, and later NUMBER.
+// A stack is NUMBER:PC,PC,.. at its first time, the innermost of at most 16 return addresses first, and later NUMBER.
 // The file is mapped, so that a killed program leaves its log. After each record the head has the length of the text, its checksum, and
 // whether the program came to its end. So what a wild store, a cut or an end in the middle of a record did to the log is seen.
 #include "accesses.h"
@@ -25,7 +28,7 @@
 #include <sys/syscall.h>
 #include <unistd.h>
 
-enum { FRAMES = 6, STACKS = 1 << 17, MODULES = 256, MOST_NAME = 1024, MARGIN = 4096 };
+enum { MARGIN = 8192 };
 #define PIECE ((size_t)8 << 20)
 #define LOG_SIZE ((size_t)1 << 30)
 
@@ -47,13 +50,14 @@ static pid_t process;
 static const char *pattern;
 static char log_name[MOST_NAME];
 static struct { dev_t device; ino_t number; } log_file;
-static struct module { address low, high; } modules[MODULES];
-static int number_of_modules;
-static __thread address stack_low __attribute__((tls_model("initial-exec"))), stack_high __attribute__((tls_model("initial-exec")));
 
 static void put(char c) { *text++ = c; }
 
-static void put_number(unsigned long value, unsigned base) {
+void put_text(const char *from) {
+  while (*from) put(*from++);
+}
+
+void put_number(unsigned long value, unsigned base) {
   char digits[24];
   int n = 0;
   do digits[n++] = "0123456789abcdef"[value % base];
@@ -79,6 +83,11 @@ void put_end(void) {
   sum = crc(sum, marked, text - marked);
   marked = text;
   write_mark();
+}
+
+// A record that a crash broke off is forgotten.
+void drop_begun(void) {
+  if (text) text = marked;
 }
 
 // a record of a wrong access, by its number
@@ -117,6 +126,7 @@ static int grow(void) {
   return text != NULL;
 }
 
+int has_log(void) { return text != NULL; }
 int is_logging(void) { return text && (text + MARGIN <= log_end || grow()); }
 
 void put_record(char kind, int count, ...) {
@@ -131,90 +141,6 @@ void put_record(char kind, int count, ...) {
     put_number(number < 0 ? -(unsigned long)number : (unsigned long)number, 10);
   }
   va_end(numbers);
-}
-
-static char *read_hexadecimal(char *at, address *value) {
-  for (*value = 0; (*at >= '0' && *at <= '9') || (*at >= 'a' && *at <= 'f'); at++)
-    *value = *value * 16 + (*at <= '9' ? *at - '0' : *at - 'a' + 10);
-  return at;
-}
-
-static void read_mapping(char *line, address in_stack) {
-  address low, high, offset;
-  char *mode = read_hexadecimal(read_hexadecimal(line, &low) + 1, &high) + 1;
-  if (in_stack) {
-    if (low <= in_stack && in_stack < high) stack_low = low, stack_high = high;
-    return;
-  }
-  read_hexadecimal(mode + 5, &offset);
-  char *path = strchr(mode, '/');
-  if (mode[2] != 'x' || !path || number_of_modules == MODULES || !is_logging()) return;
-  for (int i = 0; i < number_of_modules; i++)
-    if (modules[i].low == low && modules[i].high == high) return;
-  modules[number_of_modules++] = (struct module){low, high};
-  put('M');
-  for (int i = 0; i < 3; i++) put(' '), put_number(i == 0 ? low : i == 1 ? high : offset, 16);
-  put(' ');
-  while (*path) put(*path++);
-  put_end();
-}
-
-// the mappings as the kernel says them, not the loader, whose locks others may hold: new modules, or the bounds of the stack
-static void read_mappings(address in_stack) {
-  static char piece[4096], line[MOST_NAME];
-  int error = errno, file = syscall(SYS_openat, AT_FDCWD, "/proc/self/maps", O_RDONLY | O_CLOEXEC);
-  long got, n = 0;
-  while (file >= 0 && (got = syscall(SYS_read, file, piece, sizeof piece)) > 0)
-    for (long i = 0; i < got; i++) {
-      if (piece[i] != '\n' && n < MOST_NAME - 1) line[n++] = piece[i];
-      if (piece[i] != '\n') continue;
-      line[n] = 0, n = 0;
-      read_mapping(line, in_stack);
-    }
-  if (file >= 0) syscall(SYS_close, file);
-  errno = error;
-}
-
-static void find_module(address pc) {
-  static address missed;
-  for (int i = 0; i < number_of_modules; i++)
-    if (modules[i].low <= pc && pc < modules[i].high) return;
-  if (missed == pc) return;
-  missed = pc;
-  read_mappings(0);
-}
-
-// the return addresses on the stack, by its frames
-static int walk(struct caller from, address *pcs) {
-  int n = 0;
-  address below = (address)__builtin_frame_address(0), *frame = from.frame;
-  if (below < stack_low || below >= stack_high) stack_low = stack_high = 0, read_mappings(below);
-  pcs[n++] = from.pc;
-  while (n < FRAMES && (address)frame > below && (address)frame % sizeof *frame == 0 && (address)(frame + 2) <= stack_high) {
-    if (frame[1] < 4096) break;
-    pcs[n++] = frame[1];
-    below = (address)frame;
-    frame = (address *)frame[0];
-  }
-  return n;
-}
-
-void put_stack(struct caller from) {
-  static struct { address hash; uint32_t number; } stacks[STACKS];
-  static uint32_t number_of_stacks;
-  address pcs[FRAMES], hash;
-  int n = walk(from, pcs);
-  hash = n;
-  for (int i = 0; i < n; i++) hash = (hash ^ pcs[i]) * 0x9E3779B97F4A7C15u, hash ^= hash >> 29;
-  uint32_t at = hash % STACKS;
-  while (stacks[at].number && stacks[at].hash != hash) at = (at + 1) % STACKS;
-  int is_new = !stacks[at].number;
-  if (is_new && number_of_stacks < STACKS / 4 * 3) stacks[at].hash = hash, stacks[at].number = ++number_of_stacks;
-  put(' ');
-  put_number(stacks[at].number, 10);
-  for (int i = 0; is_new && i < n; i++) put(i ? ',' : ':'), put_number(pcs[i], 16);
-  put_end();
-  for (int i = 0; is_new && i < n; i++) find_module(pcs[i]);
 }
 
 // The name of the log of this process. Whether it has %p, where each process has a log of its own; -1 where it is too long.
@@ -291,6 +217,7 @@ static void in_parent(void) { pthread_mutex_unlock(&accesses_lock); }
 // a child has a log of its own, or none
 static void in_child(void) {
   pthread_mutex_init(&accesses_lock, NULL);
+  pthread_mutex_init(&tell_lock, NULL);
   if (!text) return;
   if (strstr(pattern, "%p")) open_log();
   else munmap(log_start, LOG_SIZE), text = NULL;
@@ -309,14 +236,21 @@ static void make_absolute(void) {
 
 // The program came to its end, which may also be in a handler of a signal that came in the runtime, or in a child that has the memory of
 // its parent until it runs another program. What other threads do from now on is still logged.
-static __attribute__((destructor)) void stop(void) {
+void end_log(int status) {
   if (!text || process != syscall(SYS_getpid)) return;
   int is_held = busy++ ? !pthread_mutex_trylock(&accesses_lock) : !pthread_mutex_lock(&accesses_lock);
+  if (is_held && is_logging() && state == RUNNING) put_times();
+  if (is_held && is_logging() && status >= 0) put_record('e', 1, (long)status & 255), put_end();
   state = ENDED;
   if (text) write_mark();
   if (is_held) pthread_mutex_unlock(&accesses_lock);
   busy--;
+  if (!busy) tell_guess();
+  if (has_to_tell && !busy) tell();
 }
+
+static __attribute__((destructor)) void stop(void) { end_log(-1); }
+static void stop_with(int status, void *unused) { (void)unused, end_log(status); }
 
 // Requests of constructors that ran before are logged now.
 static __attribute__((constructor(101))) void start(void) {
@@ -327,18 +261,21 @@ static __attribute__((constructor(101))) void start(void) {
   enter();
   make_absolute();
   open_log();
-  if (is_logging()) read_mappings(0);
+  if (is_logging()) learn_modules();
   for (uint32_t number = 1; number <= number_of_blocks() && is_logging(); number++) {
     put_record('m', 3, (long)number, (long)BLOCKS[number].size, 0l), put_end();
     if (BLOCKS[number].state == FREED) put_record('f', 2, (long)number, 0l), put_end();
   }
+  int is_begun = is_logging();
   leave();
   pthread_atfork(before_fork, in_parent, in_child);
   at_quick_exit(stop);
+  on_exit(stop_with, NULL);
+  if (is_begun) watch_for_crashes();
 }
 
 SHOWN void _exit(int status) {
-  stop();
+  end_log(status);
   for (;;) syscall(SYS_exit_group, status);
 }
 SHOWN void _Exit(int status) { _exit(status); }

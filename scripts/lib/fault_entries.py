@@ -1,0 +1,85 @@
+"""What find_faults tells: an entry for each cause. This is what its summary and other forms of its answer are made of.
+
+    found = entries(log, verdicts, reports, places)
+    found[0].kind                 one of KINDS, or CRASH
+    found[0].uses[0]              the first wrong access or free of this cause; the others follow, each place and outcome once
+    found[0].uses[0].error        fault_log.Error, with .verdict, the fault_trace.Verdict that its replay was asked for
+    found[0].uses[0].result       CAUGHT, NOT_CAUGHT or NOT_REPLAYED, and .why
+    found[0].uses[0].times        how often the program did it, as far as the recorder saw
+    found[0].result               of the cause: caught where one of its uses is
+    found[0].stack, .made, .ended the numbers of stacks of the log: of the first use, and where its block was allocated, and freed or
+                                  resized (0 where that is not known); places.frames(number) are the frames of one
+    found[0].crash                of a CRASH, fault_log.Crash; it has no uses, and no result
+
+An access of a live block beyond its bounds has one cause with those that come from the same source line and the same allocation, on the same
+side of the block. An access of a freed or resized block has one with each other of that block, and of blocks that were allocated and freed
+from the same callers and first wrongly used at the same line. A free has one with those from the same line."""
+
+from collections import namedtuple
+
+OVERFLOW, UNDERFLOW, USE_AFTER_FREE, USE_AFTER_REALLOC = "overflow", "underflow", "use after free", "use after realloc"
+DOUBLE_FREE, INVALID_FREE, WILD = "double free", "invalid free", "access of no block"
+KINDS = (OVERFLOW, UNDERFLOW, USE_AFTER_FREE, USE_AFTER_REALLOC, DOUBLE_FREE, INVALID_FREE, WILD)
+CRASH = "crash"
+CAUGHT, NOT_CAUGHT, NOT_REPLAYED = "caught", "not caught", "not replayed"
+RESULTS = (CAUGHT, NOT_CAUGHT, NOT_REPLAYED)
+SAME_CALLERS = 3  # innermost frames that two stacks share which have the same callers
+
+Use = namedtuple("Use", "at error verdict result why times")  # at: the number of the error in the log, from 0
+Entry = namedtuple("Entry", "kind uses result stack made ended crash")
+
+
+def kind_of(error):
+    if error.is_free():
+        return DOUBLE_FREE if error.letter == "o" or error.block and error.state != "live" and not error.offset else INVALID_FREE
+    if not error.block:
+        return WILD if error.offset else USE_AFTER_FREE
+    if error.state != "live":
+        return USE_AFTER_FREE if error.state == "freed" else USE_AFTER_REALLOC
+    return UNDERFLOW if error.offset < 0 else OVERFLOW
+
+
+def stacks_of(log, errors):
+    """The numbers of the stacks that tell of some errors."""
+    numbers = {number for error in errors for number in (error.stack, log.made[error.block], max(log.ended[error.block], 0))}
+    return numbers | ({log.crash.stack} if log.crash else set())
+
+
+def entries(log, outcomes, places):
+    """The entries of a log, in the order of their first use. An outcome of an error is (verdict, result, why). places has learned the
+    stacks of all errors."""
+    lines = {}  # of a stack: its innermost place
+
+    def line(stack):
+        if stack not in lines:
+            lines[stack] = places.show(stack, callers=False)
+        return lines[stack]
+
+    def callers(stack):
+        return ",".join(log.stacks[max(stack, 0)].split(",")[:SAME_CALLERS])
+
+    of_block, causes = {}, {}
+    for at, error in enumerate(log.errors):
+        kind, block = kind_of(error), error.block
+        if kind in (USE_AFTER_FREE, USE_AFTER_REALLOC) and block:
+            # what another block's first wrong use is one cause with
+            key = of_block.setdefault((kind, block), (kind, line(error.stack), callers(log.made[block]), callers(log.ended[block])))
+        else:
+            key = kind, line(error.stack), callers(log.made[block]) if block else "", callers(log.ended[block]) if block else ""
+        causes.setdefault(key, []).append(at)
+    found = []
+    for (kind, *_), numbers in causes.items():
+        uses = {}
+        for at in numbers:
+            error, (verdict, result, why) = log.errors[at], outcomes[at]
+            key = error.letter, error.state, line(error.stack), result
+            if key in uses:
+                uses[key] = uses[key]._replace(times=uses[key].times + error.times)
+            else:
+                uses[key] = Use(at, error, verdict, result, why, error.times)
+        first, results = log.errors[numbers[0]], [use.result for use in uses.values()]
+        made, ended = log.made[first.block], max(log.ended[first.block], 0) if first.state != "live" else 0
+        found.append(Entry(kind, list(uses.values()), min(results, key=RESULTS.index), first.stack, made, ended, None))
+    if log.crash:
+        found.append(Entry(CRASH, [], None, log.crash.stack, 0, 0, log.crash))
+    return found

@@ -1,0 +1,134 @@
+// Stacks of return addresses. Where a block is requested or freed they come from the frames of the program's functions, which traced_cc keeps,
+// and each is logged once. Where an error is told, the unwinder of the compiler finds them, through functions of libc that have no frame too.
+#include "accesses.h"
+#include <errno.h>
+#include <fcntl.h>
+#include <string.h>
+#include <sys/syscall.h>
+#include <unistd.h>
+#include <unwind.h>
+
+enum { STACKS = 1 << 18, MODULES = 256, MOST_SKIPPED = 64, FRAMES_OF_UNNUMBERED = 4 };
+static struct module modules[MODULES];
+static int number_of_modules;
+static char paths[1 << 16];
+static size_t paths_end;
+static __thread address stack_low __attribute__((tls_model("initial-exec"))), stack_high __attribute__((tls_model("initial-exec")));
+
+static char *read_hexadecimal(char *at, address *value) {
+  for (*value = 0; (*at >= '0' && *at <= '9') || (*at >= 'a' && *at <= 'f'); at++)
+    *value = *value * 16 + (*at <= '9' ? *at - '0' : *at - 'a' + 10);
+  return at;
+}
+
+static void read_mapping(char *line, address in_stack) {
+  struct module new;
+  char *mode = read_hexadecimal(read_hexadecimal(line, &new.low) + 1, &new.high) + 1;
+  if (in_stack) {
+    if (new.low <= in_stack && in_stack < new.high) stack_low = new.low, stack_high = new.high;
+    return;
+  }
+  read_hexadecimal(mode + 5, &new.offset);
+  char *path = strchr(mode, '/');
+  if (mode[2] != 'x' || !path || number_of_modules == MODULES || !is_logging()) return;
+  for (int i = 0; i < number_of_modules; i++)
+    if (modules[i].low == new.low && modules[i].high == new.high) return;
+  size_t length = strlen(path) + 1;
+  new.path = NULL;
+  if (length <= sizeof paths - paths_end) copy_bytes(paths + paths_end, path, length), new.path = paths + paths_end, paths_end += length;
+  modules[number_of_modules++] = new;
+  address numbers[] = {new.low, new.high, new.offset};
+  put_text("M");
+  for (int i = 0; i < 3; i++) put_text(" "), put_number(numbers[i], 16);
+  put_text(" "), put_text(path), put_end();
+}
+
+// the mappings as the kernel says them, not the loader, whose locks others may hold: new modules, or the bounds of the stack
+static void read_mappings(address in_stack) {
+  static char piece[4096], line[MOST_NAME];
+  int error = errno, file = syscall(SYS_openat, AT_FDCWD, "/proc/self/maps", O_RDONLY | O_CLOEXEC);
+  long got, n = 0;
+  while (file >= 0 && (got = syscall(SYS_read, file, piece, sizeof piece)) > 0)
+    for (long i = 0; i < got; i++) {
+      if (piece[i] != '\n' && n < MOST_NAME - 1) line[n++] = piece[i];
+      if (piece[i] != '\n') continue;
+      line[n] = 0, n = 0;
+      read_mapping(line, in_stack);
+    }
+  if (file >= 0) syscall(SYS_close, file);
+  errno = error;
+}
+
+const struct module *module_of(address pc) {
+  for (int i = 0; i < number_of_modules; i++)
+    if (modules[i].low <= pc && pc < modules[i].high) return &modules[i];
+  return NULL;
+}
+
+void learn_modules(void) { read_mappings(0); }
+
+static void find_module(address pc) {
+  static address missed;
+  if (module_of(pc) || missed == pc) return;
+  missed = pc;
+  read_mappings(0);
+}
+
+// the return addresses on the stack above an address in it, by its frames
+void walk(struct caller from, address below, struct stack *to) {
+  address *frame = from.frame;
+  if (below < stack_low || below >= stack_high) stack_low = stack_high = 0, read_mappings(below);
+  to->pcs[to->count++] = from.pc;
+  while (to->count < FRAMES && (address)frame > below && (address)frame % sizeof *frame == 0 && (address)(frame + 2) <= stack_high) {
+    if (frame[1] < 4096) break;
+    to->pcs[to->count++] = frame[1];
+    below = (address)frame;
+    frame = (address *)frame[0];
+  }
+}
+
+struct search { address from; int skipped; struct stack *to; };
+
+static _Unwind_Reason_Code see_frame(struct _Unwind_Context *context, void *data) {
+  struct search *search = data;
+  int is_exact = 0;  // where a signal came, and no call
+  address pc = _Unwind_GetIPInfo(context, &is_exact);
+  if (!search->to->count && pc != search->from) return search->skipped++ < MOST_SKIPPED ? _URC_NO_REASON : _URC_END_OF_STACK;
+  if (pc < 4096 && search->to->count) return _URC_END_OF_STACK;
+  search->to->pcs[search->to->count++] = pc + !!is_exact;
+  return search->to->count < FRAMES ? _URC_NO_REASON : _URC_END_OF_STACK;
+}
+
+// The same by the unwinder, which may wait for locks of the loader: the caller holds none of ours.
+void unwind(struct caller from, struct stack *to) {
+  struct search search = {from.pc, 0, to};
+  int error = errno;
+  to->count = 0;
+  busy++;
+  _Unwind_Backtrace(see_frame, &search);
+  busy--;
+  errno = error;
+}
+
+void put_frames(const struct stack *stack) {
+  static struct { address hash; uint32_t number; } stacks[STACKS];
+  static uint32_t number_of_stacks;
+  int n = stack->count;
+  address hash = n;
+  for (int i = 0; i < n; i++) hash = (hash ^ stack->pcs[i]) * 0x9E3779B97F4A7C15u, hash ^= hash >> 29;
+  uint32_t at = hash % STACKS;
+  while (stacks[at].number && stacks[at].hash != hash) at = (at + 1) % STACKS;
+  int is_new = !stacks[at].number;
+  if (is_new && number_of_stacks < STACKS / 4 * 3) stacks[at].hash = hash, stacks[at].number = ++number_of_stacks;
+  else if (is_new && n > FRAMES_OF_UNNUMBERED) n = FRAMES_OF_UNNUMBERED;  // it will be logged again and again
+  put_text(" "), put_number(stacks[at].number, 10);
+  for (int i = 0; is_new && i < n; i++) put_text(i ? "," : ":"), put_number(stack->pcs[i], 16);
+  put_end();
+  for (int i = 0; is_new && i < n; i++) find_module(stack->pcs[i]);
+}
+
+void put_stack(struct caller from) {
+  struct stack stack = {0};
+  walk(from, (address)__builtin_frame_address(0), &stack);
+  put_frames(&stack);
+}

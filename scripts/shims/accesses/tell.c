@@ -1,0 +1,224 @@
+// Tells on standard error what is wrong as soon as it comes: a line for each place in the code, and kind. addr2line of binutils names the
+// source lines. It is run as a child of which the program gets no signal, and for which it can't wait.
+#include "accesses.h"
+#include <errno.h>
+#include <fcntl.h>
+#include <poll.h>
+#include <sched.h>
+#include <signal.h>
+#include <stdarg.h>
+#include <stdio.h>
+#include <elf.h>
+#include <stdlib.h>
+#include <string.h>
+#include <sys/syscall.h>
+#include <sys/wait.h>
+#include <unistd.h>
+
+enum { MOST_TOLD = 64, MOST_ASKED = 6, MOST_ANSWER = 16384, WAIT = 10000 /* milliseconds */ };
+__thread int has_to_tell __attribute__((tls_model("initial-exec")));
+static __thread struct wrong pending[2] __attribute__((tls_model("initial-exec")));  // the second where a guess was told first
+pthread_mutex_t tell_lock = PTHREAD_MUTEX_INITIALIZER;
+
+void will_tell(const struct wrong *wrong) {
+  if (has_to_tell < 2) pending[has_to_tell++] = *wrong;
+}
+
+struct line { size_t length; char text[2048]; };
+
+static void add(struct line *line, const char *text) {
+  for (; *text && line->length < sizeof line->text - 2; text++) line->text[line->length++] = *text >= ' ' && *text != 127 ? *text : '?';
+}
+
+static void add_number(struct line *line, unsigned long value, unsigned base) {
+  char digits[24], *at = digits + sizeof digits - 1;
+  *at = 0;
+  do *--at = "0123456789abcdef"[value % base];
+  while (value /= base);
+  add(line, at);
+}
+
+static void add_count(struct line *line, long number, const char *word) {
+  add_number(line, number, 10), add(line, " "), add(line, word);
+  if (number != 1) add(line, "s");
+}
+
+// the bytes of a file from an offset on
+static long read_at(int file, void *to, size_t size, long offset) { return syscall(SYS_pread64, file, to, size, offset); }
+
+// the address in a module's file that addr2line knows; 0 where there is none
+static address address_in_file(const struct module *module, address pc) {
+  Elf64_Ehdr head;
+  Elf64_Phdr part;
+  address offset = pc - module->low + module->offset, found = 0;
+  int file = syscall(SYS_openat, AT_FDCWD, module->path, O_RDONLY | O_CLOEXEC | O_NONBLOCK);
+  if (file < 0) return 0;
+  if (read_at(file, &head, sizeof head, 0) == sizeof head && !memcmp(head.e_ident, ELFMAG, SELFMAG) && head.e_ident[EI_CLASS] == ELFCLASS64)
+    for (int i = 0; i < head.e_phnum; i++)
+      if (read_at(file, &part, sizeof part, head.e_phoff + (long)i * head.e_phentsize) == sizeof part && part.p_type == PT_LOAD &&
+          part.p_offset <= offset && offset < part.p_offset + part.p_filesz)
+        found = offset - part.p_offset + part.p_vaddr;
+  syscall(SYS_close, file);
+  return found;
+}
+
+struct question { char *words[8]; int answer; };
+
+// the child has the memory of the program until it is another program
+static int become_addr2line(void *data) {
+  struct question *question = data;
+  char path[1024];
+  int none = syscall(SYS_openat, AT_FDCWD, "/dev/null", O_RDWR);
+  syscall(SYS_dup3, none, 0, 0), syscall(SYS_dup3, none, 2, 0), syscall(SYS_dup3, question->answer, 1, 0);
+  const char *folder = getenv("PATH");
+  if (!folder) folder = "/usr/bin";
+  while (*folder) {
+    size_t length = strcspn(folder, ":");
+    if (length && length < sizeof path - 16) {
+      memcpy(path, folder, length), memcpy(path + length, "/addr2line", 11);
+      syscall(SYS_execve, path, question->words, environ);
+    }
+    folder += length + (folder[length] == ':');
+  }
+  return syscall(SYS_exit, 127);
+}
+
+// what addr2line says of a place: a line with a function and one with a source, for each frame that was inlined there
+static size_t ask(const struct module *module, address in_file, char *answer, size_t room) {
+  static _Alignas(16) char stack[1 << 15];
+  struct line number = {0};
+  int ends[2];
+  size_t length = 0;
+  add(&number, "0x"), add_number(&number, in_file, 16), number.text[number.length] = 0;
+  if (syscall(SYS_pipe2, ends, O_CLOEXEC)) return 0;
+  for (int i = 0; i < 2; i++) {  // the program may have closed the first three
+    int high = syscall(SYS_fcntl, ends[i], F_DUPFD_CLOEXEC, 3);
+    syscall(SYS_close, ends[i]), ends[i] = high;
+  }
+  struct question question = {{"addr2line", "-f", "-C", "-i", "-e", (char *)module->path, number.text, NULL}, ends[1]};
+  pid_t child = ends[1] < 0 ? -1 : clone(become_addr2line, stack + sizeof stack, CLONE_VM | CLONE_VFORK, &question);
+  syscall(SYS_close, ends[1]);
+  struct pollfd wait = {ends[0], POLLIN, 0};
+  while (child > 0 && length < room - 1 && poll(&wait, 1, WAIT) > 0) {
+    long got = syscall(SYS_read, ends[0], answer + length, room - 1 - length);
+    if (got <= 0) break;
+    length += got;
+  }
+  syscall(SYS_close, ends[0]);
+  if (child > 0) syscall(SYS_kill, child, SIGKILL), syscall(SYS_wait4, child, NULL, __WALL, NULL);
+  answer[length] = 0;
+  return length;
+}
+
+static int begins(const char *text, const char *with) { return !strncmp(text, with, strlen(with)); }
+
+// whether a file is the program's, and not the system's
+static int is_own(const char *path) {
+  return *path != '?' && !begins(path, "/usr/lib") && !begins(path, "/lib") && !begins(path, "/usr/include") && !strstr(path, "/bits/");
+}
+
+static void add_source(struct line *line, char *source, char *function) {
+  static char here[MOST_NAME];
+  char *note = strstr(source, " ("), *slash = strrchr(source, '/'), *end = function;
+  if (note) *note = 0;
+  long length = syscall(SYS_getcwd, here, sizeof here) - 1;
+  if (length > 0 && begins(source, here) && source[length] == '/') source += length + 1;
+  else if (slash) source = slash + 1;
+  for (; *end && *end != '('; end++)
+    if (begins(end, "operator()")) end += strlen("operator()") - 1;
+    else if (begins(end + 1, "(anonymous namespace)")) end += strlen("(anonymous namespace)");
+  *end = 0;
+  add(line, source), add(line, " in "), add(line, function);
+}
+
+// the innermost place in the program's own sources
+static void add_place(struct line *line, const struct stack *stack) {
+  static char answer[MOST_ANSWER];
+  int asked = 0;
+  const char *name = NULL;
+  address offset = 0;
+  for (int i = 0; i < stack->count && asked < MOST_ASKED; i++) {
+    const struct module *module = module_of(stack->pcs[i] - 1);
+    if (!module || !module->path || strstr(module->path, "/libmte_accesses.so")) continue;
+    if (!name) name = strrchr(module->path, '/') + 1, offset = stack->pcs[i] - module->low + module->offset;
+    address in_file = is_own(module->path) ? address_in_file(module, stack->pcs[i]) : 0;
+    if (!in_file) continue;
+    asked++;
+    ask(module, in_file - 1, answer, sizeof answer);
+    for (char *function = answer, *source, *end; (source = strchr(function, '\n')) && (end = strchr(source + 1, '\n')); function = end + 1) {
+      *source++ = 0, *end = 0;
+      if (is_own(source)) return add_source(line, source, function);
+    }
+  }
+  if (!name) return add(line, "an unknown place");
+  add(line, name), add(line, "+0x"), add_number(line, offset, 16);
+}
+
+static void add_block(struct line *line, const struct wrong *wrong) {
+  add(line, " a block of "), add_count(line, wrong->block_size, "byte");
+  if (wrong->is_freed) add(line, " that was freed");
+}
+
+// what the program did; scripts/lib/fault_report.py has the same words
+static void add_sentence(struct line *line, const struct wrong *wrong) {
+  long offset = wrong->offset, size = wrong->block_size;
+  if (wrong->letter == 'C') {
+    add(line, wrong->signal == SIGSEGV ? "SIGSEGV" : wrong->signal == SIGBUS ? "SIGBUS" : wrong->signal == SIGABRT ? "SIGABRT" :
+              wrong->signal == SIGFPE ? "SIGFPE" : "SIGILL");
+    if (offset) add(line, " at the address 0x"), add_number(line, wrong->at, 16);
+    return;
+  }
+  if (wrong->letter == 'n') return add(line, "free of an address that the heap never gave out");
+  if (wrong->letter == 'o') return add(line, "free of a block that was freed long ago");
+  if (wrong->letter == 'x') {
+    add(line, "free of");
+    if (offset) add(line, " a pointer "), add_count(line, offset < 0 ? -offset : offset, "byte"), add(line, offset < 0 ? " before" : " into");
+    return add_block(line, wrong);
+  }
+  add(line, wrong->letter == 'L' ? "load of " : "store of "), add_count(line, wrong->size, "byte");
+  if (!wrong->number) return add(line, offset ? " of an address that the heap never gave out" : " of a block that was freed long ago");
+  add(line, ", ");
+  if (offset < 0) add_count(line, -offset, "byte"), add(line, " before");
+  else if (offset >= size) add_count(line, offset - size, "byte"), add(line, " after");
+  else if (!wrong->is_freed) add(line, "from "), add_count(line, offset, "byte"), add(line, " into");
+  else add_count(line, offset, "byte"), add(line, " into");
+  add_block(line, wrong);
+  if (offset >= 0 && offset < size && !wrong->is_freed)
+    add(line, " to "), add_count(line, offset + wrong->size - size, "byte"), add(line, " after it");
+}
+
+// whether nothing of this place and kind was told
+static int is_new(const struct wrong *wrong) {
+  static struct { address pc; int kind; } told[MOST_TOLD];
+  static int number;
+  int kind = wrong->letter << 1 | wrong->is_freed;
+  for (int i = 0; i < number; i++)
+    if (told[i].pc == wrong->stack.pcs[0] && told[i].kind == kind) return 0;
+  if (number == MOST_TOLD) return wrong->letter == 'C';
+  told[number].pc = wrong->stack.pcs[0], told[number++].kind = kind;
+  return 1;
+}
+
+static void tell_one(const struct wrong *wrong) {
+  static struct line line;
+  if (!is_new(wrong)) return;
+  line.length = 0;
+  add(&line, "traced_cc: "), add_place(&line, &wrong->stack), add(&line, ": "), add_sentence(&line, wrong);
+  line.text[line.length++] = '\n';
+  if (syscall(SYS_write, 2, line.text, line.length) < 0) errno = 0;
+}
+
+void tell(void) {
+  sigset_t all, before;
+  int error = errno, number = has_to_tell;
+  has_to_tell = 0;
+  sigfillset(&all);
+  pthread_sigmask(SIG_SETMASK, &all, &before);
+  busy++;
+  pthread_mutex_lock(&tell_lock);
+  for (int i = 0; i < number; i++) tell_one(&pending[i]);
+  pthread_mutex_unlock(&tell_lock);
+  busy--;
+  pthread_sigmask(SIG_SETMASK, &before, NULL);
+  errno = error;
+}
