@@ -131,7 +131,7 @@ class Log:
         self.crash = self.status = None
         self._times = {}
         self._numbers = {0: 0}
-        self._unrecorded = set()  # blocks that a handler of a signal requested have no record
+        self.unrecorded = set()  # blocks that a handler of a signal requested have no record
         self._taken_back = set()
         descriptor = os.open(path, os.O_RDONLY | os.O_NONBLOCK | os.O_NOCTTY | os.O_CLOEXEC)
         with open(descriptor, "rb") as file:
@@ -162,7 +162,7 @@ class Log:
         if letter in (b"l", b"s"):
             block, offset, length = map(int, words)
             self._know(block)
-            if block not in self._unrecorded:
+            if block not in self.unrecorded:
                 if not (self.ended[block] == -1 and 0 <= offset and 0 < length <= LONGEST_RIGHT and offset + length <= self.size[block]):
                     raise NoLog
                 self._add(letter, block, offset, length)
@@ -220,10 +220,10 @@ class Log:
 
     def _know(self, block):
         """Makes place for a block, and for those before it."""
-        if not 0 < block <= len(self.size) + MOST_UNRECORDED - len(self._unrecorded):
+        if not 0 < block <= len(self.size) + MOST_UNRECORDED - len(self.unrecorded):
             raise NoLog
         while len(self.size) <= block:
-            self._unrecorded.add(len(self.size))
+            self.unrecorded.add(len(self.size))
             for column, value in ((self.size, 0), (self.made, 0), (self.ended, -1), (self.chain, len(self.size)), (self.next, 0)):
                 column.append(value)
 
@@ -231,7 +231,7 @@ class Log:
         if block < len(self.size) or not 0 <= size < MOST_SIZE:
             raise NoLog
         self._know(block)
-        self._unrecorded.discard(block)
+        self.unrecorded.discard(block)
         self.size[block], self.made[block], self.chain[block] = size, stack, chain
 
     def _end(self, block, stack):

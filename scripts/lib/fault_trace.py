@@ -18,7 +18,8 @@ MOST_OFFSET = 1_048_576  # of a trace
 
 # What became of an error: `asked` has the promise, and the event that asks; `ruled` is refused by a rule, and no event can say it; `large`
 # and `left` are not replayed, for the reason of the promise.
-Verdict = namedtuple("Verdict", "kind promise event is_free")
+# The meeting is what decides an event that asks.
+Verdict = namedtuple("Verdict", "kind promise event is_free meeting", defaults=(None,))
 
 MISPLACED = "misplaced: free refuses what is not the first byte of a granule"
 NOT_GIVEN = "misplaced: free refuses an address that the heap never gave out"
@@ -132,8 +133,8 @@ class Trace:
         return self.slots.free(slot)
 
     def _wrong(self, error):
-        def verdict(kind, promise, event=None):
-            return Verdict(kind, promise if isinstance(promise, Promise) else Promise("open", None, promise), event, error.is_free())
+        def verdict(kind, promise, event=None, meeting=None):
+            return Verdict(kind, promise if isinstance(promise, Promise) else Promise("open", None, promise), event, error.is_free(), meeting)
 
         if error.letter == "n":
             return verdict("ruled", NOT_GIVEN)
@@ -150,7 +151,8 @@ class Trace:
                 return verdict("ruled", MISPLACED)
             if abs(error.offset) > 16 * MOST_MOVE * MOST_MOVES:
                 return verdict("left", NEVER_GIVEN)
-            return verdict("asked", *self._wrong_free(variable, pointer, error.offset // 16))
+            moved = error.offset // 16
+            return verdict("asked", *self._wrong_free(variable, pointer, moved), self.slots.meeting_of_free(pointer, moved))
         offset, length = error.window(self.log.size[error.block])
         if abs(offset) > MOST_OFFSET:
             return verdict("left", NEVER_GIVEN)
@@ -158,7 +160,8 @@ class Trace:
         if promise.reason == LAST_GRANULE and error.state == "resized":
             promise = promise._replace(reason=IN_PLACE)
         word, byte = ("load", "") if error.letter == "L" else ("store", " a5")
-        return verdict("asked", promise, self._event(f"{word} {variable} {offset} {length}{byte}", promise))
+        event = self._event(f"{word} {variable} {offset} {length}{byte}", promise)
+        return verdict("asked", promise, event, self.slots.meeting(pointer, offset, length))
 
     def _wrong_free(self, variable, pointer, granules):
         promise = self.slots.freeing(pointer, granules)

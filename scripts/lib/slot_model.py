@@ -11,6 +11,9 @@ GRANULE = 16
 # that promises it, or why nothing is promised.
 Promise = namedtuple("Promise", "answer report reason")
 
+# The chunk whose tag decides an access or a free: of which slot and generation the pointer is, and the chunk.
+Meeting = namedtuple("Meeting", "own generation other other_generation is_dead")
+
 LAST_GRANULE = "it is inside the last granule of its chunk"
 IN_PLACE = "the block was resized in place, and the old pointer is still its own"
 SAME_PARITY = "it falls in a slot of the same parity that has the same tag"
@@ -132,6 +135,24 @@ class Slots:
         if (slot.number - own.number) % 2 or (slot is own and slot.generation == generation + 1):
             return Promise("refused", "refused wrong-tag", "law_own_pointer")
         return Promise("open", None, REUSED if slot is own else SAME_PARITY)
+
+    def meeting(self, pointer, offset, length):
+        """The chunk that decides an access; None where it touches a granule of no chunk. Between two chunks there is such a granule."""
+        begin = GRANULE * (pointer[0].start + 1) + offset
+        if begin < 0 or begin + length > GRANULE * self.granules:
+            return None
+        met = [self.at(granule)[1] for granule in range(begin // GRANULE, (begin + length - 1) // GRANULE + 1)]
+        return meets(pointer, met[0]) if all(met) else None
+
+    def meeting_of_free(self, pointer, moved):
+        """The chunk that decides the free of a pointer that was moved by so many granules; None where there is no live one."""
+        place = self.slot_at(pointer[0].start + moved)
+        slot = self.used.get(place[0]) if place and place[1] == 0 else None
+        return meets(pointer, slot) if slot and slot.is_live else None
+
+
+def meets(pointer, slot):
+    return Meeting(pointer[0].number, pointer[1], slot.number, slot.generation, not slot.is_live)
 
 
 def chunk_granules(size):
