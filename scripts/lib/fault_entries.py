@@ -10,6 +10,7 @@
     found[0].stack, .made, .ended the numbers of stacks of the log: of the first use, and where its block was allocated, and freed or
                                   resized (0 where that is not known); places.frames(number) are the frames of one
     found[0].crash                of a CRASH, fault_log.Crash; it has no uses, and no result
+    found[0].numbers              of all errors of the log that are of this cause, from 0
 
 An access of a live block beyond its bounds has one cause with those that come from the same source line and the same allocation, on the same
 side of the block. An access of a freed or resized block has one with each other of that block, and of blocks that were allocated and freed
@@ -26,7 +27,7 @@ RESULTS = (CAUGHT, NOT_CAUGHT, NOT_REPLAYED)
 SAME_CALLERS = 3  # innermost frames that two stacks share which have the same callers
 
 Use = namedtuple("Use", "at error verdict result why times")  # at: the number of the error in the log, from 0
-Entry = namedtuple("Entry", "kind uses result stack made ended crash")
+Entry = namedtuple("Entry", "kind uses result stack made ended crash numbers")
 
 
 def kind_of(error):
@@ -79,7 +80,7 @@ def entries(log, outcomes, places):
                 uses[key] = Use(at, error, verdict, result, why, error.times)
         first, results = log.errors[numbers[0]], [use.result for use in uses.values()]
         made, ended = log.made[first.block], max(log.ended[first.block], 0) if first.state != "live" else 0
-        found.append(Entry(kind, list(uses.values()), min(results, key=RESULTS.index), first.stack, made, ended, None))
+        found.append(Entry(kind, list(uses.values()), min(results, key=RESULTS.index), first.stack, made, ended, None, numbers))
     if log.crash:
-        found.append(Entry(CRASH, [], None, log.crash.stack, 0, 0, log.crash))
+        found.append(Entry(CRASH, [], None, log.crash.stack, 0, 0, log.crash, []))
     return found

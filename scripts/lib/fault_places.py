@@ -77,6 +77,10 @@ class Places:
                 is_named = not function.startswith("??")
                 frames.append(unknown._replace(function=f"{function} of {os.path.basename(path)}") if is_named else unknown)
 
+    def at(self, address):
+        """The frames of an address that was learned, the innermost inlined first."""
+        return self._frames.get(address, [])
+
     def frames(self, stack):
         """The frames of a stack of the log, the innermost first. Those that tell nothing are folded, and so are those before the program's
         first function; where none is the program's, all are there."""

@@ -7,6 +7,7 @@ from fault_places import Places
 from running import printable
 
 MOST_USES = 8  # of a cause that are shown
+NO_END = "the program did not come to its end"  # of what a log misses
 
 
 def outcome(verdict, report):
@@ -76,15 +77,13 @@ def history(entry, log, places):
     return lines + ([f"{error.state} at {places.show(entry.ended)}"] if error.block and error.state != "live" else [])
 
 
-def tell(log, trace, report):
-    """The text of all errors and of the totals."""
-    found, places = found_by(log, trace.verdicts, report)
-    lines = [line for entry in found for line in tell_entry(entry, log, places)]
-    return lines + totals(log, found, trace)
+def tell(log, found, places, odds):
+    """The text of some entries."""
+    return [line for entry in found for line in tell_entry(entry, log, places, odds)]
 
 
-def tell_entry(entry, log, places):
-    """What was done and where, with the callers; what came of it; and the same of what else has this cause."""
+def tell_entry(entry, log, places, odds):
+    """What was done and where, with the callers; what came of it, and the odds; and the same of what else has this cause."""
     place, *callers = [frame.show() for frame in places.frames(entry.stack)] or ["an unknown place"]
     from_callers = [f"    from {caller}" for caller in callers]
     if entry.kind == CRASH:
@@ -96,7 +95,7 @@ def tell_entry(entry, log, places):
         lines.append(f"    then {at}: {sentence(use.error, log)}{often(use.times)}: {use.result}: {use.why}")
     if len(others) >= MOST_USES:
         lines.append(f"    and so at {count(len(others) - MOST_USES + 1, 'other place')}")
-    return lines + [f"    {line}" for line in history(entry, log, places)]
+    return lines + [f"    {line}" for line in (odds.line(entry.numbers), *history(entry, log, places))]
 
 
 def often(times):
@@ -127,7 +126,7 @@ def totals(log, found, trace):
         lines += [f"    {number}: {why}" for (of, why), number in reasons.items() if of == result]
     if log.crash:
         lines.append("crashed 1")
-    lines.append(f"wrong accesses and frees {sum(error.times for error in log.errors)}")
+    lines.append(f"wrong accesses and frees {sum(use.times for entry in found for use in entry.uses)}")
     lines.append(f"events {len(trace.lines)}")
     lines += [f"left out: {number} {words}" for words, number in sorted(trace.left_out.items())]
     return lines
@@ -169,9 +168,8 @@ def tell_differences(differences, trace):
     return lines
 
 
-def tell_seeds(log, trace, reports):
-    """A line for each use of each entry: over how many seeds it was caught, and what that rests on."""
-    found, places = found_by(log, trace.verdicts, reports[0])
+def tell_seeds(log, found, places, reports, odds):
+    """A line for each use of each entry: over how many seeds it was caught, and what that rests on; and the odds of the entry."""
     lines = []
     for entry in found:
         for use in entry.uses:
@@ -179,4 +177,6 @@ def tell_seeds(log, trace, reports):
             counts = ", ".join(f"{result} {results[result]}" for result in RESULTS if results[result])
             reason = "law_own_pointer" if use.verdict.kind == "ruled" else use.verdict.promise.reason
             lines.append(f"{places.show(use.error.stack, callers=False)}: {sentence(use.error, log)}: {counts} ({reason})")
+        if entry.uses:
+            lines.append(f"    {odds.line(entry.numbers)}")
     return lines

@@ -1,0 +1,103 @@
+"""What find_faults answers: the text of one process or of many, and the files that have the same for other programs."""
+
+import os
+import re
+from collections import Counter, namedtuple
+
+import fault_report
+import findings
+import sarif
+import tombstone
+from fault_entries import RESULTS
+
+PROCESS = re.compile(r"[0-9]{1,10}(\.[2-9])?")  # the name of a log of one of many processes
+
+# A process: the name of its log and of its program, its log, its replays, and what was found: entries, and findings in the same order.
+Judged = namedtuple("Judged", "name program log trace whole table reports found places odds values files differing")
+
+
+def logs(folder, has_children):
+    """The names of the logs in a folder."""
+    if not has_children:
+        return ["log"]
+    return sorted((name for name in os.listdir(folder) if PROCESS.fullmatch(name)), key=lambda name: tuple(map(int, name.split("."))))
+
+
+def program_of(log):
+    """The name of the program that wrote a log: its own file is the first that is mapped."""
+    return os.path.basename(log.modules[0].path) if log.modules else "a program"
+
+
+def is_followed(name, names):
+    """Whether the process of a log ran another traced program later."""
+    number, _, turn = name.partition(".")
+    return f"{number}.{int(turn or 1) + 1}" in names
+
+
+def new(judged):
+    return [entry for entry, value in zip(judged.found, judged.values) if value["state"] == "new"]
+
+
+def of_one(judged, options):
+    """The text of a process that was run alone."""
+    log, trace = judged.log, judged.trace
+    if options.seeds:
+        return fault_report.tell_seeds(log, new(judged), judged.places, judged.reports, judged.odds)
+    lines = fault_report.tell(log, new(judged), judged.places, judged.odds) + fault_report.totals(log, new(judged), trace)
+    if judged.whole is not trace:
+        lines.append(fault_report.changed_promises(trace, judged.whole))
+    return lines
+
+
+def of_many(processes, options):
+    """The text of many processes: each cause is told for the first of them, and how many more have it."""
+    having = Counter(each["id"] for judged in processes for each in judged.values if each["state"] == "new")
+    lines, told, results = [], set(), Counter()
+    for judged in processes:
+        own = [(entry, value["id"]) for entry, value in zip(judged.found, judged.values) if value["state"] == "new" and value["id"] not in told]
+        if own:
+            lines.append(f"process {judged.name}, {judged.program}:")
+        for entry, id in own:
+            if options.seeds:
+                lines += fault_report.tell_seeds(judged.log, [entry], judged.places, judged.reports, judged.odds)
+            else:
+                lines += fault_report.tell(judged.log, [entry], judged.places, judged.odds)
+            if having[id] > 1:
+                lines.append(f"    in {fault_report.count(having[id] - 1, 'process')} more".replace("processs", "processes"))
+            results[entry.result] += 1
+            told.add(id)
+    lines += [f"processes {len(processes)}", f"errors {len(told)}", *(f"{result} {results[result]}" for result in RESULTS)]
+    crashes = sum(judged.log.crash is not None for judged in processes)
+    return lines + ([f"crashed {crashes}"] if crashes else [])
+
+
+def incomplete(judged, names):
+    """What is missing of a process's log. One of many may be ended by another, or run one that nobody records: that is no fault."""
+    if len(names) == 1:
+        return judged.log.missing
+    return [each for each in judged.log.missing if not each.startswith(fault_report.NO_END)]
+
+
+def counts(processes, known):
+    """Lines on the findings that are not told, and on what the baseline has and the run has not."""
+    states = Counter(each["state"] for judged in processes for each in judged.values)
+    lines = [f"{state} {states[state]}" for state in ("suppressed", "known") if states[state]]
+    here = {each["id"] for judged in processes for each in judged.values}
+    return lines + [f"gone: {title}" for id, title in known.items() if id not in here]
+
+
+def document(processes, program, status, ended):
+    names = [judged.name for judged in processes]
+    listed = [{"name": judged.program, "log": judged.name, "findings": judged.values, "incomplete": incomplete(judged, names)} for judged in processes]
+    return findings.document(program, status, ended, listed)
+
+
+def files(options, processes, program, status, ended):
+    """The files that were asked for: (name, text)."""
+    answer = document(processes, program, status, ended)
+    if options.json:
+        yield options.json, findings.text(answer)
+    if options.sarif:
+        yield options.sarif, findings.text(sarif.document(answer, bool(options.baseline)))
+    if options.tombstones:
+        yield options.tombstones, "".join(text for judged in processes for text in tombstone.texts_of(judged))

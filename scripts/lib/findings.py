@@ -1,0 +1,176 @@
+"""What find_faults found, as plain values: for --json, --sarif and the annotations of a workflow, and to compare with an earlier run.
+
+A finding is a cause (fault_entries.Entry) as a dictionary: kind, cwe, what, result, why, times, odds, block, frames, allocated, ended, uses and
+id. The id names the cause in another run or another commit: it is made of the kind, and of the functions and files of the innermost frames,
+and has no line numbers. Findings of one run that agree in all that are numbered."""
+
+import fnmatch
+import hashlib
+import json
+import os
+from collections import Counter, namedtuple
+
+import fault_entries
+import odds as shares
+from fault_report import count, crash_sentence, sentence
+
+FORM = 1  # of the JSON
+FRAMES_OF_ID = 3
+CWES = {
+    fault_entries.OVERFLOW: (787, 126), fault_entries.UNDERFLOW: (124, 127), fault_entries.USE_AFTER_FREE: (416, 416),
+    fault_entries.USE_AFTER_REALLOC: (825, 825), fault_entries.DOUBLE_FREE: (415, 415), fault_entries.INVALID_FREE: (761, 761),
+    fault_entries.WILD: (119, 119), fault_entries.CRASH: (None, None),
+}  # of a kind: of a store or a free, and of a load
+NOT_ON_HEAP = 590  # of a free
+LARGEST_FILE = 64 << 20
+
+# A line of a file of suppressions: the kind and the place are patterns as of file names.
+Suppression = namedtuple("Suppression", "kind place line number")
+
+
+class Unreadable(Exception):
+    """A file of suppressions or a baseline can't be read, or is none."""
+
+
+def all_of(log, found, places, odds):
+    """The findings of the entries of a log."""
+    made = [finding(entry, log, places, odds) for entry in found]
+    seen = Counter()
+    for each in made:
+        seen[each["id"]] += 1
+        if seen[each["id"]] > 1:
+            each["id"] = hashed(each["id"], str(seen[each["id"]]))
+    return made
+
+
+def finding(entry, log, places, odds):
+    frames, made = places.frames(entry.stack), places.frames(entry.made)
+    value = {
+        "kind": entry.kind, "cwe": None, "result": entry.result, "times": 1, "odds": None, "block": None,
+        "frames": as_values(frames), "allocated": as_values(made), "ended": as_values(places.frames(entry.ended)), "uses": [],
+        "id": hashed(entry.kind, *map(name_of, frames[:FRAMES_OF_ID]), "allocated", *map(name_of, made[:FRAMES_OF_ID])),
+    }
+    if entry.kind == fault_entries.CRASH:
+        return value | {"what": crash_sentence(entry.crash), "why": entry.crash.signal}
+    first = entry.uses[0]
+    for use in entry.uses:
+        innermost = as_values(places.frames(use.error.stack)[:1])
+        value["uses"].append({"what": sentence(use.error, log), "result": use.result, "why": use.why, "times": use.times,
+                              "frame": innermost[0] if innermost else None})
+    value["odds"] = {name: shares.as_value(share) for name, share in zip(shares.HEAPS, odds.of(entry.numbers))}
+    if first.error.block:
+        value["block"] = {"bytes": log.size[first.error.block], "offset": first.error.offset, "state": first.error.state}
+    cwe = NOT_ON_HEAP if first.error.letter == "n" else CWES[entry.kind][first.error.letter == "L"]
+    deciding = next(use for use in entry.uses if use.result == entry.result)
+    return value | {"cwe": cwe, "what": sentence(first.error, log), "why": deciding.why, "times": sum(use.times for use in entry.uses)}
+
+
+def as_values(frames):
+    return [{"function": frame.function, "file": path_of(frame), "line": frame.line or None, "module": frame.module or None} for frame in frames]
+
+
+def path_of(frame):
+    """Of a frame's source: from the working folder on, where it is in it."""
+    if not frame.source:
+        return None
+    path, here = os.path.normpath(frame.source), os.getcwd() + "/"
+    return path[len(here) :] if path.startswith(here) else path
+
+
+def name_of(frame):
+    return f"{frame.function}@{os.path.basename(frame.source or frame.module or '')}"
+
+
+def hashed(*words):
+    return hashlib.sha256("\0".join(words).encode(errors="surrogateescape")).hexdigest()[:16]
+
+
+def place(frame):
+    """A frame as a report shows it."""
+    return f"{frame['file']}:{frame['line'] or 0} in {frame['function']}" if frame["file"] else frame["function"]
+
+
+def title(value):
+    """A finding in a line."""
+    times = f" ({count(value['times'], 'time')})" if value["times"] > 1 else ""
+    return f"{place(value['frames'][0]) if value['frames'] else 'an unknown place'}: {value['what']}{times}"
+
+
+def document(program, status, ended, processes):
+    """The whole answer. A process has its name, its findings, and what is missing of its log."""
+    told = [each for process in processes for each in process["findings"]]
+    state = Counter(each.get("state", "new") for each in told)
+    return {"form": FORM, "tool": "find_faults", "program": program, "status": status, "ended": ended, "findings": len(told),
+            "suppressed": state["suppressed"], "known": state["known"], "processes": processes}
+
+
+def text(value):
+    return json.dumps(value, indent=2, ensure_ascii=True) + "\n"
+
+
+def read(path):
+    try:
+        with open(path, encoding="utf-8") as file:
+            content = file.read(LARGEST_FILE + 1)
+    except OSError as error:
+        raise Unreadable(f"{path} can't be read: {error.strerror}") from None
+    except UnicodeDecodeError:
+        raise Unreadable(f"{path} is no text") from None
+    if len(content) > LARGEST_FILE:
+        raise Unreadable(f"{path} is too long")
+    return content
+
+
+def suppressions(path):
+    """The lines of a file, each KIND:PLACE, with `*` and `?` in both; empty lines and those that begin with # say nothing."""
+    found = []
+    for number, line in enumerate(read(path).split("\n"), 1):
+        line = line.strip()
+        if not line or line.startswith("#"):
+            continue
+        kind, _, place = (word.strip() for word in line.partition(":"))
+        if not kind or not place or not any(fnmatch.fnmatchcase(kind_id(each), kind) for each in CWES):
+            raise Unreadable(f"{path}, line {number}: it is no KIND:PLACE, with a kind of {', '.join(map(kind_id, CWES))}")
+        found.append(Suppression(kind, place, line, number))
+    return found
+
+
+def kind_id(kind):
+    """A kind as one word."""
+    return kind.replace(" ", "-")
+
+
+def baseline(path):
+    """The ids of the findings of an earlier --json."""
+    try:
+        value = json.loads(read(path))
+        if value["form"] != FORM or value["tool"] != "find_faults":
+            raise ValueError
+        return {each["id"]: title(each) for process in value["processes"] for each in process["findings"]}
+    except (ValueError, KeyError, TypeError, AttributeError, RecursionError):
+        raise Unreadable(f"{path} is no --json of find_faults") from None
+
+
+def matches(suppression, value):
+    """Whether a finding has this kind, and a frame of the wrong access this place: a function, a file, or FILE in FUNCTION."""
+    if not fnmatch.fnmatchcase(kind_id(value["kind"]), suppression.kind):
+        return False
+    for frame in value["frames"]:
+        names = [frame["function"]]
+        if frame["file"]:
+            names += [frame["file"], f"{frame['file']} in {frame['function']}"]
+        if any(fnmatch.fnmatchcase(name, suppression.place) for name in names):
+            return True
+    return False
+
+
+def mark(values, suppressed, known):
+    """Gives each finding its state: new, known (the baseline has it) or suppressed; and returns the suppressions that were used."""
+    used = set()
+    for value in values:
+        by = next((each for each in suppressed if matches(each, value)), None)
+        value["state"] = "suppressed" if by else "known" if value["id"] in known else "new"
+        if by:
+            value["suppressed_by"] = by.line
+            used.add(by)
+    return used

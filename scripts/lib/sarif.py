@@ -1,0 +1,123 @@
+"""Findings as SARIF 2.1.0 of OASIS, which code hosts and editors read; and as the annotations of a workflow of GitHub's."""
+
+import os
+import pathlib
+import urllib.parse
+
+import fault_entries
+import findings
+
+SCHEMA = "https://docs.oasis-open.org/sarif/sarif/v2.1.0/errata01/os/schemas/sarif-schema-2.1.0.json"
+ROOT = "SRCROOT"
+SEVERITY = "8.0"  # of the Common Vulnerability Scoring System, as a code host sorts by it: high
+RULES = {
+    fault_entries.OVERFLOW: "An access after the end of a heap block",
+    fault_entries.UNDERFLOW: "An access before the start of a heap block",
+    fault_entries.USE_AFTER_FREE: "An access of a heap block that was freed",
+    fault_entries.USE_AFTER_REALLOC: "An access by a pointer from before a realloc",
+    fault_entries.DOUBLE_FREE: "A free of a heap block that was freed",
+    fault_entries.INVALID_FREE: "A free of what is no start of a heap block",
+    fault_entries.WILD: "An access far from every heap block",
+    fault_entries.CRASH: "The program was ended by a signal",
+}
+STATES = {"new": "new", "known": "unchanged"}
+
+
+def rule(kind):
+    cwes = sorted({cwe for cwe in findings.CWES[kind] if cwe} | ({findings.NOT_ON_HEAP} if kind == fault_entries.INVALID_FREE else set()))
+    tags = ["security", *(f"external/cwe/cwe-{cwe}" for cwe in cwes)]
+    return {"id": findings.kind_id(kind), "shortDescription": {"text": RULES[kind]}, "fullDescription": {"text": RULES[kind] + "."},
+            "defaultConfiguration": {"level": "error"}, "properties": {"tags": tags, "security-severity": SEVERITY}}
+
+
+def artifact(path):
+    """Where a file is: under the working folder, or by its whole path."""
+    if os.path.isabs(path):
+        return {"uri": pathlib.PurePosixPath(path).as_uri()}
+    return {"uri": urllib.parse.quote(path, errors="surrogateescape"), "uriBaseId": ROOT}
+
+
+def location(frame, message=None):
+    value = {"logicalLocations": [{"name": frame["function"], "kind": "function"}]}
+    if frame["file"]:
+        value["physicalLocation"] = {"artifactLocation": artifact(frame["file"])}
+        if frame["line"]:
+            value["physicalLocation"]["region"] = {"startLine": frame["line"]}
+    return value | ({"message": {"text": message}} if message else {})
+
+
+def stack(frames, message):
+    made = [{"location": location(frame)} | ({"module": os.path.basename(frame["module"])} if frame["module"] else {}) for frame in frames]
+    return {"message": {"text": message}, "frames": made}
+
+
+def said(value):
+    """The text of a finding."""
+    parts = [value["what"][:1].upper() + value["what"][1:] + "."]
+    if value["result"]:
+        parts.append(f"On the tagged heap: {value['result']}, {value['why']}.")
+    if value["odds"]:
+        parts.append("Odds of being caught: " + ", ".join(f"{name} {share['text']}" for name, share in value["odds"].items()) + ".")
+    return " ".join(parts)
+
+
+def result(value, kinds, has_baseline):
+    stacks = [(value["frames"], "The wrong access" if value["kind"] != fault_entries.CRASH else "The crash"),
+              (value["allocated"], "Allocated"), (value["ended"], "Freed or resized")]
+    made = {
+        "ruleId": findings.kind_id(value["kind"]), "ruleIndex": kinds.index(value["kind"]), "level": "error", "message": {"text": said(value)},
+        "occurrenceCount": max(value["times"], 1), "partialFingerprints": {"findFaults/v1": value["id"]},
+        "stacks": [stack(frames, message) for frames, message in stacks if frames],
+    }
+    if value["frames"]:
+        made["locations"] = [location(value["frames"][0])]
+    related = [location(frames[0], message) for frames, message in stacks[1:] if frames]
+    if related:
+        made["relatedLocations"] = [{"id": at, **each} for at, each in enumerate(related)]
+    if value.get("state") == "suppressed":
+        made["suppressions"] = [{"kind": "external", "justification": value["suppressed_by"]}]
+    if has_baseline:
+        made["baselineState"] = STATES.get(value.get("state"), "unchanged")
+    properties = {key: value[key] for key in ("cwe", "result", "odds", "block") if value[key] is not None}
+    return made | ({"properties": properties} if properties else {})
+
+
+def document(answer, has_baseline=False):
+    """Of the answer of findings.document: a run for each process, with all rules. Files are looked for from the working folder on."""
+    kinds = list(RULES)
+    return {"$schema": SCHEMA, "version": "2.1.0", "runs": [run(process, answer, kinds, has_baseline) for process in answer["processes"]]}
+
+
+def run(process, answer, kinds, has_baseline):
+    missing = [{"level": "warning", "message": {"text": each}} for each in process["incomplete"]]
+    invocation = {"executionSuccessful": not missing}
+    if answer["ended"] is not None:
+        invocation["exitCode"] = answer["ended"]
+    return {
+        "tool": {"driver": {"name": "find_faults", "rules": [rule(kind) for kind in kinds]}},
+        "automationDetails": {"id": f"find_faults/{urllib.parse.quote(process['name'], errors='surrogateescape')}/"},
+        "originalUriBaseIds": {ROOT: {"uri": pathlib.PurePosixPath(os.getcwd()).as_uri() + "/"}},
+        "invocations": [invocation | ({"toolExecutionNotifications": missing} if missing else {})],
+        "columnKind": "utf16CodeUnits",
+        "results": [result(each, kinds, has_baseline) for each in process["findings"]],
+    }
+
+
+def escaped(text, of_property=False):
+    """As the runner of GitHub's workflows reads it."""
+    for mark, code in (("%", "%25"), ("\r", "%0D"), ("\n", "%0A"), *(((":", "%3A"), (",", "%2C")) if of_property else ())):
+        text = text.replace(mark, code)
+    return text
+
+
+def annotations(answer):
+    """A line for each finding that is neither known nor suppressed: a runner shows it beside its source line."""
+    lines = []
+    for value in (each for process in answer["processes"] for each in process["findings"]):
+        if value.get("state", "new") != "new":
+            continue
+        place = next((frame for frame in value["frames"] if frame["file"] and not os.path.isabs(frame["file"])), None)
+        where = f"file={escaped(place['file'], True)},line={place['line'] or 1}," if place else ""
+        callers = "".join(f"\nfrom {findings.place(frame)}" for frame in value["frames"][1:])
+        lines.append(f"::error {where}title={escaped(RULES[value['kind']], True)}::{escaped(said(value) + callers)}")
+    return lines
