@@ -1,5 +1,5 @@
 """How probable it is that a heap with memory tags catches an error of the recorded run, if each draw takes each tag that it may take equally
-often, and each run draws anew. docs/FAULTS.md says what this rests on.
+often, and each run draws anew. examples/errors/README.md says what this rests on.
 
 On the heap of docs/HEAP.md the program's calls alone decide which slot a pointer has, and what it meets. So an error is missed exactly if
 two draws have the same tag, and that is counted: over the draws of the slots between the two. The other heaps have other places, so for them
