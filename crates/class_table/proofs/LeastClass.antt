@@ -13,7 +13,7 @@ use Rattle.std.proofs.lemmas.List.{get_or_default}
 use Rattle.std.proofs.lemmas.List.Quantifiers.{position-Some}
 use Rattle.std.proofs.lemmas.List.Kept.{AllPairs-from_increasing}
 use Rattle.class_table.specs.Counts.{AreCounts}
-use Rattle.class_table.specs.Sizes.{need_of, serves}
+use Rattle.class_table.specs.Sizes.{serves}
 use Rattle.class_table.specs.Tables.{IsLegalTable, IsLeastServing, class_for, class_number_for}
 
 pub least_at : (step : ℕ) (classes : List ℕ) (n number : ℕ) → IsLegalTable step classes → class_number_for classes n ≡ Some number
@@ -69,10 +69,6 @@ no_class_serves n (class ∷ classes) none = go (serves n class) refl (no_class_
         All (λ c. serves n c ≡ false) (class ∷ classes)
     go true e others = let f = rw e at none in absurd cc
     go false e others = All-cons (λ c. serves n c ≡ false) class classes e (others (rw e at none))
-
--- `serving_is_need`: a class serves a request exactly where it has the granules that the request needs
-pub serving_is_need : (n class : ℕ) → 2 ≤ class → (serves n class ≡ true) ↔ (need_of n ≤ class)
-serving_is_need n class two = grind arith
 
 pub none_of : (classes : List ℕ) (n : ℕ) (number : Option ℕ) → number ≡ class_number_for classes n →
     IfNone number (All (λ class. serves n class ≡ false) classes)

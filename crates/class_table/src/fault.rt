@@ -1,5 +1,6 @@
-ghost use Rattle.std.specs.Prelude.{Some};
+ghost use Rattle.std.specs.Prelude.{◌≡◌, ◌++◌, ℕ, List, Some};
 ghost use Rattle.class_table.specs.FaultText.{shown_table_error};
+ghost use Rattle.line_text.specs.Numbers.{leading_number_of};
 
 use std::fmt;
 
@@ -14,6 +15,21 @@ pub enum TableError {
     OutOfRange,
     /// The first faulty class is not above the one before it.
     NotAscending,
+}
+
+impl TableError {
+    /// The code: the number at the start of the text by which the fault is shown, whatever comes after that.
+    #[tactic(auto, unfolding(line_text::specs::Numbers::number_of))]
+    pub fn code(self) -> u32
+        ensures { (rest : List ℕ) → leading_number_of (shown_table_error self ++ rest) ≡ Some result }
+    {
+        match self {
+            TableError::BadLine => 23,
+            TableError::TooMany => 20,
+            TableError::OutOfRange => 21,
+            TableError::NotAscending => 22,
+        }
+    }
 }
 
 impl fmt::Display for TableError {

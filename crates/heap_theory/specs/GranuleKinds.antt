@@ -23,6 +23,14 @@ abbrev pub kind_at : Heap → Option ℕ → ℕ → PlaceKind
 kind_at heap None g = Slack
 kind_at heap (Some s) g = kind_in_slot (slot_in heap s) (state_at heap s) g
 
+-- the number by which a kind is shown
+abbrev pub kind_number : PlaceKind → ℕ
+kind_number Slack = 0
+kind_number Header = 1
+kind_number Tail = 2
+kind_number DeadChunk = 3
+kind_number Other = 4
+
 -- What granule g is.
 unfoldable pub place_kind : Heap → ℕ → PlaceKind
 place_kind heap g = kind_at heap (slot_over heap.layout g) g

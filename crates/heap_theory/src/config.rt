@@ -1,3 +1,8 @@
+ghost use Rattle.std.specs.Prelude.{◌↔◌, IsTrue};
+ghost use Rattle.heap_theory.specs.Config.{IsConfig};
+
+use class_table::{FEWEST_GRANULES, MOST_GRANULES};
+
 /// How a heap is set up.
 #[derive(Clone, Copy, Debug)]
 pub struct Config {
@@ -12,4 +17,14 @@ pub struct Config {
 impl Config {
     /// The greatest limit of a quarantine, in bytes.
     pub const MOST_QUARANTINE: u32 = 4_194_304;
+
+    /// Whether a heap can be set up so: each number is in its range.
+    pub fn is_valid(self) -> bool
+        ensures { IsTrue result ↔ IsConfig self }
+    {
+        FEWEST_GRANULES <= self.granules
+            && self.granules <= MOST_GRANULES
+            && self.seed != 0
+            && self.quarantine <= Config::MOST_QUARANTINE
+    }
 }

@@ -1,3 +1,6 @@
+ghost use Rattle.std.specs.Prelude.{◌≡◌};
+ghost use Rattle.heap_theory.specs.GranuleKinds.{kind_number};
+
 /// What a granule is to the heap. All but dead and other granules have tag 0.
 #[derive(Clone, Copy, Debug, PartialEq, Eq)]
 pub enum PlaceKind {
@@ -11,4 +14,19 @@ pub enum PlaceKind {
     Dead,
     /// It is a granule of a live chunk.
     Other,
+}
+
+impl PlaceKind {
+    /// The number by which the kind is shown, 0 to 4.
+    pub fn number(self) -> u8
+        ensures { result ≡ kind_number self }
+    {
+        match self {
+            PlaceKind::Slack => 0,
+            PlaceKind::Header => 1,
+            PlaceKind::Tail => 2,
+            PlaceKind::Dead => 3,
+            PlaceKind::Other => 4,
+        }
+    }
 }

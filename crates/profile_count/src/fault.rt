@@ -1,4 +1,5 @@
-ghost use Rattle.std.specs.Prelude.{◌≡◌, Some};
+ghost use Rattle.std.specs.Prelude.{◌≡◌, ◌++◌, ℕ, List, Some};
+ghost use Rattle.line_text.specs.Numbers.{leading_number_of};
 ghost use Rattle.profile_count.specs.FaultText.{shown_profile_fault};
 ghost use Rattle.profile_count.specs.declared.fault.ProfileError.TheVariants.{OutOfMemory};
 
@@ -16,6 +17,20 @@ pub enum ProfileFault {
     NotAscending,
     /// The count is not from 1 to 1,000,000,000.
     CountOutOfRange,
+}
+
+impl ProfileFault {
+    /// The code: the number at the start of the text by which the fault is shown, whatever comes after that.
+    #[tactic(auto, unfolding(line_text::specs::Numbers::number_of))]
+    pub fn code(self) -> u32
+        ensures { (rest : List ℕ) → leading_number_of (shown_profile_fault self ++ rest) ≡ Some result }
+    {
+        match self {
+            ProfileFault::BadLine => 30,
+            ProfileFault::NotAscending => 31,
+            ProfileFault::CountOutOfRange => 32,
+        }
+    }
 }
 
 impl fmt::Display for ProfileFault {
