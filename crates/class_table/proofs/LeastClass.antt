@@ -1,5 +1,5 @@
 -- The first class that serves a size is the least one.
-use Rattle.std.proofs.Common.{◌≡◌, ℕ, ◌<◌, ◌≤◌, Bool, true, false, List, [], ◌∷◌, length, slice_index, get_or, Option, Some, None, arith, refl, sym, ◌∙◌, inl, inr, subst, IfSome, IfNone, slice_get, option_and_then, All, ◌↔◌}
+use Rattle.std.proofs.Common.{◌≡◌, ℕ, ◌<◌, ◌≤◌, Bool, true, false, List, [], ◌∷◌, length, slice_index, get_or, Option, Some, None, arith, refl, sym, ◌∙◌, inl, inr, subst, IfSome, IfNone, slice_get, option_and_then, All}
 use Rattle.std.specs.List.{position_or_len}
 use Rattle.std.proofs.lemmas.Bool.{cases_order, cases_lt, both_ways, lt-ltb, le-ltb, le-leb, lt-leb}
 use Rattle.std.proofs.lemmas.Grind.{div_ceil_times}
