@@ -1,10 +1,9 @@
 pub mod LawLemmas
 pub mod Cuts
 pub mod Digits
-mod DigitWords
 mod JoinedDigits
 pub mod FirstFaults
-mod FourMore
+mod MoreDigits
 pub mod FirstNumbers
 pub mod FirstPairs
 pub mod FullLines
