@@ -1,9 +1,8 @@
 -- What the calls over arrays answer.
 use Rattle.std.specs.Prelude.{◌≡◌, ◌≢◌, ℕ, ◌*◌, ◌/◌, ◌%◌, ◌<◌, ◌≤◌, List, ◌++◌, drop, length, None, Some, Result, Ok, Err, ⊤}
 use Rattle.class_table.specs.Faults.{table_of_classes}
-use Rattle.class_table.specs.Steps.{IsStep}
+use Rattle.class_tuner.specs.Options.{AreTuneOptions}
 use Rattle.class_table.specs.declared.fault.TableError.{TableError}
-use Rattle.class_table.specs.declared.table.TheConstants.{MOST_CLASSES}
 use Rattle.class_tuner.specs.Tuned.{IsTuned}
 use Rattle.profile_count.specs.Counts.{unserved_of}
 use Rattle.tuner_theory.specs.Best.{IsBest}
@@ -45,12 +44,6 @@ IsScored classes sizes counts (Err Misuse) = ⊥
 
 -- ---- tune
 
--- The options of `tune` and `check`: the most classes, 1 to 32, and the step.
-pub record AreOptions (limit step : ℕ) : Type 0 where
-  pub some : 1 ≤ limit
-  pub few : limit ≤ MOST_CLASSES
-  pub is_step : IsStep step
-
 -- The tuned sheet, as numbers: its classes at the start of one array, and its rows at the start of another if they fit.
 pub record IsTunedInto (limit step : ℕ) (sizes counts classes rows classes' rows' : List ℕ) (tuned : TunedNumbers) : Type 0 where
   pub profile : Profile
@@ -67,13 +60,13 @@ pub record IsTunedInto (limit step : ℕ) (sizes counts classes rows classes' ro
 
 -- That, or the first error. `room` is how many classes there is room for.
 abbrev pub IsTunedOr : ℕ → ℕ → List ℕ → List ℕ → ℕ → Result TunedNumbers ArrayError → (TunedNumbers → Type 0) → Type 0
-IsTunedOr limit step sizes counts room (Ok tuned) done = AreOptions limit step × (limit ≤ room) × done tuned
-IsTunedOr limit step sizes counts room (Err OutOfMemory) done = AreOptions limit step × (limit ≤ room)
+IsTunedOr limit step sizes counts room (Ok tuned) done = AreTuneOptions limit step × (limit ≤ room) × done tuned
+IsTunedOr limit step sizes counts room (Err OutOfMemory) done = AreTuneOptions limit step × (limit ≤ room)
 IsTunedOr limit step sizes counts room (Err (Table fault)) done = ⊥
 IsTunedOr limit step sizes counts room (Err (Entry index fault)) done =
-    AreOptions limit step × (limit ≤ room) × (profile_of_arrays sizes counts ≡ Err (index, fault))
-IsTunedOr limit step sizes counts room (Err BadOption) done = AreOptions limit step → ⊥
-IsTunedOr limit step sizes counts room (Err Misuse) done = AreOptions limit step × (room < limit)
+    AreTuneOptions limit step × (limit ≤ room) × (profile_of_arrays sizes counts ≡ Err (index, fault))
+IsTunedOr limit step sizes counts room (Err BadOption) done = AreTuneOptions limit step → ⊥
+IsTunedOr limit step sizes counts room (Err Misuse) done = AreTuneOptions limit step × (room < limit)
 
 -- ---- check
 
@@ -91,12 +84,12 @@ pub record IsCheckedAs (limit step waste : ℕ) (classes numbers sizes counts : 
 -- That, or the first error.
 abbrev pub IsChecked : ℕ → ℕ → ℕ → List ℕ → List ℕ → List ℕ → List ℕ → Result Verdict ArrayError → Type 0
 IsChecked limit step waste classes numbers sizes counts (Ok verdict) =
-    AreOptions limit step × (length numbers % limit ≡ 0) × IsCheckedAs limit step waste classes numbers sizes counts verdict
+    AreTuneOptions limit step × (length numbers % limit ≡ 0) × IsCheckedAs limit step waste classes numbers sizes counts verdict
 IsChecked limit step waste classes numbers sizes counts (Err OutOfMemory) = ⊤
-IsChecked limit step waste classes numbers sizes counts (Err BadOption) = AreOptions limit step → ⊥
-IsChecked limit step waste classes numbers sizes counts (Err Misuse) = AreOptions limit step × (length numbers % limit ≢ 0)
+IsChecked limit step waste classes numbers sizes counts (Err BadOption) = AreTuneOptions limit step → ⊥
+IsChecked limit step waste classes numbers sizes counts (Err Misuse) = AreTuneOptions limit step × (length numbers % limit ≢ 0)
 IsChecked limit step waste classes numbers sizes counts (Err (Table fault)) =
-    AreOptions limit step × (length numbers % limit ≡ 0) × (table_of_classes classes ≡ Err fault)
+    AreTuneOptions limit step × (length numbers % limit ≡ 0) × (table_of_classes classes ≡ Err fault)
 IsChecked limit step waste classes numbers sizes counts (Err (Entry index fault)) =
-    AreOptions limit step × (length numbers % limit ≡ 0)
+    AreTuneOptions limit step × (length numbers % limit ≡ 0)
     × ((table : List ℕ) × (table_of_classes classes ≡ Ok table) × (profile_of_arrays sizes counts ≡ Err (index, fault)))

@@ -5,7 +5,7 @@ use crate::counting::count;
 use crate::fault::ArrayError;
 use crate::rows::rows_of;
 use crate::scoring::table_of;
-use crate::tuning::are_options;
+use class_tuner::are_tune_options;
 use potential_check::{Sheet, Verdict, check as verdict_on};
 use std::alloc::Global;
 
@@ -27,7 +27,7 @@ pub fn check(
 ) -> Result<Verdict, ArrayError>
     ensures { IsChecked limit step waste classes.now numbers.now sizes.now counts.now result }
 {
-    if !are_options(limit, step) {
+    if !are_tune_options(limit, step) {
         return Err(ArrayError::BadOption);
     }
     let row_count = usize::from(limit);

@@ -2,7 +2,7 @@
 ghost use Rattle.std.specs.Prelude.{◌≡◌};
 ghost use Rattle.mte_arrays.specs.Shown.{ShowsError, ShowsScore, ShowsTuned, ShowsVerdict, plain};
 
-use crate::codes::{code_of_profile, code_of_refusal, code_of_table};
+use crate::codes::code_of_refusal;
 use crate::fault::ArrayError;
 use crate::scoring::Scored;
 use crate::tuning::TunedNumbers;
@@ -82,11 +82,11 @@ impl Numbers {
             ArrayError::BadOption => Numbers::plain(BAD_OPTION),
             ArrayError::Misuse => Numbers::plain(MISUSE),
             ArrayError::Table(fault) => Numbers {
-                fault: code_of_table(fault),
+                fault: fault.code(),
                 ..Numbers::plain(REFUSED)
             },
             ArrayError::Entry(index, fault) => Numbers {
-                fault: code_of_profile(fault),
+                fault: fault.code(),
                 at: index,
                 ..Numbers::plain(REFUSED)
             },

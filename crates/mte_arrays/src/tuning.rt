@@ -1,6 +1,6 @@
 //! `tune`: the table of least waste for a profile, with its certificate.
-ghost use Rattle.std.specs.Prelude.{◌≡◌, ◌↔◌, ◌<◌, ◌≤◌, ◌++◌, All, IsTrue, OnErr, drop, length};
-ghost use Rattle.mte_arrays.specs.Calls.{AreOptions, IsTunedInto, IsTunedOr};
+ghost use Rattle.std.specs.Prelude.{◌≡◌, ◌<◌, ◌≤◌, ◌++◌, All, OnErr, drop, length};
+ghost use Rattle.mte_arrays.specs.Calls.{IsTunedInto, IsTunedOr};
 ghost use Rattle.tuner_theory.specs.Profiles.{AreCounts};
 ghost use Rattle.tuner_theory.specs.Spans.{places};
 ghost use Rattle.class_table.specs.Steps.{IsStep};
@@ -8,7 +8,8 @@ ghost use Rattle.class_table.specs.Steps.{IsStep};
 use crate::counting::count;
 use crate::fault::ArrayError;
 use crate::rows::put_rows;
-use class_table::{ClassTable, MOST_CLASSES, is_step};
+use class_table::ClassTable;
+use class_tuner::are_tune_options;
 use potential_check::Rows;
 use profile_count::Profile;
 use std::alloc::Global;
@@ -44,7 +45,7 @@ pub fn tune(
     ensures classes { OnErr result (classes.new ≡ classes.old) }
     ensures rows { OnErr result (rows.new ≡ rows.old) }
 {
-    if !are_options(limit, step) {
+    if !are_tune_options(limit, step) {
         return Err(ArrayError::BadOption);
     }
     if classes.len() < usize::from(limit) {
@@ -61,13 +62,6 @@ pub fn tune(
         waste: sheet.waste,
         places: places as u32,
     })
-}
-
-/// Whether a limit is from 1 to 32 and a step is 1, 2, 4 or 8.
-pub(crate) fn are_options(limit: u8, step: u8) -> bool
-    ensures { IsTrue result ↔ AreOptions limit step }
-{
-    1 <= limit && usize::from(limit) <= MOST_CLASSES && is_step(step)
 }
 
 // the length of each row of a certificate for a profile and a step

@@ -16,8 +16,8 @@ ghost use Rattle.heap_theory.specs.Config.{IsConfig};
 
 use crate::ended::Ended;
 use crate::handing::{hand_out, new_sink, take_input};
-use crate::options::{are_tune_options, is_config};
 use crate::two_parts::TwoParts;
+use class_tuner::are_tune_options;
 use handed_text::HandedText;
 use replay_core::Config;
 use std::alloc::Global;
@@ -166,7 +166,7 @@ pub fn replay(alloc: Global, config: Config, input: &[u8], text: &mut HandedText
     let Some(first) = take_input(alloc, text) else {
         return Ended::Misuse;
     };
-    if !is_config(config) {
+    if !config.is_valid() {
         return Ended::BadOption;
     }
     let mut source = TwoParts::new(&first, input);
@@ -190,7 +190,7 @@ pub fn run(
     let Some(first) = take_input(alloc, text) else {
         return Ended::Misuse;
     };
-    if !are_tune_options(limit, step) || !is_config(config) {
+    if !are_tune_options(limit, step) || !config.is_valid() {
         return Ended::BadOption;
     }
     run_input(alloc, limit, step, config, first, input, text)

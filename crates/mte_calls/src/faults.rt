@@ -1,17 +1,13 @@
 //! A fault as numbers.
 ghost use Rattle.std.specs.Prelude.{◌≡◌, ◌++◌, ℕ, List, Some, unwrap_or};
-ghost use Rattle.class_table.specs.FaultText.{shown_table_error};
 ghost use Rattle.history_count.specs.FaultText.{shown_history_fault};
 ghost use Rattle.line_text.specs.Numbers.{leading_number_of};
 ghost use Rattle.mte_engine.specs.FaultLines.{line_of_fault};
 ghost use Rattle.mte_engine.specs.FaultText.{shown_input_fault};
-ghost use Rattle.profile_count.specs.FaultText.{shown_profile_fault};
 ghost use Rattle.trace_reader.specs.FaultText.{shown_trace_fault};
 
-use class_table::TableError;
 use history_count::HistoryFault;
 use mte_engine::InputFault;
-use profile_count::ProfileFault;
 use trace_reader::TraceFault;
 
 /// The code of a fault: the number at the start of its text.
@@ -21,10 +17,10 @@ pub fn code_of(fault: InputFault) -> u32
 {
     match fault {
         InputFault::TooLong => 80,
-        InputFault::Table(fault) => code_of_table(fault),
+        InputFault::Table(fault) => fault.code(),
         InputFault::BadSheet(_) => 48,
         InputFault::BadFit(_) => 36,
-        InputFault::Profile(_, fault) => code_of_profile(fault),
+        InputFault::Profile(_, fault) => fault.code(),
         InputFault::History(_, fault) => code_of_history(fault),
         InputFault::Trace(_, fault) => code_of_trace(fault),
     }
@@ -46,36 +42,13 @@ pub fn line_of(fault: InputFault) -> u64
 }
 
 #[tactic(auto, unfolding(line_text::specs::Numbers::number_of))]
-fn code_of_table(fault: TableError) -> u32
-    ensures { (rest : List ℕ) → leading_number_of (shown_table_error fault ++ rest) ≡ Some result }
-{
-    match fault {
-        TableError::BadLine => 23,
-        TableError::TooMany => 20,
-        TableError::OutOfRange => 21,
-        TableError::NotAscending => 22,
-    }
-}
-
-#[tactic(auto, unfolding(line_text::specs::Numbers::number_of))]
-fn code_of_profile(fault: ProfileFault) -> u32
-    ensures { (rest : List ℕ) → leading_number_of (shown_profile_fault fault ++ rest) ≡ Some result }
-{
-    match fault {
-        ProfileFault::BadLine => 30,
-        ProfileFault::NotAscending => 31,
-        ProfileFault::CountOutOfRange => 32,
-    }
-}
-
-#[tactic(auto, unfolding(line_text::specs::Numbers::number_of))]
 fn code_of_history(fault: HistoryFault) -> u32
     ensures { (rest : List ℕ) → leading_number_of (shown_history_fault fault ++ rest) ≡ Some result }
 {
     match fault {
         HistoryFault::BadSnapshots => 34,
         HistoryFault::WrongLength => 35,
-        HistoryFault::Counted(fault) => code_of_profile(fault),
+        HistoryFault::Counted(fault) => fault.code(),
     }
 }
 

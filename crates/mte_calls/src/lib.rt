@@ -7,7 +7,6 @@ mod calls;
 mod ended;
 mod faults;
 mod handing;
-mod options;
 mod structures;
 mod two_parts;
 

@@ -1,7 +1,6 @@
 -- The options and the answers of `tune`: the sheet that is tuned for a profile.
-use Rattle.std.specs.Prelude.{◌≡◌, ℕ, ◌≤◌, List, Result, Ok, Err}
-use Rattle.class_table.specs.Steps.{IsStep}
-use Rattle.class_table.specs.declared.table.TheConstants.{MOST_CLASSES}
+use Rattle.std.specs.Prelude.{◌≡◌, ℕ, List, Result, Ok, Err}
+pub use Rattle.class_tuner.specs.Options.{AreTuneOptions}
 use Rattle.class_tuner.specs.Tuned.{IsTuned}
 use Rattle.potential_check.specs.SheetText.{sheet_text}
 use Rattle.profile_count.specs.ProfileText.{profile_of}
@@ -11,12 +10,6 @@ use Rattle.mte_engine.specs.Outcome.{Answer}
 use Rattle.mte_engine.specs.Parts.{profile_part}
 use Rattle.mte_engine.specs.declared.engine.Status.TheVariants.{Done}
 use Rattle.mte_engine.specs.declared.fault.InputFault.{InputFault}
-
--- The options of `tune`, which `run` has too: the most classes, 1 to 32, and the step.
-pub record AreTuneOptions (limit step : ℕ) : Type 0 where
-  pub some : 1 ≤ limit
-  pub few : limit ≤ MOST_CLASSES
-  pub is_step : IsStep step
 
 -- The text of the sheet that is tuned for a profile, a limit and a step.
 pub record IsTunedText (limit step : ℕ) (profile : Counted) (answer : Answer) : Type 0 where
