@@ -23,6 +23,10 @@ pub record IsDrawn (heap : Heap) (tags kinds : List ℕ) : Type 0 where
   pub tags_long : length tags ≡ length heap.memory
   pub kinds_long : length kinds ≡ length heap.memory
 
+-- A byte for each granule.
+abbrev pub HaveRoom : ℕ → List ℕ → List ℕ → Type 0
+HaveRoom granules tags kinds = (length tags ≡ granules) × (length kinds ≡ granules)
+
 -- A step: the next event is performed, if there is one.
 abbrev pub after_one : Replay → List Event → Replay → List Event → Bool → Type 0
 after_one replay [] replay' events' went = (replay' ≡ replay) × (events' ≡ []) × (went ≡ false)

@@ -1,5 +1,5 @@
 -- What the calls over arrays answer.
-use Rattle.std.specs.Prelude.{◌≡◌, ◌≢◌, ℕ, ◌*◌, ◌/◌, ◌%◌, ◌<◌, ◌≤◌, List, ◌++◌, drop, length, None, Some, Result, Ok, Err, ⊤}
+use Rattle.std.specs.Prelude.{◌≡◌, ◌≢◌, ℕ, ◌*◌, ◌/◌, ◌%◌, ◌<◌, ◌≤◌, List, ◌++◌, drop, length, None, Some, Result, Ok, Err, IsOk}
 use Rattle.class_table.specs.Faults.{table_of_classes}
 use Rattle.class_tuner.specs.Options.{AreTuneOptions}
 use Rattle.class_table.specs.declared.fault.TableError.{TableError}
@@ -35,7 +35,7 @@ abbrev pub IsScored : List ℕ → List ℕ → List ℕ → Result Scored Array
 IsScored classes sizes counts (Ok score) =
     (table : List ℕ) × (profile : Profile) × (table_of_classes classes ≡ Ok table) × (profile_of_arrays sizes counts ≡ Ok profile)
     × IsScoreOf table profile score
-IsScored classes sizes counts (Err OutOfMemory) = ⊤
+IsScored classes sizes counts (Err OutOfMemory) = IsOk (table_of_classes classes)
 IsScored classes sizes counts (Err (Table fault)) = table_of_classes classes ≡ Err fault
 IsScored classes sizes counts (Err (Entry index fault)) =
     (table : List ℕ) × (table_of_classes classes ≡ Ok table) × (profile_of_arrays sizes counts ≡ Err (index, fault))
@@ -85,7 +85,8 @@ pub record IsCheckedAs (limit step waste : ℕ) (classes numbers sizes counts : 
 abbrev pub IsChecked : ℕ → ℕ → ℕ → List ℕ → List ℕ → List ℕ → List ℕ → Result Verdict ArrayError → Type 0
 IsChecked limit step waste classes numbers sizes counts (Ok verdict) =
     AreTuneOptions limit step × (length numbers % limit ≡ 0) × IsCheckedAs limit step waste classes numbers sizes counts verdict
-IsChecked limit step waste classes numbers sizes counts (Err OutOfMemory) = ⊤
+IsChecked limit step waste classes numbers sizes counts (Err OutOfMemory) =
+    AreTuneOptions limit step × (length numbers % limit ≡ 0) × IsOk (table_of_classes classes)
 IsChecked limit step waste classes numbers sizes counts (Err BadOption) = AreTuneOptions limit step → ⊥
 IsChecked limit step waste classes numbers sizes counts (Err Misuse) = AreTuneOptions limit step × (length numbers % limit ≢ 0)
 IsChecked limit step waste classes numbers sizes counts (Err (Table fault)) =

@@ -1,5 +1,5 @@
 //! Taking the first part of an input out of the text that the caller gave, and handing an answer out to it.
-ghost use Rattle.std.specs.Prelude.{◌≡◌, [], false, true};
+ghost use Rattle.std.specs.Prelude.{◌≡◌, ◌-◌, ◌^◌, [], None, false, true};
 ghost use Rattle.std.specs.Option.{ForNone, ForSome};
 ghost use Rattle.handed_text.specs.Bytes.{IsLeft, bytes_of, is_answer_of};
 ghost use Rattle.mte_calls.specs.Answered.{EndsWith, HandsOut};
@@ -26,7 +26,9 @@ pub fn take_input(alloc: Global, text: &mut HandedText) -> Option<Vec<u8>>
 
 /// A sink that has taken nothing, and fails only if the allocator refuses memory.
 pub fn new_sink(alloc: Global) -> MemorySink
-    ensures { result.text.items ≡ [] }
+    ensures text { result.text.items ≡ [] }
+    ensures most { result.most ≡ 2 ^ 64 - 1 }
+    ensures never { result.until_failure ≡ None }
 {
     MemorySink {
         text: Vec::new(alloc),

@@ -1,14 +1,15 @@
 -- What the calls do to the heap of a handle.
-use Rattle.std.specs.Prelude.{◌≡◌, ℕ, ◌+◌, ◌≤◌, ◌<◌, ◌^◌, List, length, Option, Some, None, Result, Ok, Err, nat_lt, ◌||◌, if◌then◌else◌}
+use Rattle.std.specs.Prelude.{◌≡◌, ℕ, ◌+◌, ◌≤◌, ◌<◌, ◌^◌, ◌==◌, List, length, Option, Some, None, Result, Ok, Err, is_err, nat_lt, ◌||◌, if◌then◌else◌}
 use Rattle.class_table.specs.Faults.{table_of_classes}
 use Rattle.class_table.specs.declared.fault.TableError.{TableError}
 use Rattle.handed_text.specs.declared.ends.TheConstants.{DONE, REFUSED, OUT_OF_MEMORY, BAD_OPTION, MISUSE}
 use Rattle.heap_theory.specs.Calls.{calloc_step, free_step, malloc_step, realloc_step}
-use Rattle.heap_theory.specs.State.{first_heap}
+use Rattle.heap_theory.specs.State.{Heap, first_heap}
 use Rattle.machine_theory.specs.Access.{loaded}
 use Rattle.machine_theory.specs.Instructions.{addg}
 use Rattle.machine_theory.specs.declared.sizes.TheConstants.{FARTHEST_MOVE, LARGEST_TAG_STEP}
 use Rattle.heap_theory.specs.Config.{IsConfig, layout_for}
+use Rattle.tagged_heap.specs.Frees.{frees_of_realloc}
 use Rattle.tagged_heap.specs.HeapAtRest.{HeapAndFrees}
 use Rattle.heap_theory.specs.declared.config.Config.{Config}
 use Rattle.mte_heap.specs.Outcomes.{access_outcome, code_of_table, freed_outcome, is_done, plain, with_stored, with_value, pointer_outcome, resized_outcome}
@@ -52,17 +53,23 @@ IsCalloc n outcome before after =
     (outcome ≡ pointer_outcome (calloc_step before.state n).answer)
     × (after ≡ record before { state = (calloc_step before.state n).heap })
 
+-- The chunks that a free at an address frees: one, unless it is refused or the address is null.
+abbrev pub frees_of_free : Heap → ℕ → ℕ
+frees_of_free heap address = if (address == 0) || is_err (free_step heap address).answer then 0 else 1
+
 -- After 2^48 frees nothing more is freed.
 abbrev pub IsRealloc : ℕ → ℕ → Outcome → HeapAndFrees → HeapAndFrees → Type 0
 IsRealloc address n outcome before after =
     (before.frees < 2 ^ 48 → (outcome ≡ resized_outcome (realloc_step before.state address n).answer)
-    × (after.state ≡ (realloc_step before.state address n).heap) × (after.frees ≤ before.frees + 1))
+    × (after.state ≡ (realloc_step before.state address n).heap)
+    × (after.frees ≡ before.frees + frees_of_realloc before.state address n))
     × (2 ^ 48 ≤ before.frees → (outcome ≡ plain MISUSE) × (after ≡ before))
 
 abbrev pub IsFree : ℕ → Outcome → HeapAndFrees → HeapAndFrees → Type 0
 IsFree address outcome before after =
     (before.frees < 2 ^ 48 → (outcome ≡ freed_outcome (free_step before.state address).answer)
-    × (after.state ≡ (free_step before.state address).heap) × (after.frees ≤ before.frees + 1))
+    × (after.state ≡ (free_step before.state address).heap)
+    × (after.frees ≡ before.frees + frees_of_free before.state address))
     × (2 ^ 48 ≤ before.frees → (outcome ≡ plain MISUSE) × (after ≡ before))
 
 -- A load that is done leaves what stands there in the room; another one leaves the room as it was.

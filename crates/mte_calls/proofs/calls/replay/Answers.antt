@@ -10,7 +10,7 @@ returns c = record {
   ran = λ input. record {
     ran = λ _.
         handed_out (bytes_of c.args.text.now ++ c.args.input.now) c.hand_out.result (bytes_of c.hand_out.new.text) c.replay-end.ensures
-        (rw (c.new-source.ensures.first, c.new-source.ensures.second, c.deref.ensures.value, c.in-Some.ensures.taken) refl) c.new_sink-sink.ensures
+        (rw (c.new-source.ensures.first, c.new-source.ensures.second, c.deref.ensures.value, c.in-Some.ensures.taken) refl) c.new_sink-sink.ensures.text
         c.hand_out.ensures.answer;
     refused = λ none. absurd (none (c.if-not-is_valid.ensures.0 refl));
   };

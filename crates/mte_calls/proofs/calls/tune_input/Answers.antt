@@ -6,5 +6,5 @@ use Rattle.mte_calls.proofs.calls.tune_input.Goals as goal
 pub returns-clause-answer : goal.returns-clause-answer
 returns-clause-answer c =
     handed_out (c.args.first.items ++ c.args.input.now) c.hand_out.result (bytes_of c.hand_out.new.text) c.tune-end.ensures
-    (rw (c.new-source.ensures.first, c.new-source.ensures.second, c.deref.ensures.value) refl) c.new_sink-sink.ensures
+    (rw (c.new-source.ensures.first, c.new-source.ensures.second, c.deref.ensures.value) refl) c.new_sink-sink.ensures.text
     c.hand_out.ensures.answer

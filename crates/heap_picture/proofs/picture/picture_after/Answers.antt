@@ -1,0 +1,52 @@
+use Rattle.std.proofs.Common.{◌≡◌, ◌∙◌, List, ap, arith, length, rules, subst, take}
+use Rattle.heap_picture.proofs.Room.{granules_of_replay}
+use Rattle.heap_picture.specs.Picture.{IsDrawn}
+use Rattle.heap_picture.specs.Pictured.{read_of}
+use Rattle.heap_theory.specs.Config.{layout_for}
+use Rattle.replay_theory.specs.Replay.{Replay, first_replay, replay_of}
+use Rattle.trace_event.specs.declared.event.Event.{Event}
+use Rattle.heap_picture.proofs.picture.picture_after.Goals.{then-tags-granules-via-then-tags-granules, then-tags-granules-via-else-tags-granules+then-kinds-granules}
+use Rattle.heap_picture.proofs.picture.picture_after.Goals as goal
+
+pub returns-then-tags-granules-clause-pictured : goal.returns-then-tags-granules-clause-pictured
+returns-then-tags-granules-clause-pictured c =
+    let begun = c.in_ok-stepper.ensures in
+    let first = first_replay (layout_for c.args.config begun.1.table) c.args.config.seed c.args.config.quarantine in
+    let events = take c.args.count c.in_ok-stepper.stepper.reader.events in
+    let reached : c.advance.new.stepper.replay.replay ≡ replay_of first events =
+    c.advance.ensures ∙ ap (λ (r : Replay). replay_of r events) begun.1.first in
+    let long : length c.advance.new.stepper.replay.replay.heap.memory ≡ c.args.config.granules =
+    ap (λ (r : Replay). length r.heap.memory) reached
+    ∙ granules_of_replay c.args.config c.args.line.now begun.1.table events begun.0 begun.1.spelled in
+    λ _. (
+      rw begun.1.spelled (search rules),
+      begun.1.ended,
+      λ room.
+          elim c.then-tags-granules.branch [
+            | then-tags-granules-via-then-tags-granules w ↦ omega (arith, w.if-tags-granules.true, c.granules-granules.ensures, long, room.0)
+            | then-tags-granules-via-else-tags-granules+then-kinds-granules w ↦
+                omega (arith, w.if-kinds-granules.true, c.granules-granules.ensures, long, room.1)
+          ],
+    )
+
+pub returns-clause-pictured : goal.returns-clause-pictured
+returns-clause-pictured c =
+    let begun = c.in_ok-stepper.ensures in
+    let first = first_replay (layout_for c.args.config begun.1.table) c.args.config.seed c.args.config.quarantine in
+    let events = take c.args.count c.in_ok-stepper.stepper.reader.events in
+    let reached : c.advance.new.stepper.replay.replay ≡ replay_of first events =
+    c.advance.ensures ∙ ap (λ (r : Replay). replay_of r events) begun.1.first in
+    let long : length c.advance.new.stepper.replay.replay.heap.memory ≡ c.args.config.granules =
+    ap (λ (r : Replay). length r.heap.memory) reached
+    ∙ granules_of_replay c.args.config c.args.line.now begun.1.table events begun.0 begun.1.spelled in
+    let whole : c.advance.new.stepper.replay.replay ≡ replay_of first (take c.args.count (read_of c.args.trace.now).events) =
+    reached ∙ ap (λ (es : List Event). replay_of first (take c.args.count es)) begun.1.events in (
+      begun.0,
+      (omega (arith, c.if-tags-granules.false, c.granules-granules.ensures, long), omega (arith, c.if-kinds-granules.false, c.granules-granules.ensures, long)),
+      record {
+        table = begun.1.table;
+        spelled = begun.1.spelled;
+        ended = begun.1.ended;
+        drawn = subst (λ (r : Replay). IsDrawn r.heap c.draw.new.tags c.draw.new.kinds) whole c.draw.ensures;
+      },
+    )
