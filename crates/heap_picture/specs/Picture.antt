@@ -1,20 +1,11 @@
 -- Pictures of a heap.
 use Rattle.std.specs.Prelude.{◌≡◌, ℕ, ◌+◌, ◌<◌, ◌≤◌, ◌^◌, Bool, true, false, List, [], ◌∷◌, length, slice_index}
 use Rattle.machine_theory.specs.Memory.{tag_at}
-use Rattle.heap_theory.specs.GranuleKinds.{place_kind}
+use Rattle.heap_theory.specs.GranuleKinds.{kind_number, place_kind}
 use Rattle.replay_theory.specs.Replay.{Replay, replay_after}
 use Rattle.heap_theory.specs.State.{Heap}
 use Rattle.trace_event.specs.declared.event.Event.{Event}
-use Rattle.heap_theory.specs.declared.place_kind.PlaceKind.{PlaceKind}
-use Rattle.heap_theory.specs.declared.place_kind.PlaceKind.TheVariants.{Slack, Header, Tail, Dead, Other}
 use Rattle.replay_core.specs.ReplayState.{Stored}
-
-abbrev pub kind_number : PlaceKind → ℕ
-kind_number Slack = 0
-kind_number Header = 1
-kind_number Tail = 2
-kind_number Dead = 3
-kind_number Other = 4
 
 -- The tags and the kinds of all granules.
 pub record IsDrawn (heap : Heap) (tags kinds : List ℕ) : Type 0 where

@@ -3,10 +3,8 @@ use Rattle.std.specs.Prelude.{ℕ, List, ◌&&◌, ◌||◌, Bool, ◌==◌, nat
 use Rattle.class_table.specs.declared.fault.TableError.{TableError}
 use Rattle.class_table.specs.declared.fault.TableError.TheVariants.{BadLine, TooMany, OutOfRange, NotAscending}
 use Rattle.handed_text.specs.declared.ends.TheConstants.{DONE, NO, BAD_OPTION, MISUSE}
-use Rattle.heap_theory.specs.GranuleKinds.{place_kind}
+use Rattle.heap_theory.specs.GranuleKinds.{kind_number, place_kind}
 use Rattle.heap_theory.specs.State.{Heap}
-use Rattle.heap_theory.specs.declared.place_kind.PlaceKind.{PlaceKind}
-use Rattle.heap_theory.specs.declared.place_kind.PlaceKind.TheVariants.{Slack, Header, Tail, Dead, Other}
 use Rattle.heap_theory.specs.declared.refusal.FreeError.{FreeError}
 use Rattle.heap_theory.specs.declared.refusal.FreeError.TheVariants.{Misplaced, NotLive, WrongTag}
 use Rattle.heap_theory.specs.declared.refusal.NullCause.{NullCause}
@@ -47,13 +45,6 @@ abbrev pub code_of_error : FreeError → ℕ
 code_of_error Misplaced = 63
 code_of_error NotLive = 64
 code_of_error WrongTag = 65
-
-abbrev pub kind_number : PlaceKind → ℕ
-kind_number Slack = 0
-kind_number Header = 1
-kind_number Tail = 2
-kind_number Dead = 3
-kind_number Other = 4
 
 abbrev pub pointer_outcome : Result ℕ NullCause → Outcome
 pointer_outcome (Ok address) = with_value address

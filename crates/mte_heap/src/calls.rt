@@ -6,7 +6,7 @@ ghost use Rattle.mte_heap.specs.Held.{heap_of};
 use crate::handed_heap::HandedHeap;
 use crate::held::Held;
 use crate::outcome::Outcome;
-use crate::settings::{Settings, config, is_config};
+use crate::settings::{Settings, config};
 use crate::{access, freeing};
 use class_table::ClassTable;
 use handed_text::{BAD_OPTION, DONE, MISUSE, OUT_OF_MEMORY};
@@ -22,7 +22,7 @@ pub fn new(alloc: Global, settings: Settings, classes: &[u16], heap: &mut Handed
         return Outcome::plain(MISUSE);
     }
     let config = config(settings);
-    if !is_config(config) {
+    if !config.is_valid() {
         return Outcome::plain(BAD_OPTION);
     }
     let table = match ClassTable::from_classes(classes) {

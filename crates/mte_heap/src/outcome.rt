@@ -1,11 +1,11 @@
 //! What C is told of a call.
 ghost use Rattle.std.specs.Prelude.{◌≡◌};
 ghost use Rattle.mte_heap.specs.Outcomes.{code_of_cause, code_of_error, code_of_table, fault_outcome, freed_outcome};
-ghost use Rattle.mte_heap.specs.Outcomes.{kind_number, plain, pointer_outcome, refusal, resized_outcome};
+ghost use Rattle.mte_heap.specs.Outcomes.{plain, pointer_outcome, refusal, resized_outcome};
 
 use class_table::TableError;
 use handed_text::{DONE, NO, REFUSED};
-use heap_theory::{FreeError, NullCause, PlaceKind, ReallocError};
+use heap_theory::{FreeError, NullCause, ReallocError};
 use machine_theory::Fault;
 use tagged_heap::Heap;
 
@@ -121,7 +121,7 @@ impl Outcome {
                 granule,
                 memory_tag,
                 pointer_tag,
-                granule_kind: kind_number(heap.place_kind(granule)),
+                granule_kind: heap.place_kind(granule).number(),
                 ..Outcome::refusal(52)
             },
         }
@@ -156,17 +156,5 @@ fn code_of_error(error: FreeError) -> u32
         FreeError::Misplaced => 63,
         FreeError::NotLive => 64,
         FreeError::WrongTag => 65,
-    }
-}
-
-fn kind_number(kind: PlaceKind) -> u8
-    ensures { result ≡ kind_number kind }
-{
-    match kind {
-        PlaceKind::Slack => 0,
-        PlaceKind::Header => 1,
-        PlaceKind::Tail => 2,
-        PlaceKind::Dead => 3,
-        PlaceKind::Other => 4,
     }
 }

@@ -1,9 +1,7 @@
 //! How C sets a heap up.
-ghost use Rattle.std.specs.Prelude.{◌≡◌, ◌↔◌, IsTrue};
+ghost use Rattle.std.specs.Prelude.{◌≡◌};
 ghost use Rattle.mte_heap.specs.Calls.{config_of};
-ghost use Rattle.heap_theory.specs.Config.{IsConfig};
 
-use class_table::{FEWEST_GRANULES, MOST_GRANULES};
 use tagged_heap::Config;
 
 /// How a heap is set up.
@@ -27,14 +25,4 @@ pub(crate) fn config(settings: Settings) -> Config
         seed: settings.seed,
         quarantine: settings.quarantine,
     }
-}
-
-/// Whether a heap can be set up so.
-pub(crate) fn is_config(config: Config) -> bool
-    ensures { IsTrue result ↔ IsConfig config }
-{
-    FEWEST_GRANULES <= config.granules
-        && config.granules <= MOST_GRANULES
-        && config.seed != 0
-        && config.quarantine <= Config::MOST_QUARANTINE
 }
