@@ -1,8 +1,8 @@
 /* The engines of mte_tool for C99, C++ and whatever else calls C. docs/LIBRARY.md has examples, and says what is proved.
 
    Every call reads one input and gives one answer, both texts of docs/FORMATS.md: what the program's command of the same name reads from
-   standard input, and what it writes. The input has at most 67,108,864 bytes. There is no state beside the texts: calls in many threads are
-   independent, as long as no two use one text at a time. */
+   standard input, and what it writes. The input has at most MTE_TOOL_MOST_INPUT bytes. There is no state beside the texts: calls in many
+   threads are independent, as long as no two use one text at a time. */
 #ifndef MTE_TOOL_H
 #define MTE_TOOL_H
 
@@ -16,6 +16,13 @@ extern "C" {
 /* the version of this interface; mte_tool_version() gives the library's own */
 #define MTE_TOOL_VERSION 2
 
+/* the limits of docs/FORMATS.md */
+#define MTE_TOOL_MOST_INPUT 67108864   /* the bytes of an input */
+#define MTE_TOOL_MOST_CLASSES 32       /* the classes of a table */
+#define MTE_TOOL_LARGEST_CLASS 1024    /* in granules of 16 bytes */
+#define MTE_TOOL_LARGEST_SIZE 16368    /* in bytes: the largest request that a class serves */
+#define MTE_TOOL_MOST_COUNT 1000000000 /* how often a profile may count a size */
+
 /* How a call ended. */
 enum {
     MTE_TOOL_DONE = 0,          /* the text is the answer */
@@ -23,8 +30,8 @@ enum {
     MTE_TOOL_REFUSED = 2,       /* the text is the first fault of the input, as "30 BadLine line 2", without a newline */
     MTE_TOOL_OUT_OF_MEMORY = 3, /* the text is empty */
     MTE_TOOL_BAD_OPTION = 4,    /* an option is out of its range; the text is empty */
-    MTE_TOOL_MISUSE = 5         /* the call is not as it has to be: a pointer is null that must not be, the text holds an answer, or as the call
-                                   says; nothing was done */
+    MTE_TOOL_MISUSE = 5         /* the call is not as it has to be: a pointer is null that must not be, the text holds an answer, or as the
+                                   call says; nothing was done */
 };
 
 typedef struct mte_tool_ending {
@@ -89,11 +96,8 @@ void mte_tool_free(mte_tool_text *text);
 
 /* ---- score, tune and check over arrays, for a caller that has no text */
 
-/* the most classes of a table */
-#define MTE_TOOL_MOST_CLASSES 32
-
-/* A profile: `length` sizes in bytes, ascending, from 0 to 16368, each requested as often as its count says, 1 to 1000000000 times. Both
-   pointers may be null if `length` is 0. */
+/* A profile: `length` sizes in bytes, ascending, from 0 to MTE_TOOL_LARGEST_SIZE, each requested as often as its count says, 1 to
+   MTE_TOOL_MOST_COUNT times. Both pointers may be null if `length` is 0. */
 typedef struct mte_tool_profile_arrays {
     const uint32_t *sizes;
     const uint32_t *counts;
@@ -103,8 +107,8 @@ typedef struct mte_tool_profile_arrays {
 /* The answer of such a call. What the call does not give is 0. */
 typedef struct mte_tool_numbers {
     uint32_t end;     /* MTE_TOOL_DONE and so on */
-    uint32_t fault;   /* the code of the refusal: of the classes 20 (more than 32), 21 (not from 2 to 1024), 22 (not ascending); of an entry of
-                         the profile 30 (the size is above 16368), 31 (not ascending), 32 (the count is out of range); of a sheet 39 to 47 */
+    uint32_t fault;   /* the code of the refusal: of the classes 20 (too many), 21 (one is out of its range), 22 (not ascending); of an entry of
+                         the profile 30 (the size is too large), 31 (not ascending), 32 (the count is out of range); of a sheet 39 to 47 */
     uint64_t at;      /* the index of the first faulty entry of the profile, from 0 on; or the least size without a class, in bytes */
     uint64_t waste;   /* what the table wastes on the profile, in bytes */
     uint32_t classes; /* how many classes the tuned table has */
@@ -132,14 +136,14 @@ mte_tool_numbers mte_tool_check_arrays(mte_tool_options options, const uint16_t 
 
 /* Why the heap or the machine refused a call: the codes of an outcome. */
 enum {
-    MTE_TOOL_UNMAPPED = 50,   /* of a load or a store: a byte is not in the region, or one of the bits 60 to 63 of the address is 1 */
-    MTE_TOOL_TAG_FAULT = 52,  /* of a load or a store: a granule's tag differs from the address's */
-    MTE_TOOL_LARGE = 60,      /* of malloc, calloc and realloc: more than 16368 bytes */
-    MTE_TOOL_NO_CLASS = 61,   /* of these: no class of the table serves the size */
-    MTE_TOOL_EXHAUSTED = 62,  /* of these: no slot of the class is left */
-    MTE_TOOL_MISPLACED = 63,  /* of free and realloc: no chunk of a slot begins at the address */
-    MTE_TOOL_NOT_LIVE = 64,   /* of these: the chunk there is not live */
-    MTE_TOOL_WRONG_TAG = 65   /* of these: the address has another tag than the chunk */
+    MTE_TOOL_UNMAPPED = 50,  /* of a load or a store: a byte is not in the region, or one of the bits 60 to 63 of the address is 1 */
+    MTE_TOOL_TAG_FAULT = 52, /* of a load or a store: a granule's tag differs from the address's */
+    MTE_TOOL_LARGE = 60,     /* of malloc, calloc and realloc: more than 16368 bytes are requested */
+    MTE_TOOL_NO_CLASS = 61,  /* of malloc, calloc and realloc: no class of the table serves the request */
+    MTE_TOOL_EXHAUSTED = 62, /* of malloc, calloc and realloc: no slot of the request's class is left */
+    MTE_TOOL_MISPLACED = 63, /* of free and realloc: no chunk of a slot begins at the address */
+    MTE_TOOL_NOT_LIVE = 64,  /* of free and realloc: the chunk there is not live */
+    MTE_TOOL_WRONG_TAG = 65  /* of free and realloc: the address has another tag than the chunk */
 };
 
 /* A heap that the library holds for its caller. It begins as MTE_TOOL_HEAP, which holds none, and mte_tool_heap_close makes it that again.

@@ -161,7 +161,7 @@ mte_tool_numbers mte_tool_check_arrays(mte_tool_options options, const uint16_t 
 
 static const mte_tool_outcome misused_heap = {MTE_TOOL_MISUSE, 0, 0, 0, 0, 0, 0};
 
-/* a size for the heap, to which all that is above 16368 is one */
+/* a size for the heap, to which all that is above MTE_TOOL_LARGEST_SIZE is one */
 static uint32_t request(size_t size) {
     return size > UINT32_MAX ? UINT32_MAX : (uint32_t)size;
 }

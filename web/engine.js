@@ -2,9 +2,6 @@
 // `engines.begin(line, trace, options)` is a replay that goes on event by event. Runs in a page's worker and in node.
 "use strict";
 
-const ENDED = ["done", "no", "refused", "out of memory", "bad option", "misuse"];
-const DEFAULTS = { limit: 8, step: 1, granules: 65536, seed: 1, quarantine: 65536 };
-
 // The structures of options as the calling convention passes them, in two words: granules and quarantine; seed, and limit and step.
 const setUp = (o) => [BigInt.asIntN(64, (BigInt(o.quarantine) << 32n) | BigInt(o.granules)), o.seed];
 const allOptions = (o) => [setUp(o)[0], o.seed | (o.limit << 16) | (o.step << 24)];
@@ -133,5 +130,3 @@ class Engines {
     return new Steps(this.steps, line, trace, options);
   }
 }
-
-if (typeof module !== "undefined") module.exports = { Engines, ENDED, DEFAULTS };

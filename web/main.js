@@ -1,7 +1,6 @@
 // The page: its worker, its tabs, and the files that it takes.
 "use strict";
 
-const MOST_INPUT = 67108864;
 const EXAMPLES = {
   "an overflow": "malloc 0 40\nmalloc 1 40\nstore 0 0 40 11\nstore 0 40 8 22\nstore 0 48 8 33\nstore 0 64 8 44\n",
   "a use after free": "malloc 0 40\nstore 0 0 40 11\nmalloc 1 40\nfree 0\nload 0 0 8\nstore 0 8 8 22\nload 1 0 8\n",

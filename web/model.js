@@ -2,9 +2,6 @@
 // The picture itself comes from the proved engine; the page compares the two at each event that it shows.
 "use strict";
 
-const GRANULE = 16;
-const REGION = 1n << 36n;
-const LARGEST = 16368;
 const WORD = 1n << 64n;
 const KINDS = ["slack", "header", "tail", "dead", "live"];
 
@@ -171,7 +168,7 @@ class HeapModel {
   }
 
   refused(size) {
-    return size > LARGEST ? "large" : this.layout.classOf(size) < 0 ? "no-class" : null;
+    return size > LARGEST_SIZE ? "large" : this.layout.classOf(size) < 0 ? "no-class" : null;
   }
 
   free({ v }) {
@@ -287,5 +284,3 @@ class HeapModel {
     return -1;
   }
 }
-
-if (typeof module !== "undefined") module.exports = { HeapModel, eventOf };

@@ -1,7 +1,6 @@
 // The view of who tunes: the table that the engines find for a profile or a history, beside others.
 "use strict";
 
-const LARGEST_CLASS = 1024;
 const tuner = { kind: null, text: "", sizes: [], total: 0, sheet: "", least: null, forced: [], runs: 0 };
 
 const classesOf = (line) => line.split("\n")[0].trim().split(" ").slice(1).map(Number);
@@ -33,7 +32,7 @@ function readSizes(text) {
 /** Takes a profile or a history that the engines accept. */
 async function takeCounts(kind, text, name) {
   const command = kind === "history" ? "fit" : "tune";
-  const answer = await ask("call", { command, options: { limit: 32, step: Number($("step").value) }, input: text });
+  const answer = await ask("call", { command, options: { limit: MOST_CLASSES, step: Number($("step").value) }, input: text });
   if (answer.status) return sayFault(name, answer);
   Object.assign(tuner, { kind, text: text.endsWith("\n") || text === "" ? text : `${text}\n`, name });
   tuner.sizes = readSizes(text);
@@ -47,12 +46,12 @@ async function takeCounts(kind, text, name) {
 /** The counts with a request, or a block at each moment, that class 1024 alone serves, and the classes that are forced by that: none where
  * the counts have such a size. */
 function withLargest() {
-  const counts = tuner.lines.find(([size]) => size === LARGEST)?.[1];
+  const counts = tuner.lines.find(([size]) => size === LARGEST_SIZE)?.[1];
   if (counts?.some((count) => count > 0)) return { text: tuner.text, forced: [] };
   const moments = forHistory() ? Number(/^snapshots (\d+)/.exec(tuner.text)[1]) : 1;
-  const lines = tuner.text.split("\n").filter((line) => !line.startsWith(`${LARGEST} `));
+  const lines = tuner.text.split("\n").filter((line) => !line.startsWith(`${LARGEST_SIZE} `));
   const large = lines.findIndex((line) => line.startsWith("large "));
-  lines.splice(large < 0 ? lines.length - 1 : large, 0, `${LARGEST}${" 1".repeat(moments)}`);
+  lines.splice(large < 0 ? lines.length - 1 : large, 0, `${LARGEST_SIZE}${" 1".repeat(moments)}`);
   return { text: lines.join("\n"), forced: [LARGEST_CLASS] };
 }
 
@@ -77,7 +76,7 @@ async function tune() {
   const run = tuner.runs;
   const made = await ask("call", { command, options: options(), input: text });
   if (made.status) return sayFault(tuner.name, made);
-  const curve = await ask("call", { command, options: { ...options(), limit: 32 }, input: text });
+  const curve = await ask("call", { command, options: { ...options(), limit: MOST_CLASSES }, input: text });
   const judged = await judge(made.text, [{ text, forced }]);
   if (run !== tuner.runs) return null;
   tuner.sheet = made.text;

@@ -23,25 +23,6 @@ const REASONS = {
   made: "The pointer was made by addg or subg, and happens to have the tag of that memory.",
   place: "The block was resized in place, and the old pointer is still its own.",
 };
-const INPUT_CODES = {
-  20: "there are more than 32 classes",
-  21: "a class is not from 2 to 1024",
-  22: "a class is not above the one before it",
-  23: "this is no class line: it has the word classes, and then the classes in granules",
-  30: "a line of a profile has a size up to 16368 and a count, or the word large and a count at the end",
-  31: "the sizes do not ascend",
-  32: "a count is not from 1 to 1000000000",
-  34: "a history begins with the line snapshots T, with T from 1 to 1024",
-  35: "the line does not have a number for each snapshot",
-  36: "the line does not have the form of a fit",
-  48: "the line does not have the form of a sheet",
-  70: "the first word is no event, or the line has too many or too few words",
-  71: "a word is no number in its one spelling",
-  72: "a number is out of its range",
-  73: "the line has more than 80 bytes",
-  74: "a trace has at most 1000000 lines",
-  80: "an input has at most 67108864 bytes",
-};
 
 const bytesText = (n) => counted(n, "byte");
 
@@ -123,14 +104,6 @@ function passReason(event, outcome, model) {
 }
 
 const KIND_WORDS = { slack: "slack", header: "a header", tail: "a tail", dead: "of a dead chunk", other: "of a live chunk" };
-const CAUSES = {
-  large: "it is above 16,368 bytes",
-  "no-class": "no class of the table serves it",
-  exhausted: "its class has no slot left",
-  misplaced: "the address is not the start of a block",
-  "not-live": "the block there is not live",
-  "wrong-tag": "the pointer's tag is not the block's",
-};
 
 /** A line of the report in a sentence. */
 function reportWords(report) {

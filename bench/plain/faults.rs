@@ -3,6 +3,7 @@
 //! The readers of the other files say only that a text is faulty. It is then read here once more,
 //! line by line, for the first faulty line and its code.
 
+use crate::profile::LARGEST;
 use std::fmt::{Display, Formatter, Result as Written};
 
 pub enum Fault {
@@ -130,7 +131,7 @@ pub fn in_class_line(line: Option<&[u8]>) -> Option<Fault> {
 }
 
 // where the line `large` is among the sizes
-const AFTER_SIZES: u128 = 16_369;
+const AFTER_SIZES: u128 = LARGEST as u128 + 1;
 
 // the first fault of a profile's lines, after so many other lines
 fn in_counts(lines: &[&[u8]], before: usize) -> Fault {

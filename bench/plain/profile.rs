@@ -3,7 +3,7 @@
 use crate::text::{push_number, Scanner};
 
 /// The largest size that any class serves, in bytes.
-pub const LARGEST: usize = 16_368;
+pub const LARGEST: usize = 16 * 1024 - 16;
 
 /// The most that a size is counted.
 pub const GREATEST_COUNT: u64 = 1_000_000_000;

@@ -5,10 +5,8 @@
 #include <stdio.h>
 #include <stdlib.h>
 
-enum { LARGEST = 16368 };
-
 int main(int count, char **words) {
-    static uint32_t counted[LARGEST + 1], sizes[LARGEST + 1], counts[LARGEST + 1];
+    static uint32_t counted[MTE_TOOL_LARGEST_SIZE + 1], sizes[MTE_TOOL_LARGEST_SIZE + 1], counts[MTE_TOOL_LARGEST_SIZE + 1];
     mte_tool_profile_arrays profile = {sizes, counts, 0};
     mte_tool_options options = MTE_TOOL_OPTIONS(count == 2 ? strtoul(words[1], NULL, 10) : 0);
     uint16_t classes[MTE_TOOL_MOST_CLASSES];
@@ -17,8 +15,8 @@ int main(int count, char **words) {
     size_t room;
     uint32_t size, i;
     while (scanf("%u", &size) == 1)
-        if (size <= LARGEST) counted[size]++; /* larger ones are not for the classes */
-    for (size = 0; size <= LARGEST; size++)
+        if (size <= MTE_TOOL_LARGEST_SIZE) counted[size]++; /* larger ones are not for the classes */
+    for (size = 0; size <= MTE_TOOL_LARGEST_SIZE; size++)
         if (counted[size]) {
             sizes[profile.length] = size;
             counts[profile.length++] = counted[size];

@@ -11,7 +11,7 @@ from array import array
 from collections import namedtuple
 
 import checksum
-from texts import LARGEST_SIZE, MOST_COUNT
+from formats import LARGEST_SIZE, MOST_COUNT
 
 WINDOW = 64  # the bytes of the longest access of a trace
 

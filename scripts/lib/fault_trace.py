@@ -7,14 +7,11 @@ be accepted, since both compare the same tags, and the slot is live."""
 from array import array
 from collections import namedtuple
 
-from fault_variables import EVENTS, NONE, SHARED, most_events
+from fault_variables import NONE, SHARED, most_events
+from formats import FARTHEST_ACCESS, FARTHEST_MOVE, LARGEST_REQUEST, LARGEST_SIZE, MOST_EVENTS
 from slot_model import IN_PLACE, LAST_GRANULE, Promise
-from texts import LARGEST_SIZE
 
-MOST_REQUEST = 2147483647  # of a trace
-MOST_MOVE = 63
 MOST_MOVES = 2000  # of one wrong free
-MOST_OFFSET = 1_048_576  # of a trace
 
 # What became of an error: `asked` has the promise, and the event that asks; `ruled` is refused by a rule, and no event can say it; `large`
 # and `left` are not replayed, for the reason of the promise.
@@ -49,7 +46,7 @@ class Trace:
     def _add(self, letter, first, second, third):
         if letter not in "ls" and (letter == "E" or self._variable(first) != NONE):
             self.fixed -= most_events(self.log, letter, first)
-        is_full = self.is_asked and len(self.lines) > EVENTS - 32
+        is_full = self.is_asked and len(self.lines) > MOST_EVENTS - 32
         if letter == "E":
             error = self.log.errors[first]
             self.verdicts.append(Verdict("left", Promise("open", None, NO_EVENT), None, error.is_free()) if is_full else self._wrong(error))
@@ -84,7 +81,7 @@ class Trace:
         variable = self._variable(block)
         if block not in self.pointer or variable == NONE or self.holder[variable] != self.log.chain[block]:
             self.left_out["right accesses of blocks that are left out"] += 1
-        elif len(self.lines) + self.fixed > EVENTS - 64:
+        elif len(self.lines) + self.fixed > MOST_EVENTS - 64:
             self.left_out["right accesses beyond a million events"] += 1
         else:
             self._event(f"load {variable} {offset} {length}" if letter == "l" else f"store {variable} {offset} {length} a5")
@@ -98,7 +95,7 @@ class Trace:
         if variable != SHARED:
             self.holder[variable] = self.log.chain[block]
         pointer = self._take(block, size)
-        self._event(f"{name} {variable} {min(size, MOST_REQUEST)}", self._refusal(size, pointer))
+        self._event(f"{name} {variable} {min(size, LARGEST_REQUEST)}", self._refusal(size, pointer))
 
     def _take(self, block, size):
         pointer = self.slots.take(size) if size <= LARGEST_SIZE else None
@@ -127,7 +124,7 @@ class Trace:
             self.pointer[new] = given
             return self._event(f"realloc {variable} {size}")
         pointer = self._take(new, size)
-        self._event(f"realloc {variable} {min(size, MOST_REQUEST)}", self._refusal(size, pointer))
+        self._event(f"realloc {variable} {min(size, LARGEST_REQUEST)}", self._refusal(size, pointer))
         if not pointer:  # the heap keeps the old block, and the program does not
             self._event(f"free {variable}")
         return self.slots.free(slot)
@@ -149,12 +146,12 @@ class Trace:
         if error.is_free():
             if error.offset % 16:
                 return verdict("ruled", MISPLACED)
-            if abs(error.offset) > 16 * MOST_MOVE * MOST_MOVES:
+            if abs(error.offset) > 16 * FARTHEST_MOVE * MOST_MOVES:
                 return verdict("left", NEVER_GIVEN)
             moved = error.offset // 16
             return verdict("asked", *self._wrong_free(variable, pointer, moved), self.slots.meeting_of_free(pointer, moved))
         offset, length = error.window(self.log.size[error.block])
-        if abs(offset) > MOST_OFFSET:
+        if abs(offset) > FARTHEST_ACCESS:
             return verdict("left", NEVER_GIVEN)
         promise = self.slots.access(pointer, offset, length)
         if promise.reason == LAST_GRANULE and error.state == "resized":
@@ -167,7 +164,7 @@ class Trace:
         promise = self.slots.freeing(pointer, granules)
         left = abs(granules)
         while left:
-            step = min(left, MOST_MOVE)
+            step = min(left, FARTHEST_MOVE)
             self._event(f"{'addg' if granules > 0 else 'subg'} {SHARED} {variable} {step} 0")
             variable = SHARED
             left -= step

@@ -8,10 +8,9 @@ from array import array
 from collections import Counter
 from heapq import heappop, heappush
 
-from texts import LARGEST_SIZE
+from formats import LARGEST_SIZE, LAST_VARIABLE, MOST_EVENTS
 
-VARIABLES, SHARED, NONE = 1023, 1023, -1
-EVENTS = 1_000_000
+VARIABLES, SHARED, NONE = LAST_VARIABLE, LAST_VARIABLE, -1
 OF_ERRORS, OF_THEIR_CLASSES, OTHERS = 0, 1, 2  # the rank of a chain: the least is kept longest
 RANKS = ("blocks with errors", "other blocks of classes with errors", "blocks of classes without an error")
 
@@ -27,7 +26,7 @@ class Choice:
     """variable: of each chain, or NONE where the trace does not have it. stale: the variable of a block's stale pointer. fixed: the most
     events beside right accesses. left_out: what the trace does not have, in words, with counts."""
 
-    def __init__(self, log, slots, variables=VARIABLES, events=EVENTS):
+    def __init__(self, log, slots, variables=VARIABLES, events=MOST_EVENTS):
         self.left_out = Counter()
         self.moved, self.last_wrong = {}, {}  # of a block: where a realloc moved it, and where it was last wrongly used
         begin, end = self._lives(log)

@@ -9,7 +9,7 @@ import claims
 import texts
 
 GRANULE = claims.GRANULE  # bytes; a block begins with a header of one granule
-NOTHING = "no bytes are counted in requests of at most 16,368 bytes: there is nothing to tune"
+NOTHING = f"no bytes are counted in requests of at most {texts.LARGEST_SIZE:,} bytes: there is nothing to tune"
 OverTime = namedtuple("OverTime", "history fitted fit")  # texts: the history, the one that was fitted, and the fit of that
 OTHERS = [("Scudo's default", "scudo.classes"), ("Scudo's for Android", "scudo_android.classes")]
 

@@ -14,6 +14,11 @@ TITLES = {"Options": "OPTIONS", "Commands": "COMMANDS", "Exit status": "EXIT STA
 FILES = re.compile(r"FILE|FOLDER|TABLE|LIST|DIR|COUNTS")
 
 
+def sessions(text):
+    """The texts of scripts/tests/help.txt by the words of `mte_tool` that print them."""
+    return dict(re.findall(r"(?m)^\$ mte_tool (.*)\n((?:(?!\$ ).*\n)*)", text))
+
+
 class Help:
     """What a help says: `intro`, the words before the usage; `usage`, its lines; and `sections` of blocks."""
 

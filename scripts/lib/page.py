@@ -102,7 +102,7 @@ def page(figures, name, counted, warnings, check, check_fit=None, tables=None):
 <dl>
 {card("requests", "Requests counted", figures.requests, escape(counted))}
 {card("bytes", "Bytes requested", figures.bytes, byte_text(figures.bytes))}
-{card("large", "Large requests", figures.large, "above 16,368 bytes; in no other figure here")}
+{card("large", "Large requests", figures.large, f"above {texts.LARGEST_SIZE:,} bytes; in no other figure here")}
 {card("limit", "Limit of classes", figures.sheet.limit, f"in steps of {GRANULE * figures.sheet.step} bytes")}
 </dl>
 <h2>Each table</h2>

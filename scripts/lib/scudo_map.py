@@ -30,7 +30,7 @@ template <typename C> constexpr uptr lastGranules() {
 static_assert(granulesAscend<TunedClasses>(), "the classes do not ascend");
 static_assert(TunedClasses::Granules[0] >= 2, "a class has no room for a header of 16 bytes and a granule");
 static_assert(TunedClasses::Granules[0] <= 1024, "there is no tuned class");
-static_assert(lastGranules<TunedClasses>() >= 1024, "the table does not serve 16,368 bytes");
+static_assert(lastGranules<TunedClasses>() >= 1024, "the table does not serve the largest requests");
 static_assert(lastGranules<TunedClasses>() <= 8193, "a class is above Scudo's largest");
 static_assert(sizeof(TunedClasses::Granules) <= 2 * (32 + 13), "there are more than 32 tuned classes and Scudo's 13");
 

@@ -14,6 +14,7 @@ from collections import defaultdict, namedtuple
 
 import claims
 import manifest
+from formats import LARGEST_CLASS, LARGEST_SIZE, MOST_CLASSES, MOST_COUNT, MOST_INPUT, MOST_SNAPSHOTS
 from running import Refused, printable
 
 SCRIPTS = os.path.dirname(os.path.dirname(os.path.realpath(__file__)))
@@ -22,13 +23,6 @@ EXAMPLES = os.path.join(ROOT, "examples")
 # scripts/package puts the program beside the scripts, and there is nothing to prove there
 IS_PACKAGED = os.path.exists(os.path.join(ROOT, "mte_tool")) and not os.path.exists(os.path.join(ROOT, "crates.txt"))
 BUILT = os.path.join(ROOT, "mte_tool" if IS_PACKAGED else "crates/mte_tool/out/mte_tool")
-
-LARGEST_SIZE = 16_368  # the largest request that a class serves, in bytes; a larger one is `large`
-MOST_COUNT = 1_000_000_000  # the most that a line of a profile counts
-MOST_CLASSES = 32
-MOST_SNAPSHOTS = 1024
-MOST_INPUT = 67_108_864  # the most bytes that the program reads
-LARGEST_CLASS = 1024  # in granules
 
 PIECE = 1 << 20
 MOST_DIGITS = 4_000  # of a number; Python itself converts 4,300
@@ -141,9 +135,9 @@ def next_piece(file, path):
 
 
 def read_profile(path):
-    """What a profile counts: the count of each size from 0 to 16,368, and of `large`.
+    """What a profile counts: the count of each size up to LARGEST_SIZE, and of `large`.
 
-    A line is a size and a count, or `large` and a count, in any order and however often; a size above 16,368 is large. Counts may be
+    A line is a size and a count, or `large` and a count, in any order and however often; a larger size is large. Counts may be
     0, and are summed exactly."""
     with opened(path) as file:
         return counts_of(file, path)
@@ -173,7 +167,7 @@ def is_history(data):
 
 
 def read_history(path):
-    """A history. As in a profile, its sizes come in any order and however often; a size above 16,368 is large. Counts are summed."""
+    """A history. As in a profile, its sizes come in any order and however often; a size above LARGEST_SIZE is large. Counts are summed."""
     return parse_history(read(path), named(path))
 
 

@@ -1,15 +1,16 @@
 // Counts how often a program requests each size. A library for LD_PRELOAD and glibc; scripts/profile_program builds and uses it.
 //
-// SIZES=FILE       a page of notes (recorder.h), and the counters: 16,370 words of 64 bits, for the sizes 0 to 16,368 and for all that are
+// SIZES=FILE       a page of notes (recorder.h), and the counters: words of 64 bits, for the sizes 0 to LARGEST_SIZE and for all that are
 //                  larger. The file is mapped, so the counts stand in it while the program runs, after a fork and after a kill.
 // SIZES_ONLY=NAME  only processes whose program has this name are counted.
 // SIZES_LIVE=1     counts the blocks that are live when the most bytes are, in the first process alone. Where that runs another program in
 //                  its own place, the counts begin anew.
 // SIZES_HISTORY=T  the same, and T copies of the counters, 1 to 64. The first is of the peak. The others are taken at evenly spaced requests:
 //                  where there is no room for one more, every second goes, and the spacing doubles.
+#include "formats.h"
 #include "recorder.h"
 
-enum { LARGE = 16369, COUNTERS = LARGE + 1 };
+enum { LARGE = LARGEST_SIZE + 1, COUNTERS = LARGE + 1 };
 enum { SNAPSHOTS = 64 };
 static const uint64_t FORM_ALL = 0x315A49534C4C41, FORM_LIVE = 0x315A495345564C, FORM_HISTORY = 0x315A4953534948;
 

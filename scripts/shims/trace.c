@@ -5,9 +5,10 @@
 //                  own place, the trace begins anew.
 // TRACE_ONLY=NAME  only a process whose program has this name is traced.
 // TRACE_FIRST=N    the trace has at most N events.
+#include "formats.h"
 #include "recorder.h"
 
-enum { VARIABLES = 1023, SHARED = 1023, EVENTS = 1000000, LINE = 32, MOST = 2147483647, REACH = 1048576, LEAST_ROOM = 65536 };
+enum { SHARED = LAST_VARIABLE, VARIABLES = SHARED, LINE = 32, LEAST_ROOM = 65536 };
 static const uint64_t FORM = 0x3145434152544C;
 
 static char *text, *end;                 // where the next line goes, and the end of the room; null while nothing is traced
@@ -78,10 +79,10 @@ static void hold(int variable, void *pointer, size_t size) {
 static void request(const char *name, int variable, void *pointer, size_t size) {
   if (!has_room()) return;
   hold(variable, pointer, size);
-  if (size > MOST) size = MOST;
+  if (size > LARGEST_REQUEST) size = LARGEST_REQUEST;
   LINE_OF("%s %d %zu\n", name, variable, size);
   if (size > 0) LINE_OF("store %d 0 1 a5\n", variable);
-  if (size > 1 && size - 1 <= REACH) LINE_OF("store %d %zu 1 5a\n", variable, size - 1);
+  if (size > 1 && size - 1 <= FARTHEST_ACCESS) LINE_OF("store %d %zu 1 5a\n", variable, size - 1);
 }
 
 static void new_block(const char *name, void *pointer, size_t size) {
@@ -113,7 +114,7 @@ static void *fresh(const char *name, void *pointer, size_t size) {
 }
 
 // The free, or with `size` the realloc, of a pointer that no live block has. Where a variable had it until its own free, the event is once
-// more of that one. Else it is of the block next to it, from a granule within: variable 1023 is moved there. The heap refuses both.
+// more of that one. Else it is of the block next to it, from a granule within: SHARED is moved there. The heap refuses both.
 static void wrong(void *pointer, const size_t *size) {
   if (!has_room()) return;
   notes->wrong++;
@@ -125,9 +126,9 @@ static void wrong(void *pointer, const size_t *size) {
   if (found == SHARED) {
     size_t granules = 1;
     if (near < SHARED && (char *)pointer < (char *)variables[near] + sizes[near]) granules = ((char *)pointer - (char *)variables[near]) / 16;
-    LINE_OF("addg 1023 %d %zu 0\n", near, granules < 1 ? 1 : granules > 63 ? 63 : granules);
+    LINE_OF("addg %d %d %zu 0\n", SHARED, near, granules < 1 ? 1 : granules > FARTHEST_MOVE ? FARTHEST_MOVE : granules);
   }
-  if (size) LINE_OF("realloc %d %zu\n", found, *size > MOST ? MOST : *size);
+  if (size) LINE_OF("realloc %d %zu\n", found, *size > LARGEST_REQUEST ? LARGEST_REQUEST : *size);
   else LINE_OF("free %d\n", found);
 }
 
@@ -159,7 +160,7 @@ void *malloc(size_t size) {
 void *calloc(size_t number, size_t each) {
   if (!is_own()) return next.calloc(number, each);
   size_t size;
-  if (__builtin_mul_overflow(number, each, &size)) size = MOST;
+  if (__builtin_mul_overflow(number, each, &size)) size = LARGEST_REQUEST;
   inside++;
   return fresh("calloc", next.calloc(number, each), size);
 }
@@ -219,7 +220,7 @@ void *realloc(void *pointer, size_t size) {
 // an aligned request is traced as the bytes that an allocator with 16-byte granules sets aside for it
 static size_t aligned(size_t alignment, size_t size) {
   size_t all = size;
-  if (alignment > 16 && __builtin_add_overflow(size, alignment - 16, &all)) all = MOST;
+  if (alignment > 16 && __builtin_add_overflow(size, alignment - 16, &all)) all = LARGEST_REQUEST;
   return all;
 }
 
@@ -252,14 +253,14 @@ static void begin(void) {
   const char *only = getenv("TRACE_ONLY"), *first = getenv("TRACE_FIRST");
   if (only && strcmp(only, program_invocation_short_name)) return;
   size_t room;
-  notes = map_file("TRACE", FORM, LEAST_ROOM, (size_t)EVENTS * LINE, &room);
+  notes = map_file("TRACE", FORM, LEAST_ROOM, (size_t)MOST_EVENTS * LINE, &room);
   if (!notes) return;
   examine(0);
   if (untouched) return;
   is_other = !is_the_one();
   record_here(!is_other);
   if (is_other) return;
-  most = first ? strtoul(first, NULL, 10) : EVENTS;
+  most = first ? strtoul(first, NULL, 10) : MOST_EVENTS;
   notes->variables = notes->shared = notes->wrong = 0;
   text = (char *)notes + PAGE, end = text + room;
   write_mark();

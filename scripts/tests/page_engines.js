@@ -4,9 +4,9 @@
 
 const fs = require("fs");
 const path = require("path");
-const web = path.join(__dirname, "..", "..", "web");
-const { Engines } = require(path.join(web, "engine.js"));
-const { HeapModel, eventOf } = require(path.join(web, "model.js"));
+const source = (name) => fs.readFileSync(path.join(__dirname, "..", "..", "web", `${name}.js`), "utf8");
+const { Engines, HeapModel, eventOf } = new Function(`${["formats", "engine", "model"].map(source).join("\n")}
+return { Engines, HeapModel, eventOf };`)();
 
 /** Where a picture, or a line of the report, is another than the model's; or what was compared. */
 function compare(engines, { line, trace, options }) {

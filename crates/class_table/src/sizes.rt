@@ -17,7 +17,7 @@ pub const LARGEST_COUNTED: u32 = GRANULE_BYTES * (LARGEST_CLASS as u32 - 1);
 /// How many needs and classes there are: one for each number of granules from the smallest class to the largest.
 pub const MOST_NEEDS: usize = (LARGEST_CLASS - SMALLEST_CLASS + 1) as usize;
 
-/// The granules that a request of `n` bytes (0 to 16,368) needs, including its header's: 2 to 1024.
+/// The granules that a request of `n` bytes (0 to `LARGEST_COUNTED`) needs, including its header's: 2 to 1024.
 pub fn need(n: u32) -> u32
     requires { n ≤ LARGEST_COUNTED }
     ensures need { result ≡ need_of n }

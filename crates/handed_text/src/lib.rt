@@ -7,6 +7,7 @@ mod ends;
 mod filling;
 mod handle;
 mod held;
+pub mod laws;
 mod parts;
 mod text;
 

@@ -8,6 +8,7 @@ use Rattle.std.proofs.lemmas.List.Quantifiers.{position-Some}
 use Rattle.std.proofs.lemmas.Option.{slice_get-get_or, slice_get_within}
 use Rattle.machine_theory.specs.Memory.{IsMemory, word_at, written, Granule, tagged}
 use Rattle.class_table.specs.Layout.{Partition, slot_count, slot_of}
+use Rattle.class_table.specs.Sizes.{largest_counted}
 use Rattle.class_table.specs.Tables.{IsLegalTable}
 use Rattle.heap_theory.proofs.TheoryLemmas as laws
 use Rattle.heap_theory.specs.Header.{Standing, code_of, standing_of, first_word, second_word, header_of, header_at, with_header, size_of, class_number, header_for, Header, FitsWords}
@@ -111,8 +112,8 @@ pub class_number-few : (step : ℕ) (layout : Partition) (s : ℕ) → IsLegalTa
     class_number layout s < 32
 class_number-few step layout s table within = grind (arith, slice_get_within, class_number-is)
 
--- a slot's size is at most 16,368 bytes
-pub size_of-most : (x : State) (class : ℕ) → chunk_granules_of x < class → class ≤ 1024 → size_of x ≤ 16368
+-- a slot's size is at most the largest that is counted
+pub size_of-most : (x : State) (class : ℕ) → chunk_granules_of x < class → class ≤ 1024 → size_of x ≤ largest_counted
 size_of-most x0 class room most = grind arith
 
 pub header_for-fits : (heap : Heap) (s next : ℕ) → IsSoundHeap heap → IsSlot heap s → next < 2 ^ 32 → heap.total < 2 ^ 64 →

@@ -3,7 +3,7 @@ use thiserror::Error;
 /// Why a request gets no slot, in the order of the tests. Each is shown as its code and name.
 #[derive(Debug, Clone, Copy, PartialEq, Eq, Error)]
 pub enum NullCause {
-    /// The request is larger than 16,368 bytes.
+    /// The request is larger than any that a class serves.
     #[error("60 Large")]
     Large,
     /// No class of the table serves the request.

@@ -14,7 +14,7 @@ pub enum HistoryFault {
     BadSnapshots,
     /// A later line does not have T numbers after its first word.
     WrongLength,
-    /// A later line has a fault that a line of a profile can have too. `BadLine`: its first word is neither a number up to 16,368 nor
+    /// A later line has a fault that a line of a profile can have too. `BadLine`: its first word is neither a counted size nor
     /// `large`; or another word is no number; or it follows the `large` line. `NotAscending`: its size is not above the last one.
     /// `CountOutOfRange`: a number is above 1,000,000,000, or all are 0. `BadLine` is tested before `WrongLength`, the others after it.
     Counted(ProfileFault),

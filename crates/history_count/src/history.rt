@@ -16,7 +16,7 @@ use class_table::ClassTable;
 use profile_count::Profile;
 use std::marker::Model;
 
-/// How many blocks of each size from 0 to 16,368 bytes were live at each of 1 to 1,024 snapshots, and how many larger ones. Each count is at
+/// How many blocks of each size up to `LARGEST_COUNTED` were live at each of 1 to 1,024 snapshots, and how many larger ones. Each count is at
 /// most 1,000,000,000.
 #[derive(Debug, Drop)]
 pub struct History {
@@ -84,7 +84,7 @@ impl History {
         &self.lines.peaks
     }
 
-    /// How many blocks of sizes above 16,368 bytes were live at each snapshot. They count for nothing.
+    /// How many blocks of larger sizes were live at each snapshot. They count for nothing.
     pub fn large(&self) -> &[u32]
         ensures { result.now ≡ self.now.large }
     {

@@ -24,7 +24,7 @@ const MOST: u64 = MOST_SNAPSHOTS as u64;
 pub(crate) enum Subject {
     /// Blocks of this size, in bytes.
     Size(u32),
-    /// Blocks of sizes above 16,368 bytes.
+    /// Blocks of larger sizes than are counted.
     Large,
 }
 

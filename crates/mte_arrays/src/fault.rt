@@ -12,7 +12,7 @@ pub enum ArrayError {
     OutOfMemory,
     /// The classes are refused.
     Table(TableError),
-    /// The entry of this index, counted from 0, is the first faulty one of the profile: its size is above 16,368 (`BadLine`) or not above
+    /// The entry of this index, counted from 0, is the first faulty one of the profile: its size is above `LARGEST_COUNTED` (`BadLine`) or not above
     /// the size before it, or its count is not from 1 to 1,000,000,000.
     Entry(u64, ProfileFault),
     /// The limit is not from 1 to 32, or the step is not 1, 2, 4 or 8.

@@ -22,8 +22,8 @@ ghost use Rattle.heap_theory.specs.Config.{IsConfig};
 mod arrays;
 mod heap;
 
-use handed_text::{HandedText, MISUSE};
-use mte_calls::{DONE, Ending, OUT_OF_MEMORY, Options};
+use handed_text::{DONE, HandedText, MISUSE, OUT_OF_MEMORY};
+use mte_calls::{Ending, Options};
 use std::alloc::Global;
 
 /// The version of this interface.

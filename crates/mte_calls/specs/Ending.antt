@@ -1,14 +1,13 @@
 -- What C is told of the end of a call.
 use Rattle.std.specs.Prelude.{◌≡◌, ℕ, List, ◌++◌, Some, unwrap_or, Result}
 use Rattle.handed_text.specs.Bytes.{bytes_of}
-use Rattle.handed_text.specs.declared.ends.TheConstants.{MISUSE}
+use Rattle.handed_text.specs.declared.ends.TheConstants.{BAD_OPTION, DONE, MISUSE, NO, OUT_OF_MEMORY, REFUSED}
 use Rattle.handed_text.specs.declared.text.HandedText.{HandedText}
 use Rattle.line_text.specs.Numbers.{leading_number_of}
 use Rattle.mte_calls.specs.Answered.{IsAnswered, IsAnsweredIf, IsCalled}
 use Rattle.mte_calls.specs.declared.ended.Ended.{Ended}
 use Rattle.mte_calls.specs.declared.ended.Ended.TheVariants.{Done as HasDone, No as HasNo, Refused as IsRefused, OutOfMemory as RanOut, BadOption as HasBadOption, Misuse as IsMisuse}
 use Rattle.mte_calls.specs.declared.structures.Ending.{Ending}
-use Rattle.mte_calls.specs.declared.structures.TheConstants.{DONE, NO, REFUSED, OUT_OF_MEMORY, BAD_OPTION}
 use Rattle.mte_engine.specs.FaultLines.{line_of_fault}
 use Rattle.mte_engine.specs.FaultText.{shown_input_fault}
 use Rattle.mte_engine.specs.Outcome.{Answer}

@@ -13,4 +13,4 @@ mod two_parts;
 pub use calls::{check, check_fit, fit, footprint, profile, replay, run, score, tune};
 pub use ended::Ended;
 pub use faults::{code_of, line_of};
-pub use structures::{BAD_OPTION, DONE, Ending, NO, OUT_OF_MEMORY, Options, REFUSED};
+pub use structures::{Ending, Options};

@@ -1,25 +1,10 @@
-//! The structures and numbers that cross to C.
+//! The structures that cross to C.
 ghost use Rattle.std.specs.Prelude.{◌≡◌};
 
 use crate::ended::Ended;
 use crate::faults::{code_of, line_of};
-use handed_text::MISUSE;
+use handed_text::{BAD_OPTION, DONE, MISUSE, NO, OUT_OF_MEMORY, REFUSED};
 use replay_core::Config;
-
-/// Done.
-pub const DONE: u32 = 0;
-
-/// Done, and the verdict is no.
-pub const NO: u32 = 1;
-
-/// The input is refused.
-pub const REFUSED: u32 = 2;
-
-/// The allocator refused memory.
-pub const OUT_OF_MEMORY: u32 = 3;
-
-/// An option is out of its range.
-pub const BAD_OPTION: u32 = 4;
 
 /// The options. A call reads those that are its own.
 #[repr(C)]

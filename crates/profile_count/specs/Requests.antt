@@ -9,7 +9,7 @@ use Rattle.profile_count.specs.Counts.{with_one_more}
 abbrev pub requests_of : List ℕ → ℕ → ℕ
 requests_of sizes n = count_by (λ size. size == n) sizes
 
--- How many of them are of more than 16,368 bytes.
+-- How many of them are large.
 abbrev pub large_requests : List ℕ → ℕ
 large_requests sizes = count_by (λ size. nat_lt largest_counted size) sizes
 
@@ -17,7 +17,7 @@ large_requests sizes = count_by (λ size. nat_lt largest_counted size) sizes
 unfoldable pub requests_below : ℕ → List ℕ → List ℕ
 requests_below n sizes = map (requests_of sizes) (range_with_len 0 n)
 
--- For each size up to 16,368 bytes the number of its requests, and the number of those above.
+-- For each counted size the number of its requests, and the number of those above.
 abbrev pub profile_of_sizes : List ℕ → Profile
 profile_of_sizes sizes = record { counts = requests_below (largest_counted + 1) sizes; large = large_requests sizes }
 

@@ -17,7 +17,7 @@ pub const LARGE: &[u8] = b"large";
 pub enum Entry {
     /// Requests of a size, in bytes, and how many of them.
     Size(u32, u32),
-    /// How many requests of sizes above 16,368 bytes.
+    /// How many large requests.
     Large(u32),
 }
 

@@ -10,7 +10,7 @@ use thiserror::Error;
 /// What is wrong with a line of a profile, in the order of the tests. Each is shown as its code and name.
 #[derive(Debug, Clone, Copy, PartialEq, Eq)]
 pub enum ProfileFault {
-    /// The line has neither form: a number up to 16,368, a space and a number; or `large`, a space and a number. Or it follows a `large`
+    /// The line has neither form: a counted size, a space and a number; or `large`, a space and a number. Or it follows a `large`
     /// line.
     BadLine,
     /// The size is not above that of the line before.

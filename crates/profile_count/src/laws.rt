@@ -21,7 +21,7 @@ pub fn law_profile_fault()
         → (p : Profile) × SpellsProfile (text_of (take (n - 1) (lines text))) p }
 {}
 
-/// The profile of requests counts the requests of each size up to 16,368 bytes, and those above.
+/// The profile of requests counts the requests of each counted size, and the large ones.
 pub fn law_counted_requests()
     ensures { (sizes : List ℕ) → CountsRequests (profile_of_sizes sizes) sizes }
 {}

@@ -15,7 +15,7 @@ use tuner_theory::GREATEST_COUNT;
 // a count for each size up to the largest that is counted
 const SIZES: usize = LARGEST_COUNTED as usize + 1;
 
-/// How often each size from 0 to 16,368 bytes was requested, and how often larger sizes were. Each count is at most 1,000,000,000.
+/// How often each size up to `LARGEST_COUNTED` was requested, and how often larger sizes were. Each count is at most 1,000,000,000.
 #[derive(Debug, Drop)]
 pub struct Profile {
     counts: Vec<u32>,
@@ -41,7 +41,7 @@ impl Profile {
         Ok(Profile { counts, large: 0 })
     }
 
-    /// How often a size of `n` bytes (0 to 16,368) was requested, 0 to 1,000,000,000 times.
+    /// How often a size of `n` bytes (0 to `LARGEST_COUNTED`) was requested, 0 to 1,000,000,000 times.
     pub fn count(&self, n: u32) -> u32
         requires { n ≤ LARGEST_COUNTED }
         ensures count { result ≡ slice_index self.now.counts n }
@@ -50,7 +50,7 @@ impl Profile {
         self.counts[n as usize]
     }
 
-    /// How often a size above 16,368 bytes was requested, 0 to 1,000,000,000 times.
+    /// How often a larger size was requested, 0 to 1,000,000,000 times.
     pub fn large(&self) -> u32
         ensures large { result ≡ self.now.large }
         ensures profile { IsProfile self.now }
@@ -58,7 +58,7 @@ impl Profile {
         self.large
     }
 
-    /// Counts one more request of `n` bytes. Any `n` is allowed. Above 16,368 the request counts as large.
+    /// Counts one more request of `n` bytes. Any `n` is allowed. Above `LARGEST_COUNTED` the request counts as large.
     /// The error is that its count is 1,000,000,000 already. The profile is then unchanged.
     pub fn add(&mut self, n: u32) -> Result<(), CountFull>
         ensures added { OnOk result (self.new ≡ with_one_more self.old n) }
@@ -73,7 +73,7 @@ impl Profile {
         Ok(())
     }
 
-    /// Sets the count of a size of `n` bytes (0 to 16,368) to 0 to 1,000,000,000.
+    /// Sets the count of a size of `n` bytes (0 to `LARGEST_COUNTED`) to 0 to 1,000,000,000.
     pub fn set_count(&mut self, n: u32, count: u32)
         requires size { n ≤ LARGEST_COUNTED }
         requires count { count ≤ GREATEST_COUNT }

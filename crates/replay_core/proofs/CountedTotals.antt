@@ -1,17 +1,17 @@
 -- What is lost on a request, and how large totals become.
 use Rattle.std.proofs.Common.{◌≡◌, ℕ, suc, ◌+◌, ◌*◌, ◌^◌, ◌<◌, ◌≤◌, Bool, true, false, cond, List, [], ◌∷◌, ap, ◌∙◌, arith, Option, Some, None, All, is_some}
 use Rattle.std.specs.Option.{option_map_or}
-use Rattle.class_table.specs.Sizes.{loss_of, serves}
+use Rattle.class_table.specs.Sizes.{largest_counted, loss_of, serves}
 use Rattle.class_table.specs.Tables.{IsLegalTable, class_for, loss_of_size}
 use Rattle.trace_event.specs.declared.event.Event.{Event}
 use Rattle.replay_theory.specs.Replay.{Answer, is_large, is_no_class, is_exhausted, is_tag_fault, is_unmapped, is_refused, is_silent}
 use Rattle.replay_theory.specs.Totals.{Totals, is_request, request_size, loss_of_request, loss_of_event, one_if, totals_after, with_answer, with_request}
 use Rattle.replay_core.specs.TotalsBounds.{AreBounded}
 
-loss_of_size-le : (classes : List ℕ) (n : ℕ) → All (λ class. (2 ≤ class) × (class ≤ 1024)) classes → loss_of_size classes n ≤ 16368
+loss_of_size-le : (classes : List ℕ) (n : ℕ) → All (λ class. (2 ≤ class) × (class ≤ 1024)) classes → loss_of_size classes n ≤ largest_counted
 loss_of_size-le [] n legal = omega arith
 loss_of_size-le (class ∷ classes) n legal =
-    elim (serves n class) as (λ b. option_map_or (loss_of n) (cond b (Some class) (class_for classes n)) 0 ≤ 16368) [
+    elim (serves n class) as (λ b. option_map_or (loss_of n) (cond b (Some class) (class_for classes n)) 0 ≤ largest_counted) [
       | true ↦ omega (arith, (legal 0 0 (omega arith)).1)
       | false ↦ loss_of_size-le classes n (λ i d within. legal (suc i) d (omega arith))
     ]
@@ -21,10 +21,10 @@ one_if-le true = omega arith
 one_if-le false = omega arith
 
 loss_of_event-le : (classes : List ℕ) (p : Event × Answer) → IsLegalTable 1 classes →
-    loss_of_event classes p ≤ 16368 * one_if (is_request p.0)
+    loss_of_event classes p ≤ largest_counted * one_if (is_request p.0)
 loss_of_event-le classes p legal = by_test (is_silent p.1) (request_size p.0)
   where
-    by_test : (b : Bool) (size : Option ℕ) → cond b (loss_of_request classes size) 0 ≤ 16368 * one_if (is_some size)
+    by_test : (b : Bool) (size : Option ℕ) → cond b (loss_of_request classes size) 0 ≤ largest_counted * one_if (is_some size)
     by_test true (Some n) = omega (arith, loss_of_size-le classes n legal.in_range)
     by_test true None = omega arith
     by_test false (Some n) = omega arith

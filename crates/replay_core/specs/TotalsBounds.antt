@@ -3,7 +3,7 @@ use Rattle.std.specs.Prelude.{◌*◌, ◌^◌, ◌≤◌}
 use Rattle.class_table.specs.Sizes.{largest_counted}
 use Rattle.replay_theory.specs.Totals.{Totals}
 
--- Each total is at most the number of events, and the loss at most 16,368 bytes for each request. There are at most 2^40 events.
+-- Each total is at most the number of events, and the loss at most the largest counted size for each request. There are at most 2^40 events.
 pub record AreBounded (t : Totals) : Type 0 where
   pub events : t.events ≤ 2 ^ 40
   pub requests : t.requests ≤ t.events

@@ -26,7 +26,7 @@ pub struct Totals {
     pub events: u64,
     /// The requests, whatever their results.
     pub requests: u64,
-    /// The requests that were refused because they ask for more than 16,368 bytes.
+    /// The requests that were refused because they ask for more than any class serves.
     pub null_large: u64,
     /// The requests that were refused because no class serves them.
     pub null_no_class: u64,

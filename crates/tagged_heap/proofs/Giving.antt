@@ -50,7 +50,7 @@ request_refused h n NoClass none =
     (le-ltb _ _ none.0) ∙ ap (λ o. ok_or o NoClass) class)
 request_refused h n Exhausted none = absurd none
 
-pub request_served : (h : Heap) (n number class : ℕ) (found : Option ℕ) → n ≤ 16368 → class_number_for h.layout.classes n ≡ Some number →
+pub request_served : (h : Heap) (n number class : ℕ) (found : Option ℕ) → n ≤ largest_counted → class_number_for h.layout.classes n ≡ Some number →
     slice_get h.layout.classes number ≡ Some class → slot_for h class ≡ found → slot_for_request h n ≡ ok_or found Exhausted
 unfolding slot_for_request
 request_served h n number class found few numbered listed given = grind (arith, cond-false, le-ltb, listed, laws.class_by_number)
@@ -73,7 +73,7 @@ pub record IsTaken (h : Heap) (p : Parts) (k : IsKept h p) (m1 : List Granule) (
   pub agree : AgreeWithMarks (given_out h s n) k.queue lists
   pub fresh : AreFirstFresh (given_out h s n) counters
 
-module _ {h : Heap} {frees : ℕ} {p : Parts} {counters : List ℕ} (held : IsAtRest h frees p counters) (n number : ℕ) (few : n ≤ 16368)
+module _ {h : Heap} {frees : ℕ} {p : Parts} {counters : List ℕ} (held : IsAtRest h frees p counters) (n number : ℕ) (few : n ≤ largest_counted)
     (numbered : class_number_for h.layout.classes n ≡ Some number) (within : number < length h.layout.classes) where
   listed : slice_get h.layout.classes number ≡ Some (slice_index h.layout.classes number)
   listed = slice_get-get_or h.layout.classes number 0 within
@@ -206,7 +206,7 @@ has_class {h} {frees} {p} {counters} held number within =
 module _ {h : Heap} {frees : ℕ} {p : Parts} {counters : List ℕ} (held : IsAtRest h frees p counters) {m1 : List Granule}
     {fronts counters' : List ℕ} {s n : ℕ}
     (t : IsTaken h p held.kept m1 fronts counters' s n) where
-  pub taken_room : n ≤ 16368 → HasRoom h.layout m1 s n
+  pub taken_room : n ≤ largest_counted → HasRoom h.layout m1 s n
   taken_room few = grind (arith, class_few, length-without_headers)
 
   drawn_is : tag_for h.layout (record { memory = m1; seed = h.seed; tag = h.tag }) s ≡ next_tag h s

@@ -8,7 +8,7 @@ use Rattle.heap_theory.specs.declared.place_kind.PlaceKind.TheVariants.{Slack, H
 use Rattle.heap_theory.specs.Header.{Header as TheHeader, Standing, size_of}
 use Rattle.heap_theory.specs.Header.Standing.{Fresh as IsFresh, Live as IsLive, Quarantined as IsQuarantined, Freed as IsFreed}
 use Rattle.heap_theory.specs.GranuleKinds.{place_kind, kind_at, kind_of_chunk}
-use Rattle.class_table.specs.Sizes.{chunk_granules}
+use Rattle.class_table.specs.Sizes.{chunk_granules, largest_counted}
 use Rattle.heap_theory.specs.State.{State, Heap, slot_in, state_at, chunk_granules_of, payload_start, IsSlot}
 use Rattle.heap_theory.proofs.HeaderWords.{size_of-most}
 use Rattle.heap_theory.specs.State.State.{Fresh, Live, Dead}
@@ -59,7 +59,7 @@ module _ {h : Heap} {p : Parts} (k : IsKept h p) {g s : ℕ} (before : ℕ) (the
   size_is : (header_in (region_of h.layout p.memory) s).size ≡ size_of (state_at h s)
   size_is = ap (λ (x : TheHeader). x.size) (k.headers.headers s in_range)
 
-  pub size_few : (header_in (region_of h.layout p.memory) s).size ≤ 16368
+  pub size_few : (header_in (region_of h.layout p.memory) s).size ≤ largest_counted
   size_few = grind (arith, class_most, in_range, size_is, size_of-most)
 
   module _ (other : before ≢ 0) where

@@ -9,7 +9,7 @@ use Rattle.heap_theory.specs.HeapInMemory.{IsKeptIn}
 use Rattle.heap_theory.specs.Links.{list_of}
 use Rattle.heap_theory.specs.Region.{region_of, headers_of, next_in, no_header}
 use Rattle.heap_theory.specs.Sound.{IsSoundHeap}
-use Rattle.class_table.specs.Sizes.{chunk_granules}
+use Rattle.class_table.specs.Sizes.{chunk_granules, largest_counted}
 use Rattle.heap_theory.specs.State.{State, Heap, slot_in, state_at, IsSlot}
 use Rattle.heap_theory.specs.State.State.{Fresh, Live, Dead}
 use Rattle.heap_theory.proofs.Regions.{length-headers_of}
@@ -30,7 +30,7 @@ class_few h s sound in_range = laws.class_number_few 1 h.layout s sound.partitio
 pub class_most : (h : Heap) (s : ℕ) → IsSoundHeap h → IsSlot h s → (slot_in h s).class ≤ 1024
 class_most h s sound in_range = laws.classes_small 1 h.layout s sound.partition.table in_range
 
-pub size_most : (n class : ℕ) → chunk_granules n < class → class ≤ 1024 → n ≤ 16368
+pub size_most : (n class : ℕ) → chunk_granules n < class → class ≤ 1024 → n ≤ largest_counted
 size_most n class room most = omega arith
 
 -- ---- headers
@@ -74,7 +74,7 @@ module _ {h : Heap} {p : Parts} (k : IsKept h p) where
       IsListed h (slice_index h.layout.classes number) k.from s
   list_slot number s within there = list_dead h _ k.from (list_of k.lists number) s (k.agree.freed number within) there
 
-  pub has_room : (s n : ℕ) → IsSlot h s → n ≤ 16368 → chunk_granules n < (slot_in h s).class → HasRoom h.layout p.memory s n
+  pub has_room : (s n : ℕ) → IsSlot h s → n ≤ largest_counted → chunk_granules n < (slot_in h s).class → HasRoom h.layout p.memory s n
   has_room s n in_range few room = grind (arith, class_few, region_is)
 
   -- ---- the parts show the heap

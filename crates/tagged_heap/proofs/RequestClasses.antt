@@ -6,7 +6,7 @@ use Rattle.std.proofs.lemmas.Bool.{cases_eq, cond-true, cond-false, eq-eqb, eqb-
 use Rattle.std.proofs.lemmas.List.Quantifiers.{position-Some}
 use Rattle.std.proofs.lemmas.Option.{slice_get-get_or, slice_get_within, get_or_from_slice_get}
 use Rattle.class_table.specs.Layout.{Slot}
-use Rattle.class_table.specs.Sizes.{serves, chunk_granules}
+use Rattle.class_table.specs.Sizes.{serves, chunk_granules, largest_counted}
 use Rattle.class_table.specs.Tables.{IsLegalTable, class_number_for}
 use Rattle.heap_theory.specs.declared.refusal.NullCause.{NullCause}
 use Rattle.heap_theory.specs.declared.refusal.NullCause.TheVariants.{Large, NoClass, Exhausted}
@@ -18,16 +18,16 @@ use Rattle.tagged_heap.proofs.TheoryLemmas as laws
 use Rattle.tagged_heap.specs.ClassSlots.{IsCauseFor}
 
 module _ (h : Heap) (n : ℕ) where
-  pub class_for_is : (r : Result ℕ NullCause) → IfOk r (λ k. (n ≤ 16368) × (class_number_for h.layout.classes n ≡ Some k)) →
+  pub class_for_is : (r : Result ℕ NullCause) → IfOk r (λ k. (n ≤ largest_counted) × (class_number_for h.layout.classes n ≡ Some k)) →
       IfErr r (IsCauseFor h.layout.classes n) → class_for_request h n ≡ result_map_both (λ k. slice_index h.layout.classes k) (λ e. e) r
   class_for_is (Ok k) ok err =
       let there = position-Some (serves n) h.layout.classes k 0 ok.1 in
-      cond-false (ltb 16368 n) _ _ (le-ltb 16368 n ok.0)
+      cond-false (ltb largest_counted n) _ _ (le-ltb largest_counted n ok.0)
       ∙ ap (λ o. ok_or o NoClass) (laws.class_by_number n h.layout.classes ∙ ap (option_and_then (slice_get h.layout.classes)) ok.1
       ∙ slice_get-get_or h.layout.classes k 0 there.0)
-  class_for_is (Err Large) ok err = cond-true (ltb 16368 n) _ _ (lt-ltb 16368 n err)
+  class_for_is (Err Large) ok err = cond-true (ltb largest_counted n) _ _ (lt-ltb largest_counted n err)
   class_for_is (Err NoClass) ok err =
-      cond-false (ltb 16368 n) _ _ (le-ltb 16368 n err.0)
+      cond-false (ltb largest_counted n) _ _ (le-ltb largest_counted n err.0)
       ∙ ap (λ o. ok_or o NoClass) (laws.class_by_number n h.layout.classes ∙ ap (option_and_then (slice_get h.layout.classes)) err.1)
   class_for_is (Err Exhausted) ok err = absurd err
 
@@ -45,12 +45,12 @@ module _ (h : Heap) (n : ℕ) where
 
   pub stays_is : (slot : Slot) (number : ℕ) (cause_eq : NullCause → NullCause → Bool) (r : Result ℕ NullCause) →
       IsLegalTable 1 h.layout.classes →
-      slice_get h.layout.classes number ≡ Some slot.class → IfOk r (λ k. (n ≤ 16368) × (class_number_for h.layout.classes n ≡ Some k)) →
+      slice_get h.layout.classes number ≡ Some slot.class → IfOk r (λ k. (n ≤ largest_counted) × (class_number_for h.layout.classes n ≡ Some k)) →
       IfErr r (IsCauseFor h.layout.classes n) → result_eq nat_eq cause_eq r (Ok number) ≡ is_class_of slot (class_for_request h n)
   stays_is slot number cause_eq x3 legal at ok err = grind (arith, class_for_is, position-Some, same_test)
 
   pub room_in_class : (slot : Slot) (number : ℕ) (cause_eq : NullCause → NullCause → Bool) (r : Result ℕ NullCause) → 2 ≤ slot.class →
-      slice_get h.layout.classes number ≡ Some slot.class → IfOk r (λ k. (n ≤ 16368) × (class_number_for h.layout.classes n ≡ Some k)) →
+      slice_get h.layout.classes number ≡ Some slot.class → IfOk r (λ k. (n ≤ largest_counted) × (class_number_for h.layout.classes n ≡ Some k)) →
       result_eq nat_eq cause_eq r (Ok number) ≡ true → chunk_granules n < slot.class
   room_in_class slot number cause_eq (Ok k) wide at ok same =
       let there = position-Some (serves n) h.layout.classes k 0 ok.1 in

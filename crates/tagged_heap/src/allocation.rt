@@ -42,7 +42,7 @@ impl Heap {
     /// Gives out a chunk of `n` bytes. Returns the address of its first byte, with the chunk's tag. The bytes of the chunk keep their
     /// values.
     ///
-    /// Errors, after which nothing has changed: `Large` if `n` is above 16,368; otherwise `NoClass` if no class serves it; otherwise
+    /// Errors, after which nothing has changed: `Large` if `n` is above `LARGEST_COUNTED`; otherwise `NoClass` if no class serves it; otherwise
     /// `Exhausted` if its class has no slot left.
     #[tactic(auto, unfolding(heap_theory::specs::Calls::malloc_step))]
     pub fn malloc(&mut self, n: u32) -> Result<u64, NullCause>

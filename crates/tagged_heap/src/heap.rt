@@ -84,7 +84,7 @@ impl Heap {
         self.frees
     }
 
-    /// The bytes that a request of `n` bytes leaves unused in a block of its class, 0 to 16,368; 0 if no class serves it.
+    /// The bytes that a request of `n` bytes leaves unused in a block of its class; 0 if no class serves it.
     pub fn loss(&self, n: u32) -> u32
         ensures loss { result ≡ loss_of_size self.now.state.layout.classes n }
         ensures small { result ≤ largest_counted }

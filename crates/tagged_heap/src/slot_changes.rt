@@ -19,7 +19,7 @@ use chunk_header::{Header, State, write};
 use class_table::{Layout, Slot};
 use tag_machine::Machine;
 
-/// Gives out the slot that lies at `place` for `n` bytes, at most 16,368, for which it must have room. Draws a tag, writes the header and
+/// Gives out the slot that lies at `place` for `n` bytes, at most `LARGEST_COUNTED`, for which it must have room. Draws a tag, writes the header and
 /// tags the chunk. Returns the address of the payload under that tag.
 #[inline(always)]
 pub(crate) fn give_out(

@@ -11,7 +11,7 @@ ghost use Rattle.std.specs.Prelude.{◌≡◌, ◌+◌, ◌^◌, ◌<◌, ◌≤
 use class_table::{LARGEST_CLASS, Slot, need};
 use tag_machine::Machine;
 
-/// The granules of the chunk for a request of `n` bytes, at most 16,368.
+/// The granules of the chunk for a request of `n` bytes, at most `LARGEST_COUNTED`.
 pub(crate) fn chunk_granules(n: u32) -> u32
     requires { n ≤ largest_counted }
     ensures granules { result ≡ chunk_granules n }

@@ -12,7 +12,7 @@ pub record Profile : Type 0 where
 abbrev pub greatest_count : ℕ
 greatest_count = GREATEST_COUNT
 
--- Counts as a profile keeps them: of each size up to 16,368 bytes.
+-- Counts as a profile keeps them: of each size up to the largest that is counted.
 pub record AreCounts (counts : List ℕ) : Type 0 where
   pub sizes : length counts ≡ largest_counted + 1
   pub in_range : All (λ count. count ≤ greatest_count) counts

@@ -32,7 +32,6 @@ typedef uintptr_t address;
 #define BLOCKS ((struct block *)(ARENA + 5 * ARENA_SIZE))
 #define MOST_BLOCKS ((address)1 << 28)
 #define CHUNK ((address)1 << 20)  // memory is taken and goes back by chunks
-enum { GREATEST = 16368 };        // the largest request that the heap of the replay serves
 
 // The shadow: each eight bytes of the address space have a byte. The compiler's check goes on where it is 0, or greater than the place of
 // the access's last byte in the eight; else it calls a hook. The shadow is 0 outside the arena. In the arena it is closed, but for the

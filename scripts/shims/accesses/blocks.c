@@ -3,6 +3,7 @@
 // at the first and the last byte of a struct. And an address names its block also after the block's free; the rest of a mebibyte is its
 // last block's. The memory of freed blocks goes back to the system a mebibyte at a time, once another 64 MiB were freed; then their
 // addresses are owned by nobody.
+#include "../formats.h"
 #include "accesses.h"
 #include <errno.h>
 #include <stdlib.h>
@@ -122,7 +123,7 @@ static struct block *new_block(size_t size, size_t alignment) {
   live_in_chunk[block->chunk]++;
   address rest = is_large ? round_up(end, CHUNK) : end;
   own(next, rest, last_block);
-  if (size > GREATEST || !logs_right()) know_all(block);
+  if (size > LARGEST_SIZE || !logs_right()) know_all(block);
   next = rest;
   return block;
 }

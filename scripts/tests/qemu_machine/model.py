@@ -150,7 +150,7 @@ class Heap:
 
     def refusal(self, n):
         """Why no class serves n, or None."""
-        return "null large" if n > 16368 else "null no-class" if self.class_of(n) is None else None
+        return "null large" if n > 16 * 1024 - 16 else "null no-class" if self.class_of(n) is None else None
 
     def next_slot(self, kind):
         """The slot that is given out next, and the list that it is in."""

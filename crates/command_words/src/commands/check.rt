@@ -22,9 +22,9 @@ Standard input is a sheet, and then a profile:
   waste W            the bytes that the table is said to waste
   row N1 N2 ..       K rows with a number for each distinct need; all `row` lines that follow at
                      once belong to the sheet
-  SIZE COUNT         the profile: a size in bytes, 0 to 16368, and how often it was requested, 1 to
+  SIZE COUNT         the profile: a size in bytes, 0 to " largest ", and how often it was requested, 1 to
                      1000000000; sizes ascend
-  large COUNT        how often more than 16368 bytes were requested; the last line, if it is there
+  large COUNT        how often more than " largest " bytes were requested; the last line, if it is there
 
 The output is one line:
 
@@ -52,7 +52,7 @@ writes `optimal`: a sheet of `tune` proves that its table wastes least. docs/CER
 repository shows how to write a sheet by hand.
 
 Refused input, exit status 2:
-  48 BadSheet          a line of the sheet has none of the forms above, or is missing",
+  48 BadSheet          a line is not of a sheet's form, or is missing",
     profile_refusals
 );
 

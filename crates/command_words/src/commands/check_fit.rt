@@ -51,7 +51,7 @@ Example:
 writes `optimal`: a fit of `fit` proves that its table takes least.
 
 Refused input, exit status 2:
-  36 BadFit            a line of the fit has none of the forms above, or is missing",
+  36 BadFit            a line is not of a fit's form, or is missing",
     history_refusals
 );
 

@@ -13,9 +13,9 @@ pub const AFTER: &str = help_text!(
     trace_lines,
     "The output is a profile, the input of `tune`:
 
-  SIZE COUNT         a size of malloc, calloc and realloc, 0 to 16368, and how often it was
+  SIZE COUNT         a size of malloc, calloc and realloc, 0 to " largest ", and how often it was
                      requested, also where the heap would refuse it; sizes ascend
-  large COUNT        how often more than 16368 bytes were requested, if they were
+  large COUNT        how often more than " largest " bytes were requested, if they were
 
 Example:
   printf 'malloc 1 16\\nmalloc 2 40\\nfree 1\\ncalloc 1 16\\n' | mte_tool profile

@@ -31,7 +31,7 @@ loaded, faulted or was refused:
   E fault tag granule G memory M pointer P in KIND
                         granule G has the tag M, and the pointer the tag P; the access did nothing;
                         KIND is what the granule is: slack, header, tail, dead or other
-  E null large          null was returned: more than 16368 bytes were requested,
+  E null large          null was returned: more than " largest " bytes were requested,
   E null no-class       no class serves the size,
   E null exhausted      or no slot of its class is left
   E refused misplaced   a free or realloc was refused: its pointer is no slot's first payload byte,

@@ -30,7 +30,7 @@ pub const AFTER: &str = help_text!(
   classes C1 C2 ..   the table
   limit K            the most classes that it was allowed
   step S             each class is a multiple of it; no such line for 1
-  waste W            the bytes that all requests of up to 16368 bytes together leave unused in their
+  waste W            the bytes that all requests of up to " largest " bytes together leave unused in their
                      blocks
   row N1 N2 ..       K rows, which prove that no table of at most K classes that are multiples of S,
                      and that serves each counted size, wastes less

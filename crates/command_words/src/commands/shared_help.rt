@@ -94,9 +94,10 @@ macro_rules! about {
 // A command's text after its options. A part of it is a literal, or a word for what several commands say:
 // - `class_line` and `profile_lines`: the forms of these lines (`check` says them in words of its own)
 // - `history_lines`: the forms of a history's lines
+// - `largest`: the largest size that is counted
 // - `trace_lines`: the forms of a trace's lines
 // - `step_refusals`: the refusals of an option `--step`, with their head
-// - `class_line_refusals`: those of a class line
+// - `class_line_refusals` and `count_refusals`: those of a class line, and of lines with sizes and counts
 // - `profile_refusals`, `history_refusals` and `trace_refusals`: those of a profile, of a history and of a trace, and the failures, which
 //   end the text
 macro_rules! help_text {
@@ -111,19 +112,22 @@ macro_rules! help_text {
             "  classes C1 C2 ..   up to 32 block sizes in granules of 16 bytes, from 2 to 1024, ascending"] $($rest)*)
     };
     (@[$($done:tt)*] profile_lines $($rest:tt)*) => {
-        help_text!(@[$($done)*
-            "  SIZE COUNT         a size in bytes, 0 to 16368, and how often it was requested, 1 to 1000000000;
+        help_text!(@[$($done)*]
+            "  SIZE COUNT         a size in bytes, 0 to " largest ", and how often it was requested, 1 to 1000000000;
                      sizes ascend
-  large COUNT        how often more than 16368 bytes were requested, if they were; it is the last
-                     line, and is not in the waste"] $($rest)*)
+  large COUNT        how often more than " largest " bytes were requested, if they were; it is the last
+                     line, and is not in the waste" $($rest)*)
     };
     (@[$($done:tt)*] history_lines $($rest:tt)*) => {
-        help_text!(@[$($done)*
+        help_text!(@[$($done)*]
             "  snapshots T        the number of moments at which blocks were counted, 1 to 1024
-  SIZE N1 .. NT      a size in bytes, 0 to 16368, and how many blocks of it were live at each
+  SIZE N1 .. NT      a size in bytes, 0 to " largest ", and how many blocks of it were live at each
                      snapshot, 0 to 1000000000, not all of them 0; sizes ascend
-  large N1 .. NT     how many blocks of more than 16368 bytes were, if any; it is the last line, and
-                     is not in the footprint"] $($rest)*)
+  large N1 .. NT     how many blocks of more than " largest " bytes were, if any; it is the last line, and
+                     is not in the footprint" $($rest)*)
+    };
+    (@[$($done:tt)*] largest $($rest:tt)*) => {
+        help_text!(@[$($done)* "16368"] $($rest)*)
     };
     (@[$($done:tt)*] trace_lines $($rest:tt)*) => {
         help_text!(@[$($done)* "
@@ -148,25 +152,24 @@ of each event. "] $($rest)*)
     };
     (@[$($done:tt)*] class_line_refusals $($rest:tt)*) => {
         help_text!(@[$($done)* "
-  20 TooMany           line 1 has more than 32 classes
-  21 OutOfRange        a class of line 1 is not from 2 to 1024
-  22 NotAscending      a class of line 1 is not above the one before it
-  23 BadLine           line 1 is no class line"] $($rest)*)
+  20 TooMany           there are more than 32 classes
+  21 OutOfRange        a class is not from 2 to 1024
+  22 NotAscending      a class is not above the one before it
+  23 BadLine           the class line is not `classes` and then numbers"] $($rest)*)
     };
     (@[$($done:tt)*] profile_refusals $($rest:tt)*) => {
-        help_text!(@[$($done)* "
-  30 BadLine           a line of the profile is none of its two forms, or its size is above 16368
-  31 NotAscending      a size is not above the one before it
-  32 CountOutOfRange   a count is not from 1 to 1000000000"] failures $($rest)*)
+        help_text!(@[$($done)*] count_refusals failures $($rest)*)
     };
     (@[$($done:tt)*] history_refusals $($rest:tt)*) => {
-        help_text!(@[$($done)* "
-  30 BadLine           a later line of the history is none of its two forms, or its size is above
-                       16368
+        help_text!(@[$($done)*] count_refusals "
+  34 BadSnapshots      the history's first line is not `snapshots T`, T from 1 to 1024
+  35 WrongLength       a line does not have T numbers, one for each snapshot" failures $($rest)*)
+    };
+    (@[$($done:tt)*] count_refusals $($rest:tt)*) => {
+        help_text!(@[$($done)*] "
+  30 BadLine           a line is not a size up to " largest ", or `large`, and then counts
   31 NotAscending      a size is not above the one before it
-  32 CountOutOfRange   a number is above 1000000000, or all of a line are 0
-  34 BadSnapshots      the history's first line is not `snapshots T`, or is missing
-  35 WrongLength       a line does not have T numbers"] failures $($rest)*)
+  32 CountOutOfRange   a count is above 1000000000, or all of a line are 0" $($rest)*)
     };
     (@[$($done:tt)*] trace_refusals $($rest:tt)*) => {
         help_text!(@[$($done)* "

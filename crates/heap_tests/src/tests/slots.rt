@@ -6,7 +6,7 @@ ghost use Rattle.std.specs.Prelude.{◌≡◌, ◌<◌, ◌∷◌, [], length, L
 use super::support::same;
 use chunk_header::{Header, State, is_header, link, read, set_link, write};
 use class_lists::ClassLists;
-use class_table::{ClassTable, Layout};
+use class_table::{ClassTable, LARGEST_COUNTED, Layout};
 use granule_memory::Memory;
 use quarantine_core::Quarantine;
 use std::process::Abort;
@@ -45,7 +45,7 @@ fn a_link_is_set_alone(rt: HostRuntime) -> Result<(), Fail> {
     let layout = Layout::new(&table, 64);
     let header = Header {
         state: State::Quarantined,
-        size: 16_368,
+        size: LARGEST_COUNTED as u16,
         tag: 15,
         class: 31,
         next: 131_072,

@@ -66,10 +66,10 @@ const TWO_SIZES: &[u8] = b"16 3\n40 1\n";
 
 const THREE_SIZES: &[u8] = b"16 1\n32 1\n48 1\n";
 
-// one request of no bytes; one of the largest counted size, and a larger one
+// one request of no bytes; one that the largest class alone serves, and a larger one
 const NO_BYTES: &[u8] = b"0 1\n";
 
-const LARGEST: &[u8] = b"16368 1\nlarge 1\n";
+const LARGEST: &[u8] = b"16360 1\nlarge 1\n";
 
 // profiles with a limit and a step each
 const CASES: &[(&[u8], u8, u8)] = &[

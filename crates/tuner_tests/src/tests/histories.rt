@@ -1,11 +1,11 @@
 //! Histories, worked by hand.
 use super::support::same;
-use class_table::ClassTable;
+use class_table::{ClassTable, LARGEST_COUNTED};
 use history_count::History;
 use std::process::Abort;
 use std::test::Fail;
 
-// blocks of 16, 40 and more than 16,368 bytes at three snapshots
+// blocks of 16 and 40 bytes, and large ones, at three snapshots
 const THREE: &str = "snapshots 3\n16 4 0 1\n40 2 3 0\nlarge 0 1 0\n";
 
 // sizes that are live at different moments: a class for each takes more than one for both
@@ -22,7 +22,7 @@ const FOOTPRINTS: &[(&str, &[u16], u64)] = &[
     ("snapshots 1024\n", &[], 0),
     ("snapshots 1\nlarge 1000000000\n", &[], 0),
     (
-        "snapshots 2\n0 0 1000000000\n16368 1000000000 0\n",
+        "snapshots 2\n0 0 1000000000\n16360 1000000000 0\n",
         &[1024],
         1_000_000_000 * 16_384,
     ),
@@ -82,7 +82,7 @@ fn has_snapshots(rt: &impl Abort, history: &History) {
 }
 
 // sizes, and their peaks in it
-const PEAKS: &[(u32, u32)] = &[(0, 0), (16, 4), (17, 0), (40, 3), (16_368, 0)];
+const PEAKS: &[(u32, u32)] = &[(0, 0), (16, 4), (17, 0), (40, 3), (LARGEST_COUNTED, 0)];
 
 fn has_peaks(rt: &impl Abort, history: &History) {
     let peaks = history.peaks();

@@ -79,7 +79,7 @@ fn rest_of_a_text(rt: HostRuntime) {
 const NUMBERS: &[(&str, Number)] = &[
     ("0", Number::Value(0)),
     ("7", Number::Value(7)),
-    ("16368", Number::Value(16368)),
+    ("16360", Number::Value(16360)),
     ("", Number::NoNumber),
     ("00", Number::NoNumber),
     ("01", Number::NoNumber),

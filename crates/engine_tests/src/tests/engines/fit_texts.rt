@@ -27,7 +27,7 @@ const FOOTPRINTS: &[Case] = &[
         "done",
     ),
     (
-        b"classes 1024\nsnapshots 1\n0 1000000000\n16368 1000000000\n",
+        b"classes 1024\nsnapshots 1\n0 1000000000\n16360 1000000000\n",
         "footprint 32768000000000\n",
         "done",
     ),

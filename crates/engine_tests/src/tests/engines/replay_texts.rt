@@ -14,7 +14,7 @@ const TABLES_AND_REFUSALS: &[Case] = &[
     // the most classes, in a line of 158 bytes; a share of two granules has one slot of the first class, and none of another
     Report(
         "classes 2 994 995 996 997 998 999 1000 1001 1002 1003 1004 1005 1006 1007 1008 1009 1010 1011 1012 1013 1014 1015 1016 \
-         1017 1018 1019 1020 1021 1022 1023 1024\nmalloc 1 1\nmalloc 1 1\nmalloc 1 17\nmalloc 1 16368\n",
+         1017 1018 1019 1020 1021 1022 1023 1024\nmalloc 1 1\nmalloc 1 1\nmalloc 1 17\nmalloc 1 16360\n",
         "2 null exhausted\n3 null exhausted\n4 null exhausted\n",
         [4, 4, 0, 0, 3, 0, 0, 0, 15],
     ),

@@ -40,8 +40,8 @@ const CASES: &[Case] = &[
     Case(Call::CheckFit, FIT, "optimal\n"),
     Case(
         Call::Profile,
-        "malloc 1 16368\ncalloc 2 16369\n",
-        "16368 1\nlarge 1\n",
+        "malloc 1 40\ncalloc 2 16369\n",
+        "40 1\nlarge 1\n",
     ),
     Case(
         Call::Replay { quarantine: 0 },

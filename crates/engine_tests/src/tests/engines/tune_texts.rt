@@ -97,8 +97,8 @@ row 8 8
     Tuned(
         1,
         1,
-        b"16368 1\nlarge 1\n",
-        "classes 1024\nlimit 1\nwaste 0\nrow 0\n",
+        b"16360 1\nlarge 1\n",
+        "classes 1024\nlimit 1\nwaste 8\nrow 8\n",
     ),
     Tuned(1, 1, b"large 1\n", "classes\nlimit 1\nwaste 0\nrow\n"),
 ];

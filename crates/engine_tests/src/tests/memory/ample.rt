@@ -2,7 +2,7 @@
 use super::support::profile as worked_profile;
 use crate::tests::calls::{Call, ends};
 use crate::tests::support::{HEAP, same};
-use class_table::{ClassTable, is_step};
+use class_table::{ClassTable, LARGEST_COUNTED, is_step};
 use class_tuner::tune;
 use granule_memory::Memory;
 use potential_check::{Sheet, SheetError, Verdict, check, read_sheet, write_sheet};
@@ -145,9 +145,9 @@ fn engines_on(rt: &(impl Abort + AllocGlobal), lines: usize) -> Result<(), Fail>
 fn profiles_of_each_power_of_two(rt: HostRuntime) -> Result<(), Fail> {
     let mut counted = Profile::new(rt.alloc())?;
     let mut next: u32 = 1;
-    for n in 0..16_369 {
+    for n in 0..LARGEST_COUNTED + 1 {
         assert!(rt; counted.add(n).is_ok());
-        if n == next || n + 1 == next || n == 16_368 {
+        if n == next || n + 1 == next || n == LARGEST_COUNTED {
             is_counted(&rt, &counted, n)?;
         }
         if n > next {
@@ -158,7 +158,7 @@ fn profiles_of_each_power_of_two(rt: HostRuntime) -> Result<(), Fail> {
 }
 
 fn is_counted(rt: &(impl Abort + AllocGlobal), counted: &Profile, n: u32) -> Result<(), Fail> {
-    assert!(rt; n <= 16_368);
+    assert!(rt; n <= LARGEST_COUNTED);
     let mut text = Vec::new(rt.alloc());
     counted.write(&mut text)?;
     let read = Profile::read(rt.alloc(), &text)?;

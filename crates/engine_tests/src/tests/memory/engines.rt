@@ -56,8 +56,8 @@ fn checking_a_fit(rt: HostRuntime) -> Result<(), Fail> {
 
 #[test]
 fn profiling(rt: HostRuntime) -> Result<(), Fail> {
-    let trace = "malloc 1 16368\ncalloc 2 16369\n";
-    answers(&rt, Call::Profile, trace, "16368 1\nlarge 1\n")
+    let trace = "malloc 1 40\ncalloc 2 16369\n";
+    answers(&rt, Call::Profile, trace, "40 1\nlarge 1\n")
 }
 
 #[test]

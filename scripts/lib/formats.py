@@ -1,0 +1,137 @@
+"""The numbers of the formats and of the library's interface, and the codes with their words: the one table of them beside the proofs.
+
+scripts/tests/formats compares it with the laws that the crates prove of their numbers, with the texts of the codes that contracts cite, and
+with what the program and the documents say. It writes the parts of include/mte_tool.h, web/ and scripts/shims that have numbers.
+"""
+
+from typing import NamedTuple, Optional
+
+# sizes, in bytes but for those of classes, which are granules
+GRANULE_BYTES = 16
+SMALLEST_CLASS = 2
+LARGEST_CLASS = 1024
+LARGEST_SIZE = 16_368  # the largest request that a class serves; a larger one is `large`
+MOST_INPUT = 67_108_864
+
+# tables, profiles, histories and certificates
+MOST_CLASSES = 32
+LINE_BYTES = 168  # of a class line
+MOST_COUNT = 1_000_000_000
+MOST_SNAPSHOTS = 1024
+MOST_NEEDS = 1023  # the most numbers of a row
+
+# traces
+MOST_EVENTS = 1_000_000
+LONGEST_LINE = 80
+LAST_VARIABLE = 1023
+LARGEST_REQUEST = 2_147_483_647
+FARTHEST_ACCESS = 1_048_576
+LONGEST_ACCESS = 64
+FARTHEST_MOVE = 63
+LARGEST_TAG_STEP = 15
+
+# the heap and its machine
+FEWEST_GRANULES = 64
+MOST_GRANULES = 262_144
+MOST_QUARANTINE = 4_194_304
+REGION_START = 1 << 36
+
+# what the contracts of the crates call a number, where it is not its name here
+PROVED_NAMES = {
+    "MOST_INPUT": "most_input",
+    "LARGEST_SIZE": "largest_counted",
+    "MOST_COUNT": "greatest_count",
+    "MOST_EVENTS": "most_events",
+    "LONGEST_LINE": "longest_line",
+    "REGION_START": "region_start",
+}
+NUMBERS = {name: value for name, value in list(globals().items()) if name.isupper() and isinstance(value, int)}
+
+
+class Option(NamedTuple):
+    """An option of the commands: its range, and what it is where it is left out. A limit has to be given."""
+
+    least: int
+    most: int
+    default: Optional[int]
+
+
+OPTIONS = {
+    "limit": Option(1, MOST_CLASSES, None),
+    "step": Option(1, 8, 1),  # 1, 2, 4 or 8
+    "granules": Option(FEWEST_GRANULES, MOST_GRANULES, 65_536),
+    "seed": Option(1, 65_535, 1),
+    "quarantine": Option(0, MOST_QUARANTINE, 65_536),
+}
+
+# how a call of the library ends, from 0 on
+ENDS = {
+    "DONE": "the text is the answer",
+    "NO": "the text is the answer, and the verdict is no",
+    "REFUSED": 'the text is the first fault of the input, as "30 BadLine line 2", without a newline',
+    "OUT_OF_MEMORY": "the text is empty",
+    "BAD_OPTION": "an option is out of its range; the text is empty",
+    "MISUSE": "the call is not as it has to be: a pointer is null that must not be, the text holds an answer, or as the call says; nothing "
+    "was done",
+}
+
+
+class Code(NamedTuple):
+    """A code's name, the exit status of the program that ends with it (None where it does not), and its words in the help, on the page
+    and in the header."""
+
+    name: str
+    status: Optional[int]
+    words: Optional[str]
+
+
+CODES = {
+    1: Code("OutOfMemory", 3, "the allocator refused memory"),
+    # a class line
+    20: Code("TooMany", 2, f"there are more than {MOST_CLASSES} classes"),
+    21: Code("OutOfRange", 2, f"a class is not from {SMALLEST_CLASS} to {LARGEST_CLASS}"),
+    22: Code("NotAscending", 2, "a class is not above the one before it"),
+    23: Code("BadLine", 2, "the class line is not `classes` and then numbers"),
+    # a profile or a history, 33 of a profile in the library alone
+    30: Code("BadLine", 2, f"a line is not a size up to {LARGEST_SIZE}, or `large`, and then counts"),
+    31: Code("NotAscending", 2, "a size is not above the one before it"),
+    32: Code("CountOutOfRange", 2, f"a count is above {MOST_COUNT}, or all of a line are 0"),
+    33: Code("CountFull", None, f"the count is {MOST_COUNT}, and no request more is counted"),
+    34: Code("BadSnapshots", 2, f"the history's first line is not `snapshots T`, T from 1 to {MOST_SNAPSHOTS}"),
+    35: Code("WrongLength", 2, "a line does not have T numbers, one for each snapshot"),
+    # a fit, a sheet
+    36: Code("BadFit", 2, "a line is not of a fit's form, or is missing"),
+    48: Code("BadSheet", 2, "a line is not of a sheet's form, or is missing"),
+    # the verdict no of `check` and `check-fit`: what they ask
+    39: Code("OffStep", 1, "each class is a multiple of the step"),
+    40: Code("OverLimit", 1, "the table has at most K classes"),
+    41: Code("NotServing", 1, "each counted size has a class"),
+    42: Code("WasteWrong", 1, "the waste is the table's on the profile"),
+    49: Code("FootprintWrong", 1, "the footprint is the table's over the history"),
+    43: Code("Shape", 1, "there are K rows, with a number for each distinct need"),
+    44: Code("LastClass", 1, None),  # 44 to 47: in the help each in the words of its command
+    45: Code("StageDrop", 1, None),
+    46: Code("Edge", 1, None),
+    47: Code("NotTight", 1, None),
+    # the machine and the heap
+    50: Code("Unmapped", None, "a byte is not in the region, or one of the bits 60 to 63 of the address is 1"),
+    51: Code("Alignment", None, None),  # of an instruction that no trace has
+    52: Code("TagCheck", None, "a granule's tag differs from the address's"),
+    60: Code("Large", None, f"more than {LARGEST_SIZE} bytes are requested"),
+    61: Code("NoClass", None, "no class of the table serves the request"),
+    62: Code("Exhausted", None, "no slot of the request's class is left"),
+    63: Code("Misplaced", None, "no chunk of a slot begins at the address"),
+    64: Code("NotLive", None, "the chunk there is not live"),
+    65: Code("WrongTag", None, "the address has another tag than the chunk"),
+    # a trace
+    70: Code("BadWord", 2, "a line is no event, or has a word too many or too few"),
+    71: Code("BadNumber", 2, "a word is no number of its kind, or not in its one spelling"),
+    72: Code("OutOfRange", 2, "a number is not in its range"),
+    73: Code("LineTooLong", 2, f"a line has more than {LONGEST_LINE} bytes"),
+    74: Code("TooManyEvents", 2, f"there is a line after {MOST_EVENTS} events"),
+    # any input, the streams, the options
+    80: Code("InputTooLong", 2, f"there are more than {MOST_INPUT} bytes"),
+    81: Code("ReadFault", 3, "a read failed"),
+    82: Code("WriteFault", 3, "a write failed, or took no byte"),
+    83: Code("BadOption", 2, "the step is 3, 5, 6 or 7; nothing is read then"),
+}

@@ -1,0 +1,9 @@
+// Written by scripts/tests/formats from scripts/lib/formats.py.
+enum {
+  LARGEST_SIZE = 16368,
+  LARGEST_REQUEST = 2147483647,
+  MOST_EVENTS = 1000000,
+  LAST_VARIABLE = 1023,
+  FARTHEST_ACCESS = 1048576,
+  FARTHEST_MOVE = 63,
+};
