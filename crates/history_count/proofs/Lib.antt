@@ -5,6 +5,7 @@ pub mod Entries
 pub mod EntryLines
 pub mod Filling
 pub mod FirstFaults
+pub mod GivenSnapshots
 pub mod LawLemmas
 pub mod LineByLine
 pub mod OpenReadings

@@ -8,6 +8,7 @@ mod footprint;
 mod history;
 pub mod laws;
 mod line;
+mod of_snapshots;
 mod reading;
 
 pub use fault::{HistoryError, HistoryFault};

@@ -173,8 +173,8 @@ fn are_few(counts: &[u32]) -> bool
     are_few
 }
 
-// whether some count is not 0
-fn is_some_counted(counts: &[u32]) -> bool
+/// Whether some count is not 0.
+pub(crate) fn is_some_counted(counts: &[u32]) -> bool
     ensures { result ≡ is_some_counted counts.now }
 {
     counts.iter().any(|count| 0 < *count)

@@ -48,9 +48,9 @@ impl History {
     }
 }
 
-// this many zeros
+/// This many zeros. The only error is that the allocator refuses memory.
 #[tactic(auto, unfolding(profile_count::specs::Counts::zeros))]
-fn zeros(alloc: Global, n: usize) -> Result<Vec<u32>, AllocError>
+pub(crate) fn zeros(alloc: Global, n: usize) -> Result<Vec<u32>, AllocError>
     ensures { IfOk result (λ counts. counts.items ≡ zeros n) }
 {
     vec![in alloc; 0u32; n]

@@ -1,0 +1,3 @@
+pub mod MomentsLine
+pub mod RefusalText
+pub mod Verdicts

@@ -1,0 +1,5 @@
+pub mod FaultText
+pub mod LiveBlocks
+pub mod Requests
+pub mod Runs
+pub mod TimelineText

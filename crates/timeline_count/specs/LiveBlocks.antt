@@ -1,0 +1,47 @@
+-- What is counted of the blocks of each class, event by event.
+use Rattle.std.specs.Prelude.{◌≡◌, ℕ, ◌*◌, ◌<◌, ◌≤◌, if◌then◌else◌, nat_lt, List, length, map, slice_index, slice_set}
+use Rattle.class_table.specs.Sizes.{granule_bytes}
+use Rattle.tuner_theory.specs.Footprint.{blocks}
+use Rattle.tuner_theory.specs.Histories.{most}
+use Rattle.tuner_theory.specs.Timelines.{moments, most_to, snapshot_at}
+use Rattle.tuner_theory.specs.declared.size_event.SizeEvent.{SizeEvent}
+
+-- The first moment at which a measure is so much, up to this one.
+pub record IsFirst (measure : List ℕ → ℕ) (events : List SizeEvent) (moment much first : ℕ) : Type 0 where
+  pub within : first ≤ moment
+  pub there : measure (snapshot_at events first) ≡ much
+  pub before : (earlier : ℕ) → earlier < first → measure (snapshot_at events earlier) < much
+
+-- After so many events: for each class how many of its blocks are live, the most that were live so far, and the first moment at which so
+-- many were.
+pub record AreLive (events : List SizeEvent) (classes : List ℕ) (moment : ℕ) (live most firsts : List ℕ) : Type 0 where
+  pub live_len : length live ≡ length classes
+  pub most_len : length most ≡ length classes
+  pub firsts_len : length firsts ≡ length classes
+  pub live_at : (j : ℕ) → j < length classes
+      → slice_index live j ≡ blocks classes (slice_index classes j) (snapshot_at events moment)
+  pub most_at : (j : ℕ) → j < length classes
+      → slice_index most j ≡ most_to (blocks classes (slice_index classes j)) events moment
+  pub below : (j : ℕ) → j < length classes → slice_index live j ≤ slice_index most j
+  pub small : (j : ℕ) → j < length classes → slice_index most j ≤ moment
+  pub first_at : (j : ℕ) → j < length classes
+      → IsFirst (blocks classes (slice_index classes j)) events moment (slice_index most j) (slice_index firsts j)
+
+-- The first moments where `newer` blocks of the class of this number are live at a moment, before which `much` was the most.
+abbrev pub first_moved : ℕ → ℕ → ℕ → ℕ → List ℕ → List ℕ
+first_moved much newer number moment firsts = if nat_lt much newer then slice_set firsts number moment else firsts
+
+-- For each class the most of its blocks that are live at a moment.
+abbrev pub most_blocks : List SizeEvent → List ℕ → List ℕ
+most_blocks events classes = map (λ class. most (blocks classes class) (moments events)) classes
+
+-- For each class the first moment at which so many of its blocks are live.
+pub record AreFirsts (events : List SizeEvent) (classes firsts : List ℕ) : Type 0 where
+  pub len : length firsts ≡ length classes
+  pub first : (j : ℕ) → j < length classes
+      → IsFirst (blocks classes (slice_index classes j)) events (length events)
+      (most (blocks classes (slice_index classes j)) (moments events)) (slice_index firsts j)
+
+-- What one class takes.
+abbrev pub class_bytes : List SizeEvent → List ℕ → ℕ → ℕ
+class_bytes events classes class = granule_bytes * class * most (blocks classes class) (moments events)

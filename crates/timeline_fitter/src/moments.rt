@@ -1,0 +1,79 @@
+//! The moments over which a table is fitted.
+ghost use Rattle.std.specs.Prelude.{◌≡◌, ◌<◌, ◌≤◌, ◌+◌, ◌⊎◌, ℕ, [], ◌∷◌, IfOk, OnOk, All, Contains, length};
+ghost use Rattle.tuner_theory.specs.declared.most_snapshots.TheConstants.{MOST_SNAPSHOTS};
+
+use history_count::MOST_SNAPSHOTS;
+use std::alloc::{AllocError, Global};
+
+/// One moment. The only error is that the allocator refuses memory.
+pub(crate) fn one_moment(alloc: Global, moment: usize) -> Result<Vec<usize>, AllocError>
+    ensures { IfOk result (λ numbers. numbers.items ≡ moment ∷ []) }
+{
+    let mut numbers = Vec::new(alloc);
+    numbers.push(moment)?;
+    Ok(numbers)
+}
+
+/// The moments with further ones. Where they would be too many, only `kept` and the further ones. The numbers ascend. None is above `most`.
+/// The only error is that the allocator refuses memory.
+pub(crate) fn with_moments(
+    alloc: Global,
+    numbers: Vec<usize>,
+    kept: usize,
+    further: &[usize],
+    most: usize,
+) -> Result<Vec<usize>, AllocError>
+    requires few { length further.now < MOST_SNAPSHOTS }
+    requires numbers { All (λ number. number ≤ most) numbers.items }
+    requires further { All (λ number. number ≤ most) further.now }
+    requires kept { Contains numbers.items kept }
+    ensures few { IfOk result (λ more. length more.items ≤ MOST_SNAPSHOTS) }
+    ensures within { IfOk result (λ more. All (λ number. number ≤ most) more.items) }
+    ensures kept { IfOk result (λ more. Contains more.items kept) }
+{
+    let mut more = start_with(alloc, numbers, kept, MOST_SNAPSHOTS - further.len())?;
+    for i in 0..further.len() {
+        add_moment(&mut more, further[i], most)?;
+    }
+    Ok(more)
+}
+
+// the numbers, or where they are more than these, only one of them
+fn start_with(
+    alloc: Global,
+    numbers: Vec<usize>,
+    kept: usize,
+    room: usize,
+) -> Result<Vec<usize>, AllocError>
+    requires { 1 ≤ room }
+    ensures few { IfOk result (λ start. length start.items ≤ room) }
+    ensures which { IfOk result (λ start. (start.items ≡ numbers.items) ⊎ (start.items ≡ kept ∷ [])) }
+{
+    if numbers.len() > room {
+        return one_moment(alloc, kept);
+    }
+    Ok(numbers)
+}
+
+// adds a moment at its place, unless it is there
+fn add_moment(numbers: &mut Vec<usize>, moment: usize, most: usize) -> Result<(), AllocError>
+    requires numbers { All (λ number. number ≤ most) numbers.old.items }
+    requires moment { moment ≤ most }
+    ensures few { OnOk result (length numbers.new.items ≤ length numbers.old.items + 1) }
+    ensures within { OnOk result (All (λ number. number ≤ most) numbers.new.items) }
+    ensures kept { OnOk result ((m : ℕ) → Contains numbers.old.items m → Contains numbers.new.items m) }
+{
+    let place = place_of(numbers, moment);
+    if place < numbers.len() && numbers[place] == moment {
+        return Ok(());
+    }
+    numbers.insert(place, moment)?;
+    Ok(())
+}
+
+// the first place whose number is not below a moment
+fn place_of(numbers: &[usize], moment: usize) -> usize
+    ensures { result ≤ length numbers.now }
+{
+    numbers.partition_point(|number| *number < moment)
+}
