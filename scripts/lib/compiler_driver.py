@@ -42,6 +42,8 @@ RUNTIME_FLAGS += [f"-Wl,-soname,{RUNTIME}", "-Wl,--exclude-libs,ALL"]
 TRACED_FLAGS = "-g -fno-omit-frame-pointer -fno-optimize-sibling-calls -fno-plt -fsanitize=kernel-address -U_FORTIFY_SOURCE".split()
 # else the compiler takes out a request that is freed unused, and a store to a block that is freed next
 TRACED_FLAGS += [f"-fno-builtin-{name}" for name in ("malloc", "calloc", "realloc", "free")]
+# the same for new and delete
+CXX_FLAGS = {"gcc": ["-fno-allocation-dce", "-fno-tree-dse", "-fno-tree-dce"], "clang": ["-fno-builtin"]}
 WITHOUT_LINK = ("-c", "-S", "-E", "-M", "-MM", "-r", "-V", "--version", "-fsyntax-only")
 PLACE = "set XDG_CACHE_HOME to a folder that only you can change"
 IS_X86 = platform.machine() == "x86_64"
@@ -98,18 +100,19 @@ def build(plain: str, to: str) -> None:
         raise Refused(3, f"the runtime could not be compiled: it needs glibc, and room in {os.path.dirname(to)}")
 
 
-def traced_flags(compiler: str) -> list:
+def traced_flags(compiler: str, is_for_cxx: bool) -> list:
     """On x86-64 the compiler's own check reads the shadow, whose place accesses.h says, and calls the runtime where that is closed."""
+    unoptimized = CXX_FLAGS["clang" if is_clang(compiler) else "gcc"] if is_for_cxx else []
     threshold = 1_000_000_000 if IS_X86 else 0
     if is_clang(compiler):
         # The experiment gives what clang's check calls other names than what gcc's does, since its arguments mean something else.
         internal = [f"-asan-mapping-offset={OFFSET}", "-asan-force-experiment=1"] if IS_X86 else []
         internal += [f"-asan-instrumentation-with-call-threshold={threshold}", "-asan-stack=0", "-asan-globals=0"]
-        return [*TRACED_FLAGS, *(word for flag in internal for word in ("-mllvm", flag)), "-Qunused-arguments"]
+        return [*TRACED_FLAGS, *unoptimized, *(word for flag in internal for word in ("-mllvm", flag)), "-Qunused-arguments"]
     # Of a struct gcc looks at the first and the last byte, so a large one is copied by memcpy.
     flags = [f"-fasan-shadow-offset={OFFSET}", "-mmemcpy-strategy=libcall:-1:noalign"] if IS_X86 else []
     parameters = (f"asan-instrumentation-with-call-threshold={threshold}", "asan-stack=0", "asan-globals=0")
-    return [*TRACED_FLAGS, *flags, *(word for parameter in parameters for word in ("--param", parameter))]
+    return [*TRACED_FLAGS, *unoptimized, *flags, *(word for parameter in parameters for word in ("--param", parameter))]
 
 
 def links(words: list) -> bool:
@@ -135,6 +138,6 @@ def drive(words: list, is_for_cxx: bool) -> None:
     # the runtime comes before libc, so that its malloc is the program's
     link = ["-Wl,--push-state,--no-as-needed", library, "-Wl,--pop-state", f"-Wl,-rpath,{os.path.dirname(library)}"] if links(words) else []
     try:
-        programs.take_place([compiler, *link, *words, *traced_flags(compiler)])
+        programs.take_place([compiler, *link, *words, *traced_flags(compiler, is_for_cxx)])
     except OSError as error:
         raise Refused(3, f"{compiler} can't be run: {error.strerror}") from None

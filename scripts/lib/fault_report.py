@@ -1,7 +1,9 @@
 """Tells the errors of a log, what the heap of the replay made of each, and why."""
 
+import html
 from collections import Counter
 
+import html_safe
 from fault_entries import CAUGHT, CRASH, NOT_CAUGHT, NOT_REPLAYED, RESULTS, entries, stacks_of
 from fault_places import Places
 from running import printable
@@ -180,3 +182,12 @@ def tell_seeds(log, found, places, reports, odds):
         if entry.uses:
             lines.append(f"    {odds.line(entry.numbers)}")
     return lines
+
+
+def page(name, lines):
+    """A page of the report alone."""
+    title = html.escape(f"Memory errors of {name}")
+    style = "body { font: 15px/1.5 monospace; margin: 2em; white-space: pre-wrap } h1 { font-size: 1.2em }"
+    text = html.escape("\n".join(printable(line) for line in lines))
+    head = f"<!doctype html>\n<html lang=\"en\">\n{html_safe.HEAD}<title>{title}</title>\n<style>{style}</style>\n"
+    return html_safe.with_policy(f"{head}<h1>{title}</h1>\n<div>{text}</div>\n</html>\n")

@@ -16,6 +16,9 @@
 #ifndef _GNU_SOURCE
 #define _GNU_SOURCE
 #endif
+#ifndef __NO_INLINE__
+#define __NO_INLINE__ 1  // else the headers define some of the functions that libc.c has
+#endif
 #include <pthread.h>
 #include <stddef.h>
 #include <stdint.h>

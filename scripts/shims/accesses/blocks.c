@@ -163,7 +163,8 @@ static struct block *block_at(address a, struct caller from, struct stack *stack
   struct block *live = live_block_at(a), *block = owner(a);
   if (live || !is_logging()) return live;
   struct wrong found = {.letter = was_given_out(a) ? 'o' : 'n', .at = a};
-  if (block) found = (struct wrong){'x', block->state == FREED, block - BLOCKS, (long)(a - block->start), 0, (long)block->size};
+  if (block) found = (struct wrong){.letter = 'x', .is_freed = block->state == FREED, .number = block - BLOCKS, .offset = (long)(a - block->start),
+                                      .block_size = (long)block->size};
   put_record(found.letter, block ? 2 : 0, found.number, found.offset);
   if (!stack->count) walk(from, (address)__builtin_frame_address(0), stack);
   put_frames(stack);

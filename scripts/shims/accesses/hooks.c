@@ -55,8 +55,8 @@ static void look(address a, size_t size, int store, struct caller from, struct s
 }
 
 static void wrong(struct block *block, address a, size_t size, int store, struct caller from, struct stack *stack, struct wrong *to) {
-  struct wrong found = {store ? 'S' : 'L', block && block->state == FREED, number_of(block), block ? (long)(a - block->start) : !was_given_out(a),
-                        size, block ? (long)block->size : 0};
+  struct wrong found = {.letter = store ? 'S' : 'L', .number = number_of(block), .offset = !was_given_out(a), .size = size};
+  if (block) found.is_freed = block->state == FREED, found.offset = (long)(a - block->start), found.block_size = (long)block->size;
   if (!is_logging() || !is_first(from.pc, found.number, part_and_kind(block, a, size, store))) return;
   if (!stack->count) walk(from, (address)__builtin_frame_address(0), stack);
   put_record(found.letter, 3, found.number, found.offset, found.size);

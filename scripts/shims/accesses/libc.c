@@ -1,20 +1,19 @@
 // Functions of libc that load and store bytes of the program: each says which to the hooks. The simple ones are written here, the others
-// call libc's. What libc loads for `%s`, and what qsort or getline do, is not seen.
-#include "accesses.h"
-#include <dlfcn.h>
-#include <stdarg.h>
+// call libc's. What getline and the functions of wide texts that are not here do is not seen.
+#include "calls.h"
+#include <dirent.h>
+#include <limits.h>
 #include <stdio.h>
+#include <stdlib.h>
 #include <string.h>
 #include <strings.h>
 #include <sys/socket.h>
+#include <sys/stat.h>
+#include <sys/time.h>
+#include <sys/uio.h>
+#include <time.h>
 #include <unistd.h>
 #include <wchar.h>
-
-static inline __attribute__((always_inline)) void touch(const void *at, size_t size, int store, struct caller from) {
-  if (size && !is_known((address)at, size, store)) touch_slowly((address)at, size, store, from);
-}
-#define LOADS(at, size) touch(at, size, 0, CALLER)
-#define STORES(at, size) touch(at, size, 1, CALLER)
 
 typedef uint64_t __attribute__((may_alias, aligned(1))) word;
 
@@ -45,13 +44,6 @@ void fill_bytes(void *to, int byte, size_t size) {
   while (size--) *t++ = byte;
 }
 
-static size_t length(const char *s, size_t most) {
-  size_t n = 0;
-  while (n < most && s[n]) n++;
-  return n;
-}
-#define ENDLESS ((size_t)-1)
-static size_t with_end(size_t length, size_t most) { return length < most ? length + 1 : most; }
 static int small(int c) { return c >= 'A' && c <= 'Z' ? c + 32 : c; }
 static int same(int c) { return c; }
 
@@ -67,8 +59,15 @@ SHOWN void bzero(void *to, size_t n) { STORES(to, n), fill_bytes(to, 0, n); }
   while (i < (most) && fold(a[i]) == fold(b[i]) && (goes_on)) i++; \
   LOADS(a, with_end(i, most)), LOADS(b, with_end(i, most)); \
   return i < (most) ? fold(a[i]) - fold(b[i]) : 0
-SHOWN int memcmp(const void *left, const void *right, size_t n) { COMPARED(n, same, 1); }
-SHOWN int bcmp(const void *left, const void *right, size_t n) { COMPARED(n, same, 1); }
+// both have so many bytes, wherever they differ
+#define COMPARED_BYTES \
+  LOADS(left, n), LOADS(right, n); \
+  const unsigned char *a = left, *b = right; \
+  size_t i = 0; \
+  while (i < n && a[i] == b[i]) i++; \
+  return i < n ? a[i] - b[i] : 0
+SHOWN int memcmp(const void *left, const void *right, size_t n) { COMPARED_BYTES; }
+SHOWN int bcmp(const void *left, const void *right, size_t n) { COMPARED_BYTES; }
 #define COMPARED_TEXTS(left_text, right_text, most, fold) \
   const void *left = left_text, *right = right_text; \
   COMPARED(most, fold, a[i])
@@ -187,42 +186,64 @@ SHOWN char *strstr(const char *s, const char *part) {
   return k == n ? (char *)s + i : NULL;
 }
 
-#define REAL(name) \
-  static __typeof__(&name) real; \
-  if (!real) busy++, real = (__typeof__(&name))dlsym(RTLD_NEXT, #name), busy--
+// The text that strtok goes on with. It is one for all threads, as libc's is.
+static inline __attribute__((always_inline)) char *next_word(char *s, const char *set, char **rest, struct caller caller) {
+  if (!s) s = *rest;
+  if (!s) return NULL;
+  s += spanned(s, set, 1, caller);
+  if (!*s) return *rest = NULL, NULL;
+  size_t n = spanned(s, set, 0, caller);
+  if (!s[n]) return *rest = NULL, s;
+  touch(s + n, 1, 1, caller);
+  s[n] = 0, *rest = s + n + 1;
+  return s;
+}
+static char *rest_of_text;
+SHOWN char *strtok(char *s, const char *set) { return next_word(s, set, &rest_of_text, CALLER); }
+SHOWN char *strtok_r(char *s, const char *set, char **rest) { return next_word(s, set, rest, CALLER); }
+SHOWN char *__strtok_r(char *s, const char *set, char **rest) { return next_word(s, set, rest, CALLER); }
 
-SHOWN int vsnprintf(char *to, size_t most, const char *format, va_list values) {
-  REAL(vsnprintf);
-  int n = real(to, most, format, values);
-  if (n >= 0 && most) STORES(to, with_end(n, most));
-  return n;
+SHOWN char *strsep(char **from, const char *set) {
+  char *s = *from;
+  if (!s) return NULL;
+  size_t n = spanned(s, set, 0, CALLER);
+  *from = s[n] ? s + n + 1 : NULL;
+  if (s[n]) STORES(s + n, 1), s[n] = 0;
+  return s;
 }
 
-SHOWN int vsprintf(char *to, const char *format, va_list values) {
-  REAL(vsprintf);
-  int n = real(to, format, values);
-  if (n >= 0) STORES(to, (size_t)n + 1);
+#define WIDE (sizeof(wchar_t))
+static size_t wide_length(const wchar_t *s, size_t most) {
+  size_t n = 0;
+  while (n < most && s[n]) n++;
   return n;
 }
-
-SHOWN int snprintf(char *to, size_t most, const char *format, ...) {
-  REAL(vsnprintf);
-  va_list values;
-  va_start(values, format);
-  int n = real(to, most, format, values);
-  va_end(values);
-  if (n >= 0 && most) STORES(to, with_end(n, most));
-  return n;
+SHOWN wchar_t *wmemcpy(wchar_t *to, const wchar_t *from, size_t n) { LOADS(from, n * WIDE), STORES(to, n * WIDE); return move_bytes(to, from, n * WIDE); }
+SHOWN wchar_t *wmemmove(wchar_t *to, const wchar_t *from, size_t n) { LOADS(from, n * WIDE), STORES(to, n * WIDE); return move_bytes(to, from, n * WIDE); }
+SHOWN wchar_t *wmemset(wchar_t *to, wchar_t with, size_t n) {
+  STORES(to, n * WIDE);
+  for (size_t i = 0; i < n; i++) to[i] = with;
+  return to;
 }
-
-SHOWN int sprintf(char *to, const char *format, ...) {
-  REAL(vsprintf);
-  va_list values;
-  va_start(values, format);
-  int n = real(to, format, values);
-  va_end(values);
-  if (n >= 0) STORES(to, (size_t)n + 1);
-  return n;
+static inline __attribute__((always_inline)) wchar_t *copy_wide(wchar_t *to, const wchar_t *from, size_t most, struct caller caller) {
+  size_t n = wide_length(from, most);
+  touch(from, with_end(n, most) * WIDE, 0, caller), touch(to, (n + 1) * WIDE, 1, caller);
+  move_bytes(to, from, n * WIDE);
+  to[n] = 0;
+  return to;
+}
+SHOWN wchar_t *wcscpy(wchar_t *to, const wchar_t *from) { return copy_wide(to, from, ENDLESS, CALLER); }
+SHOWN wchar_t *wcscat(wchar_t *to, const wchar_t *from) {
+  size_t n = wide_length(to, ENDLESS);
+  LOADS(to, (n + 1) * WIDE);
+  return copy_wide(to + n, from, ENDLESS, CALLER), to;
+}
+SHOWN wchar_t *wcsncpy(wchar_t *to, const wchar_t *from, size_t most) {
+  size_t n = wide_length(from, most);
+  LOADS(from, with_end(n, most) * WIDE), STORES(to, most * WIDE);
+  move_bytes(to, from, n * WIDE);
+  for (size_t i = n; i < most; i++) to[i] = 0;
+  return to;
 }
 
 // a function of libc that returns how much it moved
@@ -240,21 +261,108 @@ MOVING(ssize_t, send, (int file, const void *from, size_t most, int how), (file,
 MOVING(size_t, fread, (void *to, size_t each, size_t most, FILE *file), (to, each, most, file), STORES(to, n * each))
 MOVING(size_t, fwrite, (const void *from, size_t each, size_t most, FILE *file), (from, each, most, file), LOADS(from, n * each))
 
-SHOWN char *fgets(char *to, int most, FILE *file) {
-  REAL(fgets);
-  char *line = real(to, most, file);
-  if (line) STORES(to, length(to, ENDLESS) + 1);
-  return line;
+MOVING(ssize_t, pread, (int file, void *to, size_t most, off_t at), (file, to, most, at), STORES(to, n))
+MOVING(ssize_t, pread64, (int file, void *to, size_t most, off64_t at), (file, to, most, at), STORES(to, n))
+MOVING(ssize_t, pwrite, (int file, const void *from, size_t most, off_t at), (file, from, most, at), LOADS(from, n))
+MOVING(ssize_t, pwrite64, (int file, const void *from, size_t most, off64_t at), (file, from, most, at), LOADS(from, n))
+
+// of the first so many bytes of several pieces
+static inline __attribute__((always_inline)) void touch_pieces(const struct iovec *pieces, size_t left, int store, struct caller from) {
+  for (; left; pieces++) {
+    size_t n = pieces->iov_len < left ? pieces->iov_len : left;
+    touch(pieces->iov_base, n, store, from);
+    left -= n;
+  }
+}
+MOVING(ssize_t, readv, (int file, const struct iovec *to, int number), (file, to, number), touch_pieces(to, n, 1, CALLER))
+MOVING(ssize_t, writev, (int file, const struct iovec *from, int number), (file, from, number), touch_pieces(from, n, 0, CALLER))
+
+SHOWN void qsort(void *at, size_t number, size_t each, int (*compare)(const void *, const void *)) {
+  REAL(qsort);
+  LOADS(at, number * each), STORES(at, number * each);
+  real(at, number, each, compare);
 }
 
-SHOWN int fputs(const char *s, FILE *file) {
-  REAL(fputs);
-  LOADS(s, length(s, ENDLESS) + 1);
-  return real(s, file);
-}
+// a function of libc that loads a text or more, or stores what it answers
+#define CALLS(type, name, parameters, words, before, after) \
+  SHOWN type name parameters { \
+    REAL(name); \
+    before; \
+    type n = real words; \
+    after; \
+    return n; \
+  }
+CALLS(char *, fgets, (char *to, int most, FILE *file), (to, most, file), , if (n) STORES_TEXT(to))
+CALLS(int, fputs, (const char *s, FILE *file), (s, file), LOADS_TEXT(s), )
+CALLS(int, puts, (const char *s), (s), LOADS_TEXT(s), )
+CALLS(FILE *, fopen, (const char *path, const char *how), (path, how), (LOADS_TEXT(path), LOADS_TEXT(how)), )
+CALLS(FILE *, fopen64, (const char *path, const char *how), (path, how), (LOADS_TEXT(path), LOADS_TEXT(how)), )
+CALLS(DIR *, opendir, (const char *path), (path), LOADS_TEXT(path), )
+CALLS(int, access, (const char *path, int how), (path, how), LOADS_TEXT(path), )
+CALLS(int, unlink, (const char *path), (path), LOADS_TEXT(path), )
+CALLS(int, remove, (const char *path), (path), LOADS_TEXT(path), )
+CALLS(int, rename, (const char *from, const char *to), (from, to), (LOADS_TEXT(from), LOADS_TEXT(to)), )
+CALLS(int, chdir, (const char *path), (path), LOADS_TEXT(path), )
+CALLS(int, mkdir, (const char *path, mode_t mode), (path, mode), LOADS_TEXT(path), )
+CALLS(char *, getcwd, (char *to, size_t most), (to, most), , if (n && to) STORES_TEXT(to))
+CALLS(char *, realpath, (const char *path, char *to), (path, to), LOADS_TEXT(path), if (n && to) STORES_TEXT(to))
+CALLS(ssize_t, readlink, (const char *path, char *to, size_t most), (path, to, most), LOADS_TEXT(path), if (n > 0) STORES(to, n))
+CALLS(int, gethostname, (char *to, size_t most), (to, most), , if (!n) STORES(to, with_end(length(to, most), most)))
+CALLS(char *, getenv, (const char *name), (name), LOADS_TEXT(name), )
+CALLS(time_t, time, (time_t *to), (to), , if (to) STORES(to, sizeof *to))
+CALLS(int, clock_gettime, (clockid_t clock, struct timespec *to), (clock, to), , if (!n) STORES(to, sizeof *to))
+CALLS(struct tm *, localtime_r, (const time_t *at, struct tm *to), (at, to), LOADS(at, sizeof *at), if (n) STORES(to, sizeof *to))
+CALLS(struct tm *, gmtime_r, (const time_t *at, struct tm *to), (at, to), LOADS(at, sizeof *at), if (n) STORES(to, sizeof *to))
+CALLS(time_t, mktime, (struct tm *at), (at), LOADS(at, sizeof *at), STORES(at, sizeof *at))
+CALLS(char *, ctime_r, (const time_t *at, char *to), (at, to), LOADS(at, sizeof *at), if (n) STORES_TEXT(to))
+CALLS(size_t, strftime, (char *to, size_t most, const char *format, const struct tm *at), (to, most, format, at),
+      (LOADS_TEXT(format), LOADS(at, sizeof *at)), if (n) STORES(to, n + 1))
+#if __GLIBC_PREREQ(2, 33)  // before, they were no functions of the library
+CALLS(int, stat, (const char *path, struct stat *to), (path, to), LOADS_TEXT(path), if (!n) STORES(to, sizeof *to))
+CALLS(int, lstat, (const char *path, struct stat *to), (path, to), LOADS_TEXT(path), if (!n) STORES(to, sizeof *to))
+CALLS(int, fstat, (int file, struct stat *to), (file, to), , if (!n) STORES(to, sizeof *to))
+#endif
+CALLS(int, pipe, (int to[2]), (to), , if (!n) STORES(to, 2 * sizeof *to))
 
-SHOWN int puts(const char *s) {
-  REAL(puts);
-  LOADS(s, length(s, ENDLESS) + 1);
-  return real(s);
+// numbers: the text up to the first byte that is none of the number's
+#define NUMBERS(type, own, symbol, more, words) \
+  SHOWN type own(const char *s, char **end more) __asm__(symbol); \
+  type own(const char *s, char **end more) { \
+    static type (*real)(const char *, char **end more); \
+    REAL_OF(real, symbol); \
+    char *last = NULL; \
+    type value = real words; \
+    if (end) STORES(end, sizeof *end), *end = last; \
+    LOADS(s, (size_t)(last - s) + 1); \
+    return value; \
+  }
+#define AND_BASE , int base
+#define WHOLE_NUMBERS(own, prefix) \
+  NUMBERS(long, own##_long, prefix "strtol", AND_BASE, (s, &last, base)) \
+  NUMBERS(long long, own##_long_long, prefix "strtoll", AND_BASE, (s, &last, base)) \
+  NUMBERS(unsigned long, own##_unsigned, prefix "strtoul", AND_BASE, (s, &last, base)) \
+  NUMBERS(unsigned long long, own##_unsigned_long, prefix "strtoull", AND_BASE, (s, &last, base))
+WHOLE_NUMBERS(c90, "")
+WHOLE_NUMBERS(c23, "__isoc23_")
+NUMBERS(double, to_double, "strtod", , (s, &last))
+NUMBERS(float, to_float, "strtof", , (s, &last))
+
+static inline __attribute__((always_inline)) long number_in(const char *s, struct caller caller) {
+  static long (*real)(const char *, char **, int);
+  REAL_OF(real, "strtol");
+  char *last = NULL;
+  long value = real(s, &last, 10);
+  touch(s, (size_t)(last - s) + 1, 0, caller);
+  return value;
+}
+SHOWN int atoi(const char *s) { return number_in(s, CALLER); }
+SHOWN long atol(const char *s) { return number_in(s, CALLER); }
+SHOWN long long atoll(const char *s) { return number_in(s, CALLER); }
+SHOWN double atof(const char *s) {
+  static double (*real)(const char *, char **);
+  REAL_OF(real, "strtod");
+  char *last = NULL;
+  double value = real(s, &last);
+  LOADS(s, (size_t)(last - s) + 1);
+  return value;
 }

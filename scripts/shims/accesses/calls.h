@@ -1,0 +1,28 @@
+// What the functions that stand in libc's place share: each says which bytes it loads and stores.
+#pragma once
+#include "accesses.h"
+#include <dlfcn.h>
+
+static inline __attribute__((always_inline)) void touch(const void *at, size_t size, int store, struct caller from) {
+  if (size && !is_known((address)at, size, store)) touch_slowly((address)at, size, store, from);
+}
+#define LOADS(at, size) touch(at, size, 0, CALLER)
+#define STORES(at, size) touch(at, size, 1, CALLER)
+#define ENDLESS ((size_t)-1)
+
+// the bytes of a text before its end, at most so many; and those that are loaded to see that
+static inline size_t length(const char *s, size_t most) {
+  size_t n = 0;
+  while (n < most && s[n]) n++;
+  return n;
+}
+static inline size_t with_end(size_t length, size_t most) { return length < most ? length + 1 : most; }
+#define LOADS_TEXT(s) LOADS(s, length(s, ENDLESS) + 1)
+#define STORES_TEXT(s) STORES(s, length(s, ENDLESS) + 1)
+
+// libc's own function
+#define REAL_OF(pointer, name) \
+  if (!pointer) busy++, pointer = (__typeof__(pointer))dlsym(RTLD_NEXT, name), busy--
+#define REAL(name) \
+  static __typeof__(&name) real; \
+  REAL_OF(real, #name)
