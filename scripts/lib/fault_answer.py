@@ -28,12 +28,6 @@ def program_of(log):
     return os.path.basename(log.modules[0].path) if log.modules else "a program"
 
 
-def is_followed(name, names):
-    """Whether the process of a log ran another traced program later."""
-    number, _, turn = name.partition(".")
-    return f"{number}.{int(turn or 1) + 1}" in names
-
-
 def new(judged):
     return [entry for entry, value in zip(judged.found, judged.values) if value["state"] == "new"]
 

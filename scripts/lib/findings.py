@@ -5,6 +5,7 @@ id. The id names the cause in another run or another commit: it is made of the k
 and has no line numbers. Findings of one run that agree in all that are numbered."""
 
 import fnmatch
+import functools
 import hashlib
 import json
 import os
@@ -69,11 +70,22 @@ def as_values(frames):
     return [{"function": frame.function, "file": path_of(frame), "line": frame.line or None, "module": frame.module or None} for frame in frames]
 
 
+@functools.lru_cache(maxsize=None)
+def root():
+    """The folder that the paths of sources are told from: the repository that the working folder is in, or the working folder."""
+    here = folder = os.getcwd()
+    while not os.path.lexists(os.path.join(folder, ".git")):
+        folder, below = os.path.dirname(folder), folder
+        if folder == below:
+            return here
+    return folder
+
+
 def path_of(frame):
-    """Of a frame's source: from the working folder on, where it is in it."""
+    """Of a frame's source: from the root on, where it is in it."""
     if not frame.source:
         return None
-    path, here = os.path.normpath(frame.source), os.getcwd() + "/"
+    path, here = os.path.normpath(frame.source), root().rstrip("/") + "/"
     return path[len(here) :] if path.startswith(here) else path
 
 

@@ -168,8 +168,8 @@ def on_scudo(error, size, after, since):
     if begin < 0 < end + GRANULE:
         return ALWAYS  # the header before it has tag 0
     if state == "resized":
-        if after is None or not 0 <= size - after < PAGE:
-            return UNKNOWN  # it may have moved
+        if not after or not 0 <= size - after < PAGE:
+            return UNKNOWN  # it may have moved, and a realloc to 0 bytes frees
         size, state = after, "live"
     chunk = rounded(size)
     if state == "live" and begin >= 0 and end <= chunk:
@@ -222,6 +222,8 @@ class Odds:
     def _requests(self):
         """Of each error, how many requests came since its block was freed or moved, or None. And the blocks of errors that were requested
         after a free or by a realloc: the others are cut from no free block."""
+        if not self.log.errors:
+            return [], set()
         wanted = {error.block for error in self.log.errors}
         requests, has_freed, ended, since, cut = 0, False, {}, [None] * len(self.log.errors), set()
         for letter, one, two in zip(self.log.letters, self.log.first, self.log.second):

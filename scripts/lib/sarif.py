@@ -31,7 +31,7 @@ def rule(kind):
 
 
 def artifact(path):
-    """Where a file is: under the working folder, or by its whole path."""
+    """Where a file is: under the root, or by its whole path."""
     if os.path.isabs(path):
         return {"uri": pathlib.PurePosixPath(path).as_uri()}
     return {"uri": urllib.parse.quote(path, errors="surrogateescape"), "uriBaseId": ROOT}
@@ -83,7 +83,7 @@ def result(value, kinds, has_baseline):
 
 
 def document(answer, has_baseline=False):
-    """Of the answer of findings.document: a run for each process, with all rules. Files are looked for from the working folder on."""
+    """Of the answer of findings.document: a run for each process, with all rules."""
     kinds = list(RULES)
     return {"$schema": SCHEMA, "version": "2.1.0", "runs": [run(process, answer, kinds, has_baseline) for process in answer["processes"]]}
 
@@ -96,7 +96,7 @@ def run(process, answer, kinds, has_baseline):
     return {
         "tool": {"driver": {"name": "find_faults", "rules": [rule(kind) for kind in kinds]}},
         "automationDetails": {"id": f"find_faults/{urllib.parse.quote(process['name'], errors='surrogateescape')}/"},
-        "originalUriBaseIds": {ROOT: {"uri": pathlib.PurePosixPath(os.getcwd()).as_uri() + "/"}},
+        "originalUriBaseIds": {ROOT: {"uri": pathlib.PurePosixPath(findings.root()).as_uri().rstrip("/") + "/"}},
         "invocations": [invocation | ({"toolExecutionNotifications": missing} if missing else {})],
         "columnKind": "utf16CodeUnits",
         "results": [result(each, kinds, has_baseline) for each in process["findings"]],
@@ -111,11 +111,12 @@ def escaped(text, of_property=False):
 
 
 def annotations(answer):
-    """A line for each finding that is neither known nor suppressed: a runner shows it beside its source line."""
-    lines = []
+    """A line for each cause that is neither known nor suppressed, whichever processes have it: a runner shows it beside its source line."""
+    lines, told = [], set()
     for value in (each for process in answer["processes"] for each in process["findings"]):
-        if value.get("state", "new") != "new":
+        if value.get("state", "new") != "new" or value["id"] in told:
             continue
+        told.add(value["id"])
         place = next((frame for frame in value["frames"] if frame["file"] and not os.path.isabs(frame["file"])), None)
         where = f"file={escaped(place['file'], True)},line={place['line'] or 1}," if place else ""
         callers = "".join(f"\nfrom {findings.place(frame)}" for frame in value["frames"][1:])
