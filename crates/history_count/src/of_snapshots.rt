@@ -17,7 +17,7 @@ use std::alloc::{AllocError, Global};
 const SIZES: u32 = LARGEST_COUNTED + 1;
 
 impl History {
-    /// The history of these snapshots, 1 to 1,024. Each has a count for each size from 0 to 16,368 bytes, at most 1,000,000,000. No large
+    /// The history of these snapshots, 1 to 1,024. Each has a count for each size up to `LARGEST_COUNTED`, at most 1,000,000,000. No large
     /// blocks are counted. The only error is that the allocator refuses memory.
     pub fn of_snapshots(alloc: Global, snapshots: &[Vec<u32>]) -> Result<History, AllocError>
         requires { AreSnapshots (lists_of snapshots.now) }

@@ -9,8 +9,8 @@ use thiserror::Error;
 /// What is wrong with a line of a timeline. Each is shown as its code and name.
 #[derive(Debug, Clone, Copy, PartialEq, Eq)]
 pub enum TimelineFault {
-    /// The first line is not `timeline`, or there is none; or a later line is none of `N`, `-N`, `large` and `-large`, where N is a number
-    /// up to 16,368; or 1,000,000,000 events came before it.
+    /// The first line is not `timeline`, or there is none; or a later line is none of `N`, `-N`, `large` and `-large`, where N is a counted
+    /// size; or 1,000,000,000 events came before it.
     BadTimeline,
     /// It frees a block of a size of which none is live.
     NotLive,

@@ -10,10 +10,10 @@ use tuner_theory::SizeEvent;
 /// The first line of a timeline.
 pub const TIMELINE: &[u8] = b"timeline";
 
-/// How a line names a size above 16,368 bytes.
+/// How a line names a size that is not counted.
 const LARGE: &[u8] = b"large";
 
-/// The size by which all sizes above 16,368 bytes go.
+/// The size by which all larger sizes go.
 pub(crate) const LARGE_SIZE: u32 = LARGEST_COUNTED + 1;
 
 /// The event that a line spells.

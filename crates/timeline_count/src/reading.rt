@@ -10,7 +10,7 @@ use line_text::lines_in;
 use std::alloc::Global;
 
 impl Timeline {
-    /// The timeline that a text spells: the line `timeline`; then a line for each event, `N` for a request of N bytes (0 to 16,368) and `-N`
+    /// The timeline that a text spells: the line `timeline`; then a line for each event, `N` for a request of N bytes (a counted size) and `-N`
     /// for the free of such a block, `large` and `-large` for larger ones. The last line may lack its newline. Errors: the first faulty line
     /// with its fault, or `OutOfMemory`.
     pub fn read(alloc: Global, text: &[u8]) -> Result<Timeline, TimelineError>

@@ -8,7 +8,7 @@ ghost use Rattle.tuner_theory.specs.Timelines.{IsTimeline, requested};
 use class_table::{ClassTable, LARGEST_COUNTED};
 use tuner_theory::SizeEvent;
 
-/// The least requested size, up to 16,368 bytes, that has no class in the table. `None` if the table serves the timeline.
+/// The least counted size that is requested and has no class in the table. `None` if the table serves the timeline.
 pub fn unserved_over(events: &[SizeEvent], table: &ClassTable) -> Option<u32>
     ensures some { IfSome result (λ n. IsLeastUnserved events.now table.now n) }
     ensures none { IfNone result
@@ -46,7 +46,7 @@ fn least_unserved(events: &[SizeEvent], k: usize, table: &ClassTable, least: u32
 }
 
 /// A moment of a timeline that decides whether a table serves it: a table that serves a history with this moment serves the timeline. It is
-/// the first at which a block of the largest requested size is live, of those up to 16,368 bytes.
+/// the first at which a block of the largest requested size is live, of those that are counted.
 pub fn largest_moment(events: &[SizeEvent]) -> usize
     requires { IsTimeline events.now }
     ensures within { result ≤ length events.now }

@@ -11,7 +11,7 @@ use tuner_theory::SizeEvent;
 // a count for each size up to the largest that is counted
 const SIZES: usize = LARGEST_COUNTED as usize + 1;
 
-/// The snapshots at some moments of a timeline: how many blocks of each size from 0 to 16,368 bytes are live after so many events. It goes
+/// The snapshots at some moments of a timeline: how many blocks of each counted size are live after so many events. It goes
 /// over the events once if the numbers ascend, and begins anew where one is below the number before it. The only error is that the
 /// allocator refuses memory.
 pub fn snapshots_at(

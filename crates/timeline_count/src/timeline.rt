@@ -7,7 +7,7 @@ use std::marker::Model;
 use tuner_theory::SizeEvent;
 
 /// The requests and frees of a run in their order, by size, at most 1,000,000,000. Each free finds a live block of its size. All sizes above
-/// 16,368 bytes go by the size 16,369.
+/// `LARGEST_COUNTED` go by the next one.
 #[derive(Debug, Drop)]
 pub struct Timeline {
     events: Vec<SizeEvent>,
