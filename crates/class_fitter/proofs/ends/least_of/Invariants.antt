@@ -1,0 +1,6 @@
+use Rattle.std.proofs.Common.{◌<◌, ◌≤◌, ℕ, slice_index}
+use Rattle.class_fitter.specs.PlaceByPlace.{end_cost}
+use Rattle.class_fitter.proofs.ends.least_of.Given as goal
+
+abbrev pub invariant-loop-j : goal.invariant-loop-j
+invariant-loop-j l = record { below : (m : ℕ) → l.start ≤ m → m < l.j → l.low ≤ end_cost l.costs (slice_index l.before) m }
