@@ -1,7 +1,7 @@
 //! The least cost of a place over its ends. The ends are taken in blocks, each with a bound: a block is passed over where its bound shows
 //! that none of its ends costs as little as the best so far.
-ghost use Rattle.std.specs.Prelude.{◌≡◌, ℕ, ◌+◌, ◌*◌, ◌^◌, ◌<◌, ◌≤◌, ◌⊎◌, ◌↔◌, IsTrue, length, slice_index};
-ghost use Rattle.class_fitter.specs.Ends.{IsBlock, IsLeastSoFar};
+ghost use Rattle.std.specs.Prelude.{◌≡◌, ◌≢◌, ℕ, ◌+◌, ◌-◌, ◌^◌, ◌<◌, ◌≤◌, length, slice_index};
+ghost use Rattle.class_fitter.specs.Ends.{IsBlock, IsLeastSoFar, IsReached};
 ghost use Rattle.class_fitter.specs.PlaceByPlace.{AreCostsFrom, end_cost};
 ghost use Rattle.footprint_check.specs.Bounds.{AreBounds, IsSlack};
 ghost use Rattle.tuner_theory.specs.Rows.{IsLeastEnd};
@@ -28,24 +28,40 @@ pub(crate) fn least_end(
     ensures small { result.0 ≤ slice_index costs.now (length before.now) }
 {
     let last = before.len();
-    let (mut least, mut end) = first_guess(costs, before, place, hint);
+    let (guess, guessed) = first_guess(costs, before, place, hint);
     // the ends up to the next block have no bound
     let first = place + 1;
     let stop = ((first / BLOCK + 1) * BLOCK).min(last);
-    let found = best_of(costs, before, first, stop, least, end);
-    least = found.0;
-    end = found.1;
-    for block in first / BLOCK + 1..(last - 1) / BLOCK + 1 {
-        if bounds[block] <= least + slack[block] {
-            let start = block * BLOCK;
-            let stop = (start + BLOCK).min(last);
-            let seen = look_into(costs, before, start, stop, least, end);
-            bounds[block] = seen.low + slack[block];
-            least = seen.least;
-            end = seen.end;
-        }
+    let near = look_into(costs, before, first, stop, guess, guessed);
+    let (mut least, mut end) = (near.least, near.end);
+    let blocks = (last - 1) / BLOCK + 1;
+    let mut block = next_block(bounds, slack, first / BLOCK + 1, blocks, least);
+    while block < blocks {
+        let start = block * BLOCK;
+        let seen = look_into(costs, before, start, (start + BLOCK).min(last), least, end);
+        bounds[block] = seen.low + slack[block];
+        least = seen.least;
+        end = seen.end;
+        block = next_block(bounds, slack, block + 1, blocks, least);
     }
     (least, end)
+}
+
+// the next block whose bound does not show that all of its ends cost more
+fn next_block(bounds: &[u64], slack: &[u64], from: usize, blocks: usize, least: u64) -> usize
+    requires bounds { blocks ≤ length bounds.now }
+    requires slack { blocks ≤ length slack.now }
+    requires small { (b : ℕ) → slice_index slack.now b ≤ 2 ^ 60 }
+    requires least { least ≤ 2 ^ 60 }
+    ensures order { from ≤ result }
+    ensures past { (b : ℕ) → from ≤ b → b < result → least + slice_index slack.now b < slice_index bounds.now b }
+{
+    for block in from..blocks {
+        if bounds[block] <= least + slack[block] {
+            return block;
+        }
+    }
+    from.max(blocks)
 }
 
 // the cost of the hint, if it is an end that costs less than one class for all places above, or else the cost of that
@@ -82,26 +98,38 @@ fn look_into(
     least: u64,
     end: usize,
 ) -> Seen
+    requires order { start ≤ stop }
     requires block { IsBlock costs.now before.now start stop }
-    requires some { start < stop }
+    requires small { least ≤ 2 ^ 60 }
     requires value { least ≡ end_cost costs.now (slice_index before.now) end }
     ensures low { (j : ℕ) → start ≤ j → j < stop → result.low ≤ end_cost costs.now (slice_index before.now) j }
     ensures least { let f = end_cost costs.now (slice_index before.now) in (place last : ℕ) → place < start
         → stop ≤ last → IsLeastSoFar f place start last end → IsLeastSoFar f place stop last result.end }
     ensures value { result.least ≡ end_cost costs.now (slice_index before.now) result.end }
+    ensures small { result.least ≤ 2 ^ 60 }
 {
     let low = least_of(costs, before, start, stop);
     if low > least {
         return Seen { low, least, end };
     }
-    let (least, end) = best_of(costs, before, start, stop, least, end);
-    Seen { low, least, end }
+    let first = first_of(costs, before, start, stop, low);
+    if low == least && end < first {
+        return Seen { low, least, end };
+    }
+    Seen {
+        low,
+        least: low,
+        end: first,
+    }
 }
 
-// the least cost of some ends
+// the least cost of some ends, if there are any
 fn least_of(costs: &[u64], before: &[u64], start: usize, stop: usize) -> u64
+    requires order { start ≤ stop }
     requires block { IsBlock costs.now before.now start stop }
-    ensures { (j : ℕ) → start ≤ j → j < stop → result ≤ end_cost costs.now (slice_index before.now) j }
+    ensures low { (j : ℕ) → start ≤ j → j < stop → result ≤ end_cost costs.now (slice_index before.now) j }
+    ensures none { stop ≤ start → result ≡ 2 ^ 64 - 1 }
+    ensures reached { start < stop → IsReached (end_cost costs.now (slice_index before.now)) start stop result }
 {
     let mut low = u64::MAX;
     for j in start..stop {
@@ -110,38 +138,18 @@ fn least_of(costs: &[u64], before: &[u64], start: usize, stop: usize) -> u64
     low
 }
 
-// the best of some ends after those that were seen before, of which this one is the best
-fn best_of(
-    costs: &[u64],
-    before: &[u64],
-    start: usize,
-    stop: usize,
-    number: u64,
-    first: usize,
-) -> (u64, usize)
-    requires order { start ≤ stop }
+// the first of some ends that has this cost
+fn first_of(costs: &[u64], before: &[u64], start: usize, stop: usize, cost: u64) -> usize
     requires block { IsBlock costs.now before.now start stop }
-    requires value { number ≡ end_cost costs.now (slice_index before.now) first }
-    ensures least { let f = end_cost costs.now (slice_index before.now) in (place last : ℕ) → place < start
-        → stop ≤ last → IsLeastSoFar f place start last first → IsLeastSoFar f place stop last result.1 }
-    ensures value { result.0 ≡ end_cost costs.now (slice_index before.now) result.1 }
+    requires reached { IsReached (end_cost costs.now (slice_index before.now)) start stop cost }
+    ensures from { start ≤ result }
+    ensures within { result < stop }
+    ensures value { cost ≡ end_cost costs.now (slice_index before.now) result }
+    ensures first { (j : ℕ) → start ≤ j → j < result → cost ≢ end_cost costs.now (slice_index before.now) j }
 {
-    let mut least = number;
-    let mut end = first;
-    for j in start..stop {
-        let cost = costs[j] + before[j];
-        if is_better(cost, j, least, end) {
-            least = cost;
-            end = j;
-        }
+    let mut first = start;
+    while costs[first] + before[first] != cost {
+        first += 1;
     }
-    (least, end)
-}
-
-// whether an end costs less than the best so far, or as little and comes before it
-#[inline(always)]
-fn is_better(cost: u64, j: usize, least: u64, end: usize) -> bool
-    ensures { IsTrue result ↔ ((cost < least) ⊎ ((cost ≡ least) × (j < end))) }
-{
-    cost < least || (cost == least && j < end)
+    first
 }

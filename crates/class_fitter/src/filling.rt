@@ -46,7 +46,16 @@ pub fn fill_places<C: SpanCosts>(
         swap(&mut from, &mut older);
         costs.write_from(i, &mut from);
         lower_slack(&older, &from, &mut slack, i, places);
-        fill_place(&from, &slack, &mut bounds, &mut rows, &mut ends, i, places, limit);
+        fill_place(
+            &from,
+            &slack,
+            &mut bounds,
+            &mut rows,
+            &mut ends,
+            i,
+            places,
+            limit,
+        );
     }
     Ok(Filled { rows, ends })
 }

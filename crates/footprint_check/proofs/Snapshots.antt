@@ -73,9 +73,22 @@ module _ (sums : List (List ℕ)) (t : ℕ) where
       → c ≡ slice_index_or sums (t + 2) [] → d ≡ slice_index_or sums (t + 3) [] → e ≡ slice_index_or sums (t + 4) []
       → f ≡ slice_index_or sums (t + 5) [] → g ≡ slice_index_or sums (t + 6) [] → h ≡ slice_index_or sums (t + 7) []
       → AreRowsFrom sums t (a ∷ b ∷ c ∷ d ∷ e ∷ f ∷ g ∷ h ∷ [])
-  eight-rows a b c d e f g h a_is b_is c_is d_is e_is f_is g_is h_is =
-      (a_is, (b_is, (on _ _ c (omega arith) c_is, (on _ _ d (omega arith) d_is, (on _ _ e (omega arith) e_is,
-      (on _ _ f (omega arith) f_is, (on _ _ g (omega arith) g_is, (on _ _ h (omega arith) h_is, tt))))))))
+  eight-rows a b c d e f g h a_is b_is c_is d_is e_is f_is g_is h_is = (
+    a_is,
+    (
+      b_is,
+      (
+        on _ _ c (omega arith) c_is,
+        (
+          on _ _ d (omega arith) d_is,
+          (
+            on _ _ e (omega arith) e_is,
+            (on _ _ f (omega arith) f_is, (on _ _ g (omega arith) g_is, (on _ _ h (omega arith) h_is, tt))),
+          ),
+        ),
+      ),
+    ),
+  )
 
 module _ (snapshots : List (List ℕ)) (counts : List ℕ) (step : ℕ) (sums : List (List ℕ))
     (holds : HoldsSnapshots snapshots counts step sums) where

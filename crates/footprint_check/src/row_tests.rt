@@ -111,7 +111,15 @@ fn edges_hold_at(
         AreRowBounds costs.now slack.now i places limit (number_at rows.now) (lists_of bounds.new) }
 {
     for k in 1..rows.len() {
-        if !edge_holds_in(costs, rows.row(k - 1), slack, bounds, k, rows.number(k + 1, i), i) {
+        if !edge_holds_in(
+            costs,
+            rows.row(k - 1),
+            slack,
+            bounds,
+            k,
+            rows.number(k + 1, i),
+            i,
+        ) {
             return false;
         }
     }

@@ -1,4 +1,4 @@
-use Rattle.std.proofs.Common.{◌≡◌, ◌*◌, length, slice_index}
+use Rattle.std.proofs.Common.{◌≡◌, ◌+◌, ◌-◌, ◌*◌, ◌/◌, ◌^◌, ◌<◌, ◌≤◌, length, slice_index}
 use Rattle.class_fitter.specs.Ends.{IsLeastSoFar}
 use Rattle.footprint_check.specs.Bounds.{AreBounds}
 use Rattle.class_fitter.specs.PlaceByPlace.{end_cost}
@@ -10,4 +10,9 @@ invariant-loop-block l = record {
   bounds : AreBounds l.costs l.slack l.place (length l.before) (slice_index l.before) l.bounds;
   least : IsLeastSoFar (end_cost l.costs (slice_index l.before)) l.place (BLOCK * l.block) (length l.before) l.end;
   value : l.least ≡ end_cost l.costs (slice_index l.before) l.end;
+  small : l.least ≤ 2 ^ 60;
+  after : (l.place + 1) / BLOCK < l.block;
 }
+
+abbrev pub decreases-loop-block : goal.decreases-loop-block
+decreases-loop-block l = l.blocks - l.block

@@ -17,7 +17,7 @@ loop-e-preserved c =
     let n6 = c.narrow_at-in-loop-e-6 in
     let n7 = c.narrow_at-in-loop-e-7 in
     let rows = n0.result.now ∷ n1.result.now ∷ n2.result.now ∷ n3.result.now ∷ n4.result.now ∷ n5.result.now ∷ n6.result.now
-        ∷ n7.result.now ∷ [] in
+    ∷ n7.result.now ∷ [] in
     let next : t + 8 ≡ 8 * (c.loop-e.e + 1) = omega arith in
     record {
       size = c.raise_eight.ensures.size ∙ c.loop-e.invariant.size;

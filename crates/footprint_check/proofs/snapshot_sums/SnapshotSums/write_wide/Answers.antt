@@ -8,10 +8,13 @@ overflow_mul-costs c =
     let s = c.args.self.now in
     let j = c.loop-j.j in
     let m = slice_index c.loop-j.costs j in
-    omega (arith, product-fits s.history.now.snapshots s.spans.now.counts s.spans.now.step (lists_of s.sums.items) s.holds c.args.i j
-    (m * c.class_bytes.result) m (omega arith) (omega arith)
-    (others-at s.history.now.snapshots s.spans.now.counts s.spans.now.step (lists_of s.sums.items) s.holds c.args.i j c.loop-j.costs
-    c.loop-j.invariant.scaled (omega arith) (omega arith)) (ap (λ n. m * n) c.class_bytes.ensures))
+    omega (
+      arith,
+      product-fits s.history.now.snapshots s.spans.now.counts s.spans.now.step (lists_of s.sums.items) s.holds c.args.i j
+          (m * c.class_bytes.result) m (omega arith) (omega arith)
+          (others-at s.history.now.snapshots s.spans.now.counts s.spans.now.step (lists_of s.sums.items) s.holds c.args.i j c.loop-j.costs
+          c.loop-j.invariant.scaled (omega arith) (omega arith)) (ap (λ n. m * n) c.class_bytes.ensures),
+    )
 
 pub loop-j-preserved : goal.loop-j-preserved
 loop-j-preserved c =
