@@ -1,5 +1,5 @@
 -- The ends of a place, and the best of those that were seen.
-use Rattle.std.specs.Prelude.{◌≡◌, ℕ, ◌+◌, ◌^◌, ◌<◌, ◌≤◌, List, length, slice_index}
+use Rattle.std.specs.Prelude.{◌≡◌, ℕ, ◌^◌, ◌<◌, ◌≤◌, List, length, slice_index}
 
 -- Ends whose costs and numbers are small enough to add them.
 pub record IsBlock (costs numbers : List ℕ) (start stop : ℕ) : Type 0 where

@@ -1,5 +1,5 @@
 -- Rows that are filled place by place, from the last place on.
-use Rattle.std.specs.Prelude.{◌≡◌, ℕ, suc, ◌+◌, ◌-◌, ◌^◌, ◌<◌, ◌≤◌, List, length, slice_index}
+use Rattle.std.specs.Prelude.{◌≡◌, ℕ, suc, ◌+◌, ◌^◌, ◌<◌, ◌≤◌, List, length, slice_index}
 use Rattle.tuner_theory.specs.Rows.{HasShape, IsLeastEnd, number_at}
 
 -- The first row and the later ones are least rows from place `start` on.

@@ -2,7 +2,6 @@ use Rattle.std.proofs.Common.{◌≡◌, ℕ, suc, ◌+◌, ◌-◌, ◌<◌, �
 use Rattle.std.specs.declared.alloc.Global.{Global}
 use Rattle.std.proofs.lemmas.Bool.{le-leb, leb-true}
 use Rattle.std.proofs.lemmas.List.{get_or_default, with_items_is}
-use Rattle.footprint_check.specs.Bounds.{AreRowBounds}
 use Rattle.footprint_check.specs.CallCounts.{span_count}
 use Rattle.footprint_check.proofs.Bounds.{row_bounds-next, slack-narrowed}
 use Rattle.footprint_check.proofs.CallCounts.{spans_of_places}

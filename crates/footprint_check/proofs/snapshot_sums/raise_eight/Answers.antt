@@ -1,4 +1,4 @@
-use Rattle.std.proofs.Common.{◌≡◌, ◌-◌, ◌<◌, [], ◌∷◌, length, slice_index, arith}
+use Rattle.std.proofs.Common.{◌≡◌, ◌-◌, [], ◌∷◌, slice_index, arith}
 use Rattle.footprint_check.proofs.Snapshots.{raised-more}
 use Rattle.footprint_check.specs.SnapshotSums.{raised_to}
 use Rattle.footprint_check.proofs.snapshot_sums.raise_eight.Goals as goal

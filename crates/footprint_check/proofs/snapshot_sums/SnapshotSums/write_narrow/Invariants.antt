@@ -1,4 +1,4 @@
-use Rattle.std.proofs.Common.{◌≡◌, ◌-◌, ◌<◌, ◌≤◌, length}
+use Rattle.std.proofs.Common.{◌-◌, ◌<◌, ◌≤◌, length}
 use Rattle.footprint_check.specs.SnapshotSums.{AreWritten}
 use Rattle.footprint_check.proofs.snapshot_sums.SnapshotSums.write_narrow.Given as goal
 

@@ -1,4 +1,4 @@
-use Rattle.std.proofs.Common.{◌≡◌, ◌*◌, ap, arith, ◌∙◌}
+use Rattle.std.proofs.Common.{◌*◌, ap, arith, ◌∙◌}
 use Rattle.tuner_theory.specs.Lists.{lists_of}
 use Rattle.footprint_check.proofs.Snapshots.{most-all_in, written-more}
 use Rattle.footprint_check.proofs.snapshot_sums.SnapshotSums.write_some.Goals as goal
