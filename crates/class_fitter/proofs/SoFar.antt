@@ -1,12 +1,9 @@
 -- The best of the ends that were seen, and more ends.
-use Rattle.std.proofs.Common.{◌≡◌, ℕ, ◌+◌, ◌*◌, ◌/◌, ◌<◌, ◌≤◌, List, length, slice_index, arith, ap, inl, inr}
+use Rattle.std.proofs.Common.{◌≡◌, ℕ, ◌+◌, ◌*◌, ◌/◌, ◌<◌, ◌≤◌, List, slice_index, arith, inl, inr}
 use Rattle.std.proofs.lemmas.Bool.{cases_lt}
-use Rattle.std.proofs.lemmas.List.{get_or_past}
 use Rattle.class_fitter.specs.Ends.{IsLeastSoFar}
 use Rattle.footprint_check.specs.Bounds.{AreBounds}
 use Rattle.footprint_check.specs.declared.slack.TheConstants.{BLOCK}
-use Rattle.class_fitter.specs.PlaceByPlace.{end_cost}
-use Rattle.tuner_theory.specs.Rows.{IsLeastEnd}
 
 module _ (f : ℕ → ℕ) (place last : ℕ) where
   -- more ends that all cost more
@@ -36,19 +33,3 @@ module _ (f : ℕ → ℕ) (place last : ℕ) where
       (λ j low high within.
       omega (arith, value, is j, are.below j (omega arith) within, past (j / BLOCK) (omega arith) (omega arith)))
       l
-
-  -- all were seen
-  pub so_far-all : (next end : ℕ) → last ≤ next → IsLeastSoFar f place next last end → IsLeastEnd f place last end
-  so_far-all next end all l = record {
-    from = omega (arith, l.after);
-    to = l.within;
-    least = λ m past to. elim (cases_lt m last) [
-      | inl inside ↦ l.least m (omega arith) (omega arith) inside
-      | inr not ↦ (let same : m ≡ last = omega arith in omega (arith, ap f same, l.one_class))
-    ];
-    first = λ m past before. l.first m (omega arith) (omega (arith, l.within)) before;
-  }
-
--- past the numbers of a row there is nothing to add
-pub end_cost-last : (costs before : List ℕ) → end_cost costs (slice_index before) (length before) ≡ slice_index costs (length before)
-end_cost-last costs before = grind (arith, get_or_past)

@@ -1,10 +1,9 @@
 -- Bounds of blocks of ends, from row to row and from place to place.
-use Rattle.std.proofs.Common.{◌≡◌, ◌≢◌, ℕ, ◌+◌, ◌*◌, ◌/◌, ◌<◌, ◌≤◌, List, [], length, replicate, slice_index, slice_index_or, slice_set, arith, ap, ◌∙◌, inl, inr, Vec}
+use Rattle.std.proofs.Common.{◌≡◌, ◌≢◌, ℕ, ◌+◌, ◌*◌, ◌/◌, ◌<◌, ◌≤◌, List, [], length, slice_index, slice_index_or, slice_set, arith, ap, ◌∙◌, inl, inr, Vec}
 use Rattle.std.proofs.lemmas.Bool.{cases_eq, cases_lt}
-use Rattle.std.proofs.lemmas.List.{get_or-replicate, get_or-set_other, get_or-set_same, get_or_past, length-replicate, length-set, map-set}
-use Rattle.footprint_check.specs.Bounds.{AreBounds, AreRowBounds, AreZeros, IsNarrowed, IsSlack}
+use Rattle.std.proofs.lemmas.List.{get_or-set_other, get_or-set_same, length-set, map-set}
+use Rattle.footprint_check.specs.Bounds.{AreBounds, AreRowBounds, IsNarrowed, IsSlack}
 use Rattle.footprint_check.specs.declared.slack.TheConstants.{BLOCK}
-use Rattle.tuner_theory.specs.Growing.{IsGrowing}
 use Rattle.tuner_theory.specs.Lists.{lists_of}
 use Rattle.tuner_theory.proofs.Lists.{lists-length}
 use Rattle.std.specs.declared.alloc.Global.{Global}
@@ -52,29 +51,6 @@ module _ (costs slack : List ℕ) (place d : ℕ) where
       | inr other ↦ rw (others m other) (are.each m one lt)
     ];
   }
-
-each_is_zero : (n k : ℕ) → slice_index (replicate n 0) k ≡ 0
-each_is_zero n k = grind (arith, cases_lt, get_or-replicate, get_or_past, length-replicate)
-
--- before the last place there is none
-pub row_bounds-none : (costs slack : List ℕ) (d limit blocks : ℕ) (rows : ℕ → ℕ → ℕ) (bounds : List (List ℕ)) → d < BLOCK * blocks
-    → AreZeros limit blocks bounds → AreRowBounds costs slack d d limit rows bounds
-row_bounds-none costs slack d limit blocks rows bounds long zeros = record { size = zeros.size; each = each }
-  where
-    each : (k : ℕ) → 1 ≤ k → k < limit → AreBounds costs slack d d (rows k) (slice_index_or bounds k [])
-    each k one lt = rw (zeros.each k lt) (record {
-      long = omega (arith, long, ap (λ n. BLOCK * n) (length-replicate {A = ℕ} blocks 0));
-      below = λ j past to. absurd (omega arith);
-      none = λ b le. each_is_zero blocks b;
-    })
-
--- the costs from a place are no less than those from the next one
-pub costs-grown : (cost : ℕ → ℕ → ℕ) (d i : ℕ) (older costs : List ℕ) → IsGrowing cost d
-    → ((j : ℕ) → i + 1 < j → j ≤ d → slice_index older j ≡ cost (i + 1) j)
-    → ((j : ℕ) → i < j → j ≤ d → slice_index costs j ≡ cost i j)
-    → (j : ℕ) → i + 1 < j → j ≤ d → slice_index older j ≤ slice_index costs j
-costs-grown cost d i older costs grows older_are are j past to =
-    omega (arith, older_are j past to, are j (omega arith) to, grows i (i + 1) j j (omega arith) past (omega arith) to)
 
 -- from a place to the one before it
 pub row_bounds-next : (older costs old new : List ℕ) (place d limit : ℕ) (rows : ℕ → ℕ → ℕ) (bounds : List (List ℕ))
