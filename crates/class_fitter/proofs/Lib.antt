@@ -3,5 +3,4 @@ pub mod Fits
 pub mod Numbers
 pub mod OneFit
 pub mod Places
-pub mod Blocks
-pub mod Falling
+pub mod SoFar

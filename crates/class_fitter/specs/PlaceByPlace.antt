@@ -1,5 +1,5 @@
 -- Rows that are filled place by place, from the last place on.
-use Rattle.std.specs.Prelude.{◌≡◌, ℕ, suc, ◌+◌, ◌-◌, ◌^◌, ◌<◌, ◌≤◌, List, length, slice_index}
+use Rattle.std.specs.Prelude.{◌≡◌, ℕ, suc, ◌+◌, ◌^◌, ◌<◌, ◌≤◌, List, length, slice_index}
 use Rattle.tuner_theory.specs.Rows.{HasShape, IsLeastEnd, number_at}
 
 -- The first row and the later ones are least rows from place `start` on.
@@ -14,30 +14,6 @@ pub record AreCostsFrom (d place : ℕ) (costs : List ℕ) : Type 0 where
   pub within : place < d
   pub size : length costs ≡ d + 1
   pub small : (j : ℕ) → place < j → j ≤ d → slice_index costs j ≤ 2 ^ 60
-
--- Costs of the spans from a place, by their ends, do not fall.
-abbrev pub GrowFrom : ℕ → List ℕ → Type 0
-GrowFrom place costs = (j m : ℕ) → place < j → j ≤ m → m < length costs → slice_index costs j ≤ slice_index costs m
-
--- The numbers of a row after a place do not rise;
-abbrev pub FallFrom : ℕ → List ℕ → Type 0
-FallFrom place numbers = (j m : ℕ) → place < j → j ≤ m → m < length numbers → slice_index numbers m ≤ slice_index numbers j
-
--- nor those of any row that has a later one.
-abbrev pub RowsFallFrom : ℕ → ℕ → ℕ → List (List ℕ) → Type 0
-RowsFallFrom place limit d rows =
-    (k j m : ℕ) → 1 ≤ k → k < limit → place < j → j ≤ m → m < d → number_at rows k m ≤ number_at rows k j
-
--- A block of ends: no cost in it is below its first one, and no number below its last one.
-pub record IsBlock (costs numbers : List ℕ) (start stop : ℕ) : Type 0 where
-  pub first : 1 ≤ start
-  pub some : start < stop
-  pub in_costs : stop ≤ length costs
-  pub in_numbers : stop ≤ length numbers
-  pub cost : (j : ℕ) → start ≤ j → j < stop → slice_index costs start ≤ slice_index costs j
-  pub number : (j : ℕ) → start ≤ j → j < stop → slice_index numbers (stop - 1) ≤ slice_index numbers j
-  pub small_costs : (j : ℕ) → start ≤ j → j < stop → slice_index costs j ≤ 2 ^ 60
-  pub small_numbers : (j : ℕ) → slice_index numbers j ≤ 2 ^ 60
 
 -- So many rows of d numbers, each small, and their ends.
 pub record AreRowsSoFar (d limit : ℕ) (rows ends : List (List ℕ)) : Type 0 where

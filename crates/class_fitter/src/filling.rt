@@ -6,8 +6,9 @@ ghost use Rattle.tuner_theory.specs.Rows.{IsFilled};
 use crate::place::fill_place;
 use class_table::{MOST_CLASSES, MOST_NEEDS};
 use class_tuner::Filled;
-use footprint_check::SpanCosts;
+use footprint_check::{BLOCK, SpanCosts, WHOLE_SLACK, lower_slack, no_bounds};
 use std::alloc::{AllocError, Global};
+use std::mem::swap;
 
 /// The first `limit` (1 to 32) rows of least costs over a source, with their least ends, whatever the costs. The source must have at most
 /// 1,023 places and fewer than 2^62 calls. The function asks for the cost of each span once: D(D + 1)/2 costs over D places. The only error
@@ -35,10 +36,26 @@ pub fn fill_places<C: SpanCosts>(
         rows.push(vec![in alloc; 0u64; places]?)?;
         ends.push(vec![in alloc; places; places]?)?;
     }
+    let blocks = places / BLOCK + 1;
+    let mut bounds = no_bounds(alloc, limit, blocks)?;
+    let mut slack = vec![in alloc; WHOLE_SLACK; blocks]?;
     let mut from = vec![in alloc; 0u64; places + 1]?;
+    // the costs from the next place
+    let mut older = vec![in alloc; 0u64; places + 1]?;
     for i in (0..places).rev() {
+        swap(&mut from, &mut older);
         costs.write_from(i, &mut from);
-        fill_place(&from, &mut rows, &mut ends, i, places, limit);
+        lower_slack(&older, &from, &mut slack, i, places);
+        fill_place(
+            &from,
+            &slack,
+            &mut bounds,
+            &mut rows,
+            &mut ends,
+            i,
+            places,
+            limit,
+        );
     }
     Ok(Filled { rows, ends })
 }

@@ -2,6 +2,7 @@
 //! more, so the rows are filled place by place, from the last place on, over all ends.
 #![tactic(auto)]
 
+mod ends;
 mod filling;
 mod fitting;
 mod place;

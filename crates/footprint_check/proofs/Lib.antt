@@ -5,3 +5,4 @@ pub mod Snapshots
 pub mod UpTo
 pub mod Verdicts
 pub mod Narrow
+pub mod Bounds

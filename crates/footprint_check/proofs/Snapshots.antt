@@ -1,10 +1,11 @@
 -- Sums up to places, and the most blocks of intervals.
 use Rattle.std.proofs.lemmas.Grind.{common_steps}
-use Rattle.std.proofs.Common.{◌≡◌, ℕ, zero, suc, ◌+◌, ◌-◌, ◌*◌, ◌^◌, ◌<◌, ◌≤◌, ◌&&◌, max, List, [], ◌∷◌, length, slice_index, slice_index_or, slice_set, cond, ltb, leb, arith, ap, take}
+use Rattle.std.proofs.Common.{◌≡◌, ℕ, zero, suc, ◌+◌, ◌-◌, ◌*◌, ◌^◌, ◌<◌, ◌≤◌, ◌&&◌, max, List, [], ◌∷◌, length, slice_index, slice_index_or, slice_set, cond, ltb, leb, arith, ap, refl, ◌∙◌, take, inl, inr}
 use Rattle.std.proofs.lemmas.List.{get_or-set_other, get_or-set_same, length-set}
+use Rattle.std.proofs.lemmas.Bool.{cases_lt}
 use Rattle.std.proofs.lemmas.Bool.Decides.{nat_tests}
 use Rattle.class_table.specs.declared.sizes.TheConstants.{MOST_NEEDS}
-use Rattle.footprint_check.specs.SnapshotSums.{AreMostBlocks, AreMostIn, AreScaled, HoldsSnapshots, IsRaised, IsRaisedByFour}
+use Rattle.footprint_check.specs.SnapshotSums.{AreMostBlocks, AreMostIn, AreScaled, AreSumsAt, AreWritten, HoldsSnapshots, IsRaised, IsRaisedBy, raised_to}
 use Rattle.tuner_theory.specs.Footprint.{blocks_between, footprint_between, span_footprint}
 use Rattle.tuner_theory.specs.Growing.{IsGrowing}
 use Rattle.tuner_theory.specs.Histories.{most}
@@ -43,6 +44,52 @@ most-next f xs t lt = let next : t + 1 ≡ suc t = omega arith in rw next (most-
 pub take-all : (xs : List (List ℕ)) (t : ℕ) → t ≡ length xs → take t xs ≡ xs
 take-all xs t is = grind (arith, common_steps)
 
+-- one number more
+pub raised-more : (rows : List (List ℕ)) (i start j x : ℕ) (old numbers : List ℕ) → start ≤ j → j - start < length numbers
+    → x ≡ raised_to rows i j (slice_index numbers (j - start)) → IsRaisedBy rows i start j old numbers
+    → IsRaisedBy rows i start (j + 1) old (slice_set numbers (j - start) x)
+raised-more rows i start j x old numbers from within value raised = record {
+  size = length-set numbers (j - start) x ∙ raised.size;
+  raised = λ m past to. elim (cases_lt m j) [
+    | inl before ↦ get_or-set_other numbers (j - start) (m - start) x 0 (λ e. omega (arith, e)) ∙ raised.raised m past before
+    | inr not ↦ (let here : m ≡ j = omega arith in
+        rw here
+        (get_or-set_same numbers (j - start) x 0 within
+        ∙ (value ∙ ap (raised_to rows i j) (raised.kept (j - start) (omega arith)))))
+  ];
+  kept = λ m past. get_or-set_other numbers (j - start) m x 0 (λ e. omega (arith, e)) ∙ raised.kept m (omega arith);
+}
+
+-- Rows of sums, from that of snapshot t on.
+abbrev pub AreRowsFrom : List (List ℕ) → ℕ → List (List ℕ) → Type 0
+AreRowsFrom sums t [] = Unit {0}
+AreRowsFrom sums t (row ∷ rows) = (row ≡ slice_index_or sums t []) × AreRowsFrom sums (t + 1) rows
+
+module _ (sums : List (List ℕ)) (t : ℕ) where
+  on : (n m : ℕ) (row : List ℕ) → n ≡ m → row ≡ slice_index_or sums n [] → row ≡ slice_index_or sums m []
+  on n m row e is = is ∙ ap (λ k. slice_index_or sums k []) e
+
+  pub eight-rows : (a b c d e f g h : List ℕ) → a ≡ slice_index_or sums t [] → b ≡ slice_index_or sums (t + 1) []
+      → c ≡ slice_index_or sums (t + 2) [] → d ≡ slice_index_or sums (t + 3) [] → e ≡ slice_index_or sums (t + 4) []
+      → f ≡ slice_index_or sums (t + 5) [] → g ≡ slice_index_or sums (t + 6) [] → h ≡ slice_index_or sums (t + 7) []
+      → AreRowsFrom sums t (a ∷ b ∷ c ∷ d ∷ e ∷ f ∷ g ∷ h ∷ [])
+  eight-rows a b c d e f g h a_is b_is c_is d_is e_is f_is g_is h_is = (
+    a_is,
+    (
+      b_is,
+      (
+        on _ _ c (omega arith) c_is,
+        (
+          on _ _ d (omega arith) d_is,
+          (
+            on _ _ e (omega arith) e_is,
+            (on _ _ f (omega arith) f_is, (on _ _ g (omega arith) g_is, (on _ _ h (omega arith) h_is, tt))),
+          ),
+        ),
+      ),
+    ),
+  )
+
 module _ (snapshots : List (List ℕ)) (counts : List ℕ) (step : ℕ) (sums : List (List ℕ))
     (holds : HoldsSnapshots snapshots counts step sums) where
   pub small-spans : (i j : ℕ) → i < j → j ≤ places counts step → span_footprint snapshots step i j ≤ 2 ^ 60
@@ -71,12 +118,6 @@ module _ (snapshots : List (List ℕ)) (counts : List ℕ) (step : ℕ) (sums : 
       → AreMostBlocks snapshots counts step i (t + 1) new
   most-raised i t row old new lt is before raised = let are = holds.sums_are.each t lt in grind (arith, blocks-sums, needs-up, most-take)
 
-  -- the same of numbers of which there may be more
-  pub most-raised_in : (i t : ℕ) (row old new : List ℕ) → t < length snapshots → row ≡ slice_index_or sums t []
-      → AreMostIn snapshots counts step i t old → IsRaised row i (length row) old new
-      → AreMostIn snapshots counts step i (t + 1) new
-  most-raised_in i t row old new lt is before raised = let are = holds.sums_are.each t lt in grind (arith, blocks-sums, needs-up, most-take)
-
   -- what a snapshot's sums grow by
   grown : (i t : ℕ) (row : List ℕ) → t < length snapshots → row ≡ slice_index_or sums t [] → (j : ℕ) → i < j → j ≤ places counts step
       → slice_index row j - slice_index row i ≡ blocks_between step (need_at counts step i) (need_at counts step j) (slice_index_or snapshots t [])
@@ -89,60 +130,83 @@ module _ (snapshots : List (List ℕ)) (counts : List ℕ) (step : ℕ) (sums : 
         blocks-sums step (need_at counts step i) (need_at counts step j) (slice_index_or snapshots t []) (needs-up i j after le),
       ))
 
-  pub most-raised_four : (i t : ℕ) (a b c d old new : List ℕ) → t + 3 < length snapshots → a ≡ slice_index_or sums t []
-      → b ≡ slice_index_or sums (t + 1) [] → c ≡ slice_index_or sums (t + 2) [] → d ≡ slice_index_or sums (t + 3) []
-      → AreMostIn snapshots counts step i t old → IsRaisedByFour a b c d i (length a) old new → AreMostIn snapshots counts step i (t + 4) new
-  most-raised_four i t a b c d old new lt a_is b_is c_is d_is before raised = record { numbers_are = each }
-    where
-      each : (j : ℕ) → i < j → j ≤ places counts step
-          → slice_index new j ≡ most (blocks_between step (need_at counts step i) (need_at counts step j)) (take (t + 4) snapshots)
-      each j after le =
-          let f = blocks_between step (need_at counts step i) (need_at counts step j) in
-          let inside : j < length a = omega (arith, (holds.sums_are.each t (omega arith)).size, ap length a_is) in
-          let one : most f (take (t + 1) snapshots) ≡ max (most f (take t snapshots)) (f (slice_index_or snapshots t [])) = most-next f snapshots t (omega arith) in
-          let two : most f (take (t + 1 + 1) snapshots) ≡ max (most f (take (t + 1) snapshots)) (f (slice_index_or snapshots (t + 1) [])) =
-          most-next f snapshots (t + 1) (omega arith) in
-          let three : most f (take (t + 2 + 1) snapshots) ≡ max (most f (take (t + 2) snapshots)) (f (slice_index_or snapshots (t + 2) [])) =
-          most-next f snapshots (t + 2) (omega arith) in
-          let four : most f (take (t + 3 + 1) snapshots) ≡ max (most f (take (t + 3) snapshots)) (f (slice_index_or snapshots (t + 3) [])) =
-          most-next f snapshots (t + 3) lt in
-          let at_two : t + 1 + 1 ≡ t + 2 = omega arith in
-          let at_three : t + 2 + 1 ≡ t + 3 = omega arith in
-          let at_four : t + 3 + 1 ≡ t + 4 = omega arith in
-          let number = raised.raised j after inside in
-          let so_far = before.numbers_are j after le in
-          let in_a = grown i t a (omega arith) a_is j after le in
-          let in_b = grown i (t + 1) b (omega arith) b_is j after le in
-          let in_c = grown i (t + 2) c (omega arith) c_is j after le in
-          let in_d = grown i (t + 3) d lt d_is j after le in
-          cc
+  -- raised by the rows of snapshots in a row
+  most-raised_by : (i j : ℕ) → i < j → j ≤ places counts step → (rows : List (List ℕ)) (t : ℕ) → t + length rows ≤ length snapshots
+      → AreRowsFrom sums t rows
+      → raised_to rows i j (most (blocks_between step (need_at counts step i) (need_at counts step j)) (take t snapshots))
+      ≡ most (blocks_between step (need_at counts step i) (need_at counts step j)) (take (t + length rows) snapshots)
+  most-raised_by i j after le [] t fit are = let none : t + 0 ≡ t = omega arith in rw none refl
+  most-raised_by i j after le (row ∷ rows) t fit are =
+      let f = blocks_between step (need_at counts step i) (need_at counts step j) in
+      let here = grown i t row (omega arith) are.0 j after le in
+      let next = most-next f snapshots t (omega arith) in
+      let sum : t + suc (length rows) ≡ t + 1 + length rows = omega arith in
+      let rest = most-raised_by i j after le rows (t + 1) (omega arith) are.1 in
+      rw (here, ← next, sum) rest
 
-  pub most-all_in : (i : ℕ) (numbers wide : List ℕ) → length wide ≡ places counts step + 1
-      → ((j : ℕ) → j < length wide → slice_index wide j ≡ slice_index numbers j)
-      → AreMostIn snapshots counts step i (length snapshots) numbers → AreScaled snapshots counts step i (i + 1) wide
-  most-all_in i numbers wide size same are = grind (arith, take-all)
+  pub most-raised_in : (i start stop t : ℕ) (rows : List (List ℕ)) (old new : List ℕ) → i < start → stop ≤ places counts step + 1
+      → t + length rows ≤ length snapshots → AreRowsFrom sums t rows → AreMostIn snapshots counts step i start stop t old
+      → IsRaisedBy rows i start stop old new → AreMostIn snapshots counts step i start stop (t + length rows) new
+  most-raised_in i start stop t rows old new after within fit are before raised = record {
+    numbers_are = λ j from to.
+        raised.raised j from to
+        ∙ (ap (raised_to rows i j) (before.numbers_are j from to)
+        ∙ most-raised_by i j (omega arith) (omega arith) rows t fit are);
+  }
+
+  -- at all snapshots
+  pub most-all_in : (i start stop j : ℕ) (numbers : List ℕ) → start ≤ j → j < stop
+      → AreMostIn snapshots counts step i start stop (length snapshots) numbers
+      → slice_index numbers (j - start) ≡ most (blocks_between step (need_at counts step i) (need_at counts step j)) snapshots
+  most-all_in i start stop j numbers from to are =
+      are.numbers_are j from to
+      ∙ ap (most (blocks_between step (need_at counts step i) (need_at counts step j))) (take-all snapshots (length snapshots) refl)
+
+  pub sums-at : (t : ℕ) (row : List ℕ) → t < length snapshots → row ≡ slice_index_or sums t []
+      → AreSumsAt snapshots counts step sums t row
+  sums-at t row lt is =
+      let size = ap length is ∙ sums-size t lt in
+      record { within = lt; read = is; size = size; ascend = λ i j after le. rw is (sums-ascend t i j lt after (omega (arith, le, size))) }
 
   pub most-all : (i t : ℕ) (numbers : List ℕ) → t ≡ length snapshots → AreMostBlocks snapshots counts step i t numbers
       → AreScaled snapshots counts step i (i + 1) numbers
   most-all i t numbers all are = grind (arith, take-all)
 
   -- what the spans take
-  pub scaled-all : (i : ℕ) (numbers : List ℕ) → AreScaled snapshots counts step i (places counts step + 1) numbers → (j : ℕ) → i < j
-      → j ≤ places counts step → slice_index numbers j ≡ span_footprint snapshots step i j
-  scaled-all i numbers are j ij le = grind arith
+  pub written-all : (i stop : ℕ) (numbers : List ℕ) → AreWritten snapshots counts step i stop numbers → places counts step < stop
+      → (j : ℕ) → i < j → j ≤ places counts step → slice_index numbers j ≡ span_footprint snapshots step i j
+  written-all i stop numbers are all j ij le = grind arith
 
-  span-product : (i j w : ℕ) (numbers : List ℕ) → AreScaled snapshots counts step i j numbers → i < j → j ≤ places counts step
-      → w ≡ slice_index numbers j * (16 * need_at counts step j)
+  pub scaled-written : (i stop : ℕ) (numbers : List ℕ) → AreScaled snapshots counts step i stop numbers
+      → AreWritten snapshots counts step i stop numbers
+  scaled-written i stop numbers are = record { size = are.size; written = are.scaled }
+
+  product-is : (i j w m : ℕ) → i < j → j ≤ places counts step
+      → m ≡ most (blocks_between step (need_at counts step i) (need_at counts step j)) snapshots
+      → w ≡ m * (16 * need_at counts step j)
       → w ≡ footprint_between snapshots step (need_at counts step i) (need_at counts step j)
-  span-product i j w numbers are ij le product = grind arith
+  product-is i j w m ij le blocks product = grind arith
 
-  pub span-fits : (i j w : ℕ) (numbers : List ℕ) → AreScaled snapshots counts step i j numbers → i < j → j ≤ places counts step
-      → w ≡ slice_index numbers j * (16 * need_at counts step j) → w ≤ 2 ^ 60
-  span-fits i j w numbers are ij le product = grind (arith, span-product, small-spans i j)
+  pub product-fits : (i j w m : ℕ) → i < j → j ≤ places counts step
+      → m ≡ most (blocks_between step (need_at counts step i) (need_at counts step j)) snapshots
+      → w ≡ m * (16 * need_at counts step j) → w ≤ 2 ^ 60
+  product-fits i j w m ij le blocks product = grind (arith, product-is, small-spans i j)
+
+  -- the most blocks of the next place, where they are not scaled yet
+  pub others-at : (i j : ℕ) (numbers : List ℕ) → AreScaled snapshots counts step i j numbers → i < j → j ≤ places counts step
+      → slice_index numbers j ≡ most (blocks_between step (need_at counts step i) (need_at counts step j)) snapshots
+  others-at i j numbers are ij le = are.others j ij (omega arith) le
 
   -- one place more
   pub scaled-more : (i j w : ℕ) (numbers : List ℕ) → AreScaled snapshots counts step i j numbers → i < j → j ≤ places counts step
       → w ≡ slice_index numbers j * (16 * need_at counts step j) → AreScaled snapshots counts step i (j + 1) (slice_set numbers j w)
   scaled-more i j w numbers are ij le product =
-      let is = span-product i j w numbers are ij le product in
+      let is = product-is i j w (slice_index numbers j) ij le (others-at i j numbers are ij le) product in
+      grind (arith, length-set, get_or-set_other, get_or-set_same)
+
+  pub written-more : (i j w m : ℕ) (numbers : List ℕ) → AreWritten snapshots counts step i j numbers → i < j → j ≤ places counts step
+      → m ≡ most (blocks_between step (need_at counts step i) (need_at counts step j)) snapshots
+      → w ≡ m * (16 * need_at counts step j) → AreWritten snapshots counts step i (j + 1) (slice_set numbers j w)
+  written-more i j w m numbers are ij le blocks product =
+      let is = product-is i j w m ij le blocks product in
       grind (arith, length-set, get_or-set_other, get_or-set_same)

@@ -1,3 +1,4 @@
+pub mod Bounds
 pub mod CallCounts
 pub mod RowConditions
 pub mod SnapshotSums

@@ -20,14 +20,6 @@ pub record EdgeHoldsAt (costs before : List ℕ) (number i : ℕ) : Type 0 where
 pub record WithinEdges (costs before : List ℕ) (number start stop : ℕ) : Type 0 where
   pub each : (j : ℕ) → start ≤ j → j < stop → number ≤ slice_index costs j + slice_index before j
 
--- The numbers do not rise;
-abbrev pub Falls : List ℕ → Type 0
-Falls numbers = (j m : ℕ) → j ≤ m → m < length numbers → slice_index numbers m ≤ slice_index numbers j
-
--- the costs after place i do not fall.
-abbrev pub GrowAfter : ℕ → List ℕ → Type 0
-GrowAfter i costs = (j m : ℕ) → i < j → j ≤ m → m < length costs → slice_index costs j ≤ slice_index costs m
-
 -- Each later row up to row `stop` is within its edges at place i.
 pub record EdgesHoldAt (costs : List ℕ) (rows : List (List ℕ)) (d i stop : ℕ) : Type 0 where
   pub each : (k j : ℕ) → 1 ≤ k → k < stop → i < j → j ≤ d → number_at rows (suc k) i ≤ slice_index costs j + number_at rows k j
@@ -36,13 +28,13 @@ pub record EdgesHoldAt (costs : List ℕ) (rows : List (List ℕ)) (d i stop : �
 pub record DropsHoldAt (rows : List (List ℕ)) (i stop : ℕ) : Type 0 where
   pub each : (k : ℕ) → 1 ≤ k → k < stop → number_at rows (suc k) i ≤ number_at rows k i
 
--- ---- at the places before place i
+-- ---- at place i and the later ones
 
-pub record LastHoldsBefore (cost : ℕ → ℕ → ℕ) (d : ℕ) (rows : List (List ℕ)) (i : ℕ) : Type 0 where
-  pub each : (m : ℕ) → m < i → number_at rows 1 m ≤ cost m d
+pub record LastHoldsFrom (cost : ℕ → ℕ → ℕ) (d : ℕ) (rows : List (List ℕ)) (i : ℕ) : Type 0 where
+  pub each : (m : ℕ) → i ≤ m → m < d → number_at rows 1 m ≤ cost m d
 
-pub record DropsHoldBefore (rows : List (List ℕ)) (i : ℕ) : Type 0 where
-  pub each : (m : ℕ) → m < i → DropsHoldAt rows m (length rows)
+pub record DropsHoldFrom (d : ℕ) (rows : List (List ℕ)) (i : ℕ) : Type 0 where
+  pub each : (m : ℕ) → i ≤ m → m < d → DropsHoldAt rows m (length rows)
 
-pub record EdgesHoldBefore (cost : ℕ → ℕ → ℕ) (d : ℕ) (rows : List (List ℕ)) (i : ℕ) : Type 0 where
-  pub each : (m k j : ℕ) → m < i → 1 ≤ k → k < length rows → m < j → j ≤ d → number_at rows (suc k) m ≤ cost m j + number_at rows k j
+pub record EdgesHoldFrom (cost : ℕ → ℕ → ℕ) (d : ℕ) (rows : List (List ℕ)) (i : ℕ) : Type 0 where
+  pub each : (m k j : ℕ) → i ≤ m → 1 ≤ k → k < length rows → m < j → j ≤ d → number_at rows (suc k) m ≤ cost m j + number_at rows k j

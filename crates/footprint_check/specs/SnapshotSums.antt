@@ -1,6 +1,7 @@
 -- The sums of a history's snapshots up to each place of its peaks.
-use Rattle.std.specs.Prelude.{◌≡◌, ℕ, ◌+◌, ◌-◌, ◌*◌, ◌<◌, ◌≤◌, max, List, [], length, slice_index, slice_index_or, take}
+use Rattle.std.specs.Prelude.{◌≡◌, ℕ, ◌+◌, ◌-◌, ◌*◌, ◌<◌, ◌≤◌, max, List, [], ◌∷◌, length, slice_index, slice_index_or, take}
 use Rattle.class_table.specs.Steps.{IsStep}
+use Rattle.class_table.specs.Sizes.{granule_bytes}
 use Rattle.history_count.specs.CountedLines.{IsCutAt}
 use Rattle.certificates.specs.Spanned.{AreSumsUpTo}
 use Rattle.tuner_theory.specs.Footprint.{blocks_between, footprint_between}
@@ -17,7 +18,7 @@ pub record AreSnapshotSums (snapshots : List (List ℕ)) (counts : List ℕ) (st
 -- For each place, how many lines the classes up to it serve.
 pub record AreCuts (sizes counts : List ℕ) (step : ℕ) (cuts : List ℕ) : Type 0 where
   pub size : length cuts ≡ places counts step
-  pub each : (p : ℕ) → p < places counts step → IsCutAt sizes (slice_index cuts p) (16 * need_at counts step (p + 1) - 15)
+  pub each : (p : ℕ) → p < places counts step → IsCutAt sizes (slice_index cuts p) (granule_bytes * need_at counts step (p + 1) - (granule_bytes - 1))
 
 -- The sums of a column up to each cut, after 0.
 pub record AreColumnSums (column cuts sums : List ℕ) : Type 0 where
@@ -42,13 +43,16 @@ pub record IsRaised (sums : List ℕ) (i stop : ℕ) (old new : List ℕ) : Type
   pub raised : (j : ℕ) → i < j → j < stop → slice_index new j ≡ max (slice_index old j) (slice_index sums j - slice_index sums i)
   pub kept : (j : ℕ) → stop ≤ j → slice_index new j ≡ slice_index old j
 
--- The same by four lists of sums.
-pub record IsRaisedByFour (first second third fourth : List ℕ) (i stop : ℕ) (old new : List ℕ) : Type 0 where
+-- A number, raised to what some rows of sums grow from place i to place j.
+abbrev pub raised_to : List (List ℕ) → ℕ → ℕ → ℕ → ℕ
+raised_to [] i j x = x
+raised_to (row ∷ rows) i j x = raised_to rows i j (max x (slice_index row j - slice_index row i))
+
+-- The numbers are those of the places from `start` on. Up to below `stop` they are raised to what the rows grow from place i on.
+pub record IsRaisedBy (rows : List (List ℕ)) (i start stop : ℕ) (old new : List ℕ) : Type 0 where
   pub size : length new ≡ length old
-  pub raised : (j : ℕ) → i < j → j < stop → slice_index new j
-      ≡ max (max (max (max (slice_index old j) (slice_index first j - slice_index first i)) (slice_index second j - slice_index second i))
-      (slice_index third j - slice_index third i)) (slice_index fourth j - slice_index fourth i)
-  pub kept : (j : ℕ) → stop ≤ j → slice_index new j ≡ slice_index old j
+  pub raised : (j : ℕ) → start ≤ j → j < stop → slice_index new (j - start) ≡ raised_to rows i j (slice_index old (j - start))
+  pub kept : (m : ℕ) → stop - start ≤ m → slice_index new m ≡ slice_index old m
 
 -- The most blocks of each interval from place i on at the first t snapshots.
 pub record AreMostBlocks (snapshots : List (List ℕ)) (counts : List ℕ) (step i t : ℕ) (numbers : List ℕ) : Type 0 where
@@ -56,10 +60,10 @@ pub record AreMostBlocks (snapshots : List (List ℕ)) (counts : List ℕ) (step
   pub numbers_are : (j : ℕ) → i < j → j ≤ places counts step
       → slice_index numbers j ≡ most (blocks_between step (need_at counts step i) (need_at counts step j)) (take t snapshots)
 
--- The same of numbers of which there may be more.
-pub record AreMostIn (snapshots : List (List ℕ)) (counts : List ℕ) (step i t : ℕ) (numbers : List ℕ) : Type 0 where
-  pub numbers_are : (j : ℕ) → i < j → j ≤ places counts step
-      → slice_index numbers j ≡ most (blocks_between step (need_at counts step i) (need_at counts step j)) (take t snapshots)
+-- The same of the numbers of the places from `start` to below `stop`.
+pub record AreMostIn (snapshots : List (List ℕ)) (counts : List ℕ) (step i start stop t : ℕ) (numbers : List ℕ) : Type 0 where
+  pub numbers_are : (j : ℕ) → start ≤ j → j < stop
+      → slice_index numbers (j - start) ≡ most (blocks_between step (need_at counts step i) (need_at counts step j)) (take t snapshots)
 
 -- From place i on, the numbers up to below `stop` are what the intervals take, and the others the most blocks of them.
 pub record AreScaled (snapshots : List (List ℕ)) (counts : List ℕ) (step i stop : ℕ) (numbers : List ℕ) : Type 0 where
@@ -68,6 +72,19 @@ pub record AreScaled (snapshots : List (List ℕ)) (counts : List ℕ) (step i s
       → slice_index numbers j ≡ footprint_between snapshots step (need_at counts step i) (need_at counts step j)
   pub others : (j : ℕ) → i < j → stop ≤ j → j ≤ places counts step
       → slice_index numbers j ≡ most (blocks_between step (need_at counts step i) (need_at counts step j)) snapshots
+
+-- From place i on, the numbers up to below `stop` are what the intervals take.
+pub record AreWritten (snapshots : List (List ℕ)) (counts : List ℕ) (step i stop : ℕ) (numbers : List ℕ) : Type 0 where
+  pub size : length numbers ≡ places counts step + 1
+  pub written : (j : ℕ) → i < j → j < stop
+      → slice_index numbers j ≡ footprint_between snapshots step (need_at counts step i) (need_at counts step j)
+
+-- The sums of a snapshot, one for each place from 0 on.
+pub record AreSumsAt (snapshots : List (List ℕ)) (counts : List ℕ) (step : ℕ) (sums : List (List ℕ)) (t : ℕ) (row : List ℕ) : Type 0 where
+  pub within : t < length snapshots
+  pub read : row ≡ slice_index_or sums t []
+  pub size : length row ≡ places counts step + 1
+  pub ascend : (i : ℕ) → Ascends row i
 
 -- Rows of numbers that were taken over in a narrower type: all, where there are any.
 abbrev pub AreNarrow : List (List ℕ) → List (List ℕ) → Type 0

@@ -1,13 +1,18 @@
 //! The conditions on the rows of a certificate over any source of costs.
-ghost use Rattle.std.specs.Prelude.{◌≡◌, ◌↔◌, ℕ, ◌+◌, ◌^◌, ◌<◌, ◌≤◌, [], length, slice_index, slice_index_or, IfOk, IsTrue, OnErr, OnOk};
+ghost use Rattle.std.specs.Prelude.{◌≡◌, ◌≢◌, ◌↔◌, ℕ, ◌+◌, ◌^◌, ◌<◌, ◌≤◌, [], length, slice_index, slice_index_or};
+ghost use Rattle.std.specs.Prelude.{IfOk, IsTrue, OnErr, OnOk};
+ghost use Rattle.footprint_check.specs.Bounds.{AreBounds, AreRowBounds, IsSlack};
 ghost use Rattle.footprint_check.specs.CallCounts.{span_count};
-ghost use Rattle.footprint_check.specs.RowConditions.{AreRowTests, DropsHoldAt, EdgeHoldsAt, EdgesHoldAt, Falls, GrowAfter, WithinEdges};
-ghost use Rattle.tuner_theory.specs.Rows.{HasShape};
+ghost use Rattle.footprint_check.specs.RowConditions.{AreRowTests, DropsHoldAt, EdgeHoldsAt, EdgesHoldAt, WithinEdges};
+ghost use Rattle.tuner_theory.specs.Lists.{lists_of};
+ghost use Rattle.tuner_theory.specs.Rows.{HasShape, number_at};
 
+use crate::slack::{BLOCK, WHOLE_SLACK, lower_slack, no_bounds};
 use crate::span_costs::SpanCosts;
 use certificates::Rows;
 use class_table::MOST_NEEDS;
 use std::alloc::{AllocError, Global};
+use std::mem::swap;
 
 /// Which conditions the numbers of rows meet.
 #[derive(Debug, Clone, Copy)]
@@ -19,9 +24,6 @@ pub struct RowTests {
     /// No number is more than the cost of a class up to a later place plus the number of the row before at that place.
     pub edge: bool,
 }
-
-// how many ends are passed over at once
-const BLOCK: usize = 8;
 
 /// Tests the numbers of rows against a source of at most 1,023 places and fewer than 2^62 calls. Each row, of at most 65,536, must have a
 /// number for each place. The function asks for the cost of each span once: D(D + 1)/2 costs over D places. The only error is that the
@@ -45,13 +47,19 @@ pub fn test_rows<C: SpanCosts>(
         stage_drop: true,
         edge: true,
     };
+    let blocks = places / BLOCK + 1;
+    let mut bounds = no_bounds(alloc, rows.len(), blocks)?;
+    let mut slack = vec![in alloc; WHOLE_SLACK; blocks]?;
     let mut from = vec![in alloc; 0u64; places + 1]?;
-    let fall = rows_fall(rows);
-    for i in 0..places {
+    // the costs from the next place
+    let mut older = vec![in alloc; 0u64; places + 1]?;
+    for i in (0..places).rev() {
+        swap(&mut from, &mut older);
         costs.write_from(i, &mut from);
+        lower_slack(&older, &from, &mut slack, i, places);
         let last_class = rows.number(1, i) <= from[places];
         let stage_drop = drops_hold_at(rows, i);
-        let edge = edges_hold_at(&from, rows, i, places, fall);
+        let edge = edges_hold_at(&from, rows, &slack, &mut bounds, i, places);
         tests = RowTests {
             last_class: both(tests.last_class, last_class),
             stage_drop: both(tests.stage_drop, stage_drop),
@@ -81,99 +89,120 @@ fn drops_hold_at(rows: &Rows, i: usize) -> bool
     true
 }
 
-// whether the numbers of each row fall, as they do where they are least; a row that rises tells nothing
-fn rows_fall(rows: &Rows) -> bool
-    ensures { IsTrue result → (k : ℕ) → k < length rows.now → Falls (slice_index_or rows.now k []) }
-{
-    for k in 0..rows.len() {
-        if !falls(rows.row(k)) {
-            return false;
-        }
-    }
-    true
-}
-
-// whether no number is above the one before it
-fn falls(numbers: &[u64]) -> bool
-    ensures { IsTrue result → Falls numbers.now }
-{
-    for j in 1..numbers.len() {
-        if numbers[j] > numbers[j - 1] {
-            return false;
-        }
-    }
-    true
-}
-
 // whether each later row is within its edges at place i
-fn edges_hold_at(costs: &[u64], rows: &Rows, i: usize, places: usize, fall: bool) -> bool
+fn edges_hold_at(
+    costs: &[u64],
+    rows: &Rows,
+    slack: &[u64],
+    bounds: &mut [Vec<u64>],
+    i: usize,
+    places: usize,
+) -> bool
     requires few { length rows.now ≤ 2 ^ 16 }
     requires few_places { places ≤ 2 ^ 16 }
     requires shape { HasShape rows.now (length rows.now) places }
     requires size { length costs.now ≡ places + 1 }
-    requires place { i < 2 ^ 16 }
-    requires grow { GrowAfter i costs.now }
-    requires fall { IsTrue fall → (k : ℕ) → k < length rows.now → Falls (slice_index_or rows.now k []) }
-    ensures { IsTrue result ↔ EdgesHoldAt costs.now rows.now places i (length rows.now) }
+    requires place { i < places }
+    requires slack { IsSlack places slack.now }
+    requires bounds { let limit = length rows.now in
+        AreRowBounds costs.now slack.now i places limit (number_at rows.now) (lists_of bounds.old) }
+    ensures edges { IsTrue result ↔ EdgesHoldAt costs.now rows.now places i (length rows.now) }
+    ensures bounds { let limit = length rows.now in
+        AreRowBounds costs.now slack.now i places limit (number_at rows.now) (lists_of bounds.new) }
 {
     for k in 1..rows.len() {
-        if !edge_holds_at(costs, rows.row(k - 1), rows.number(k + 1, i), i, fall) {
+        if !edge_holds_in(
+            costs,
+            rows.row(k - 1),
+            slack,
+            bounds,
+            k,
+            rows.number(k + 1, i),
+            i,
+        ) {
             return false;
         }
     }
     true
 }
 
-// Whether a number at place i is within its edges to the later places. A block of ends is passed over where the numbers fall, and the cost
-// of its first end and the number of its last one show that the number is within all of them.
-fn edge_holds_at(costs: &[u64], before: &[u64], number: u64, i: usize, fall: bool) -> bool
-    requires size { length costs.now ≡ length before.now + 1 }
-    requires place { i < 2 ^ 16 }
-    requires short { length before.now ≤ 2 ^ 16 }
-    requires grow { GrowAfter i costs.now }
-    requires fall { IsTrue fall → Falls before.now }
-    ensures { IsTrue result ↔ EdgeHoldsAt costs.now before.now number i }
-{
-    let last = before.len();
-    let mut next = i + 1;
-    while next < last {
-        // the costs of all later ends are no less
-        if number <= costs[next] {
-            return true;
-        }
-        let stop = (next + BLOCK).min(last);
-        if !block_holds(costs, before, number, next, stop, fall) {
-            return false;
-        }
-        next = stop;
-    }
-    last <= i || number <= costs[last]
-}
-
-// whether a number is within its edges to a block of ends
-fn block_holds(
+// whether a number at place i is within its edges to the later places, by the bounds of one row
+fn edge_holds_in(
     costs: &[u64],
     before: &[u64],
+    slack: &[u64],
+    bounds: &mut [Vec<u64>],
+    k: usize,
     number: u64,
-    start: usize,
-    stop: usize,
-    fall: bool,
+    i: usize,
 ) -> bool
-    requires order { start < stop }
-    requires in_costs { stop ≤ length costs.now }
-    requires in_numbers { stop ≤ length before.now }
-    requires grow { (j : ℕ) → start ≤ j → j < stop → slice_index costs.now start ≤ slice_index costs.now j }
-    requires fall { IsTrue fall → Falls before.now }
-    ensures { IsTrue result ↔ WithinEdges costs.now before.now number start stop }
+    requires row { k < length bounds.old }
+    requires size { length costs.now ≡ length before.now + 1 }
+    requires place { i < length before.now }
+    requires short { length before.now ≤ 2 ^ 16 }
+    requires slack { IsSlack (length before.now) slack.now }
+    requires bounds { let its = slice_index_or (lists_of bounds.old) k [] in
+        AreBounds costs.now slack.now i (length before.now) (slice_index before.now) its }
+    ensures edge { IsTrue result ↔ EdgeHoldsAt costs.now before.now number i }
+    ensures others { (m : ℕ) → m ≢ k
+        → slice_index_or (lists_of bounds.new) m [] ≡ slice_index_or (lists_of bounds.old) m [] }
+    ensures bounds { let its = slice_index_or (lists_of bounds.new) k [] in
+        AreBounds costs.now slack.now i (length before.now) (slice_index before.now) its }
 {
-    if fall && number.saturating_sub(costs[start]) <= before[stop - 1] {
-        return true;
+    edge_holds_at(costs, before, slack, &mut bounds[k], number, i)
+}
+
+// Whether a number at place i is within its edges to the later places. A block of ends is passed over where its bound shows that the number
+// is within all of them.
+fn edge_holds_at(
+    costs: &[u64],
+    before: &[u64],
+    slack: &[u64],
+    bounds: &mut [u64],
+    number: u64,
+    i: usize,
+) -> bool
+    requires size { length costs.now ≡ length before.now + 1 }
+    requires place { i < length before.now }
+    requires short { length before.now ≤ 2 ^ 16 }
+    requires slack { IsSlack (length before.now) slack.now }
+    requires bounds { AreBounds costs.now slack.now i (length before.now) (slice_index before.now) bounds.old }
+    ensures edge { IsTrue result ↔ EdgeHoldsAt costs.now before.now number i }
+    ensures bounds { AreBounds costs.now slack.now i (length before.now) (slice_index before.now) bounds.new }
+{
+    let last = before.len();
+    // the ends up to the next block have no bound
+    let first = i + 1;
+    let stop = ((first / BLOCK + 1) * BLOCK).min(last);
+    if number > least_of(costs, before, first, stop) {
+        return false;
     }
-    for j in start..stop {
-        // not a sum, which might not fit 64 bits
-        if number.saturating_sub(costs[j]) > before[j] {
-            return false;
+    for block in first / BLOCK + 1..(last - 1) / BLOCK + 1 {
+        if number > bounds[block].saturating_sub(slack[block]) {
+            let start = block * BLOCK;
+            let low = least_of(costs, before, start, (start + BLOCK).min(last));
+            bounds[block] = low.saturating_add(slack[block]);
+            if number > low {
+                return false;
+            }
         }
     }
-    true
+    number <= costs[last]
+}
+
+// the greatest number that is within the edges to some ends
+fn least_of(costs: &[u64], before: &[u64], start: usize, stop: usize) -> u64
+    requires order { start ≤ stop }
+    requires in_costs { stop ≤ length costs.now }
+    requires in_numbers { stop ≤ length before.now }
+    ensures within { WithinEdges costs.now before.now result start stop }
+    ensures greatest { (number : ℕ) → number < 2 ^ 64 → WithinEdges costs.now before.now number start stop
+        → number ≤ result }
+{
+    let mut low = u64::MAX;
+    for j in start..stop {
+        // (no sum, which might not fit 64 bits)
+        low = low.min(costs[j].saturating_add(before[j]));
+    }
+    low
 }

@@ -1,10 +1,11 @@
-ghost use Rattle.std.specs.Prelude.{◌≡◌, ℕ, ◌+◌, ◌*◌, ◌^◌, ◌<◌, ◌≤◌, [], length, slice_index, slice_index_or, IfOk, IfSome};
-ghost use Rattle.footprint_check.specs.SnapshotSums.{AreColumnSums, AreCuts, AreMostIn, AreNarrow, AreScaled, Ascends, HoldsSnapshots, IsRaised, IsRaisedByFour};
-ghost use Rattle.footprint_check.specs.declared.snapshot_sums.TheConstants.{FEW_PLACES};
+ghost use Rattle.std.specs.Prelude.{◌≡◌, ℕ, ◌+◌, ◌*◌, ◌^◌, ◌<◌, ◌≤◌, [], ◌∷◌, length, slice_index, IfOk, IfSome};
+ghost use Rattle.footprint_check.specs.SnapshotSums.{AreColumnSums, AreCuts, AreMostIn, AreNarrow, AreScaled, AreSumsAt};
+ghost use Rattle.footprint_check.specs.SnapshotSums.{AreWritten, Ascends, HoldsSnapshots, IsRaised, IsRaisedBy};
 ghost use Rattle.tuner_theory.specs.Lists.{lists_of};
 ghost use Rattle.tuner_theory.specs.Footprint.{span_footprint};
 ghost use Rattle.tuner_theory.specs.Growing.{IsGrowing};
-ghost use Rattle.tuner_theory.specs.Spans.{places};
+ghost use Rattle.tuner_theory.specs.Spans.{need_at, places};
+ghost use Rattle.class_table.specs.Sizes.{granule_bytes};
 ghost use Rattle.certificates.specs.Spanned.{IsSpanned};
 ghost use Rattle.class_table.specs.declared.sizes.TheConstants.{LARGEST_COUNTED};
 ghost use Rattle.history_count.specs.CountedLines.{AreSizes};
@@ -12,7 +13,7 @@ ghost use Rattle.tuner_theory.specs.Histories.{peaks};
 ghost use Rattle.tuner_theory.specs.Profiles.{greatest_count};
 
 use certificates::Spans;
-use class_table::{GRANULE_BYTES, LARGEST_COUNTED, MOST_NEEDS};
+use class_table::{GRANULE_BYTES, LARGEST_COUNTED};
 use history_count::{History, blocks_between, line_from};
 use profile_count::class_end;
 use std::alloc::{AllocError, Global};
@@ -31,7 +32,8 @@ pub(crate) struct SnapshotSums<'a> {
     ghost small: { (i j : ℕ) → i < j → j ≤ places spans.now.counts spans.now.step
         → span_footprint history.now.snapshots spans.now.step i j ≤ 2 ^ 60 },
     ghost same: { AreNarrow (lists_of narrow.items) (lists_of sums.items) },
-    ghost grows: { IsGrowing (span_footprint history.now.snapshots spans.now.step) (places spans.now.counts spans.now.step) },
+    ghost grows: { let cost = span_footprint history.now.snapshots spans.now.step in
+        IsGrowing cost (places spans.now.counts spans.now.step) },
 }
 
 impl<'a> SnapshotSums<'a> {
@@ -73,16 +75,26 @@ impl<'a> SnapshotSums<'a> {
         requires within { i < places self.now.spans.now.counts self.now.spans.now.step }
         requires size { length costs.old ≡ places self.now.spans.now.counts self.now.spans.now.step + 1 }
         ensures size { length costs.new ≡ length costs.old }
-        ensures costs { (j : ℕ) → i < j → j ≤ places self.now.spans.now.counts self.now.spans.now.step
-            → slice_index costs.new j ≡ span_footprint self.now.history.now.snapshots self.now.spans.now.step i j }
+        ensures costs { let s = self.now in (j : ℕ) → i < j → j ≤ places s.spans.now.counts s.spans.now.step
+            → slice_index costs.new j ≡ span_footprint s.history.now.snapshots s.spans.now.step i j }
     {
         if self.narrow.is_empty() {
-            self.write_most(i, costs);
+            self.write_wide(i, costs);
         } else {
             self.write_narrow(i, costs);
         }
+    }
+
+    // by the sums of 64 bits
+    fn write_wide(&self, i: usize, costs: &mut [u64])
+        requires within { i < places self.now.spans.now.counts self.now.spans.now.step }
+        requires size { length costs.old ≡ places self.now.spans.now.counts self.now.spans.now.step + 1 }
+        ensures { let s = self.now in
+            AreWritten s.history.now.snapshots s.spans.now.counts s.spans.now.step i (length costs.new) costs.new }
+    {
+        self.write_most(i, costs);
         for j in i + 1..self.spans.places() + 1 {
-            costs[j] *= u64::from(GRANULE_BYTES) * u64::from(self.spans.need(j));
+            costs[j] *= self.class_bytes(j);
         }
     }
 
@@ -90,7 +102,8 @@ impl<'a> SnapshotSums<'a> {
     fn write_most(&self, i: usize, most: &mut [u64])
         requires within { i < places self.now.spans.now.counts self.now.spans.now.step }
         requires size { length most.old ≡ places self.now.spans.now.counts self.now.spans.now.step + 1 }
-        ensures { AreScaled self.now.history.now.snapshots self.now.spans.now.counts self.now.spans.now.step i (i + 1) most.new }
+        ensures { let s = self.now in
+            AreScaled s.history.now.snapshots s.spans.now.counts s.spans.now.step i (i + 1) most.new }
     {
         clear(most);
         for t in 0..self.sums.len() {
@@ -98,75 +111,91 @@ impl<'a> SnapshotSums<'a> {
         }
     }
 
-    // the same by the sums of 32 bits
-    fn write_narrow(&self, i: usize, most: &mut [u64])
+    // by the sums of 32 bits, some places at once
+    fn write_narrow(&self, i: usize, costs: &mut [u64])
         requires within { i < places self.now.spans.now.counts self.now.spans.now.step }
-        requires size { length most.old ≡ places self.now.spans.now.counts self.now.spans.now.step + 1 }
+        requires size { length costs.old ≡ places self.now.spans.now.counts self.now.spans.now.step + 1 }
         requires some { 0 < length self.now.narrow.items }
-        ensures { AreScaled self.now.history.now.snapshots self.now.spans.now.counts self.now.spans.now.step i (i + 1) most.new }
+        ensures { let s = self.now in
+            AreWritten s.history.now.snapshots s.spans.now.counts s.spans.now.step i (length costs.new) costs.new }
     {
-        if most.len() <= FEW_PLACES {
-            self.write_few(i, most);
-        } else {
-            self.write_many(i, most);
+        let mut start = i + 1;
+        while start < costs.len() {
+            let stop = (start + LANES).min(costs.len());
+            self.write_some(i, start, stop, costs);
+            start = stop;
         }
     }
 
-    // the same for few places, so that not many numbers are cleared
-    fn write_few(&self, i: usize, most: &mut [u64])
-        requires within { i < places self.now.spans.now.counts self.now.spans.now.step }
-        requires size { length most.old ≡ places self.now.spans.now.counts self.now.spans.now.step + 1 }
-        requires few { length most.old ≤ FEW_PLACES }
+    // writes the footprint of the span from place i to each place from `start` to below `stop`
+    fn write_some(&self, i: usize, start: usize, stop: usize, costs: &mut [u64])
+        requires after { i < start }
+        requires order { start < stop }
+        requires few { stop ≤ start + LANES }
+        requires within { stop ≤ length costs.old }
         requires some { 0 < length self.now.narrow.items }
-        ensures { AreScaled self.now.history.now.snapshots self.now.spans.now.counts self.now.spans.now.step i (i + 1) most.new }
+        requires before { let s = self.now in
+            AreWritten s.history.now.snapshots s.spans.now.counts s.spans.now.step i start costs.old }
+        ensures { let s = self.now in
+            AreWritten s.history.now.snapshots s.spans.now.counts s.spans.now.step i stop costs.new }
     {
-        let mut numbers = [0u32; FEW_PLACES];
-        self.raise_narrow(i, &mut numbers);
-        widen(&numbers, most);
+        let mut most = [0u32; LANES];
+        self.raise_some(i, start, stop, &mut most);
+        for j in start..stop {
+            costs[j] = u64::from(most[j - start]) * self.class_bytes(j);
+        }
     }
 
-    // the same for as many places as there may be
-    fn write_many(&self, i: usize, most: &mut [u64])
-        requires within { i < places self.now.spans.now.counts self.now.spans.now.step }
-        requires size { length most.old ≡ places self.now.spans.now.counts self.now.spans.now.step + 1 }
-        requires some { 0 < length self.now.narrow.items }
-        ensures { AreScaled self.now.history.now.snapshots self.now.spans.now.counts self.now.spans.now.step i (i + 1) most.new }
-    {
-        let mut numbers = [0u32; MOST_PLACES];
-        self.raise_narrow(i, &mut numbers);
-        widen(&numbers, most);
-    }
-
-    // writes the most blocks of the span from place i to each later place into the first numbers
-    fn raise_narrow(&self, i: usize, most: &mut [u32])
-        requires within { i < places self.now.spans.now.counts self.now.spans.now.step }
-        requires size { places self.now.spans.now.counts self.now.spans.now.step < length most.old }
+    // writes the most blocks of the same spans into the first numbers
+    fn raise_some(&self, i: usize, start: usize, stop: usize, most: &mut [u32])
+        requires after { i < start }
+        requires order { start ≤ stop }
+        requires within { stop ≤ places self.now.spans.now.counts self.now.spans.now.step + 1 }
+        requires few { stop ≤ start + length most.old }
         requires some { 0 < length self.now.narrow.items }
         ensures size { length most.new ≡ length most.old }
-        ensures most { let snapshots = self.now.history.now.snapshots in AreMostIn snapshots self.now.spans.now.counts
-            self.now.spans.now.step i (length snapshots) most.new }
+        ensures most { let snapshots = self.now.history.now.snapshots in let spans = self.now.spans.now in
+            AreMostIn snapshots spans.counts spans.step i start stop (length snapshots) most.new }
     {
         clear_32(most);
-        let fours = self.narrow.len() / 4;
-        for f in 0..fours {
-            let first = self.narrow_at(4 * f);
-            let second = self.narrow_at(4 * f + 1);
-            let third = self.narrow_at(4 * f + 2);
-            let fourth = self.narrow_at(4 * f + 3);
-            raise_four(first, second, third, fourth, i, most);
+        let eights = self.narrow.len() / 8;
+        for e in 0..eights {
+            let t = 8 * e;
+            raise_eight(
+                self.narrow_at(t),
+                self.narrow_at(t + 1),
+                self.narrow_at(t + 2),
+                self.narrow_at(t + 3),
+                self.narrow_at(t + 4),
+                self.narrow_at(t + 5),
+                self.narrow_at(t + 6),
+                self.narrow_at(t + 7),
+                i,
+                start,
+                stop,
+                most,
+            );
         }
-        for t in 4 * fours..self.narrow.len() {
-            raise_32(self.narrow_at(t), i, most);
+        for t in 8 * eights..self.narrow.len() {
+            raise_one(self.narrow_at(t), i, start, stop, most);
         }
+    }
+
+    // the bytes of a block of the class that is the need at a place
+    #[inline(always)]
+    fn class_bytes(&self, j: usize) -> u64
+        requires some { 0 < j }
+        requires within { j ≤ places self.now.spans.now.counts self.now.spans.now.step }
+        ensures { result ≡ granule_bytes * need_at self.now.spans.now.counts self.now.spans.now.step j }
+    {
+        u64::from(GRANULE_BYTES) * u64::from(self.spans.need(j))
     }
 
     // the sums of a snapshot
     fn sums_at(&self, t: usize) -> &[u64]
         requires { t < length self.now.sums.items }
-        ensures sums { result.now ≡ slice_index_or (lists_of self.now.sums.items) t [] }
-        ensures size { length result.now ≡ places self.now.spans.now.counts self.now.spans.now.step + 1 }
-        ensures ascend { (i : ℕ) → Ascends result.now i }
-        ensures within { t < length self.now.history.now.snapshots }
+        ensures { let s = self.now in
+            AreSumsAt s.history.now.snapshots s.spans.now.counts s.spans.now.step (lists_of s.sums.items) t result.now }
     {
         &self.sums[t]
     }
@@ -174,20 +203,15 @@ impl<'a> SnapshotSums<'a> {
     // the same as numbers of 32 bits
     fn narrow_at(&self, t: usize) -> &[u32]
         requires { t < length self.now.narrow.items }
-        ensures sums { result.now ≡ slice_index_or (lists_of self.now.sums.items) t [] }
-        ensures size { length result.now ≡ places self.now.spans.now.counts self.now.spans.now.step + 1 }
-        ensures ascend { (i : ℕ) → Ascends result.now i }
-        ensures within { t < length self.now.history.now.snapshots }
+        ensures { let s = self.now in
+            AreSumsAt s.history.now.snapshots s.spans.now.counts s.spans.now.step (lists_of s.sums.items) t result.now }
     {
         &self.narrow[t]
     }
 }
 
-// as many places as there may be, with place 0
-const MOST_PLACES: usize = MOST_NEEDS + 1;
-
-// as many as most histories have
-const FEW_PLACES: usize = 128;
+// how many places are written at once: few enough that their numbers stay in the nearest cache
+const LANES: usize = 256;
 
 // sets all numbers to 0
 fn clear(numbers: &mut [u64])
@@ -222,54 +246,65 @@ fn clear_32(numbers: &mut [u32])
     }
 }
 
-// raises the numbers after place i to what the sums grow from there on
-fn raise_32(sums: &[u32], i: usize, numbers: &mut [u32])
-    requires length { length sums.now ≤ length numbers.old }
+// raises the numbers of the places from `start` to below `stop` to what the sums grow from place i on
+fn raise_one(sums: &[u32], i: usize, start: usize, stop: usize, numbers: &mut [u32])
+    requires after { i < start }
+    requires order { start ≤ stop }
+    requires within { stop ≤ length sums.now }
+    requires few { stop ≤ start + length numbers.old }
     requires ascend { Ascends sums.now i }
-    requires within { i < length sums.now }
-    ensures { IsRaised sums.now i (length sums.now) numbers.old numbers.new }
+    ensures { IsRaisedBy (sums.now ∷ []) i start stop numbers.old numbers.new }
 {
-    let start = sums[i];
-    for j in i + 1..sums.len() {
-        numbers[j] = numbers[j].max(sums[j] - start);
+    let before = sums[i];
+    for j in start..stop {
+        numbers[j - start] = numbers[j - start].max(sums[j] - before);
     }
 }
 
-// the same by the sums of four snapshots
-fn raise_four(
-    first: &[u32],
-    second: &[u32],
-    third: &[u32],
-    fourth: &[u32],
+// the same by the sums of eight snapshots
+fn raise_eight(
+    s0: &[u32],
+    s1: &[u32],
+    s2: &[u32],
+    s3: &[u32],
+    s4: &[u32],
+    s5: &[u32],
+    s6: &[u32],
+    s7: &[u32],
     i: usize,
+    start: usize,
+    stop: usize,
     numbers: &mut [u32],
 )
-    requires length { length first.now ≤ length numbers.old }
-    requires second_size { length second.now ≡ length first.now }
-    requires third_size { length third.now ≡ length first.now }
-    requires fourth_size { length fourth.now ≡ length first.now }
-    requires first { Ascends first.now i }
-    requires second { Ascends second.now i }
-    requires third { Ascends third.now i }
-    requires fourth { Ascends fourth.now i }
-    requires within { i < length first.now }
-    ensures { IsRaisedByFour first.now second.now third.now fourth.now i (length first.now) numbers.old numbers.new }
+    requires after { i < start }
+    requires order { start ≤ stop }
+    requires few { stop ≤ start + length numbers.old }
+    requires within_0 { stop ≤ length s0.now }
+    requires within_1 { stop ≤ length s1.now }
+    requires within_2 { stop ≤ length s2.now }
+    requires within_3 { stop ≤ length s3.now }
+    requires within_4 { stop ≤ length s4.now }
+    requires within_5 { stop ≤ length s5.now }
+    requires within_6 { stop ≤ length s6.now }
+    requires within_7 { stop ≤ length s7.now }
+    requires ascend_0 { Ascends s0.now i }
+    requires ascend_1 { Ascends s1.now i }
+    requires ascend_2 { Ascends s2.now i }
+    requires ascend_3 { Ascends s3.now i }
+    requires ascend_4 { Ascends s4.now i }
+    requires ascend_5 { Ascends s5.now i }
+    requires ascend_6 { Ascends s6.now i }
+    requires ascend_7 { Ascends s7.now i }
+    ensures { let rows = s0.now ∷ s1.now ∷ s2.now ∷ s3.now ∷ s4.now ∷ s5.now ∷ s6.now ∷ s7.now ∷ [] in
+        IsRaisedBy rows i start stop numbers.old numbers.new }
 {
-    let (a, b, c, d) = (first[i], second[i], third[i], fourth[i]);
-    for j in i + 1..first.len() {
-        let two = numbers[j].max(first[j] - a).max(second[j] - b);
-        numbers[j] = two.max(third[j] - c).max(fourth[j] - d);
-    }
-}
-
-// writes the first numbers as numbers of 64 bits
-fn widen(numbers: &[u32], wide: &mut [u64])
-    requires { length wide.old ≤ length numbers.now }
-    ensures size { length wide.new ≡ length wide.old }
-    ensures same { (j : ℕ) → j < length wide.new → slice_index wide.new j ≡ slice_index numbers.now j }
-{
-    for j in 0..wide.len() {
-        wide[j] = u64::from(numbers[j]);
+    let (b0, b1, b2, b3) = (s0[i], s1[i], s2[i], s3[i]);
+    let (b4, b5, b6, b7) = (s4[i], s5[i], s6[i], s7[i]);
+    for j in start..stop {
+        let two = numbers[j - start].max(s0[j] - b0).max(s1[j] - b1);
+        let four = two.max(s2[j] - b2).max(s3[j] - b3);
+        let six = four.max(s4[j] - b4).max(s5[j] - b5);
+        numbers[j - start] = six.max(s6[j] - b6).max(s7[j] - b7);
     }
 }
 

@@ -1,13 +1,11 @@
-use Rattle.std.proofs.Common.{◌+◌, ◌-◌, ◌<◌, ◌≤◌, max, length}
-use Rattle.footprint_check.specs.RowConditions.{WithinEdges}
+use Rattle.std.proofs.Common.{◌+◌, ◌*◌, ◌<◌, ◌≤◌, ℕ, length, slice_index}
+use Rattle.footprint_check.specs.Bounds.{AreBounds}
+use Rattle.footprint_check.specs.declared.slack.TheConstants.{BLOCK}
 use Rattle.footprint_check.proofs.row_tests.edge_holds_at.Given as goal
 
-abbrev pub invariant-loop-next : goal.invariant-loop-next
-invariant-loop-next l = record {
-  each : WithinEdges l.costs l.before l.number (l.i + 1) l.next;
-  after : l.i < l.next;
-  within : l.next ≤ max (l.i + 1) (length l.before);
+abbrev pub invariant-loop-block : goal.invariant-loop-block
+invariant-loop-block l = record {
+  bounds : AreBounds l.costs l.slack l.i (length l.before) (slice_index l.before) l.bounds;
+  within : (j : ℕ) → l.i < j → j < BLOCK * l.block → j < length l.before
+      → l.number ≤ slice_index l.costs j + slice_index l.before j;
 }
-
-abbrev pub decreases-loop-next : goal.decreases-loop-next
-decreases-loop-next l = length l.before - l.next

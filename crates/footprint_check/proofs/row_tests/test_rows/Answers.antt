@@ -1,111 +1,83 @@
-use Rattle.std.proofs.Common.{◌≡◌, ℕ, ◌+◌, ◌-◌, ◌<◌, ◌≤◌, length, List, slice_index, leb, arith, refl, rules, ap, sym, ◌∙◌, ◌↔◌, IsTrue}
+use Rattle.std.proofs.Common.{◌≡◌, ℕ, suc, ◌+◌, ◌-◌, ◌<◌, ◌≤◌, length, List, slice_index, leb, arith, ap, sym, ◌∙◌, ◌↔◌, IsTrue, Vec}
+use Rattle.std.specs.declared.alloc.Global.{Global}
 use Rattle.std.proofs.lemmas.Bool.{le-leb, leb-true}
 use Rattle.std.proofs.lemmas.List.{get_or_default, with_items_is}
-use Rattle.std.specs.Vec.{with_items}
 use Rattle.footprint_check.specs.CallCounts.{span_count}
-use Rattle.footprint_check.proofs.CallCounts.{count-first, few_spans}
-use Rattle.footprint_check.proofs.RowConditions.{costs-grow, tests-at_end, drops-both, edges-both, last-both}
-use Rattle.tuner_theory.specs.Growing.{IsGrowing}
+use Rattle.footprint_check.proofs.Bounds.{row_bounds-next, slack-narrowed}
+use Rattle.footprint_check.proofs.CallCounts.{spans_of_places}
+use Rattle.footprint_check.proofs.RowConditions.{drops-both, edges-both, last-both, tests-at_start}
+use Rattle.tuner_theory.specs.Lists.{lists_of}
+use Rattle.tuner_theory.specs.Rows.{number_at}
 use Rattle.footprint_check.proofs.row_tests.test_rows.Goals as goal
 
 at-most : (a b x y : ℕ) → a ≡ x → b ≡ y → IsTrue (leb a b) ↔ (x ≤ y)
 at-most a b x y ax by = ((λ h. omega (arith, leb-true a b h, ax, by)), (λ h. le-leb a b (omega (arith, h, ax, by))))
 
-pub write_from-requires-clause-within : goal.write_from-requires-clause-within
-write_from-requires-clause-within g c =
-    let same = ap g.C.SpanCosts.place_count c.loop-i.invariant.counted ∙ g.met.C.SpanCosts.keeps_places _ _ in
-    omega (arith, same)
-
-pub write_from-requires-clause-size : goal.write_from-requires-clause-size
-write_from-requires-clause-size g c =
-    let same = ap g.C.SpanCosts.place_count c.loop-i.invariant.counted ∙ g.met.C.SpanCosts.keeps_places _ _ in
-    omega (arith, same, ap length c.deref_mut.ensures.value)
-
-pub write_from-requires-clause-room : goal.write_from-requires-clause-room
-write_from-requires-clause-room g c =
-    let same = ap g.C.SpanCosts.place_count c.loop-i.invariant.counted ∙ g.met.C.SpanCosts.keeps_places _ _ in
-    let calls = ap g.C.SpanCosts.call_count c.loop-i.invariant.counted ∙ g.met.C.SpanCosts.adds_calls _ _ in
-    omega (arith, same, calls, few_spans c.places-places.result (omega arith))
-
-pub loop-i-init : goal.loop-i-init
-loop-i-init g c =
+pub edges_hold_at-edge-requires-clause-bounds : goal.edges_hold_at-edge-requires-clause-bounds
+edges_hold_at-edge-requires-clause-bounds g c =
     let d = c.places-places.result in
-    let all : d - 0 ≡ d = omega arith in
-    let none : 0 ≡ span_count d - span_count (d - 0) = omega (arith, ap span_count all) in
-    record {
-      last = ((λ h. record { each = λ m lt. absurd (omega arith) }), (λ h. refl));
-      drop = ((λ h. record { each = λ m lt. absurd (omega arith) }), (λ h. refl));
-      edge = ((λ h. record { each = λ m k j lt. absurd (omega arith) }), (λ h. refl));
-      from_length = search rules;
-      counted = sym (g.met.C.SpanCosts.adds_none _) ∙ ap (g.C.SpanCosts.after_calls c.args.costs.now) none;
-    }
+    let i : ℕ = c.loop-i.i - 1 in
+    let rows = c.args.rows.now in
+    let next : i + 1 ≡ c.loop-i.i = omega arith in
+    let older : c.deref.result.now ≡ c.loop-i.from.items =
+    c.deref.ensures.value ∙ ap (λ (v : Vec ℕ Global). v.items) c.swap.ensures.y_after in
+    let slack = with_items_is c.loop-i.slack c.lower_slack.new.slack (omega (arith, c.lower_slack.ensures.size, ap length c.deref_mut-in-loop-i.ensures.value)) in
+    let costs : c.deref-in-loop-i-2.result.now ≡ c.deref-in-loop-i.result.now =
+    c.deref-in-loop-i-2.ensures.value ∙ sym c.deref-in-loop-i.ensures.value in
+    rw (costs, c.deref-in-loop-i-3.ensures.value, slack, c.deref_mut-in-loop-i-2.ensures.value)
+    (row_bounds-next c.deref.result.now c.deref-in-loop-i.result.now c.deref_mut-in-loop-i.result.now c.lower_slack.new.slack i d (length rows)
+    (number_at rows) (lists_of c.loop-i.bounds.items) c.lower_slack.ensures
+    (rw (older, c.deref_mut-in-loop-i.ensures.value, next) c.loop-i.invariant.bounds))
 
 pub loop-i-preserved : goal.loop-i-preserved
 loop-i-preserved g c =
     let d = c.places-places.result in
-    let i = c.loop-i.i in
+    let i : ℕ = c.loop-i.i - 1 in
     let rows = c.args.rows.now in
     let cost = g.C.SpanCosts.cost c.args.costs.now in
     let counted = c.loop-i.invariant.counted in
     let same_places = ap g.C.SpanCosts.place_count counted ∙ g.met.C.SpanCosts.keeps_places _ _ in
     let same_cost : g.C.SpanCosts.cost c.loop-i.costs ≡ cost = ap g.C.SpanCosts.cost counted ∙ g.met.C.SpanCosts.keeps_cost _ _ in
-    let more : span_count d - span_count (d - i) + (g.C.SpanCosts.place_count c.loop-i.costs - i)
-    ≡ span_count d - span_count (d - (i + 1)) =
-    omega (arith, same_places, count-first d i (omega arith)) in
-    let from = with_items_is c.loop-i.from c.write_from.new.costs (omega (arith, c.write_from.ensures.size)) in
+    let next : i + 1 ≡ c.loop-i.i = omega arith in
+    let before : suc (d - c.loop-i.i) ≡ d - i = omega arith in
+    let more : span_count (d - c.loop-i.i) + (g.C.SpanCosts.place_count c.loop-i.costs - i) ≡ span_count (d - i) =
+    omega (arith, same_places, spans_of_places (d - c.loop-i.i), ap span_count before) in
+    let moved : c.swap.new.x ≡ c.loop-i.older = c.swap.ensures.x_after in
+    let spare : length c.swap.new.x.items ≡ d + 1 = ap (λ (v : Vec ℕ Global). length v.items) moved ∙ c.loop-i.invariant.older_length in
+    let written_size : length c.write_from.new.costs ≡ d + 1 =
+    c.write_from.ensures.size ∙ (ap length c.deref_mut.ensures.value ∙ spare) in
+    let from = with_items_is c.swap.new.x c.write_from.new.costs (omega (arith, written_size, spare)) in
+    let slack = with_items_is c.loop-i.slack c.lower_slack.new.slack (omega (arith, c.lower_slack.ensures.size, ap length c.deref_mut-in-loop-i.ensures.value)) in
+    let bounds = with_items_is c.loop-i.bounds c.edges_hold_at-edge.new.bounds (omega (arith, c.edges_hold_at-edge.auto.bounds, ap length c.deref_mut-in-loop-i-2.ensures.value)) in
     let written : (j : ℕ) → i < j → j ≤ d → slice_index c.write_from.new.costs j ≡ cost i j =
     (λ j after le. c.write_from.ensures.costs j after (omega (arith, same_places))
     ∙ ap (λ (its : ℕ → ℕ → ℕ). its i j) same_cost) in
-    let costs : c.deref.result.now ≡ c.write_from.new.costs = c.deref.ensures.value ∙ from in
-    let are : (j : ℕ) → i < j → j ≤ d → slice_index c.deref.result.now j ≡ cost i j =
+    let costs : c.deref-in-loop-i-2.result.now ≡ c.write_from.new.costs = c.deref-in-loop-i-2.ensures.value ∙ from in
+    let are : (j : ℕ) → i < j → j ≤ d → slice_index c.deref-in-loop-i-2.result.now j ≡ cost i j =
     (λ j after le. ap (λ (l : List ℕ). slice_index l j) costs ∙ written j after le) in
-    let xs : List ℕ = (with_items c.loop-i.from c.write_from.new.costs).items in
-    let size : length xs ≡ d + 1 =
-    ap length from ∙ (c.write_from.ensures.size ∙ (ap length c.deref_mut.ensures.value ∙ c.loop-i.invariant.from_length)) in
     let last : c.index.result.now ≡ cost i d =
-    c.index.ensures ∙ (get_or_default xs d c.index.result.now 0 (omega (arith, size))
+    c.index.ensures ∙ (get_or_default _ d c.index.result.now 0 (omega (arith, ap length from, written_size))
     ∙ (ap (λ (l : List ℕ). slice_index l d) from ∙ written d (omega arith) (omega arith))) in
-    record {
-      last = last-both cost c.deref.result.now d i rows (omega arith) are _ _ _ c.loop-i.invariant.last
+    rw (from, slack, bounds) (record {
+      last = last-both cost c.deref-in-loop-i-2.result.now d i rows (omega arith) are _ _ _ (rw next c.loop-i.invariant.last)
           (at-most _ _ _ _ c.number.ensures last) c.both.ensures;
-      drop = drops-both cost c.deref.result.now d i rows (omega arith) are _ _ _ c.loop-i.invariant.drop c.drops_hold_at-stage_drop.ensures
-          c.both-in-loop-i.ensures;
-      edge = edges-both cost c.deref.result.now d i rows (omega arith) are _ _ _ c.loop-i.invariant.edge c.edges_hold_at-edge.ensures
-          c.both-in-loop-i-2.ensures;
-      from_length = size;
+      drop = drops-both cost c.deref-in-loop-i-2.result.now d i rows (omega arith) are _ _ _ (rw next c.loop-i.invariant.drop)
+          c.drops_hold_at-stage_drop.ensures c.both-in-loop-i.ensures;
+      edge = edges-both cost c.deref-in-loop-i-2.result.now d i rows (omega arith) are _ _ _ (rw next c.loop-i.invariant.edge)
+          c.edges_hold_at-edge.ensures.edges c.both-in-loop-i-2.ensures;
+      from_length = written_size;
+      older_length = ap (λ (v : Vec ℕ Global). length v.items) c.swap.ensures.y_after ∙ c.loop-i.invariant.from_length;
+      from_are = written;
+      slack = slack-narrowed c.deref.result.now c.deref-in-loop-i.result.now c.loop-i.slack.items c.lower_slack.new.slack i d
+          (rw c.deref_mut-in-loop-i.ensures.value at c.lower_slack.ensures) c.loop-i.invariant.slack;
+      bounds = rw (costs, c.deref-in-loop-i-3.ensures.value, slack) at c.edges_hold_at-edge.ensures.bounds;
       counted = c.write_from.ensures.counted
-          ∙ (ap (λ costs. g.C.SpanCosts.after_calls costs (g.C.SpanCosts.place_count c.loop-i.costs - i)) counted
+          ∙ (ap (λ its. g.C.SpanCosts.after_calls its (g.C.SpanCosts.place_count c.loop-i.costs - i)) counted
           ∙ (g.met.C.SpanCosts.adds_up _ _ _ ∙ ap (g.C.SpanCosts.after_calls c.args.costs.now) more));
-    }
+    })
 
 pub returns-clause-tests : goal.returns-clause-tests
 returns-clause-tests g c =
     rw (← c.places-places.ensures)
-    (tests-at_end (g.C.SpanCosts.cost c.args.costs.now) c.places-places.result c.loop-i.i c.args.rows.now c.loop-i.tests (omega arith)
+    (tests-at_start (g.C.SpanCosts.cost c.args.costs.now) c.places-places.result c.loop-i.i c.args.rows.now c.loop-i.tests (omega arith)
     c.loop-i.invariant.last c.loop-i.invariant.drop c.loop-i.invariant.edge)
-
-pub returns-clause-counted : goal.returns-clause-counted
-returns-clause-counted g c =
-    let d = c.places-places.result in
-    let none : d - c.loop-i.i ≡ 0 = omega arith in
-    let all : span_count d - span_count (d - c.loop-i.i) ≡ span_count (g.C.SpanCosts.place_count c.args.costs.now) =
-    omega (arith, ap span_count none, ap span_count c.places-places.ensures) in
-    c.loop-i.invariant.counted ∙ ap (g.C.SpanCosts.after_calls c.args.costs.now) all
-
-pub edges_hold_at-edge-requires-clause-grow : goal.edges_hold_at-edge-requires-clause-grow
-edges_hold_at-edge-requires-clause-grow g c =
-    let d = c.places-places.result in
-    let i = c.loop-i.i in
-    let cost = g.C.SpanCosts.cost c.args.costs.now in
-    let counted = c.loop-i.invariant.counted in
-    let same_places = ap g.C.SpanCosts.place_count counted ∙ g.met.C.SpanCosts.keeps_places _ _ in
-    let same_cost : g.C.SpanCosts.cost c.loop-i.costs ≡ cost = ap g.C.SpanCosts.cost counted ∙ g.met.C.SpanCosts.keeps_cost _ _ in
-    let from = with_items_is c.loop-i.from c.write_from.new.costs (omega (arith, c.write_from.ensures.size)) in
-    let costs : c.deref.result.now ≡ c.write_from.new.costs = c.deref.ensures.value ∙ from in
-    let size : length c.deref.result.now ≡ d + 1 =
-    ap length costs ∙ (c.write_from.ensures.size ∙ (ap length c.deref_mut.ensures.value ∙ c.loop-i.invariant.from_length)) in
-    let are : (j : ℕ) → i < j → j ≤ d → slice_index c.deref.result.now j ≡ cost i j =
-    (λ j after le. ap (λ (l : List ℕ). slice_index l j) costs ∙ (c.write_from.ensures.costs j after (omega (arith, same_places))
-    ∙ ap (λ (its : ℕ → ℕ → ℕ). its i j) same_cost)) in
-    let grows : IsGrowing cost d = rw c.places-places.ensures (g.met.C.SpanCosts.grows c.args.costs.now) in
-    costs-grow cost d i c.deref.result.now grows size are

@@ -9,7 +9,7 @@ loop-t-preserved c =
     let s = c.args.self.now in
     record {
       most = most-raised s.history.now.snapshots s.spans.now.counts s.spans.now.step (lists_of s.sums.items) s.holds c.args.i c.loop-t.t
-          c.sums_at.result.now c.loop-t.most c.raise.new.numbers c.sums_at.ensures.within c.sums_at.ensures.sums c.loop-t.invariant.most
+          c.sums_at.result.now c.loop-t.most c.raise.new.numbers c.sums_at.ensures.within c.sums_at.ensures.read c.loop-t.invariant.most
           c.raise.ensures;
     }
 
