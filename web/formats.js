@@ -19,6 +19,8 @@ const INPUT_CODES = {
   32: "a count is above 1,000,000,000, or all of a line are 0",
   34: "the history's first line is not 'snapshots T', T from 1 to 1024",
   35: "a line does not have T numbers, one for each snapshot",
+  37: "a line of the timeline is none of its four forms",
+  38: "a free of a size of which no block is live",
   36: "a line is not of a fit's form, or is missing",
   48: "a line is not of a sheet's form, or is missing",
   70: "a line is no event, or has a word too many or too few",

@@ -99,10 +99,10 @@ CODES = {
     33: Code("CountFull", None, f"the count is {MOST_COUNT}, and no request more is counted"),
     34: Code("BadSnapshots", 2, f"the history's first line is not `snapshots T`, T from 1 to {MOST_SNAPSHOTS}"),
     35: Code("WrongLength", 2, "a line does not have T numbers, one for each snapshot"),
-    # a timeline, which no command takes yet
-    37: Code("BadTimeline", None, None),
-    38: Code("NotLive", None, None),
-    53: Code("NotMoments", None, None),
+    # a timeline, and the verdict no on a fit over one
+    37: Code("BadTimeline", 2, "a line of the timeline is none of its four forms"),
+    38: Code("NotLive", 2, "a free of a size of which no block is live"),
+    53: Code("NotMoments", 1, "no number of `moments` is above the number of events"),
     # a fit, a sheet
     36: Code("BadFit", 2, "a line is not of a fit's form, or is missing"),
     48: Code("BadSheet", 2, "a line is not of a sheet's form, or is missing"),

@@ -9,9 +9,9 @@ ghost use Rattle.mte_calls.specs.Ending.{Answers, AnswersIf};
 ghost use Rattle.mte_calls.specs.Settings.{config_of};
 ghost use Rattle.mte_calls.specs.Options.{AreRunOptions};
 ghost use Rattle.mte_engine.specs.Check.{CheckAnswers};
-ghost use Rattle.mte_engine.specs.CheckFit.{CheckFitAnswers};
-ghost use Rattle.mte_engine.specs.Fit.{FitAnswers};
-ghost use Rattle.mte_engine.specs.Footprint.{FootprintAnswers};
+ghost use Rattle.mte_engine.specs.CheckFitOver.{CheckFitEitherAnswers};
+ghost use Rattle.mte_engine.specs.FitOver.{FitEitherAnswers};
+ghost use Rattle.mte_engine.specs.FootprintOver.{FootprintEitherAnswers};
 ghost use Rattle.mte_engine.specs.Profile.{ProfileAnswers};
 ghost use Rattle.mte_engine.specs.Replay.{ReplayAnswers};
 ghost use Rattle.mte_engine.specs.Run.{RunAnswers};
@@ -67,7 +67,7 @@ pub extern "C" fn mte_c_check(alloc: Global, input: &[u8], text: &mut HandedText
 /// `footprint` of a class line and a history.
 #[unsafe(no_mangle)]
 pub extern "C" fn mte_c_footprint(alloc: Global, input: &[u8], text: &mut HandedText) -> Ending
-    ensures { Answers FootprintAnswers text.old input.now text.new result }
+    ensures { Answers FootprintEitherAnswers text.old input.now text.new result }
 {
     Ending::of(mte_calls::footprint(alloc, input, text))
 }
@@ -80,7 +80,7 @@ pub extern "C" fn mte_c_fit(
     input: &[u8],
     text: &mut HandedText,
 ) -> Ending
-    ensures { AnswersIf (AreTuneOptions options.limit options.step) (FitAnswers options.limit options.step)
+    ensures { AnswersIf (AreTuneOptions options.limit options.step) (FitEitherAnswers options.limit options.step)
         text.old input.now text.new result }
 {
     Ending::of(mte_calls::fit(alloc, options.limit, options.step, input, text))
@@ -89,7 +89,7 @@ pub extern "C" fn mte_c_fit(
 /// `check-fit` of a fit and a history.
 #[unsafe(no_mangle)]
 pub extern "C" fn mte_c_check_fit(alloc: Global, input: &[u8], text: &mut HandedText) -> Ending
-    ensures { Answers CheckFitAnswers text.old input.now text.new result }
+    ensures { Answers CheckFitEitherAnswers text.old input.now text.new result }
 {
     Ending::of(mte_calls::check_fit(alloc, input, text))
 }

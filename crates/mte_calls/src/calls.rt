@@ -4,9 +4,9 @@ ghost use Rattle.handed_text.specs.Bytes.{IsLeft, bytes_of};
 ghost use Rattle.mte_calls.specs.Answered.{IsAnswered, IsAnsweredIf, IsCalled};
 ghost use Rattle.mte_calls.specs.Options.{AreRunOptions};
 ghost use Rattle.mte_engine.specs.Check.{CheckAnswers};
-ghost use Rattle.mte_engine.specs.CheckFit.{CheckFitAnswers};
-ghost use Rattle.mte_engine.specs.Fit.{FitAnswers};
-ghost use Rattle.mte_engine.specs.Footprint.{FootprintAnswers};
+ghost use Rattle.mte_engine.specs.CheckFitOver.{CheckFitEitherAnswers};
+ghost use Rattle.mte_engine.specs.FitOver.{FitEitherAnswers};
+ghost use Rattle.mte_engine.specs.FootprintOver.{FootprintEitherAnswers};
 ghost use Rattle.mte_engine.specs.Profile.{ProfileAnswers};
 ghost use Rattle.mte_engine.specs.Replay.{ReplayAnswers};
 ghost use Rattle.mte_engine.specs.Run.{RunAnswers};
@@ -86,7 +86,7 @@ pub fn check(alloc: Global, input: &[u8], text: &mut HandedText) -> Ended
 /// `footprint` of a class line and a history.
 pub fn footprint(alloc: Global, input: &[u8], text: &mut HandedText) -> Ended
     ensures { IsCalled text.old text.new result
-        (IsAnswered FootprintAnswers (bytes_of text.old ++ input.now) result (bytes_of text.new)) }
+        (IsAnswered FootprintEitherAnswers (bytes_of text.old ++ input.now) result (bytes_of text.new)) }
 {
     let Some(first) = take_input(alloc, text) else {
         return Ended::Misuse;
@@ -99,7 +99,7 @@ pub fn footprint(alloc: Global, input: &[u8], text: &mut HandedText) -> Ended
 
 /// `fit` of a history, with these options.
 pub fn fit(alloc: Global, limit: u8, step: u8, input: &[u8], text: &mut HandedText) -> Ended
-    ensures { IsCalled text.old text.new result (IsAnsweredIf (AreTuneOptions limit step) (FitAnswers limit step)
+    ensures { IsCalled text.old text.new result (IsAnsweredIf (AreTuneOptions limit step) (FitEitherAnswers limit step)
         (bytes_of text.old ++ input.now) result (bytes_of text.new)) }
 {
     let Some(first) = take_input(alloc, text) else {
@@ -121,7 +121,7 @@ fn fit_input(
     text: &mut HandedText,
 ) -> Ended
     requires { AreTuneOptions limit step }
-    ensures answer { IsAnswered (FitAnswers limit step) (first.items ++ input.now) result (bytes_of text.new) }
+    ensures answer { IsAnswered (FitEitherAnswers limit step) (first.items ++ input.now) result (bytes_of text.new) }
     ensures left { IsLeft text.new }
 {
     let mut source = TwoParts::new(&first, input);
@@ -133,7 +133,7 @@ fn fit_input(
 /// `check-fit` of a fit and a history.
 pub fn check_fit(alloc: Global, input: &[u8], text: &mut HandedText) -> Ended
     ensures { IsCalled text.old text.new result
-        (IsAnswered CheckFitAnswers (bytes_of text.old ++ input.now) result (bytes_of text.new)) }
+        (IsAnswered CheckFitEitherAnswers (bytes_of text.old ++ input.now) result (bytes_of text.new)) }
 {
     let Some(first) = take_input(alloc, text) else {
         return Ended::Misuse;

@@ -4,10 +4,12 @@ ghost use Rattle.history_count.specs.FaultText.{shown_history_fault};
 ghost use Rattle.line_text.specs.Numbers.{leading_number_of};
 ghost use Rattle.mte_engine.specs.FaultLines.{line_of_fault};
 ghost use Rattle.mte_engine.specs.FaultText.{shown_input_fault};
+ghost use Rattle.timeline_count.specs.FaultText.{shown_timeline_fault};
 ghost use Rattle.trace_reader.specs.FaultText.{shown_trace_fault};
 
 use history_count::HistoryFault;
 use mte_engine::InputFault;
+use timeline_count::TimelineFault;
 use trace_reader::TraceFault;
 
 /// The code of a fault: the number at the start of its text.
@@ -22,6 +24,7 @@ pub fn code_of(fault: InputFault) -> u32
         InputFault::BadFit(_) => 36,
         InputFault::Profile(_, fault) => fault.code(),
         InputFault::History(_, fault) => code_of_history(fault),
+        InputFault::Timeline(_, fault) => code_of_timeline(fault),
         InputFault::Trace(_, fault) => code_of_trace(fault),
     }
 }
@@ -37,6 +40,7 @@ pub fn line_of(fault: InputFault) -> u64
         | InputFault::BadFit(line)
         | InputFault::Profile(line, _)
         | InputFault::History(line, _)
+        | InputFault::Timeline(line, _)
         | InputFault::Trace(line, _) => line,
     }
 }
@@ -49,6 +53,16 @@ fn code_of_history(fault: HistoryFault) -> u32
         HistoryFault::BadSnapshots => 34,
         HistoryFault::WrongLength => 35,
         HistoryFault::Counted(fault) => fault.code(),
+    }
+}
+
+#[tactic(auto, unfolding(line_text::specs::Numbers::number_of))]
+fn code_of_timeline(fault: TimelineFault) -> u32
+    ensures { (rest : List ℕ) → leading_number_of (shown_timeline_fault fault ++ rest) ≡ Some result }
+{
+    match fault {
+        TimelineFault::BadTimeline => 37,
+        TimelineFault::NotLive => 38,
     }
 }
 

@@ -34,10 +34,11 @@ use Rattle.mte_engine.specs.FaultText.{in_line, shown_input_fault}
 use Rattle.mte_engine.specs.Traces.{events_unless}
 use Rattle.mte_engine.specs.declared.engine.Status.TheVariants.{Done}
 use Rattle.mte_engine.specs.declared.fault.InputFault.{InputFault}
-use Rattle.mte_engine.specs.declared.fault.InputFault.TheVariants.{TooLong, Table, BadSheet, BadFit, Profile, History, Trace}
+use Rattle.mte_engine.specs.declared.fault.InputFault.TheVariants.{TooLong, Table, BadSheet, BadFit, Profile, History, Timeline, Trace}
 use Rattle.class_table.specs.FaultText.{shown_table_error}
 use Rattle.history_count.specs.FaultText.{shown_history_fault}
 use Rattle.profile_count.specs.FaultText.{shown_profile_fault}
+use Rattle.timeline_count.specs.FaultText.{shown_timeline_fault}
 use Rattle.trace_reader.specs.FaultText.{shown_trace_fault}
 use Rattle.mte_engine.proofs.SheetLinesSettled.{after_alike, leading_lines-cut, leading_lines-lines, leading_lines-settled}
 
@@ -55,6 +56,7 @@ shown_with_line (BadSheet line) n e = (codes "48 BadSheet", ap (in_line (codes "
 shown_with_line (BadFit line) n e = (codes "36 BadFit", ap (in_line (codes "36 BadFit")) (same_Some line n e))
 shown_with_line (Profile line fault) n e = (shown_profile_fault fault, ap (in_line (shown_profile_fault fault)) (same_Some line n e))
 shown_with_line (History line fault) n e = (shown_history_fault fault, ap (in_line (shown_history_fault fault)) (same_Some line n e))
+shown_with_line (Timeline line fault) n e = (shown_timeline_fault fault, ap (in_line (shown_timeline_fault fault)) (same_Some line n e))
 shown_with_line (Trace line fault) n e = (shown_trace_fault fault, ap (in_line (shown_trace_fault fault)) (same_Some line n e))
 
 -- ---- lines

@@ -9,11 +9,13 @@ use Rattle.potential_check.specs.FitText.{SpellsFit}
 use Rattle.potential_check.specs.Leading.{leading_lines, lines_after}
 use Rattle.potential_check.specs.SheetText.{SpellsSheet}
 use Rattle.profile_count.specs.ProfileText.{SpellsProfile}
+use Rattle.timeline_count.specs.TimelineText.{SpellsTimeline}
 use Rattle.tuner_theory.specs.Fits.{Fit}
 use Rattle.tuner_theory.specs.Sheets.{Sheet}
 use Rattle.tuner_theory.specs.Profiles.{Profile as Counted}
+use Rattle.tuner_theory.specs.declared.size_event.SizeEvent.{SizeEvent}
 use Rattle.mte_engine.specs.declared.fault.InputFault.{InputFault}
-use Rattle.mte_engine.specs.declared.fault.InputFault.TheVariants.{TooLong, Table, BadSheet, BadFit, Profile, History, Trace}
+use Rattle.mte_engine.specs.declared.fault.InputFault.TheVariants.{TooLong, Table, BadSheet, BadFit, Profile, History, Timeline, Trace}
 
 -- The line of a fault; none where the input is too long, which no line is to blame for.
 abbrev pub line_of_fault : InputFault → Option ℕ
@@ -23,6 +25,7 @@ line_of_fault (BadSheet line) = Some line
 line_of_fault (BadFit line) = Some line
 line_of_fault (Profile line fault) = Some line
 line_of_fault (History line fault) = Some line
+line_of_fault (Timeline line fault) = Some line
 line_of_fault (Trace line fault) = Some line
 
 -- The fault is in the line of the first fault of the text.
@@ -39,6 +42,9 @@ SpellsTableAndProfile text parts = SpellsTableAnd SpellsProfile text parts
 
 abbrev pub SpellsTableAndHistory : List ℕ → List ℕ × CountedHistory → Type 0
 SpellsTableAndHistory text parts = SpellsTableAnd SpellsHistory text parts
+
+abbrev pub SpellsTableAndTimeline : List ℕ → List ℕ × List SizeEvent → Type 0
+SpellsTableAndTimeline text parts = SpellsTableAnd SpellsTimeline text parts
 
 -- The text spells one part in its leading lines, and another in those after them.
 pub record SpellsLeadingAnd {A B : Type 0} (First : List ℕ → A → Type 0) (Rest : List ℕ → B → Type 0) (text : List ℕ) (parts : A × B)

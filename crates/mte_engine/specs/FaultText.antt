@@ -4,9 +4,10 @@ use Rattle.std.specs.Fmt.{decimal}
 use Rattle.class_table.specs.FaultText.{shown_table_error}
 use Rattle.history_count.specs.FaultText.{shown_history_fault}
 use Rattle.profile_count.specs.FaultText.{shown_profile_fault}
+use Rattle.timeline_count.specs.FaultText.{shown_timeline_fault}
 use Rattle.trace_reader.specs.FaultText.{shown_trace_fault}
 use Rattle.mte_engine.specs.declared.fault.InputFault.{InputFault}
-use Rattle.mte_engine.specs.declared.fault.InputFault.TheVariants.{TooLong, Table, BadSheet, BadFit, Profile, History, Trace}
+use Rattle.mte_engine.specs.declared.fault.InputFault.TheVariants.{TooLong, Table, BadSheet, BadFit, Profile, History, Timeline, Trace}
 use Rattle.mte_engine.specs.declared.fault.ToolFault.{ToolFault}
 use Rattle.mte_engine.specs.declared.fault.ToolFault.TheVariants.{OutOfMemory, Input, ReadFault, WriteFault}
 
@@ -21,6 +22,7 @@ shown_input_fault (BadSheet line) = in_line (codes "48 BadSheet") line
 shown_input_fault (BadFit line) = in_line (codes "36 BadFit") line
 shown_input_fault (Profile line fault) = in_line (shown_profile_fault fault) line
 shown_input_fault (History line fault) = in_line (shown_history_fault fault) line
+shown_input_fault (Timeline line fault) = in_line (shown_timeline_fault fault) line
 shown_input_fault (Trace line fault) = in_line (shown_trace_fault fault) line
 
 abbrev pub shown_fault : ToolFault → List ℕ

@@ -1,8 +1,12 @@
 pub mod Check
 pub mod CheckFit
+pub mod CheckFitOver
 pub mod FaultLines
+pub mod FaultText
 pub mod Fit
+pub mod FitOver
 pub mod Footprint
+pub mod FootprintOver
 pub mod Outcome
 pub mod Parts
 pub mod Profile
@@ -13,6 +17,6 @@ pub mod RowLines
 pub mod Run
 pub mod Score
 pub mod SheetLeft
-pub mod FaultText
+pub mod Timelines
 pub mod Traces
 pub mod Tune

@@ -7,11 +7,14 @@ use Rattle.class_table.specs.declared.fault.TableError.TheVariants.{BadLine}
 use Rattle.history_count.specs.Histories.{History as CountedHistory}
 use Rattle.history_count.specs.declared.fault.HistoryFault.{HistoryFault}
 use Rattle.profile_count.specs.declared.fault.ProfileFault.{ProfileFault}
+use Rattle.timeline_count.specs.declared.fault.TimelineFault.{TimelineFault}
 use Rattle.tuner_theory.specs.Fits.{Fit}
 use Rattle.tuner_theory.specs.Sheets.{Sheet}
 use Rattle.tuner_theory.specs.Profiles.{Profile as Counted}
+use Rattle.tuner_theory.specs.declared.size_event.SizeEvent.{SizeEvent}
+use Rattle.mte_engine.specs.Outcome.{Answer}
 use Rattle.mte_engine.specs.declared.fault.InputFault.{InputFault}
-use Rattle.mte_engine.specs.declared.fault.InputFault.TheVariants.{Table, BadSheet, BadFit, Profile, History}
+use Rattle.mte_engine.specs.declared.fault.InputFault.TheVariants.{Table, BadSheet, BadFit, Profile, History, Timeline}
 use Rattle.mte_engine.specs.declared.fault.AnswerError.{AnswerError}
 use Rattle.mte_engine.specs.declared.fault.AnswerError.TheVariants.{OutOfMemory, Input}
 
@@ -44,6 +47,11 @@ abbrev pub history_part : ℕ → Result CountedHistory (ℕ × HistoryFault) �
 history_part lines (Ok history) = Ok history
 history_part lines (Err fault) = Err (History (lines + fault.0) fault.1)
 
+-- A timeline that follows this many lines of its input.
+abbrev pub timeline_part : ℕ → Result (List SizeEvent) (ℕ × TimelineFault) → Result (List SizeEvent) InputFault
+timeline_part lines (Ok events) = Ok events
+timeline_part lines (Err fault) = Err (Timeline (lines + fault.0) fault.1)
+
 -- A class line, and what is read of the lines after it.
 abbrev pub table_and : {A : Type 0} → (List (List ℕ) → Result A InputFault) → List (List ℕ) → Result (List ℕ × A) InputFault
 table_and after [] = Err (Table BadLine)
@@ -58,6 +66,11 @@ both_parts first second = do
   x ← first
   y ← second
   Ok (x, y)
+
+-- The answers to what follows a part: what is said of it, or its fault.
+abbrev pub AnswersPart : {A : Type 0} → Result A InputFault → (A → Answer → Type 0) → Result Answer InputFault → Type 0
+AnswersPart {A} part says (Ok answer) = (x : A) × (part ≡ Ok x) × says x answer
+AnswersPart part says (Err fault) = part ≡ Err fault
 
 -- What the code read is this part, unless memory ran out.
 abbrev pub GivesPart : {A : Type 0} → Result A AnswerError → Result A InputFault → Type 0

@@ -11,6 +11,7 @@ use history_count::HistoryFault;
 use profile_count::ProfileFault;
 use std::alloc::{AllocError, AllocFailed};
 use std::fmt;
+use timeline_count::TimelineFault;
 use trace_reader::TraceFault;
 
 /// What is wrong with the bytes of an input. Each is shown as its code, its name and, if it has one, its line. The input's first line is
@@ -29,6 +30,8 @@ pub enum InputFault {
     Profile(u64, ProfileFault),
     /// A line of the history is faulty or missing.
     History(u64, HistoryFault),
+    /// A line of the timeline is faulty or missing.
+    Timeline(u64, TimelineFault),
     /// A line of the trace is faulty.
     Trace(u64, TraceFault),
 }
@@ -46,6 +49,7 @@ impl fmt::Display for InputFault {
             InputFault::BadFit(line) => write!(f, "36 BadFit line {line}"),
             InputFault::Profile(line, fault) => write!(f, "{fault} line {line}"),
             InputFault::History(line, fault) => write!(f, "{fault} line {line}"),
+            InputFault::Timeline(line, fault) => write!(f, "{fault} line {line}"),
             InputFault::Trace(line, fault) => write!(f, "{fault} line {line}"),
         }
     }

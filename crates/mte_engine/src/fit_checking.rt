@@ -1,21 +1,26 @@
-//! `check-fit`: the verdict on a fit, whoever wrote it.
+//! `check-fit`: the verdict on a fit, whoever wrote it, over a history or over every moment of a timeline.
 ghost use Rattle.std.specs.Prelude.{◌≡◌, IfOk};
-ghost use Rattle.mte_engine.specs.Check.{verdict_text_by};
-ghost use Rattle.mte_engine.specs.CheckFit.{CheckFitAnswers};
-ghost use Rattle.mte_engine.specs.Outcome.{GivesAnswer, Runs};
 ghost use Rattle.byte_streams.specs.TextLeft.{text_left};
+ghost use Rattle.certificates.specs.FitView.{fit_of};
+ghost use Rattle.history_count.specs.HistoryText.{history_of};
+ghost use Rattle.mte_engine.specs.Check.{verdict_text_by};
+ghost use Rattle.mte_engine.specs.CheckFit.{IsFitChecked};
+ghost use Rattle.mte_engine.specs.CheckFitOver.{CheckFitEitherAnswers};
+ghost use Rattle.mte_engine.specs.Outcome.{GivesAnswer, Runs};
+ghost use Rattle.mte_engine.specs.Parts.{AnswersPart, AreFewLines, history_part};
 ghost use Rattle.tuner_theory.specs.RefusalText.{shown_fit_refusal};
 
 use crate::engine::{Engine, Status, run_engine};
 use crate::fault::{AnswerError, ToolFault};
+use crate::fit_checking_over::{begins_moments, check_timeline};
 use crate::input_parts::{read_fit_first, read_history};
 use byte_streams::{ByteSink, ByteSource, Text, WholeText};
 use footprint_check::check_fit as verdict_on;
-use potential_check::Verdict;
+use potential_check::{Fit, Verdict};
 use std::alloc::{AllocError, Global};
 use tuner_theory::FitRefusal;
 
-/// Reads a fit and then a history. It writes `optimal`, or `refused CODE NAME` with the status of a no: the first refusal (39 to 41, 43 to
+/// Reads a fit and then a history, or a fit, the line of its moments and then a timeline. It writes `optimal`, or `refused CODE NAME` with the status of a no: the first refusal (39 to 41, 43 to
 /// 47 and 49) of the fit for the history. `optimal` means that no table takes less, of all tables that have at most the fit's limit of
 /// classes, all of them multiples of its step, and that serve each counted size. The fit is the first three lines, or four if the third
 /// begins with `step`, and all lines directly after them whose first word is `row`.
@@ -27,7 +32,7 @@ pub fn check_fit<R: ByteSource, W: ByteSink>(
     source: &mut R,
     sink: &mut W,
 ) -> Result<Status, ToolFault>
-    ensures { Runs CheckFitAnswers (R.state source.old) (R.state source.new) W.state sink.old sink.new result }
+    ensures { Runs CheckFitEitherAnswers (R.state source.old) (R.state source.new) W.state sink.old sink.new result }
 {
     run_engine(alloc, &CheckFitEngine, source, sink)
 }
@@ -39,7 +44,7 @@ impl Engine for CheckFitEngine {
 
     type Output = Text;
 
-    ghost answers = { λ _. CheckFitAnswers };
+    ghost answers = { λ _. CheckFitEitherAnswers };
 
     fn input(&self, alloc: Global) -> Result<WholeText, AllocError> {
         Ok(WholeText::new(alloc))
@@ -50,13 +55,30 @@ impl Engine for CheckFitEngine {
     }
 }
 
-// the answer to a text
+// the answer to a text, by the line after the fit
 fn check_fit_text(alloc: Global, text: &[u8]) -> Result<(Text, Status), AnswerError>
-    ensures { GivesAnswer text_left (CheckFitAnswers text.now) result }
+    ensures { GivesAnswer text_left (CheckFitEitherAnswers text.now) result }
 {
     let leading = read_fit_first(alloc, text)?;
-    let history = read_history(alloc, leading.rest, leading.lines)?;
-    let verdict = verdict_on(alloc, &history, &leading.fit)?;
+    if begins_moments(leading.rest) {
+        return check_timeline(alloc, &leading.fit, leading.rest, leading.lines);
+    }
+    check_history(alloc, &leading.fit, leading.rest, leading.lines)
+}
+
+// the answer to a fit and the history's text that follows this many lines
+fn check_history(
+    alloc: Global,
+    fit: &Fit,
+    text: &[u8],
+    lines: u64,
+) -> Result<(Text, Status), AnswerError>
+    requires { AreFewLines lines }
+    ensures { GivesAnswer text_left (AnswersPart (history_part lines (history_of text.now))
+        (λ history answer. IsFitChecked (fit_of fit.now) history answer)) result }
+{
+    let history = read_history(alloc, text, lines)?;
+    let verdict = verdict_on(alloc, &history, fit)?;
     Ok(answer_for(alloc, verdict)?)
 }
 

@@ -1,22 +1,28 @@
-//! `fit`: the class table of least footprint over a history, with its certificate.
+//! `fit`: the class table of least footprint over a history, or over every moment of a timeline, with its certificate.
 ghost use Rattle.mte_engine.specs.Fit.{FitAnswers};
+ghost use Rattle.mte_engine.specs.FitOver.{FitEitherAnswers};
 ghost use Rattle.mte_engine.specs.Outcome.{GivesAnswer, Runs};
 ghost use Rattle.mte_engine.specs.SheetLeft.{sheet_left};
 ghost use Rattle.mte_engine.specs.Tune.{AreTuneOptions};
 
 use crate::engine::{Engine, Status, run_engine};
 use crate::fault::{AnswerError, ToolFault};
-use crate::input_parts::read_history;
+use crate::fitting_over::fit_over_text;
+use crate::input_parts::{begins_timeline, read_history};
 use crate::sheet_writing::SheetText;
 use byte_streams::{ByteSink, ByteSource, WholeText};
 use std::alloc::{AllocError, Global};
 
-/// Reads a history, and writes the fit of its table of least footprint. Of all tables that have at most `limit` (1 to 32) classes, all of
+/// Reads a history or a timeline, and writes the fit of its table of least footprint. Of all tables that have at most `limit` (1 to 32) classes, all of
 /// them multiples of `step` (1, 2, 4 or 8 granules), and that serve each counted size, it is the canonical one of those that take least. The
 /// fit's certificate is rows of least footprints: number i of row k, both counted from 1, is the least that at most k classes take for the
 /// blocks whose need is above the i - 1 smallest distinct needs.
 ///
-/// Faults of the input (`Input`), in this order: that it is too long; the fault of the history. `ToolFault` has the other faults, and what
+/// Of a timeline the footprint is that over every moment, the rows are those over the moments that the line after them names, and the table
+/// is the one that would be fitted over all. Where that is not shown after 1,024 rounds, the text is a table with its footprint and what no
+/// table takes less than, with the status of a no.
+///
+/// Faults of the input (`Input`), in this order: that it is too long; the fault of the history or the timeline. `ToolFault` has the other faults, and what
 /// the sink took when one comes.
 pub fn fit<R: ByteSource, W: ByteSink>(
     alloc: Global,
@@ -26,7 +32,7 @@ pub fn fit<R: ByteSource, W: ByteSink>(
     sink: &mut W,
 ) -> Result<Status, ToolFault>
     requires options { AreTuneOptions limit step }
-    ensures { Runs (FitAnswers limit step) (R.state source.old) (R.state source.new) W.state sink.old sink.new result }
+    ensures { Runs (FitEitherAnswers limit step) (R.state source.old) (R.state source.new) W.state sink.old sink.new result }
 {
     run_engine(alloc, &FitEngine { limit, step }, source, sink)
 }
@@ -44,18 +50,34 @@ impl Engine for FitEngine {
 
     type Output = SheetText;
 
-    ghost answers = { λ e. FitAnswers e.limit e.step };
+    ghost answers = { λ e. FitEitherAnswers e.limit e.step };
 
     fn input(&self, alloc: Global) -> Result<WholeText, AllocError> {
         Ok(WholeText::new(alloc))
     }
 
     fn answer(&self, alloc: Global, input: WholeText) -> Result<(SheetText, Status), AnswerError> {
-        fit_text(alloc, self.limit, self.step, &input.text)
+        fit_either(alloc, self.limit, self.step, &input.text)
     }
 }
 
-// the answer to a text
+// the answer to a text, by its first line
+fn fit_either(
+    alloc: Global,
+    limit: u8,
+    step: u8,
+    text: &[u8],
+) -> Result<(SheetText, Status), AnswerError>
+    requires options { AreTuneOptions limit step }
+    ensures { GivesAnswer sheet_left (FitEitherAnswers limit step text.now) result }
+{
+    if begins_timeline(text) {
+        return fit_over_text(alloc, limit, step, text);
+    }
+    fit_text(alloc, limit, step, text)
+}
+
+// the answer to a history's text
 fn fit_text(
     alloc: Global,
     limit: u8,

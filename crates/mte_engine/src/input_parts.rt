@@ -1,5 +1,5 @@
 //! The parts of inputs, read with the input's line numbers.
-ghost use Rattle.std.specs.Prelude.{◌≡◌, length, Ok, Err, IfOk, MatchResult};
+ghost use Rattle.std.specs.Prelude.{◌≡◌, ◌+◌, length, Ok, Err, IfOk, MatchResult};
 ghost use Rattle.line_text.specs.Lines.{lines};
 ghost use Rattle.class_table.specs.ClassLine.{table_of_line};
 ghost use Rattle.history_count.specs.HistoryText.{history_of};
@@ -11,16 +11,20 @@ ghost use Rattle.certificates.specs.SheetView.{sheet_of};
 ghost use Rattle.potential_check.specs.SheetText.{sheet_of_lines};
 ghost use Rattle.tuner_theory.specs.Fits.{Fit};
 ghost use Rattle.tuner_theory.specs.Sheets.{Sheet};
-ghost use Rattle.mte_engine.specs.Parts.{AreFewLines, GivesPart, fit_part, history_part, table_part, sheet_part, profile_part};
+ghost use Rattle.timeline_count.specs.TimelineText.{timeline_of};
+ghost use Rattle.mte_engine.specs.Parts.{AreFewLines, GivesPart, fit_part, history_part, table_part, sheet_part, profile_part, timeline_part};
+ghost use Rattle.mte_engine.specs.Timelines.{begins_timeline};
 
 use crate::fault::{AnswerError, InputFault};
 use class_table::ClassTable;
 use history_count::{History, HistoryError};
+use line_text::lines_in;
 use potential_check::{
     FitError, LeadingFit, LeadingSheet, SheetError, read_leading_fit, read_leading_sheet,
 };
 use profile_count::{Profile, ProfileError};
 use std::alloc::Global;
+use timeline_count::{TIMELINE, Timeline, TimelineError};
 
 /// The table that the first line of an input spells. `line` is that line without its newline.
 pub fn read_table(line: &[u8]) -> Result<ClassTable, AnswerError>
@@ -55,6 +59,7 @@ pub fn read_fit_first(alloc: Global, text: &[u8]) -> Result<LeadingFit<'_>, Answ
         (λ fault. GivesPart {A = Fit} (Err fault) (fit_part (fit_of_lines (leading_lines (lines text.now))))) }
     ensures lines { IfOk result
         (λ leading. (leading.lines ≡ length (leading_lines (lines text.now))) × AreFewLines leading.lines) }
+    ensures few { IfOk result (λ leading. AreFewLines (leading.lines + 1)) }
     ensures rest { IfOk result (λ leading. lines leading.rest.now ≡ lines_after (lines text.now)) }
 {
     match read_leading_fit(alloc, text) {
@@ -88,6 +93,31 @@ pub fn read_history(alloc: Global, text: &[u8], lines: u64) -> Result<History, A
         Ok(history) => Ok(history),
         Err(HistoryError::OutOfMemory) => Err(AnswerError::OutOfMemory),
         Err(HistoryError::Line(number, fault)) => Err(AnswerError::Input(InputFault::History(
+            lines + u64::from(number),
+            fault,
+        ))),
+    }
+}
+
+/// Whether a text begins with the first line of a timeline.
+pub fn begins_timeline(text: &[u8]) -> bool
+    ensures { result ≡ begins_timeline (lines text.now) }
+{
+    match lines_in(text).next() {
+        Some(line) => line == TIMELINE,
+        None => false,
+    }
+}
+
+/// The timeline that a text spells. The text follows this many lines of the input.
+pub fn read_timeline(alloc: Global, text: &[u8], lines: u64) -> Result<Timeline, AnswerError>
+    requires { AreFewLines lines }
+    ensures { GivesPart result (timeline_part lines (timeline_of text.now)) }
+{
+    match Timeline::read(alloc, text) {
+        Ok(timeline) => Ok(timeline),
+        Err(TimelineError::OutOfMemory) => Err(AnswerError::OutOfMemory),
+        Err(TimelineError::Line(number, fault)) => Err(AnswerError::Input(InputFault::Timeline(
             lines + u64::from(number),
             fault,
         ))),

@@ -26,10 +26,13 @@ ghost use Rattle.tuner_theory.specs.declared.most_snapshots.TheConstants.{MOST_S
 ghost use Rattle.mte_engine.specs.Check.{CheckAnswers};
 ghost use Rattle.mte_engine.specs.CheckFit.{CheckFitAnswers};
 ghost use Rattle.mte_engine.specs.FaultLines.{IsAtFirstFault, SpellsFitAndHistory, SpellsSheetAndProfile};
-ghost use Rattle.mte_engine.specs.FaultLines.{SpellsTableAndHistory, SpellsTableAndProfile, line_of_fault};
+ghost use Rattle.mte_engine.specs.FaultLines.{SpellsTableAndHistory, SpellsTableAndProfile, SpellsTableAndTimeline, line_of_fault};
 ghost use Rattle.mte_engine.specs.FaultText.{in_line, shown_input_fault};
 ghost use Rattle.mte_engine.specs.Fit.{FitAnswers};
+ghost use Rattle.mte_engine.specs.FitOver.{FitOverAnswers};
 ghost use Rattle.mte_engine.specs.Footprint.{FootprintAnswers};
+ghost use Rattle.mte_engine.specs.FootprintOver.{FootprintOverAnswers};
+ghost use Rattle.timeline_count.specs.TimelineText.{SpellsTimeline};
 ghost use Rattle.mte_engine.specs.Outcome.{Answer};
 ghost use Rattle.mte_engine.specs.Replay.{ReplayAnswers, report_on};
 ghost use Rattle.mte_engine.specs.Run.{IsTunedRun, RunAnswers};
@@ -59,8 +62,8 @@ pub fn law_one_answer()
         → RunAnswers limit step config text a → RunAnswers limit step config text b → a ≡ b }
 {}
 
-/// A fault in a class line, in a profile or in a history is shown with the line of the input's first fault. The profile or the history is
-/// the whole input, or follows a class line, or a sheet or a fit. Some input without a fault begins with the lines before that line. None
+/// A fault in a class line, in a profile, in a history or in a timeline is shown with the line of the input's first fault. The profile, the
+/// history or the timeline is the whole input, or follows a class line, or a sheet or a fit. Some input without a fault begins with the lines before that line. None
 /// begins with these lines and that line; if that line is missing, none has just these lines.
 pub fn law_fault_lines()
     ensures shown { (fault : InputFault) (n : ℕ) → line_of_fault fault ≡ Some n
@@ -77,6 +80,10 @@ pub fn law_fault_lines()
         → IsAtFirstFault SpellsTableAndHistory text fault }
     ensures fit { (limit step : ℕ) (text : List ℕ) (fault : InputFault) → FitAnswers limit step text (Err fault)
         → IsAtFirstFault SpellsHistory text fault }
+    ensures footprint_over { (text : List ℕ) (fault : InputFault) → FootprintOverAnswers text (Err fault)
+        → IsAtFirstFault SpellsTableAndTimeline text fault }
+    ensures fit_over { (limit step : ℕ) (text : List ℕ) (fault : InputFault) → FitOverAnswers limit step text (Err fault)
+        → IsAtFirstFault SpellsTimeline text fault }
     ensures check_fit { (text : List ℕ) (n : ℕ) (fault : HistoryFault) → CheckFitAnswers text (Err (History n fault))
         → IsFirstFault SpellsFitAndHistory text n }
 {}

@@ -1,12 +1,16 @@
-//! `footprint`: what a table takes of memory over a history.
-ghost use Rattle.std.specs.Prelude.{◌≡◌, IfOk};
+//! `footprint`: what a table takes of memory over a history, or over every moment of a timeline.
+ghost use Rattle.std.specs.Prelude.{◌≡◌, IfOk, drop};
+ghost use Rattle.line_text.specs.Lines.{lines};
+ghost use Rattle.mte_engine.specs.Timelines.{begins_timeline};
 ghost use Rattle.mte_engine.specs.Footprint.{FootprintAnswers, measured};
+ghost use Rattle.mte_engine.specs.FootprintOver.{FootprintEitherAnswers};
 ghost use Rattle.mte_engine.specs.Outcome.{GivesAnswer, Runs};
 ghost use Rattle.byte_streams.specs.TextLeft.{text_left};
 
 use crate::engine::{Engine, Status, run_engine};
 use crate::fault::{AnswerError, InputFault, ToolFault};
-use crate::input_parts::{read_history, read_table};
+use crate::input_parts::{begins_timeline, read_history, read_table};
+use crate::measuring_over::footprint_over_text;
 use crate::scoring::numbered_line;
 use byte_streams::{ByteSink, ByteSource, Text, WholeText};
 use class_table::{ClassTable, TableError};
@@ -14,17 +18,17 @@ use history_count::History;
 use line_text::lines_in;
 use std::alloc::{AllocError, Global};
 
-/// Reads a class line and then a history, and writes `footprint F`, the bytes that the table's classes take when most blocks of each are
-/// live, or `not serving N` with the status of a no, where N is the least counted size that has no class.
+/// Reads a class line and then a history or a timeline, and writes `footprint F`, the bytes that the table's classes take when most blocks of
+/// each are live, or `not serving N` with the status of a no, where N is the least counted size that has no class.
 ///
-/// Faults of the input (`Input`), in this order: that it is too long; the fault of the class line; that of the history. `ToolFault` has the
-/// other faults, and what the sink took when one comes.
+/// Faults of the input (`Input`), in this order: that it is too long; the fault of the class line; that of the history or the timeline.
+/// `ToolFault` has the other faults, and what the sink took when one comes.
 pub fn footprint<R: ByteSource, W: ByteSink>(
     alloc: Global,
     source: &mut R,
     sink: &mut W,
 ) -> Result<Status, ToolFault>
-    ensures { Runs FootprintAnswers (R.state source.old) (R.state source.new) W.state sink.old sink.new result }
+    ensures { Runs FootprintEitherAnswers (R.state source.old) (R.state source.new) W.state sink.old sink.new result }
 {
     run_engine(alloc, &FootprintEngine, source, sink)
 }
@@ -36,18 +40,39 @@ impl Engine for FootprintEngine {
 
     type Output = Text;
 
-    ghost answers = { λ _. FootprintAnswers };
+    ghost answers = { λ _. FootprintEitherAnswers };
 
     fn input(&self, alloc: Global) -> Result<WholeText, AllocError> {
         Ok(WholeText::new(alloc))
     }
 
     fn answer(&self, alloc: Global, input: WholeText) -> Result<(Text, Status), AnswerError> {
-        footprint_of_text(alloc, &input.text)
+        footprint_of_either(alloc, &input.text)
     }
 }
 
-// the answer to a text
+// the answer to a text, by the line after the class line
+fn footprint_of_either(alloc: Global, text: &[u8]) -> Result<(Text, Status), AnswerError>
+    ensures { GivesAnswer text_left (FootprintEitherAnswers text.now) result }
+{
+    if has_timeline(text) {
+        return footprint_over_text(alloc, text);
+    }
+    footprint_of_text(alloc, text)
+}
+
+// whether the line after the class line begins a timeline
+fn has_timeline(text: &[u8]) -> bool
+    ensures { result ≡ begins_timeline (drop 1 (lines text.now)) }
+{
+    let mut lines = lines_in(text);
+    match lines.next() {
+        Some(_line) => begins_timeline(lines.rest()),
+        None => false,
+    }
+}
+
+// the answer to a text with a history
 fn footprint_of_text(alloc: Global, text: &[u8]) -> Result<(Text, Status), AnswerError>
     ensures { GivesAnswer text_left (FootprintAnswers text.now) result }
 {

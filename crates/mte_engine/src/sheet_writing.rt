@@ -53,6 +53,13 @@ impl SheetText {
         SheetText::new(head, rows)
     }
 
+    /// A text that is in memory. The only error is that the allocator refuses memory.
+    pub fn of_text(alloc: Global, text: Vec<u8>) -> Result<SheetText, AllocError>
+        ensures { IfOk result (λ output. sheet_left output ≡ text.items) }
+    {
+        SheetText::new(text, Rows::new(Vec::new(alloc)))
+    }
+
     // a text, and then the lines of rows
     fn new(mut buffer: Vec<u8>, rows: Rows) -> Result<SheetText, AllocError>
         requires { AreShort rows }

@@ -1,9 +1,9 @@
 -- What each call's engine wants and answers, and how the words of a command line come out.
 use Rattle.std.specs.Prelude.{ℕ, List, Result, Ok, Err, ⊤}
 use Rattle.mte_engine.specs.Check.{CheckAnswers}
-use Rattle.mte_engine.specs.CheckFit.{CheckFitAnswers}
-use Rattle.mte_engine.specs.Fit.{FitAnswers}
-use Rattle.mte_engine.specs.Footprint.{FootprintAnswers}
+use Rattle.mte_engine.specs.CheckFitOver.{CheckFitEitherAnswers}
+use Rattle.mte_engine.specs.FitOver.{FitEitherAnswers}
+use Rattle.mte_engine.specs.FootprintOver.{FootprintEitherAnswers}
 use Rattle.mte_engine.specs.Outcome.{Answer}
 use Rattle.mte_engine.specs.Score.{ScoreAnswers}
 use Rattle.mte_engine.specs.Profile.{ProfileAnswers}
@@ -37,9 +37,9 @@ abbrev pub answers_of : Call → List ℕ → Result Answer InputFault → Type 
 answers_of Score = ScoreAnswers
 answers_of (Tune o) = TuneAnswers o.limit o.step
 answers_of Check = CheckAnswers
-answers_of Footprint = FootprintAnswers
-answers_of (Fit o) = FitAnswers o.limit o.step
-answers_of CheckFit = CheckFitAnswers
+answers_of Footprint = FootprintEitherAnswers
+answers_of (Fit o) = FitEitherAnswers o.limit o.step
+answers_of CheckFit = CheckFitEitherAnswers
 answers_of Profile = ProfileAnswers
 answers_of (Replay o) = ReplayAnswers o.config
 answers_of (Run o) = RunAnswers o.limit o.step o.config

@@ -19,4 +19,4 @@ pub use fault::{FitError, SheetError};
 pub use leading_sheet::{LeadingFit, LeadingSheet};
 pub use reading::{read_fit, read_leading_fit, read_leading_sheet, read_sheet};
 pub use tuner_theory::{Refusal, Verdict};
-pub use writing::{ROW_BYTES, write_fit, write_row, write_sheet};
+pub use writing::{ROW_BYTES, append_line, append_table, write_fit, write_row, write_sheet};

@@ -132,7 +132,9 @@ fn append_limits(text: &mut Vec<u8>, limit: u8, step: u8) -> Result<(), AllocErr
     append_line(text, STEP, &[u64::from(step)])
 }
 
-fn append_table(text: &mut Vec<u8>, table: &ClassTable) -> Result<(), AllocError>
+/// Appends the class line of a table, with its newline. The only error is that the allocator refuses memory; then a part of the line may be
+/// there.
+pub fn append_table(text: &mut Vec<u8>, table: &ClassTable) -> Result<(), AllocError>
     ensures written { OnOk result (text.new.items ≡ text.old.items ++ ended (class_line table.now)) }
     ensures kept { IsPrefix text.old.items text.new.items }
 {
@@ -163,8 +165,9 @@ fn bytes_for(rows: &Rows) -> usize {
     bytes
 }
 
-// appends the line of a name and numbers; with room for it, it is appended
-fn append_line(text: &mut Vec<u8>, name: &[u8], numbers: &[u64]) -> Result<(), AllocError>
+/// Appends the line of a name and numbers, with its newline. With room for it, it is appended. The only error is that the allocator refuses
+/// memory; then a part of the line may be there.
+pub fn append_line(text: &mut Vec<u8>, name: &[u8], numbers: &[u64]) -> Result<(), AllocError>
     ensures written { OnOk result (text.new.items ≡ text.old.items ++ ended (named_line name.now numbers.now)) }
     ensures kept { IsPrefix text.old.items text.new.items }
     ensures capacity { vec_capacity text.old ≤ vec_capacity text.new }

@@ -13,7 +13,7 @@ const ABOUT: About = about!(
 /// The text after the options in its own help.
 pub const AFTER: &str = help_text!(
     "\
-Standard input is a fit, and then a history:
+Standard input is a fit, and then a history, or a line `moments` and a timeline:
 
   classes C1 C2 ..   the table: up to 32 block sizes in granules of 16 bytes, from 2 to 1024,
                      ascending
@@ -22,6 +22,8 @@ Standard input is a fit, and then a history:
   footprint F        the bytes that the table is said to take
   row N1 N2 ..       K rows with a number for each distinct need; all `row` lines that follow at
                      once belong to the fit
+  moments M1 M2 ..   before a timeline: up to 1024 numbers of events, ascending; over the snapshots
+                     after so many events, which the checker counts itself, the rows are tested
 ",
     history_lines,
     "
@@ -29,7 +31,8 @@ Standard input is a fit, and then a history:
 The output is one line:
 
   optimal              the fit meets all conditions below: no table of at most K classes that are
-                       multiples of S, and that serves each counted size, takes less
+                       multiples of S, and that serves each counted size, takes less: over the
+                       history, or over every moment of the timeline
   refused CODE NAME    the first condition that the fit breaks; the exit status is 1
 
 A table may be one that takes least and its fit refused: the rows must prove it. The conditions:
@@ -45,6 +48,11 @@ A table may be one that takes least and its fit refused: the rows must prove it.
   46 Edge              no number is above what one class up to a later need takes, plus the number
                        of the row before there
   47 NotTight          the first number of row K is the footprint
+
+Before a timeline the fit is checked over the snapshots at its moments, and then again, by 41 and
+49, over every moment. Before all of these comes:
+
+  53 NotMoments        no number of `moments` is above the number of events
 
 Example:
   (mte_tool fit --limit 8 < app.history; cat app.history) | mte_tool check-fit

@@ -37,6 +37,10 @@ The output is a fit:
                      counted size, takes less
   row N1 N2 ..       K rows: row k, number i is the least that at most k classes take for the blocks
                      without those of the i-1 smallest distinct needs
+  moments M1 M2 ..   of a timeline: the events before each of the moments whose history the rows are
+                     of. No table takes less over every moment. If 1024 rounds do not show that, the
+                     output is another: a table, what it takes, and what no table takes less than;
+                     the exit status is then 1
 
 Freed blocks of a class serve no other class, so a finer table can take more: the table may have
 fewer than K classes. The rows prove that the footprint is the least: `check-fit` tests them.

@@ -20,8 +20,8 @@ Standard input is a class line, and then a history:
     "
 
 A block takes the smallest class that holds it with its header of one granule. A class takes its
-block size times the most of its blocks that are live at one snapshot, since its freed blocks serve
-no other class. The output is one line:
+block size times the most of its blocks that are live at one snapshot, or at any moment of the
+timeline, since its freed blocks serve no other class. The output is one line:
 
   footprint F        the bytes that all classes take
   not serving N      no class serves N bytes, the smallest such size; the exit status is 1

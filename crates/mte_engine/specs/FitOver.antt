@@ -1,0 +1,56 @@
+-- The answers of `fit` to a timeline: the table of least footprint over every moment, with its certificate; or a table and a bound.
+use Rattle.std.specs.Prelude.{◌≡◌, ◌⊎◌, ℕ, List, [], ◌∷◌, ◌++◌, codes, MatchBool, Result, Ok, Err}
+use Rattle.class_table.specs.ClassLine.{class_line}
+use Rattle.class_table.specs.NamedLines.{named_line}
+use Rattle.line_text.specs.Lines.{ended, lines, text_of}
+use Rattle.potential_check.specs.FitText.{fit_text}
+use Rattle.timeline_check.specs.MomentsLine.{moments_line}
+use Rattle.timeline_count.specs.TimelineText.{timeline_of}
+use Rattle.timeline_fitter.specs.Found.{IsBetween, IsLeastFit}
+use Rattle.tuner_theory.specs.Fits.{Fit}
+use Rattle.tuner_theory.specs.declared.size_event.SizeEvent.{SizeEvent}
+use Rattle.mte_engine.specs.Fit.{FitAnswers}
+use Rattle.mte_engine.specs.Outcome.{Answer}
+use Rattle.mte_engine.specs.Parts.{timeline_part}
+use Rattle.mte_engine.specs.Timelines.{begins_timeline}
+use Rattle.mte_engine.specs.declared.engine.Status.TheVariants.{Done, No}
+use Rattle.mte_engine.specs.declared.fault.InputFault.{InputFault}
+
+-- The text of a fit, and the line of its moments.
+abbrev pub least_text : Fit → List ℕ → List ℕ
+least_text fit numbers = fit_text fit ++ ended (moments_line numbers)
+
+-- A table, what it takes, and that it is not shown to take least, with what no table takes less than.
+abbrev pub between_lines : List ℕ → ℕ → ℕ → List (List ℕ)
+between_lines table takes least =
+    class_line table ∷ named_line (codes "footprint") (takes ∷ [])
+    ∷ named_line (codes "not shown least: no table takes less than") (least ∷ []) ∷ []
+
+-- No table takes less over every moment.
+pub record IsLeastText (limit step : ℕ) (events : List SizeEvent) (answer : Answer) : Type 0 where
+  pub numbers : List ℕ
+  pub fit : Fit
+  pub least : IsLeastFit events step limit numbers fit
+  pub written : answer ≡ record { text = least_text fit numbers; status = Done }
+
+-- That is not shown.
+pub record IsBetweenText (limit step : ℕ) (events : List SizeEvent) (answer : Answer) : Type 0 where
+  pub table : List ℕ
+  pub takes : ℕ
+  pub least : ℕ
+  pub between : IsBetween events step limit table takes least
+  pub written : answer ≡ record { text = text_of (between_lines table takes least); status = No }
+
+abbrev pub IsFoundText : ℕ → ℕ → List SizeEvent → Answer → Type 0
+IsFoundText limit step events answer = IsLeastText limit step events answer ⊎ IsBetweenText limit step events answer
+
+-- The whole text is a timeline. The answer is what was found, or the timeline's first fault.
+abbrev pub FitOverAnswers : ℕ → ℕ → List ℕ → Result Answer InputFault → Type 0
+FitOverAnswers limit step text (Ok answer) =
+    (events : List SizeEvent) × (timeline_part 0 (timeline_of text) ≡ Ok events) × IsFoundText limit step events answer
+FitOverAnswers limit step text (Err fault) = timeline_part 0 (timeline_of text) ≡ Err fault
+
+-- The answers to any input: a timeline, or else a history.
+abbrev pub FitEitherAnswers : ℕ → ℕ → List ℕ → Result Answer InputFault → Type 0
+FitEitherAnswers limit step text answer =
+    MatchBool (begins_timeline (lines text)) (FitOverAnswers limit step text answer) (FitAnswers limit step text answer)

@@ -1,0 +1,78 @@
+//! `check-fit` over a timeline: the verdict on a fit with the moments that it names.
+ghost use Rattle.std.specs.Prelude.{◌≡◌, ◌+◌, Ok, Err, IfOk, MatchResult, ℕ, List};
+ghost use Rattle.byte_streams.specs.TextLeft.{text_left};
+ghost use Rattle.certificates.specs.FitView.{fit_of};
+ghost use Rattle.line_text.specs.Lines.{lines};
+ghost use Rattle.mte_engine.specs.CheckFitOver.{IsCheckedOver, begins_moments, moments_and_timeline, moments_part, over_verdict_text};
+ghost use Rattle.mte_engine.specs.Outcome.{GivesAnswer};
+ghost use Rattle.mte_engine.specs.Parts.{AnswersPart, AreFewLines, GivesPart};
+ghost use Rattle.timeline_check.specs.MomentsLine.{moments_of};
+
+use crate::engine::Status;
+use crate::fault::{AnswerError, InputFault};
+use crate::input_parts::read_timeline;
+use byte_streams::Text;
+use line_text::lines_in;
+use potential_check::Fit;
+use std::alloc::{AllocError, Global};
+use timeline_check::{OverVerdict, check_over, moments_in, names_moments};
+
+/// Whether a text begins with the line of a fit's moments.
+pub(crate) fn begins_moments(text: &[u8]) -> bool
+    ensures { result ≡ begins_moments (lines text.now) }
+{
+    match lines_in(text).next() {
+        Some(line) => names_moments(line),
+        None => false,
+    }
+}
+
+/// The answer to a fit and the text that follows this many lines: the line of the fit's moments, and then a timeline.
+pub(crate) fn check_timeline(
+    alloc: Global,
+    fit: &Fit,
+    text: &[u8],
+    before: u64,
+) -> Result<(Text, Status), AnswerError>
+    requires { AreFewLines (before + 1) }
+    ensures { GivesAnswer text_left (AnswersPart (moments_and_timeline before (lines text.now))
+        (λ parts answer. IsCheckedOver (fit_of fit.now) parts.0 parts.1 answer)) result }
+{
+    let number = before + 1;
+    let mut rest = lines_in(text);
+    let Some(line) = rest.next() else {
+        return Err(AnswerError::Input(InputFault::BadFit(number)));
+    };
+    let numbers = read_moments(alloc, line, number)?;
+    let timeline = read_timeline(alloc, rest.rest(), number)?;
+    let verdict = check_over(alloc, &timeline, &numbers, fit)?;
+    Ok(answer_for(alloc, verdict)?)
+}
+
+// the numbers of the moments that a line names, which has this number in the input
+fn read_moments(alloc: Global, line: &[u8], number: u64) -> Result<Vec<usize>, AnswerError>
+    ensures { MatchResult result (λ numbers. moments_part number (moments_of line.now) ≡ Ok numbers.items)
+        (λ fault. GivesPart {A = List ℕ} (Err fault) (moments_part number (moments_of line.now))) }
+{
+    match moments_in(alloc, line)? {
+        Some(numbers) => Ok(numbers),
+        None => Err(AnswerError::Input(InputFault::BadFit(number))),
+    }
+}
+
+// the text and the status of a verdict
+fn answer_for(alloc: Global, verdict: OverVerdict) -> Result<(Text, Status), AllocError>
+    ensures { IfOk result (λ answered.
+        record { text = text_left answered.0; status = answered.1 } ≡ over_verdict_text verdict) }
+{
+    match verdict {
+        OverVerdict::Optimal => {
+            let text = Vec::from_slice(alloc, b"optimal\n")?;
+            Ok((Text::new(text), Status::Done))
+        }
+        OverVerdict::Refused(refusal) => {
+            let text = format!(in alloc; "refused {refusal}\n")?.into_bytes();
+            Ok((Text::new(text), Status::No))
+        }
+    }
+}

@@ -1,0 +1,82 @@
+//! `fit` over a timeline: the class table of least footprint over every moment of it.
+ghost use Rattle.std.specs.Prelude.{◌≡◌, ◌++◌, IfOk};
+ghost use Rattle.certificates.specs.FitView.{fit_of};
+ghost use Rattle.line_text.specs.Lines.{text_of};
+ghost use Rattle.mte_engine.specs.FitOver.{FitOverAnswers, between_lines, least_text};
+ghost use Rattle.mte_engine.specs.Outcome.{GivesAnswer};
+ghost use Rattle.mte_engine.specs.SheetLeft.{sheet_left};
+ghost use Rattle.mte_engine.specs.Tune.{AreTuneOptions};
+
+use crate::engine::Status;
+use crate::fault::AnswerError;
+use crate::input_parts::read_timeline;
+use crate::sheet_writing::SheetText;
+use class_table::ClassTable;
+use potential_check::{Fit, append_line, append_table, write_fit};
+use std::alloc::{AllocError, Global};
+use timeline_check::MOMENTS;
+use timeline_fitter::{Found, MOST_ROUNDS, fit_over};
+
+/// The answer to a timeline's text.
+pub(crate) fn fit_over_text(
+    alloc: Global,
+    limit: u8,
+    step: u8,
+    text: &[u8],
+) -> Result<(SheetText, Status), AnswerError>
+    requires options { AreTuneOptions limit step }
+    ensures { GivesAnswer sheet_left (FitOverAnswers limit step text.now) result }
+{
+    let timeline = read_timeline(alloc, text, 0)?;
+    match fit_over(alloc, &timeline, limit, step, MOST_ROUNDS)? {
+        Found::Least { fit, numbers } => {
+            let text = text_of_least(alloc, &fit, &numbers)?;
+            Ok((SheetText::of_text(alloc, text)?, Status::Done))
+        }
+        Found::Between {
+            table,
+            takes,
+            least,
+        } => {
+            let text = text_of_between(alloc, &table, takes, least)?;
+            Ok((SheetText::of_text(alloc, text)?, Status::No))
+        }
+    }
+}
+
+// a fit, and the line of its moments
+fn text_of_least(alloc: Global, fit: &Fit, numbers: &[usize]) -> Result<Vec<u8>, AllocError>
+    ensures { IfOk result (λ text. text.items ≡ least_text (fit_of fit.now) numbers.now) }
+{
+    let mut text = Vec::new(alloc);
+    write_fit(fit, &mut text)?;
+    append_line(&mut text, MOMENTS, &wide(alloc, numbers)?)?;
+    Ok(text)
+}
+
+// a table with its footprint, and a bound
+fn text_of_between(
+    alloc: Global,
+    table: &ClassTable,
+    takes: u64,
+    least: u64,
+) -> Result<Vec<u8>, AllocError>
+    ensures { IfOk result (λ text. text.items ≡ text_of (between_lines table.now takes least)) }
+{
+    let mut text = Vec::new(alloc);
+    append_table(&mut text, table)?;
+    append_line(&mut text, b"footprint", &[takes])?;
+    append_line(
+        &mut text,
+        b"not shown least: no table takes less than",
+        &[least],
+    )?;
+    Ok(text)
+}
+
+// the same numbers in 64 bits
+fn wide(alloc: Global, numbers: &[usize]) -> Result<Vec<u64>, AllocError>
+    ensures { IfOk result (λ wide. wide.items ≡ numbers.now) }
+{
+    numbers.iter().map(|number| *number as u64).collect(alloc)
+}

@@ -1,0 +1,53 @@
+//! `footprint` over a timeline: what a table takes of memory over every moment of it.
+ghost use Rattle.std.specs.Prelude.{◌≡◌, IfOk};
+ghost use Rattle.byte_streams.specs.TextLeft.{text_left};
+ghost use Rattle.mte_engine.specs.FootprintOver.{FootprintOverAnswers, IsMeasuredOver};
+ghost use Rattle.mte_engine.specs.Outcome.{GivesAnswer};
+
+use crate::engine::Status;
+use crate::fault::{AnswerError, InputFault};
+use crate::input_parts::{read_table, read_timeline};
+use crate::scoring::numbered_line;
+use byte_streams::Text;
+use class_table::{ClassTable, TableError};
+use line_text::lines_in;
+use std::alloc::{AllocError, Global};
+use timeline_count::{Timeline, footprint_over, unserved_over};
+
+/// The answer to a text with a timeline.
+pub(crate) fn footprint_over_text(alloc: Global, text: &[u8]) -> Result<(Text, Status), AnswerError>
+    ensures { GivesAnswer text_left (FootprintOverAnswers text.now) result }
+{
+    let mut lines = lines_in(text);
+    let Some(line) = lines.next() else {
+        return Err(AnswerError::Input(InputFault::Table(TableError::BadLine)));
+    };
+    let table = read_table(line)?;
+    let timeline = read_timeline(alloc, lines.rest(), 1)?;
+    Ok(footprint_of_timeline(alloc, &table, &timeline)?)
+}
+
+// the answer to a table and a timeline
+fn footprint_of_timeline(
+    alloc: Global,
+    table: &ClassTable,
+    timeline: &Timeline,
+) -> Result<(Text, Status), AllocError>
+    ensures { IfOk result (λ answered.
+        IsMeasuredOver table.now timeline.now (record { text = text_left answered.0; status = answered.1 })) }
+{
+    let events = timeline.events();
+    match unserved_over(events, table) {
+        Some(size) => Ok((
+            numbered_line(alloc, b"not serving ", u64::from(size))?,
+            Status::No,
+        )),
+        None => {
+            let taken = footprint_over(alloc, events, table)?;
+            Ok((
+                numbered_line(alloc, b"footprint ", taken.bytes)?,
+                Status::Done,
+            ))
+        }
+    }
+}
