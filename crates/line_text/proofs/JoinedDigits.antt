@@ -62,3 +62,28 @@ joined_is (a ∷ b ∷ c ∷ d ∷ e ∷ f ∷ g ∷ h ∷ []) eight small =
     (digit_at ds 6 small (omega arith)) (digit_at ds 7 small (omega arith))
     ∙ omega arith
 joined_is ds eight small = absurd (omega (arith, eight))
+
+-- ---- four digits
+
+pairs_of_four : (a b c d : ℕ) → a ≤ 9 → b ≤ 9 → c ≤ 9 → d ≤ 9
+    → (a + 256 * (b + 256 * (c + 256 * (d + 256 * 0)))) * 2561 % 2 ^ 32 / 256 ≡ (10 * c + d) * 2 ^ 16 + (10 * a + b + 256 * (10 * b + c))
+pairs_of_four a b c d sa sb sc sd = omega arith
+
+low_bytes_of_four : (t u v : ℕ) → t < 256 → u < 256 → v < 256 → bit_and (v * 2 ^ 16 + (t + 256 * u)) 16711935 ≡ v * 2 ^ 16 + t
+low_bytes_of_four t u v st su sv =
+    let top : bit_and v 255 ≡ v = and_mask v 8 ∙ omega arith in
+    low_byte 255 v t u st su ∙ ap (λ n. n * 2 ^ 16 + t) top
+
+whole_of_four : (p q : ℕ) → p < 100 → q < 100 → (q * 2 ^ 16 + p) * 6553601 % 2 ^ 32 / 2 ^ 16 ≡ 100 * p + q
+whole_of_four p q sp sq = omega arith
+
+pub joined_four : (ds : List ℕ) → length ds ≡ 4 → All (λ d. d < 10) ds
+    → bit_and (word_of ds * 2561 % 2 ^ 32 / 256) 16711935 * 6553601 % 2 ^ 32 / 65536 ≡ number_from_digits 10 ds
+joined_four (a ∷ b ∷ c ∷ d ∷ []) four small =
+    let ds : List ℕ = a ∷ b ∷ c ∷ d ∷ [] in
+    let sa = digit_at ds 0 small (omega arith) in
+    let sb = digit_at ds 1 small (omega arith) in
+    let sc = digit_at ds 2 small (omega arith) in
+    let sd = digit_at ds 3 small (omega arith) in
+    grind (arith, pairs_of_four, low_bytes_of_four, whole_of_four)
+joined_four ds four small = absurd (omega (arith, four))

@@ -1,10 +1,10 @@
 -- The digits in front of a text, and the number that they spell.
 use Rattle.std.proofs.lemmas.Grind.{common_steps}
-use Rattle.std.proofs.Common.{◌≡◌, ℕ, zero, suc, min, Bool, cond, ◌+◌, ◌<◌, ◌≤◌, true, false, eqb, List, [], ◌∷◌, ◌++◌, append-nil, ◌∙◌, length, get_or, drop, take, take_all, refl, sym, ap, arith, Some, None, inl, inr, ◌⊎◌}
+use Rattle.std.proofs.Common.{◌≡◌, ℕ, zero, suc, min, Bool, cond, ◌<◌, ◌≤◌, true, false, eqb, List, [], ◌∷◌, ◌++◌, append-nil, ◌∙◌, length, get_or, take, take_all, refl, sym, ap, arith, Some, None, inl, inr, ◌⊎◌}
 use Rattle.std.specs.Char.{is_ascii_digit}
 use Rattle.std.specs.List.{list_all, prefix_len, take_while}
 use Rattle.std.specs.Str.Parse.{digits_value}
-use Rattle.std.proofs.lemmas.Bool.{and_parts, cases_lt, both_ways}
+use Rattle.std.proofs.lemmas.Bool.{cases_lt, both_ways}
 use Rattle.std.proofs.lemmas.Bool.Decides.{nat_tests}
 use Rattle.std.proofs.lemmas.List.{get_or-take, length-take-le, take-take}
 use Rattle.std.proofs.lemmas.List.Sums.{prefix_len_is, prefix_len_stops, prefix_len-le-length, take_while-cons}
@@ -85,19 +85,6 @@ pub prefix_len-take : (text : List ℕ) (n : ℕ) → prefix_len is_ascii_digit 
 prefix_len-take text zero = omega arith
 prefix_len-take [] (suc n) = omega arith
 prefix_len-take (c ∷ text) (suc n) = grind (arith, min, prefix_len-take text n)
-
--- what stands before the first other byte are digits
-pub digits_before : (text : List ℕ) (n : ℕ) → n ≤ prefix_len is_ascii_digit text → list_all is_ascii_digit (take n text) ≡ true
-digits_before text zero le = refl
-digits_before [] (suc n) le = refl
-digits_before (c ∷ text) (suc n) le = grind (arith, digits_before text n)
-
--- and after digits they go on
-pub digits_go_on : (text : List ℕ) (n : ℕ) → n ≤ length text → list_all is_ascii_digit (take n text) ≡ true
-    → prefix_len is_ascii_digit text ≡ n + prefix_len is_ascii_digit (drop n text)
-digits_go_on text zero le all = omega arith
-digits_go_on [] (suc n) le all = omega arith
-digits_go_on (c ∷ text) (suc n) le all = grind (arith, and_parts, digits_go_on text n)
 
 -- the digits in front of the first 19 bytes, where another byte ends them there, are those of the text
 pub leading_of_near : (text : List ℕ) (size value : ℕ) → AreNear (Some (size, value)) (take 19 text) → AreLeading (Some (value, size)) text

@@ -1,9 +1,10 @@
 pub mod LawLemmas
 pub mod Cuts
 pub mod Digits
+mod DigitWords
 mod JoinedDigits
 pub mod FirstFaults
-mod MoreDigits
+mod FourMore
 pub mod FirstNumbers
 pub mod FirstPairs
 pub mod FullLines

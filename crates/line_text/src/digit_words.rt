@@ -1,8 +1,8 @@
-//! Eight digits at once: the bytes are one word, and each multiplication doubles the number of digits that are joined.
-ghost use Rattle.std.specs.Prelude.{◌≡◌, ◌<◌, ℕ, All, List, length, map, take};
+//! Eight or four digits at once: the bytes are one word, and each multiplication doubles the number of digits that are joined.
+ghost use Rattle.std.specs.Prelude.{◌≡◌, ◌<◌, ℕ, All, Bool, IfSome, List, length, map, take};
 ghost use Rattle.std.specs.Char.{is_ascii_digit};
 ghost use Rattle.std.specs.Int.Digits.{number_from_digits};
-ghost use Rattle.std.specs.List.{prefix_len};
+ghost use Rattle.std.specs.List.{list_all, prefix_len};
 ghost use Rattle.std.specs.Simd.Lanes.{mask_l};
 ghost use Rattle.std.specs.Str.Parse.{digits_value};
 ghost use Rattle.line_text.specs.Numbers.{is_no_digit, word_of};
@@ -24,11 +24,14 @@ pub(crate) fn leading_eight(bytes: &[u8; 8]) -> (usize, u64)
     ensures value { result.1 ≡ digits_value 10 (take result.0 bytes.now) }
 {
     let count = digits_of(no_digits(u8x8::from_array(*bytes)));
+    let digits = u64::from_le_bytes(*bytes).wrapping_sub(ZEROS);
+    if count == 8 {
+        return (8, joined(digits));
+    }
     if count == 0 {
         return (0, 0);
     }
     // the digits go to the upper bytes, with zeros in front of them
-    let digits = u64::from_le_bytes(*bytes).wrapping_sub(ZEROS);
     (count, joined(digits << (64 - 8 * count)))
 }
 
@@ -53,6 +56,28 @@ fn digits_of(others: u64) -> usize
     } else {
         others.trailing_zeros() as usize
     }
+}
+
+/// The value of the first four bytes of a text, if all are digits.
+#[inline(always)]
+pub(crate) fn four_digits(text: &[u8]) -> Option<u32>
+    ensures digits { IfSome result (λ _. list_all is_ascii_digit (take 4 text.now) ≡ Bool.true) }
+    ensures value { IfSome result (λ value. value ≡ digits_value 10 (take 4 text.now)) }
+{
+    digits_in_four(text.first_chunk::<4>()?)
+}
+
+#[inline(always)]
+fn digits_in_four(bytes: &[u8; 4]) -> Option<u32>
+    ensures digits { IfSome result (λ _. list_all is_ascii_digit bytes.now ≡ Bool.true) }
+    ensures value { IfSome result (λ value. value ≡ digits_value 10 bytes.now) }
+{
+    let digits = u32::from_le_bytes(*bytes).wrapping_sub(0x3030_3030);
+    if (digits | digits.wrapping_add(0x7676_7676)) & 0x8080_8080 != 0 {
+        return None;
+    }
+    let pairs = (digits.wrapping_mul(1 + (10 << 8)) >> 8) & 0x00ff_00ff;
+    Some(pairs.wrapping_mul(1 + (100 << 16)) >> 16)
 }
 
 // The number whose eight digits these bytes are, the lowest byte first.

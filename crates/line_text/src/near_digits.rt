@@ -1,11 +1,11 @@
 //! The digits at the start of a fixed number of bytes. A number is **near** if it ends within these bytes.
-ghost use Rattle.std.specs.Prelude.{◌≡◌, ◌≤◌, ◌+◌, ◌^◌, Bool, take};
+ghost use Rattle.std.specs.Prelude.{◌≡◌, ◌≤◌, ◌+◌, Bool, take};
 ghost use Rattle.std.specs.Char.{is_ascii_digit};
 ghost use Rattle.std.specs.List.{list_all};
 ghost use Rattle.std.specs.Str.Parse.{digits_value};
 ghost use Rattle.line_text.specs.Numbers.{AreNear};
 
-use crate::digit_words::leading_eight;
+use crate::digit_words::{four_digits, leading_eight};
 use crate::number::SHORT_DIGITS;
 
 /// How many digits are at the start of these bytes, and their value; `None` if all bytes are digits.
@@ -31,32 +31,9 @@ fn further_digits(bytes: &[u8; SHORT_DIGITS], value: u64) -> Option<(usize, u64)
     requires value { value ≡ digits_value 10 (take 8 bytes.now) }
     ensures { AreNear result bytes.now }
 {
-    let Some(second) = bytes[8..].first_chunk::<8>() else {
-        return last_digits(bytes, 8, value);
-    };
-    let (count, more) = leading_eight(second);
-    let value = value * ten_to(count) + more;
-    if count < 8 {
-        return Some((8 + count, value));
-    }
-    last_digits(bytes, 16, value)
-}
-
-#[inline(always)]
-fn ten_to(power: usize) -> u64
-    requires { power ≤ 8 }
-    ensures { result ≡ 10 ^ power }
-{
-    match power {
-        0 => 1,
-        1 => 10,
-        2 => 100,
-        3 => 1_000,
-        4 => 10_000,
-        5 => 100_000,
-        6 => 1_000_000,
-        7 => 10_000_000,
-        _ => 100_000_000,
+    match four_digits(&bytes[8..]) {
+        Some(four) => last_digits(bytes, 12, value * 10_000 + u64::from(four)),
+        None => last_digits(bytes, 8, value),
     }
 }
 

@@ -1,4 +1,4 @@
-use Rattle.std.proofs.Common.{◌≡◌, ◌∙◌, arith}
+use Rattle.std.proofs.Common.{◌≡◌, ◌∙◌, sym, arith}
 use Rattle.std.specs.Char.{is_ascii_digit}
 use Rattle.std.specs.List.{prefix_len}
 use Rattle.std.proofs.lemmas.List.Sums.{prefix_len-le-length}
@@ -21,4 +21,13 @@ returns-clause-value c =
     let is : count ≡ prefix_len is_ascii_digit bytes = c.digits_of-count.ensures bytes c.told-bytes c.no_digits.ensures in
     let word = moved bytes c.from_le_bytes-digits.result count c.told-bytes c.fits-bytes c.from_le_bytes-digits.ensures
     (rw is (are_digits bytes)) (omega arith) (omega (arith, is, prefix_len-le-length is_ascii_digit bytes, c.told-bytes)) in
-    c.joined.ensures word.digits word.full word.small word.is ∙ word.value
+    c.joined-2.ensures word.digits word.full word.small word.is ∙ word.value
+
+pub returns-then-count-eq8-clause-value : goal.returns-then-count-eq8-clause-value
+returns-then-count-eq8-clause-value c =
+    let bytes = c.args.bytes.now in
+    let is : 8 ≡ prefix_len is_ascii_digit bytes =
+    sym c.if-count-eq8.true ∙ c.digits_of-count.ensures bytes c.told-bytes c.no_digits.ensures in
+    let word = moved bytes c.from_le_bytes-digits.result 8 c.told-bytes c.fits-bytes c.from_le_bytes-digits.ensures
+    (rw is (are_digits bytes)) (omega arith) (omega arith) in
+    c.joined.ensures word.digits word.full word.small (omega (arith, word.is)) ∙ word.value
