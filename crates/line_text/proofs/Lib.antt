@@ -6,6 +6,7 @@ pub mod FirstFaults
 mod MoreDigits
 pub mod FirstNumbers
 pub mod FirstPairs
+pub mod FirstRows
 pub mod FullLines
 pub mod HexDigits
 pub mod LeadingDigits
