@@ -11,6 +11,7 @@ pub mod LineByLine
 pub mod OpenReadings
 pub mod Peaks
 pub mod ReadIsSpelled
+pub mod RowEntries
 pub mod SizeLines
 pub mod SpelledIsRead
 pub mod SpreadLines

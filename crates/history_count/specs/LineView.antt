@@ -1,7 +1,8 @@
 -- What the reader of a line leaves.
-use Rattle.std.specs.Prelude.{◌≡◌, ◌≢◌, ◌-◌, ◌^◌, ℕ, List, length, map, min, Option, Some, None, Result, Ok, Err}
+use Rattle.std.specs.Prelude.{◌≡◌, ◌≢◌, ◌-◌, ◌^◌, ℕ, Bool, List, [], ◌∷◌, length, map, min, Option, Some, None, Result, Ok, Err}
 use Rattle.profile_count.specs.declared.fault.ProfileFault.TheVariants.{BadLine}
-use Rattle.history_count.specs.HistoryText.{Entry}
+use Rattle.line_text.specs.Lines.{words}
+use Rattle.history_count.specs.HistoryText.{Entry, entry_of}
 use Rattle.history_count.specs.declared.fault.HistoryFault.{HistoryFault}
 use Rattle.history_count.specs.declared.fault.HistoryFault.TheVariants.{Counted, WrongLength}
 use Rattle.history_count.specs.declared.line.Subject.{Subject}
@@ -10,6 +11,13 @@ use Rattle.history_count.specs.declared.line.Subject.{Subject}
 abbrev pub GivesEntry : Result Subject HistoryFault → List ℕ → Result Entry HistoryFault → Type 0
 GivesEntry (Ok subject) counts read = read ≡ Ok (record { subject = subject; counts = counts })
 GivesEntry (Err fault) counts read = read ≡ Err fault
+
+-- The next of the old lines, if there is one, was taken, and what it counts was read.
+abbrev pub GivesNextEntry : Option (Result Subject HistoryFault) → List ℕ → ℕ → ℕ → Bool → List (List ℕ) → List (List ℕ) → Type 0
+GivesNextEntry None counts count next is_ended old new = old ≡ []
+GivesNextEntry (Some read) counts count next is_ended [] new = ⊥
+GivesNextEntry (Some read) counts count next is_ended (line ∷ lines) new =
+    GivesEntry read counts (entry_of count next is_ended (words line)) × (new ≡ lines)
 
 -- A number as 32 bits hold it: a larger one as the largest.
 abbrev pub capped : ℕ → ℕ

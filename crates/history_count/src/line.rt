@@ -1,15 +1,17 @@
 //! What a line of a history says.
-ghost use Rattle.std.specs.Prelude.{◌≡◌, ◌≤◌, ℕ, [], length, Option, IfSome};
+ghost use Rattle.std.specs.Prelude.{◌≡◌, ◌≤◌, ℕ, [], Bool, length, map, List, Option, IfSome};
 ghost use Rattle.std.specs.Option.{option_map};
 ghost use Rattle.class_table.specs.NamedLines.{numbers_of};
 ghost use Rattle.line_text.specs.Lines.{words};
 ghost use Rattle.line_text.specs.Numbers.{classified};
-ghost use Rattle.history_count.specs.HistoryText.{are_few, are_in_range, entry_of, entry_with_numbers, is_in_order, is_some_counted, snapshots_of, subject_of};
-ghost use Rattle.history_count.specs.LineView.{Fills, GivesEntry, capped};
+ghost use Rattle.line_text.specs.Rows.{AreRowWords};
+ghost use Rattle.history_count.specs.HistoryText.{are_few, are_in_range, entry_of, entry_with};
+ghost use Rattle.history_count.specs.HistoryText.{entry_with_numbers, is_in_order, is_some_counted, snapshots_of, subject_of};
+ghost use Rattle.history_count.specs.LineView.{Fills, GivesEntry, GivesNextEntry, capped};
 
 use crate::fault::HistoryFault;
 use class_table::LARGEST_COUNTED;
-use line_text::{Number, Words, capped_number_in, number_in, words_in};
+use line_text::{Lines, Number, Words, capped_number_in, number_in, words_in};
 use profile_count::{LARGE, ProfileFault, two_words};
 use tuner_theory::{GREATEST_COUNT, MOST_SNAPSHOTS};
 
@@ -43,9 +45,52 @@ pub(crate) fn snapshots_in(line: &[u8]) -> Option<usize>
     }
 }
 
-/// What a later line counts. Its counts are then in `counts`, which has a place for each snapshot. `next` is the least size that may come,
-/// and `is_ended` says whether the `large` line came.
-pub(crate) fn entry_in(
+/// Takes the next line, and returns what it counts; `None` if no line is left. Its counts are then in `counts`, which has a place for each
+/// snapshot. `next` is the least size that may come, and `is_ended` says whether the `large` line came.
+pub(crate) fn next_entry(
+    next: u32,
+    is_ended: bool,
+    lines: &mut Lines<'_>,
+    counts: &mut [u32],
+) -> Option<Result<Subject, HistoryFault>>
+    ensures { GivesNextEntry result counts.new (length counts.old) next is_ended lines.old lines.new }
+{
+    if is_ended {
+        return next_by_words(next, is_ended, lines, counts);
+    }
+    // most lines are read in one pass
+    match lines.next_row(counts) {
+        Some(size) => Some(row_entry(next, size, counts)),
+        None => next_by_words(next, is_ended, lines, counts),
+    }
+}
+
+// the same, word by word
+fn next_by_words(
+    next: u32,
+    is_ended: bool,
+    lines: &mut Lines<'_>,
+    counts: &mut [u32],
+) -> Option<Result<Subject, HistoryFault>>
+    ensures { GivesNextEntry result counts.new (length counts.old) next is_ended lines.old lines.new }
+{
+    let line = lines.next()?;
+    Some(entry_in(next, is_ended, line, counts))
+}
+
+// what a line counts, by its numbers
+fn row_entry(next: u32, size: u64, counts: &[u32]) -> Result<Subject, HistoryFault>
+    ensures { (ws : List (List ℕ)) → AreRowWords ws size counts.now
+        → GivesEntry result counts.now (entry_of (length counts.now) next Bool.false ws) }
+{
+    if size > u64::from(LARGEST_COUNTED) {
+        return Err(HistoryFault::Counted(ProfileFault::BadLine));
+    }
+    tested(next, Subject::Size(size as u32), counts)
+}
+
+// what a line counts, by its text
+fn entry_in(
     next: u32,
     is_ended: bool,
     line: &[u8],
@@ -91,6 +136,14 @@ fn entry_after(
         return Err(HistoryFault::Counted(ProfileFault::BadLine));
     };
     fill(words, counts)?;
+    tested(next, subject, counts)
+}
+
+// the subject of a line that has a count for each snapshot, if its size is in order and its counts are in range
+fn tested(next: u32, subject: Subject, counts: &[u32]) -> Result<Subject, HistoryFault>
+    ensures { (numbers : List ℕ) → counts.now ≡ map capped numbers
+        → GivesEntry result counts.now (entry_with (length numbers) next subject numbers) }
+{
     if !is_in_order(next, subject) {
         return Err(HistoryFault::Counted(ProfileFault::NotAscending));
     }

@@ -6,7 +6,7 @@ ghost use Rattle.history_count.specs.HistoryText.{GivesHistory, history_of};
 use crate::counted_lines::CountedLines;
 use crate::fault::{HistoryError, HistoryFault};
 use crate::history::History;
-use crate::line::{Subject, entry_in, snapshots_in};
+use crate::line::{Subject, next_entry, snapshots_in};
 use line_text::lines_in;
 use std::alloc::{AllocError, Global};
 
@@ -30,18 +30,21 @@ impl History {
         let mut next = 0;
         let mut is_ended = false;
         let mut number = 1;
-        'lines: while let Some(line) = lines.next() {
+        'lines: while let Some(read) = next_entry(next, is_ended, &mut lines, &mut counts) {
             number += 1;
-            match entry_in(next, is_ended, line, &mut counts) {
-                Ok(Subject::Size(size)) => {
+            let subject = match read {
+                Ok(subject) => subject,
+                Err(fault) => return Err(HistoryError::Line(number, fault)),
+            };
+            match subject {
+                Subject::Size(size) => {
                     counted.add(size, &counts)?;
                     next = size + 1;
                 }
-                Ok(Subject::Large) => {
+                Subject::Large => {
                     large.copy_from_slice(&counts);
                     is_ended = true;
                 }
-                Err(fault) => return Err(HistoryError::Line(number, fault)),
             }
         }
         Ok(History::new(counted, large))

@@ -7,6 +7,7 @@ pub mod FirstFaults
 mod FourMore
 pub mod FirstNumbers
 pub mod FirstPairs
+pub mod FirstRows
 pub mod FullLines
 pub mod HexDigits
 pub mod LeadingDigits

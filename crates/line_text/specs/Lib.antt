@@ -5,4 +5,5 @@ pub mod Lines
 pub mod Numbers
 pub mod Pairs
 pub mod Prefixes
+pub mod Rows
 pub mod Signed

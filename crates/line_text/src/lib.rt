@@ -9,6 +9,7 @@ mod lines;
 mod near_digits;
 mod number;
 mod pair;
+mod row;
 mod search;
 mod signed;
 mod words;

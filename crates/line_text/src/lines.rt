@@ -3,8 +3,10 @@ ghost use Rattle.std.specs.Prelude.{◌≡◌, ◌++◌, ◌∷◌, List, ℕ, I
 ghost use Rattle.std.specs.Iterator.{YieldsFirstBy, item_count};
 ghost use Rattle.line_text.specs.Lines.{IsLine, lines, words};
 ghost use Rattle.line_text.specs.Pairs.{short_pair_of};
+ghost use Rattle.line_text.specs.Rows.{IsRow};
 
 use crate::pair::leading_pair;
+use crate::row::leading_row;
 use crate::search::first_place;
 use memchr::memchr;
 use std::marker::Model;
@@ -48,6 +50,20 @@ impl<'a> Lines<'a> {
         let (numbers, rest) = leading_pair(self.rest)?;
         self.rest = rest;
         Some(numbers)
+    }
+
+    /// Takes the next line as a number and those after it, which are then in `numbers`, in one pass over its bytes. A number that a place
+    /// does not hold stands as the largest that it holds. `None`, with no line taken, if no line is left, or if the next line has another
+    /// word, not as many numbers as there are places, or a number of more than 19 digits. There may be any numbers in `numbers` then.
+    #[inline(always)]
+    pub fn next_row(&mut self, numbers: &mut [u32]) -> Option<u64>
+        ensures row { IfSome result (λ first. IsRow (slice_get self.old 0) first numbers.new) }
+        ensures taken { IfSome result (λ _. self.new ≡ drop 1 self.old) }
+        ensures kept { IfNone result (self.new ≡ self.old) }
+    {
+        let (first, rest) = leading_row(self.rest, numbers)?;
+        self.rest = rest;
+        Some(first)
     }
 }
 

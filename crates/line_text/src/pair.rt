@@ -22,9 +22,9 @@ pub(crate) fn leading_pair(text: &[u8]) -> Option<((u64, u64), &[u8])>
     Some(((first, second), rest))
 }
 
-// the text after its first byte, if that is this byte
+/// The text after its first byte, if that is this byte.
 #[inline(always)]
-fn after_byte(byte: u8, text: &[u8]) -> Option<&[u8]>
+pub(crate) fn after_byte(byte: u8, text: &[u8]) -> Option<&[u8]>
     ensures first { IfSome result (λ rest. text.now ≡ byte ∷ rest.now) }
     ensures other { IfNone result (slice_get text.now 0 ≢ Some byte) }
 {

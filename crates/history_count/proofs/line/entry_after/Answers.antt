@@ -1,13 +1,20 @@
-use Rattle.std.proofs.Common.{sym, ◌∙◌}
-use Rattle.history_count.proofs.Entries.{entry-filled, entry-out_of_range, filled-ok}
+use Rattle.std.proofs.Common.{◌≡◌, ℕ, List, length, map, Option, Some}
+use Rattle.history_count.proofs.Entries.{IsFilled, filled-ok}
+use Rattle.history_count.specs.HistoryText.{entry_with, entry_with_numbers}
+use Rattle.history_count.specs.LineView.{GivesEntry, capped}
+use Rattle.history_count.specs.declared.fault.HistoryFault.{HistoryFault}
+use Rattle.history_count.specs.declared.line.Subject.{Subject}
+use Rattle.std.specs.Prelude.{Result}
 use Rattle.history_count.proofs.line.entry_after.Goals as goal
 
-pub returns-then-not-are_in_range : goal.returns-then-not-are_in_range
-returns-then-not-are_in_range c =
-    rw c.in-Some.is (entry-out_of_range _ _ _ c.in-Some.subject _ (filled-ok _ _ _ _ c.in_ok-fill.ensures)
-    (sym c.is_in_order.ensures ∙ c.if-not-is_in_order.false) (sym c.are_in_range.ensures ∙ c.if-not-are_in_range.true))
+-- the entry of a line by the counts that were filled in
+filled-entry : (result : Result Subject HistoryFault) (filled : List ℕ) (o : Option (List ℕ)) (count next : ℕ) (subject : Subject)
+    → IsFilled o count filled
+    → ((numbers : List ℕ) → filled ≡ map capped numbers → GivesEntry result filled (entry_with (length numbers) next subject numbers))
+    → GivesEntry result filled (entry_with_numbers count next (Some subject) o)
+filled-entry result filled o count next subject is gives = rw (is.read, ← is.size) (gives is.numbers is.is)
 
 pub returns : goal.returns
 returns c =
-    rw c.in-Some.is (entry-filled _ _ _ c.in-Some.subject _ (filled-ok _ _ _ _ c.in_ok-fill.ensures)
-    (sym c.is_in_order.ensures ∙ c.if-not-is_in_order.false) (sym c.are_in_range.ensures ∙ c.if-not-are_in_range.false))
+    rw c.in-Some.is (filled-entry c.tested.result c.fill.new.counts _ _ c.args.next c.in-Some.subject (filled-ok _ _ _ _ c.in_ok-fill.ensures)
+    c.tested.ensures)

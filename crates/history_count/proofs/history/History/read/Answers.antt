@@ -1,5 +1,5 @@
 use Rattle.std.proofs.Common.{◌≡◌, ◌+◌, ◌≤◌, ℕ, suc, Bool, Ok, List, length, true, sym, ap, ◌∙◌, arith, add-one, refl}
-use Rattle.std.proofs.lemmas.Bool.{leb-true}
+use Rattle.std.proofs.lemmas.Bool.{false≢true, leb-true}
 use Rattle.std.proofs.lemmas.List.{with_items_is}
 use Rattle.line_text.specs.Lines.{words}
 use Rattle.profile_count.proofs.LawLemmas.{length-zeros}
@@ -12,6 +12,7 @@ use Rattle.history_count.specs.declared.line.Subject.TheVariants.{Large, Size}
 use Rattle.history_count.proofs.EntryLines.{entry_line-read}
 use Rattle.history_count.proofs.LineByLine.{entry_read, first_line_read, line_faulty, line_read, no_line, same_history}
 use Rattle.history_count.proofs.Peaks.{zeros-small}
+use Rattle.history_count.proofs.RowEntries.{entry-taken, gives-at}
 use Rattle.history_count.proofs.SpreadLines.{above-more, spread-length}
 use Rattle.history_count.proofs.history.History.read.Goals as goal
 
@@ -44,7 +45,9 @@ lines-init c =
 pub add-requires-clause-in_range : goal.add-requires-clause-in_range
 add-requires-clause-in_range c =
     let r = reading c.lines.counted c.lines.large.items c.lines.next c.lines.is_ended in
-    let counts = c.entry_in.new.counts in
+    let counts = c.next_entry.new.counts in
+    let taken = entry-taken c.in-Some-next_entry.read counts _ _ _ _ _ c.in-Some-next_entry.ensures in
+    let gives = gives-at _ _ _ _ _ _ _ _ taken c.in-Ok.is in
     let places : length c.deref_mut.result.now ≡ length r.history.snapshots =
     omega (
       arith,
@@ -53,36 +56,38 @@ add-requires-clause-in_range c =
       c.lines.invariant.holds.lines.width,
       spread-length c.lines.counted.sizes.items (lists_of c.lines.counted.columns.items),
     ) in
-    let is = entry_read r c.in-Some-next.line.now _ _ (Size c.in-Ok-Size.size) counts places c.in-Ok-Size.ensures c.in-Ok-Size.field-0-is in
+    let is = entry_read r taken.line _ _ (Size c.in-Size.size) counts places gives c.in-Size.is in
     let items = with_items_is c.lines.counts counts (omega arith) in
-    rw (c.deref.ensures.value ∙ items) (entry_line-read _ _ _ c.in-Some-next.line.now _ is).next_is.good.few
+    rw (c.deref.ensures.value ∙ items) (entry_line-read _ _ _ taken.line _ is).next_is.good.few
 
-pub lines-preserved-in-Ok-Size : goal.lines-preserved-in-Ok-Size
-lines-preserved-in-Ok-Size c =
+pub lines-preserved-in-Size : goal.lines-preserved-in-Size
+lines-preserved-in-Size c =
     let r = reading c.lines.counted c.lines.large.items c.lines.next c.lines.is_ended in
-    let counts = c.entry_in.new.counts in
-    let line = c.in-Some-next.line.now in
-    let size : ℕ = c.in-Ok-Size.size in
+    let counts = c.next_entry.new.counts in
+    let taken = entry-taken c.in-Some-next_entry.read counts _ _ _ _ _ c.in-Some-next_entry.ensures in
+    let gives = gives-at _ _ _ _ _ _ _ _ taken c.in-Ok.is in
+    let line = taken.line in
+    let size : ℕ = c.in-Size.size in
     let entry : Entry = record { subject = Size size; counts = counts } in
     let wide : length r.history.snapshots ≡ length c.lines.large.items =
     spread-length c.lines.counted.sizes.items (lists_of c.lines.counted.columns.items) ∙ c.lines.invariant.holds.lines.width in
     let places : length c.deref_mut.result.now ≡ length r.history.snapshots =
     ap length c.deref_mut.ensures.value ∙ c.lines.invariant.places ∙ sym wide in
-    let is : next_entry r line ≡ Ok entry = entry_read r line _ _ (Size size) counts places c.in-Ok-Size.ensures c.in-Ok-Size.field-0-is in
+    let is : next_entry r line ≡ Ok entry = entry_read r line _ _ (Size size) counts places gives c.in-Size.is in
     let read = entry_line-read _ _ _ line entry is in
     let order : r.next ≤ size = leb-true r.next size read.next_is.good.order in
     let items = with_items_is c.lines.counts counts (omega arith) in
     let given : c.deref.result.now ≡ counts = c.deref.ensures.value ∙ items in
     let after = with_counts r.history.snapshots size in
-    let added = c.in_ok-add-in-Ok-Size.ensures in
+    let added = c.in_ok-add-in-Size.ensures in
     let snapshots : (history c.add.new.self c.lines.large.items).snapshots ≡ after counts = added.snapshots ∙ ap after given in
     let wide' : length c.deref.result.now ≡ length c.lines.large.items = ap length given ∙ read.next_is.good.size ∙ wide in
     let rest = λ (s : List (List ℕ)) (next : ℕ).
     history_from (c.lines.number + 1 + 1)
-    (record { history = record { snapshots = s; large = c.lines.large.items }; next = next; is_ended = r.is_ended }) c.next-in-lines.new.self in
+    (record { history = record { snapshots = s; large = c.lines.large.items }; next = next; is_ended = r.is_ended }) c.next_entry.new.lines in
     let before = c.lines.invariant.lines_of_sizes read.open_still in
     record {
-      rest = c.lines.invariant.rest ∙ line_read (c.lines.number + 1) r _ _ line entry c.in-Some-next.ensures.steps is
+      rest = c.lines.invariant.rest ∙ line_read (c.lines.number + 1) r _ _ line entry taken.parts is
           ∙ ap (λ s. rest s (suc size)) (sym snapshots) ∙ ap (rest (history c.add.new.self c.lines.large.items).snapshots) (sym (add-one size));
       holds = record { lines = rw wide' at added.holds; large_are = c.lines.invariant.holds.large_are };
       above = rw added.sizes
@@ -96,25 +101,27 @@ lines-preserved-in-Ok-Size c =
 pub lines-preserved : goal.lines-preserved
 lines-preserved c =
     let r = reading c.lines.counted c.lines.large.items c.lines.next c.lines.is_ended in
-    let counts = c.entry_in.new.counts in
-    let line = c.in-Some-next.line.now in
+    let counts = c.next_entry.new.counts in
+    let taken = entry-taken c.in-Some-next_entry.read counts _ _ _ _ _ c.in-Some-next_entry.ensures in
+    let gives = gives-at _ _ _ _ _ _ _ _ taken c.in-Ok.is in
+    let line = taken.line in
     let entry : Entry = record { subject = Large; counts = counts } in
     let wide : length r.history.snapshots ≡ length c.lines.large.items =
     spread-length c.lines.counted.sizes.items (lists_of c.lines.counted.columns.items) ∙ c.lines.invariant.holds.lines.width in
     let places : length c.deref_mut.result.now ≡ length r.history.snapshots =
     ap length c.deref_mut.ensures.value ∙ c.lines.invariant.places ∙ sym wide in
-    let is : next_entry r line ≡ Ok entry = entry_read r line _ _ Large counts places c.in-Ok-Large.ensures c.in-Ok-Large.field-0-is in
+    let is : next_entry r line ≡ Ok entry = entry_read r line _ _ Large counts places gives c.in-Large.is in
     let read = entry_line-read _ _ _ line entry is in
     let items = with_items_is c.lines.counts counts (omega arith) in
-    let given : c.deref-in-Ok-Large.result.now ≡ counts = c.deref-in-Ok-Large.ensures.value ∙ items in
+    let given : c.deref-in-Large.result.now ≡ counts = c.deref-in-Large.ensures.value ∙ items in
     let large : c.copy_from_slice.new.self.items ≡ counts = c.copy_from_slice.ensures.items ∙ given in
     let same : length c.copy_from_slice.new.self.items ≡ length c.lines.large.items =
     ap length large ∙ read.next_is.good.size ∙ wide in
     let rest = λ (large : List ℕ).
     history_from (c.lines.number + 1 + 1)
-    (record { history = record { snapshots = r.history.snapshots; large = large }; next = r.next; is_ended = true }) c.next-in-lines.new.self in
+    (record { history = record { snapshots = r.history.snapshots; large = large }; next = r.next; is_ended = true }) c.next_entry.new.lines in
     record {
-      rest = c.lines.invariant.rest ∙ line_read (c.lines.number + 1) r _ _ line entry c.in-Some-next.ensures.steps is
+      rest = c.lines.invariant.rest ∙ line_read (c.lines.number + 1) r _ _ line entry taken.parts is
           ∙ ap rest (sym large);
       holds = record {
         lines = rw same c.lines.invariant.holds.lines;
@@ -124,13 +131,15 @@ lines-preserved c =
       places = rw (items, large) refl;
       sizes = c.lines.invariant.sizes;
       lines = omega (arith, c.lines.invariant.lines_of_sizes read.open_still);
-      lines_of_sizes = λ e. absurd cc;
+      lines_of_sizes = λ e. absurd (false≢true (sym e));
     }
 
 pub returns-in-Err : goal.returns-in-Err
 returns-in-Err c =
     let r = reading c.lines.counted c.lines.large.items c.lines.next c.lines.is_ended in
-    let line = c.in-Some-next.line.now in
+    let taken = entry-taken c.in-Some-next_entry.read c.next_entry.new.counts _ _ _ _ _ c.in-Some-next_entry.ensures in
+    let line = taken.line in
+    let gives = gives-at _ _ _ _ _ _ _ _ taken c.in-Err.is in
     let places : length c.deref_mut.result.now ≡ length r.history.snapshots =
     omega (
       arith,
@@ -140,12 +149,12 @@ returns-in-Err c =
       spread-length c.lines.counted.sizes.items (lists_of c.lines.counted.columns.items),
     ) in
     c.lines.invariant.rest
-    ∙ line_faulty (c.lines.number + 1) r _ _ line _ c.in-Some-next.ensures.steps
-    (ap (λ n. entry_of n r.next r.is_ended (words line)) (sym places) ∙ c.in-Err.ensures)
+    ∙ line_faulty (c.lines.number + 1) r _ _ line _ taken.parts
+    (ap (λ n. entry_of n r.next r.is_ended (words line)) (sym places) ∙ gives)
 
 pub returns : goal.returns
 returns c =
     c.lines.invariant.rest
     ∙ no_line (c.lines.number + 1) (reading c.lines.counted c.lines.large.items c.lines.next c.lines.is_ended) _
-    c.in_default-next.ensures.steps.0
+    c.in_default-next_entry.ensures
     ∙ ap Ok (sym (same_history c.new-2.result _ _ c.new-2.ensures.snapshots c.new-2.ensures.large))

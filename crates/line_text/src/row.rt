@@ -1,0 +1,27 @@
+//! A line of many numbers, in one pass over its bytes.
+ghost use Rattle.std.specs.Prelude.{◌≡◌, IfSome, drop, slice_get};
+ghost use Rattle.line_text.specs.Lines.{lines};
+ghost use Rattle.line_text.specs.Rows.{IsRow};
+
+use crate::leading_number::leading_number;
+use crate::pair::after_byte;
+
+/// The first number of the first line of a text, and the text after that line; the other numbers of the line are then in `numbers`, which
+/// has a place for each of them. A larger number stands as the largest that a place holds. `None` if the line has another word, or more or
+/// fewer numbers, or one of them has more than 19 digits.
+#[inline(always)]
+pub(crate) fn leading_row<'a>(text: &'a [u8], numbers: &mut [u32]) -> Option<(u64, &'a [u8])>
+    ensures row { IfSome result (λ found. IsRow (slice_get (lines text.now) 0) found.0 numbers.new) }
+    ensures after { IfSome result (λ found. lines found.1.now ≡ drop 1 (lines text.now)) }
+{
+    let (first, mut rest) = leading_number(text)?;
+    for place in 0..numbers.len() {
+        let (number, after) = leading_number(after_byte(b' ', rest)?)?;
+        numbers[place] = number.min(u64::from(u32::MAX)) as u32;
+        rest = after;
+    }
+    if rest.is_empty() {
+        return Some((first, rest));
+    }
+    Some((first, after_byte(b'\n', rest)?))
+}
