@@ -1,11 +1,11 @@
 -- The entry of a line by the numbers of its row.
-use Rattle.std.proofs.Common.{◌≡◌, ℕ, ◌<◌, ◌≤◌, Bool, false, List, [], ◌∷◌, length, map, drop, slice_get, Option, None, Some, Ok, Err, refl, ap, subst, ◌∙◌, arith}
+use Rattle.std.proofs.Common.{◌≡◌, ℕ, ◌<◌, ◌≤◌, Bool, false, List, [], ◌∷◌, length, map, Some, Err, refl, ap, subst, ◌∙◌}
 use Rattle.std.proofs.lemmas.Bool.{le-leb, lt-leb}
 use Rattle.std.proofs.lemmas.List.{length-map}
 use Rattle.class_table.specs.NamedLines.{numbers_of}
 use Rattle.class_table.specs.Sizes.{largest_counted}
 use Rattle.line_text.specs.Lines.{words}
-use Rattle.line_text.specs.Rows.{AreRowWords, IsRow, SpellNumbers}
+use Rattle.line_text.specs.Rows.{AreRowWords, SpellNumbers}
 use Rattle.profile_count.specs.declared.fault.ProfileFault.TheVariants.{BadLine}
 use Rattle.profile_count.proofs.LawLemmas.{number_is_not_large}
 use Rattle.history_count.specs.HistoryText.{Entry, entry_of, entry_with}
@@ -61,13 +61,6 @@ row-size (word ∷ ws) next size counts row small =
     }
 
 -- ---- the next line
-
-pub row-next : (read : Result Subject HistoryFault) (counts : List ℕ) (count next size : ℕ) (old new : List (List ℕ))
-    → IsRow (slice_get old 0) size counts → new ≡ drop 1 old → length counts ≡ count
-    → ((ws : List (List ℕ)) → AreRowWords ws size counts → GivesEntry read counts (entry_of (length counts) next false ws))
-    → GivesNextEntry (Some read) counts count next false old new
-row-next read counts count next size [] new row taken same gives = absurd row
-row-next read counts count next size (line ∷ old) new row taken same gives = (rw (← same) (gives (words line) row), taken)
 
 pub words-next : (read : Result Subject HistoryFault) (counts : List ℕ) (count next : ℕ) (is_ended : Bool) (old new : List (List ℕ))
     (line : List ℕ) → old ≡ line ∷ new → GivesEntry read counts (entry_of count next is_ended (words line))
