@@ -260,6 +260,8 @@ class Odds:
         shares = self.of(numbers)
         if set(shares) in ({ALWAYS}, {NEVER}):
             return f"odds: {in_words(shares[0])} on {'each' if shares[0] == ALWAYS else 'any'} heap"
+        if shares == [ALWAYS, ALWAYS, ALWAYS, PADDED]:
+            return f"odds: always on each heap, but on glibc {PADDED.unless.partition(', ')[2]}"
         return "odds: " + ", ".join(f"{name} {in_words(share, ' seen after' * (not at))}" for at, (name, share) in enumerate(zip(HEAPS, shares)))
 
 
