@@ -260,6 +260,8 @@ class Odds:
         shares = self.of(numbers)
         if set(shares) in ({ALWAYS}, {NEVER}):
             return f"odds: {in_words(shares[0])} on {'each' if shares[0] == ALWAYS else 'any'} heap"
+        if shares == [ALWAYS, ALWAYS, ALWAYS, PADDED]:
+            return f"odds: always on each heap, but on glibc {PADDED.unless.partition(', ')[2]}"
         return "odds: " + ", ".join(f"{name} {in_words(share, ' seen after' * (not at))}" for at, (name, share) in enumerate(zip(HEAPS, shares)))
 
 
@@ -281,7 +283,7 @@ def as_text(number):
 
 def as_value(share):
     """What a machine reads: the least probability as a fraction and as a number, whether it is exact, and the condition."""
-    value = {"text": in_words(share), "exact": share.is_exact}
+    value = {"text": in_words(share, " seen after"), "exact": share.is_exact}
     if share != UNKNOWN and not share.unless:
         value |= {"least": float(share.least), "fraction": f"{share.least.numerator}/{share.least.denominator}"}
         value["runs_until_seen"] = float(1 / share.least) if share.least else None
