@@ -7,5 +7,5 @@ mod stored_header;
 mod words;
 
 pub use header::{Header, State};
-pub use slot_links::{link, set_link, unlink};
-pub use stored_header::{is_header, read, write};
+pub use slot_links::{link, set_link, set_link_at, unlink};
+pub use stored_header::{class_in, is_header, read, set_freed, write};

@@ -23,8 +23,18 @@ pub fn set_link(memory: &mut Memory, layout: &Layout, slot: u32, link: u32)
     requires slot { slot < slot_count layout.now }
     ensures { SetsLink layout.now memory.old memory.new slot link }
 {
+    set_link_at(memory, layout, slot, layout.start(slot), link);
+}
+
+/// As `set_link`, without a search for where the slot begins: `start` must be its header granule (`Layout::slot`).
+pub fn set_link_at(memory: &mut Memory, layout: &Layout, slot: u32, start: u32, link: u32)
+    requires region { length memory.old ≡ layout.now.granules }
+    requires slot { slot < slot_count layout.now }
+    requires start { start ≡ (slot_of layout.now slot).start }
+    ensures { SetsLink layout.now memory.old memory.new slot link }
+{
     prove!(memory.granules() == layout.granules());
-    set_next(memory, layout.start(slot), link);
+    set_next(memory, start, link);
 }
 
 /// Sets the link of a slot of the layout to 0, and returns the link that it had. The layout must be the memory's, and `start` the slot's
@@ -38,6 +48,6 @@ pub fn unlink(memory: &mut Memory, layout: &Layout, slot: u32, start: u32) -> u3
 {
     prove!(memory.granules() == layout.granules());
     let link = next(memory, start);
-    set_next(memory, start, 0);
+    set_link_at(memory, layout, slot, start, 0);
     link
 }

@@ -2,10 +2,11 @@
 ghost use Rattle.chunk_header.specs.HeaderView.{seen};
 ghost use Rattle.chunk_header.specs.HeaderWrite.{WritesHeader};
 ghost use Rattle.heap_theory.specs.Header.{header_at};
+ghost use Rattle.heap_theory.specs.Header.Standing.{Freed};
 ghost use Rattle.std.specs.Prelude.{◌≡◌, ◌↔◌, ◌<◌, ◌^◌, length, IsTrue};
 
 use crate::header::Header;
-use crate::words::{class_of, first_word, header_of, next_of, with_next_in};
+use crate::words::{class_of, first_word, freed_with_next, header_of, next_of, with_next_in};
 use class_table::MOST_CLASSES;
 use granule_memory::Memory;
 use machine_theory::GRANULE_BYTES;
@@ -44,6 +45,27 @@ pub fn write(memory: &mut Memory, granule: u32, header: &Header)
 {
     memory.set_word(granule, 0, first_word(header));
     memory.set_word(granule, 1, header.mark);
+}
+
+/// The class in the header of a granule, by its number. The granule must be below `granules()` and hold a header (`is_header`).
+#[tactic(auto, unfolding(heap_theory::specs::Header::header_at))]
+pub fn class_in(memory: &Memory, granule: u32) -> usize
+    requires granule { granule < length memory.now }
+    requires class { (header_at memory.now granule).class < MOST_CLASSES }
+    ensures { result ≡ (header_at memory.now granule).class }
+{
+    class_of(memory.word(granule, 0)) as usize
+}
+
+/// Makes the header in a granule, which must be below `granules()`, that of a released slot with this link: the state is `Freed`. The
+/// header's other fields, all tags and all other granules stay the same.
+pub fn set_freed(memory: &mut Memory, granule: u32, next: u32)
+    requires { granule < length memory.old }
+    ensures { let before = header_at memory.old granule in
+        WritesHeader memory.old memory.new granule 8 (record before { standing = Freed; next = next }) }
+{
+    let word = freed_with_next(memory.word(granule, 0), next);
+    memory.set_word(granule, 0, word);
 }
 
 /// The link of the header in a granule, which must be below `granules()`: a slot's number plus one, or 0.

@@ -3,6 +3,7 @@
 //! are 0.
 ghost use Rattle.chunk_header.specs.HeaderView.{seen, standing_seen};
 ghost use Rattle.heap_theory.specs.Header.{FitsWords, code_of, first_word, header_of, standing_of};
+ghost use Rattle.heap_theory.specs.Header.Standing.{Freed};
 ghost use Rattle.std.specs.Prelude.{◌≡◌, ◌/◌, ◌%◌, ◌<◌, ◌^◌, ℕ};
 
 use crate::header::{Header, State};
@@ -79,6 +80,15 @@ pub(crate) fn with_next_in(first: u64, next: u32) -> u64
     ensures { (second : ℕ) → result ≡ first_word (record (header_of first second) { next = next }) }
 {
     (first & BELOW_NEXT_MASK) + (u64::from(next) << NEXT_SHIFT)
+}
+
+/// The first word with the state `Freed`, whose code has both bits set, and with this link.
+pub(crate) fn freed_with_next(first: u64, next: u32) -> u64
+    ensures { (second : ℕ) → result ≡ first_word (record (header_of first second) { standing = Freed; next = next }) }
+{
+    ((first & BELOW_NEXT_MASK) >> SIZE_SHIFT << SIZE_SHIFT)
+        + STATE_MASK
+        + (u64::from(next) << NEXT_SHIFT)
 }
 
 fn code_of(state: State) -> u64

@@ -2,6 +2,7 @@ ghost use Rattle.chunk_header.specs.Links.{SetsLink};
 ghost use Rattle.class_lists.specs.Lists.{ShowsList, TakesFirst};
 ghost use Rattle.class_table.specs.Layout.{IsClassOf, slot_count, slot_of};
 ghost use Rattle.heap_theory.specs.Region.{Region, region_of};
+ghost use Rattle.std.specs.Option.{option_map};
 ghost use Rattle.std.specs.Prelude.{◌≡◌, ◌+◌, ◌<◌, ◌≤◌, ℕ, List, [], ◌∷◌, length, drop, replicate, slice_get, slice_index, slice_set, Contains, IfNone, IfSome, Some};
 
 use arrayvec::ArrayVec;
@@ -87,38 +88,7 @@ impl ClassLists {
         Some(slot)
     }
 
-    /// As `pop`, without a search for where the slot begins: the first slot of the list must be of that class.
-    pub fn pop_of_class(
-        &mut self,
-        memory: &mut Memory,
-        layout: &Layout,
-        number: usize,
-    ) -> Option<u32>
-        requires number { number < length self.old }
-        requires class { (s : ℕ) → slice_index self.old number ≡ s + 1 → IsClassOf layout.now s number }
-        requires granules { length memory.old ≡ layout.now.granules }
-        ensures none { IfNone result (slice_index self.old number ≡ 0) }
-        ensures same { IfNone result ((self.new ≡ self.old) × (memory.new ≡ memory.old)) }
-        ensures taken { IfSome result
-            (λ slot. TakesFirst layout.now memory.old memory.new self.old self.new number slot) }
-        ensures popped { (list : List ℕ) →
-            ShowsList (region_of layout.now memory.old) (slice_index self.old number) list →
-            (result ≡ slice_get list 0)
-            × ShowsList (region_of layout.now memory.new) (slice_index self.new number) (drop 1 list) }
-        ensures others { (front : ℕ) (list : List ℕ) → ShowsList (region_of layout.now memory.old) front list →
-            IfSome result (λ slot. Contains list slot → ⊥) → ShowsList (region_of layout.now memory.new) front list }
-    {
-        let front = self.front(number);
-        if front == 0 {
-            return None;
-        }
-        let slot = front - 1;
-        let start = layout.slot_of_class(number, slot).start;
-        self.take_first(memory, layout, number, slot, start);
-        Some(slot)
-    }
-
-    /// As `pop_of_class`, with the granule and the class of the slot.
+    /// As `pop`, with the granule and the class of the slot, and without a search for them: the first slot of the list must be of that class.
     pub fn pop_place(
         &mut self,
         memory: &mut Memory,
@@ -134,6 +104,12 @@ impl ClassLists {
             (λ found. TakesFirst layout.now memory.old memory.new self.old self.new number found.0) }
         ensures place { IfSome result (λ found.
             (found.1.start ≡ (slot_of layout.now found.0).start) × (found.1.class ≡ (slot_of layout.now found.0).class)) }
+        ensures popped { (list : List ℕ) →
+            ShowsList (region_of layout.now memory.old) (slice_index self.old number) list →
+            (option_map (λ found. found.0) result ≡ slice_get list 0)
+            × ShowsList (region_of layout.now memory.new) (slice_index self.new number) (drop 1 list) }
+        ensures others { (front : ℕ) (list : List ℕ) → ShowsList (region_of layout.now memory.old) front list →
+            IfSome result (λ found. Contains list found.0 → ⊥) → ShowsList (region_of layout.now memory.new) front list }
     {
         let front = self.front(number);
         if front == 0 {

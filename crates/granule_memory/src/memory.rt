@@ -201,7 +201,7 @@ impl Memory {
     }
 
     /// Fills `to` with the bytes from byte `i` of the memory on; granule g begins at byte 16 g.
-    /// It serves loads, and a `realloc` that moves a chunk: any number of granules is one copy. It checks no tag; a load does that first.
+    /// It serves loads: any number of granules is one copy. It checks no tag; a load does that first.
     #[tactic(auto, using(crate::proofs::Granules::granules_counted, crate::proofs::Granules::bytes_are))]
     pub fn read_bytes(&self, i: usize, to: &mut [u8])
         requires { i + length to.old ≤ GRANULE_BYTES * length self.now }
@@ -222,7 +222,7 @@ impl Memory {
     }
 
     /// Copies `bytes` to the bytes from byte `i` of the memory on; granule g begins at byte 16 g. No tag changes.
-    /// It serves stores, and a `realloc` that moves a chunk: any number of granules is one copy. It checks no tag; a store does that first.
+    /// It serves stores: any number of granules is one copy. It checks no tag; a store does that first.
     #[tactic(auto, using(crate::proofs::Granules::granules_counted, crate::proofs::Writes::written_is, crate::proofs::Writes::written_reads))]
     pub fn write_bytes(&mut self, i: usize, bytes: &[u8])
         requires { i + length bytes.now ≤ GRANULE_BYTES * length self.old }
@@ -232,6 +232,18 @@ impl Memory {
         ensures memory { IsMemory self.new }
     {
         self.region.write_bytes(i, bytes);
+    }
+
+    /// Copies the `count` bytes from byte `from` of the memory on to those from byte `to` on, in one copy; granule g begins at byte 16 g. No tag
+    /// changes. It serves a `realloc` that moves a chunk.
+    #[tactic(auto, using(crate::proofs::Granules::granules_counted))]
+    pub fn copy_bytes(&mut self, from: usize, to: usize, count: usize)
+        requires source { from + count ≤ GRANULE_BYTES * length self.old }
+        requires target { to + count ≤ GRANULE_BYTES * length self.old }
+        ensures written { self.new ≡ written to (bytes_at self.old from count) self.old }
+        ensures memory { IsMemory self.new }
+    {
+        self.region.copy_within(from, count, to);
     }
 
     // The place of granule g's tag in the region. For g = granules() it is the end of the region.

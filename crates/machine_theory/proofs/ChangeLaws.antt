@@ -1,11 +1,10 @@
 -- Changes of the memory, one after another.
-use Rattle.std.proofs.Common.{◌≡◌, ℕ, ◌+◌, ◌-◌, ◌*◌, ◌<◌, ◌≤◌, false, List, [], ◌++◌, map, length, get_or, refl, sym, ◌∙◌, arith, ◌⊎◌, slice_index}
+use Rattle.std.proofs.Common.{◌≡◌, ℕ, ◌+◌, ◌-◌, ◌*◌, ◌<◌, ◌≤◌, false, List, ◌++◌, map, length, get_or, sym, ◌∙◌, arith, ◌⊎◌, slice_index}
 use Rattle.std.specs.List.{range_with_len}
 use Rattle.std.proofs.lemmas.List.{length-append, get_or_append_left, get_or-append_right}
 use Rattle.std.proofs.lemmas.List.FromFn.{get_or-map-range_with_len, length-map-range_with_len, fill_by_all}
 use Rattle.std.proofs.lemmas.Bool.{cases_lt, cond-true, cond-false, and_from, and_left, and_right, le-leb, lt-ltb, lt-leb, le-ltb}
-use Rattle.std.proofs.lemmas.Bool.Decides.{nat_tests}
-use Rattle.machine_theory.specs.Memory.{Granule, no_granule, granule_at, each_granule, is_among, byte_after, bytes_after, written}
+use Rattle.machine_theory.specs.Memory.{Granule, no_granule, granule_at, each_granule, byte_after, bytes_after, written}
 use Rattle.machine_theory.proofs.MemoryLaws.{length-each_granule, granule_at-each_granule}
 
 -- two changes that agree on each granule of the memory
@@ -33,27 +32,6 @@ each_granule_either f g memory same =
     each_granule_twice f g memory
     ∙ each_granule_agree (λ i x. f i (g i x)) (λ i x. g i (f i x)) memory (λ i _. same i (granule_at memory i))
     ∙ sym (each_granule_twice g f memory)
-
--- a memory that agrees with the change at each granule is the changed one
-pub each_granule_is : (change : ℕ → Granule → Granule) (memory new : List Granule) → length new ≡ length memory →
-    ((g : ℕ) → g < length memory → granule_at new g ≡ change g (granule_at memory g)) → new ≡ each_granule change memory
-unfolding each_granule
-each_granule_is change memory new long same = fill_by_all (λ g. change g (granule_at memory g)) new (length memory) no_granule long same
-
-is_among-none : (first g : ℕ) → is_among first 0 g ≡ false
-is_among-none first g = grind (arith, nat_tests)
-
--- no bytes
-pub written-none : (i : ℕ) (memory : List Granule) → written i [] memory ≡ memory
-unfolding written
-written-none i memory =
-    sym (each_granule_is (λ g x. record x { bytes = bytes_after i [] g x.bytes }) memory memory refl
-    (λ g _ j. record { tag = (granule_at memory g).tag; bytes = same g (granule_at memory g).bytes j }))
-  where
-    same : (g : ℕ) (bytes : List ℕ) → bytes ≡ bytes_after i [] g bytes
-    same g bytes =
-        fill_by_all (λ k. byte_after i [] (16 * g + k) (slice_index bytes k)) bytes (length bytes) 0 refl
-        (λ k _. sym (cond-false (is_among i 0 (16 * g + k)) _ _ (is_among-none i (16 * g + k))))
 
 -- ---- bytes
 

@@ -1,5 +1,6 @@
 -- What putting a slot after a queue, and taking one off its front, make of it.
 use Rattle.std.proofs.Common.{◌≡◌, ◌≢◌, ℕ, suc, ◌+◌, ◌-◌, ◌<◌, ◌≤◌, List, [], ◌∷◌, ◌++◌, length, drop, refl, sym, ap, ◌∙◌, subst, ⊎_elim, arith, Contains}
+use Rattle.std.proofs.lemmas.Bool.{cases_lt}
 use Rattle.std.proofs.lemmas.List.Elements.{Contains-push_cases}
 use Rattle.std.proofs.lemmas.List.Sums.{sum_by-cons, sum_by_push}
 use Rattle.class_table.specs.Layout.{Partition, block_bytes, slot_count, slot_of}
@@ -31,11 +32,17 @@ last_within value layout region queue old some =
     old.slots (value.back - 1)
     (last_ends (next_in region) value.front (value.back - 1) queue old.linked (omega (arith, old.back, some))).0
 
+-- the slot that is put in last starts where it was said
+starts_there : (layout : Partition) (slot : ℕ) (new : Queue) → new.back_start ≡ (slot_of layout slot).start → new.back ≡ suc slot →
+    (last : ℕ) → new.back ≡ last + 1 → new.back_start ≡ (slot_of layout last).start
+starts_there layout slot new start back last is =
+    let same : slot ≡ last = omega (arith, back, is) in start ∙ ap (λ s. (slot_of layout s).start) same
+
 pub put_first : (value new : Queue) (layout : Partition) (region : Region) (queue : List ℕ) (slot bytes : ℕ) →
-    AreQueued value layout region queue → value.back ≡ 0 → slot < slot_count layout → next_in region slot ≡ 0 →
+    new.back_start ≡ (slot_of layout slot).start → AreQueued value layout region queue → value.back ≡ 0 → slot < slot_count layout → next_in region slot ≡ 0 →
     bytes ≡ block_bytes (slot_of layout slot) →
     new.front ≡ suc slot → new.back ≡ suc slot → new.held ≡ value.held + bytes → AreQueued new layout region (queue ++ slot ∷ [])
-put_first value new layout region queue slot bytes old none within ends is front back held =
+put_first value new layout region queue slot bytes start old none within ends is front back held =
     let empty : queue ≡ [] = no_last queue (sym old.back ∙ none) in
     let alone : bytes_of layout queue ≡ 0 = ap (bytes_of layout) empty in
     subst (λ q. AreQueued new layout region (q ++ slot ∷ [])) (sym empty)
@@ -45,15 +52,16 @@ put_first value new layout region queue slot bytes old none within ends is front
           (Contains-cases slot [] s there);
       linked = (front, ends);
       back = back;
+      back_start = starts_there layout slot new start back;
       held = held ∙ omega (arith, old.held, alone, is);
     })
 
 pub put_at_end : (value new : Queue) (layout : Partition) (region after : Region) (queue : List ℕ) (last slot next bytes : ℕ) →
-    AreQueued value layout region queue → length region.headers ≡ slot_count layout → value.back ≡ suc last →
+    new.back_start ≡ (slot_of layout slot).start → AreQueued value layout region queue → length region.headers ≡ slot_count layout → value.back ≡ suc last →
     after ≡ with_slot_link region last next → next ≡ suc slot →
     slot < slot_count layout → (Contains queue slot → ⊥) → next_in region slot ≡ 0 → bytes ≡ block_bytes (slot_of layout slot) →
     new.front ≡ value.front → new.back ≡ suc slot → new.held ≡ value.held + bytes → AreQueued new layout after (queue ++ slot ∷ [])
-put_at_end value new layout region after queue last slot next bytes old long some link to within outside ends is front back held = record {
+put_at_end value new layout region after queue last slot next bytes start old long some link to within outside ends is front back held = record {
   slots = λ s there. ⊎_elim (old.slots s) (λ same. subst (λ n. n < slot_count layout) same within) (Contains-push_cases queue slot s there);
   linked =
       subst (λ f. IsLinked (next_in after) f (queue ++ slot ∷ [])) (sym front)
@@ -62,6 +70,7 @@ put_at_end value new layout region after queue last slot next bytes old long som
       (own_link region last next link (subst (λ n. last < n) (sym long) (old.slots last in_queue)) ∙ to)
       (other_link region last next link slot another ∙ ends));
   back = back ∙ sym (put_is_last queue slot);
+  back_start = starts_there layout slot new start back;
   held = held ∙ omega (arith, old.held, is, sum_by_push (λ s. block_bytes (slot_of layout s)) queue slot);
 }
   where
@@ -92,14 +101,18 @@ first_within value layout region (s ∷ rest) old some =
 
 pub take_oldest : (value new : Queue) (layout : Partition) (region after : Region) (slot next : ℕ) (queue : List ℕ) →
     AreQueued value layout region (slot ∷ queue) → after ≡ with_slot_link region slot 0 → next ≡ next_in region slot →
-    new.front ≡ next → (next ≡ 0 → new.back ≡ 0) → (next ≢ 0 → new.back ≡ value.back) →
+    new.front ≡ next → (next ≡ 0 → new.back ≡ 0) → (next ≢ 0 → new.back ≡ value.back) → new.back_start ≡ value.back_start →
     new.held + block_bytes (slot_of layout slot) ≡ value.held → AreQueued new layout after queue
-take_oldest value new layout region after slot next queue old link is front none some held = record {
+take_oldest value new layout region after slot next queue old link is front none some start held = record {
   slots = λ s there. old.slots s (Contains-tail slot queue s there);
   linked =
       subst (λ f. IsLinked (next_in after) f queue) (sym (front ∙ is))
       (links_stay (next_in region) (next_in after) (next_in region slot) queue same old.linked.1);
   back = back queue old.linked.1 old.back;
+  back_start = λ last there. ⊎_elim
+      (λ low. let zero : next ≡ 0 = omega arith in absurd (omega (arith, none zero, there)))
+      (λ high. start ∙ old.back_start last (sym (some (λ zero. omega arith)) ∙ there))
+      (cases_lt next 1);
   held = omega (arith, old.held, held, sum_by-cons (λ s. block_bytes (slot_of layout s)) slot queue);
 }
   where

@@ -8,19 +8,21 @@ use Rattle.heap_theory.specs.Links.{IsLinked, last_link}
 use Rattle.heap_theory.specs.Region.{Region, next_in, region_of}
 
 -- What a quarantine keeps beside its slots' links: the links to the slot that was put in first and to the one that was put in last, or 0;
--- the bytes of the blocks in it, and how many it may hold.
+-- the header granule of the latter; the bytes of the blocks in it, and how many it may hold.
 pub record Queue : Type 0 where
   pub front : ℕ
   pub back : ℕ
+  pub back_start : ℕ
   pub held : ℕ
   pub limit : ℕ
 
 -- From the front the links of a region show these slots of the layout, the one put in first at the front, and then end; the back is the
--- link to the last of them, and what is held are the bytes of their blocks.
+-- link to the last of them, whose header granule is kept, and what is held are the bytes of their blocks.
 pub record AreQueued (value : Queue) (layout : Partition) (region : Region) (queue : List ℕ) : Type 0 where
   pub slots : (s : ℕ) → Contains queue s → s < slot_count layout
   pub linked : IsLinked (next_in region) value.front queue
   pub back : value.back ≡ last_link queue
+  pub back_start : (last : ℕ) → value.back ≡ last + 1 → value.back_start ≡ (slot_of layout last).start
   pub held : value.held ≡ bytes_of layout queue
 
 -- The links show some queue.
@@ -33,11 +35,12 @@ IsOutside value layout region slot = (queue : List ℕ) → AreQueued value layo
 
 -- ---- what is made of it
 
--- with one more slot after the others
-abbrev pub with_newest : Queue → ℕ → ℕ → Queue
-with_newest value slot bytes = record {
+-- with one more slot after the others, whose header granule this is
+abbrev pub with_newest : Queue → ℕ → ℕ → ℕ → Queue
+with_newest value slot start bytes = record {
   front = if value.back == 0 then suc slot else value.front;
   back = suc slot;
+  back_start = start;
   held = value.held + bytes;
   limit = value.limit;
 }
@@ -47,6 +50,7 @@ abbrev pub without_oldest : Queue → ℕ → ℕ → Queue
 without_oldest value next bytes = record {
   front = next;
   back = if next == 0 then 0 else value.back;
+  back_start = value.back_start;
   held = value.held - bytes;
   limit = value.limit;
 }
@@ -64,7 +68,7 @@ pub record CanBePut (value : Queue) (layout : Partition) (memory : List Granule)
   pub bytes : n ≡ block_bytes (slot_of layout s)
 
 -- Slot s is taken out: it was the first of the queue, and the others stay in it. The bytes of its block are no longer held. Of the memory
--- only its link changes: it becomes 0.
+-- only its link changes: it becomes 0. So each list without it stays linked.
 pub record TakesOldest (old new : Queue) (layout : Partition) (memory after : List Granule) (s : ℕ) : Type 0 where
   pub slot : s < slot_count layout
   pub first : (queue : List ℕ) → AreQueued old layout (region_of layout memory) queue → queue ≡ s ∷ drop 1 queue
@@ -73,3 +77,5 @@ pub record TakesOldest (old new : Queue) (layout : Partition) (memory after : Li
   pub value : new ≡ without_oldest old (next_in (region_of layout memory) s) (block_bytes (slot_of layout s))
   pub held : new.held + block_bytes (slot_of layout s) ≡ old.held
   pub link : SetsLink layout memory after s 0
+  pub others : (front : ℕ) (list : List ℕ) → (Contains list s → ⊥) → IsLinked (next_in (region_of layout memory)) front list →
+      IsLinked (next_in (region_of layout after)) front list

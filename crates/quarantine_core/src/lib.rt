@@ -2,6 +2,7 @@
 //! freed first leaves first.
 #![tactic(auto)]
 
+pub mod laws;
 mod quarantine;
 
 pub use quarantine::Quarantine;

@@ -11,7 +11,7 @@ ghost use Rattle.quarantine_core.specs.Queue.{
 };
 ghost use Rattle.std.specs.Prelude.{◌≡◌, ◌≢◌, ◌↔◌, ◌<◌, [], ◌∷◌, ◌++◌, length, suc, Contains, IfNone, IfSome, IsSome, List, ℕ};
 
-use chunk_header::{set_link, unlink};
+use chunk_header::{set_link_at, unlink};
 use class_table::{FEWEST_GRANULES, GRANULE_BYTES, Layout, MOST_SLOTS};
 use granule_memory::Memory;
 use std::marker::Model;
@@ -25,6 +25,8 @@ use std::marker::Model;
 pub struct Quarantine {
     front: u32,
     back: u32,
+    // the header granule of the slot that was put in last
+    back_start: u32,
     held: u64,
     limit: u32,
 }
@@ -34,18 +36,25 @@ impl Model for Quarantine {
 
     ghost Value = { Queue };
 
-    ghost view = { λ q. record { front = q.front; back = q.back; held = q.held; limit = q.limit } };
+    ghost view = { λ q. record {
+      front = q.front;
+      back = q.back;
+      back_start = q.back_start;
+      held = q.held;
+      limit = q.limit;
+    } };
 }
 
 impl Quarantine {
     /// An empty quarantine. It releases nothing until its blocks exceed `limit` bytes. The contract alone needs the layout.
     pub fn new(_layout: &Layout, limit: u32) -> Quarantine
-        ensures value { result ≡ record { front = 0; back = 0; held = 0; limit = limit } }
+        ensures value { result ≡ record { front = 0; back = 0; back_start = 0; held = 0; limit = limit } }
         ensures queued { (region : Region) → AreQueued result _layout.now region [] }
     {
         Quarantine {
             front: 0,
             back: 0,
+            back_start: 0,
             held: 0,
             limit,
         }
@@ -60,13 +69,41 @@ impl Quarantine {
 
     /// Puts a slot of the layout in, after all others. Its block has `bytes` bytes. The slot must not be in the quarantine, and its link
     /// must be 0. Of the memory only the link of the slot that was put in before it changes.
-    #[tactic(auto, using(crate::proofs::TheoryLemmas::each_once, crate::proofs::Blocks::few_bytes))]
     pub fn put(&mut self, memory: &mut Memory, layout: &Layout, slot: u32, bytes: u32)
         requires { CanBePut self.old layout.now memory.old slot bytes }
         ensures queued { (queue : List ℕ) → AreQueued self.old layout.now (region_of layout.now memory.old) queue →
             AreQueued self.new layout.now (region_of layout.now memory.new) (queue ++ slot ∷ []) }
         ensures linked { LinksStand self.new layout.now (region_of layout.now memory.new) }
-        ensures value { self.new ≡ with_newest self.old slot bytes }
+        ensures value { self.new ≡ with_newest self.old slot (slot_of layout.now slot).start bytes }
+
+        // what changes in the memory
+        ensures first { self.old.back ≡ 0 → memory.new ≡ memory.old }
+        ensures after { (last : ℕ) → self.old.back ≡ suc last →
+            SetsLink layout.now memory.old memory.new last (suc slot) }
+        ensures lists { (front : ℕ) (list : List ℕ) → ((s : ℕ) → Contains list s → self.old.back ≢ suc s) →
+            IsLinked (next_in (region_of layout.now memory.old)) front list →
+            IsLinked (next_in (region_of layout.now memory.new)) front list }
+        ensures region { length memory.new ≡ layout.now.granules }
+    {
+        self.put_at(memory, layout, slot, layout.start(slot), bytes);
+    }
+
+    /// As `put`, without a search for where the slot begins: `start` must be its header granule (`Layout::slot`).
+    #[tactic(auto, using(crate::proofs::TheoryLemmas::each_once, crate::proofs::Blocks::few_bytes))]
+    pub fn put_at(
+        &mut self,
+        memory: &mut Memory,
+        layout: &Layout,
+        slot: u32,
+        start: u32,
+        bytes: u32,
+    )
+        requires can { CanBePut self.old layout.now memory.old slot bytes }
+        requires start { start ≡ (slot_of layout.now slot).start }
+        ensures queued { (queue : List ℕ) → AreQueued self.old layout.now (region_of layout.now memory.old) queue →
+            AreQueued self.new layout.now (region_of layout.now memory.new) (queue ++ slot ∷ []) }
+        ensures linked { LinksStand self.new layout.now (region_of layout.now memory.new) }
+        ensures value { self.new ≡ with_newest self.old slot start bytes }
 
         // what changes in the memory
         ensures first { self.old.back ≡ 0 → memory.new ≡ memory.old }
@@ -82,9 +119,10 @@ impl Quarantine {
         if self.back == 0 {
             self.front = slot + 1;
         } else {
-            set_link(memory, layout, self.back - 1, slot + 1);
+            set_link_at(memory, layout, self.back - 1, self.back_start, slot + 1);
         }
         self.back = slot + 1;
+        self.back_start = start;
         self.held += u64::from(bytes);
     }
 

@@ -165,6 +165,15 @@ impl RawRegion {
         self.as_mut_slice()[i..i + bytes.len()].copy_from_slice(bytes);
     }
 
+    /// Copies the `count` bytes from place `from` on to the places from `to` on, in one copy. Both runs must end within the length.
+    pub fn copy_within(&mut self, from: usize, count: usize, to: usize)
+        requires source { from + count ≤ length self.old }
+        requires target { to + count ≤ length self.old }
+        ensures { self.new ≡ with_bytes self.old to (slice_range self.old from (from + count)) }
+    {
+        self.as_mut_slice().copy_within(from..from + count, to);
+    }
+
     fn as_slice(&self) -> &[u8]
         ensures value { result.now ≡ self.now }
         ensures range { (1 ≤ length result.now) × (length result.now ≤ 2 ^ 30) }

@@ -1,12 +1,14 @@
 -- The types of the code, as the definitions see them.
-use Rattle.std.specs.Prelude.{◌≡◌, ℕ, ◌≤◌, List, length, take, ⊤}
+use Rattle.std.specs.Prelude.{◌≡◌, ℕ, ◌≤◌, List, length, take, true, Option, None, Result, is_some, ⊤}
+use Rattle.std.specs.Result.{result_map_both}
 use Rattle.replay_theory.specs.Hardening.{AreNullOrTagged}
 use Rattle.replay_theory.specs.Replay.{Replay, Answer}
 use Rattle.replay_theory.specs.Replay.Answer.{Silent, Loaded, NotMapped, TagFault, NoPointer, NotFreed}
+use Rattle.heap_theory.specs.declared.refusal.NullCause.{NullCause}
 use Rattle.heap_theory.specs.State.{Heap}
-use Rattle.replay_theory.specs.Totals.{Totals}
+use Rattle.replay_theory.specs.Totals.{Totals, loss_of_request}
 use Rattle.replay_core.specs.declared.answer.Answer.{Answer as TheAnswer}
-use Rattle.replay_core.specs.declared.answer.Answer.TheVariants.{Silent as ItIsSilent, Loaded as ItLoaded, NotMapped as ItIsNotMapped, TagFault as ItIsATagFault, NoPointer as ItHasNoPointer, NotFreed as ItIsNotFreed}
+use Rattle.replay_core.specs.declared.answer.Answer.TheVariants.{Silent as ItIsSilent, Served as ItIsServed, NotResized as ItIsNotResized, Loaded as ItLoaded, NotMapped as ItIsNotMapped, TagFault as ItIsATagFault, NoPointer as ItHasNoPointer, NotFreed as ItIsNotFreed}
 use Rattle.replay_core.specs.declared.totals.Totals.{Totals as TheTotals}
 use Rattle.replay_core.specs.declared.access.TheConstants.{LONGEST_ACCESS}
 use Rattle.replay_core.specs.declared.replay.TheConstants.{VARIABLES}
@@ -14,11 +16,24 @@ use Rattle.replay_core.specs.declared.replay.TheConstants.{VARIABLES}
 -- A result, with the buffer that holds the bytes of a load.
 abbrev pub shown : List ℕ → TheAnswer → Answer
 shown bytes ItIsSilent = Silent
+shown bytes (ItIsServed loss) = Silent
 shown bytes (ItLoaded len) = Loaded (take len bytes)
 shown bytes ItIsNotMapped = NotMapped
 shown bytes (ItIsATagFault granule memory_tag pointer_tag kind) = TagFault granule memory_tag pointer_tag kind
 shown bytes (ItHasNoPointer cause) = NoPointer cause
 shown bytes (ItIsNotFreed error) = NotFreed error
+shown bytes (ItIsNotResized error) = NotFreed error
+
+-- An answer says whether its event is a request, by the size of the request, and what is lost on one that is served.
+abbrev pub TellsRequest : List ℕ → Option ℕ → TheAnswer → Type 0
+TellsRequest classes size ItIsSilent = size ≡ None
+TellsRequest classes size (ItIsServed loss) = (is_some size ≡ true) × (loss ≡ loss_of_request classes size)
+TellsRequest classes size (ItLoaded len) = size ≡ None
+TellsRequest classes size ItIsNotMapped = size ≡ None
+TellsRequest classes size (ItIsATagFault granule memory_tag pointer_tag kind) = size ≡ None
+TellsRequest classes size (ItHasNoPointer cause) = is_some size ≡ true
+TellsRequest classes size (ItIsNotFreed error) = size ≡ None
+TellsRequest classes size (ItIsNotResized error) = is_some size ≡ true
 
 abbrev pub totals_in : TheTotals → Totals
 totals_in t = record {
@@ -45,8 +60,14 @@ pub record AreVariables (variables : List ℕ) : Type 0 where
 -- The bytes that were loaded fit the buffer of 64 bytes.
 abbrev pub FitsBuffer : TheAnswer → Type 0
 FitsBuffer ItIsSilent = ⊤
+FitsBuffer (ItIsServed loss) = ⊤
 FitsBuffer (ItLoaded len) = len ≤ LONGEST_ACCESS
 FitsBuffer ItIsNotMapped = ⊤
 FitsBuffer (ItIsATagFault granule memory_tag pointer_tag kind) = ⊤
 FitsBuffer (ItHasNoPointer cause) = ⊤
 FitsBuffer (ItIsNotFreed error) = ⊤
+FitsBuffer (ItIsNotResized error) = ⊤
+
+-- The pointer of a request, which comes with the bytes that are lost on it.
+abbrev pub pointer_in : Result (ℕ × ℕ) NullCause → Result ℕ NullCause
+pointer_in given = result_map_both (λ pair. pair.0) (λ cause. cause) given

@@ -3,8 +3,8 @@ ghost use Rattle.heap_theory.specs.HeapTags.{IsTaggedOrUnmapped};
 ghost use Rattle.replay_theory.specs.Replay.{fault_answer, load_answer, store_answer};
 ghost use Rattle.heap_theory.specs.Calls.{store_step};
 ghost use Rattle.machine_theory.specs.Address.{moved_by};
-ghost use Rattle.replay_core.specs.TheoryValues.{FitsBuffer, shown};
-ghost use Rattle.std.specs.Prelude.{◌≡◌, ◌≤◌, List, replicate, ℕ};
+ghost use Rattle.replay_core.specs.TheoryValues.{FitsBuffer, TellsRequest, shown};
+ghost use Rattle.std.specs.Prelude.{◌≡◌, ◌≤◌, List, None, replicate, ℕ};
 
 use crate::answer::Answer;
 use tag_machine::Fault;
@@ -27,6 +27,7 @@ pub(crate) fn load(heap: &Heap, address: u64, len: u8, bytes: &mut [u8; LONGEST_
     requires tagged { IsTaggedOrUnmapped heap.now.state address len }
     ensures answer { shown bytes.new result ≡ load_answer heap.now.state address len }
     ensures filled { FitsBuffer result }
+    ensures tells { (classes : List ℕ) → TellsRequest classes None result }
 {
     match heap.load_into(address, usize::from(len), bytes) {
         Ok(()) => Answer::Loaded { len },
@@ -43,6 +44,7 @@ pub(crate) fn store(heap: &mut Heap, address: u64, len: u8, byte: u8) -> Answer
     ensures filled { FitsBuffer result }
     ensures state { heap.new.state ≡ store_step heap.old.state address (replicate len byte) }
     ensures frees { heap.new.frees ≡ heap.old.frees }
+    ensures tells { (classes : List ℕ) → TellsRequest classes None result }
 {
     let bytes = [byte; LONGEST_ACCESS];
     match heap.store(address, &bytes[..usize::from(len)]) {
@@ -55,6 +57,7 @@ pub(crate) fn store(heap: &mut Heap, address: u64, len: u8, byte: u8) -> Answer
 fn fault_answer(heap: &Heap, fault: Fault) -> Answer
     ensures answer { (bytes : List ℕ) → shown bytes result ≡ fault_answer heap.now.state fault }
     ensures filled { FitsBuffer result }
+    ensures tells { (classes : List ℕ) → TellsRequest classes None result }
 {
     match fault {
         Fault::Unmapped | Fault::Alignment => Answer::NotMapped,

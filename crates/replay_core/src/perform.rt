@@ -1,10 +1,12 @@
 //! What an event does to the heap and to the variables.
-ghost use Rattle.heap_theory.specs.Calls.{free_step, realloc_step};
+ghost use Rattle.class_table.specs.Tables.{loss_of_size};
+ghost use Rattle.heap_theory.specs.Calls.{calloc_step, free_step, realloc_step};
 ghost use Rattle.trace_event.specs.Ranges.{IsInRange};
 ghost use Rattle.replay_theory.specs.Replay.{answer_of, free_answer, malloc_answer, realloc_answer, replay_after};
 ghost use Rattle.heap_theory.specs.Sound.{IsSoundHeap};
-ghost use Rattle.replay_core.specs.TheoryValues.{AreVariables, FitsBuffer, over, shown};
-ghost use Rattle.std.specs.Prelude.{◌≡◌, ◌+◌, ◌^◌, ◌<◌, ◌≤◌, List, length, slice_index, slice_set, ℕ};
+ghost use Rattle.replay_core.specs.TheoryValues.{AreVariables, FitsBuffer, TellsRequest, over, pointer_in, shown};
+ghost use Rattle.replay_theory.specs.Totals.{request_size};
+ghost use Rattle.std.specs.Prelude.{◌≡◌, ◌+◌, ◌^◌, ◌<◌, ◌≤◌, IfOk, List, None, Some, length, slice_index, slice_set, ℕ};
 ghost use Rattle.std.specs.Result.{result_unwrap_or};
 
 use crate::access::{LONGEST_ACCESS, load, moved_by, store};
@@ -29,10 +31,11 @@ pub(crate) fn perform(
     ensures answer { shown bytes.new result ≡ answer_of (over heap.old.state variables.old) event.now }
     ensures filled { FitsBuffer result }
     ensures frees { heap.new.frees ≤ heap.old.frees + 1 }
+    ensures tells { TellsRequest heap.old.state.layout.classes (request_size event.now) result }
 {
     match *event {
-        Event::Malloc { v, n } => give(variables, v, heap.malloc(n)),
-        Event::Calloc { v, n } => give(variables, v, heap.calloc(n)),
+        Event::Malloc { v, n } => give(variables, v, heap.malloc_with_loss(n)),
+        Event::Calloc { v, n } => give(variables, v, calloc_with_loss(heap, n)),
         Event::Realloc { v, n } => reallocate(heap, variables, v, n),
         Event::Free { v } => free(heap, variables[usize::from(v)]),
         Event::Load { v, off, len } => {
@@ -53,17 +56,33 @@ pub(crate) fn perform(
     }
 }
 
-// Sets a variable to the pointer that the request got, or to null.
-fn give(variables: &mut [u64], v: u16, given: Result<u64, NullCause>) -> Answer
+// A calloc, with the bytes that its chunk leaves unused.
+fn calloc_with_loss(heap: &mut Heap, n: u32) -> Result<(u64, u32), NullCause>
+    ensures answer { pointer_in result ≡ (calloc_step heap.old.state n).answer }
+    ensures loss { IfOk result (λ given. given.1 ≡ loss_of_size heap.old.state.layout.classes n) }
+    ensures state { heap.new.state ≡ (calloc_step heap.old.state n).heap }
+    ensures frees { heap.new.frees ≡ heap.old.frees }
+{
+    let loss = heap.loss(n);
+    match heap.calloc(n) {
+        Ok(p) => Ok((p, loss)),
+        Err(cause) => Err(cause),
+    }
+}
+
+// Sets a variable to the pointer that the request got, or to null. The pointer comes with the bytes that are lost on the request.
+fn give(variables: &mut [u64], v: u16, given: Result<(u64, u32), NullCause>) -> Answer
     requires { v < length variables.old }
-    ensures variables { variables.new ≡ slice_set variables.old v (result_unwrap_or given 0) }
-    ensures answer { (bytes : List ℕ) → shown bytes result ≡ malloc_answer given }
+    ensures variables { variables.new ≡ slice_set variables.old v (result_unwrap_or (pointer_in given) 0) }
+    ensures answer { (bytes : List ℕ) → shown bytes result ≡ malloc_answer (pointer_in given) }
     ensures filled { FitsBuffer result }
+    ensures tells { (classes : List ℕ) (n : ℕ) → IfOk given (λ given. given.1 ≡ loss_of_size classes n) →
+        TellsRequest classes (Some n) result }
 {
     match given {
-        Ok(p) => {
+        Ok((p, loss)) => {
             variables[usize::from(v)] = p;
-            Answer::Silent
+            Answer::Served { loss }
         }
         Err(cause) => {
             variables[usize::from(v)] = 0;
@@ -84,14 +103,16 @@ fn reallocate(heap: &mut Heap, variables: &mut [u64], v: u16, n: u32) -> Answer
         → shown bytes result ≡ realloc_answer (realloc_step heap.old.state (slice_index variables.old v) n).answer }
     ensures filled { FitsBuffer result }
     ensures frees { heap.new.frees ≤ heap.old.frees + 1 }
+    ensures tells { TellsRequest heap.old.state.layout.classes (Some n) result }
 {
+    let loss = heap.loss(n);
     match heap.realloc(variables[usize::from(v)], n) {
         Ok(p) => {
             variables[usize::from(v)] = p;
-            Answer::Silent
+            Answer::Served { loss }
         }
         Err(ReallocError::Null(cause)) => Answer::NoPointer(cause),
-        Err(ReallocError::Refused(error)) => Answer::NotFreed(error),
+        Err(ReallocError::Refused(error)) => Answer::NotResized(error),
     }
 }
 
@@ -102,6 +123,7 @@ fn free(heap: &mut Heap, p: u64) -> Answer
     ensures answer { (bytes : List ℕ) → shown bytes result ≡ free_answer (free_step heap.old.state p).answer }
     ensures filled { FitsBuffer result }
     ensures frees { heap.new.frees ≤ heap.old.frees + 1 }
+    ensures tells { (classes : List ℕ) → TellsRequest classes None result }
 {
     match heap.free(p) {
         Ok(()) => Answer::Silent,

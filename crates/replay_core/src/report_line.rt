@@ -4,7 +4,7 @@ ghost use Rattle.replay_theory.specs.Replay.Answer.{Loaded, TagFault};
 ghost use Rattle.line_text.specs.Lines.{ended, line_of};
 ghost use Rattle.replay_core.specs.TheoryValues.{FitsBuffer, shown};
 ghost use Rattle.std.specs.Fmt.{decimal};
-ghost use Rattle.std.specs.Prelude.{◌≡◌, ◌∷◌, ◌++◌, ◌+◌, ◌≤◌, [], length, take};
+ghost use Rattle.std.specs.Prelude.{◌≡◌, ◌∷◌, ◌++◌, ◌+◌, ◌≤◌, [], codes, length, take};
 
 use crate::access::LONGEST_ACCESS;
 use crate::answer::Answer;
@@ -33,7 +33,7 @@ pub(crate) fn write_line(
     ensures text { take result text.new ≡ take at text.old ++ report_line number (shown bytes.now answer.now) }
 {
     match *answer {
-        Answer::Silent => at,
+        Answer::Silent | Answer::Served { .. } => at,
         Answer::Loaded { len } => write_data(text, at, numbers, number, bytes, usize::from(len)),
         Answer::NotMapped => write_words(text, at, number, b"fault", b"unmapped"),
         Answer::TagFault {
@@ -51,8 +51,14 @@ pub(crate) fn write_line(
             pointer_tag,
             kind,
         ),
-        Answer::NoPointer(cause) => write_words(text, at, number, b"null", cause_word(cause)),
-        Answer::NotFreed(error) => write_words(text, at, number, b"refused", error_word(error)),
+        Answer::NoPointer(cause) => write_null(text, at, number, cause),
+        Answer::NotFreed(error) | Answer::NotResized(error) => write_words(
+            text,
+            at,
+            number,
+            b"refused",
+            error_word(error),
+        ),
     }
 }
 
@@ -105,6 +111,21 @@ fn write_tag_fault(
     put(text, end, b"\n")
 }
 
+// The line of a request that was refused. A line for each cause, so that the compiler copies a constant number of bytes.
+fn write_null(text: &mut [u8], at: usize, number: u64, cause: NullCause) -> usize
+    requires { at + LINE_ROOM ≤ length text.old }
+    ensures end { result ≤ at + LINE_ROOM }
+    ensures text { take result text.new
+        ≡ take at text.old ++ ended (line_of (decimal number ∷ codes "null" ∷ cause_word cause ∷ [])) }
+{
+    let end = put_number(text, at, number);
+    match cause {
+        NullCause::Large => put(text, end, b" null large\n"),
+        NullCause::NoClass => put(text, end, b" null no-class\n"),
+        NullCause::Exhausted => put(text, end, b" null exhausted\n"),
+    }
+}
+
 // a line of a number and two words
 fn write_words(text: &mut [u8], at: usize, number: u64, word: &[u8], reason: &[u8]) -> usize
     requires room { at + LINE_ROOM ≤ length text.old }
@@ -131,17 +152,6 @@ fn kind_word(kind: PlaceKind) -> &'static [u8]
         PlaceKind::Tail => b"tail",
         PlaceKind::Dead => b"dead",
         PlaceKind::Other => b"other",
-    }
-}
-
-fn cause_word(cause: NullCause) -> &'static [u8]
-    ensures word { result.now ≡ cause_word cause }
-    ensures short { length result.now ≤ 9 }
-{
-    match cause {
-        NullCause::Large => b"large",
-        NullCause::NoClass => b"no-class",
-        NullCause::Exhausted => b"exhausted",
     }
 }
 

@@ -1,15 +1,14 @@
 ghost use Rattle.class_table.specs.Sizes.{largest_counted};
 ghost use Rattle.class_table.specs.Tables.{IsLegalTable};
 ghost use Rattle.replay_theory.specs.Report.{total_line, totals_text};
-ghost use Rattle.replay_theory.specs.Totals.{totals_after, with_answer, with_request};
+ghost use Rattle.replay_theory.specs.Totals.{request_size, totals_after, with_answer, with_request};
 ghost use Rattle.line_text.specs.Lines.{ended};
 ghost use Rattle.replay_core.specs.TotalsBounds.{AreBounded};
-ghost use Rattle.replay_core.specs.TheoryValues.{shown, totals_in};
-ghost use Rattle.std.specs.Prelude.{◌≡◌, ◌++◌, ◌+◌, ◌*◌, ◌^◌, ◌<◌, ◌≤◌, List, length, ℕ};
+ghost use Rattle.replay_core.specs.TheoryValues.{TellsRequest, shown, totals_in};
+ghost use Rattle.std.specs.Prelude.{◌≡◌, ◌++◌, ◌+◌, ◌*◌, ◌^◌, ◌<◌, ◌≤◌, List, Option, length, ℕ};
 
 use crate::answer::Answer;
 use crate::append::{append, append_number};
-use crate::event_fields::request_size;
 use crate::replay::Replay;
 use arrayvec::ArrayVec;
 use heap_theory::NullCause;
@@ -72,18 +71,19 @@ impl Totals {
         append_total(text, b"loss", self.loss);
     }
 
-    /// Counts one more event on a heap, by its answer.
-    pub(crate) fn count(&mut self, heap: &Heap, event: &Event, answer: &Answer)
+    /// Counts one more event on a heap, by its answer alone. The contract needs the heap and the event.
+    pub(crate) fn count(&mut self, _heap: &Heap, _event: &Event, answer: &Answer)
         requires few { self.old.events < 2 ^ 40 }
         requires bounded { AreBounded (totals_in self.old) }
-        requires legal { IsLegalTable 1 heap.now.state.layout.classes }
+        requires legal { IsLegalTable 1 _heap.now.state.layout.classes }
+        requires tells { TellsRequest _heap.now.state.layout.classes (request_size _event.now) answer.now }
         ensures counted { (bytes : List ℕ) →
             totals_in self.new
-            ≡ totals_after heap.now.state.layout.classes (totals_in self.old) (event.now, shown bytes answer.now) }
+            ≡ totals_after _heap.now.state.layout.classes (totals_in self.old) (_event.now, shown bytes answer.now) }
         ensures bounded { AreBounded (totals_in self.new) }
     {
         self.count_answer(answer);
-        self.count_request(heap, request_size(event), answer);
+        self.count_request(answer);
         self.events += 1;
     }
 
@@ -93,30 +93,34 @@ impl Totals {
         ensures { (bytes : List ℕ) → totals_in self.new ≡ with_answer (totals_in self.old) (shown bytes answer.now) }
     {
         match answer {
-            Answer::Silent | Answer::Loaded { .. } => {}
+            Answer::Silent | Answer::Served { .. } | Answer::Loaded { .. } => {}
             Answer::NotMapped => self.faults_unmapped += 1,
             Answer::TagFault { .. } => self.faults_tag += 1,
             Answer::NoPointer(NullCause::Large) => self.null_large += 1,
             Answer::NoPointer(NullCause::NoClass) => self.null_no_class += 1,
             Answer::NoPointer(NullCause::Exhausted) => self.null_exhausted += 1,
-            Answer::NotFreed(_) => self.refused_frees += 1,
+            Answer::NotFreed(_) | Answer::NotResized(_) => self.refused_frees += 1,
         }
     }
 
-    // Counts a request of this size, if there was one, and what it loses if it was not refused.
-    fn count_request(&mut self, heap: &Heap, size: Option<u32>, answer: &Answer)
+    // Counts the request of an event, if it is one, by its answer, and what it loses if it was served.
+    fn count_request(&mut self, answer: &Answer)
         requires few { self.old.requests ≤ 2 ^ 40 }
         requires small { self.old.loss ≤ largest_counted * 2 ^ 40 }
-        ensures { (bytes : List ℕ) →
-            totals_in self.new
-            ≡ with_request heap.now.state.layout.classes (totals_in self.old) size (shown bytes answer.now) }
+        ensures { (bytes : List ℕ) (classes : List ℕ) (size : Option ℕ) → TellsRequest classes size answer.now →
+            totals_in self.new ≡ with_request classes (totals_in self.old) size (shown bytes answer.now) }
     {
-        let Some(n) = size else {
-            return;
-        };
-        self.requests += 1;
-        if let Answer::Silent = answer {
-            self.loss += u64::from(heap.loss(n));
+        match *answer {
+            Answer::Served { loss } => {
+                self.requests += 1;
+                self.loss += u64::from(loss);
+            }
+            Answer::NoPointer(_) | Answer::NotResized(_) => self.requests += 1,
+            Answer::Silent
+            | Answer::Loaded { .. }
+            | Answer::NotMapped
+            | Answer::TagFault { .. }
+            | Answer::NotFreed(_) => {}
         }
     }
 }

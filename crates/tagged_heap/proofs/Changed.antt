@@ -147,6 +147,7 @@ module _ {h : Heap} {p : Parts} (k : IsKept h p) (s n tag seed drawn : ℕ) (in_
           (λ r there. let d = chain_dead now b.from k.queue r b.agree.chain there in dead_next r d.mark d.in_range d.marked)
           k.queued.linked;
       back = k.queued.back;
+      back_start = k.queued.back_start;
       held = k.queued.held;
     };
     listed = listed_same listed

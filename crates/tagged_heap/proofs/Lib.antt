@@ -1,5 +1,4 @@
 pub mod TheoryLemmas
-pub mod BytesInParts
 pub mod RewrittenHeaders
 pub mod Shares
 pub mod PointerSlots

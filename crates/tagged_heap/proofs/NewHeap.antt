@@ -70,7 +70,7 @@ module _ (layout : Partition) (seed quarantine : ℕ) (is : IsPartition layout) 
     first_parts =
         record {
           memory = m;
-          quarantine = record { front = 0; back = 0; held = 0; limit = quarantine };
+          quarantine = record { front = 0; back = 0; back_start = 0; held = 0; limit = quarantine };
           fronts = replicate
               (length layout.classes) 0;
         }
@@ -93,7 +93,13 @@ module _ (layout : Partition) (seed quarantine : ℕ) (is : IsPartition layout) 
                   ∙ ap (λ (x : State). header_from layout agree.from s x (next_in (region_of layout m) s)) (sym (state_fresh s));
               unlinked = λ s within alive. no_link s within;
             };
-            queued = record { slots = λ s there. absurd (Contains-none s there); linked = refl; back = refl; held = refl };
+            queued = record {
+              slots = λ s there. absurd (Contains-none s there);
+              linked = refl;
+              back = refl;
+              back_start = λ last is. absurd (omega (arith, is));
+              held = refl;
+            };
             listed = record {
               long = length-replicate (length layout.classes) 0 ∙ sym (length-replicate {A = List ℕ} (length layout.classes) []);
               linked = λ number within.

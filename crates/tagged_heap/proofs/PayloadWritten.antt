@@ -57,6 +57,7 @@ module _ {h : Heap} {frees : ℕ} {p : Parts} {counters : List ℕ} (held : IsAt
           slots = k.queued.slots;
           linked = laws.links_stay _ _ _ k.queue (λ s there. next_same s) k.queued.linked;
           back = k.queued.back;
+          back_start = k.queued.back_start;
           held = k.queued.held;
         };
         listed = listed_same k.listed (λ number s inside there. next_same s);

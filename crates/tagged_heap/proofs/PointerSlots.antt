@@ -1,5 +1,5 @@
 -- The slot whose payload begins at a place.
-use Rattle.std.proofs.Common.{◌≡◌, ℕ, ◌+◌, ◌-◌, ◌/◌, ◌%◌, ◌<◌, ◌≤◌, sym, ◌∙◌, arith, Some, Option}
+use Rattle.std.proofs.Common.{◌≡◌, ℕ, ◌+◌, ◌-◌, ◌/◌, ◌<◌, sym, ap, ◌∙◌, arith, Some, Option}
 use Rattle.machine_theory.specs.Address.{region_start}
 use Rattle.class_table.specs.Layout.{Partition, IsPartition, slot_count, slot_of, slot_over}
 use Rattle.heap_theory.specs.State.{payload_place}
@@ -7,7 +7,7 @@ use Rattle.tagged_heap.proofs.TheoryLemmas as laws
 
 module _ (layout : Partition) (is : IsPartition layout) where
   -- the granule of a place at which a slot's payload begins
-  pub payload_granule : (s place : ℕ) → s < slot_count layout → place ≡ payload_place (slot_of layout s) →
+  payload_granule : (s place : ℕ) → s < slot_count layout → place ≡ payload_place (slot_of layout s) →
       (place - region_start) / 16 ≡ (slot_of layout s).start + 1
   payload_granule s place within at = omega (arith, at)
 
@@ -17,7 +17,7 @@ module _ (layout : Partition) (is : IsPartition layout) where
       let order = laws.in_order 1 layout is.table in
       omega (arith, at, order.inside s within, order.wide s within)
 
-  pub payload_covered : (s place : ℕ) → s < slot_count layout → place ≡ payload_place (slot_of layout s) →
+  payload_covered : (s place : ℕ) → s < slot_count layout → place ≡ payload_place (slot_of layout s) →
       slot_over layout ((place - region_start) / 16) ≡ Some s
   payload_covered s place within at =
       let order = laws.in_order 1 layout is.table in
@@ -25,10 +25,9 @@ module _ (layout : Partition) (is : IsPartition layout) where
       (laws.covers 1 layout ((place - region_start) / 16) s is.table).1
       (within, record { from = omega (arith, granule); to = omega (arith, granule, order.wide s within) })
 
+  pub payload_found : (s place g : ℕ) → s < slot_count layout → place ≡ payload_place (slot_of layout s) → g ≡ (place - region_start) / 16 →
+      slot_over layout g ≡ Some s
+  payload_found s place g within at is = ap (slot_over layout) is ∙ payload_covered s place within at
+
   pub covered_within : (g s : ℕ) (found : Option ℕ) → found ≡ slot_over layout g → found ≡ Some s → s < slot_count layout
   covered_within g s found over is_found = ((laws.covers 1 layout g s is.table).0 (sym over ∙ is_found)).0
-
-  -- a slot that covers the granule and begins just before it
-  pub payload_begins : (s place : ℕ) → region_start ≤ place → place % 16 ≡ 0 → (slot_of layout s).start + 1 ≡ (place - region_start) / 16 →
-      place ≡ payload_place (slot_of layout s)
-  payload_begins s place above whole begins = omega (arith, begins, whole)

@@ -92,6 +92,7 @@ module _ {h : Heap} {p : Parts} (k : IsKept h p) {q1 : Queue} {m1 : List Granule
       slots = rest_queued.slots;
       linked = laws.links_stay _ _ _ rest (λ r there. next_listed r (rest_queued.slots r there) (rest_differs r there)) rest_queued.linked;
       back = rest_queued.back;
+      back_start = rest_queued.back_start;
       held = rest_queued.held;
     };
     listed =

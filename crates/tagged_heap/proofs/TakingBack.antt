@@ -119,6 +119,7 @@ module _ {h : Heap} {frees : ℕ} {p : Parts} {counters : List ℕ} (held : IsAt
         linked = laws.links_stay _ _ _ held.kept.queue
             (λ r there. let d = queue_slot held.kept r there in next_retired r d.mark d.in_range d.marked) held.kept.queued.linked;
         back = held.kept.queued.back;
+        back_start = held.kept.queued.back_start;
         held = held.kept.queued.held;
       }
 
@@ -181,14 +182,14 @@ module _ {h : Heap} {frees : ℕ} {p : Parts} {counters : List ℕ} (held : IsAt
                 memory_is = (after last is).memory;
               }
 
-      pub kept_freed : {m2 : List Granule} {q2 : Queue} (bytes : ℕ) →
+      pub kept_freed : {m2 : List Granule} {q2 : Queue} (start bytes : ℕ) →
           ((queue : List ℕ) → AreQueued p.quarantine h.layout (region_of h.layout machine.memory) queue →
           AreQueued q2 h.layout (region_of h.layout m2) (queue ++ s ∷ [])) →
-          q2 ≡ with_newest p.quarantine s bytes → (p.quarantine.back ≡ 0 → m2 ≡ machine.memory) →
+          q2 ≡ with_newest p.quarantine s start bytes → (p.quarantine.back ≡ 0 → m2 ≡ machine.memory) →
           ((last : ℕ) → p.quarantine.back ≡ suc last → SetsLink h.layout machine.memory m2 last (suc s)) →
           IsKept (freed h s n) (record p { memory = m2; quarantine = q2 })
       unfolding freed
-      kept_freed {m2} {q2} bytes queued value first after =
+      kept_freed {m2} {q2} start bytes queued value first after =
           let k = held.kept in
           let left = put first after in
           record {

@@ -9,6 +9,7 @@ use Rattle.heap_theory.specs.Links.{IsLinked, list_of}
 use Rattle.heap_theory.specs.Region.{Region, region_of, header_in, next_in}
 use Rattle.heap_theory.specs.Sound.{IsSoundHeap}
 use Rattle.heap_theory.specs.State.{State, Heap, slot_in, state_at, is_fresh, without_headers, IsSlot, is_dead, mark_of}
+use Rattle.heap_theory.specs.State.State.{Fresh as NeverGiven}
 use Rattle.quarantine_core.specs.Queue.{Queue, AreQueued}
 
 -- `new` is `old` with `header` as the header of slot s. The other headers are the same, and without header bytes `new` is `seen`.
@@ -33,6 +34,10 @@ pub record HasHeaders (heap : Heap) (region : Region) (from : ℕ) : Type 0 wher
   pub headers : (s : ℕ) → IsSlot heap s →
       header_in region s ≡ header_from heap.layout from s (state_at heap s) (next_in region s)
   pub unlinked : (s : ℕ) → IsSlot heap s → IsFalse (is_dead (state_at heap s)) → next_in region s ≡ 0
+
+-- Each slot with a lower number than this has the header of a slot that was never given out.
+abbrev pub AreFreshBelow : Partition → List Granule → ℕ → Type 0
+AreFreshBelow layout memory n = (s : ℕ) → s < n → header_in (region_of layout memory) s ≡ header_from layout 0 s NeverGiven 0
 
 -- ---- lists
 

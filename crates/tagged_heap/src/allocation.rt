@@ -1,19 +1,19 @@
 //! The calls that give out a chunk.
 ghost use Rattle.class_table.specs.Sizes.{largest_counted, chunk_granules};
 ghost use Rattle.heap_theory.specs.Calls.{calloc_step, given_out, malloc_step, with_payload};
-ghost use Rattle.class_table.specs.Tables.{class_number_for};
+ghost use Rattle.class_table.specs.Tables.{class_number_for, loss_of_size};
 ghost use Rattle.heap_theory.specs.Lookups.{slot_for_request};
 ghost use Rattle.heap_theory.specs.Sound.{IsSoundHeap};
 ghost use Rattle.heap_theory.specs.State.{pointer_to, slot_in, IsSlot};
 ghost use Rattle.tagged_heap.specs.ClassSlots.{IsCauseFor};
 ghost use Rattle.std.specs.Result.{result_map_both};
-ghost use Rattle.std.specs.Prelude.{◌≡◌, ◌*◌, ◌<◌, ◌≤◌, length, replicate, IfErr, IfOk, OnErr};
+ghost use Rattle.std.specs.Prelude.{◌≡◌, ◌*◌, ◌-◌, ◌<◌, ◌≤◌, length, replicate, IfErr, IfOk, OnErr};
 
 use crate::heap::Heap;
 use crate::next_slot::take_slot;
 use crate::slot_changes::give_out;
 use crate::tags::chunk_granules;
-use class_table::{LARGEST_COUNTED, Layout};
+use class_table::{LARGEST_CLASS, LARGEST_COUNTED, Layout, Slot};
 use heap_theory::NullCause;
 use machine_theory::GRANULE_BYTES;
 
@@ -30,12 +30,22 @@ pub(crate) fn class_number_for(layout: &Layout, n: u32) -> Result<usize, NullCau
     layout.find(n).ok_or(NullCause::NoClass)
 }
 
-/// A chunk that was given out: its slot, the slot's header granule, and its address.
+// The bytes that a chunk of `n` bytes leaves unused in its block.
+fn unused_bytes(place: Slot, n: u32) -> u32
+    requires room { chunk_granules n < place.class }
+    requires class { place.class ≤ LARGEST_CLASS }
+    ensures { result ≡ GRANULE_BYTES * place.class - GRANULE_BYTES - n }
+{
+    GRANULE_BYTES as u32 * (place.class - 1) - n
+}
+
+/// A chunk that was given out: its slot, the slot's header granule, its address, and the bytes that it leaves unused in its block.
 #[derive(Clone, Copy)]
 pub(crate) struct Given {
     pub(crate) slot: u32,
     pub(crate) start: u32,
     pub(crate) address: u64,
+    pub(crate) loss: u32,
 }
 
 impl Heap {
@@ -53,6 +63,20 @@ impl Heap {
     {
         let given = self.allocate(n)?;
         Ok(given.address)
+    }
+
+    /// As `malloc`, and returns the bytes that the chunk leaves unused in its block (`loss`), too.
+    #[tactic(auto, unfolding(heap_theory::specs::Calls::malloc_step))]
+    #[inline(never)]
+    pub fn malloc_with_loss(&mut self, n: u32) -> Result<(u64, u32), NullCause>
+        ensures answer { result_map_both (λ given. given.0) (λ cause. cause) result ≡ (malloc_step self.old.state n).answer }
+        ensures loss { IfOk result (λ given. given.1 ≡ loss_of_size self.old.state.layout.classes n) }
+        ensures state { self.new.state ≡ (malloc_step self.old.state n).heap }
+        ensures frees { self.new.frees ≡ self.old.frees }
+        ensures refused { OnErr result (self.new ≡ self.old) }
+    {
+        let given = self.allocate(n)?;
+        Ok((given.address, given.loss))
     }
 
     /// As `malloc`, with all bytes of the chunk's granules set to 0.
@@ -76,6 +100,7 @@ impl Heap {
         ensures start { IfOk result (λ given. given.start ≡ (slot_in self.old.state given.slot).start) }
         ensures address { IfOk result
             (λ given. given.address ≡ pointer_to (given_out self.old.state given.slot n) given.slot) }
+        ensures loss { IfOk result (λ given. given.loss ≡ loss_of_size self.old.state.layout.classes n) }
         ensures given { IfOk result
             (λ given. self.new ≡ record self.old { state = given_out self.old.state given.slot n }) }
         ensures refused { OnErr result (self.new ≡ self.old) }
@@ -97,6 +122,7 @@ impl Heap {
             slot,
             start: place.start,
             address,
+            loss: unused_bytes(place, n),
         })
     }
 

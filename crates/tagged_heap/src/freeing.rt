@@ -15,9 +15,9 @@ ghost use Rattle.heap_theory.specs.Region.{region_of, header_in};
 
 use crate::heap::Heap;
 use crate::pointers::slot_of_pointer;
-use crate::read_header::header;
+use crate::read_header::{class_number, header};
 use crate::slot_changes::retire;
-use chunk_header::{Header, State, write};
+use chunk_header::{Header, State, set_freed};
 use class_lists::ClassLists;
 use class_table::{Layout, Slot};
 use granule_memory::Memory;
@@ -122,7 +122,8 @@ impl Heap {
         retire(&mut self.machine, &self.layout, slot, start, before, mark);
         let bytes = GRANULE_BYTES as u32 * class;
         let memory = self.machine.memory_mut();
-        self.quarantine.put(memory, &self.layout, slot, bytes);
+        self.quarantine
+            .put_at(memory, &self.layout, slot, start, bytes);
         release_oldest(memory, &self.layout, &mut self.quarantine, &mut self.lists);
         self.total += u64::from(bytes);
         self.frees += 1;
@@ -150,8 +151,8 @@ fn release_oldest(
     }
 }
 
-// Puts a slot that the quarantine let go, whose header is granule `start`, in front of its class's list: writes its header once, link
-// included.
+// Puts a slot that the quarantine let go, whose header is granule `start`, in front of its class's list: writes the first word of its header
+// once, link included.
 fn list_released(
     memory: &mut Memory,
     layout: &Layout,
@@ -173,13 +174,7 @@ fn list_released(
     ensures memory { IsMemory memory.new }
 {
     prove!(slot < layout.slots());
-    let before = header(memory, layout, slot, start);
-    let number = usize::from(before.class);
-    let after = Header {
-        state: State::Freed,
-        next: lists.front(number),
-        ..before
-    };
-    write(memory, start, &after);
+    let number = class_number(memory, layout, slot, start);
+    set_freed(memory, start, lists.front(number));
     lists.set_front(number, slot + 1);
 }

@@ -7,7 +7,6 @@
 
 mod access;
 mod allocation;
-mod bytes;
 mod freeing;
 mod fresh_slots;
 mod heap;

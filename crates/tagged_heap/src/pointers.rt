@@ -24,15 +24,16 @@ pub(crate) fn slot_of_pointer(layout: &Layout, p: u64) -> Option<(u32, u32)>
         × (p < 2 ^ 60) × (place_of p ≡ payload_place (slot_of layout.now found.0))) }
     ensures start { IfSome result (λ found. found.1 ≡ (slot_of layout.now found.0).start) }
 {
-    let place = place_of(p);
-    if p >> 60 != 0 || place < REGION_START || place % GRANULE_BYTES != 0 {
+    // without its tag; what lies before the region wraps round, and what has one of bits 63 to 60 lies far past it
+    let plain = ((p >> 60) << 60) + place_of(p);
+    let at = plain.wrapping_sub(REGION_START);
+    if at % GRANULE_BYTES != 0 {
         return None;
     }
-    let granule = (place - REGION_START) / GRANULE_BYTES;
-    if granule >= u64::from(layout.granules()) {
+    if at >= GRANULE_BYTES * u64::from(layout.granules()) {
         return None;
     }
-    let granule = granule as u32;
+    let granule = (at / GRANULE_BYTES) as u32;
     let (slot, before) = layout.place_at(granule)?;
     if before == 1 {
         Some((slot, granule - 1))

@@ -9,7 +9,6 @@ ghost use Rattle.tagged_heap.specs.Chunks.{IsChunk};
 ghost use Rattle.tagged_heap.specs.Frees.{frees_of_realloc};
 
 use crate::allocation::{Given, class_number_for};
-use crate::bytes::copy;
 use crate::freeing::Chunk;
 use crate::heap::Heap;
 use crate::slot_changes::resize;
@@ -101,6 +100,6 @@ impl Heap {
         let source = GRANULE_BYTES as usize * (from.place.start as usize + 1);
         let target = GRANULE_BYTES as usize * (to.start as usize + 1);
         let memory = self.machine.memory_mut();
-        copy(memory, source, target, count as usize);
+        memory.copy_bytes(source, target, count as usize);
     }
 }

@@ -50,6 +50,7 @@ three_of x = (x % 256 + 1) * 100 + x / 256 % 256 * 10 + x / 65536
 pub record AreThree (n end x : ℕ) : Type 0 where
   pub spelled : to_le_bytes w32 n ≡ decimal (three_of x) ++ end ∷ []
   pub few : three_of x ≤ 999
+  pub many : 100 ≤ three_of x
 
 spelled_three : (h t o : ℕ) → h < 9 → t < 10 → o < 10 → decimal ((h + 1) * 100 + t * 10 + o) ≡ (49 + h) ∷ (48 + t) ∷ (48 + o) ∷ []
 spelled_three h t o h_in t_in o_in =
@@ -81,4 +82,5 @@ are_three n end x y n_in end_in x_in is_x is_y clear =
     record {
       spelled = rw (spelled_three (x % 256) (x / 256 % 256) (x / 65536) h_in t_in o_in, ← first, ← second, ← third, ← fourth) refl;
       few = omega (arith, h_in, t_in, o_in);
+      many = omega arith;
     }

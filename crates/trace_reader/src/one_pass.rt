@@ -1,6 +1,6 @@
 //! The event of a text's first line, where that line spells one, read in one pass over its bytes. `line` judges every other line word by
 //! word, which is slower and finds each fault. An event that is missing here is read by `line`.
-ghost use Rattle.std.specs.Prelude.{◌≡◌, ◌≢◌, ◌≤◌, ◌<◌, ◌+◌, ◌^◌, ◌++◌, ◌∷◌, [], IfSome, length, nat_abs};
+ghost use Rattle.std.specs.Prelude.{◌≡◌, ◌≢◌, ◌≤◌, ◌<◌, ◌+◌, ◌^◌, ◌++◌, ◌∷◌, [], IfSome, length, nat_abs, slice_index, take};
 ghost use Rattle.std.specs.Int.{to_le_bytes, w32};
 ghost use Rattle.std.specs.Fmt.{decimal, signed_decimal};
 ghost use Rattle.trace_event.specs.Ranges.{IsAccessOf, IsInRange, IsMove, IsRequest, IsVariable};
@@ -210,8 +210,32 @@ fn variable(end: u8, text: &[u8]) -> Option<(u16, &[u8])>
     if let Some((v, after)) = three_digits(end, text) {
         return Some((v as u16, after));
     }
+    if let Some(found) = long_variable(end, text) {
+        return Some(found);
+    }
     let (v, after) = number(0, Event::LAST_VARIABLE, end, text)?;
     Some((v as u16, after))
+}
+
+// a variable of four digits: those begin with 10
+#[inline(always)]
+fn long_variable(end: u8, text: &[u8]) -> Option<(u16, &[u8])>
+    ensures spelled { IfSome result (λ x. text.now ≡ decimal x.0 ++ end ∷ x.1.now) }
+    ensures range { IfSome result (λ x. IsVariable x.0) }
+{
+    if text.len() < 5 || text[4] != end || text[0] != b'1' || text[1] != b'0' {
+        return None;
+    }
+    let tens = digit_of(text[2]);
+    let ones = digit_of(text[3]);
+    if tens > 2 || ones > 9 {
+        return None;
+    }
+    let v = 1000 + tens * 10 + ones;
+    if v > Event::LAST_VARIABLE {
+        return None;
+    }
+    Some((v as u16, &text[5..]))
 }
 
 // an offset, up to a space
@@ -267,7 +291,7 @@ fn short_digits(end: u8, text: &[u8]) -> Option<(u32, &[u8])>
     one_digit(end, text)
 }
 
-// The number of at most `DIGITS` digits in front of a text, up to the byte `end`. Most numbers of a trace have three digits or two: there
+// The number of at most `DIGITS` digits in front of a text, up to the byte `end`. Most numbers of a trace have at most three digits: there
 // the place of `end` says how many, and no digit costs a search for it.
 #[inline(always)]
 fn digits(end: u8, text: &[u8]) -> Option<(u32, &[u8])>
@@ -281,7 +305,14 @@ fn digits(end: u8, text: &[u8]) -> Option<(u32, &[u8])>
     if text.len() > 2 && text[2] == end {
         return two_digits(end, text);
     }
-    some_digits(end, text)
+    if text.len() > 1 && text[1] == end {
+        return one_digit(end, text);
+    }
+    let (value, count) = more_digits(end, text);
+    if count == 0 {
+        return None;
+    }
+    Some((value, &text[count + 1..]))
 }
 
 // a number of three digits
@@ -301,6 +332,7 @@ fn three_digits(end: u8, text: &[u8]) -> Option<(u32, &[u8])>
 fn three_in(word: u32, end: u8) -> Option<u32>
     ensures spelled { IfSome result (λ value. to_le_bytes w32 word ≡ decimal value ++ end ∷ []) }
     ensures few { IfSome result (λ value. value ≤ 999) }
+    ensures many { IfSome result (λ value. 100 ≤ value) }
 {
     let digits = word.wrapping_sub(LEAST_DIGITS + u32::from(end) * 0x100_0000);
     if (digits | digits.wrapping_add(ABOVE)) & HIGH_BITS != 0 {
@@ -343,35 +375,36 @@ fn one_digit(end: u8, text: &[u8]) -> Option<(u32, &[u8])>
     Some((value, &text[2..]))
 }
 
-// A number of at most `DIGITS` digits. The loop has a constant length, so the compiler unrolls it.
-#[inline(always)]
-fn some_digits(end: u8, text: &[u8]) -> Option<(u32, &[u8])>
-    ensures { IfSome result (λ x. text.now ≡ decimal x.0 ++ end ∷ x.1.now) }
+// A number of four to `DIGITS` digits: the first three at once, the others one by one. It stays a function: unrolled at each number, it would
+// keep the compiler from a path of its own for each kind of event.
+// Returns the number and its digits; no digits if there is no such number, so that the answer is in registers.
+#[inline(never)]
+fn more_digits(end: u8, text: &[u8]) -> (u32, usize)
+    ensures spelled { result.1 ≢ 0 → take result.1 text.now ≡ decimal result.0 }
+    ensures within { result.1 ≢ 0 → result.1 < length text.now }
+    ensures end { result.1 ≢ 0 → slice_index text.now result.1 ≡ end }
 {
     if text.len() <= DIGITS {
-        return None;
+        return (0, 0);
     }
-    let mut value = digit_of(text[0]);
-    if value > 9 {
-        return None;
-    }
-    if text[1] == end {
-        return Some((value, &text[2..]));
-    }
-    if value == 0 {
-        return None;
-    }
-    for place in 1..DIGITS {
+    let Some((word, _)) = first_word(text) else {
+        return (0, 0);
+    };
+    let Some(first) = three_in(word, text[3]) else {
+        return (0, 0);
+    };
+    let mut value = first;
+    for place in 3..DIGITS {
         let digit = digit_of(text[place]);
         if digit > 9 {
-            return None;
+            return (0, 0);
         }
         value = value * 10 + digit;
         if text[place + 1] == end {
-            return Some((value, &text[place + 2..]));
+            return (value, place + 1);
         }
     }
-    None
+    (0, 0)
 }
 
 // The value of a digit, and more than 9 for any other byte. One subtraction serves for the test and for the value.

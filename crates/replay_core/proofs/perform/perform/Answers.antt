@@ -2,6 +2,8 @@ use Rattle.std.proofs.Common.{ap, subst, sym, ◌∙◌, slice_index}
 use Rattle.machine_theory.specs.Address.{moved_by}
 use Rattle.heap_theory.specs.HeapTags.{IsTaggedOrUnmapped}
 use Rattle.trace_event.specs.Ranges.{IsInRange}
+use Rattle.replay_theory.specs.Totals.{request_size}
+use Rattle.replay_core.specs.TheoryValues.{TellsRequest}
 use Rattle.replay_core.proofs.Accesses.{near_offset, tagged_or_not_mapped}
 use Rattle.replay_core.proofs.perform.perform.Goals as goal
 
@@ -21,3 +23,13 @@ store-requires-clause-tagged c =
     ∙ ap (moved_by (slice_index c.args.variables.now c.from-in-Store.result)) (near_offset c.in-Store.off range.0.1)))
     (tagged_or_not_mapped c.args.heap.now.state c.requires.sound _ c.in-Store.off c.in-Store.len range.0.1 range.0.2
     (c.requires.variables.tagged c.from-in-Store.result))
+
+pub returns-in-Free-clause-tells : goal.returns-in-Free-clause-tells
+returns-in-Free-clause-tells c =
+    let classes = c.args.heap.now.state.layout.classes in
+    subst (λ event. TellsRequest classes (request_size event) c.free.result) (sym c.in-Free.is) (c.free.ensures.tells classes)
+
+pub returns-in-Store-clause-tells : goal.returns-in-Store-clause-tells
+returns-in-Store-clause-tells c =
+    let classes = c.args.heap.now.state.layout.classes in
+    subst (λ event. TellsRequest classes (request_size event) c.store.result) (sym c.in-Store.is) (c.store.ensures.tells classes)

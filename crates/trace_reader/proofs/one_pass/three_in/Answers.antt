@@ -17,3 +17,6 @@ returns-clause-spelled c = (three c).spelled ∙ ap (λ (b : ℕ). decimal (thre
 
 pub returns-clause-few : goal.returns-clause-few
 returns-clause-few c = (three c).few
+
+pub returns-clause-many : goal.returns-clause-many
+returns-clause-many c = (three c).many

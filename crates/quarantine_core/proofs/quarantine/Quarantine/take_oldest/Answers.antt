@@ -1,8 +1,10 @@
-use Rattle.std.proofs.Common.{◌∷◌, drop, sym, subst, ◌≡◌, ◌-◌, ◌*◌, ◌≤◌, arith, ap, ◌∙◌, ◌<◌}
+use Rattle.std.proofs.Common.{◌∷◌, drop, sym, subst, ◌≡◌, ◌-◌, ◌*◌, ◌≤◌, arith, ap, ◌∙◌, ◌<◌, Contains}
 use Rattle.std.proofs.lemmas.Grind.{common_steps}
 use Rattle.class_table.specs.Layout.{block_bytes, slot_count, slot_of}
+use Rattle.heap_theory.proofs.Regions.{other_link}
 use Rattle.quarantine_core.specs.Queue.{AreQueued}
 use Rattle.quarantine_core.proofs.Queued.{first_within, oldest_held, some_held, take_oldest}
+use Rattle.quarantine_core.proofs.TheoryLemmas.{links_stay}
 use Rattle.quarantine_core.proofs.quarantine.Quarantine.take_oldest.Goals as goal
 use Rattle.quarantine_core.proofs.quarantine.Quarantine.take_oldest.Goals.{then-next-eq0, else-next-eq0}
 
@@ -44,12 +46,14 @@ returns-clause-oldest c =
                 rw w.self-inside-is
                 (take_oldest c.args.self.now _ c.args.layout.now _ _
                 (c.self.inside.front - 1) c.unlink-next.result queue old c.unlink-next.ensures.link.region c.unlink-next.ensures.was
-                (omega arith) (λ zero. omega arith) (λ other. absurd (other w.if-next-eq0.true)) (omega arith))
+                (omega arith) (λ zero. omega arith) (λ other. absurd (other w.if-next-eq0.true)) (ap (λ q. q.back_start) c.self.view_is)
+                (omega arith))
             | else-next-eq0 w ↦
                 rw w.self-inside-is
                 (take_oldest c.args.self.now _ c.args.layout.now _ _
                 (c.self.inside.front - 1) c.unlink-next.result queue old c.unlink-next.ensures.link.region c.unlink-next.ensures.was
-                (omega arith) (λ zero. absurd (w.if-next-eq0.false zero)) (λ other. ap (λ q. q.back) c.self.view_is) (omega arith))
+                (omega arith) (λ zero. absurd (w.if-next-eq0.false zero)) (λ other. ap (λ q. q.back) c.self.view_is)
+                (ap (λ q. q.back_start) c.self.view_is) (omega arith))
           ];
       value = grind (arith, common_steps);
       held =
@@ -58,6 +62,10 @@ returns-clause-oldest c =
             | else-next-eq0 w ↦ rw w.self-inside-is (omega arith)
           ];
       link = c.unlink-next.ensures.link;
+      others = λ front list outside linked.
+          links_stay _ _ front list
+          (λ r there. other_link _ (c.self.inside.front - 1) 0 c.unlink-next.ensures.link.region r
+          (λ is. outside (subst (Contains list) is there))) linked;
     }
 
 pub returns-clause-linked : goal.returns-clause-linked

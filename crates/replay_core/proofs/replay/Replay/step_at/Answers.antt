@@ -6,10 +6,10 @@ use Rattle.class_table.specs.Tables.{IsLegalTable}
 use Rattle.replay_theory.specs.Report.{report_line}
 use Rattle.trace_event.specs.declared.event.Event.{Event}
 use Rattle.replay_theory.specs.Replay.{Replay, heap_after, replay_after, variables_after, answer_of}
-use Rattle.replay_theory.specs.Totals.{Totals, totals_after}
+use Rattle.replay_theory.specs.Totals.{Totals, request_size, totals_after}
 use Rattle.heap_theory.specs.State.{Heap}
 use Rattle.replay_core.specs.ReplayFields.{stored}
-use Rattle.replay_core.specs.TheoryValues.{AreVariables, over, shown, totals_in}
+use Rattle.replay_core.specs.TheoryValues.{AreVariables, TellsRequest, over, shown, totals_in}
 use Rattle.replay_core.specs.ReplayState.{Stored, IsStored, stored_after}
 use Rattle.replay_theory.proofs.LayoutStays.{layout_after}
 use Rattle.replay_core.proofs.Reached.{null_or_tagged, sound_heap, IsStored-after, stored_in_parts, run_goes_on}
@@ -37,6 +37,16 @@ count-requires-clause-legal c =
     ∙ ap (λ vs. heap_after (over c.self.inside.heap.state vs) c.args.event.now) c.deref_mut.ensures.value in
     subst (IsLegalTable 1) (sym (classes_stay (stored c.self.inside).replay c.args.event.now c.perform-answer.new.heap.state heap_is))
     c.self.invariant.legal
+
+pub count-requires-clause-tells : goal.count-requires-clause-tells
+unfolding replay_after
+count-requires-clause-tells c =
+    let heap_is =
+    ap (λ (r : Replay). r.heap) c.perform-answer.ensures.after
+    ∙ ap (λ vs. heap_after (over c.self.inside.heap.state vs) c.args.event.now) c.deref_mut.ensures.value in
+    subst (λ classes. TellsRequest classes (request_size c.args.event.now) c.perform-answer.result)
+    (sym (classes_stay (stored c.self.inside).replay c.args.event.now c.perform-answer.new.heap.state heap_is))
+    c.perform-answer.ensures.tells
 
 -- ---- the parts, after the event
 

@@ -1,4 +1,4 @@
-use Rattle.std.proofs.Common.{◌≡◌, ℕ, sym, ap, ◌∙◌, Err, None, Result}
+use Rattle.std.proofs.Common.{◌≡◌, ℕ, sym, ap, ◌∙◌, arith, Err, None, Result}
 use Rattle.std.proofs.lemmas.Result.{err_from_is_err_and}
 use Rattle.std.specs.Option.{ok_or}
 use Rattle.class_table.specs.declared.layout.Slot.{Slot}
@@ -7,7 +7,9 @@ use Rattle.heap_theory.specs.declared.refusal.NullCause.TheVariants.{Exhausted}
 use Rattle.heap_theory.specs.Calls.{given_out}
 use Rattle.tagged_heap.specs.HeapFields.{state_of, parts_of}
 use Rattle.tagged_heap.specs.HeapAtRest.{shown_heap}
+use Rattle.tagged_heap.proofs.Kept.{class_most}
 use Rattle.tagged_heap.proofs.Giving.{IsTaken, request_refused, has_class, taken, exhausted, taken_room, given_held, given_shown, given_address}
+use Rattle.heap_theory.specs.State.{slot_in}
 use Rattle.tagged_heap.proofs.heap.Heap.allocate.Goals as goal
 use Rattle.tagged_heap.proofs.heap.Heap.allocate.Goals.{In_ok-slot, After-give_out-address}
 
@@ -56,20 +58,45 @@ shown c =
 
 pub invariant_of-self-2 : goal.invariant_of-self-2
 invariant_of-self-2 c =
-    rw (shown c)
-    (given_held c.self.invariant (took c.before.before.before.before) c.give_out-address.new.machine
+    let at = goal.at.invariant_of-self-2 c in
+    rw (shown at.After-give_out-address)
+    (given_held c.self.invariant (took at.In_ok-slot) c.give_out-address.new.machine
     c.give_out-address.ensures.machine c.give_out-address.ensures.memory)
 
 pub returns-clause-address : goal.returns-clause-address
 returns-clause-address c =
-    rw (← c.self.view_is) (given_address c.self.invariant (took c.before.before.before.before) c.give_out-address.result
+    rw (← c.self.view_is) (given_address c.self.invariant (took (goal.at.returns-clause-address c).In_ok-slot) c.give_out-address.result
     c.give_out-address.ensures.address)
 
 pub returns-clause-given : goal.returns-clause-given
-returns-clause-given c = rw (← c.self.view_is) (λ k. record { state = shown c k; frees = c.self.inside.frees })
+returns-clause-given c =
+    rw (← c.self.view_is)
+    (λ k. record { state = shown (goal.at.returns-clause-given c).After-give_out-address k; frees = c.self.inside.frees })
 
 pub returns-clause-slot : goal.returns-clause-slot
-returns-clause-slot c = rw (← c.self.view_is) (sym (took c.before.before.before.before).request)
+returns-clause-slot c = rw (← c.self.view_is) (sym (took (goal.at.returns-clause-slot c).In_ok-slot).request)
 
 pub returns-clause-in_range : goal.returns-clause-in_range
-returns-clause-in_range c = rw (← c.self.view_is) (took c.before.before.before.before).given.reusable.in_range
+returns-clause-in_range c = rw (← c.self.view_is) (took (goal.at.returns-clause-in_range c).In_ok-slot).given.reusable.in_range
+
+-- the slot's block has room for the chunk
+place_is : (c : In_ok-slot) → c.in_ok-slot.place.class ≡ (slot_in (state_of c.self.inside) c.in_ok-slot.slot).class
+place_is c = (rw c.in_ok-slot.ensures.ok_part at c.take_slot.ensures.place).1
+
+pub unused_bytes-requires-clause-room : goal.unused_bytes-requires-clause-room
+unused_bytes-requires-clause-room c =
+    let at = (goal.at.unused_bytes-requires-clause-room c).In_ok-slot in omega (arith, (took at).given.room, place_is at)
+
+pub unused_bytes-requires-clause-class : goal.unused_bytes-requires-clause-class
+unused_bytes-requires-clause-class c =
+    let at = (goal.at.unused_bytes-requires-clause-class c).In_ok-slot in
+    omega (
+      arith,
+      class_most (state_of c.self.inside) c.in_ok-slot.slot c.self.invariant.kept.sound (took at).given.reusable.in_range,
+      place_is at,
+    )
+
+pub returns-clause-loss : goal.returns-clause-loss
+returns-clause-loss c =
+    let at = (goal.at.returns-clause-loss c).In_ok-slot in
+    rw (← c.self.view_is, (took at).given.class) (omega (arith, c.unused_bytes.ensures, place_is at))

@@ -1,5 +1,4 @@
-use Rattle.std.proofs.Common.{◌*◌, List, ℕ, length, sym, ap, ◌∙◌, inl, inr, arith}
-use Rattle.std.proofs.lemmas.Bool.{cases_order}
+use Rattle.std.proofs.Common.{◌*◌, List, ℕ, length, sym, ap, ◌∙◌, arith}
 use Rattle.machine_theory.specs.Memory.{bytes_at}
 use Rattle.machine_theory.proofs.ByteLaws.{bytes_at-below, length-bytes_at}
 use Rattle.class_table.specs.Layout.{slot_of}
@@ -10,8 +9,8 @@ use Rattle.tagged_heap.proofs.PayloadWritten.{HasPayload, payload_within, payloa
 use Rattle.tagged_heap.proofs.heap.Heap.copy_payload.Goals as goal
 use Rattle.tagged_heap.proofs.heap.Heap.copy_payload.Goals.{After-self-1}
 
-pub copy-requires-clause-source : goal.copy-requires-clause-source
-copy-requires-clause-source c =
+pub copy_bytes-requires-clause-source : goal.copy_bytes-requires-clause-source
+copy_bytes-requires-clause-source c =
     omega (
       arith,
       payload_within c.self.invariant.kept c.args.from.slot c.args.count (rw (← c.self.view_is) at c.requires.from).slot
@@ -20,8 +19,8 @@ copy-requires-clause-source c =
       ap length c.memory_mut-memory.ensures.value,
     )
 
-pub copy-requires-clause-target : goal.copy-requires-clause-target
-copy-requires-clause-target c =
+pub copy_bytes-requires-clause-target : goal.copy_bytes-requires-clause-target
+copy_bytes-requires-clause-target c =
     omega (
       arith,
       payload_within c.self.invariant.kept c.args.to.slot c.args.count (rw (← c.self.view_is) at c.requires.to)
@@ -30,37 +29,10 @@ copy-requires-clause-target c =
       ap length c.memory_mut-memory.ensures.value,
     )
 
-pub copy-requires-clause-apart : goal.copy-requires-clause-apart
-copy-requires-clause-apart c =
-    let order = c.self.invariant.kept.sound.slots in
-    let source = rw (← c.self.view_is) at c.requires.source in
-    let target = rw (← c.self.view_is) at c.requires.target in
-    let from = (rw (← c.self.view_is) at c.requires.from).start in
-    let to = rw (← c.self.view_is) at c.requires.start in
-    elim (cases_order c.args.from.slot c.args.to.slot) [
-      | inl same ↦ absurd (c.requires.apart same)
-      | inr (inl less) ↦
-          inl (omega (
-            arith,
-            order.apart c.args.from.slot c.args.to.slot less (rw (← c.self.view_is) at c.requires.to),
-            source,
-            from,
-            to,
-          ))
-      | inr (inr more) ↦
-          inr (omega (
-            arith,
-            order.apart c.args.to.slot c.args.from.slot more (rw (← c.self.view_is) at c.requires.from).slot,
-            target,
-            from,
-            to,
-          ))
-    ]
-
 abbrev bytes : After-self-1 → List ℕ
 bytes c = bytes_at c.self.inside.machine.memory (16 * payload_start (slot_of c.self.inside.layout c.args.from.slot)) c.args.count
 
-payload : (c : After-self-1) → HasPayload c.self.inside.layout c.self.inside.machine.memory c.copy.new.memory c.args.to.slot (bytes c)
+payload : (c : After-self-1) → HasPayload c.self.inside.layout c.self.inside.machine.memory c.copy_bytes.new.self c.args.to.slot (bytes c)
 payload c =
     let from = (rw (← c.self.view_is) at c.requires.from).start in
     let to = rw (← c.self.view_is) at c.requires.start in
@@ -70,7 +42,7 @@ payload c =
       in_range = rw (← c.self.view_is) at c.requires.to;
       room = omega (arith, length-bytes_at c.self.inside.machine.memory source c.args.count, room);
       fit = bytes_at-below c.self.inside.machine.memory _ c.args.count c.self.invariant.kept.memory_is;
-      written_is = rw (← c.memory_mut-memory.ensures.value, ← to, ← from) c.copy.ensures;
+      written_is = rw (← c.memory_mut-memory.ensures.value, ← to, ← from) c.copy_bytes.ensures.written;
     }
 
 pub invariant_of-self : goal.invariant_of-self

@@ -9,7 +9,7 @@ use Rattle.tagged_heap.specs.Representation.{IsKept}
 use Rattle.tagged_heap.proofs.Kept.{class_most}
 use Rattle.tagged_heap.proofs.TakingBack.{live_fits, live_header, retire_room, can_be_put, kept_freed, freed_held, freed_shown}
 use Rattle.tagged_heap.proofs.heap.Heap.free_chunk.Goals as goal
-use Rattle.tagged_heap.proofs.heap.Heap.free_chunk.Goals.{After-self, After-put, After-from}
+use Rattle.tagged_heap.proofs.heap.Heap.free_chunk.Goals.{After-self, After-put_at, After-from}
 
 -- the header of a live chunk
 abbrev header_of_chunk : Chunk → Header
@@ -50,29 +50,32 @@ retire-requires-clause-fits c = fits (goal.at.retire-requires-clause-fits c).Aft
 pub retire-requires-clause-start : goal.retire-requires-clause-start
 retire-requires-clause-start c = let chunk = rw (← c.self.view_is) at c.requires.live in chunk.start
 
-pub put-requires : goal.put-requires
-put-requires c =
+pub put_at-requires-clause-can : goal.put_at-requires-clause-can
+put_at-requires-clause-can c =
     let chunk = rw (← c.self.view_is) at c.requires.live in
     rw c.memory_mut-memory.ensures.value
     (can_be_put c.self.invariant c.args.chunk.slot c.args.chunk.size c.args.chunk.tag chunk.slot chunk.live
     (rw (← c.self.view_is) at c.requires.few) c.retire.new.machine c.retire.ensures.machine c.retire.ensures.memory
     (16 * c.args.chunk.place.class) (ap (λ n. 16 * n) chunk.class))
 
+pub put_at-requires-clause-start : goal.put_at-requires-clause-start
+put_at-requires-clause-start c = let chunk = rw (← c.self.view_is) at c.requires.live in chunk.start
+
 -- the heap in which the chunk was freed is kept, though its quarantine may have too much
-put : (c : After-put) → IsKept (freed (state_of c.self.inside) c.args.chunk.slot c.args.chunk.size)
-    (record { memory = c.put.new.memory; quarantine = c.put.new.self; fronts = c.self.inside.lists })
+put : (c : After-put_at) → IsKept (freed (state_of c.self.inside) c.args.chunk.slot c.args.chunk.size)
+    (record { memory = c.put_at.new.memory; quarantine = c.put_at.new.self; fronts = c.self.inside.lists })
 put c =
     let chunk = rw (← c.self.view_is) at c.requires.live in
     kept_freed c.self.invariant c.args.chunk.slot c.args.chunk.size c.args.chunk.tag chunk.slot chunk.live
     (rw (← c.self.view_is) at c.requires.few)
-    c.retire.new.machine c.retire.ensures.machine c.retire.ensures.memory (16 * c.args.chunk.place.class)
-    (rw c.memory_mut-memory.ensures.value at c.put.ensures.queued) c.put.ensures.value
-    (rw c.memory_mut-memory.ensures.value at c.put.ensures.first) (rw c.memory_mut-memory.ensures.value at c.put.ensures.after)
+    c.retire.new.machine c.retire.ensures.machine c.retire.ensures.memory c.args.chunk.place.start (16 * c.args.chunk.place.class)
+    (rw c.memory_mut-memory.ensures.value at c.put_at.ensures.queued) c.put_at.ensures.value
+    (rw c.memory_mut-memory.ensures.value at c.put_at.ensures.first) (rw c.memory_mut-memory.ensures.value at c.put_at.ensures.after)
 
 pub release_oldest-requires : goal.release_oldest-requires
 unfolding freed
 release_oldest-requires c = record {
-  kept = (freed (state_of c.self.inside) c.args.chunk.slot c.args.chunk.size, put (goal.at.release_oldest-requires c).After-put);
+  kept = (freed (state_of c.self.inside) c.args.chunk.slot c.args.chunk.size, put (goal.at.release_oldest-requires c).After-put_at);
 }
 
 -- after slots were released, the parts keep it

@@ -1,6 +1,6 @@
 use Rattle.std.proofs.Common.{◌≡◌, ◌<◌, ◌^◌, take}
 use Rattle.std.specs.Fmt.{decimal}
-use Rattle.trace_reader.proofs.one_pass.some_digits.Given as goal
+use Rattle.trace_reader.proofs.one_pass.more_digits.Given as goal
 
 abbrev pub invariant-loop-place : goal.invariant-loop-place
 invariant-loop-place l = record {

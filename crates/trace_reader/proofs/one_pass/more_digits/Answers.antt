@@ -1,24 +1,20 @@
-use Rattle.std.proofs.Common.{◌+◌, ◌*◌, ◌≤◌, arith}
-use Rattle.std.proofs.lemmas.List.{take_rest}
-use Rattle.trace_reader.proofs.DigitsInFront.{digit_more, digits_end, eight_digits, few_more, first_digit}
-use Rattle.trace_reader.proofs.one_pass.some_digits.Goals as goal
+use Rattle.std.proofs.Common.{◌≤◌, arith, get_or, refl}
+use Rattle.std.specs.Fmt.{decimal}
+use Rattle.std.specs.Int.{to_le_bytes, w32}
+use Rattle.trace_reader.proofs.DigitsInFront.{digit_more, eight_digits, few_more, front_three}
+use Rattle.trace_reader.proofs.one_pass.more_digits.Goals as goal
 
--- ---- the first digit
-
-pub returns-then-text-end : goal.returns-then-text-end
-returns-then-text-end c =
-    let text = c.args.text.now in
-    let small : c.digit_of-value.result ≤ 9 = omega arith in
-    let spelled = first_digit text c.digit_of-value.result (omega arith) (c.digit_of-value.ensures small) small in
-    rw take_rest (digits_end text 1 2 c.digit_of-value.result c.args.end (omega arith) (omega arith) spelled c.if-text-end.true)
-
+-- the first three digits are the front of the text
 pub loop-place-init : goal.loop-place-init
 loop-place-init c =
-    let small : c.digit_of-value.result ≤ 9 = omega arith in
+    let text = c.args.text.now in
+    let spelled = c.in-Some-three_in.ensures.spelled in
     record {
-      spelled = first_digit c.args.text.now c.digit_of-value.result (omega arith) (c.digit_of-value.ensures small) small;
-      some = omega arith;
-      few = omega arith;
+      spelled =
+          front_three text (to_le_bytes w32 c.in-Some.word) (decimal c.in-Some-three_in.first) _ (get_or text 3 0)
+          c.in-Some.ensures spelled refl;
+      some = omega (arith, c.in-Some-three_in.ensures.many);
+      few = omega (arith, c.in-Some-three_in.ensures.few);
     }
 
 -- ---- one digit more
@@ -33,18 +29,15 @@ overflow_add-value c =
     let few = eight_digits c.loop-place.place c.loop-place.value c.loop-place-test.true c.loop-place.invariant.few in
     record { fits = omega arith }
 
-pub returns-then-text-place : goal.returns-then-text-place
-returns-then-text-place c =
+pub returns-then-text-place-clause-spelled : goal.returns-then-text-place-clause-spelled
+returns-then-text-place-clause-spelled c = λ some.
     let text = c.args.text.now in
     let place = c.loop-place.place in
     let digit = c.digit_of-digit.result in
     let small : digit ≤ 9 = omega arith in
     let few = eight_digits place c.loop-place.value c.loop-place-test.true c.loop-place.invariant.few in
-    let spelled =
     digit_more text place c.loop-place.value digit (omega arith) (c.digit_of-digit.ensures small) small c.loop-place.invariant.some few
-    c.loop-place.invariant.spelled in
-    rw take_rest (digits_end text (place + 1) (place + 2) (c.loop-place.value * 10 + digit) c.args.end (omega arith) (omega arith)
-    spelled c.if-text-place.true)
+    c.loop-place.invariant.spelled
 
 pub loop-place-preserved : goal.loop-place-preserved
 loop-place-preserved c =

@@ -1,0 +1,42 @@
+use Rattle.std.proofs.Common.{◌≡◌, ℕ, ◌+◌, ◌*◌, ◌<◌, ◌≤◌, ◌∙◌, sym, ap, arith, length, List, slice_range}
+use Rattle.std.proofs.lemmas.List.Elements.{All-take, All-drop}
+use Rattle.machine_theory.specs.Memory.{bytes_at, written}
+use Rattle.granule_memory.proofs.Granules.{granules_counted, granules_fit, bytes_are, slice_range_long}
+use Rattle.granule_memory.proofs.Writes.{written_is, written_fits}
+use Rattle.granule_memory.proofs.memory.Memory.copy_bytes.Goals as goal
+use Rattle.granule_memory.proofs.memory.Memory.copy_bytes.Goals.{After-copy_within}
+
+-- the bytes that are copied
+module _ (c : After-copy_within) where
+  abbrev run : List ℕ
+  run = slice_range c.self.inside.region c.args.from (c.args.from + c.args.count)
+
+  counted : length c.args.self.now ≡ c.self.inside.granules
+  counted = ap length (sym c.self.view_is) ∙ granules_counted c.self.inside.region c.self.inside.granules
+
+  fits : c.args.to + length run ≤ 16 * length c.args.self.now
+  fits =
+      omega (
+        arith,
+        slice_range_long c.self.inside.region c.args.from c.args.count (omega (arith, counted, c.requires.source, c.self.invariant.long)),
+        c.requires.target,
+      )
+
+  read : bytes_at c.args.self.now c.args.from c.args.count ≡ run
+  read =
+      ap (λ memory. bytes_at memory c.args.from c.args.count) (sym c.self.view_is)
+      ∙ bytes_are c.self.inside.region c.self.inside.granules c.args.from c.args.count c.self.invariant.long
+      (omega (arith, counted, c.requires.source))
+
+pub invariant_of-self : goal.invariant_of-self
+invariant_of-self c =
+    written_fits _ _ _ c.args.self.now c.self.invariant c.self.view_is c.args.to (run c) c.copy_within.ensures (fits c)
+    (All-take (λ byte. byte < 256) _ _ (All-drop (λ byte. byte < 256) _ _ c.self.invariant.below))
+
+pub returns-clause-written : goal.returns-clause-written
+returns-clause-written c =
+    written_is _ _ _ c.args.self.now c.self.invariant c.self.view_is c.args.to (run c) c.copy_within.ensures (fits c)
+    ∙ ap (λ bytes. written c.args.to bytes c.args.self.now) (sym (read c))
+
+pub returns-clause-memory : goal.returns-clause-memory
+returns-clause-memory c = granules_fit _ _ (invariant_of-self c)

@@ -1,0 +1,83 @@
+use Rattle.std.proofs.Common.{◌≡◌, ℕ, ◌+◌, ◌*◌, ◌-◌, ◌<◌, ◌≤◌, Some, refl, sym, ap, ◌∙◌, subst, inl, inr, arith, slice_index}
+use Rattle.std.proofs.lemmas.Bool.{cases_lt}
+use Rattle.std.proofs.lemmas.Option.{slice_get-get_or}
+use Rattle.class_table.specs.Layout.{IsClassOf, Slot, first_slot, share_of, slot_of}
+use Rattle.class_table.proofs.LawLemmas.{slot_by_its_class}
+use Rattle.heap_theory.specs.Header.{Header, class_number}
+use Rattle.heap_theory.specs.Header.Standing.{Fresh as NeverGiven}
+use Rattle.heap_theory.specs.State.State.{Fresh}
+use Rattle.tagged_heap.specs.Representation.{header_from}
+use Rattle.heap_theory.specs.Region.{region_of, header_in}
+use Rattle.tagged_heap.proofs.NewHeap.{class_is_number}
+use Rattle.tagged_heap.proofs.RewrittenHeaders.{header_written}
+use Rattle.tagged_heap.proofs.Shares.{in_share}
+use Rattle.tagged_heap.proofs.fresh_slots.write_class_headers.Goals as goal
+
+abbrev fresh_header : ℕ → Header
+fresh_header class = record { standing = NeverGiven; size = 0; tag = 0; class = class; next = 0; mark = 0 }
+
+pub loop-slot-init : goal.loop-slot-init
+loop-slot-init c =
+    let layout = c.args.layout.now in
+    let number = c.args.number in
+    let first = c.first_slot-first.result in
+    let is : IsClassOf layout first number = record {
+      within = c.requires.number;
+      from = omega (arith, c.first_slot-first.ensures.first);
+      to = omega (arith, c.if-first-end.false, c.first_slot-end.ensures.first);
+    } in
+    record {
+      from = omega arith;
+      start = c.slot_of_class-start.ensures.start ∙ ap (λ (slot : Slot). slot.start) (slot_by_its_class layout first number is)
+          ∙ ap (λ n. share_of layout * number + slice_index layout.classes number * (first - n)) (sym c.first_slot-first.ensures.first);
+      headers = λ s below. c.requires.before s (omega (arith, below, c.first_slot-first.ensures.first));
+      seen = refl;
+      memory = c.requires.memory;
+      long = refl;
+    }
+
+pub loop-slot-preserved : goal.loop-slot-preserved
+loop-slot-preserved c =
+    let layout = c.args.layout.now in
+    let number = c.args.number in
+    let slot = c.loop-slot.slot in
+    let first = c.first_slot-first.result in
+    let from : first_slot layout number ≤ slot = omega (arith, c.first_slot-first.ensures.first, c.loop-slot.invariant.from) in
+    let to : slot < first_slot layout (number + 1) = omega (arith, c.loop-slot-test.true, c.first_slot-end.ensures.first) in
+    let own = in_share layout number slot c.requires.number from to in
+    let is : IsClassOf layout slot number = record { within = c.requires.number; from = from; to = to } in
+    let begins : c.loop-slot.next ≡ (slot_of layout slot).start =
+    c.loop-slot.invariant.start
+    ∙ ap (λ n. share_of layout * number + slice_index layout.classes number * (slot - n)) c.first_slot-first.ensures.first
+    ∙ sym (ap (λ (slot : Slot). slot.start) (slot_by_its_class layout slot number is)) in
+    let wide : c.slot_of_class-start.result.class ≡ slice_index layout.classes number =
+    c.slot_of_class-start.ensures.class
+    ∙ (in_share layout number first c.requires.number (omega (arith, c.first_slot-first.ensures.first)) (omega (arith, to, c.loop-slot.invariant.from))).1 in
+    let class : number ≡ class_number layout slot =
+    class_is_number layout slot number c.requires.partition.table own.0
+    (slice_get-get_or layout.classes number 0 c.requires.number ∙ ap Some (sym own.1)) in
+    let written =
+    header_written layout c.loop-slot.memory c.write.new.memory slot 16 (fresh_header number) c.requires.partition
+    c.loop-slot.invariant.memory own.0 (rw begins at c.write.ensures) in
+    let here : header_in (region_of layout c.write.new.memory) slot ≡ header_from layout 0 slot Fresh 0 =
+    written.own ∙ ap fresh_header class in
+    record {
+      from = omega (arith, c.loop-slot.invariant.from);
+      start = one_more (share_of layout * number) (slice_index layout.classes number) _ _ slot first c.loop-slot.invariant.from
+          c.loop-slot.invariant.start wide;
+      headers = λ s below. elim (cases_lt s slot) [
+        | inl less ↦ written.others s (omega arith) (omega arith) ∙ c.loop-slot.invariant.headers s less
+        | inr more ↦
+            let same : slot ≡ s = omega arith in
+            subst (λ s. header_in (region_of layout c.write.new.memory) s ≡ header_from layout 0 s Fresh 0) same here
+      ];
+      seen = written.seen_is ∙ c.loop-slot.invariant.seen;
+      memory = c.write.ensures.memory;
+      long = c.write.ensures.others.len ∙ c.loop-slot.invariant.long;
+    }
+  where
+    one_more : (base class at wide slot first : ℕ) → first ≤ slot → at ≡ base + class * (slot - first) → wide ≡ class →
+        at + wide ≡ base + class * (slot + 1 - first)
+    one_more base class at wide slot first le is same =
+        let more : slot + 1 - first ≡ 1 + (slot - first) = omega arith in
+        rw more (grind arith)

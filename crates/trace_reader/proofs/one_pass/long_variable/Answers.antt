@@ -1,0 +1,21 @@
+use Rattle.std.proofs.Common.{◌≡◌, ◌+◌, ◌*◌, ◌≤◌, ap, ◌∙◌, arith}
+use Rattle.std.specs.Fmt.{decimal}
+use Rattle.std.proofs.lemmas.List.{take_rest}
+use Rattle.trace_reader.proofs.DigitsInFront.{digit_more, digits_end, first_digit}
+use Rattle.trace_reader.proofs.one_pass.long_variable.Goals as goal
+
+pub returns-clause-spelled : goal.returns-clause-spelled
+returns-clause-spelled c =
+    let text = c.args.text.now in
+    let tens = c.digit_of-tens.result in
+    let ones = c.digit_of-ones.result in
+    let small : tens ≤ 2 = omega arith in
+    let one = first_digit text 1 (omega arith) (omega arith) (omega arith) in
+    let two = digit_more text 1 1 0 (omega arith) (omega arith) (omega arith) (omega arith) (omega arith) one in
+    let three =
+    digit_more text 2 10 tens (omega arith) (c.digit_of-tens.ensures (omega arith)) (omega arith) (omega arith) (omega arith) two in
+    let four =
+    digit_more text 3 (10 * 10 + tens) ones (omega arith) (c.digit_of-ones.ensures (omega arith)) (omega arith) (omega arith)
+    (omega (arith, small)) three in
+    let value : (10 * 10 + tens) * 10 + ones ≡ 1000 + tens * 10 + ones = omega arith in
+    rw take_rest (digits_end text 4 5 (1000 + tens * 10 + ones) c.args.end (omega arith) (omega arith) (four ∙ ap decimal value) (omega arith))
