@@ -35,6 +35,7 @@ Example:
 
 SHIMS = os.path.join(texts.SCRIPTS, "shims")
 SOURCES = sorted(glob.glob(os.path.join(SHIMS, "accesses", "*.[ch]")))
+READER, READER_FLAGS = os.path.join(SHIMS, "reader", "neighbourhood.c"), ["-O2", "-g", "-Wall"]
 HEADERS = sorted(glob.glob(os.path.join(SHIMS, "*.h")))
 RUNTIME = "libmte_accesses.so"
 RUNTIME_FLAGS = "-O2 -g -Wall -fPIC -shared -fvisibility=hidden -fno-builtin -fomit-frame-pointer -static-libgcc".split()
@@ -64,40 +65,69 @@ def is_clang(compiler: str) -> bool:
     return b"clang" in done.stdout
 
 
-def sources_sum() -> str:
-    whole = hashlib.sha256(" ".join(RUNTIME_FLAGS).encode())
-    for path in (*SOURCES, *HEADERS):
+def sum_of(flags: list, sources: list) -> str:
+    whole = hashlib.sha256(" ".join(flags).encode())
+    for path in sources:
         whole.update(texts.read(path))
     return whole.hexdigest()[:16]
 
 
+def sources_sum() -> str:
+    return sum_of(RUNTIME_FLAGS, [*SOURCES, *HEADERS])
+
+
 def runtime(plain: str) -> str:
     """The path of the runtime, built once for each version of its sources."""
+    return kept(f"accesses-{sources_sum()}", RUNTIME, lambda new: build(plain, new))
+
+
+def reader() -> "str | None":
+    """The path of the program that reduces large logs, built as the runtime is; None where there is no compiler or no place for it."""
     try:
-        place = private_folder.cache(f"accesses-{sources_sum()}")
+        plain = found("TRACED_CC", "gcc", "clang")
+        return kept(f"reader-{sum_of(READER_FLAGS, [READER, *HEADERS])}", "neighbourhood", build_reader(plain))
+    except Refused:
+        return None
+
+
+def build_reader(plain: str):
+    def build_new(to: str) -> None:
+        if compile_alone([plain, *READER_FLAGS, READER, "-o", to]):
+            raise Refused(3, "the reader could not be compiled")
+
+    return build_new
+
+
+def kept(folder: str, name: str, build_new) -> str:
+    """The path of what is built, which stands in a folder of the cache that nobody else can change."""
+    try:
+        place = private_folder.cache(folder)
     except Refused as refused:
         raise Refused(3, f"the runtime has no place: {refused.text}: {PLACE}") from None
     with place:
         # it goes into the program as its rpath, by a list that has commas
         if any(c in place.path for c in ":,$"):
             raise Refused(3, f"the loader takes no path with a colon, a comma or a dollar sign, as in {place.path}: {PLACE}")
-        if not place.has(RUNTIME):
+        if not place.has(name):
             try:
-                with place.new_file(RUNTIME) as new:
-                    build(plain, new)
+                with place.new_file(name) as new:
+                    build_new(new)
             except OSError as error:
                 raise Refused(3, f"{place.path} can't be written: {error.strerror}: {PLACE}") from None
-        return place.file(RUNTIME)
+        return place.file(name)
 
 
 def build(plain: str, to: str) -> None:
     # else a loop over bytes calls memset, which is the program's
     own = [] if is_clang(plain) else ["-fno-tree-loop-distribute-patterns"]
     words = [plain, *RUNTIME_FLAGS, *own, *(path for path in SOURCES if path.endswith(".c")), "-o", to, "-ldl", "-pthread"]
-    with private_folder.temporary() as folder:
-        done = subprocess.run(words, stdin=subprocess.DEVNULL, stdout=2, env={**os.environ, "TMPDIR": folder})
-    if done.returncode:
+    if compile_alone(words):
         raise Refused(3, f"the runtime could not be compiled: it needs glibc, and room in {os.path.dirname(to)}")
+
+
+def compile_alone(words: list) -> int:
+    with private_folder.temporary() as folder:
+        return subprocess.run(words, stdin=subprocess.DEVNULL, stdout=2, env={**os.environ, "TMPDIR": folder}).returncode
 
 
 def traced_flags(compiler: str, is_for_cxx: bool) -> list:

@@ -13,8 +13,8 @@
     found[0].numbers              of all errors of the log that are of this cause, from 0
 
 An access of a live block beyond its bounds has one cause with those that come from the same source line and the same allocation, on the same
-side of the block. An access of a freed or resized block has one with each other of that block, and of blocks that were allocated and freed
-from the same callers and first wrongly used at the same line. A free has one with those from the same line."""
+side of the block. An access of a freed or resized block has one with each other of that block, and of blocks that were freed from the same
+callers and first wrongly used at the same line. A free has one with those from the same line."""
 
 from collections import namedtuple
 
@@ -64,7 +64,7 @@ def entries(log, outcomes, places):
         kind, block = kind_of(error), error.block
         if kind in (USE_AFTER_FREE, USE_AFTER_REALLOC) and block:
             # what another block's first wrong use is one cause with
-            key = of_block.setdefault((kind, block), (kind, line(error.stack), callers(log.made[block]), callers(log.ended[block])))
+            key = of_block.setdefault((kind, block), (kind, line(error.stack), callers(log.ended[block])))
         else:
             key = kind, line(error.stack), callers(log.made[block]) if block else "", callers(log.ended[block]) if block else ""
         causes.setdefault(key, []).append(at)

@@ -118,7 +118,8 @@ class Log:
     """Records in their order. A record has a letter and up to three numbers: m and c (block, size), r (old block, new block, size),
     f (block), l and s (block, offset, length), and E (number of the error, from 0). Blocks are numbered from 1. `crash` is the Crash
     that ended the program, `status` its exit status, each None where the log has none. What is `missing` of the log is a list of
-    sentences."""
+    sentences. A log that took the place of a large one (fault_neighbourhood.py) has the places that its errors meet there; it is replayed
+    with the quarantine 0, and leaves some blocks out."""
 
     def __init__(self, path):
         self.letters = bytearray()
@@ -128,11 +129,13 @@ class Log:
         self.next = array("q", [0])  # of a block: the one that a realloc made from it, or 0
         self.stacks = [""]  # a stack is a text PC,PC,..; block 0 and stack 0 are unknown ones
         self.errors, self.modules = [], []
-        self.crash = self.status = None
+        self.crash = self.status = self.places = self.quarantine = self._profile = None
+        self.left_out = 0
         self._times = {}
         self._numbers = {0: 0}
         self.unrecorded = set()  # blocks that a handler of a signal requested have no record
         self._taken_back = set()
+        self._kept = None  # where some were taken back: the numbers in the log of the others
         descriptor = os.open(path, os.O_RDONLY | os.O_NONBLOCK | os.O_NOCTTY | os.O_CLOEXEC)
         with open(descriptor, "rb") as file:
             if not stat.S_ISREG(os.fstat(descriptor).st_mode):
@@ -262,13 +265,14 @@ class Log:
         """The runtime took some errors back as it learned more; their records are left as frees of no block, which are passed over."""
         if not self._taken_back:
             return
-        errors, self.errors = self.errors, []
+        errors, self.errors, self._kept = self.errors, [], []
         for at, letter in enumerate(self.letters):
             if letter != ord("E"):
                 continue
             if self.first[at] in self._taken_back:
                 self.letters[at], self.first[at] = ord("f"), 0
             else:
+                self._kept.append(self.first[at])
                 self.errors.append(errors[self.first[at]])
                 self.first[at] = len(self.errors) - 1
 
@@ -287,8 +291,17 @@ class Log:
     def record(self, at):
         return chr(self.letters[at]), self.first[at], self.second[at], self.third[at]
 
+    def take_place(self, profile, places, missing):
+        """Is the log in place of a large one, with its profile, the place of each error, and what is missing of it."""
+        self._profile, self.quarantine, self.missing = profile, 0, missing
+        self.places = [places[at] for at in self._kept] if self._kept is not None else places
+        blocks = sum(int(line.split()[1]) for line in profile.split("\n") if line)
+        self.left_out = max(0, blocks - len(self.size) + 1)
+
     def profile(self):
         """How often each size was requested, as the text of a profile."""
+        if self._profile is not None:
+            return self._profile
         counts = {}
         for letter, second, third in zip(self.letters, self.second, self.third):
             if letter in b"mcr":

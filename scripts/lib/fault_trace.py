@@ -30,13 +30,16 @@ NO_EVENT = "the trace has no room for it"
 
 class Trace:
     """lines: the events. expected: of an event that has a line in the report, or may have one: (promise, its words). verdicts: of each
-    error. conflicts: right accesses that the model of the slots does not let succeed."""
+    error. conflicts: right accesses that the model of the slots does not let succeed. misplaced: how many errors meet other slots than
+    those that the log names."""
 
     def __init__(self, log, slots, choice, is_asked=True):
         self.log, self.slots, self.choice = log, slots, choice
-        self.lines, self.expected, self.conflicts, self.verdicts = [], {}, [], []
+        self.lines, self.expected, self.conflicts, self.verdicts, self.misplaced = [], {}, [], [], 0
         self.is_asked = is_asked  # else no event is made, and there is no limit on them
         self.left_out = choice.left_out.copy()
+        if log.left_out:
+            self.left_out["blocks that no error meets"] += log.left_out
         self.fixed = choice.fixed  # the most events that are still to come beside right accesses
         self.pointer = {}  # of a block: its pointer, if it has a slot
         self.holder = array("q", [NONE]) * (SHARED + 1)  # of a variable: the chain that has it
@@ -49,6 +52,7 @@ class Trace:
         is_full = self.is_asked and len(self.lines) > MOST_EVENTS - 32
         if letter == "E":
             error = self.log.errors[first]
+            self.misplaced += not self._is_at_its_place(first, error.block)
             self.verdicts.append(Verdict("left", Promise("open", None, NO_EVENT), None, error.is_free()) if is_full else self._wrong(error))
         elif is_full:
             self.left_out["records after a million events"] += 1
@@ -61,6 +65,20 @@ class Trace:
         elif first in self.pointer:
             self._event(f"free {self._variable(first)}")
             self.slots.free(self._gone(first)[0])
+
+    def _is_at_its_place(self, number, block):
+        """Whether an error meets what the log names: its own slot and generation, and others with theirs, and whether they are live."""
+        if not self.log.places or self.log.places[number] == "-":
+            return True
+        slot, generation, *others = map(int, self.log.places[number].split())
+        pointer = self.pointer.get(block)
+        if not pointer or (pointer[0].number, pointer[1]) != (slot, generation):
+            return False
+        for other, generation, is_live in zip(*[iter(others)] * 3):
+            used = self.slots.used.get(other)
+            if (used.generation, used.is_live) != (generation, bool(is_live)) if used else (generation, is_live) != (0, 0):
+                return False
+        return True
 
     def _gone(self, block):
         """The pointer of a block that is freed or moved; it is kept where an error needs it."""
@@ -101,7 +119,7 @@ class Trace:
         pointer = self.slots.take(size) if size <= LARGEST_SIZE else None
         if pointer:
             self.pointer[block] = pointer
-        else:
+        elif self.log.places is None or size <= LARGEST_SIZE:
             self.left_out["large blocks" if size > LARGEST_SIZE else "blocks without a slot"] += 1
         return pointer
 

@@ -12,6 +12,7 @@
 #include <unistd.h>
 
 #define DELAY ((address)64 << 20)
+enum { SPARED = 16 /* chunks */, POPULATE_WRITE = 23 /* MADV_POPULATE_WRITE of Linux 5.14 and newer */ };
 enum { BEFORE = 64, AFTER = 64, LEAST_MORE = 144, MOST_MORE = 2048 };
 
 pthread_mutex_t accesses_lock = PTHREAD_MUTEX_INITIALIZER;
@@ -106,6 +107,18 @@ static void know_all(const struct block *block) {
   open_shadow(block->start, block->size);
 }
 
+// Takes the memory of a chunk at once, which is cheaper than page by page. A small program is spared it.
+static void populate(address chunk) {
+  int error = errno;
+  if (chunk_of(chunk) < SPARED) return;
+  size_t at = (chunk - ARENA) / 16;
+  if (chunk % (8 * CHUNK) == 0) madvise((void *)chunk, 8 * CHUNK, MADV_HUGEPAGE), madvise(OWNERS + at, 8 * CHUNK / 16 * sizeof *OWNERS, MADV_HUGEPAGE);
+  madvise((void *)chunk, CHUNK, POPULATE_WRITE);
+  madvise(OWNERS + at, CHUNK / 16 * sizeof *OWNERS, POPULATE_WRITE);
+  for (int store = 0; store < 2; store++) madvise(KNOWN(store) + at, CHUNK / 16, POPULATE_WRITE);
+  errno = error;
+}
+
 static struct block *new_block(size_t size, size_t alignment) {
   begin();
   if (size > ARENA_SIZE / 16 || alignment > ARENA_SIZE / 16 || last_block + 1 >= MOST_BLOCKS) return NULL;
@@ -117,6 +130,7 @@ static struct block *new_block(size_t size, size_t alignment) {
   if (next + most + CHUNK > ARENA + ARENA_SIZE) return NULL;
   address start = round_up(next + BEFORE, alignment), end = start + round_up(size, 16) + gap_after(size);
   if (next % CHUNK == 0 && !begin_chunks(next, round_up(end, CHUNK))) return NULL;
+  if (next % CHUNK == 0 && !is_large) populate(next);
 
   struct block *block = &BLOCKS[++last_block];
   *block = (struct block){start, size, LIVE, chunk_of(next)};
@@ -174,7 +188,7 @@ static struct block *block_at(address a, struct caller from, struct stack *stack
 }
 
 // the stack of a free that seems to be wrong, before the lock is held: the unwinder may wait for others
-static void look(address a, struct caller from, struct stack *stack) {
+static inline void look(address a, struct caller from, struct stack *stack) {
   stack->count = 0;
   if (has_log() && !live_block_at(a)) unwind(from, stack);
 }

@@ -51,19 +51,21 @@ static const char *pattern;
 static char log_name[MOST_NAME];
 static struct { dev_t device; ino_t number; } log_file;
 
-static void put(char c) { *text++ = c; }
-
 void put_text(const char *from) {
-  while (*from) put(*from++);
+  while (*from) *text++ = *from++;
 }
 
-void put_number(unsigned long value, unsigned base) {
+// writes a number at a place; where it ends
+static char *number_at(char *at, unsigned long value, unsigned base) {
   char digits[24];
   int n = 0;
-  do digits[n++] = "0123456789abcdef"[value % base];
-  while (value /= base);
-  while (n) put(digits[--n]);
+  if (base == 10) do digits[n++] = '0' + value % 10; while (value /= 10);
+  else do digits[n++] = "0123456789abcdef"[value & 15]; while (value >>= 4);
+  while (n) *at++ = digits[--n];
+  return at;
 }
+
+void put_number(unsigned long value, unsigned base) { text = number_at(text, value, base); }
 
 static void write_mark(void) {
   struct head *head = (struct head *)log_start;
@@ -79,7 +81,7 @@ static long wrong_records;
 long number_of_wrong(void) { return wrong_records; }
 
 void put_end(void) {
-  put('\n');
+  *text++ = '\n';
   sum = crc(sum, marked, text - marked);
   marked = text;
   write_mark();
@@ -131,15 +133,17 @@ int is_logging(void) { return text && (text + MARGIN <= log_end || grow()); }
 
 void put_record(char kind, int count, ...) {
   va_list numbers;
-  wrong_records += strchr("LSxon", kind) != NULL;
+  wrong_records += kind == 'L' || kind == 'S' || kind == 'x' || kind == 'o' || kind == 'n';
   va_start(numbers, count);
-  put(kind);
+  char *at = text;
+  *at++ = kind;
   while (count--) {
     long number = va_arg(numbers, long);
-    put(' ');
-    if (number < 0) put('-');
-    put_number(number < 0 ? -(unsigned long)number : (unsigned long)number, 10);
+    *at++ = ' ';
+    if (number < 0) *at++ = '-';
+    at = number_at(at, number < 0 ? -(unsigned long)number : (unsigned long)number, 10);
   }
+  text = at;
   va_end(numbers);
 }
 

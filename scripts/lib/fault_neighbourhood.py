@@ -1,0 +1,59 @@
+"""A small log in place of a large one: the errors are the same, and so are the slots that they meet.
+
+What an error meets on the heap hangs on the slots of its block and of its access alone: on who had them, and in which order. A compiled
+program (scripts/shims/reader/neighbourhood.c) gives all blocks of the large log their slots, and writes a log that has only what those slots
+went through; its replay holds nothing back. The model of the slots finds in it what each error meets, and has to find what the program
+says of the whole log (fault_trace.Trace.misplaced). Where it does not, or the program gives up, the whole log is read."""
+
+import os
+import subprocess
+
+import compiler_driver
+import private_folder
+from fault_log import Log, NoLog, Text
+
+LARGE = 4 << 20  # bytes; what is smaller is read in a few seconds
+
+
+def small(path, table_of, granules, quarantine, least=LARGE):
+    """The small Log of a large log, or None where there is none. table_of(profile) gives the heap's classes."""
+    try:
+        with open(path, "rb", opener=lambda path, how: os.open(path, how | os.O_NONBLOCK | os.O_NOCTTY)) as file:
+            text = Text(file)
+            text.say_end()
+    except (OSError, NoLog):
+        return None
+    if text.is_empty or text.is_damaged or text.length < least:
+        return None
+    program = compiler_driver.reader()
+    if not program:
+        return None
+    with private_folder.temporary() as folder:
+        new = os.path.join(folder, "log")
+        words = [program, path, new, str(granules), str(quarantine)]
+        with subprocess.Popen(words, stdin=subprocess.PIPE, stdout=subprocess.PIPE, stderr=subprocess.DEVNULL, text=True) as running:
+            try:
+                profile = profile_in(running.stdout)
+                if profile is None:
+                    return None
+                places = running.communicate(" ".join(map(str, table_of(profile))) + "\n")[0]
+            except OSError:
+                running.kill()
+        if running.returncode:
+            return None
+        try:
+            log = Log(new)
+        except NoLog:
+            return None
+    log.take_place(profile, places.split("\n")[:-1], text.missing)
+    return log
+
+
+def profile_in(lines):
+    """The lines before the one that is a point; None where there is none."""
+    found = []
+    for line in lines:
+        if line == ".\n":
+            return "".join(found)
+        found.append(line)
+    return None
