@@ -69,8 +69,7 @@ module _ (snapshots : List (List ℕ)) (step : ℕ) (pos : 0 < step) (i : ℕ) w
 
   to-above : (n : ℕ) → IsCounted (peaks snapshots) n → need < rounded_need step n → IsCounted (peaks above) n
   to-above n counted over =
-      let within : n ≤ largest_counted = omega (arith, counted.0, peaks-length snapshots) in
-      (
+      let within : n ≤ largest_counted = omega (arith, counted.0, peaks-length snapshots) in (
         omega (arith, within, peaks-length above),
         omega (arith, counted.1, keep (rounded_need step n) need (slice_index (peaks snapshots) n) _ (peak-above n within) over),
       )
@@ -132,5 +131,5 @@ pub fitted_rows_are_rests : (snapshots : List (List ℕ)) (step limit : ℕ) (ro
     → (k i : ℕ) → 1 ≤ k → k ≤ limit → i < places (peaks snapshots) step → IsFootprintRest snapshots step k i (rows k i)
 fitted_rows_are_rests snapshots step limit rows ends are fitted k i =
     rows_are_rests (footprint_between snapshots step) (peaks snapshots) step limit (footprint-cost snapshots are step) rows ends fitted
-        (footprint_of (snapshots_above snapshots step i)) (peaks (snapshots_above snapshots step i)) i
-        (footprint-rest snapshots step (step-positive step fitted.is_step) i) k
+    (footprint_of (snapshots_above snapshots step i)) (peaks (snapshots_above snapshots step i)) i
+    (footprint-rest snapshots step (step-positive step fitted.is_step) i) k
