@@ -7,11 +7,10 @@ import os
 import re
 from typing import NamedTuple, Optional
 
-import claims
-import pool_runs
-import texts
-from pool_runs import Block, Given, Run
-from running import Refused
+from mte_scripts import claims, texts
+from mte_scripts.running import Refused
+from mte_scripts.tables import pool_runs
+from mte_scripts.tables.pool_runs import Block, Given, Run
 
 LINE = re.compile(r"(unit|overhead) (0|[1-9][0-9]{0,4})|pool ([1-9][0-9]{0,5}) ([1-9][0-9]{0,9})")
 

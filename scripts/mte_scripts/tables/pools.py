@@ -1,0 +1,289 @@
+"""Finds static pools for the runs of a program, checks them, and prints them as C. `pools --help` says all."""
+
+import os
+import re
+import textwrap
+
+from mte_scripts import claims, texts
+from mte_scripts.running import Refused
+from mte_scripts.tables import pool_forms, pool_runs, pool_sets
+from mte_scripts.tables.figures import number, percent
+
+HELP = f"""\
+Find static pools for the runs of a program: which sizes of blocks, and how many of each. Pools are what firmware has in place of a
+heap. Each has so many blocks of one size in static memory, and a request takes a block of the pool with the smallest blocks that hold
+it, and of no other.
+
+Usage: pools --limit K [OPTION..] RUN..
+       pools --check POOLS RUN..
+       pools --read POOLS --as FORM
+
+A RUN is a timeline, as docs/FORMATS.md has it: all requests and frees of a run in their order. It may also be a history, which knows
+some moments alone: what was live between these may have no block. `-` is standard input.
+
+  --limit K        at most so many pools, 1 to 32
+  --unit U         blocks are multiples of U bytes: 4, 8, 16 or 32; 8 where it is left out
+  --overhead O     so many bytes of each block hold no request, 0 to 4096; 0 where it is left out
+  --today POOLS    pools to compare with, as 128x156,256x592: the bytes of a block with its overhead, and how many blocks
+  --reserve P      P percent more blocks in each pool, rounded up, in what is printed; and what they cost. 0 to 1000
+  --as FORM        print the pools as C, and not the summary: c, lwip, zephyr, threadx or freertos
+  --name NAME      what names begin with in C; app where it is left out
+  --certificate F  also write the pools with their certificate to the file F
+  --check POOLS    check such a file for these runs, which need not be the author's: the same pools, and as few bytes
+  --read POOLS     take the pools of such a file
+  --units          print the runs in units, for `mte_tool`: the fit in POOLS is of these
+
+The forms are
+{textwrap.indent("".join(f"{name:10}{form.what}" + chr(10) for name, form in pool_forms.FORMS.items()), "  ")}
+In lwIP, the unit is MEM_ALIGNMENT, and the overhead the bytes of struct memp_malloc_helper, rounded up to it. Zephyr has no overhead.
+ThreadX and FreeRTOS have a pointer for each block: the overhead is 4 or 8. Sizes are those requested; what an application adds to each
+block is overhead too.
+
+Several runs, as of a test suite, get pools that serve each of them, one run at a time. At the end of a run its live blocks are freed.
+So of the runs one after the other, at each moment the blocks of one run alone are live, and a pool needs the most blocks that it has
+live in any run. The summary says which run that is.
+
+{claims.TEMPLATES["pools.help"]}
+
+A request takes (S + O) / U units, rounded up, and at least one. The limit is 1,024 units, or 512 where a request takes one unit; a
+request above 16,368 bytes has no pool, which is said.
+
+Exit status:
+  0  the pools are printed, or the checked ones are right
+  1  the checked pools are not: the last line on standard error says why; or, without --check, nothing shows that no others take less
+  2  the words or a file are refused, or a request has too many units
+  3  there is no request, mte_tool could not run, or a write failed
+
+Examples:
+  pools --limit 4 --unit 8 --overhead 8 --certificate lwip.pools lwip.timeline
+  pools --check lwip.pools lwip.timeline
+  pools --read lwip.pools --as lwip --reserve 10 > lwippools.h
+"""
+# the options with a value, and what that is
+VALUES = {
+    "--limit": (range(1, 33), "a number from 1 to 32"),
+    "--unit": (pool_runs.UNITS, "4, 8, 16 or 32"),
+    "--overhead": (range(pool_runs.MOST_OVERHEAD + 1), f"a number from 0 to {pool_runs.MOST_OVERHEAD}"),
+    "--reserve": (range(1001), "a number from 0 to 1000"),
+}
+TEXTS = ("--today", "--as", "--name", "--certificate", "--check", "--read")
+WIDTH = 100
+
+
+class Options:
+    def __init__(self, words):
+        self.limit = self.unit = self.overhead = None
+        self.reserve = 0
+        self.today = []
+        self.name = "app"
+        self.form = self.certificate = self.check = self.read = None
+        self.runs, given = [], []
+        at = iter(words)
+        for word in at:
+            if word == "--":
+                self.runs += at
+            elif word == "-" or not word.startswith("-"):
+                self.runs.append(word)
+            else:
+                option, equals, value = word.partition("=")
+                given.append(option)
+                if option != "--units" or equals:
+                    self.take(option, value if equals else next(at, None))
+        self.units = "--units" in given
+        self.agree(given)
+
+    def take(self, option, value):
+        if option not in VALUES and option not in TEXTS:
+            raise Refused(2, f"there is no option {option}; --help says what there is")
+        if value is None:
+            raise Refused(2, f"{option} wants a value; --help says which")
+        if option in VALUES:
+            values, says = VALUES[option]
+            if not re.fullmatch("[0-9]{1,4}", value) or int(value) not in values:
+                raise Refused(2, f"{option} is {says}, and not {value}")
+            setattr(self, option[2:], int(value))
+        elif option == "--today":
+            self.today = today_of(value)
+        elif option == "--as" and value not in pool_forms.FORMS:
+            raise Refused(2, f"--as is {', '.join(pool_forms.FORMS)}, and not {value}")
+        elif option == "--name" and not re.fullmatch("[A-Za-z][A-Za-z0-9_]{0,40}", value):
+            raise Refused(2, f"--name is the begin of a name in C, and not {value}")
+        else:
+            setattr(self, "form" if option == "--as" else option[2:], value)
+
+    def agree(self, given):
+        for one in ("--check", "--read"):
+            own = {"--check": ("--check", "--limit", "--unit", "--overhead"), "--read": ("--read", "--as", "--reserve", "--name")}[one]
+            for other in given if one in given else ():
+                if other not in own:
+                    raise Refused(2, f"{one} takes the pools of a file: {other} has no place beside it")
+        if self.read is not None:
+            if self.form is None or self.runs:
+                raise Refused(2, "--read prints the pools of a file by --as FORM, and reads no run: --check compares them with runs")
+        elif not self.runs:
+            raise Refused(2, "name a timeline, or several; --help says more")
+        elif self.check is None and not self.units and self.limit is None:
+            raise Refused(2, "--limit K is wanted: at most how many pools?")
+        if self.runs.count("-") > 1:
+            raise Refused(2, "standard input can be read once")
+
+    def block(self):
+        return pool_runs.Block(self.unit or 8, self.overhead or 0)
+
+
+def today_of(value):
+    """The pools that there are today, by ascending blocks."""
+    pools = []
+    for word in value.split(","):
+        match = re.fullmatch("([1-9][0-9]{0,6})x([0-9]{1,9})", word)
+        if not match:
+            raise Refused(2, f"--today is pools as 128x156,256x592, and not {word}")
+        pools.append(pool_sets.Pool(int(match[1]), int(match[2])))
+    if len({pool.block for pool in pools}) < len(pools):
+        raise Refused(2, "--today names a size of blocks twice")
+    return sorted(pools)
+
+
+def pools(words):
+    if words[:1] in (["-h"], ["--help"]):
+        texts.write_help(HELP)
+        return 0
+    options = Options(words)
+    if options.read is not None:
+        its = pool_sets.read(options.read)
+        name = texts.printable(texts.named(options.read))
+        said = [f"{name} has their certificate, which `{texts.called('pools')} --check` checks.", *reserve_words(options, its)]
+        return texts.write(pool_forms.written(options.form, options.name, its.block, its.with_reserve(options.reserve), said))
+    if options.check is not None:
+        return check(options)
+    runs = pool_runs.runs_of(options.runs)
+    if options.units:
+        return texts.write(pool_runs.joined(runs, options.block()).text)
+    its = pool_sets.found(runs, options.block(), options.limit)
+    if its.fit and options.certificate is not None:
+        write_file(options.certificate, pool_sets.text_of(its))
+    known = known_of(options, runs, its)
+    notes = list(warnings(runs))
+    if options.form is None:
+        texts.write(summary(options, runs, its, known, notes))
+    else:
+        said = [known, *notes, *reserve_words(options, its)]
+        texts.write(pool_forms.written(options.form, options.name, its.block, its.with_reserve(options.reserve), said))
+        for note in notes:
+            texts.say("pools", note)
+    return 0 if its.fit else 1
+
+
+def known_of(options, runs, its):
+    """What is known of the pools that were found."""
+    if not its.fit:
+        return claims.pools_unshown(its.bound)
+    found = pool_sets.judged(its, runs)
+    if found.why:
+        raise Refused(3, f"the pools that were found are not those of their certificate: {found.why}")
+    return claims.pools_sentence(found.judged, texts.trust())
+
+
+def check(options):
+    its = pool_sets.read(options.check)
+    name = texts.printable(options.check)
+    runs = pool_runs.runs_of(options.runs)
+    texts.write(f"the pools are {len(its.pools)}, of {number(its.bytes)} bytes\n")
+    found = pool_sets.judged(its, runs)
+    asked = {"limit": found.judged.limit, "unit": its.block.unit, "overhead": its.block.overhead}
+    for option, value in asked.items():
+        if getattr(options, option) not in (None, value):
+            raise Refused(1, f"{name} is for --{option} {value}, and not for --{option} {getattr(options, option)}")
+    if found.why:
+        raise Refused(1, f"{name}: {found.why}")
+    for note in warnings(runs):
+        texts.say("pools", note)
+    texts.write(claims.pools_sentence(found.judged, texts.trust()) + "\n")
+    return 0
+
+
+def write_file(path, text):
+    try:
+        with open(path, "w", encoding="utf-8") as file:
+            file.write(text)
+    except OSError as error:
+        raise Refused(3, f"{path} can't be written: {error.strerror}") from None
+
+
+def warnings(runs):
+    """Where the pools may not be enough."""
+    for run in runs:
+        if run.is_sampled:
+            yield f"{run.name} is a history, which is sampled: what was live between its {run.snapshots} snapshots may have no block."
+        if run.has_large:
+            yield f"{run.name} has requests of more than {number(texts.LARGEST_SIZE)} bytes, which have no pool."
+
+
+def reserve_words(options, its):
+    if not options.reserve:
+        return []
+    more = pool_sets.bytes_of(its.with_reserve(options.reserve)) - its.bytes
+    return [f"With a reserve of {options.reserve}% they take {number(its.bytes + more)} bytes, {number(more)} more."]
+
+
+def summary(options, runs, its, known, notes):
+    names = claims.listed(run.name for run in runs)
+    lines = wrapped(f"Pools for {names}, in units of {its.block.unit} bytes, {its.block.overhead} of overhead in each block", "  ")
+    lines += ["", *table(options, runs, its), ""]
+    if options.today:
+        lines += [*today_lines(options, runs, its), ""]
+    for text in [known, *reserve_words(options, its)]:
+        lines += wrapped(text)
+    for note in notes:
+        lines += wrapped(f"! {note}", "  ")
+    return "".join(f"{line}\n" for line in lines)
+
+
+def wrapped(text, indent=""):
+    return textwrap.wrap(text, WIDTH, subsequent_indent=indent, break_long_words=False, break_on_hyphens=False)
+
+
+def table(options, runs, its):
+    """The pools in columns, the last of which is the run that needs so many blocks."""
+    most, short = [run.most(its.holds()) for run in runs], short_names(runs)
+    rows = [["Block", "Holds", "Blocks", *["With reserve"] * bool(options.reserve), "Bytes", *["Needed by"] * (len(runs) > 1)]]
+    for at, (pool, more) in enumerate(zip(its.pools, its.with_reserve(options.reserve))):
+        names = [name for name, counts in zip(short, most) if counts[at] == pool.number]
+        rows.append([number(pool.block), number(pool.block - its.block.overhead), number(pool.number)])
+        rows[-1] += [number(more.number)] * bool(options.reserve) + [number(more.block * more.number)]
+        rows[-1] += [names[0] + (f" and {len(names) - 1} more" if len(names) > 1 else "")] * (len(runs) > 1)
+    total = pool_sets.bytes_of(its.with_reserve(options.reserve))
+    rows.append(["", "", "", *[""] * bool(options.reserve), number(total), *[""] * (len(runs) > 1)])
+    return in_columns(rows, 4 + bool(options.reserve))
+
+
+def short_names(runs):
+    """The names of the files without their folders, where no two are the same."""
+    names = [os.path.basename(run.name) for run in runs]
+    return names if len(set(names)) == len(names) else [run.name for run in runs]
+
+
+def in_columns(rows, numbers):
+    """Rows with so many columns of numbers, and names after them."""
+    widths = [max(len(row[at]) for row in rows) for at in range(numbers)]
+    return ["  ".join([*(cell.rjust(width) for cell, width in zip(row, widths)), *row[numbers:]]).rstrip() for row in rows]
+
+
+def today_lines(options, runs, its):
+    """Today's pools: what they take, and how many of their blocks the runs use."""
+    holds = [pool.block - its.block.overhead for pool in options.today]
+    most = [max(counts) for counts in zip(*(run.most(holds) for run in runs))]
+    rows = [["Today", "Blocks", "Used", "Bytes"]]
+    rows += [[number(pool.block), number(pool.number), number(used), number(pool.block * pool.number)] for pool, used in zip(options.today, most)]
+    total, own = pool_sets.bytes_of(options.today), its.bytes
+    lines = in_columns([*rows, ["", "", "", number(total)]], 4)
+    short = [f"{number(pool.block)} by {number(used - pool.number)}" for pool, used in zip(options.today, most) if used > pool.number]
+    change = f"{number(abs(total - own))} bytes {'less' if own <= total else 'more'}" + (f", {percent(abs(total - own), total)}" if total else "")
+    lines += wrapped(f"Today's pools take {number(total)} bytes. {'Without their reserve the' if options.reserve else 'The'} pools above take {change}.")
+    if short:
+        lines += wrapped(f"! Today's pools are short of blocks: those of {claims.listed(short)}.", "  ")
+    above = [size for run in runs for size in run.sizes if size > holds[-1]]
+    if above:
+        lines += wrapped(f"! Today's pools have no block for a request of {number(min(above))} bytes.", "  ")
+    return lines
+
