@@ -7,7 +7,7 @@ import re
 import stat
 import time
 
-from mte_scripts import private_folder, running, texts
+from mte_scripts import private_folder, texts
 from mte_scripts.private_folder import NotPrivate
 from mte_scripts.recording import counts, recording, timelines
 from mte_scripts.running import Refused

@@ -5,8 +5,8 @@ import re
 import textwrap
 
 from mte_scripts import claims, texts
+from mte_scripts.pools import pool_forms, pool_runs, pool_sets
 from mte_scripts.running import Refused
-from mte_scripts.tables import pool_forms, pool_runs, pool_sets
 from mte_scripts.tables.figures import number, percent
 
 HELP = f"""\
@@ -286,4 +286,3 @@ def today_lines(options, runs, its):
     if above:
         lines += wrapped(f"! Today's pools have no block for a request of {number(min(above))} bytes.", "  ")
     return lines
-

@@ -7,9 +7,9 @@ import textwrap
 from typing import Callable, NamedTuple
 
 from mte_scripts import texts
+from mte_scripts.pools.pool_runs import Block
+from mte_scripts.pools.pool_sets import Pool, bytes_of
 from mte_scripts.running import Refused
-from mte_scripts.tables.pool_runs import Block
-from mte_scripts.tables.pool_sets import Pool, bytes_of
 
 WIDTH = 120
 

@@ -5,12 +5,12 @@ line `moments` where they are timelines."""
 
 import os
 import re
-from typing import NamedTuple, Optional
+from typing import NamedTuple
 
 from mte_scripts import claims, texts
+from mte_scripts.pools import pool_runs
+from mte_scripts.pools.pool_runs import Block, Given, Run
 from mte_scripts.running import Refused
-from mte_scripts.tables import pool_runs
-from mte_scripts.tables.pool_runs import Block, Given, Run
 
 LINE = re.compile(r"(unit|overhead) (0|[1-9][0-9]{0,4})|pool ([1-9][0-9]{0,5}) ([1-9][0-9]{0,9})")
 
