@@ -1,6 +1,8 @@
 // Written by scripts/tests/formats from scripts/lib/formats.py.
 enum {
   LARGEST_SIZE = 16368,
+  MOST_CLASSES = 32,
+  MOST_INPUT = 67108864,
   LARGEST_REQUEST = 2147483647,
   MOST_EVENTS = 1000000,
   LAST_VARIABLE = 1023,

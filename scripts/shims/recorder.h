@@ -40,19 +40,19 @@ struct notes {
   uint64_t untouched;       // how many processes have an allocator that can't be followed
   uint64_t foreign;         // how many have another one than glibc's that is followed
   uint64_t most;            // sizes.c: the bytes live at the peak
-  uint64_t length;          // trace.c: of the text,
+  uint64_t length;          // of the text,
   uint64_t events;          // and its events
   uint64_t variables;       // blocks with a variable of their own
   uint64_t shared;          // blocks without
   uint64_t wrong;           // frees of what is no live block
   uint64_t ended;           // why the trace ended: 1 that many events are the most, 2 there is no more room in the file
-  uint64_t taken[64];       // sizes.c: for each snapshot the request after which it was taken, 0 where there is none
+  uint64_t taken[64];       // sizes.c: for each snapshot the request, or the recorded event, after which it was taken, 0 where there is none
   // What a wild store of the program did to the file is seen by these.
   uint64_t seal;            // of the form and the room after the notes, which stay
   uint64_t all;             // sizes.c: the sum of the counters, where all processes count
   uint64_t updated;         // UPDATED while the snapshot of the peak is not whole
   uint64_t sums[64];        // sizes.c: of each snapshot: the sum of its counters by their weights, and of `taken`
-  uint64_t turn;            // trace.c: which of the two marks is whole wherever the program ends
+  uint64_t turn;            // which of the two marks is whole wherever the program ends; not where requests are only counted
   struct mark { uint64_t length, events, ended, sum, check; } marks[2];
   char allocator[NAME] __attribute__((aligned(NAME)));  // the file that has the allocator of the last process that has another one
 };
@@ -71,6 +71,16 @@ static struct {
 } next = {.malloc = __libc_malloc, .calloc = __libc_calloc, .realloc = __libc_realloc, .free = __libc_free};
 
 static struct notes *notes;
+
+// Two marks take turns, so that one is whole wherever the program ends.
+static void write_mark(struct mark *mark) {
+  static int turn;
+  notes->length = mark->length, notes->events = mark->events, notes->ended = mark->ended;
+  mark->check = folded(&mark->length, 4);
+  notes->marks[turn = !turn] = *mark;
+  __atomic_store_n(&notes->turn, turn, __ATOMIC_RELEASE);
+}
+
 static int started, untouched;  // whether the process is left untouched
 
 // Whether this process itself is recorded is on a page that a forked child sees empty, however it is forked.

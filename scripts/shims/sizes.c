@@ -7,12 +7,13 @@
 //                  its own place, the counts begin anew.
 // SIZES_HISTORY=T  the same, and T copies of the counters, 1 to 64. The first is of the peak. The others are taken at evenly spaced requests:
 //                  where there is no room for one more, every second goes, and the spacing doubles.
-#include "formats.h"
+// SIZES_TIMELINE=1 as SIZES_LIVE=1, and the record of the run after the counters (timeline.h). Its order is that in which the calls come to
+//                  the library, by one lock: a request as soon as it has its block, and a free before the block is given back.
 #include "recorder.h"
+#include "timeline.h"
 
-enum { LARGE = LARGEST_SIZE + 1, COUNTERS = LARGE + 1 };
 enum { SNAPSHOTS = 64 };
-static const uint64_t FORM_ALL = 0x315A49534C4C41, FORM_LIVE = 0x315A495345564C, FORM_HISTORY = 0x315A4953534948;
+static const uint64_t FORM_ALL = 0x315A49534C4C41, FORM_LIVE = 0x315A495345564C, FORM_HISTORY = 0x315A4953534948, FORM_TIMELINE = 0x315A49534D4954;
 
 static uint64_t early[COUNTERS], *counts = early;  // `early` until the file is mapped
 static int live;                                   // whether blocks are followed until they are freed
@@ -33,7 +34,6 @@ static unsigned short changed[COUNTERS];
 static char is_changed[COUNTERS];
 static int changes;
 static uint64_t sum;  // of `now`: each counter by its weight
-static uint64_t weight(size_t counter) { return (2 * counter + 1) * ODD; }
 static pthread_mutex_t lock = PTHREAD_MUTEX_INITIALIZER;
 
 // The snapshots. `counts` is the first; those that follow it are at multiples of the spacing.
@@ -42,8 +42,9 @@ static int snapshots;
 static const uint64_t UPDATED = 0x6465746164707521;
 
 static void seal_snapshot(int k) {
-  notes->sums[k] = sum + requests * ODD;
-  __atomic_store_n(&notes->taken[k], requests, __ATOMIC_RELEASE);
+  uint64_t time = events ? mark.events + 1 : requests;
+  notes->sums[k] = sum + time * ODD;
+  __atomic_store_n(&notes->taken[k], time, __ATOMIC_RELEASE);
 }
 
 static int free_snapshot(void) {
@@ -83,6 +84,7 @@ static void change(size_t size, int64_t by) {
   if (!is_changed[i]) is_changed[i] = 1, changed[changes++] = i;
   if (bytes > peak) update_peak();
   if (snapshots > 1 && by > 0 && !(requests & (spacing - 1))) take_snapshot();
+  record_event(i, by < 0, sum);
   pthread_mutex_unlock(&lock);
 }
 
@@ -233,12 +235,12 @@ size_t malloc_usable_size(void *block) {
 }
 
 static void begin(void) {
-  const char *only = getenv("SIZES_ONLY");
+  const char *only = getenv("SIZES_ONLY"), *history = getenv("SIZES_HISTORY"), *timeline = getenv("SIZES_TIMELINE");
   if (only && strcmp(only, program_invocation_short_name)) return;
-  const char *history = getenv("SIZES_HISTORY");
-  int number = history ? atoi(history) : 1, follow = history || getenv("SIZES_LIVE");
-  size_t room = sizeof early * (number < 1 ? 1 : number > SNAPSHOTS ? SNAPSHOTS : number);
-  notes = map_file("SIZES", history ? FORM_HISTORY : follow ? FORM_LIVE : FORM_ALL, room, room, &room);
+  int number = history ? atoi(history) : 1, follow = timeline || history || getenv("SIZES_LIVE");
+  size_t room = sizeof early * (number < 1 || timeline ? 1 : number > SNAPSHOTS ? SNAPSHOTS : number), most = room;
+  if (timeline) room += room_of(FEWEST_MOMENTS), most += room_of(CLASSES);
+  notes = map_file("SIZES", timeline ? FORM_TIMELINE : history ? FORM_HISTORY : follow ? FORM_LIVE : FORM_ALL, room, most, &room);
   if (!notes) return;
   examine(follow);
   if (untouched) return;
@@ -251,9 +253,10 @@ static void begin(void) {
   is_other = !is_the_one();
   record_here(!is_other);
   if (is_other) return;
-  if (history) snapshots = room / sizeof early < SNAPSHOTS ? room / sizeof early : SNAPSHOTS;
+  if (history && !timeline) snapshots = room / sizeof early < SNAPSHOTS ? room / sizeof early : SNAPSHOTS;
   // of what the process ran before in its own place
   memset(notes->taken, 0, sizeof notes->taken), memset(notes->sums, 0, sizeof notes->sums), notes->most = 0, memset(counts, 0, sizeof early);
+  if (timeline) begin_record(counts + COUNTERS, room - sizeof early, NULL);
   is_aligned_own = is_same((void *)next.memalign, (void *)next.malloc) && is_same((void *)next.posix_memalign, (void *)next.malloc);
   live = 1;
 }

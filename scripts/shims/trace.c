@@ -38,28 +38,19 @@ static struct mark now;  // what the next mark is
 
 static int is_tracing(void) { return text && here->recorded && !now.ended; }
 
-// Two marks take turns, so that one is whole wherever the program ends.
-static void write_mark(void) {
-  static int turn;
-  notes->length = now.length, notes->events = now.events, notes->ended = now.ended;
-  now.check = folded(&now.length, 4);
-  notes->marks[turn = !turn] = now;
-  __atomic_store_n(&notes->turn, turn, __ATOMIC_RELEASE);
-}
-
 // Whether there is room for an event, with the two that it may have beside it; else the trace ends here.
 static int has_room(void) {
   if (now.ended) return 0;
   if (now.events + 3 > most) now.ended = 1;
   else if (end - text < 3 * LINE) now.ended = 2;
-  if (now.ended) write_mark();
+  if (now.ended) write_mark(&now);
   return !now.ended;
 }
 
 static void end_line(int length) {
   now.sum = crc(now.sum, text, length);
   text += length, now.length += length, now.events++;
-  write_mark();
+  write_mark(&now);
 }
 #define LINE_OF(...) end_line(snprintf(text, LINE, __VA_ARGS__))
 
@@ -263,5 +254,5 @@ static void begin(void) {
   most = first ? strtoul(first, NULL, 10) : MOST_EVENTS;
   notes->variables = notes->shared = notes->wrong = 0;
   text = (char *)notes + PAGE, end = text + room;
-  write_mark();
+  write_mark(&now);
 }

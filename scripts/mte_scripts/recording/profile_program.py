@@ -18,6 +18,7 @@ import counts  # noqa: E402
 import private_folder  # noqa: E402
 import recording  # noqa: E402
 import texts  # noqa: E402
+import timelines  # noqa: E402
 from private_folder import NotPrivate  # noqa: E402
 from running import Refused  # noqa: E402
 
@@ -25,16 +26,17 @@ HELP = f"""\
 Run a program, and print how often it requested each size: a profile, the input of `mte_tool tune`.
 
 Usage: profile_program [--live] [--only NAME] [--said FILE] PROGRAM ARGS..
-       profile_program --history[=T] [--peak FILE] [--only NAME] [--said FILE] PROGRAM ARGS..
+       profile_program --timeline|--history[=T] [--peak FILE] [--only NAME] [--said FILE] PROGRAM ARGS..
        profile_program --library [DIR]
        profile_program --read COUNTS
 
   --live         count only the blocks that are live at the peak: when the most bytes are live
+  --timeline     print a timeline instead: each request and each free of the run, by size
   --history[=T]  print a history instead: the live blocks at T moments of the run, 1 to 64; 32 where T is left out
-  --peak FILE    with --history: write the profile of the blocks live at the peak into FILE too, as --live counts them
+  --peak FILE    with --timeline or --history: write the profile of the blocks live at the peak into FILE too, as --live counts them
   --only NAME    count only processes whose program has this name, as NAME of /usr/bin/NAME
   --library      print the path of the library that counts, and run nothing; with DIR, put it there for services
-  --read COUNTS  print the profile or the history of the counts in the file COUNTS, also while they are still made
+  --read COUNTS  print the profile, the history or the timeline of the counts in the file COUNTS, also while they are still made
   --said FILE    write what this script says of the run into FILE too, a line for each, apart from what the program says
 
 The program is run with a library (LD_PRELOAD) that counts its calls of malloc, calloc, realloc, memalign, aligned_alloc, valloc,
@@ -44,7 +46,14 @@ script; with --live only the first process is, with what it runs in its own plac
 request, and so does any other above {texts.LARGEST_SIZE:,} bytes; a realloc to 0 bytes is a free. An aligned request counts as its bytes plus its
 alignment minus 16.
 
-A history is the input of `mte_tool fit`. Its snapshots are in the order of time. One is of the peak, the others are taken at evenly
+A timeline is the input of `mte_tool fit`, which then counts each moment of the run. Its events are in the order in which the calls
+came to the library, one after the other, of all threads: a request as soon as it has its block, a free before the block is given
+back, a realloc as a free and a request. While the program runs, the record takes 69 MB of disk, or less where there is no more.
+Where its text would have more than {timelines.MOST_TEXT:,} bytes, some 15 million events, a history is printed in its place, and
+standard error says so: of the peak, and of the moments at which each class of 16 bytes had the most blocks. With less disk this
+happens earlier, and the classes are wider. All else is as with --live.
+
+A history is an input of `fit` too. Its snapshots are in the order of time. One is of the peak, the others are taken at evenly
 spaced requests: where T are full, every second one goes, and the spacing doubles. So at the end they are about T/2 to T, and fewer
 where the program makes fewer requests. All else is as with --live.
 
@@ -53,11 +62,11 @@ such as by mallocx, nothing of it is counted, and standard error names the file 
 set-user-id program, a C library other than glibc, and an allocator inside the program (Go, jemalloc linked in).
 
 For a service that something else starts: set LD_PRELOAD to the path that --library DIR prints, SIZES to a file that does not exist
-yet and that the service may write (and SIZES_LIVE=1 for --live, SIZES_HISTORY=T for --history=T, SIZES_ONLY=NAME for --only); then
-read the file with --read.
+yet and that the service may write (and SIZES_LIVE=1 for --live, SIZES_TIMELINE=1 for --timeline, SIZES_HISTORY=T for --history=T,
+SIZES_ONLY=NAME for --only); then read the file with --read.
 
 Exit status:
-  0  the profile, or the history, is printed
+  0  the profile, the history or the timeline is printed
   1  the same; the program itself ended with another status than 0, which standard error has
   2  the words are refused
   3  there is no profile: no compiler, no such program, nothing was counted, or the program overwrote the counts; or it could not be
@@ -65,7 +74,7 @@ Exit status:
 
 Examples:
   profile_program sort /etc/services > sort.profile
-  profile_program --history sort /etc/services > sort.history
+  profile_program --timeline sort /etc/services > sort.timeline
 """
 
 LIBRARY = "mte_tool_sizes.so"  # for services
@@ -78,7 +87,7 @@ FOREGROUND = "run it in the foreground (nginx: daemon off)"
 class Options:
     def __init__(self, words, speaker):
         self.live = self.snapshots = self.peak = self.only = self.read = None
-        self.is_library = self.is_help = False
+        self.timeline = self.is_library = self.is_help = False
         words = list(words)
 
         def value(option, what):
@@ -95,6 +104,8 @@ class Options:
                 return
             if option == "--live":
                 self.live = "--live"
+            elif option == "--timeline":
+                self.timeline = True
             elif option == "--history":
                 self.snapshots = 32
             elif option.startswith("--history="):
@@ -110,15 +121,22 @@ class Options:
             else:
                 raise Refused(2, f"there is no option {option}; --help says what there is")
         self.words = words
-        if self.snapshots:
-            self.live = "--history"
+        if self.timeline and self.snapshots:
+            raise Refused(2, "take one of --timeline and --history")
+        if self.timeline or self.snapshots:
+            self.live = "--timeline" if self.timeline else "--history"
         elif self.peak:
-            raise Refused(2, "--peak goes with --history")
+            raise Refused(2, "--peak goes with --timeline or --history")
 
     def settings(self):
         """The library's variables; those without a value are unset."""
-        history = str(self.snapshots) if self.snapshots else None
-        return {"SIZES_ONLY": self.only, "SIZES_HISTORY": history, "SIZES_LIVE": "1" if self.live == "--live" else None}
+        chosen = {"SIZES_LIVE": self.live == "--live", "SIZES_TIMELINE": self.timeline}
+        found = {name: "1" if is_so else None for name, is_so in chosen.items()}
+        return {**found, "SIZES_ONLY": self.only, "SIZES_HISTORY": str(self.snapshots) if self.snapshots else None}
+
+    def form(self):
+        """That of the file of counts."""
+        return {"--timeline": timelines.FORM, "--history": counts.HISTORY, "--live": counts.LIVE, None: counts.ALL}[self.live]
 
 
 def snapshots_of(word):
@@ -129,25 +147,51 @@ def snapshots_of(word):
 
 # ---- counts
 
-def print_counts(notes, words, file, peak=None):
-    """Prints the profile, or the history, of the words of a file of counts, which may still be written. False where nothing is counted."""
-    profile = counts.profile_of(words)
+def print_counts(speaker, notes, found, file, peak=None):
+    """Prints what was counted, of the words of a file of counts, which may still be written, or of a Record. False where that is nothing."""
+    if notes.form == timelines.FORM:
+        return print_record(speaker, found, peak)
+    profile = counts.profile_of(found)
     if notes.form != counts.HISTORY:
         if not profile:
             return False
         recording.write("the profile", profile)
         return True
-    history = counts.history_text(words, read_counts(file, 8 * counts.PAGE))
+    return print_history(counts.history_text(found, read_counts(file, 8 * counts.PAGE)), profile, peak)
+
+
+def print_history(history, profile, peak):
     if not history:
         return False
     recording.write("the history", history)
+    write_peak(peak, profile)
+    return True
+
+
+def print_record(speaker, record, peak):
+    """Prints a timeline, or the history that is there in its place."""
+    if record.history:
+        wide = record.class_bytes
+        moments = f"the {record.history.snapshots} moments at which each class of {wide} bytes had the most blocks"
+        speaker.say(f"the timeline would have more than {timelines.MOST_TEXT:,} bytes: a history is made in its place, of {moments}")
+        return print_history(texts.history_text(record.history), texts.profile_text(record.peak), peak)
+    if not record.events:
+        return False
+    if record.mark.ended == timelines.NO_ROOM:
+        speaker.say(f"there is no more memory for the record: the timeline is of the first {record.mark.events:,} events of the run")
+    for piece in record.text():
+        recording.write("the timeline", piece)
+    write_peak(peak, texts.profile_text(record.peak))
+    return True
+
+
+def write_peak(peak, profile):
     if peak:
         try:
             with open(peak, "w", encoding="ascii") as file:
                 file.write(profile)
         except OSError as error:
             raise Refused(3, f"{peak} could not be written: {error.strerror}") from None
-    return True
 
 
 def say_uncounted(speaker, notes, live, program):
@@ -174,13 +218,19 @@ def read_counts(path, most=8 * counts.MOST + 1):
 
 
 def sound_counts(path, forms):
-    """The words of a file of counts of one of these forms, which the library may still write; None where it is none, or was overwritten."""
+    """The words of a file of counts of one of these forms, or the Record in it. The library may still write there. None where it is none, or
+    was overwritten."""
     for _ in range(READINGS):
-        words = read_counts(path)
-        if not counts.is_whole(words):
-            return None
-        if words[0] in forms and counts.is_sound(words, read_counts(path, 8 * counts.PAGE)):
-            return words
+        form = read_counts(path, 8 * counts.PAGE)[:1].tolist()
+        if form == [timelines.FORM] and timelines.FORM in forms:
+            if found := timelines.read(path):
+                return found
+        elif form and form[0] in forms:
+            words = read_counts(path)
+            if not counts.is_whole(words):
+                return None
+            if words[0] in forms and counts.is_sound(words, read_counts(path, 8 * counts.PAGE)):
+                return words
         if not recording.having(os.path.realpath(path)):
             return None
         time.sleep(0.02)
@@ -191,12 +241,12 @@ def read_only(options, speaker):
     """Prints what --read names; the library may still write there."""
     if options.words:
         raise Refused(2, "--read takes one file, and runs no program")
-    words = sound_counts(options.read, counts.FORMS)
-    if not words:
+    found = sound_counts(options.read, [*counts.FORMS, timelines.FORM])
+    if not found:
         raise Refused(3, f"{options.read} is no file of counts, or the program overwrote it, or it changes too fast: nothing is read of it")
-    notes = recording.Notes(words[: counts.PAGE].tobytes())
-    say_uncounted(speaker, notes, "--history" if notes.form == counts.HISTORY else "--live", "the program")
-    if print_counts(notes, words, options.read):
+    notes = recording.Notes(read_counts(options.read, 8 * counts.PAGE).tobytes())
+    say_uncounted(speaker, notes, {counts.HISTORY: "--history", timelines.FORM: "--timeline"}.get(notes.form, "--live"), "the program")
+    if print_counts(speaker, notes, found, options.read):
         return 0
     if notes.untouched:
         raise Refused(3, f"the program has an allocator of its own, in {notes.allocator}, that can't be followed: nothing was counted")
@@ -278,10 +328,10 @@ def run_program(options, speaker, path, work):
         if say_left(speaker, run, options, left):
             work.keep = True
             library.keep()
-        words = sound_counts(run.recorded, [counts.HISTORY if options.snapshots else counts.LIVE if options.live else counts.ALL])
-        if not words:
+        found = sound_counts(run.recorded, [options.form()])
+        if not found:
             raise Refused(3, f"{program} overwrote what was recorded: nothing of it counts")
-        if not print_counts(notes, words, run.recorded, options.peak):
+        if not print_counts(speaker, notes, found, run.recorded, options.peak):
             if notes.untouched:
                 own = f"{program} has an allocator of its own, in {notes.allocator}, that can't be followed"
                 raise Refused(3, f"{own}: it ran as ever, and nothing is counted")

@@ -23,7 +23,7 @@ from running import Refused
 
 SHIMS = os.path.join(texts.SCRIPTS, "shims")
 RECORDERS = os.path.join(texts.ROOT, "recorders")  # of a package
-SOURCES = ("formats.h", "recorder.h", "checksum.h", "private_folder.h")
+SOURCES = ("formats.h", "recorder.h", "timeline.h", "checksum.h", "private_folder.h")
 # without -fno-builtin gcc makes a calloc of a malloc and a memset, also inside calloc
 FLAGS = ("-O2", "-fno-builtin", "-shared", "-fPIC", "-Wall")
 VARIABLES = re.compile("(SIZES|TRACE)(_|$)")  # of the environment, which the libraries read
