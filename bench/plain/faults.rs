@@ -3,7 +3,9 @@
 //! The readers of the other files say only that a text is faulty. It is then read here once more,
 //! line by line, for the first faulty line and its code.
 
+use crate::history::MOST_SNAPSHOTS;
 use crate::profile::LARGEST;
+use crate::timeline::TIMELINE;
 use std::fmt::{Display, Formatter, Result as Written};
 
 pub enum Fault {
@@ -44,10 +46,10 @@ pub fn in_scored(text: &[u8]) -> Fault {
     in_class_line(lines.first().copied()).unwrap_or_else(|| in_counts(&lines[1..], 1))
 }
 
-/// The first fault of a class line and the history after it.
+/// The first fault of a class line and the history or timeline after it.
 pub fn in_footprint(text: &[u8]) -> Fault {
     let lines = lines_of(text);
-    in_class_line(lines.first().copied()).unwrap_or_else(|| in_snapshots(&lines[1..], 1))
+    in_class_line(lines.first().copied()).unwrap_or_else(|| in_moments(&lines[1..], 1))
 }
 
 /// The first fault of a profile.
@@ -55,9 +57,9 @@ pub fn in_profile(text: &[u8]) -> Fault {
     in_counts(&lines_of(text), 0)
 }
 
-/// The first fault of a history.
+/// The first fault of a history or a timeline.
 pub fn in_history(text: &[u8]) -> Fault {
-    in_snapshots(&lines_of(text), 0)
+    in_moments(&lines_of(text), 0)
 }
 
 /// The first fault of a sheet and the profile after it.
@@ -69,10 +71,17 @@ pub fn in_checked(text: &[u8]) -> Fault {
     }
 }
 
-/// The first fault of a fit and the history after it.
+/// The first fault of a fit and the history, or the moments and the timeline, after it.
 pub fn in_checked_fit(text: &[u8]) -> Fault {
     let lines = lines_of(text);
     match sheet_lines(&lines, "footprint") {
+        Ok(count) if first_word(lines.get(count)) == b"moments" => {
+            if are_moments(lines[count]) {
+                in_events(&lines[count + 1..], count + 1)
+            } else {
+                Fault::InLine(36, "BadFit", count + 1)
+            }
+        }
         Ok(count) => in_snapshots(&lines[count..], count),
         Err(line) => Fault::InLine(36, "BadFit", line),
     }
@@ -138,11 +147,63 @@ fn in_counts(lines: &[&[u8]], before: usize) -> Fault {
     in_lines(lines, before, 1, (30, "BadLine"))
 }
 
+// the first fault of the lines of a history or a timeline
+fn in_moments(lines: &[&[u8]], before: usize) -> Fault {
+    if lines.first() == Some(&TIMELINE) {
+        return in_events(lines, before);
+    }
+    in_snapshots(lines, before)
+}
+
+// the first fault of a timeline's lines
+fn in_events(lines: &[&[u8]], before: usize) -> Fault {
+    if lines.first() != Some(&TIMELINE) {
+        return Fault::InLine(37, "BadTimeline", before + 1);
+    }
+    let mut live = vec![0_u32; AFTER_SIZES as usize + 1];
+    for (at, line) in lines.iter().enumerate().skip(1) {
+        let fault = |code, name| Fault::InLine(code, name, before + at + 1);
+        let word = line.strip_prefix(b"-").unwrap_or(line);
+        let size = match word {
+            b"large" => Some(AFTER_SIZES),
+            word => number_of(word).filter(|size| *size < AFTER_SIZES),
+        };
+        let Some(size) = size else {
+            return fault(37, "BadTimeline");
+        };
+        let blocks = &mut live[size as usize];
+        if word.len() == line.len() {
+            *blocks += 1;
+        } else if *blocks == 0 {
+            return fault(38, "NotLive");
+        } else {
+            *blocks -= 1;
+        }
+    }
+    unreachable!("a timeline that was refused is faulty")
+}
+
+// whether a line names moments: 1 to 1,024 ascending numbers up to 1,000,000,000
+fn are_moments(line: &[u8]) -> bool {
+    let words = line.split(|byte| *byte == b' ').skip(1);
+    let Some(numbers) = words.map(number_of).collect::<Option<Vec<u128>>>() else {
+        return false;
+    };
+    let ascends = numbers.windows(2).all(|pair| pair[0] < pair[1]);
+    let few = (1..=MOST_SNAPSHOTS as usize).contains(&numbers.len());
+    ascends && few && numbers.last() <= Some(&1_000_000_000)
+}
+
+fn first_word<'a>(line: Option<&&'a [u8]>) -> &'a [u8] {
+    let line = line.copied().unwrap_or(b"");
+    line.split(|byte| *byte == b' ').next().unwrap_or(line)
+}
+
 // the first fault of a history's lines
 fn in_snapshots(lines: &[&[u8]], before: usize) -> Fault {
     let words = |line: &&[u8]| line.strip_prefix(b"snapshots ").and_then(number_of);
     match lines.first().and_then(words) {
-        Some(snapshots @ 1..=64) => {
+        Some(snapshots) if (1..=u128::from(MOST_SNAPSHOTS)).contains(&snapshots) => {
             let wrong_length = (35, "WrongLength");
             in_lines(&lines[1..], before + 1, snapshots as usize, wrong_length)
         }

@@ -3,7 +3,8 @@
 use crate::profile::{GREATEST_COUNT, LARGEST};
 use crate::text::Scanner;
 
-const MOST_SNAPSHOTS: u64 = 1024;
+/// The most snapshots of a history.
+pub const MOST_SNAPSHOTS: u64 = 1024;
 
 pub struct History {
     /// How many snapshots there are.
@@ -27,15 +28,12 @@ impl History {
         };
         let mut next = 0;
         while text.len() > 0 {
-            let size = match text.number() {
-                Some(size) => size,
-                None => {
-                    text.expect(b"large")?;
-                    read_counts(text, snapshots, |_| ())?;
-                    return (text.len() == 0).then_some(history);
-                }
-            };
-            if size < next || size > LARGEST as u64 {
+            if text.skip(b"large") {
+                read_counts(text, snapshots, |_| ())?;
+                return (text.len() == 0).then_some(history);
+            }
+            let size = text.number_to(LARGEST as u64)?;
+            if size < next {
                 return None;
             }
             history.sizes.push(size as usize);
@@ -43,6 +41,24 @@ impl History {
             next = size + 1;
         }
         Some(history)
+    }
+
+    /// The history of these snapshots, each with a count for every size.
+    pub fn of_columns(columns: &[Vec<u32>]) -> History {
+        let mut history = History {
+            snapshots: columns.len(),
+            sizes: Vec::new(),
+            counts: Vec::new(),
+        };
+        for size in 0..=LARGEST {
+            if columns.iter().any(|column| column[size] > 0) {
+                history.sizes.push(size);
+                history
+                    .counts
+                    .extend(columns.iter().map(|column| column[size]));
+            }
+        }
+        history
     }
 
     /// The counted sizes, ascending, each with its count at each snapshot.

@@ -25,6 +25,7 @@ mod score;
 mod sheet;
 mod spans;
 mod text;
+mod timeline;
 mod trace;
 mod tuner;
 
@@ -37,10 +38,11 @@ use options::Options;
 use profile::Profile;
 use replay::Replay;
 use score::read_classes;
-use sheet::{Sheet, FOOTPRINT, WASTE};
+use sheet::{push_line, Sheet, FOOTPRINT, WASTE};
 use std::io::Write;
 use std::process::ExitCode;
 use text::{push_number, read_all, Scanner, PIECE};
+use timeline::{is_timeline, read_moments, Found, Timeline};
 use trace::Event;
 
 const EVENTS: usize = 1_000_000;
@@ -55,9 +57,10 @@ Usage: plain COMMAND [--NAME N ..] < INPUT
   score      a class line and a profile: how many bytes the table wastes
   tune       a profile: the best table, as a sheet; --limit K (1 to 32), --step S (1, 2, 4 or 8)
   check      a sheet and a profile: whether the sheet proves its table a best one
-  footprint  a class line and a history: how many bytes the table takes at its most
-  fit        a history: the table of least footprint, as a fit; the options of tune
-  check-fit  a fit and a history: whether the fit proves that no table has less footprint
+  footprint  a class line and a history or a timeline: how many bytes the table takes at its most
+  fit        a history or a timeline: the table of least footprint, as a fit; the options of tune
+  check-fit  a fit and a history or a timeline: whether the fit proves that no table has less
+             footprint
   profile    a trace: its profile
   replay     a class line and a trace: the tagged heap's report; --granules, --seed, --quarantine
   run        a trace: its best table, and the report with it; the options of tune and of replay
@@ -141,10 +144,18 @@ fn score(out: &mut impl Write) -> Result<ExitCode, Fault> {
 fn footprint(out: &mut impl Write) -> Result<ExitCode, Fault> {
     let input = read_all()?;
     let mut text = Scanner::new(&input);
-    let read =
-        read_classes(&mut text).and_then(|classes| Some((classes, History::read(&mut text)?)));
-    let (classes, history) = read.ok_or_else(|| faults::in_footprint(&input))?;
-    write_cost(FOOTPRINT, history.footprint(&classes), out)
+    let classes = read_classes(&mut text);
+    let read = classes.and_then(|classes| {
+        if is_timeline(&input[text.passed()..]) {
+            return Some(Timeline::read(&mut text)?.footprint(&classes));
+        }
+        Some(History::read(&mut text)?.footprint(&classes))
+    });
+    write_cost(
+        FOOTPRINT,
+        read.ok_or_else(|| faults::in_footprint(&input))?,
+        out,
+    )
 }
 
 // the cost of a table with its word, or the least counted size that the table does not serve
@@ -178,11 +189,40 @@ fn tune(options: &Options, out: &mut impl Write) -> Result<ExitCode, Fault> {
 fn fit(options: &Options, out: &mut impl Write) -> Result<ExitCode, Fault> {
     let (limit, step) = (options.limit()?, options.step()?);
     let input = read_all()?;
+    if is_timeline(&input) {
+        let timeline = Timeline::read(&mut Scanner::new(&input));
+        let timeline = timeline.ok_or_else(|| faults::in_history(&input))?;
+        return write_found(timeline.fit(limit, step), out);
+    }
     let history = History::read(&mut Scanner::new(&input));
     let history = history.ok_or_else(|| faults::in_history(&input))?;
     let mut text = Vec::new();
     fitter::fit(&history, limit, step).write(&mut text, FOOTPRINT);
     written(out, &text)
+}
+
+fn write_found(found: Found, out: &mut impl Write) -> Result<ExitCode, Fault> {
+    let mut text = Vec::new();
+    match found {
+        Found::Least(fit, moments) => {
+            fit.write(&mut text, FOOTPRINT);
+            let numbers: Vec<u64> = moments.iter().map(|moment| *moment as u64).collect();
+            push_line(&mut text, b"moments", &numbers);
+            written(out, &text)
+        }
+        Found::Between(classes, takes, bound) => {
+            let classes: Vec<u64> = classes.iter().map(|class| u64::from(*class)).collect();
+            push_line(&mut text, b"classes", &classes);
+            push_line(&mut text, FOOTPRINT, &[takes]);
+            push_line(
+                &mut text,
+                b"not shown least: no table takes less than",
+                &[bound],
+            );
+            write(out, &text)?;
+            Ok(NO)
+        }
+    }
 }
 
 fn check(out: &mut impl Write) -> Result<ExitCode, Fault> {
@@ -197,10 +237,13 @@ fn check(out: &mut impl Write) -> Result<ExitCode, Fault> {
 fn check_fit(out: &mut impl Write) -> Result<ExitCode, Fault> {
     let input = read_all()?;
     let mut text = Scanner::new(&input);
-    let read =
-        Sheet::read(&mut text, FOOTPRINT).and_then(|fit| Some((fit, History::read(&mut text)?)));
-    let (fit, history) = read.ok_or_else(|| faults::in_checked_fit(&input))?;
-    write_verdict(fitter::refusal(&history, &fit), out)
+    let read = Sheet::read(&mut text, FOOTPRINT).and_then(|fit| {
+        Some(match read_moments(&mut text)? {
+            Some(moments) => Timeline::read(&mut text)?.refusal(&moments, &fit),
+            None => fitter::refusal(&History::read(&mut text)?, &fit),
+        })
+    });
+    write_verdict(read.ok_or_else(|| faults::in_checked_fit(&input))?, out)
 }
 
 fn write_verdict(refusal: Option<&str>, out: &mut impl Write) -> Result<ExitCode, Fault> {

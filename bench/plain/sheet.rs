@@ -76,7 +76,8 @@ fn read_row(text: &mut Scanner) -> Option<Vec<u64>> {
     (row.len() <= 1024).then_some(row)
 }
 
-fn push_line(text: &mut Vec<u8>, name: &[u8], numbers: &[u64]) {
+/// Appends a line of a word and numbers.
+pub fn push_line(text: &mut Vec<u8>, name: &[u8], numbers: &[u64]) {
     text.extend_from_slice(name);
     for number in numbers {
         text.push(b' ');

@@ -30,6 +30,9 @@ GRANULE = 16  # bytes
 # classes. `given` names what the user has, and `cost` is the table's waste or footprint on that. `forced` are the classes that one request
 # more, or one block more at each moment, forced into the table: empty where the user's own was judged.
 Judged = namedtuple("Judged", "kind verdict limit step classes given cost forced")
+# What `check-fit` judged of pools: its answer, of a fit with this limit over the runs in units of `unit` bytes. `given` names the runs, `cost`
+# are the pools' bytes, of whose blocks `overhead` bytes hold no request, and `is_sampled` says that some moments of the runs are known.
+Pools = namedtuple("Pools", "verdict limit unit overhead given cost is_sampled")
 # Whether the program that judged is a proved one; if not, why nothing is proved.
 Trust = namedtuple("Trust", "is_proved why")
 
@@ -66,7 +69,20 @@ TEMPLATES = {
     "refusal.45": "A row claims more than the row before it: the {sheet} was changed.",
     "refusal.46": "A row claims more than the row before it allows: the {sheet} is of another {counts}, or was changed.",
     "refusal.47": "The rows do not show that no other table {costs} less.",
-    "refusal.49": "The table does not take what the fit says: the fit is of another history, or one of the two was changed.",
+    "refusal.49": "The table does not take what the fit says: the fit is of another {counts}, or one of the two was changed.",
+    "refusal.53": "A moment of the fit is after the last event: the fit is of another {counts}.",
+    # pools: {what} is pools.runs or pools.snapshots, and {pools} is "1 pool" or "4 pools"
+    "pools.claim": "of the sets of at most {pools} that serve {what}, with blocks of a multiple of {unit} bytes of which {overhead} hold no "
+    "request, none takes less than {cost}.",
+    "pools.runs": "{given} at every moment",
+    "pools.snapshots": "the snapshots of {given}",
+    "pools.proved": "Proved for the requests in units of {unit} bytes: `check-fit` says `optimal`, so {claim} That a request takes so many "
+    "units is tested, and not proved.",
+    "pools.refused": "`check-fit` says `{verdict}`: nothing shows that these are the best pools for {given}. {meaning}",
+    "pools.unshown": "Nothing shows that no other pools take less. None take less than {bound}.",
+    "pools.help": "What is proved: for the requests in units, `mte_tool check-fit` says `optimal` only where no table of at most K classes takes "
+    "less,\nover every moment. What is tested against all pools of small runs, and not proved: that a request of so many bytes takes so many\n"
+    "units, and that such a table is pools with as many blocks as are live at most.",
     # of a program that is not known to be proved
     "program.other": "MTE_TOOL names another program, {path}: nothing is proved of what it answers",
     "picture.unproved": "not proved: {why}",
@@ -133,10 +149,14 @@ def claim(judged: Judged) -> str:
 
 def refusal(judged: Judged) -> str:
     """What the refusal of a sheet or a fit means, in a sentence; empty for an answer that is none."""
-    words = judged.verdict.split(" ")
+    return meaning(judged.verdict, *(("fit", "history", "takes") if judged.kind == "history" else ("sheet", "profile", "wastes")))
+
+
+def meaning(verdict: str, sheet: str, counts: str, costs: str) -> str:
+    """The same of a verdict, with what the certificate and the counts are called, and what a table does there."""
+    words = verdict.split(" ")
     name = f"refusal.{words[1]}" if len(words) == 3 and words[0] == "refused" else ""
-    terms = ("fit", "history", "takes") if judged.kind == "history" else ("sheet", "profile", "wastes")
-    return TEMPLATES.get(name, "").format(**dict(zip(("sheet", "counts", "costs"), terms)))
+    return TEMPLATES.get(name, "").format(sheet=sheet, counts=counts, costs=costs)
 
 
 def says(judged: Judged) -> str:
@@ -161,6 +181,33 @@ def sentence(judged: Judged, trust: Trust) -> str:
 def answer(judged: Judged, trust: Trust) -> str:
     """The last line of a script that checks one sheet, where the claim holds."""
     return TEMPLATES["answer.proved" if trust.is_proved else "answer.unproved"].format(why=trust.why, claim=claim(judged))
+
+
+def pools_claim(judged: Pools) -> str:
+    """Among which pools none take less than these, and what they take. Only where `check-fit` says `optimal`."""
+    what = TEMPLATES["pools.snapshots" if judged.is_sampled else "pools.runs"].format(given=judged.given)
+    pools = f"{judged.limit} pool{'' if judged.limit == 1 else 's'}"
+    terms = {"unit": judged.unit, "overhead": judged.overhead, "cost": byte_text(judged.cost)}
+    return TEMPLATES["pools.claim"].format(pools=pools, what=what, **terms)
+
+
+def pools_sentence(judged: Pools, trust: Trust) -> str:
+    """What is known of pools that `check-fit` calls `optimal`, for a summary or a header."""
+    if trust.is_proved:
+        return TEMPLATES["pools.proved"].format(unit=judged.unit, claim=pools_claim(judged))
+    return TEMPLATES["history.unproved"].format(why=trust.why, claim=pools_claim(judged))
+
+
+def pools_refusal(judged: Pools) -> str:
+    """What `check-fit` says of the fit of pools, where that is not `optimal`."""
+    counts = "history" if judged.is_sampled else "timeline"
+    words = TEMPLATES["pools.refused"].format(verdict=judged.verdict, given=judged.given, meaning=meaning(judged.verdict, "fit", counts, "takes"))
+    return words.rstrip()
+
+
+def pools_unshown(bound: int) -> str:
+    """What is known of pools without a fit."""
+    return TEMPLATES["pools.unshown"].format(bound=byte_text(bound))
 
 
 def not_proved(trust: Trust) -> str:

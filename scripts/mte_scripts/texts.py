@@ -175,7 +175,7 @@ def parse_history(data, name="the history"):
     """The same of bytes that were read from a file of this name."""
     lines = lines_of(data)
     first = lines[0] if lines else b""
-    match = re.fullmatch(rb"snapshots ([1-9][0-9]?)", first)
+    match = re.fullmatch(rb"snapshots ([1-9][0-9]{0,3})", first)
     if not match or int(match[1]) > MOST_SNAPSHOTS:
         if wrong := encoding(first):
             raise Refused(2, f"{name}: {wrong}")

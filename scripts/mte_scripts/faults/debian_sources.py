@@ -1,0 +1,44 @@
+"""Debian's sources for the tests that compile them."""
+
+import glob
+import os
+import shutil
+import subprocess
+from collections.abc import Iterable
+
+MIRRORS = ("http://deb.debian.org/debian bookworm main", "http://deb.debian.org/debian-security bookworm-security main")
+
+
+def fetched(work: str, names: Iterable[str]) -> bool:
+    """Whether the sources of the packages are in the folder `sources` of WORK, each under its name; apt has its lists in a folder beside it."""
+    missing = [name for name in names if not os.path.isdir(os.path.join(work, "sources", name))]
+    if not missing:
+        return True
+    apt = os.path.join(work, "apt")
+    for each in ("lists/partial", "cache/archives/partial", "unpacked"):
+        os.makedirs(os.path.join(apt, each), exist_ok=True)
+    with open(os.path.join(apt, "sources.list"), "w") as file:
+        signed = "[signed-by=/usr/share/keyrings/debian-archive-keyring.gpg]"
+        file.write("".join(f"deb-src {signed} {mirror}\n" for mirror in MIRRORS))
+    settings = [("Dir::State::Lists", f"{apt}/lists"), ("Dir::Cache", f"{apt}/cache"), ("Dir::Etc::SourceList", f"{apt}/sources.list"),
+                ("Dir::Etc::SourceParts", "/dev/null")]
+    words = ["apt-get", "-q", *(f"-o{name}={value}" for name, value in settings)]
+    how = {"cwd": os.path.join(apt, "unpacked"), "stdin": subprocess.DEVNULL, "capture_output": True, "timeout": 600}
+    try:
+        for command in (["update"], ["source", *missing]):
+            if subprocess.run(words + command, **how).returncode:
+                return False
+    except (OSError, subprocess.TimeoutExpired):
+        return False
+    for name in missing:
+        for folder in glob.glob(os.path.join(apt, "unpacked", f"{glob.escape(name)}-*")):
+            if os.path.isdir(folder):
+                os.makedirs(os.path.join(work, "sources"), exist_ok=True)
+                shutil.move(folder, os.path.join(work, "sources", name))
+    return all(os.path.isdir(os.path.join(work, "sources", name)) for name in names)
+
+
+def version(work: str, name: str) -> str:
+    """The version of a package whose sources are there."""
+    with open(os.path.join(work, "sources", name, "debian", "changelog"), encoding="utf-8") as file:
+        return file.readline().split("(")[1].split(")")[0]

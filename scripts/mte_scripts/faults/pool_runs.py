@@ -1,0 +1,226 @@
+"""Runs for scripts/pools: the timelines and histories that its pools have to serve, and what `mte_tool` is given of them.
+
+A block of a pool is so many units of UNIT bytes, and OVERHEAD bytes of it hold no request. So a request of S bytes takes `units(S)`. In the
+text for `mte_tool` each request stands with the size whose need is its units in granules, or twice as many where a request takes one unit,
+since no class is below two granules. So each class of a table there is a pool, and the footprint F of a table is that of its pools times
+16 * scale / UNIT: over every moment, since no event is added to a run or left out.
+
+Several runs are one text: each but the last is ended by the frees of its live blocks. So at each moment the blocks of one run are live, and
+the most of a class over all is the most in any run."""
+
+import re
+from bisect import bisect_left
+from collections import Counter, defaultdict
+from collections.abc import Iterable, Iterator
+from typing import NamedTuple, Union
+
+import texts
+from formats import CODES, GRANULE_BYTES, LARGEST_CLASS, LARGEST_SIZE, MOST_COUNT, MOST_INPUT, MOST_SNAPSHOTS
+from running import Refused
+
+UNITS = (4, 8, 16, 32)
+MOST_OVERHEAD = 4096
+PIECE = 1 << 20
+
+
+class Block(NamedTuple):
+    """What a pool's block is made of, in bytes."""
+
+    unit: int
+    overhead: int
+
+    def units(self, size: int) -> int:
+        """The units of the smallest block that holds a request of so many bytes."""
+        return max(1, -(-(size + self.overhead) // self.unit))
+
+    def holds(self, units: int) -> int:
+        """The largest request that a block of so many units holds."""
+        return units * self.unit - self.overhead
+
+
+class Timeline:
+    """A run with each of its requests and frees."""
+
+    is_sampled = False
+
+    def __init__(self, name: str, data: bytes):
+        self.name = name
+        self.data = data[data.find(b"\n") + 1 :] if b"\n" in data else b""
+        self.events = set().union(*self.pieces())
+        self.sizes = {int(event) for event in self.events if event.isdigit()}
+        self.has_large = b"large" in self.events
+
+    def pieces(self) -> Iterator[list[bytes]]:
+        """The events, some thousands at once."""
+        at = 0
+        while at < len(self.data):
+            end = self.data.find(b"\n", at + PIECE)
+            end = len(self.data) if end < 0 else end
+            yield self.data[at:end].removesuffix(b"\n").split(b"\n")
+            at = end + 1
+
+    def most(self, holds: list[int]) -> list[int]:
+        """The most blocks live at once of each pool, whose largest requests ascend; the last number is of what no pool holds."""
+        places = {}
+        for event in self.events:
+            word = event.removeprefix(b"-")
+            place = len(holds) if word == b"large" else bisect_left(holds, int(word))
+            places[event] = place if event == word else ~place
+        live = [0] * (len(holds) + 1)
+        most = live[:]
+        for piece in self.pieces():
+            for place in map(places.__getitem__, piece):
+                if place < 0:
+                    live[~place] -= 1
+                else:
+                    live[place] += 1
+                    if live[place] > most[place]:
+                        most[place] = live[place]
+        return most
+
+    def mapped(self, given: dict[int, int], is_last: bool) -> bytes:
+        """The events with each size as it is given to the program."""
+        words = {b"large": b"large", b"-large": b"-large"}
+        for size, other in given.items():
+            words[b"%d" % size], words[b"-%d" % size] = b"%d" % other, b"-%d" % other
+        made = bytearray()
+        for piece in self.pieces():
+            made += b"\n".join(map(words.__getitem__, piece)) + b"\n"
+        if not is_last:
+            for event, count in self.left().items():
+                made += (b"-" + words[event] + b"\n") * count
+        return bytes(made)
+
+    def left(self) -> Counter[bytes]:
+        """How many blocks of each size are live at the end."""
+        live: Counter[bytes] = Counter()
+        for piece in self.pieces():
+            live.update(piece)
+        for event in [event for event in live if event.startswith(b"-")]:
+            live[event[1:]] -= live.pop(event)
+        return live
+
+
+class History:
+    """A run of which some moments are known."""
+
+    is_sampled = True
+
+    def __init__(self, name: str, history: texts.History):
+        self.name = name
+        self.snapshots = history.snapshots
+        self.has_large = "large" in history.counts
+        self.counts = {size: counts for size, counts in history.counts.items() if size != "large"}
+        self.sizes = set(self.counts)
+
+    def most(self, holds: list[int]) -> list[int]:
+        return [max(counts) for counts in self.summed(lambda size: bisect_left(holds, size), range(len(holds) + 1)).values()]
+
+    def summed(self, key, keys: Iterable = ()) -> dict[int, list[int]]:
+        """The counts of all sizes of one key, added up."""
+        sums = defaultdict(lambda: [0] * self.snapshots, {each: [0] * self.snapshots for each in keys})
+        for size, counts in self.counts.items():
+            sums[key(size)] = [one + other for one, other in zip(sums[key(size)], counts)]
+        return sums
+
+
+Run = Union[Timeline, History]
+
+
+class Given(NamedTuple):
+    """The text for the program: how many granules a unit stands for there, and which sizes its requests have."""
+
+    text: bytes
+    scale: int
+
+    def bytes_of(self, footprint: int, block: Block) -> int:
+        """The bytes of pools whose table has this footprint. Each footprint is a multiple; a bound is rounded up to one."""
+        return -(-footprint // (GRANULE_BYTES * self.scale)) * block.unit
+
+    def table(self, units: Iterable[int]) -> list[int]:
+        return [self.scale * each for each in units]
+
+
+def runs_of(paths: list[str]) -> list[Run]:
+    """The runs in these files: timelines alone, or histories alone."""
+    runs = [run_of(path) for path in paths]
+    if len({type(run) for run in runs}) > 1:
+        names = [next(run.name for run in runs if run.is_sampled is sampled) for sampled in (False, True)]
+        raise Refused(2, f"{names[0]} is a timeline, and {names[1]} a history: give timelines alone, or histories alone")
+    if not any(run.sizes for run in runs):
+        raise Refused(3, f"there is no request of at most {LARGEST_SIZE:,} bytes in {' and '.join(run.name for run in runs)}")
+    return runs
+
+
+def run_of(path: str) -> Run:
+    data = texts.read(path, MOST_INPUT + 1)
+    name = texts.printable(texts.named(path))
+    if len(data) > MOST_INPUT:
+        raise Refused(2, f"{name} has more than the {MOST_INPUT:,} bytes that mte_tool reads")
+    if not data:
+        raise Refused(2, f"{name} is empty: did the command that writes it fail?")
+    first = data.split(b"\n", 1)[0]
+    if first == b"timeline":
+        well_formed(name, data)
+        return Timeline(name, data)
+    if texts.is_history(data):
+        return History(name, texts.parse_history(data, name))
+    if wrong := texts.encoding(first):
+        raise Refused(2, f"{name}: {wrong}")
+    kind = "a profile, which has no moments" if texts.counted(first) else "no timeline and no history"
+    raise Refused(2, f"{name}: line 1 is of {kind}: `timeline` or `snapshots T` has to stand there, and not {texts.shown(first)}")
+
+
+def well_formed(name: str, data: bytes) -> None:
+    """Refuses a timeline at its first faulty line, which the program finds."""
+    status, _, error = texts.mte_tool(["footprint"], b"classes %d\n" % LARGEST_CLASS + data)
+    match = re.fullmatch(r"error (\d+) \w+ line (\d+)", error)
+    if match:
+        at = int(match[2]) - 1
+        line = next(line for number, line in enumerate(data.split(b"\n"), 1) if number == at)
+        raise Refused(2, f"{name}: line {at}: {texts.encoding(line, at) or CODES[int(match[1])].words}: {texts.shown(line)}")
+    if status not in (0, 1):
+        raise Refused(2 if status == 2 else 3, f"`mte_tool footprint` of {name} failed: {error or f'its status is {status}'}")
+
+
+def joined(runs: list[Run], block: Block) -> Given:
+    """The text of all runs for the program."""
+    sizes = sorted(set().union(*(run.sizes for run in runs)))
+    scale = 2 if block.units(sizes[0]) == 1 else 1
+    most = LARGEST_CLASS // scale
+    if block.units(sizes[-1]) > most:
+        raise Refused(2, out_of_range(sizes, scale, most, block))
+    given = {size: GRANULE_BYTES * scale * block.units(size) - GRANULE_BYTES for size in sizes}
+    text = joined_histories(runs, given) if runs[0].is_sampled else joined_timelines(runs, given)
+    if len(text) > MOST_INPUT:
+        raise Refused(2, f"all runs together have {len(text):,} bytes, and mte_tool reads {MOST_INPUT:,}: leave a run out")
+    return Given(text, scale)
+
+
+def out_of_range(sizes: list[int], scale: int, most: int, block: Block) -> str:
+    """Why the program has no class for a request, and what helps."""
+    larger = [unit for unit in UNITS if unit > block.unit]
+    helps = [unit for unit in larger if Block(unit, block.overhead).units(sizes[-1]) <= LARGEST_CLASS // 2]
+    text = f"a request of {sizes[-1]:,} bytes takes {block.units(sizes[-1]):,} units of {block.unit} bytes, and the limit is {most:,} units"
+    if scale == 2:
+        text += f" where a request takes one unit, as one of {sizes[0]:,} bytes does"
+    return text + (f": take --unit {helps[0]}" if helps else ": leave such requests out of the timeline, and give them memory of their own")
+
+
+def joined_timelines(runs: list[Run], given: dict[int, int]) -> bytes:
+    return b"timeline\n" + b"".join(run.mapped(given, run is runs[-1]) for run in runs)
+
+
+def joined_histories(runs: list[Run], given: dict[int, int]) -> bytes:
+    """The snapshots of all side by side, as if one run came after the other."""
+    snapshots = sum(run.snapshots for run in runs)
+    if snapshots > MOST_SNAPSHOTS:
+        merge = "merge them by `merge_profiles` first"
+        raise Refused(2, f"the histories have {snapshots:,} snapshots, and mte_tool reads {MOST_SNAPSHOTS:,}: {merge}")
+    sums = [run.summed(given.__getitem__) for run in runs]
+    rows = {}
+    for size in sorted(set().union(*sums)):
+        rows[size] = [count for run, its in zip(runs, sums) for count in its.get(size, [0] * run.snapshots)]
+        if max(rows[size]) > MOST_COUNT:
+            raise Refused(2, f"{max(rows[size]):,} blocks of one size in units are more than {MOST_COUNT:,}, the most of a history")
+    return texts.history_text(texts.History(snapshots, rows)).encode()
