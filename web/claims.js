@@ -1,4 +1,4 @@
-// The sentences that say what is known of a table, filled from the words and by the rules of scripts/lib/claims.py, which are in the page's
+// The sentences that say what is known of a table, filled from the words and by the rules of scripts/mte_scripts/claims.py, which are in the page's
 // data. What is judged is {kind, given, limit, step, forced, classes, cost, verdict}: the kind is profile or history, the cost is that on
 // what the user gave, and the verdict is the engine's.
 "use strict";
@@ -21,7 +21,7 @@ function tablesWords({ given, limit, step, forced }) {
 /** Whether `optimal`, said of the larger counts, says the same of the user's own. */
 const holds = ({ forced, step, classes }) => forced.every((c) => c % step === 0 && classes.includes(c));
 
-/** What the verdict means, as `says` of scripts/lib/claims.py has it. */
+/** What the verdict means, as `says` of scripts/mte_scripts/claims.py has it. */
 function says(judged) {
   const { kind, given, forced, verdict } = judged;
   if (verdict !== "optimal") {

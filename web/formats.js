@@ -1,4 +1,4 @@
-// The numbers of the formats, and the words of their codes. Written by scripts/tests/formats from scripts/lib/formats.py.
+// The numbers of the formats, and the words of their codes. Written by scripts/tests/formats from scripts/mte_scripts/formats.py.
 "use strict";
 
 const GRANULE = 16;

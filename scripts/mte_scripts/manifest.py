@@ -9,22 +9,19 @@ The list is what this prints, in the repository's folder:
 
     find crates.txt crates/*/src crates/*/specs crates/*/proofs -type f | LC_ALL=C sort | xargs sha256sum
 
-scripts/mte_tool writes the manifest after a build, and compares the program with it each time; it calls this module by itself:
+scripts/mte_tool writes the manifest after a build, and compares the program with it each time; it calls this module by `step`:
 
-    manifest.py sources FOLDER                   prints the hash of the sources of the repository in FOLDER
-    manifest.py write FOLDER PROGRAM SOURCES     writes the manifest of a program that was just proved and built of sources with the hash
+    step manifest sources FOLDER                 prints the hash of the sources of the repository in FOLDER
+    step manifest write FOLDER PROGRAM SOURCES   writes the manifest of a program that was just proved and built of sources with the hash
                                                  SOURCES; where they have another one now, it says so in place of that"""
 
+import hashlib
 import os
-import sys
+import re
+import subprocess
+from collections import namedtuple
 
-sys.dont_write_bytecode = True
-import running  # noqa: E402
-
-import hashlib  # noqa: E402
-import re  # noqa: E402
-import subprocess  # noqa: E402
-from collections import namedtuple  # noqa: E402
+from mte_scripts import running
 
 Manifest = namedtuple("Manifest", "program sources kit proofs")
 LINES = re.compile(r"program ([0-9a-f]{64})\nsources ([0-9a-f]{64})\nkit ([^\n]{1,200})\nproofs (proved|unproved)\n")
@@ -114,10 +111,6 @@ def main(words: list[str]) -> None:
         elif words[:1] == ["write"] and len(words) == 4:
             write(*words[1:])
         else:
-            raise running.Refused(2, "it is `manifest.py sources FOLDER`, or `manifest.py write FOLDER PROGRAM SOURCES`")
+            raise running.Refused(2, "it is `step manifest sources FOLDER`, or `step manifest write FOLDER PROGRAM SOURCES`")
     except (OSError, subprocess.CalledProcessError) as error:
         raise running.Refused(3, f"the manifest can't be made: {error}") from None
-
-
-if __name__ == "__main__":
-    running.run("manifest", main)

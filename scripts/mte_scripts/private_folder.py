@@ -8,22 +8,16 @@ the user's or root's too, and is followed by the same steps. Only then is anythi
 
 A shell script calls it:
 
-    work=$(python3 -B private_folder.py make NAME) || exit 3       # NAME is the script's own
-    python3 -B private_folder.py remove NAME "$work"
+    work=$(scripts/step private_folder make NAME) || exit 3       # NAME is the script's own
+    scripts/step private_folder remove NAME "$work"
 """
 
+import contextlib
+import errno
 import os
-import sys
+import stat
 
-sys.dont_write_bytecode = True
-sys.path.insert(0, os.path.dirname(os.path.realpath(__file__)))
-import running  # noqa: E402
-
-import contextlib  # noqa: E402
-import errno  # noqa: E402
-import stat  # noqa: E402
-
-from running import Refused  # noqa: E402
+from mte_scripts.running import Refused
 
 MOST_LINKS = 40
 LOOK = os.O_PATH | os.O_NOFOLLOW | os.O_CLOEXEC
@@ -310,7 +304,7 @@ def remove_named(path: str) -> None:
         raise Refused(3, f"{path} can't be removed: {error}") from None
 
 
-def from_shell(words: list) -> None:
+def main(words: list) -> None:
     if words[:1] == ["make"] and len(words) == 2:
         folder = temporary_folder()
         folder.keep = True
@@ -319,7 +313,3 @@ def from_shell(words: list) -> None:
         remove_named(words[2])
     else:
         raise Refused(2, "it is `make NAME` or `remove NAME FOLDER`")
-
-
-if __name__ == "__main__":
-    running.run(sys.argv[2] if len(sys.argv) > 2 else "private_folder", from_shell)

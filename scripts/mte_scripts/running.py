@@ -1,14 +1,14 @@
-"""How each Python script begins and ends. A script imports this before all but os and sys:
+"""How each Python script begins and ends. A script imports this before all but sys:
 
     sys.dont_write_bytecode = True
-    sys.path.insert(0, os.path.join(os.path.dirname(os.path.realpath(__file__)), "lib"))
-    import running
+    from mte_scripts import running
+    from mte_scripts.recording.merge_profiles import merge    # raises Refused(2, "what is wrong, and how to mend it")
 
-    def merge(words): ..                     # raises texts.Refused(2, "what is wrong, and how to mend it")
     running.run("merge_profiles", merge)
 
-From the import on, Ctrl-C ends the script quietly with status 130, as SIGTERM and SIGHUP do with 143 and 129; and what nobody foresaw ends it with status 3 and one line on standard
-error: no traceback, and no status 1, which means something else in most scripts. Nothing changes for a test that imports this."""
+From the import on, Ctrl-C ends the script quietly with status 130, as SIGTERM and SIGHUP do with 143 and 129; and what nobody foresaw ends
+it with status 3 and one line on standard error: no traceback, and no status 1, which means something else in most scripts. Nothing changes
+for a test that imports this."""
 
 import _signal  # the module signal alone takes longer to import than this one
 import os
@@ -16,7 +16,6 @@ import sys
 
 FAILED, INTERRUPTED = 3, 130
 ENDING = (_signal.SIGTERM, _signal.SIGHUP)
-HERE = os.path.dirname(os.path.realpath(__file__))
 
 
 class Refused(Exception):
@@ -35,8 +34,8 @@ def printable(text: str) -> str:
 
 def say(name: str, text: str) -> None:
     """A line on standard error; texts.say where it is loaded, which knows what scripts are called."""
-    if "texts" in sys.modules and hasattr(sys.modules["texts"], "say"):
-        sys.modules["texts"].say(name, text)
+    if hasattr(sys.modules.get("mte_scripts.texts"), "say"):
+        sys.modules["mte_scripts.texts"].say(name, text)
     elif sys.stderr is not None:
         try:
             print(f"{name}: {printable(text)}", file=sys.stderr, flush=True)
@@ -122,9 +121,9 @@ def begin() -> None:
 
 
 def is_run() -> bool:
-    """Whether the process runs a script of this folder or of the one above, and no test."""
-    place = os.path.dirname(os.path.realpath(getattr(sys.modules["__main__"], "__file__", None) or os.devnull))
-    return place in (HERE, os.path.dirname(HERE))
+    """Whether the process runs a script of the folder of the package, and no test."""
+    script = os.path.realpath(getattr(sys.modules["__main__"], "__file__", None) or os.devnull)
+    return os.path.dirname(script) == os.path.dirname(os.path.dirname(os.path.realpath(__file__)))
 
 
 if is_run():

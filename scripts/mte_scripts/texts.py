@@ -12,13 +12,11 @@ import subprocess
 import sys
 from collections import defaultdict, namedtuple
 
-import claims
-import manifest
-from formats import LARGEST_CLASS, LARGEST_SIZE, MOST_CLASSES, MOST_COUNT, MOST_INPUT, MOST_SNAPSHOTS
-from running import Refused, printable
+from mte_scripts import claims, manifest
+from mte_scripts.formats import LARGEST_CLASS, LARGEST_SIZE, MOST_CLASSES, MOST_COUNT, MOST_INPUT, MOST_SNAPSHOTS
+from mte_scripts.places import ROOT, SCRIPTS
+from mte_scripts.running import Refused, printable
 
-SCRIPTS = os.path.dirname(os.path.dirname(os.path.realpath(__file__)))
-ROOT = os.path.dirname(SCRIPTS)
 EXAMPLES = os.path.join(ROOT, "examples")
 # scripts/package puts the program beside the scripts, and there is nothing to prove there
 IS_PACKAGED = os.path.exists(os.path.join(ROOT, "mte_tool")) and not os.path.exists(os.path.join(ROOT, "crates.txt"))

@@ -1,4 +1,4 @@
-// The checksums of what the runtimes write; scripts/lib/checksum.py has the same.
+// The checksums of what the runtimes write; scripts/mte_scripts/checksum.py has the same.
 #ifndef CHECKSUM_H
 #define CHECKSUM_H
 #include <stddef.h>

@@ -1,4 +1,4 @@
-// Written by scripts/tests/formats from scripts/lib/formats.py.
+// Written by scripts/tests/formats from scripts/mte_scripts/formats.py.
 enum {
   LARGEST_SIZE = 16368,
   MOST_CLASSES = 32,

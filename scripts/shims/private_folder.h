@@ -1,4 +1,4 @@
-// Opens a file once no other user can change where its name leads: lib/private_folder.py in C, for what runs inside a program.
+// Opens a file once no other user can change where its name leads: mte_scripts/private_folder.py in C, for what runs inside a program.
 //
 // Each folder from / on is opened without following a link, and tested: it is root's or this process's user's, and others may not write to it
 // unless it has the sticky bit, as /tmp has. A link on the way has to be root's or the user's too, and is followed by the same steps. The

@@ -30,7 +30,7 @@
 #include "checksum.h"
 #include "private_folder.h"
 
-// The first page of the file. The scripts read it: lib/recording.py.
+// The first page of the file. The scripts read it: mte_scripts/recording/recording.py.
 enum { PAGE = 4096, NAME = 1024 };
 struct notes {
   uint64_t form;            // which library's file it is

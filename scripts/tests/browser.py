@@ -8,7 +8,7 @@ import shutil
 import subprocess
 import time
 
-import private_folder
+from mte_scripts import private_folder
 
 NAMES = ("chromium", "chromium-browser", "google-chrome")
 

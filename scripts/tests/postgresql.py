@@ -7,7 +7,7 @@ import shutil
 import subprocess
 from collections.abc import Iterator
 
-import private_folder
+from mte_scripts import private_folder
 
 COMMANDS = os.path.join(os.path.dirname(os.path.realpath(__file__)), "../../examples/fleet/README.md")
 

@@ -1,28 +1,24 @@
-#!/usr/bin/env python3
-"""Proves the crates below a program side by side, before the program is built for the first time: `first_build.py FOLDER PROGRAM`.
+"""Proves the crates below a program side by side, before the program is built for the first time: `step first_build FOLDER PROGRAM`.
 
 FOLDER is the repository, PROGRAM the crate of the program. rt has a lock on a crate and on all crates below it, so it proves one crate at a
 time in a folder. Here each crate is proved in a copy of its own, with links to the libraries below it, as soon as these are built. A proof
 with several jobs takes two fifths more processor time. So a crate has one job, and gives way to that with the longest chain of others above
 it, which also has the lanes that are left over. What the program alone stands on begins once all others have begun, and the longest of it
 has as many jobs as there are lanes. What rt keeps is moved to the repository, also where the build is cut off, and rt goes on with it.
-Standard error counts the crates, of which the program itself, left to rt, is the last; standard output has what rt said. `first_build.py`
-alone prints how many lanes there are.
+Standard error counts the crates, of which the program itself, left to rt, is the last; standard output has what rt said. `step
+first_build` alone prints how many lanes there are.
 """
 
 import os
+import re
+import shutil
+import signal
+import subprocess
 import sys
+import tempfile
 
-sys.dont_write_bytecode = True
-import running  # noqa: E402
-
-import re  # noqa: E402
-import shutil  # noqa: E402
-import signal  # noqa: E402
-import subprocess  # noqa: E402
-import tempfile  # noqa: E402
-
-from crate_list import CrateList  # noqa: E402
+from mte_scripts import running
+from mte_scripts.builds.crate_list import CrateList
 
 MEMORY_OF_A_PROOF = 4 << 30
 
@@ -143,7 +139,3 @@ def main(words):
         return build.prove(lanes())
     finally:
         build.stop()
-
-
-if __name__ == "__main__":
-    running.run("mte_tool", main)

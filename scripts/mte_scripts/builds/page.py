@@ -1,16 +1,10 @@
-#!/usr/bin/env python3
 """Prints the page in which a table is tuned and the heap is watched. `page --help` says all."""
 
 import os
-import sys
 
-sys.dont_write_bytecode = True
-sys.path.insert(0, os.path.join(os.path.dirname(os.path.realpath(__file__)), "lib"))
-import running  # noqa: E402
-
-import texts  # noqa: E402
-import web_page  # noqa: E402
-from texts import Refused  # noqa: E402
+from mte_scripts import texts
+from mte_scripts.builds import web_page
+from mte_scripts.texts import Refused
 
 HELP = """\
 Print a page in HTML that tunes tables and shows the tagged heap step by step, in any browser.
@@ -56,7 +50,3 @@ def print_page(words):
             raise Refused(2, f"{option} wants a file")
         files[option[2:]] = given(words.pop(0))
     return texts.write(web_page.page(web_page.built("page"), **files))
-
-
-if __name__ == "__main__":
-    running.run("page", print_page)

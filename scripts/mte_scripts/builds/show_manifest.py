@@ -1,15 +1,8 @@
-#!/usr/bin/env python3
 """Prints the manifest of the program. `manifest --help` says all."""
 
 import os
-import sys
 
-sys.dont_write_bytecode = True
-sys.path.insert(0, os.path.join(os.path.dirname(os.path.realpath(__file__)), "lib"))
-import running  # noqa: E402
-
-import manifest  # noqa: E402
-import texts  # noqa: E402
+from mte_scripts import manifest, texts
 
 HELP = """\
 Print the manifest of the program: of which sources and by which kit it was built, whether it is proved, and whether the program that is
@@ -49,6 +42,3 @@ def show(words):
     holds = f"this is the program {texts.BUILT}" if not why else f"nothing is proved: {why}"
     texts.write((manifest.text_of(found) if found else "") + holds + "\n")
     return 1 if why else 0
-
-
-running.run("manifest", show)

@@ -2,19 +2,16 @@
 gate `rt ci` has just proved all crates, but makes no static library and keeps nothing for `rt lib`: there, where MTE_AFTER_CI is set, a
 static library is proved once more over the libraries that `rt ci` left, and built of that.
 
-  python3 static_libraries.py FOLDER CRATE..    builds libCRATE.a of each crate in that folder"""
+  step static_libraries FOLDER CRATE..    builds libCRATE.a of each crate in that folder"""
 
 import os
+import shutil
+import subprocess
 import sys
 
-import running
-
-import shutil  # noqa: E402
-import subprocess  # noqa: E402
-
-from crate_list import CrateList  # noqa: E402
-
-ROOT = os.path.dirname(os.path.dirname(os.path.dirname(os.path.realpath(__file__))))
+from mte_scripts import running
+from mte_scripts.builds.crate_list import CrateList
+from mte_scripts.places import ROOT
 
 
 def kit():
@@ -88,7 +85,7 @@ def build(crate, archive, toolchain):
 
 def main(words):
     if not words:
-        raise running.Refused(2, "it is `static_libraries.py FOLDER CRATE..`")
+        raise running.Refused(2, "it is `step static_libraries FOLDER CRATE..`")
     folder, *crates = words
     try:
         make(folder, crates)
@@ -105,7 +102,3 @@ def make(folder, crates):
             place = os.path.join(ROOT, "crates", crate)
             run(["rt", "lib", *jobs()], cwd=place)
             shutil.copyfile(f"{place}/out/lib{crate}.a", archive)
-
-
-if __name__ == "__main__":
-    running.run("static_libraries", main)

@@ -5,12 +5,9 @@ import functools
 import os
 import subprocess
 
-import claims
-import html_safe
-import manifest
-import scudo_map
-import texts
-import webassembly
+from mte_scripts import claims, html_safe, manifest, texts
+from mte_scripts.builds import webassembly
+from mte_scripts.tables import scudo_map
 
 WEB = os.path.join(webassembly.ROOT, "web")
 KEPT = "page.wasm"  # the module in the folder `out` of its crate; not NAME.wasm, which rt lib removes

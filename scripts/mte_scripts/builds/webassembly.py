@@ -6,9 +6,9 @@ import os
 import re
 import shutil
 
-import private_folder
-import static_libraries
-from static_libraries import ROOT, run
+from mte_scripts import private_folder
+from mte_scripts.builds import static_libraries
+from mte_scripts.builds.static_libraries import ROOT, run
 
 HEAP = os.path.join(ROOT, "web", "heap.c")
 HERE = "x86_64-unknown-linux-gnu"

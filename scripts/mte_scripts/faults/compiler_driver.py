@@ -8,10 +8,9 @@ import platform
 import shutil
 import subprocess
 
-import private_folder
-import programs
-import texts
-from running import Refused
+from mte_scripts import private_folder, texts
+from mte_scripts.recording import programs
+from mte_scripts.running import Refused
 
 HELP = """\
 Compile a C program so that scripts/find_faults can show its memory errors; traced_c++ compiles C++.

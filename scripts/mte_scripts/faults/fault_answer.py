@@ -4,11 +4,8 @@ import os
 import re
 from collections import Counter, namedtuple
 
-import fault_report
-import findings
-import sarif
-import tombstone
-from fault_entries import RESULTS
+from mte_scripts.faults import fault_report, findings, sarif, tombstone
+from mte_scripts.faults.fault_entries import RESULTS
 
 PROCESS = re.compile(r"[0-9]{1,10}(\.[2-9])?")  # the name of a log of one of many processes
 

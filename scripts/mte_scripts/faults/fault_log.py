@@ -10,8 +10,8 @@ import struct
 from array import array
 from collections import namedtuple
 
-import checksum
-from formats import LARGEST_SIZE, MOST_COUNT
+from mte_scripts import checksum
+from mte_scripts.formats import LARGEST_SIZE, MOST_COUNT
 
 WINDOW = 64  # the bytes of the longest access of a trace
 

@@ -8,9 +8,9 @@ says of the whole log (fault_trace.Trace.misplaced). Where it does not, or the p
 import os
 import subprocess
 
-import compiler_driver
-import private_folder
-from fault_log import Log, NoLog, Text
+from mte_scripts import private_folder
+from mte_scripts.faults import compiler_driver
+from mte_scripts.faults.fault_log import Log, NoLog, Text
 
 LARGE = 4 << 20  # bytes; what is smaller is read in a few seconds
 

@@ -3,10 +3,10 @@
 import html
 from collections import Counter
 
-import html_safe
-from fault_entries import CAUGHT, CRASH, NOT_CAUGHT, NOT_REPLAYED, RESULTS, entries, stacks_of
-from fault_places import Places
-from running import printable
+from mte_scripts import html_safe
+from mte_scripts.faults.fault_entries import CAUGHT, CRASH, NOT_CAUGHT, NOT_REPLAYED, RESULTS, entries, stacks_of
+from mte_scripts.faults.fault_places import Places
+from mte_scripts.running import printable
 
 MOST_USES = 8  # of a cause that are shown
 NO_END = "the program did not come to its end"  # of what a log misses

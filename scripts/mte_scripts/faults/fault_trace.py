@@ -7,9 +7,9 @@ be accepted, since both compare the same tags, and the slot is live."""
 from array import array
 from collections import namedtuple
 
-from fault_variables import NONE, SHARED, most_events
-from formats import FARTHEST_ACCESS, FARTHEST_MOVE, LARGEST_REQUEST, LARGEST_SIZE, MOST_EVENTS
-from slot_model import IN_PLACE, LAST_GRANULE, Promise
+from mte_scripts.faults.fault_variables import NONE, SHARED, most_events
+from mte_scripts.faults.slot_model import IN_PLACE, LAST_GRANULE, Promise
+from mte_scripts.formats import FARTHEST_ACCESS, FARTHEST_MOVE, LARGEST_REQUEST, LARGEST_SIZE, MOST_EVENTS
 
 MOST_MOVES = 2000  # of one wrong free
 

@@ -8,7 +8,7 @@ from array import array
 from collections import Counter
 from heapq import heappop, heappush
 
-from formats import LARGEST_SIZE, LAST_VARIABLE, MOST_EVENTS
+from mte_scripts.formats import LARGEST_SIZE, LAST_VARIABLE, MOST_EVENTS
 
 VARIABLES, SHARED, NONE = LAST_VARIABLE, LAST_VARIABLE, -1
 OF_ERRORS, OF_THEIR_CLASSES, OTHERS = 0, 1, 2  # the rank of a chain: the least is kept longest

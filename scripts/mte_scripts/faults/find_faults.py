@@ -1,35 +1,22 @@
-#!/usr/bin/env python3
 """Runs a program that traced_cc built, and tells its memory errors on the tagged heap. `find_faults --help` says all."""
 
+import argparse
+import contextlib
 import os
-import sys
+import shutil
 
-sys.dont_write_bytecode = True
-sys.path.insert(0, os.path.join(os.path.dirname(os.path.realpath(__file__)), "lib"))
-import running  # noqa: E402
-
-import argparse  # noqa: E402
-import contextlib  # noqa: E402
-import shutil  # noqa: E402
-
-import children  # noqa: E402
-import fault_answer  # noqa: E402
-import fault_neighbourhood  # noqa: E402
-import fault_report  # noqa: E402
-import findings  # noqa: E402
-import private_folder  # noqa: E402
-import sarif  # noqa: E402
-import texts  # noqa: E402
-import tombstone  # noqa: E402
-import web_page  # noqa: E402
-from fault_answer import Judged  # noqa: E402
-from fault_log import Log, NoLog  # noqa: E402
-from fault_trace import Trace, differences  # noqa: E402
-from fault_variables import Choice, Everything  # noqa: E402
-from odds import Odds  # noqa: E402
-from formats import MOST_GRANULES, OPTIONS  # noqa: E402
-from slot_model import Slots  # noqa: E402
-from texts import Refused  # noqa: E402
+from mte_scripts import private_folder, texts
+from mte_scripts.builds import web_page
+from mte_scripts.faults import fault_answer, fault_neighbourhood, fault_report, findings, sarif, tombstone
+from mte_scripts.faults.fault_answer import Judged
+from mte_scripts.faults.fault_log import Log, NoLog
+from mte_scripts.faults.fault_trace import Trace, differences
+from mte_scripts.faults.fault_variables import Choice, Everything
+from mte_scripts.faults.odds import Odds
+from mte_scripts.faults.slot_model import Slots
+from mte_scripts.formats import MOST_GRANULES, OPTIONS
+from mte_scripts.recording import children
+from mte_scripts.texts import Refused
 
 HELP = """Run a program that traced_cc or traced_c++ built, and tell its memory errors: the source line of each wrong load, store and free,
 where its block was allocated and freed, and whether the tagged heap catches it, or why it does not.
@@ -377,6 +364,3 @@ def main(words):
     with place_of_run(options.keep) as folder:
         record(options, folder)
         return find(options, folder)
-
-
-running.run(NAME, main)

@@ -11,9 +11,8 @@ import json
 import os
 from collections import Counter, namedtuple
 
-import fault_entries
-import odds as shares
-from fault_report import count, crash_sentence, sentence
+from mte_scripts.faults import fault_entries, odds as shares
+from mte_scripts.faults.fault_report import count, crash_sentence, sentence
 
 FORM = 1  # of the JSON
 FRAMES_OF_ID = 3

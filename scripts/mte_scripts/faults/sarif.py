@@ -4,8 +4,7 @@ import os
 import pathlib
 import urllib.parse
 
-import fault_entries
-import findings
+from mte_scripts.faults import fault_entries, findings
 
 SCHEMA = "https://docs.oasis-open.org/sarif/sarif/v2.1.0/errata01/os/schemas/sarif-schema-2.1.0.json"
 ROOT = "SRCROOT"

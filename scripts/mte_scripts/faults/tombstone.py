@@ -8,10 +8,9 @@ import os
 import re
 from collections import namedtuple
 
-import fault_entries
-import findings
-from fault_entries import CAUGHT
-from fault_places import RUNTIME
+from mte_scripts.faults import fault_entries, findings
+from mte_scripts.faults.fault_entries import CAUGHT
+from mte_scripts.faults.fault_places import RUNTIME
 
 BASE, TAG_SHIFT = 0x7000_0000_0000, 56
 GRANULE = 16

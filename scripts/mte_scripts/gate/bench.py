@@ -1,22 +1,15 @@
-#!/usr/bin/env python3
 """Compares mte_tool with the same in plain Rust. `bench --help` says all."""
 
 import os
+import random
+import re
+import shutil
+import subprocess
 import sys
+from pathlib import Path
 
-sys.dont_write_bytecode = True
-sys.path.insert(0, os.path.join(os.path.dirname(os.path.realpath(__file__)), "lib"))
-import running  # noqa: E402
-
-import random  # noqa: E402
-import re  # noqa: E402
-import shutil  # noqa: E402
-import subprocess  # noqa: E402
-from pathlib import Path  # noqa: E402
-
-import formats  # noqa: E402
-import growth  # noqa: E402
-import private_folder  # noqa: E402
+from mte_scripts import formats, places, private_folder, running
+from mte_scripts.gate import growth
 
 HELP = """\
 Compare mte_tool with bench/plain, which does the same in plain Rust, and print a table in Markdown.
@@ -54,7 +47,7 @@ Example:
   bench --instructions score tune check
 """
 
-ROOT = Path(__file__).resolve().parent.parent
+ROOT = Path(places.ROOT)
 OURS = ROOT / "crates/mte_tool/out/mte_tool"
 RUSTC = os.environ.get("RUSTC", "rustc")
 GNU_TIME = "/usr/bin/time"
@@ -315,6 +308,3 @@ def bench(words):
         main(words)
     except OSError as error:
         fail(3, f"{error.filename or 'standard output'}: {error.strerror or error}")
-
-
-running.run("bench", bench)

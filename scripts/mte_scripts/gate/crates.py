@@ -1,4 +1,3 @@
-#!/usr/bin/env python3
 """Lists the crates that a crate stands on, or copies them: what a program of your own needs to call it.
 
 Usage: crates [--copy FOLDER] NAME..
@@ -11,18 +10,12 @@ Rattle kit that they use. docs/LIBRARIES.md says which NAME serves which use.
 """
 
 import os
-import sys
+import shutil
 
-sys.dont_write_bytecode = True
-sys.path.insert(0, os.path.join(os.path.dirname(os.path.realpath(__file__)), "lib"))
-import running  # noqa: E402
+from mte_scripts import texts
+from mte_scripts.builds.crate_list import CrateList
+from mte_scripts.places import ROOT
 
-import shutil  # noqa: E402
-
-import texts  # noqa: E402
-from crate_list import CrateList  # noqa: E402
-
-ROOT = os.path.dirname(texts.SCRIPTS)
 
 
 def what_it_is(folder):
@@ -67,6 +60,3 @@ def main(words):
     if folder is None:
         return texts.write(listing(crates, names))
     return copy(crates, names, folder)
-
-
-running.run("crates", main)

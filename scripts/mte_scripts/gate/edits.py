@@ -1,4 +1,3 @@
-#!/usr/bin/env python3
 """Lists the must-fail edits, the wrong bodies that the gate has to refuse: for each crate and function, what each edit's body does.
 
 Usage: edits [--check] [CRATE..]
@@ -11,18 +10,14 @@ that it gets wrong, where the function has several. With no CRATE it lists all c
 
 The gate reads the lines `file:`, `old:` and `new:` of an edit alone. The lines `of:`, `what:` and `breaks:` are for readers.
 """
-import os
+import pathlib
+import re
 import sys
+import textwrap
 
-sys.dont_write_bytecode = True
-sys.path.insert(0, os.path.join(os.path.dirname(os.path.realpath(__file__)), "lib"))
-import running  # noqa: E402
+from mte_scripts.places import ROOT
 
-import pathlib  # noqa: E402
-import re  # noqa: E402
-import textwrap  # noqa: E402
-
-CRATES = pathlib.Path(__file__).resolve().parent.parent / "crates"
+CRATES = pathlib.Path(ROOT) / "crates"
 KEYS = ("of", "what", "breaks", "file", "old", "new")
 
 
@@ -96,7 +91,3 @@ def main(words):
         elif edits:
             print("\n".join(listing(crate, edits)))
     return status
-
-
-if __name__ == "__main__":
-    running.run("edits", main)

@@ -1,39 +1,32 @@
-#!/usr/bin/env python3
 """Plants wrong bodies in the functions of crates by `rt plant`, and lists those that a contract lets through and nobody has looked at.
 
 Usage: plants [--minutes N] [CRATE..]
        plants --table
 
 Each CRATE takes some minutes; with no CRATE it is each public crate that has functions, for hours. Its wrong bodies that are
-proved are compared with those of scripts/lib/plants.txt, where each has a reason. A line `NEW` has one that is not there, and a line
+proved are compared with those of scripts/mte_scripts/gate/plants.txt, where each has a reason. A line `NEW` has one that is not there, and a line
 `GONE` one that is there and is refused now. The last line of a crate has how many were tried, refused, and let through.
 
   --minutes N   the most minutes of a crate, 10 if left out; what is not tried by then is counted
-  --table       prints the crates' figures of scripts/lib/plants.txt as a table
+  --table       prints the crates' figures of scripts/mte_scripts/gate/plants.txt as a table
 
 Exit status:
   0  nothing is new
-  1  a wrong body is let through that is not in scripts/lib/plants.txt
+  1  a wrong body is let through that is not in scripts/mte_scripts/gate/plants.txt
   2  the words are refused
   3  a crate can't be tried
 """
 
 import os
-import sys
+import re
+import subprocess
+from collections import namedtuple
 
-sys.dont_write_bytecode = True
-sys.path.insert(0, os.path.join(os.path.dirname(os.path.realpath(__file__)), "lib"))
-import running  # noqa: E402
+from mte_scripts import running, texts
+from mte_scripts.builds.crate_list import CrateList
+from mte_scripts.places import ROOT
 
-import re  # noqa: E402
-import subprocess  # noqa: E402
-from collections import namedtuple  # noqa: E402
-
-import texts  # noqa: E402
-from crate_list import CrateList  # noqa: E402
-
-ROOT = os.path.dirname(texts.SCRIPTS)
-KNOWN = os.path.join(texts.SCRIPTS, "lib", "plants.txt")
+KNOWN = os.path.join(os.path.dirname(os.path.realpath(__file__)), "plants.txt")
 ROW = re.compile(r"^(proves|no-ensures) +(\S+?):\d+ (.*?)(?:  \(and in \d+ more impls\))?$")
 FIGURES = ("refused", "proves", "same", "not-judged", "not-run")
 
@@ -98,6 +91,3 @@ def plants(words):
                 print(f"GONE  {crate}  {body}")
         print(f"{crate}  figures {' '.join(figures)}", flush=True)
     return bool(new)
-
-
-running.run("plants", plants)

@@ -1,17 +1,8 @@
-#!/usr/bin/env python3
 """Prints what a reader has to read to believe a promise. `statement --help` says all."""
 
-import os
-import sys
-
-sys.dont_write_bytecode = True
-sys.path.insert(0, os.path.join(os.path.dirname(os.path.realpath(__file__)), "lib"))
-import running  # noqa: E402
-
-import statement_page  # noqa: E402
-import statements  # noqa: E402
-import texts  # noqa: E402
-from running import Refused  # noqa: E402
+from mte_scripts import texts
+from mte_scripts.gate import statement_page, statements
+from mte_scripts.running import Refused
 
 HELP = """\
 Print a promise's contract, and each definition that it reaches, where it is cited first.
@@ -72,6 +63,3 @@ def statement(words: "list[str]") -> int:
     except statements.Unresolved as error:
         raise Refused(1, str(error)) from None
     return texts.write(text.encode())
-
-
-running.run("statement", statement)

@@ -3,9 +3,9 @@
 import re
 from html import escape
 
-import html_safe
-import statements
-from statements import Definition, Example, Foreign, Key, Statement
+from mte_scripts import html_safe
+from mte_scripts.gate import statements
+from mte_scripts.gate.statements import Definition, Example, Foreign, Key, Statement
 
 STYLE = """
 :root { color-scheme: light dark; --back: #ffffff; --text: #1f2328; --soft: #59636e; --line: #d1d9e0; --shade: #f6f8fa; --link: #0969da }

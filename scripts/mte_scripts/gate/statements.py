@@ -8,9 +8,9 @@ import os
 import re
 from dataclasses import dataclass, field
 
-from running import Refused
+from mte_scripts.places import ROOT
+from mte_scripts.running import Refused
 
-ROOT = os.path.dirname(os.path.dirname(os.path.dirname(os.path.realpath(__file__))))
 CRATES = os.path.join(ROOT, "crates")
 
 # the public functions whose contracts are a promise: crates and names

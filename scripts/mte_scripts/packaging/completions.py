@@ -2,7 +2,7 @@
 
 import shlex
 
-import helps
+from mte_scripts.packaging import helps
 
 BASH = """\
 # Made by scripts/package, of the helps.

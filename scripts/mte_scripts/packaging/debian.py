@@ -1,12 +1,12 @@
-"""The Debian package of a tree of scripts/lib/packaging.py: its control files, and the archive."""
+"""The Debian package of a tree of scripts/mte_scripts/packaging/packaging.py: its control files, and the archive."""
 
 import os
 import shutil
 import textwrap
 
-import packaging
-import texts
-from texts import Refused
+from mte_scripts import texts
+from mte_scripts.packaging import packaging
+from mte_scripts.texts import Refused
 
 ABOUT = """\
 An allocator with size classes rounds each request up to the next of a few block sizes, and the rest is lost. This package makes tables of
@@ -47,7 +47,7 @@ def copyright_text(parts):
     with open(os.path.join(texts.ROOT, "LICENSE"), encoding="utf-8") as file:
         _, mark, exceptions = file.read().partition("---- LLVM Exceptions to the Apache 2.0 License ----\n")
     if not mark:
-        raise Refused(3, "LICENSE has no exceptions of LLVM: scripts/lib/debian.py says that it has")
+        raise Refused(3, "LICENSE has no exceptions of LLVM: scripts/mte_scripts/packaging/debian.py says that it has")
     # an empty line of a field is a dot
     indented = "".join(f" {line}\n" if line else " .\n" for line in exceptions.strip().split("\n"))
     return f"""Format: https://www.debian.org/doc/packaging-manuals/copyright-format/1.0/

@@ -1,6 +1,5 @@
 """Manual pages, made of the helps."""
 
-import re
 
 SECTIONS = ["DESCRIPTION", "COMMANDS", "OPTIONS", "EXIT STATUS", "EXAMPLES"]
 

@@ -1,26 +1,15 @@
-#!/usr/bin/env python3
 """Makes a Debian package and a tar of the program and all that goes with it. `package --help` says all."""
 
+import datetime
 import os
-import sys
+import re
+import shutil
+import subprocess
 
-sys.dont_write_bytecode = True
-sys.path.insert(0, os.path.join(os.path.dirname(os.path.realpath(__file__)), "lib"))
-import running  # noqa: E402
-
-import datetime  # noqa: E402
-import re  # noqa: E402
-import shutil  # noqa: E402
-import subprocess  # noqa: E402
-
-import debian  # noqa: E402
-import helps  # noqa: E402
-import manifest  # noqa: E402
-import packaging  # noqa: E402
-import private_folder  # noqa: E402
-import texts  # noqa: E402
-import web_page  # noqa: E402
-from texts import Refused  # noqa: E402
+from mte_scripts import manifest, private_folder, texts
+from mte_scripts.builds import web_page
+from mte_scripts.packaging import debian, helps, packaging
+from mte_scripts.texts import Refused
 
 HELP = """\
 Make a Debian package and a tar of this commit: the program, the scripts, the library for C, the page, manual pages, completions for
@@ -208,7 +197,3 @@ def package(words):
     except OSError as error:
         raise Refused(3, f"{error.filename or folder}: {error.strerror}") from None
     return texts.write("".join(f"{path}\n" for path in made))
-
-
-if __name__ == "__main__":
-    running.run("package", package)

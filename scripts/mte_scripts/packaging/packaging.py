@@ -1,5 +1,6 @@
 """What scripts/package puts where: the tree `usr` of an installed package, made of the repository's files and what was built of them."""
 
+import ast
 import base64
 import gzip
 import hashlib
@@ -12,13 +13,10 @@ import sys
 import tarfile
 from collections import namedtuple
 
-import completions
-import helps
-import manifest
-import manual
-import texts
-import web_page
-from texts import Refused
+from mte_scripts import manifest, texts
+from mte_scripts.builds import web_page
+from mte_scripts.packaging import completions, helps, manual
+from mte_scripts.texts import Refused
 
 NAME = "mte-tool"
 # what is packed: the program's path, its manifest, the library's folder and the page's modules, or None; where each of these comes from;
@@ -126,15 +124,16 @@ def trusted(parts):
 
 
 def modules_of_commands():
-    """The modules of scripts/lib that a command imports or runs, also by others."""
-    found, left = [], [source(f"scripts/{name}") for name in COMMANDS]
+    """The modules of mte_scripts that a command imports, also by others."""
+    found, left = set(), [f"scripts/{name}" for name in COMMANDS]
     while left:
-        text = texts.read(left.pop()).decode()
-        for names in re.findall(r"(?m)^ *(?:import|from) (\w+)|lib/(\w+)\.py", text):
-            name = f"scripts/lib/{''.join(names)}.py"
-            if name not in found and os.path.isfile(source(name)):
-                found.append(name)
-                left.append(source(name))
+        for node in ast.walk(ast.parse(texts.read(source(left.pop())))):
+            if isinstance(node, ast.ImportFrom) and node.module and node.module.split(".")[0] == "mte_scripts":
+                place = f"scripts/{node.module.replace('.', '/')}"
+                names = {f"{place}.py", f"{place}/__init__.py", "scripts/mte_scripts/__init__.py", *(f"{place}/{each.name}.py" for each in node.names)}
+                new = {name for name in names - found if os.path.isfile(source(name))}
+                found |= new
+                left += new
     return sorted(found)
 
 

@@ -2,8 +2,8 @@
 
 import operator
 
-import texts
-from checksum import ODD, WORD, folded
+from mte_scripts import texts
+from mte_scripts.checksum import ODD, WORD, folded
 
 PAGE, COUNTERS = 4096 // 8, texts.LARGEST_SIZE + 2  # in words of 8 bytes
 TAKEN, SNAPSHOTS = 13, 64  # the place and the number of `taken` in struct notes

@@ -1,17 +1,9 @@
-#!/usr/bin/env python3
 """Prints a profile of the items of memcached. `memcached_profile --help` says all."""
 
-import os
-import sys
+import re
+import socket
 
-sys.dont_write_bytecode = True
-sys.path.insert(0, os.path.join(os.path.dirname(os.path.realpath(__file__)), "lib"))
-import running  # noqa: E402
-
-import re  # noqa: E402
-import socket  # noqa: E402
-
-import texts  # noqa: E402
+from mte_scripts import running, texts
 
 HELP = f"""Print a profile of the items of memcached: of those that a server holds, or of keys and values of one's own.
 
@@ -141,6 +133,3 @@ def write_profile(counts):
         if count:
             lines.append(f"{size if size <= texts.LARGEST_SIZE else 'large'} {-(-count * texts.MOST_COUNT // top)}\n")
     texts.write("".join(lines))
-
-
-running.run("memcached_profile", profile)

@@ -1,14 +1,8 @@
-#!/usr/bin/env python3
 """Prints a class table as the chunk sizes that memcached takes. `memcached_sizes --help` says all."""
 
-import os
 import sys
 
-sys.dont_write_bytecode = True
-sys.path.insert(0, os.path.join(os.path.dirname(os.path.realpath(__file__)), "lib"))
-import running  # noqa: E402
-
-import texts  # noqa: E402
+from mte_scripts import texts
 
 HELP = f"""Print the class table of a sheet as the chunk sizes of memcached: the value of its option `-o slab_sizes=`.
 
@@ -70,6 +64,3 @@ def memory_of(words):
     if len(words) != 2 or not words[1].isascii() or not words[1].isdigit() or not 1 <= int(words[1]) <= 1_000_000_000:
         raise texts.Refused(2, "`--memory` takes a number of megabytes, as memcached's option -m does")
     return int(words[1])
-
-
-running.run("memcached_sizes", chunk_sizes)

@@ -1,19 +1,13 @@
-#!/usr/bin/env python3
 """Makes one profile of many, or one history of many. `merge_profiles --help` says all."""
 
+import heapq
+import operator
 import os
+import re
 import sys
 
-sys.dont_write_bytecode = True
-sys.path.insert(0, os.path.join(os.path.dirname(os.path.realpath(__file__)), "lib"))
-import running  # noqa: E402
-
-import heapq  # noqa: E402
-import operator  # noqa: E402
-import re  # noqa: E402
-
-import texts  # noqa: E402
-from texts import LARGEST_SIZE, MOST_COUNT, MOST_SNAPSHOTS, Refused  # noqa: E402
+from mte_scripts import texts
+from mte_scripts.texts import LARGEST_SIZE, MOST_COUNT, MOST_SNAPSHOTS, Refused
 
 HELP = f"""\
 Make one profile of many: the counts of each size are added up. Or make one history of many.
@@ -216,6 +210,3 @@ def merge(words):
     if not any(sums.values()):
         raise Refused(3, "there is no request to count")
     return texts.write(texts.profile_text(sums))
-
-
-running.run("merge_profiles", merge)

@@ -1,26 +1,16 @@
-#!/usr/bin/env python3
 """Runs a program and prints its profile: how often it requested each size. `profile_program --help` says all."""
 
+import array
+import contextlib
 import os
-import sys
+import re
+import stat
+import time
 
-sys.dont_write_bytecode = True
-sys.path.insert(0, os.path.join(os.path.dirname(os.path.realpath(__file__)), "lib"))
-import running  # noqa: E402
-
-import array  # noqa: E402
-import contextlib  # noqa: E402
-import re  # noqa: E402
-import stat  # noqa: E402
-import time  # noqa: E402
-
-import counts  # noqa: E402
-import private_folder  # noqa: E402
-import recording  # noqa: E402
-import texts  # noqa: E402
-import timelines  # noqa: E402
-from private_folder import NotPrivate  # noqa: E402
-from running import Refused  # noqa: E402
+from mte_scripts import private_folder, texts
+from mte_scripts.private_folder import NotPrivate
+from mte_scripts.recording import counts, recording, timelines
+from mte_scripts.running import Refused
 
 HELP = f"""\
 Run a program, and print how often it requested each size: a profile, the input of `mte_tool tune`.
@@ -370,4 +360,4 @@ def profile(words, speaker):
         return run_program(options, speaker, path, work)
 
 
-running.run("profile_program", recording.spoken("profile_program", profile))
+main = recording.spoken("profile_program", profile)

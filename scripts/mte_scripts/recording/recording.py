@@ -14,12 +14,10 @@ import subprocess
 import sys
 import time
 
-import children
-import private_folder
-import programs
-import texts
-from private_folder import NotPrivate
-from running import Refused
+from mte_scripts import private_folder, texts
+from mte_scripts.private_folder import NotPrivate
+from mte_scripts.recording import children, programs
+from mte_scripts.running import Refused
 
 SHIMS = os.path.join(texts.SCRIPTS, "shims")
 RECORDERS = os.path.join(texts.ROOT, "recorders")  # of a package

@@ -1,23 +1,15 @@
-#!/usr/bin/env python3
 """Runs a program and prints what it does with its allocator as a trace. `trace_program --help` says all."""
 
+import contextlib
 import os
-import sys
+import re
+import struct
 
-sys.dont_write_bytecode = True
-sys.path.insert(0, os.path.join(os.path.dirname(os.path.realpath(__file__)), "lib"))
-import running  # noqa: E402
-
-import contextlib  # noqa: E402
-import re  # noqa: E402
-import struct  # noqa: E402
-
-import private_folder  # noqa: E402
-import recording  # noqa: E402
-import texts  # noqa: E402
-from checksum import crc, folded  # noqa: E402
-from formats import MOST_EVENTS  # noqa: E402
-from running import Refused  # noqa: E402
+from mte_scripts import private_folder, running, texts
+from mte_scripts.checksum import crc, folded
+from mte_scripts.formats import MOST_EVENTS
+from mte_scripts.recording import recording
+from mte_scripts.running import Refused
 
 HELP = """\
 Run a program, and print what it does with its allocator as a trace, the input of `mte_tool run`, `replay` and `profile`.
@@ -192,4 +184,4 @@ def trace(words, speaker):
         return run_program(options, speaker, path, work)
 
 
-running.run("trace_program", recording.spoken("trace_program", trace))
+main = recording.spoken("trace_program", trace)

@@ -3,7 +3,7 @@
 import html
 import math
 
-import html_safe
+from mte_scripts import html_safe
 
 
 def escape(text):

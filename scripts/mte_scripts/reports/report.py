@@ -1,18 +1,10 @@
-#!/usr/bin/env python3
 """Makes a page of a profile and its sheet. `report --help` says all."""
 
 import os
-import sys
 
-sys.dont_write_bytecode = True
-sys.path.insert(0, os.path.join(os.path.dirname(os.path.realpath(__file__)), "lib"))
-import running  # noqa: E402
-
-import shlex  # noqa: E402
-
-import figures  # noqa: E402
-import page  # noqa: E402
-import texts  # noqa: E402
+from mte_scripts import texts
+from mte_scripts.reports import report_page
+from mte_scripts.tables import figures
 
 HELP = f"""\
 Print a page in HTML: what the table of a sheet wastes on a profile, and what other tables do.
@@ -69,7 +61,7 @@ def report(words):
     given = "the profile" if profile == "-" else os.path.basename(profile)
     found = figures.Figures(texts.read_profile(profile), texts.read(sheet).decode(errors="replace"), others, given=given)
     name = title or ("the profile" if profile == "-" else figures.without_ending(profile, ".profile"))
-    texts.write(page.page(found, name, "in the profile", [], check_command(profile, sheet, found.forced)))
+    texts.write(report_page.page(found, name, "in the profile", [], check_command(profile, sheet, found.forced)))
     return 1 if found.unheld() else 0
 
 
@@ -80,7 +72,3 @@ def check_command(profile, sheet, forced):
     if forced:
         merged = f"echo '{texts.LARGEST_SIZE} 1' | {merged} -"
     return f"{merged} | cat {names[1]} - | {texts.as_called('scripts/mte_tool')} check"
-
-
-if __name__ == "__main__":
-    running.run("report", report)

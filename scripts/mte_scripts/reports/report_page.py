@@ -2,11 +2,9 @@
 
 import math
 
-import claims
-import html_safe
-import texts
-from figures import GRANULE, byte_text, class_text, kibibytes, number, numbered, percent
-from pictures import Picture, escape, shown
+from mte_scripts import claims, html_safe, texts
+from mte_scripts.reports.pictures import Picture, escape, shown
+from mte_scripts.tables.figures import GRANULE, byte_text, class_text, kibibytes, number, numbered, percent
 
 STYLE = """
 :root { color-scheme: light dark; --back: #ffffff; --text: #1f2328; --soft: #59636e; --line: #d1d9e0; --shade: #f6f8fa;

@@ -1,17 +1,9 @@
-#!/usr/bin/env python3
 """Checks a sheet or a fit in a build, and says what it finds in words. `check_sheet --help` says all."""
 
 import os
-import sys
+import re
 
-sys.dont_write_bytecode = True
-sys.path.insert(0, os.path.join(os.path.dirname(os.path.realpath(__file__)), "lib"))
-import running  # noqa: E402
-
-import re  # noqa: E402
-
-import claims  # noqa: E402
-import texts  # noqa: E402
+from mte_scripts import claims, texts
 
 HELP = """Check a sheet or a fit in a build: does mte_tool accept it for your profile or history, your number of classes and your step? The
 last line says among which tables its table is the first then; where it is refused, what is wrong, and with which of the two files.
@@ -146,6 +138,3 @@ def whose_fault(error, lines, names, is_fit):
     if at <= lines:
         return f"{names[0]}: {match[1]} line {at}: no {'fit' if is_fit else 'sheet'} has this line here; write it anew by `mte_tool`"
     return f"{names[1]}: {match[1]} line {at - lines}: bring its lines in order by `merge_profiles`"
-
-
-running.run("check_sheet", check)

@@ -1,19 +1,11 @@
-#!/usr/bin/env python3
 """Draws what tuned tables waste on profiles, as SVG. `draw_waste --help` says all."""
 
+import html
 import os
-import sys
 
-sys.dont_write_bytecode = True
-sys.path.insert(0, os.path.join(os.path.dirname(os.path.realpath(__file__)), "lib"))
-import running  # noqa: E402
-
-import html  # noqa: E402
-
-import claims  # noqa: E402
-import pictures  # noqa: E402
-import texts  # noqa: E402
-from texts import Refused  # noqa: E402
+from mte_scripts import claims, texts
+from mte_scripts.reports import pictures
+from mte_scripts.texts import Refused
 
 HELP = """\
 Draw how much the tuned tables of 1 to 32 classes waste on each profile, as a picture (SVG) on standard output.
@@ -175,6 +167,3 @@ def draw(words):
         raise Refused(2, "there is no profile; --help says how it is used")
     curves = [Curve(words[0], name), *map(Curve, words[1:])]
     return texts.write(table(curves)) if as_table else texts.write(picture(curves).encode())
-
-
-running.run("draw_waste", draw)

@@ -5,8 +5,7 @@ The program itself scores, checks and tunes; here is only what its outputs mean 
 import os
 from collections import namedtuple
 
-import claims
-import texts
+from mte_scripts import claims, texts
 
 GRANULE = claims.GRANULE  # bytes; a block begins with a header of one granule
 NOTHING = f"no bytes are counted in requests of at most {texts.LARGEST_SIZE:,} bytes: there is nothing to tune"

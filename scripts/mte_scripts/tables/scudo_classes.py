@@ -1,16 +1,10 @@
-#!/usr/bin/env python3
 """Prints a class table as the C++ that LLVM Scudo takes. `scudo_classes --help` says all."""
 
-import os
 import sys
 
-sys.dont_write_bytecode = True
-sys.path.insert(0, os.path.join(os.path.dirname(os.path.realpath(__file__)), "lib"))
-import running  # noqa: E402
-
-import scudo_map  # noqa: E402
-import texts  # noqa: E402
-from texts import Refused  # noqa: E402
+from mte_scripts import texts
+from mte_scripts.tables import scudo_map
+from mte_scripts.texts import Refused
 
 HELP = r"""Print the class table of a sheet or a fit as a size-class map of LLVM's Scudo: a header that takes the place of its default map.
 
@@ -59,7 +53,3 @@ def print_map(words):
     for warning in scudo_map.warnings(classes):
         texts.say("scudo_classes", warning)
     return texts.write(made)
-
-
-if __name__ == "__main__":
-    running.run("scudo_classes", print_map)

@@ -2,7 +2,7 @@
 
 import textwrap
 
-from texts import LARGEST_CLASS, Refused
+from mte_scripts.texts import LARGEST_CLASS, Refused
 
 GRANULE = 16  # bytes
 NO_CLASS = f"the table has no class below {LARGEST_CLASS}: was the profile, or the history, empty?"

@@ -1,24 +1,15 @@
-#!/usr/bin/env python3
 """Takes a program to a table of size classes of its own. `tune_program --help` says all."""
 
 import os
-import sys
+import subprocess
+import textwrap
 
-sys.dont_write_bytecode = True
-sys.path.insert(0, os.path.join(os.path.dirname(os.path.realpath(__file__)), "lib"))
-import running  # noqa: E402
-
-import shlex  # noqa: E402
-import subprocess  # noqa: E402
-import textwrap  # noqa: E402
-
-import children  # noqa: E402
-import claims  # noqa: E402
-import figures  # noqa: E402
-import page  # noqa: E402
-import texts  # noqa: E402
-import web_page  # noqa: E402
-from figures import kibibytes, number, numbered, percent  # noqa: E402
+from mte_scripts import claims, texts
+from mte_scripts.builds import web_page
+from mte_scripts.recording import children
+from mte_scripts.reports import report_page
+from mte_scripts.tables import figures
+from mte_scripts.tables.figures import kibibytes, number, numbered, percent
 
 HELP = """\
 Run a program, make two tables of size classes for it, check both, and say what they save. The tuned table loses little by rounding.
@@ -402,7 +393,7 @@ def made(options, folder, others, notes):
         checks.append(check_command(folder, "check-fit", "fitted.fit", "fitted.history"))
     folder.write("claims.txt", "".join(f"{known}\n\n    {command}\n\n" for known, command in zip(found.known(), checks)))
     beside = "page.html" if folder.has("page.html") else None
-    folder.write("report.html", page.page(found, options.name(), counted(options, bool(found.fitted)), noted, *checks, tables=beside))
+    folder.write("report.html", report_page.page(found, options.name(), counted(options, bool(found.fitted)), noted, *checks, tables=beside))
     text = summary(options, found, folder, noted)
     folder.write("summary.txt", text)
     texts.write(text)
@@ -439,7 +430,3 @@ def tables(options, folder):
 
 def picture(options, folder):
     return script("draw_waste", ["--name", options.name(), "--", folder.file("program.profile")])
-
-
-if __name__ == "__main__":
-    running.run("tune_program", tune)

@@ -32,7 +32,7 @@ enum { MARGIN = 8192 };
 #define PIECE ((size_t)8 << 20)
 #define LOG_SIZE ((size_t)1 << 30)
 
-// Two marks take turns, so that one is whole wherever the program ends. The sum is the CRC-32 of the text. scripts/lib/fault_log.py reads it.
+// Two marks take turns, so that one is whole wherever the program ends. The sum is the CRC-32 of the text. scripts/mte_scripts/faults/fault_log.py reads it.
 enum end { RUNNING = 1, ENDED, CUT };
 struct mark { uint64_t length, sum, not_logged, state, check; };
 struct head { char form[8]; uint64_t turn; struct mark marks[2]; };

@@ -159,7 +159,7 @@ static void add_block(struct line *line, const struct wrong *wrong) {
   if (wrong->is_freed) add(line, " that was freed");
 }
 
-// what the program did; scripts/lib/fault_report.py has the same words
+// what the program did; scripts/mte_scripts/faults/fault_report.py has the same words
 static void add_sentence(struct line *line, const struct wrong *wrong) {
   long offset = wrong->offset, size = wrong->block_size;
   if (wrong->letter == 'C') {

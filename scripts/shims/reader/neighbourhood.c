@@ -1,4 +1,4 @@
-// Makes a small log of a large one, with the same errors, for scripts/lib/fault_neighbourhood.py, which says how it is used:
+// Makes a small log of a large one, with the same errors, for scripts/mte_scripts/faults/fault_neighbourhood.py, which says how it is used:
 //
 //   neighbourhood LOG NEW GRANULES QUARANTINE
 //
@@ -156,7 +156,7 @@ static void scan(void) {
   }
 }
 
-// The heap's slots without their tags, as scripts/lib/slot_model.py has them: which slot each request takes.
+// The heap's slots without their tags, as scripts/mte_scripts/faults/slot_model.py has them: which slot each request takes.
 static int class_count, table[MOST_CLASSES], class_for[LARGEST / GRANULE + 2];
 static long granules, quarantine, share;
 static uint32_t first_slot[MOST_CLASSES + 1], fresh[MOST_CLASSES];

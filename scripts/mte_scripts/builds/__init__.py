@@ -1,0 +1,1 @@
+"""What is built of the crates: the program, the libraries and the page."""

@@ -1,0 +1,1 @@
+"""What a program requests, recorded while it runs, and profiles from elsewhere."""

@@ -1,0 +1,35 @@
+"""Steps of shell scripts that are in Python."""
+
+import importlib
+
+from mte_scripts import running
+
+HELP = """\
+Take a step of a shell script that is in Python.
+
+Usage: step private_folder make NAME               make a temporary folder that only the user can change, and print its path
+       step private_folder remove NAME FOLDER      remove it; NAME is the script's own
+       step manifest sources FOLDER                print the hash of the sources of the repository in FOLDER
+       step manifest write FOLDER PROGRAM SOURCES  write the manifest of a program that was just proved and built of these sources
+       step first_build [FOLDER PROGRAM]           prove the crates below a program side by side, or print how many at once
+       step static_libraries FOLDER CRATE..        build the static libraries of crates in this folder
+
+Exit status: 0 it is done, 2 the words are refused, 3 it failed.
+"""
+# imported once they are wanted: the first has to be there soon
+MODULES = {"private_folder": "private_folder", "manifest": "manifest", "first_build": "builds.first_build", "static_libraries": "builds.static_libraries"}
+
+
+def name(words: list) -> str:
+    """In whose name it is told what goes wrong: the script's, where it gives its name."""
+    own = words[0] if words[:1] and words[0] in MODULES else "step"
+    return words[2] if own == "private_folder" and len(words) > 2 else own
+
+
+def step(words: list) -> "int | None":
+    if words in (["--help"], ["-h"]):
+        print(HELP, end="")
+        return 0
+    if not words or words[0] not in MODULES:
+        raise running.Refused(2, f"it is `step {'`, `step '.join(MODULES)}`, and more words; --help says which")
+    return importlib.import_module(f"mte_scripts.{MODULES[words[0]]}").main(words[1:])

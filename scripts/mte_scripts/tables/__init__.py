@@ -1,0 +1,1 @@
+"""Class tables: made of counts, compared, checked, and written for Scudo."""
