@@ -6,10 +6,10 @@ includes within an enumeration."""
 import textwrap
 from typing import Callable, NamedTuple
 
-import texts
-from pool_runs import Block
-from pool_sets import Pool, bytes_of
-from running import Refused
+from mte_scripts import texts
+from mte_scripts.pools.pool_runs import Block
+from mte_scripts.pools.pool_sets import Pool, bytes_of
+from mte_scripts.running import Refused
 
 WIDTH = 120
 

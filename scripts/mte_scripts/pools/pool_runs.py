@@ -14,9 +14,9 @@ from collections import Counter, defaultdict
 from collections.abc import Iterable, Iterator
 from typing import NamedTuple, Union
 
-import texts
-from formats import CODES, GRANULE_BYTES, LARGEST_CLASS, LARGEST_SIZE, MOST_COUNT, MOST_INPUT, MOST_SNAPSHOTS
-from running import Refused
+from mte_scripts import texts
+from mte_scripts.formats import CODES, GRANULE_BYTES, LARGEST_CLASS, LARGEST_SIZE, MOST_COUNT, MOST_INPUT, MOST_SNAPSHOTS
+from mte_scripts.running import Refused
 
 UNITS = (4, 8, 16, 32)
 MOST_OVERHEAD = 4096

@@ -5,13 +5,12 @@ line `moments` where they are timelines."""
 
 import os
 import re
-from typing import NamedTuple, Optional
+from typing import NamedTuple
 
-import claims
-import pool_runs
-import texts
-from pool_runs import Block, Given, Run
-from running import Refused
+from mte_scripts import claims, texts
+from mte_scripts.pools import pool_runs
+from mte_scripts.pools.pool_runs import Block, Given, Run
+from mte_scripts.running import Refused
 
 LINE = re.compile(r"(unit|overhead) (0|[1-9][0-9]{0,4})|pool ([1-9][0-9]{0,5}) ([1-9][0-9]{0,9})")
 

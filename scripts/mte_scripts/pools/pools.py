@@ -1,23 +1,13 @@
-#!/usr/bin/env python3
 """Finds static pools for the runs of a program, checks them, and prints them as C. `pools --help` says all."""
 
 import os
-import sys
+import re
+import textwrap
 
-sys.dont_write_bytecode = True
-sys.path.insert(0, os.path.join(os.path.dirname(os.path.realpath(__file__)), "lib"))
-import running  # noqa: E402
-
-import re  # noqa: E402
-import textwrap  # noqa: E402
-
-import claims  # noqa: E402
-import pool_forms  # noqa: E402
-import pool_runs  # noqa: E402
-import pool_sets  # noqa: E402
-import texts  # noqa: E402
-from figures import number, percent  # noqa: E402
-from running import Refused  # noqa: E402
+from mte_scripts import claims, texts
+from mte_scripts.pools import pool_forms, pool_runs, pool_sets
+from mte_scripts.running import Refused
+from mte_scripts.tables.figures import number, percent
 
 HELP = f"""\
 Find static pools for the runs of a program: which sizes of blocks, and how many of each. Pools are what firmware has in place of a
@@ -296,7 +286,3 @@ def today_lines(options, runs, its):
     if above:
         lines += wrapped(f"! Today's pools have no block for a request of {number(min(above))} bytes.", "  ")
     return lines
-
-
-if __name__ == "__main__":
-    running.run("pools", pools)

@@ -8,10 +8,10 @@ from collections import Counter
 from collections.abc import Iterator
 from typing import BinaryIO, NamedTuple, Optional
 
-import counts
-import texts
-from checksum import ODD, WORD, folded
-from counts import COUNTERS, WEIGHTS
+from mte_scripts import texts
+from mte_scripts.checksum import ODD, WORD, folded
+from mte_scripts.recording import counts
+from mte_scripts.recording.counts import COUNTERS, WEIGHTS
 
 FORM = 0x315A49534D4954
 FREED, SIZE = 1 << 15, (1 << 14) - 1  # the parts of an event
