@@ -3,7 +3,7 @@ ghost use Rattle.std.specs.Prelude.{◌≡◌, [], IfOk, vec_len};
 ghost use Rattle.byte_streams.specs.Transfer.{HasRead, HasWritten, IsReadFewTimes};
 
 use crate::fault::ReadError;
-use crate::input::Input;
+use crate::input::{BLOCK, Input};
 use crate::output::Output;
 use crate::streams::{ByteSink, ByteSource, Failure};
 use std::alloc::{AllocError, Global};
@@ -48,7 +48,12 @@ pub fn read_all<R: ByteSource, I: Input>(
 fn new_piece(alloc: Global) -> Result<Vec<u8>, AllocError>
     ensures { IfOk result (λ piece. vec_len piece ≡ PIECE) }
 {
-    vec![in alloc; 0u8; PIECE]
+    // (block by block, as a text is appended)
+    let mut piece = Vec::with_capacity(alloc, PIECE)?;
+    for _block in 0..PIECE / BLOCK {
+        piece.extend_from_slice(&[0; BLOCK])?;
+    }
+    Ok(piece)
 }
 
 /// Writes all pieces of the output. It takes no memory.

@@ -1,12 +1,12 @@
 -- The places of a profile and the sums up to each, as they grow size by size.
 use Rattle.std.proofs.lemmas.Grind.{common_steps}
-use Rattle.std.proofs.Common.{◌≡◌, ℕ, zero, suc, ◌+◌, ◌-◌, ◌*◌, ◌<◌, ◌≤◌, List, [], ◌∷◌, ◌++◌, length, length-append, slice_index, cond, leb, arith, refl, ap, sym, ◌∙◌}
+use Rattle.std.proofs.Common.{◌≡◌, ℕ, zero, suc, ◌+◌, ◌-◌, ◌*◌, ◌<◌, ◌≤◌, List, [], ◌∷◌, ◌++◌, length, length-append, slice_index, cond, leb, add-suc, add-zero, arith, refl, ap, subst, sym, ◌∙◌}
 use Rattle.std.proofs.lemmas.Bool.{cases_lt, cond_both, cond-false, cond-true, eq-eqb, le-leb, le-ltb, lt-leb, lt-ltb, ne_eqb}
 use Rattle.std.proofs.lemmas.List.{get_or_append_left}
 use Rattle.std.proofs.Math.Seq.{get_or-append_seam}
 use Rattle.std.proofs.Math.Nat.{mul-le-mul}
 use Rattle.class_table.specs.Sizes.{largest_counted}
-use Rattle.certificates.specs.Spanned.{AreSumsUpTo, HoldsSums, last_need}
+use Rattle.certificates.specs.Spanned.{AreNotCounted, AreSumsUpTo, HoldsSums, last_need}
 use Rattle.tuner_theory.specs.Spans.{needs_below, rounded_need, with_need}
 use Rattle.tuner_theory.proofs.Sums.{sum_below-more, sum_below-none, sum_bounded, sum_same}
 use Rattle.class_table.specs.Steps.{IsStep}
@@ -186,6 +186,20 @@ module _ (counts : List ℕ) (step : ℕ) (is_step : IsStep step) where
         }
 
 -- ---- all sizes
+
+-- sizes that were not counted
+pub built-skips : (counts : List ℕ) (step n m total total_bytes : ℕ) (needs counted bytes : List ℕ) → IsStep step → n ≤ m →
+    AreNotCounted counts n m
+    → IsBuilt counts step n needs counted bytes total total_bytes → IsBuilt counts step m needs counted bytes total total_bytes
+built-skips counts step n m total total_bytes needs counted bytes is_step le none b =
+    subst (λ (to : ℕ). IsBuilt counts step to needs counted bytes total total_bytes) (let e : n + (m - n) ≡ m = omega arith in e)
+    (skips (m - n) (λ k from to. none k from (omega arith)))
+  where
+    skips : (more : ℕ) → AreNotCounted counts n (n + more) → IsBuilt counts step (n + more) needs counted bytes total total_bytes
+    skips zero none = rw add-zero b
+    skips (suc more) none = rw add-suc (built-skip counts step is_step (n + more) total total_bytes needs counted bytes
+        (let here : slice_index counts (n + more) ≡ 0 = none (n + more) (omega arith) (omega arith) in omega arith)
+        (skips more (λ k from to. none k from (omega arith))))
 
 pub built-end : (counts : List ℕ) (step n total total_bytes : ℕ) (needs counted bytes : List ℕ) → IsStep step → AreCounts counts →
     n ≡ length counts

@@ -1,11 +1,11 @@
-use Rattle.std.proofs.Common.{◌≡◌, ℕ, ◌≤◌, List, slice_index, add-one, arith, ◌∙◌}
+use Rattle.std.proofs.Common.{◌≡◌, ℕ, ◌+◌, ◌≤◌, List, slice_index, add-one, arith, ◌∙◌}
 use Rattle.std.proofs.lemmas.Bool.{both_ways}
 use Rattle.std.proofs.Math.Nat.{mul-le-mul}
 use Rattle.class_table.specs.Sizes.{largest_counted}
 use Rattle.tuner_theory.specs.Profiles.{greatest_count}
 use Rattle.certificates.specs.Spanned.{last_need}
 use Rattle.tuner_theory.specs.Spans.{rounded_need}
-use Rattle.certificates.proofs.SpansBuilt.{HasPlace, built-add, built-end, built-none, built-skip, built-small, place-new, place-same}
+use Rattle.certificates.proofs.SpansBuilt.{HasPlace, IsBuilt, built-add, built-end, built-none, built-skip, built-skips, built-small, place-new, place-same}
 use Rattle.certificates.proofs.spans.Spans.new.Goals as goal
 use Rattle.certificates.proofs.spans.Spans.new.Goals.{then-count-gt0, else-count-gt0, then-not-is_last+in_ok-push+in_ok-push-2+in_ok-push-3, else-not-is_last}
 
@@ -14,6 +14,7 @@ loop-n-init c = record {
   built = rw (c.in_ok-needs.ensures.items, c.in_ok-counted.ensures.items, c.in_ok-bytes.ensures.items)
       (built-none c.args.profile.now.counts c.args.step c.requires);
   are_counts = λ some. absurd (omega arith);
+  within = omega arith;
 }
 
 pub overflow_add-total : goal.overflow_add-total
@@ -34,9 +35,11 @@ overflow_add-total_bytes c =
     omega (arith, small.1, mul-le-mul count n)
 
 pub loop-n-preserved : goal.loop-n-preserved
-loop-n-preserved c = record {
-  built = rw add-one (elim c.if-count-gt0.branch [
-    | else-count-gt0 w ↦ rw (w.needs-is, w.counted-is, w.bytes-is, w.total-is, w.total_bytes-is)
+loop-n-preserved c = let one_more : IsBuilt counts c.args.step (c.loop-n.n + 1) c.if-count-gt0.needs.items c.if-count-gt0.counted.items
+    c.if-count-gt0.bytes.items
+    c.if-count-gt0.total c.if-count-gt0.total_bytes =
+  rw add-one (elim c.if-count-gt0.branch [
+    | else-count-gt0 w ↦ simp (w.needs-is, w.counted-is, w.bytes-is, w.total-is, w.total_bytes-is)
         (built-skip counts c.args.step c.requires c.loop-n.n _ _ _ _ _ (omega (arith, w.if-count-gt0.false)) c.loop-n.invariant.built)
     | then-count-gt0 w ↦ (let place : HasPlace counts c.args.step c.loop-n.n w.if-not-is_last.needs.items w.if-not-is_last.counted.items
         w.if-not-is_last.bytes.items
@@ -62,9 +65,11 @@ loop-n-preserved c = record {
               (place-same counts c.args.step c.requires c.loop-n.n _ _ _ _ _ last c.loop-n.invariant.built))
         ] in
         let count : c.from-count.result ≡ slice_index counts c.loop-n.n = c.from-count.ensures ∙ c.count.ensures.count in
-        rw (w.needs-is, w.counted-is, w.bytes-is, w.total-is, w.total_bytes-is, w.from.ensures, count)
+        simp (w.needs-is, w.counted-is, w.bytes-is, w.total-is, w.total_bytes-is, w.from.ensures, count)
         (built-add counts c.args.step c.requires c.loop-n.n _ _ _ _ _ (omega arith) place))
-  ]);
+  ]) in record {
+  built = built-skips counts c.args.step _ _ _ _ _ _ _ c.requires c.next_counted-n.ensures.order c.next_counted-n.ensures.passed one_more;
+  within = c.next_counted-n.ensures.within;
   are_counts = λ some. c.count.ensures.profile.counts;
 }
   where
