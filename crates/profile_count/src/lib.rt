@@ -12,6 +12,6 @@ mod writing;
 
 pub use entry::{LARGE, two_words};
 pub use fault::{CountFull, ProfileError, ProfileFault};
-pub use profile::Profile;
+pub use profile::{Profile, no_counts};
 pub use tuner_theory::GREATEST_COUNT;
 pub use waste_and_unserved::class_end;
