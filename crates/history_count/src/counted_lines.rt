@@ -48,7 +48,8 @@ impl CountedLines {
     /// Adds the line of a size, with a count for each snapshot. The size must be above those of the lines so far. The only error is that the
     /// allocator refuses memory.
     pub(crate) fn add(&mut self, size: u32, counts: &[u32]) -> Result<(), AllocError>
-        requires holds { HoldsLines (length counts.now) self.old.sizes.items (lists_of self.old.columns.items) self.old.peaks }
+        requires holds { HoldsLines (length counts.now) self.old.sizes.items (lists_of self.old.columns.items)
+            self.old.peaks }
         requires size { size ≤ LARGEST_COUNTED }
         requires above { (k : ℕ) → k < length self.old.sizes.items → slice_index self.old.sizes.items k < size }
         requires in_range { All (λ count. count ≤ greatest_count) counts.now }

@@ -9,8 +9,8 @@ ghost use Rattle.history_count.specs.TakenCounts.{IsTakenUpTo};
 use crate::counted_lines::CountedLines;
 use crate::history::History;
 use crate::line::is_some_counted;
-use crate::reading::zeros;
 use class_table::LARGEST_COUNTED;
+use profile_count::no_counts;
 use std::alloc::{AllocError, Global};
 
 // how many sizes are counted
@@ -25,11 +25,11 @@ impl History {
     {
         let count = snapshots.len();
         let mut lines = CountedLines::new(alloc, count)?;
-        let mut counts = zeros(alloc, count)?;
+        let mut counts = no_counts(alloc, count)?;
         for size in 0..SIZES {
             take_size(snapshots, size, &mut counts, &mut lines)?;
         }
-        let large = zeros(alloc, count)?;
+        let large = no_counts(alloc, count)?;
         Ok(History::new(lines, large))
     }
 }

@@ -1,6 +1,4 @@
 //! How a text spells a history.
-ghost use Rattle.std.specs.Prelude.{◌≡◌, IfOk};
-ghost use Rattle.profile_count.specs.Counts.{zeros};
 ghost use Rattle.history_count.specs.HistoryText.{GivesHistory, history_of};
 
 use crate::counted_lines::CountedLines;
@@ -8,7 +6,8 @@ use crate::fault::{HistoryError, HistoryFault};
 use crate::history::History;
 use crate::line::{Subject, next_entry, snapshots_in};
 use line_text::lines_in;
-use std::alloc::{AllocError, Global};
+use profile_count::no_counts;
+use std::alloc::Global;
 
 impl History {
     /// The history that a text spells: the line `snapshots T` with T from 1 to 1,024; a line `SIZE N1 .. NT` for each counted size,
@@ -25,8 +24,8 @@ impl History {
             return Err(HistoryError::Line(1, HistoryFault::BadSnapshots));
         };
         let mut counted = CountedLines::new(alloc, count)?;
-        let mut large = zeros(alloc, count)?;
-        let mut counts = vec![in alloc; 0u32; count]?;
+        let mut large = no_counts(alloc, count)?;
+        let mut counts = no_counts(alloc, count)?;
         let mut next = 0;
         let mut is_ended = false;
         let mut number = 1;
@@ -49,12 +48,4 @@ impl History {
         }
         Ok(History::new(counted, large))
     }
-}
-
-/// This many zeros. The only error is that the allocator refuses memory.
-#[tactic(auto, unfolding(profile_count::specs::Counts::zeros))]
-pub(crate) fn zeros(alloc: Global, n: usize) -> Result<Vec<u32>, AllocError>
-    ensures { IfOk result (λ counts. counts.items ≡ zeros n) }
-{
-    vec![in alloc; 0u32; n]
 }

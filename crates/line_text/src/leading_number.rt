@@ -1,8 +1,9 @@
 //! The number at the start of a text, in one pass over its digits.
-ghost use Rattle.std.specs.Prelude.{◌≡◌, ◌++◌, IfSome};
+ghost use Rattle.std.specs.Prelude.{◌≡◌, ◌++◌, IfSome, Some};
 ghost use Rattle.std.specs.Option.{option_map};
 ghost use Rattle.line_text.specs.Numbers.{AreLeading, leading_digits, leading_number_of};
 
+use crate::digit_words::leading_eight;
 use crate::near_digits::near_digits;
 use crate::number::SHORT_DIGITS;
 
@@ -17,6 +18,19 @@ pub(crate) fn leading_number(text: &[u8]) -> Option<(u64, &[u8])>
         return None;
     }
     Some((value, &text[end..]))
+}
+
+/// The same of a number of at most seven digits in a text of at least eight bytes; `None` of any other text.
+#[inline(always)]
+pub(crate) fn short_leading_number(text: &[u8]) -> Option<(u32, &[u8])>
+    ensures number { IfSome result (λ pair. leading_number_of text.now ≡ Some pair.0) }
+    ensures after { IfSome result (λ pair. text.now ≡ leading_digits text.now ++ pair.1.now) }
+{
+    let (end, value) = leading_eight(text.first_chunk::<8>()?);
+    if end == 0 || end == 8 || (text[0] == b'0' && 1 < end) {
+        return None;
+    }
+    Some((value as u32, &text[end..]))
 }
 
 // the value of the digits at the start of a text, and how many they are; `None` if they are more than 19

@@ -1,9 +1,11 @@
 //! A line of many numbers, in one pass over its bytes.
-ghost use Rattle.std.specs.Prelude.{◌≡◌, IfSome, drop, slice_get};
+ghost use Rattle.std.specs.Prelude.{◌≡◌, ◌++◌, ◌-◌, ◌^◌, IfSome, Some, drop, min, slice_get};
 ghost use Rattle.line_text.specs.Lines.{lines};
+ghost use Rattle.line_text.specs.Numbers.{leading_digits, leading_number_of};
 ghost use Rattle.line_text.specs.Rows.{IsRow};
+ghost use Rattle.std.specs.Option.{option_map};
 
-use crate::leading_number::leading_number;
+use crate::leading_number::{leading_number, short_leading_number};
 use crate::pair::after_byte;
 
 /// The first number of the first line of a text, and the text after that line; the other numbers of the line are then in `numbers`, which
@@ -16,12 +18,27 @@ pub(crate) fn leading_row<'a>(text: &'a [u8], numbers: &mut [u32]) -> Option<(u6
 {
     let (first, mut rest) = leading_number(text)?;
     for place in 0..numbers.len() {
-        let (number, after) = leading_number(after_byte(b' ', rest)?)?;
-        numbers[place] = number.min(u64::from(u32::MAX)) as u32;
+        let (number, after) = leading_in_place(after_byte(b' ', rest)?)?;
+        numbers[place] = number;
         rest = after;
     }
     if rest.is_empty() {
         return Some((first, rest));
     }
     Some((first, after_byte(b'\n', rest)?))
+}
+
+// The number at the start of a text, or the largest that a place holds if that is less, and the text after it.
+#[inline(always)]
+fn leading_in_place(text: &[u8]) -> Option<(u32, &[u8])>
+    ensures number { IfSome result
+        (λ pair. option_map (λ n. min n (2 ^ 32 - 1)) (leading_number_of text.now) ≡ Some pair.0) }
+    ensures after { IfSome result (λ pair. text.now ≡ leading_digits text.now ++ pair.1.now) }
+{
+    // most numbers are short
+    if let Some(short) = short_leading_number(text) {
+        return Some(short);
+    }
+    let (number, after) = leading_number(text)?;
+    Some((number.min(u64::from(u32::MAX)) as u32, after))
 }

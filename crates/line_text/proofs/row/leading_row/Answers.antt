@@ -1,6 +1,8 @@
-use Rattle.std.proofs.Common.{◌≡◌, ◌<◌, ◌∙◌, ℕ, min, List, [], ◌∷◌, length, take, refl, sym, ap, arith, eqb-true}
+use Rattle.std.proofs.Common.{◌≡◌, ◌-◌, ◌^◌, ◌<◌, ◌∙◌, ℕ, min, List, [], ◌∷◌, length, take, refl, sym, ap, arith, eqb-true, Option, None, Some}
 use Rattle.std.proofs.lemmas.Grind.{common_steps}
 use Rattle.std.proofs.lemmas.List.{take_more_set}
+use Rattle.std.proofs.lemmas.Option.{same_Some}
+use Rattle.std.specs.Option.{option_map}
 use Rattle.line_text.proofs.FirstRows.{after-ended, after-last, row-ended, row-first, row-last, row-more}
 use Rattle.line_text.proofs.row.leading_row.Goals as goal
 
@@ -16,14 +18,24 @@ loop-place-init c = record {
   row = row-first c.args.text.now c.in_ok-first.rest.now c.in_ok-first.first c.in_ok-first.ensures.number c.in_ok-first.ensures.after;
 }
 
+-- a number that was read, as it stands in its place
+record IsPut (read : Option ℕ) (x : ℕ) : Type 0 where
+  pub n : ℕ
+  pub is : Some n ≡ read
+  pub value : x ≡ min n (2 ^ 32 - 1)
+
+is_put : (read : Option ℕ) (x : ℕ) → option_map (λ n. min n (2 ^ 32 - 1)) read ≡ Some x → IsPut read x
+is_put (Some n) x e = record { n = n; is = refl; value = sym (same_Some _ _ e) }
+is_put None x e = absurd cc
+
 pub loop-place-preserved : goal.loop-place-preserved
 loop-place-preserved c =
     let inside : c.loop-place.place < length c.loop-place.numbers = omega arith in
-    rw (take_more_set c.loop-place.numbers c.loop-place.place c.min.result inside) (record {
+    let put = is_put _ c.in_ok-number.number c.in_ok-number.ensures.number in
+    rw (take_more_set c.loop-place.numbers c.loop-place.place c.in_ok-number.number inside) (record {
       row = row-more c.args.text.now c.loop-place.rest.now c.in_ok-after_byte.field-0.now c.in_ok-number.after.now c.in_ok-first.first
-          (take c.loop-place.place c.loop-place.numbers) c.in_ok-number.number c.min.result c.loop-place.invariant.row
-          c.in_ok-after_byte.ensures.first c.in_ok-number.ensures.number c.in_ok-number.ensures.after
-          (c.min.ensures ∙ ap (λ (m : ℕ). min c.in_ok-number.number m) c.from.ensures);
+          (take c.loop-place.place c.loop-place.numbers) put.n c.in_ok-number.number c.loop-place.invariant.row
+          c.in_ok-after_byte.ensures.first put.is c.in_ok-number.ensures.after put.value;
     })
 
 pub returns-then-is_empty-clause-row : goal.returns-then-is_empty-clause-row

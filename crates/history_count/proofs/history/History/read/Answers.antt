@@ -36,7 +36,7 @@ lines-init c =
         large_are = rw c.in_ok-large.ensures (zeros-small count);
       };
       above = λ k lt. absurd (omega (arith, ap length c.in_ok-counted.ensures.none));
-      places = omega (arith, c.in_ok-counts.ensures.len, size);
+      places = ap length c.in_ok-counts.ensures ∙ length-zeros count ∙ sym size;
       sizes = omega arith;
       lines = omega arith;
       lines_of_sizes = λ e. omega arith;

@@ -1,0 +1,72 @@
+use Rattle.std.proofs.Common.{◌≡◌, ◌^◌, ◌<◌, ◌≤◌, ◌∙◌, ℕ, List, min, take, length, refl, sym, ap, inl, inr, Some, arith, ne_eqb}
+use Rattle.std.proofs.lemmas.Grind.{common_steps}
+use Rattle.std.proofs.lemmas.List.{length-take-le, take-append-drop, take-take}
+use Rattle.std.proofs.lemmas.List.Sums.{prefix_len-le-length}
+use Rattle.std.proofs.lemmas.Str.Parse.{digits_value_short}
+use Rattle.std.specs.Char.{is_ascii_digit}
+use Rattle.std.specs.List.{prefix_len}
+use Rattle.std.specs.Str.Parse.{digits_value}
+use Rattle.line_text.proofs.Digits.{own}
+use Rattle.line_text.proofs.LeadingDigits.{are_digits, a_number, prefix_len-take}
+use Rattle.line_text.proofs.leading_number.short_leading_number.Goals as goal
+
+-- so many digits are in front of a text, and this is their value
+record IsShort (text : List ℕ) (end value : ℕ) : Type 0 where
+  pub is : end ≡ prefix_len is_ascii_digit text
+  pub few : end < 8
+  pub value_is : value ≡ digits_value 10 (take end text)
+
+-- which is seen in its first eight bytes
+is_short : (text bytes : List ℕ) (end value : ℕ) → bytes ≡ take 8 text → end ≡ prefix_len is_ascii_digit bytes
+    → value ≡ digits_value 10 (take end bytes) → (end ≡ 8 → ⊥) → IsShort text end value
+is_short text bytes end value chunk count read other =
+    let ends : end ≡ min 8 (prefix_len is_ascii_digit text) = count ∙ ap (prefix_len is_ascii_digit) chunk ∙ prefix_len-take text 8 in
+    record {
+      is = omega arith;
+      few = omega arith;
+      value_is = read ∙ ap (λ (xs : List ℕ). digits_value 10 (take end xs)) chunk ∙ ap (digits_value 10) (take-take end 8 text (omega arith));
+    }
+
+small : (text : List ℕ) (end value : ℕ) → IsShort text end value → value < 10 ^ 7
+small text end value short =
+    let inside = prefix_len-le-length is_ascii_digit text in
+    let size : length (take (prefix_len is_ascii_digit text) text) ≤ 7 =
+    omega (arith, short.is, short.few, length-take-le (prefix_len is_ascii_digit text) text inside) in
+    let least = digits_value_short own (take (prefix_len is_ascii_digit text) text) 7 (are_digits text) size in
+    omega (arith, short.value_is, ap (λ (n : ℕ). digits_value 10 (take n text)) short.is, least)
+
+pub overflow_cast-result : goal.overflow_cast-result
+overflow_cast-result c =
+    omega (
+      arith,
+      small c.args.text.now c.leading_eight-end.result.0 c.leading_eight-end.result.1
+          (is_short c.args.text.now c.in_ok-first_chunk.field-0.now _ _ c.in_ok-first_chunk.ensures.cases.same
+          c.leading_eight-end.ensures.count c.leading_eight-end.ensures.value c.if-end-eq8.false),
+    )
+
+pub returns-clause-number : goal.returns-clause-number
+returns-clause-number c =
+    let text = c.args.text.now in
+    let end = prefix_len is_ascii_digit text in
+    let short =
+    is_short text c.in_ok-first_chunk.field-0.now c.leading_eight-end.result.0 c.leading_eight-end.result.1 c.in_ok-first_chunk.ensures.cases.same
+    c.leading_eight-end.ensures.count c.leading_eight-end.ensures.value c.if-end-eq8.false in
+    let some : 0 < end = omega (arith, short.is, c.if-end-eq0.false) in
+    a_number text end (prefix_len-le-length is_ascii_digit text) (omega (arith, short.is, short.few)) refl (are_digits text) some
+    (elim c.if-end-gt1.either [
+      | inl one ↦ inl (omega (arith, one.1, some, short.is))
+      | inr other ↦ inr (ne_eqb _ _ other)
+    ])
+    ∙ ap Some (sym (short.value_is ∙ ap (λ (n : ℕ). digits_value 10 (take n text)) short.is))
+
+pub returns-clause-after : goal.returns-clause-after
+returns-clause-after c =
+    let text = c.args.text.now in
+    let short =
+    is_short text c.in_ok-first_chunk.field-0.now c.leading_eight-end.result.0 c.leading_eight-end.result.1 c.in_ok-first_chunk.ensures.cases.same
+    c.leading_eight-end.ensures.count c.leading_eight-end.ensures.value c.if-end-eq8.false in
+    let same = short.is in
+    grind (arith, common_steps, same)
+
+pub slice_bounds-result-start : goal.slice_bounds-result-start
+slice_bounds-result-start c = grind (arith, common_steps)
