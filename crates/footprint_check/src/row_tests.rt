@@ -1,5 +1,5 @@
 //! The conditions on the rows of a certificate over any source of costs.
-ghost use Rattle.std.specs.Prelude.{◌≡◌, ◌≢◌, ◌↔◌, ℕ, ◌+◌, ◌^◌, ◌<◌, ◌≤◌, [], length, slice_index, slice_index_or};
+ghost use Rattle.std.specs.Prelude.{◌≡◌, ◌≢◌, ◌↔◌, ℕ, ◌+◌, ◌-◌, ◌^◌, ◌<◌, ◌≤◌, [], length, slice_index, slice_index_or};
 ghost use Rattle.std.specs.Prelude.{IfOk, IsTrue, OnErr, OnOk};
 ghost use Rattle.footprint_check.specs.Bounds.{AreBounds, AreRowBounds, IsSlack};
 ghost use Rattle.footprint_check.specs.CallCounts.{span_count};
@@ -81,10 +81,13 @@ fn drops_hold_at(rows: &Rows, i: usize) -> bool
     requires { length rows.now ≤ 2 ^ 16 }
     ensures { IsTrue result ↔ DropsHoldAt rows.now i (length rows.now) }
 {
+    let mut above = rows.number(1, i);
     for k in 1..rows.len() {
-        if rows.number(k + 1, i) > rows.number(k, i) {
+        let number = rows.number(k + 1, i);
+        if number > above {
             return false;
         }
+        above = number;
     }
     true
 }
@@ -177,17 +180,34 @@ fn edge_holds_at(
     if number > least_of(costs, before, first, stop) {
         return false;
     }
-    for block in first / BLOCK + 1..(last - 1) / BLOCK + 1 {
-        if number > bounds[block].saturating_sub(slack[block]) {
-            let start = block * BLOCK;
-            let low = least_of(costs, before, start, (start + BLOCK).min(last));
-            bounds[block] = low.saturating_add(slack[block]);
-            if number > low {
-                return false;
-            }
+    let blocks = (last - 1) / BLOCK + 1;
+    let mut block = next_block(bounds, slack, first / BLOCK + 1, blocks, number);
+    while block < blocks {
+        let start = block * BLOCK;
+        let low = least_of(costs, before, start, (start + BLOCK).min(last));
+        bounds[block] = low.saturating_add(slack[block]);
+        if number > low {
+            return false;
         }
+        block = next_block(bounds, slack, block + 1, blocks, number);
     }
     number <= costs[last]
+}
+
+// the next block whose bound does not show that the number is within the edges to all of its ends
+fn next_block(bounds: &[u64], slack: &[u64], from: usize, blocks: usize, number: u64) -> usize
+    requires bounds { blocks ≤ length bounds.now }
+    requires slack { blocks ≤ length slack.now }
+    ensures order { from ≤ result }
+    ensures past { (b : ℕ) → from ≤ b → b < result
+        → number ≤ slice_index bounds.now b - slice_index slack.now b }
+{
+    for block in from..blocks {
+        if number > bounds[block].saturating_sub(slack[block]) {
+            return block;
+        }
+    }
+    from.max(blocks)
 }
 
 // the greatest number that is within the edges to some ends
