@@ -6,7 +6,7 @@ use Rattle.std.proofs.lemmas.List.{get_or_append_left}
 use Rattle.std.proofs.Math.Seq.{get_or-append_seam}
 use Rattle.std.proofs.Math.Nat.{mul-le-mul}
 use Rattle.class_table.specs.Sizes.{largest_counted}
-use Rattle.certificates.specs.Spanned.{AreNotCounted, AreSumsUpTo, HoldsSums, last_need}
+use Rattle.certificates.specs.Spanned.{AreSumsUpTo, HoldsSums, last_need}
 use Rattle.tuner_theory.specs.Spans.{needs_below, rounded_need, with_need}
 use Rattle.tuner_theory.proofs.Sums.{sum_below-more, sum_below-none, sum_bounded, sum_same}
 use Rattle.class_table.specs.Steps.{IsStep}
@@ -189,13 +189,13 @@ module _ (counts : List ℕ) (step : ℕ) (is_step : IsStep step) where
 
 -- sizes that were not counted
 pub built-skips : (counts : List ℕ) (step n m total total_bytes : ℕ) (needs counted bytes : List ℕ) → IsStep step → n ≤ m →
-    AreNotCounted counts n m
+    ((k : ℕ) → n ≤ k → k < m → slice_index counts k ≡ 0)
     → IsBuilt counts step n needs counted bytes total total_bytes → IsBuilt counts step m needs counted bytes total total_bytes
 built-skips counts step n m total total_bytes needs counted bytes is_step le none b =
     subst (λ (to : ℕ). IsBuilt counts step to needs counted bytes total total_bytes) (let e : n + (m - n) ≡ m = omega arith in e)
     (skips (m - n) (λ k from to. none k from (omega arith)))
   where
-    skips : (more : ℕ) → AreNotCounted counts n (n + more) → IsBuilt counts step (n + more) needs counted bytes total total_bytes
+    skips : (more : ℕ) → ((k : ℕ) → n ≤ k → k < n + more → slice_index counts k ≡ 0) → IsBuilt counts step (n + more) needs counted bytes total total_bytes
     skips zero none = rw add-zero b
     skips (suc more) none = rw add-suc (built-skip counts step is_step (n + more) total total_bytes needs counted bytes
         (let here : slice_index counts (n + more) ≡ 0 = none (n + more) (omega arith) (omega arith) in omega arith)

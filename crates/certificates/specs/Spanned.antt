@@ -1,5 +1,5 @@
 -- What the spans of a profile are seen as, and what is kept of them.
-use Rattle.std.specs.Prelude.{◌≡◌, ℕ, ◌+◌, ◌<◌, ◌≤◌, List, ◌∷◌, length, slice_index}
+use Rattle.std.specs.Prelude.{◌≡◌, ℕ, ◌+◌, ◌≤◌, List, ◌∷◌, length, slice_index}
 use Rattle.tuner_theory.specs.Spans.{bytes_up_to, counted_up_to, distinct_needs, need_at, places}
 use Rattle.class_table.specs.Steps.{IsStep}
 use Rattle.tuner_theory.specs.Profiles.{AreCounts}
@@ -13,10 +13,6 @@ pub record Spanned : Type 0 where
 pub record IsSpanned (s : Spanned) : Type 0 where
   pub is_step : IsStep s.step
   pub are_counts : AreCounts s.counts
-
--- No size from `start` to below `stop` is counted.
-abbrev pub AreNotCounted : List ℕ → ℕ → ℕ → Type 0
-AreNotCounted counts start stop = (n : ℕ) → start ≤ n → n < stop → slice_index counts n ≡ 0
 
 -- The last of the needs, and 0 where there is none.
 abbrev pub last_need : List ℕ → ℕ

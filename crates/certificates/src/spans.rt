@@ -1,6 +1,5 @@
-ghost use Rattle.std.specs.Prelude.{◌≡◌, ◌↔◌, ◌+◌, ◌<◌, ◌≤◌, ◌^◌, IfOk, IsTrue};
-ghost use Rattle.certificates.specs.Spanned.{AreNotCounted, IsSpanned, last_need};
-ghost use Rattle.certificates.specs.declared.spans.TheConstants.{BLOCK, SIZES};
+ghost use Rattle.std.specs.Prelude.{◌≡◌, ◌↔◌, ◌<◌, ◌≤◌, ◌^◌, IfOk, IsTrue};
+ghost use Rattle.certificates.specs.Spanned.{IsSpanned, last_need};
 ghost use Rattle.tuner_theory.specs.Spans.{bytes_up_to, counted_up_to, need_at, places, rounded_need, span_waste};
 ghost use Rattle.class_table.specs.Sizes.{IsBlockSize};
 ghost use Rattle.class_table.specs.Steps.{IsStep};
@@ -9,12 +8,6 @@ use class_table::{GRANULE_BYTES, LARGEST_COUNTED, MOST_NEEDS, need, round_up};
 use profile_count::Profile;
 use std::alloc::{AllocError, Global};
 use std::marker::Model;
-
-// how many sizes are counted
-const SIZES: u32 = LARGEST_COUNTED + 1;
-
-// how many sizes are looked at together
-const BLOCK: u32 = 32;
 
 /// The spans of a profile: its places, one for each distinct rounded need, and the waste of serving the needs from one place to another by
 /// the greatest of them. Each waste follows from two sums for each place, of requests and of bytes.
@@ -51,21 +44,19 @@ impl<'a> Spans<'a> {
         let mut bytes = Vec::with_capacity(alloc, MOST_NEEDS + 1)?;
         let mut total = 0;
         let mut total_bytes = 0;
-        let mut n = 0;
-        while n < SIZES {
+        let mut n = profile.next_counted(0);
+        while n <= LARGEST_COUNTED {
             let count = u64::from(profile.count(n));
-            if count > 0 {
-                let need = rounded_need(n, step);
-                // a new need: the sums up to the place before it are complete
-                if !is_last(&needs, need) {
-                    needs.push(need)?;
-                    counted.push(total)?;
-                    bytes.push(total_bytes)?;
-                }
-                total += count;
-                total_bytes += count * u64::from(n);
+            let need = rounded_need(n, step);
+            // a new need: the sums up to the place before it are complete
+            if !is_last(&needs, need) {
+                needs.push(need)?;
+                counted.push(total)?;
+                bytes.push(total_bytes)?;
             }
-            n = next_counted(profile, n + 1);
+            total += count;
+            total_bytes += count * u64::from(n);
+            n = profile.next_counted(n + 1);
         }
         counted.push(total)?;
         bytes.push(total_bytes)?;
@@ -136,36 +127,6 @@ impl<'a> Spans<'a> {
     {
         self.bytes[place]
     }
-}
-
-// The next size from this one on that is counted, and `SIZES` if there is none. Mostly few sizes are counted, so they are passed over in blocks.
-fn next_counted(profile: &Profile, from: u32) -> u32
-    requires { from ≤ SIZES }
-    ensures order { from ≤ result }
-    ensures within { result ≤ SIZES }
-    ensures passed { AreNotCounted profile.now.counts from result }
-{
-    let mut n = from;
-    while n + BLOCK <= SIZES && is_none_counted(profile, n) {
-        n += BLOCK;
-    }
-    while n < SIZES && profile.count(n) == 0 {
-        n += 1;
-    }
-    n
-}
-
-// whether no size of a block is counted
-fn is_none_counted(profile: &Profile, start: u32) -> bool
-    requires { start + BLOCK ≤ SIZES }
-    ensures { IsTrue result → AreNotCounted profile.now.counts start (start + BLOCK) }
-{
-    // (all are looked at: then the compiler takes four at a time)
-    let mut most = 0;
-    for n in start..start + BLOCK {
-        most = most.max(profile.count(n));
-    }
-    most == 0
 }
 
 // whether the last of the needs is this one

@@ -23,6 +23,15 @@ pub not_counted_here : (counts classes : List ℕ) (n : ℕ) → n < length coun
 unfolding unserved_from
 not_counted_here counts classes n within none = grind (arith, le-ltb, drop-cons, add-one)
 
+pub not_counted_up_to : (counts classes : List ℕ) (n more : ℕ) → n + more ≤ length counts
+    → ((k : ℕ) → n ≤ k → k < n + more → get_or counts k 0 ≡ 0) → unserved_after counts classes n ≡ unserved_after counts classes (n + more)
+not_counted_up_to counts classes n zero within none = let here : n ≡ n + 0 = omega arith in ap (unserved_after counts classes) here
+not_counted_up_to counts classes n (suc more) within none =
+    let next : n + more + 1 ≡ n + suc more = omega arith in
+    let zero_here : get_or counts (n + more) 0 ≡ 0 = none (n + more) (omega arith) (omega arith) in
+    not_counted_up_to counts classes n more (omega arith) (λ k from to. none k from (omega arith))
+    ∙ (not_counted_here counts classes (n + more) (omega arith) (omega arith) ∙ ap (unserved_after counts classes) next)
+
 pub served_here : (counts classes : List ℕ) (n class : ℕ) → n < length counts → class_for classes n ≡ Some class →
     unserved_after counts classes n ≡ unserved_after counts classes (n + 1)
 unfolding unserved_from

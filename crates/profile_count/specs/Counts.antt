@@ -1,5 +1,5 @@
 -- Counts of sizes, one request more, and the least counted size that a table does not serve.
-use Rattle.std.specs.Prelude.{ℕ, suc, ◌+◌, ◌&&◌, List, [], ◌∷◌, Option, Some, None, nat_lt, nat_le, is_none, if◌then◌else◌, replicate, slice_index, slice_set}
+use Rattle.std.specs.Prelude.{◌≡◌, ◌<◌, ◌≤◌, ℕ, suc, ◌+◌, ◌&&◌, List, [], ◌∷◌, Option, Some, None, nat_lt, nat_le, is_none, if◌then◌else◌, length, replicate, slice_index, slice_set}
 use Rattle.class_table.specs.Sizes.{largest_counted}
 use Rattle.class_table.specs.Tables.{class_for}
 use Rattle.tuner_theory.specs.Profiles.{Profile}
@@ -25,6 +25,13 @@ count_for p n = if nat_le n largest_counted then slice_index p.counts n else p.l
 -- A profile with one more request of n bytes: that one count is higher by 1.
 abbrev pub with_one_more : Profile → ℕ → Profile
 with_one_more p n = if nat_le n largest_counted then with_count p n (slice_index p.counts n + 1) else with_large p (p.large + 1)
+
+-- The first size from `from` on that is counted, or how many there are if there is none.
+pub record IsNextCounted (counts : List ℕ) (from next : ℕ) : Type 0 where
+  pub order : from ≤ next
+  pub within : from ≤ length counts → next ≤ length counts
+  pub passed : (n : ℕ) → from ≤ n → n < next → slice_index counts n ≡ 0
+  pub counted : next < length counts → 0 < slice_index counts next
 
 -- The first size from n on that is counted and has no class; the counts are those of the sizes from n on.
 unfoldable pub unserved_from : List ℕ → ℕ → List ℕ → Option ℕ

@@ -2,6 +2,7 @@
 //! table wastes on one.
 #![tactic(auto)]
 
+mod counted_sizes;
 mod entry;
 mod fault;
 pub mod laws;

@@ -3,8 +3,9 @@ ghost use Rattle.std.specs.Prelude.{◌≡◌, ◌↔◌, ◌<◌, ◌≤◌, �
 ghost use Rattle.class_table.specs.Tables.{class_for};
 ghost use Rattle.tuner_theory.specs.Profiles.{IsCounted, IsProfile};
 ghost use Rattle.tuner_theory.specs.Waste.{Serves, waste_of};
-ghost use Rattle.profile_count.specs.Counts.{count_for, nothing_counted, unserved_of, with_count, with_large, with_one_more, zeros};
+ghost use Rattle.profile_count.specs.Counts.{IsNextCounted, count_for, nothing_counted, unserved_of, with_count, with_large, with_one_more, zeros};
 
+use crate::counted_sizes::next_counted;
 use crate::fault::CountFull;
 use crate::waste_and_unserved::{first_unserved, table_losses};
 use class_table::{ClassTable, LARGEST_COUNTED};
@@ -51,6 +52,15 @@ impl Profile {
         ensures profile { IsProfile self.now }
     {
         self.counts[n as usize]
+    }
+
+    /// The first counted size from this one on (0 to `LARGEST_COUNTED` + 1), in bytes; `LARGEST_COUNTED` + 1 if there is none.
+    pub fn next_counted(&self, from: u32) -> u32
+        requires { from ≤ LARGEST_COUNTED + 1 }
+        ensures next { IsNextCounted self.now.counts from result }
+        ensures profile { IsProfile self.now }
+    {
+        next_counted(&self.counts, from as usize) as u32
     }
 
     /// How often a larger size was requested, 0 to 1,000,000,000 times.

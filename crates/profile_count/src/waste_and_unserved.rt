@@ -6,6 +6,7 @@ ghost use Rattle.profile_count.specs.Counts.{unserved_of};
 ghost use Rattle.tuner_theory.specs.Profiles.{AreCounts};
 ghost use Rattle.tuner_theory.specs.Waste.{sum_below, waste_of};
 
+use crate::counted_sizes::next_counted;
 use class_table::{ClassTable, GRANULE_BYTES, LARGEST_COUNTED};
 use tuner_theory::GREATEST_COUNT;
 
@@ -14,12 +15,12 @@ pub(crate) fn first_unserved(counts: &[u32], table: &ClassTable) -> Option<u16>
     requires { length counts.now ≤ 65536 }
     ensures { result ≡ unserved_of counts.now table.now }
 {
-    for n in table_end(table) as usize..counts.len() {
-        if counts[n] > 0 {
-            return Some(n as u16);
-        }
+    let n = next_counted(counts, table_end(table) as usize);
+    if n < counts.len() {
+        Some(n as u16)
+    } else {
+        None
     }
-    None
 }
 
 /// What the counted requests lose in the classes of their sizes.

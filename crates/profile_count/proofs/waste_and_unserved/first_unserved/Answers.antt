@@ -1,19 +1,36 @@
-use Rattle.std.proofs.Common.{◌∙◌, sym, arith}
-use Rattle.profile_count.proofs.Unserved.{unserved_here, not_counted_here, none_after, skips_served}
+use Rattle.std.proofs.Common.{◌≡◌, ℕ, ◌+◌, ◌-◌, ◌≤◌, ◌∙◌, List, length, None, sym, ap, inl, inr, arith}
+use Rattle.std.proofs.lemmas.Bool.{cases_lt}
+use Rattle.profile_count.proofs.Unserved.{none_after, not_counted_up_to, skips_served, unserved_after, unserved_here}
+use Rattle.profile_count.specs.Counts.{IsNextCounted, unserved_of}
 use Rattle.profile_count.proofs.waste_and_unserved.first_unserved.Goals as goal
 
-pub loop-n-init : goal.loop-n-init
-loop-n-init c = skips_served c.args.counts.now c.args.table.now c.table_end-n.result c.table_end-n.ensures.served
+up_to_next : (counts classes : List ℕ) (from next : ℕ) → unserved_of counts classes ≡ unserved_after counts classes from
+    → IsNextCounted counts from next → next ≤ length counts → unserved_of counts classes ≡ unserved_after counts classes next
+up_to_next counts classes from next served is within =
+    let there : from + (next - from) ≡ next = omega (arith, is.order) in
+    served
+    ∙ (not_counted_up_to counts classes from (next - from) (omega arith) (λ k low high. is.passed k low (omega arith))
+    ∙ ap (unserved_after counts classes) there)
 
-pub returns-then-counts-n-gt0 : goal.returns-then-counts-n-gt0
-returns-then-counts-n-gt0 c =
-    sym (c.loop-n.invariant
-    ∙ unserved_here c.args.counts.now c.args.table.now c.loop-n.n (omega arith) c.if-counts-n-gt0.true
-    (c.table_end-n.ensures.others c.loop-n.n (omega arith)))
+none_left : (counts classes : List ℕ) (from next : ℕ) → unserved_of counts classes ≡ unserved_after counts classes from
+    → IsNextCounted counts from next → length counts ≤ next → unserved_of counts classes ≡ None
+none_left counts classes from next served is past = elim (cases_lt (length counts) from) [
+  | inl far ↦ served ∙ none_after counts classes from (omega arith)
+  | inr near ↦ up_to_next counts classes from next served is (is.within near) ∙ none_after counts classes next past
+]
 
-pub loop-n-preserved : goal.loop-n-preserved
-loop-n-preserved c =
-    c.loop-n.invariant ∙ not_counted_here c.args.counts.now c.args.table.now c.loop-n.n (omega arith) c.if-counts-n-gt0.false
+pub returns-then-n-counts : goal.returns-then-n-counts
+returns-then-n-counts c =
+    let counts = c.args.counts.now in
+    let table = c.args.table.now in
+    sym (up_to_next counts table c.table_end.result c.next_counted-n.result (skips_served counts table c.table_end.result c.table_end.ensures.served)
+    c.next_counted-n.ensures (omega arith)
+    ∙ unserved_here counts table c.next_counted-n.result (omega arith) (c.next_counted-n.ensures.counted (omega arith))
+    (c.table_end.ensures.others c.next_counted-n.result (omega (arith, c.next_counted-n.ensures.order))))
 
-pub returns : goal.returns
-returns c = sym (c.loop-n.invariant ∙ none_after c.args.counts.now c.args.table.now c.loop-n.n (omega arith))
+pub returns-else-n-counts : goal.returns-else-n-counts
+returns-else-n-counts c =
+    let counts = c.args.counts.now in
+    let table = c.args.table.now in
+    sym (none_left counts table c.table_end.result c.next_counted-n.result (skips_served counts table c.table_end.result c.table_end.ensures.served)
+    c.next_counted-n.ensures (omega arith))

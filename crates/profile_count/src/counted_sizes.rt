@@ -1,0 +1,35 @@
+//! The counted sizes, one after the other.
+ghost use Rattle.std.specs.Prelude.{◌≡◌, ℕ, ◌+◌, ◌<◌, ◌≤◌, IsTrue, length, slice_index};
+ghost use Rattle.profile_count.specs.Counts.{IsNextCounted};
+ghost use Rattle.profile_count.specs.declared.counted_sizes.TheConstants.{BLOCK};
+
+// how many sizes are looked at together
+const BLOCK: usize = 32;
+
+/// The first size from one on that is counted, or how many there are if there is none. Mostly few sizes are counted, so the
+/// others are passed over in blocks.
+pub(crate) fn next_counted(counts: &[u32], from: usize) -> usize
+    ensures { IsNextCounted counts.now from result }
+{
+    let mut n = from;
+    while counts.len().saturating_sub(n) >= BLOCK && is_none_counted(counts, n) {
+        n += BLOCK;
+    }
+    while n < counts.len() && counts[n] == 0 {
+        n += 1;
+    }
+    n
+}
+
+// whether no size of a block is counted
+fn is_none_counted(counts: &[u32], start: usize) -> bool
+    requires { start + BLOCK ≤ length counts.now }
+    ensures { IsTrue result → (n : ℕ) → start ≤ n → n < start + BLOCK → slice_index counts.now n ≡ 0 }
+{
+    // (all are looked at: then the compiler takes four at a time)
+    let mut most = 0;
+    for n in start..start + BLOCK {
+        most = most.max(counts[n]);
+    }
+    most == 0
+}
