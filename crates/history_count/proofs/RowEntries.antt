@@ -8,7 +8,7 @@ use Rattle.line_text.specs.Lines.{words}
 use Rattle.line_text.specs.Rows.{AreRowWords, SpellNumbers}
 use Rattle.profile_count.specs.declared.fault.ProfileFault.TheVariants.{BadLine}
 use Rattle.profile_count.proofs.LawLemmas.{number_is_not_large}
-use Rattle.history_count.specs.HistoryText.{Entry, entry_of, entry_with}
+use Rattle.history_count.specs.HistoryText.{entry_of, entry_with}
 use Rattle.history_count.specs.LineView.{GivesEntry, GivesNextEntry, capped}
 use Rattle.history_count.specs.declared.fault.HistoryFault.{HistoryFault}
 use Rattle.history_count.specs.declared.fault.HistoryFault.TheVariants.{Counted}

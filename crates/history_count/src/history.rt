@@ -32,9 +32,13 @@ impl Model for History {
 
     ghost Value = { Counted };
 
-    ghost view = { λ h. record { snapshots = spread h.lines.sizes.items (lists_of h.lines.columns.items); large = h.large.items } };
+    ghost view = { λ h. record {
+      snapshots = spread h.lines.sizes.items (lists_of h.lines.columns.items);
+      large = h.large.items;
+    } };
 
-    ghost invariant = { λ h. HoldsHistory h.lines.sizes.items (lists_of h.lines.columns.items) h.large.items h.lines.peaks };
+    ghost invariant = { λ h. HoldsHistory h.lines.sizes.items (lists_of h.lines.columns.items) h.large.items
+        h.lines.peaks };
 }
 
 /// The lines of a history: the sizes that are counted, ascending, in bytes, and for each snapshot a count for each of them.

@@ -44,7 +44,8 @@ fn take_size(
     requires snapshots { AreSnapshots (lists_of snapshots.now) }
     requires size { size ≤ LARGEST_COUNTED }
     requires places { length counts.old ≡ length snapshots.now }
-    requires taken { IsTakenUpTo (lists_of snapshots.now) lines.old.sizes.items (lists_of lines.old.columns.items) lines.old.peaks size }
+    requires taken { IsTakenUpTo (lists_of snapshots.now) lines.old.sizes.items (lists_of lines.old.columns.items)
+        lines.old.peaks size }
     ensures { OnOk result (IsTakenUpTo (lists_of snapshots.now) lines.new.sizes.items (lists_of lines.new.columns.items)
         lines.new.peaks (size + 1)) }
 {

@@ -1,7 +1,7 @@
 -- The numbers of the first line of a text, read from the front of the text.
-use Rattle.std.proofs.Common.{◌≡◌, ℕ, ◌+◌, ◌-◌, ◌^◌, ◌<◌, ◌∙◌, min, List, [], ◌∷◌, ◌++◌, append-nil, append_assoc, length, length-append, drop, refl, sym, ap, arith, All, Some, slice_get}
+use Rattle.std.proofs.Common.{◌≡◌, ℕ, ◌-◌, ◌^◌, ◌<◌, ◌∙◌, min, List, [], ◌∷◌, ◌++◌, append-nil, append_assoc, length, length-append, drop, refl, sym, ap, arith, All, Some, slice_get}
 use Rattle.std.proofs.lemmas.List.Elements.{All-append, All-cons, All-nil}
-use Rattle.line_text.specs.Lines.{lines, words, line_of, IsLine, IsWord}
+use Rattle.line_text.specs.Lines.{lines, line_of, IsLine, IsWord}
 use Rattle.line_text.specs.Numbers.{leading_digits, leading_number_of, number_of}
 use Rattle.line_text.specs.Rows.{IsRow, SpellNumbers}
 use Rattle.line_text.proofs.Cuts.{line_alone, line_in_front_is_read, lines-nil, words_make_a_line, written_words_are_read}
