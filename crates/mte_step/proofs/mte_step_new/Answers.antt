@@ -1,6 +1,6 @@
 use Rattle.std.proofs.Common.{Option, refl, rules, subst, sym}
-use Rattle.heap_picture.specs.declared.picture.NoPicture.TheVariants.{OutOfMemory}
-use Rattle.heap_picture.specs.declared.stepper.Stepper.{Stepper}
+use Rattle.mte_step.specs.declared.picture.NoPicture.TheVariants.{OutOfMemory}
+use Rattle.mte_step.specs.declared.stepper.Stepper.{Stepper}
 use Rattle.heap_theory.specs.Config.{IsConfig}
 use Rattle.heap_theory.specs.declared.config.Config.{Config}
 use Rattle.mte_step.specs.Settings.{Made, config_of}

@@ -2,7 +2,7 @@
 ghost use Rattle.std.specs.Prelude.{◌≡◌, ◌<◌, ◌≤◌, ◌+◌, ◌^◌, length, drop, slice_get, IfOk, IsTrue, false, true};
 ghost use Rattle.replay_theory.specs.Replay.{Replay as Replayed, first_replay, replay_of};
 ghost use Rattle.heap_theory.specs.Config.{IsConfig, layout_for};
-ghost use Rattle.heap_picture.specs.Picture.{AreFewEvents, IsDrawn};
+ghost use Rattle.mte_step.specs.Picture.{AreFewEvents, IsDrawn};
 ghost use Rattle.trace_reader.specs.TraceLine.{most_events};
 
 use crate::drawing::draw;
@@ -21,7 +21,7 @@ pub struct Stepper {
 }
 
 impl Stepper {
-    ghost use Rattle.heap_picture.specs.Pictured.{goes_on};
+    ghost use Rattle.mte_step.specs.Pictured.{goes_on};
 
     /// Before the first event.
     #[tactic(auto, unfolding(replay_core::specs::ReplayState::first_stored))]

@@ -1,8 +1,8 @@
 use Rattle.std.proofs.Common.{◌≡◌, sym}
 use Rattle.trace_reader.specs.Reading.State.{Failed}
 use Rattle.trace_reader.specs.declared.fault.TraceError.TheVariants.{Line}
-use Rattle.heap_picture.proofs.Whole.{failed_with, stays_failed}
-use Rattle.heap_picture.proofs.picture.read_whole.Goals as goal
+use Rattle.mte_step.proofs.Whole.{failed_with, stays_failed}
+use Rattle.mte_step.proofs.picture.read_whole.Goals as goal
 
 pub returns-in-Err-Line-clause-read : goal.returns-in-Err-Line-clause-read
 returns-in-Err-Line-clause-read c =

@@ -1,12 +1,12 @@
 use Rattle.std.proofs.Common.{◌≡◌, ◌∙◌, List, ap, arith, length, rules, subst, take}
-use Rattle.heap_picture.proofs.Room.{granules_of_replay}
-use Rattle.heap_picture.specs.Picture.{IsDrawn}
-use Rattle.heap_picture.specs.Pictured.{read_of}
+use Rattle.mte_step.proofs.Room.{granules_of_replay}
+use Rattle.mte_step.specs.Picture.{IsDrawn}
+use Rattle.mte_step.specs.Pictured.{read_of}
 use Rattle.heap_theory.specs.Config.{layout_for}
 use Rattle.replay_theory.specs.Replay.{Replay, first_replay, replay_of}
 use Rattle.trace_event.specs.declared.event.Event.{Event}
-use Rattle.heap_picture.proofs.picture.picture_after.Goals.{then-tags-granules-via-then-tags-granules, then-tags-granules-via-else-tags-granules+then-kinds-granules}
-use Rattle.heap_picture.proofs.picture.picture_after.Goals as goal
+use Rattle.mte_step.proofs.picture.picture_after.Goals.{then-tags-granules-via-then-tags-granules, then-tags-granules-via-else-tags-granules+then-kinds-granules}
+use Rattle.mte_step.proofs.picture.picture_after.Goals as goal
 
 pub returns-then-tags-granules-clause-pictured : goal.returns-then-tags-granules-clause-pictured
 returns-then-tags-granules-clause-pictured c =
