@@ -13,15 +13,7 @@ typedef struct narrow_options {
 
 /* the proved functions; a slice is a pointer and a length */
 uint32_t mte_c_version(void);
-mte_tool_ending mte_c_score(const uint8_t *, size_t, mte_tool_text *);
-mte_tool_ending mte_c_tune(narrow_options, const uint8_t *, size_t, mte_tool_text *);
-mte_tool_ending mte_c_check(const uint8_t *, size_t, mte_tool_text *);
-mte_tool_ending mte_c_footprint(const uint8_t *, size_t, mte_tool_text *);
-mte_tool_ending mte_c_fit(narrow_options, const uint8_t *, size_t, mte_tool_text *);
-mte_tool_ending mte_c_check_fit(const uint8_t *, size_t, mte_tool_text *);
-mte_tool_ending mte_c_profile(const uint8_t *, size_t, mte_tool_text *);
-mte_tool_ending mte_c_replay(narrow_options, const uint8_t *, size_t, mte_tool_text *);
-mte_tool_ending mte_c_run(narrow_options, const uint8_t *, size_t, mte_tool_text *);
+mte_tool_ending mte_c_call(uint8_t, narrow_options, const uint8_t *, size_t, mte_tool_text *);
 uint32_t mte_c_append(const uint8_t *, size_t, mte_tool_text *);
 void mte_c_continue(mte_tool_text *);
 size_t mte_c_read(mte_tool_text *, size_t, uint8_t *, size_t);
@@ -50,6 +42,7 @@ void mte_heap_close(mte_tool_heap *);
 
 static const uint8_t no_bytes;
 static const mte_tool_ending misuse = {MTE_TOOL_MISUSE, 0, 0};
+static const narrow_options no_options;
 
 /* whether a slice has bytes and no place */
 static int is_missing(const void *bytes, size_t length) {
@@ -71,28 +64,34 @@ static narrow_options narrowed(mte_tool_options options) {
     return narrow;
 }
 
-#define CALL(name)                                                                                 \
-    mte_tool_ending mte_tool_##name(const uint8_t *input, size_t length, mte_tool_text *text) {    \
-        if (!text || is_missing(input, length)) return misuse;                                     \
-        return mte_c_##name(or_none(input), length, text);                                         \
+/* the numbers of the commands */
+enum { SCORE, TUNE, CHECK, FOOTPRINT, FIT, CHECK_FIT, PROFILE, REPLAY, RUN };
+
+static mte_tool_ending call(uint8_t command, narrow_options options, const uint8_t *input, size_t length, mte_tool_text *text) {
+    if (!text || is_missing(input, length)) return misuse;
+    return mte_c_call(command, options, or_none(input), length, text);
+}
+
+#define CALL(command, name)                                                                     \
+    mte_tool_ending mte_tool_##name(const uint8_t *input, size_t length, mte_tool_text *text) { \
+        return call(command, no_options, input, length, text);                                  \
     }
 
-#define CALL_WITH_OPTIONS(name)                                                                    \
+#define CALL_WITH_OPTIONS(command, name)                                                           \
     mte_tool_ending mte_tool_##name(mte_tool_options options, const uint8_t *input, size_t length, \
                                     mte_tool_text *text) {                                         \
-        if (!text || is_missing(input, length)) return misuse;                                     \
-        return mte_c_##name(narrowed(options), or_none(input), length, text);                      \
+        return call(command, narrowed(options), input, length, text);                              \
     }
 
-CALL(score)
-CALL_WITH_OPTIONS(tune)
-CALL(check)
-CALL(footprint)
-CALL_WITH_OPTIONS(fit)
-CALL(check_fit)
-CALL(profile)
-CALL_WITH_OPTIONS(replay)
-CALL_WITH_OPTIONS(run)
+CALL(SCORE, score)
+CALL_WITH_OPTIONS(TUNE, tune)
+CALL(CHECK, check)
+CALL(FOOTPRINT, footprint)
+CALL_WITH_OPTIONS(FIT, fit)
+CALL(CHECK_FIT, check_fit)
+CALL(PROFILE, profile)
+CALL_WITH_OPTIONS(REPLAY, replay)
+CALL_WITH_OPTIONS(RUN, run)
 
 uint32_t mte_tool_version(void) {
     return mte_c_version();

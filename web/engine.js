@@ -5,7 +5,8 @@
 // The structures of options as the calling convention passes them, in two words: granules and quarantine; seed, and limit and step.
 const setUp = (o) => [BigInt.asIntN(64, (BigInt(o.quarantine) << 32n) | BigInt(o.granules)), o.seed];
 const allOptions = (o) => [setUp(o)[0], o.seed | (o.limit << 16) | (o.step << 24)];
-const WITH_OPTIONS = ["tune", "fit", "replay", "run"];
+// The commands by their numbers.
+const COMMANDS = ["score", "tune", "check", "footprint", "fit", "check-fit", "profile", "replay", "run"];
 
 const asBytes = (input) => (typeof input === "string" ? new TextEncoder().encode(input) : input);
 const asText = (bytes) => new TextDecoder("latin1").decode(bytes);
@@ -111,11 +112,11 @@ class Engines {
   /** What a command answers: its exit status and its text, of standard output or, for status 2, of standard error. */
   call(command, options, input) {
     const m = this.tool;
-    const words = WITH_OPTIONS.includes(command) ? allOptions({ ...DEFAULTS, ...options }) : [];
+    const words = allOptions({ ...DEFAULTS, ...options });
     const [from, length] = m.put(input);
     const [ending, text] = [m.take(16), m.take(16)];
     m.bytes(text, 16).fill(0);
-    m.run(`mte_c_${command.replace("-", "_")}`, ending, ...words, from, length, text);
+    m.run("mte_c_call", ending, COMMANDS.indexOf(command), ...words, from, length, text);
     const status = Number(m.word(ending) & 0xffffffffn);
     const size = m.word(text + 8n);
     const room = m.take(size);

@@ -1,6 +1,5 @@
 pub mod CallCounts
 pub mod Filling
-pub mod Options
 pub mod SourceChanges
 pub mod Tuned
 pub mod Windows

@@ -7,13 +7,11 @@ mod costs;
 mod filling;
 mod halving;
 pub mod laws;
-mod options;
 mod read_off;
 mod tuning;
 
 pub use cost_source::CostSource;
 pub use costs::Costs;
 pub use filling::{Filled, fill_rows};
-pub use options::are_tune_options;
 pub use read_off::tuned_table;
 pub use tuning::{Tuned, tune};

@@ -5,9 +5,10 @@ use Rattle.clap.specs.Words.{Row, Text, one_of}
 use Rattle.class_table.specs.Steps.{IsStep}
 use Rattle.command_words.specs.Bounds.{granules_bounds, limit_bounds, quarantine_bounds, seed_bounds, step_bounds}
 use Rattle.command_words.specs.Spellings.{check_fit_name, check_name, fit_name, footprint_name, granules_name, limit_name, profile_name, quarantine_name, replay_name, run_name, score_name, seed_name, step_name, tune_name}
-use Rattle.command_words.specs.declared.call.Call.{Call}
-use Rattle.command_words.specs.declared.call.Call.TheVariants.{Score, Tune, Check, Footprint, Fit, CheckFit, Profile, Replay, Run}
 use Rattle.heap_theory.specs.declared.config.Config.{Config}
+use Rattle.tool_call.specs.declared.call.Call.{Call}
+use Rattle.tool_call.specs.declared.call.Call.TheVariants.{Score, Tune, Check, Footprint, Fit, CheckFit, Profile, Replay, Run}
+use Rattle.tool_call.specs.declared.limits.Limits.{Limits}
 
 -- The option of this name has a value that spells the number: decimal digits, with or without a `+` before them.
 abbrev pub HasNumber : List Row → Text → ℕ → Type 0
@@ -30,6 +31,9 @@ HasLimit options n = HasNumberIn options limit_name limit_bounds n
 abbrev pub HasStep : List Row → ℕ → Type 0
 HasStep options n = HasNumberIn options step_name step_bounds n × IsStep n
 
+abbrev pub HasLimits : List Row → Limits → Type 0
+HasLimits options limits = HasLimit options limits.limit × HasStep options limits.step
+
 -- `--granules`, `--seed` and `--quarantine`.
 abbrev pub HasGranules : List Row → ℕ → Type 0
 HasGranules options n = HasNumberIn options granules_name granules_bounds n
@@ -47,14 +51,14 @@ HasConfig options config =
 -- The words name this call: its command, and each of its numbers by the option's name.
 abbrev pub Names : Text → List Row → Call → Type 0
 Names name options Score = name ≡ score_name
-Names name options (Tune o) = (name ≡ tune_name) × HasLimit options o.limit × HasStep options o.step
+Names name options (Tune limits) = (name ≡ tune_name) × HasLimits options limits
 Names name options Check = name ≡ check_name
 Names name options Footprint = name ≡ footprint_name
-Names name options (Fit o) = (name ≡ fit_name) × HasLimit options o.limit × HasStep options o.step
+Names name options (Fit limits) = (name ≡ fit_name) × HasLimits options limits
 Names name options CheckFit = name ≡ check_fit_name
 Names name options Profile = name ≡ profile_name
-Names name options (Replay o) = (name ≡ replay_name) × HasConfig options o.config
-Names name options (Run o) = (name ≡ run_name) × HasLimit options o.limit × HasStep options o.step × HasConfig options o.config
+Names name options (Replay config) = (name ≡ replay_name) × HasConfig options config
+Names name options (Run limits config) = (name ≡ run_name) × HasLimits options limits × HasConfig options config
 
 -- What was read of them is such a call, or there is none.
 abbrev pub IsCallNamed : {E : Type 0} → Text → List Row → Result Call E → Type 0

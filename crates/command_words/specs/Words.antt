@@ -6,9 +6,9 @@ use Rattle.clap.specs.declared.error.Error.{Error}
 use Rattle.clap.specs.declared.error.kind.ErrorKind.TheVariants as kind
 use Rattle.command_words.specs.Calls.{IsCall, IsNoCall}
 use Rattle.command_words.specs.AcceptedWords.{program}
-use Rattle.command_words.specs.declared.call.Call.{Call}
 use Rattle.command_words.specs.declared.refusal.Refusal.{Refusal}
 use Rattle.command_words.specs.declared.refusal.Refusal.TheVariants.{OutOfMemory, Words, Options}
+use Rattle.tool_call.specs.declared.call.Call.{Call}
 
 -- The words, of which the first is the program's name, mean this call.
 abbrev pub Mean : List Text → Call → Type 0

@@ -1,30 +1,14 @@
-//! The commands, as values.
+//! The call that clap's matches mean.
 ghost use Rattle.std.specs.Prelude.{MatchResult};
 ghost use Rattle.clap.specs.Words.{found_of, rows_of, subcommand_rows_of};
 ghost use Rattle.command_words.specs.Calls.{IsCall, IsCallNamed, IsNoCall};
 ghost use Rattle.command_words.specs.Spellings.{fit_name, replay_name, run_name, tune_name};
 
-use crate::commands::fit::Fit;
-use crate::commands::replay::Replay;
-use crate::commands::run::Run;
-use crate::commands::tune::Tune;
 use crate::commands::{check, check_fit, fit, footprint, profile, replay, run, score, tune};
+use crate::options::{config_of, limits_of};
 use crate::refusal::OptionFault;
 use clap::ArgMatches;
-
-/// A command with its options.
-#[derive(Clone, Copy)]
-pub enum Call {
-    Score,
-    Tune(Tune),
-    Check,
-    Footprint,
-    Fit(Fit),
-    CheckFit,
-    Profile,
-    Replay(Replay),
-    Run(Run),
-}
+use tool_call::Call;
 
 /// The call that clap's matches mean. `BadOption` if the command refuses the options.
 pub fn call_of(matches: &ArgMatches<'_>) -> Result<Call, OptionFault>
@@ -59,8 +43,8 @@ fn call_named(name: &str, options: &ArgMatches<'_>) -> Result<Call, OptionFault>
 fn tune_call(options: &ArgMatches<'_>) -> Result<Call, OptionFault>
     ensures { IsCallNamed tune_name (rows_of (found_of options.now)) result }
 {
-    match Tune::of_options(options) {
-        Ok(options) => Ok(Call::Tune(options)),
+    match limits_of(options) {
+        Ok(limits) => Ok(Call::Tune(limits)),
         Err(fault) => Err(fault),
     }
 }
@@ -68,8 +52,8 @@ fn tune_call(options: &ArgMatches<'_>) -> Result<Call, OptionFault>
 fn fit_call(options: &ArgMatches<'_>) -> Result<Call, OptionFault>
     ensures { IsCallNamed fit_name (rows_of (found_of options.now)) result }
 {
-    match Fit::of_options(options) {
-        Ok(options) => Ok(Call::Fit(options)),
+    match limits_of(options) {
+        Ok(limits) => Ok(Call::Fit(limits)),
         Err(fault) => Err(fault),
     }
 }
@@ -77,8 +61,8 @@ fn fit_call(options: &ArgMatches<'_>) -> Result<Call, OptionFault>
 fn replay_call(options: &ArgMatches<'_>) -> Result<Call, OptionFault>
     ensures { IsCallNamed replay_name (rows_of (found_of options.now)) result }
 {
-    match Replay::of_options(options) {
-        Ok(options) => Ok(Call::Replay(options)),
+    match config_of(options) {
+        Ok(config) => Ok(Call::Replay(config)),
         Err(fault) => Err(fault),
     }
 }
@@ -86,8 +70,11 @@ fn replay_call(options: &ArgMatches<'_>) -> Result<Call, OptionFault>
 fn run_call(options: &ArgMatches<'_>) -> Result<Call, OptionFault>
     ensures { IsCallNamed run_name (rows_of (found_of options.now)) result }
 {
-    match Run::of_options(options) {
-        Ok(options) => Ok(Call::Run(options)),
+    match limits_of(options) {
+        Ok(limits) => match config_of(options) {
+            Ok(config) => Ok(Call::Run(limits, config)),
+            Err(fault) => Err(fault),
+        },
         Err(fault) => Err(fault),
     }
 }

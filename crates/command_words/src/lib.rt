@@ -8,10 +8,5 @@ mod options;
 mod refusal;
 mod words;
 
-pub use call::Call;
-pub use commands::fit::Fit;
-pub use commands::replay::Replay;
-pub use commands::run::Run;
-pub use commands::tune::Tune;
 pub use refusal::{OptionFault, Refusal};
 pub use words::{command, read_call};

@@ -1,7 +1,7 @@
 //! The options that commands share.
 ghost use Rattle.std.specs.Prelude.{ℕ, ◌<◌, ◌^◌, MatchOption, MatchResult};
 ghost use Rattle.clap.specs.Words.{found_of, rows_of, with_rule};
-ghost use Rattle.command_words.specs.Calls.{HasConfig, HasLimit, HasNumber, HasNumberIn, HasSeed, HasStep, IsRead};
+ghost use Rattle.command_words.specs.Calls.{HasConfig, HasLimit, HasLimits, HasNumber, HasNumberIn, HasSeed, HasStep, IsRead};
 ghost use Rattle.command_words.specs.AcceptedWords.{IsOption, number_rule, rule_for};
 
 use crate::refusal::OptionFault;
@@ -9,6 +9,7 @@ use clap::{Arg, ArgMatches, value_parser};
 use class_table::{FEWEST_GRANULES, MOST_CLASSES, MOST_GRANULES, is_step};
 use heap_theory::Config;
 use std::alloc::Global;
+use tool_call::Limits;
 
 /// An option whose value is a number within bounds. In the code, its name, its bounds and its help stand here alone.
 #[derive(Clone, Copy)]
@@ -116,8 +117,20 @@ impl NumberOption {
     }
 }
 
-/// The most classes that the options allow. `BadOption` if they name no number from 1 to 32.
-pub fn limit_of(options: &ArgMatches<'_>) -> Result<u8, OptionFault>
+/// `--limit` and `--step` of the options. `BadOption` if the limit is not from 1 to 32, or the step not 1, 2, 4 or 8.
+pub fn limits_of(options: &ArgMatches<'_>) -> Result<Limits, OptionFault>
+    ensures { MatchResult result
+        (HasLimits (rows_of (found_of options.now)))
+        (λ _. (limits : Limits) → HasLimits (rows_of (found_of options.now)) limits → ⊥) }
+{
+    Ok(Limits {
+        limit: limit_of(options)?,
+        step: step_of(options)?,
+    })
+}
+
+// the most classes that the options allow
+fn limit_of(options: &ArgMatches<'_>) -> Result<u8, OptionFault>
     ensures { IsRead (HasLimit (rows_of (found_of options.now))) result }
 {
     match LIMIT.number_in(options) {
@@ -126,8 +139,8 @@ pub fn limit_of(options: &ArgMatches<'_>) -> Result<u8, OptionFault>
     }
 }
 
-/// The step of the options. `BadOption` if it is not 1, 2, 4 or 8.
-pub fn step_of(options: &ArgMatches<'_>) -> Result<u8, OptionFault>
+// the step of the options
+fn step_of(options: &ArgMatches<'_>) -> Result<u8, OptionFault>
     ensures { IsRead (HasStep (rows_of (found_of options.now))) result }
 {
     match STEP.number_in(options) {

@@ -4,11 +4,12 @@ ghost use Rattle.clap.specs.Words.{app_of};
 ghost use Rattle.command_words.specs.AcceptedWords.{program, top};
 ghost use Rattle.command_words.specs.Words.{AreRefused, Mean};
 
-use crate::call::{Call, call_of};
+use crate::call::call_of;
 use crate::commands::COMMANDS;
 use crate::refusal::Refusal;
 use clap::Command;
 use std::alloc::{AllocError, Global};
+use tool_call::Call;
 
 const ABOUT: &str = "\
 Find the table of at most K size classes that wastes least, or takes least, for what a program

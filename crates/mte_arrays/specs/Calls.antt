@@ -1,10 +1,10 @@
 -- What the calls over arrays answer.
 use Rattle.std.specs.Prelude.{◌≡◌, ◌≢◌, ℕ, ◌*◌, ◌/◌, ◌%◌, ◌<◌, ◌≤◌, List, ◌++◌, drop, length, None, Some, Result, Ok, Err, IsOk}
 use Rattle.class_table.specs.Faults.{table_of_classes}
-use Rattle.class_tuner.specs.Options.{AreTuneOptions}
 use Rattle.class_table.specs.declared.fault.TableError.{TableError}
 use Rattle.class_tuner.specs.Tuned.{IsTuned}
 use Rattle.profile_count.specs.Counts.{unserved_of}
+use Rattle.tool_call.specs.Options.{AreTuneOptions}
 use Rattle.tuner_theory.specs.Best.{IsBest}
 use Rattle.tuner_theory.specs.Profiles.{Profile}
 use Rattle.tuner_theory.specs.Sheets.{IsVerdict, Sheet}

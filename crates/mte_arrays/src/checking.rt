@@ -5,9 +5,9 @@ use crate::counting::count;
 use crate::fault::ArrayError;
 use crate::rows::rows_of;
 use crate::scoring::table_of;
-use class_tuner::are_tune_options;
 use potential_check::{Sheet, Verdict, check as verdict_on};
 use std::alloc::Global;
+use tool_call::Limits;
 
 /// The verdict on a sheet for the profile of these sizes with these counts: optimal, or the first refusal. The sheet is a table of these
 /// classes (in granules), for at most `limit` (1 to 32) classes that are multiples of `step` (1, 2, 4 or 8 granules), with what it is said
@@ -27,7 +27,7 @@ pub fn check(
 ) -> Result<Verdict, ArrayError>
     ensures { IsChecked limit step waste classes.now numbers.now sizes.now counts.now result }
 {
-    if !are_tune_options(limit, step) {
+    if !(Limits { limit, step }).are_valid() {
         return Err(ArrayError::BadOption);
     }
     let row_count = usize::from(limit);

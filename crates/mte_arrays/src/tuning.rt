@@ -9,10 +9,10 @@ use crate::counting::count;
 use crate::fault::ArrayError;
 use crate::rows::put_rows;
 use class_table::ClassTable;
-use class_tuner::are_tune_options;
 use potential_check::Rows;
 use profile_count::Profile;
 use std::alloc::Global;
+use tool_call::Limits;
 
 /// What `tune` found, beside the classes and the rows.
 #[derive(Debug, Clone, Copy, PartialEq, Eq)]
@@ -45,7 +45,7 @@ pub fn tune(
     ensures classes { OnErr result (classes.new ≡ classes.old) }
     ensures rows { OnErr result (rows.new ≡ rows.old) }
 {
-    if !are_tune_options(limit, step) {
+    if !(Limits { limit, step }).are_valid() {
         return Err(ArrayError::BadOption);
     }
     if classes.len() < usize::from(limit) {

@@ -1,17 +1,18 @@
 -- What C is told of the end of a call.
-use Rattle.std.specs.Prelude.{◌≡◌, ℕ, List, ◌++◌, Some, unwrap_or, Result}
+use Rattle.std.specs.Prelude.{◌≡◌, ℕ, List, ◌++◌, Option, Some, None, unwrap_or}
 use Rattle.handed_text.specs.Bytes.{bytes_of}
 use Rattle.handed_text.specs.declared.ends.TheConstants.{BAD_OPTION, DONE, MISUSE, NO, OUT_OF_MEMORY, REFUSED}
 use Rattle.handed_text.specs.declared.text.HandedText.{HandedText}
 use Rattle.line_text.specs.Numbers.{leading_number_of}
-use Rattle.mte_calls.specs.Answered.{IsAnswered, IsAnsweredIf, IsCalled}
+use Rattle.mte_calls.specs.Answered.{IsAnsweredIf, IsCalled}
 use Rattle.mte_calls.specs.declared.ended.Ended.{Ended}
 use Rattle.mte_calls.specs.declared.ended.Ended.TheVariants.{Done as HasDone, No as HasNo, Refused as IsRefused, OutOfMemory as RanOut, BadOption as HasBadOption, Misuse as IsMisuse}
 use Rattle.mte_calls.specs.declared.structures.Ending.{Ending}
+use Rattle.mte_engine.specs.Calls.{answers_of}
 use Rattle.mte_engine.specs.FaultLines.{line_of_fault}
 use Rattle.mte_engine.specs.FaultText.{shown_input_fault}
-use Rattle.mte_engine.specs.Outcome.{Answer}
-use Rattle.mte_engine.specs.declared.fault.InputFault.{InputFault}
+use Rattle.tool_call.specs.Options.{IsValid}
+use Rattle.tool_call.specs.declared.call.Call.{Call}
 
 -- The number of an end.
 abbrev pub number_of_end : Ended → ℕ
@@ -33,17 +34,13 @@ pub record Shows (ended : Ended) (ending : Ending) : Type 0 where
   pub number : ending.end ≡ number_of_end ended
   pub fault : ShowsFault ended ending.fault ending.line
 
--- What a C function with these answers leaves of a text: the end, and what the text holds then. Its input is what the text held, and after
--- it these bytes.
-pub record Answers (answers : List ℕ → Result Answer InputFault → Type 0) (old : HandedText) (input : List ℕ) (new : HandedText)
-    (ending : Ending) : Type 0 where
+-- What a call from C leaves of a text: the end, and what the text holds then. Its input is what the text held, and after it these bytes.
+pub record Answers (call : Call) (old : HandedText) (input : List ℕ) (new : HandedText) (ending : Ending) : Type 0 where
   pub ended : Ended
   pub shown : Shows ended ending
-  pub called : IsCalled old new ended (IsAnswered answers (bytes_of old ++ input) ended (bytes_of new))
+  pub called : IsCalled old new ended (IsAnsweredIf (IsValid call) (answers_of call) (bytes_of old ++ input) ended (bytes_of new))
 
--- The same for a function that tests its options first.
-pub record AnswersIf (options : Type 0) (answers : List ℕ → Result Answer InputFault → Type 0) (old : HandedText) (input : List ℕ)
-    (new : HandedText) (ending : Ending) : Type 0 where
-  pub ended : Ended
-  pub shown : Shows ended ending
-  pub called : IsCalled old new ended (IsAnsweredIf options answers (bytes_of old ++ input) ended (bytes_of new))
+-- The same for the number of a command. One that no command has is a misuse, and the text stays as it is.
+abbrev pub AnswersIfCall : Option Call → HandedText → List ℕ → HandedText → Ending → Type 0
+AnswersIfCall (Some call) old input new ending = Answers call old input new ending
+AnswersIfCall None old input new ending = Shows IsMisuse ending × (new ≡ old)

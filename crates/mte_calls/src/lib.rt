@@ -1,6 +1,5 @@
-//! The engines over inputs in memory, for callers that have no source and no sink. The input is what a `HandedText` holds, followed by a
-//! slice, and the answer takes the place of what the text held. A call returns how it ended. The static library `mte_c` exports these calls
-//! to C.
+//! Calls over inputs in memory, for callers that have no source and no sink. The input is what a `HandedText` holds, followed by a slice, and
+//! the answer takes the place of what the text held. A call returns how it ended. The static library `mte_c` exports them to C.
 #![tactic(auto)]
 
 mod calls;
@@ -10,7 +9,7 @@ mod handing;
 mod structures;
 mod two_parts;
 
-pub use calls::{check, check_fit, fit, footprint, profile, replay, run, score, tune};
+pub use calls::call;
 pub use ended::Ended;
 pub use faults::{code_of, line_of};
 pub use structures::{Ending, Options};

@@ -4,6 +4,7 @@ ghost use Rattle.std.specs.Prelude.{◌≡◌};
 use crate::ended::Ended;
 use crate::faults::{code_of, line_of};
 use handed_text::{BAD_OPTION, DONE, MISUSE, NO, OUT_OF_MEMORY, REFUSED};
+use mte_engine::{Call, Limits};
 use replay_core::Config;
 
 /// The options. A call reads those that are its own.
@@ -23,10 +24,37 @@ pub struct Options {
 }
 
 impl Options {
-    ghost use Rattle.mte_calls.specs.Settings.{config_of};
+    ghost use Rattle.mte_calls.specs.Settings.{call_of, config_of, limits_of};
 
-    /// How the heap is set up.
-    pub fn config(self) -> Config
+    /// The call of the command of this number, with the options that are its own: `score` 0, `tune` 1, `check` 2, `footprint` 3, `fit` 4,
+    /// `check_fit` 5, `profile` 6, `replay` 7 and `run` 8.
+    pub fn call(self, command: u8) -> Option<Call>
+        ensures { result ≡ call_of self command }
+    {
+        match command {
+            0 => Some(Call::Score),
+            1 => Some(Call::Tune(self.limits())),
+            2 => Some(Call::Check),
+            3 => Some(Call::Footprint),
+            4 => Some(Call::Fit(self.limits())),
+            5 => Some(Call::CheckFit),
+            6 => Some(Call::Profile),
+            7 => Some(Call::Replay(self.config())),
+            8 => Some(Call::Run(self.limits(), self.config())),
+            _ => None,
+        }
+    }
+
+    fn limits(self) -> Limits
+        ensures { result ≡ limits_of self }
+    {
+        Limits {
+            limit: self.limit,
+            step: self.step,
+        }
+    }
+
+    fn config(self) -> Config
         ensures { result ≡ config_of self }
     {
         Config {

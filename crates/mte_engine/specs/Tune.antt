@@ -1,6 +1,6 @@
 -- The options and the answers of `tune`: the sheet that is tuned for a profile.
 use Rattle.std.specs.Prelude.{◌≡◌, ℕ, List, Result, Ok, Err}
-pub use Rattle.class_tuner.specs.Options.{AreTuneOptions}
+pub use Rattle.tool_call.specs.Options.{AreTuneOptions}
 use Rattle.class_tuner.specs.Tuned.{IsTuned}
 use Rattle.potential_check.specs.SheetText.{sheet_text}
 use Rattle.profile_count.specs.ProfileText.{profile_of}

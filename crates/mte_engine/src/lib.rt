@@ -5,6 +5,7 @@
 //! failed read and a failed write are reported; and that after every fault but that of a write the sink is unchanged.
 #![tactic(auto)]
 
+mod call;
 mod checking;
 mod engine;
 mod fault;
@@ -30,6 +31,7 @@ pub use byte_streams::{
     ByteSink, ByteSource, Failure, History, MOST_INPUT, MemorySink, MemorySource, StreamSink,
     StreamSource,
 };
+pub use call::run_call;
 pub use checking::check;
 pub use engine::Status;
 pub use fault::{InputFault, ToolFault};
@@ -40,4 +42,5 @@ pub use profiling::profile;
 pub use replaying::replay;
 pub use running::run;
 pub use scoring::score;
+pub use tool_call::{Call, Limits};
 pub use tuning::tune;

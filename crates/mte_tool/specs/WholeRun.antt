@@ -2,14 +2,14 @@
 use Rattle.std.specs.Prelude.{◌≡◌, ◌≤◌, ◌⊎◌, ℕ, true, List, [], ◌++◌, length, Result, Ok, Err}
 use Rattle.byte_streams.specs.Streams.{SinkState, SourceState}
 use Rattle.byte_streams.specs.Transfer.{most_input}
-use Rattle.command_words.specs.declared.call.Call.{Call}
 use Rattle.mte_engine.specs.declared.engine.Status.{Status}
 use Rattle.mte_engine.specs.declared.fault.InputFault.{InputFault}
 use Rattle.mte_engine.specs.declared.fault.ToolFault.TheVariants.{OutOfMemory, Input, ReadFault, WriteFault}
+use Rattle.mte_engine.specs.Calls.{answers_of}
 use Rattle.mte_engine.specs.Outcome.{Answer, AnswersInput}
-use Rattle.mte_tool.specs.Calls.{answers_of}
 use Rattle.mte_tool.specs.declared.end.End.{End}
 use Rattle.mte_tool.specs.declared.end.End.TheVariants.{Shown, Refused, Ended}
+use Rattle.tool_call.specs.declared.call.Call.{Call}
 
 -- Nothing was given and nothing was taken yet.
 pub record AreNew (source : SourceState) (sink : SinkState) : Type 0 where

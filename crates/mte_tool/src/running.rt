@@ -1,11 +1,12 @@
 //! The call that the words of the command line mean, run by its engine.
 ghost use Rattle.std.specs.Prelude.{◌≡◌, map, string_bytes};
 ghost use Rattle.command_words.specs.Words.{AreRefused, Mean};
+ghost use Rattle.mte_engine.specs.Calls.{answers_of};
 ghost use Rattle.mte_engine.specs.Outcome.{Runs};
-ghost use Rattle.mte_tool.specs.Calls.{IsValid, MatchEnd, answers_of};
+ghost use Rattle.mte_tool.specs.Calls.{MatchEnd};
 
-use command_words::{Call, Fit, Refusal, Replay, Run, Tune, read_call};
-use mte_engine::{ByteSink, ByteSource, Status, ToolFault};
+use command_words::{Refusal, read_call};
+use mte_engine::{ByteSink, ByteSource, Call, Status, ToolFault, run_call};
 use std::alloc::Global;
 
 /// How the words of a command line came out.
@@ -37,34 +38,5 @@ pub fn run_call_of<R: ByteSource, W: ByteSink>(
             Err(fault) => CallEnd::Failed(fault),
         },
         Err(refusal) => CallEnd::Refused(refusal),
-    }
-}
-
-/// Runs the call's engine from the source to the sink.
-pub fn run_call<R: ByteSource, W: ByteSink>(
-    call: Call,
-    alloc: Global,
-    source: &mut R,
-    sink: &mut W,
-) -> Result<Status, ToolFault>
-    requires { IsValid call }
-    ensures { Runs (answers_of call) (R.state source.old) (R.state source.new) W.state sink.old sink.new result }
-{
-    match call {
-        Call::Score => mte_engine::score(alloc, source, sink),
-        Call::Tune(Tune { limit, step }) => mte_engine::tune(alloc, limit, step, source, sink),
-        Call::Check => mte_engine::check(alloc, source, sink),
-        Call::Footprint => mte_engine::footprint(alloc, source, sink),
-        Call::Fit(Fit { limit, step }) => mte_engine::fit(alloc, limit, step, source, sink),
-        Call::CheckFit => mte_engine::check_fit(alloc, source, sink),
-        Call::Profile => mte_engine::profile(alloc, source, sink),
-        Call::Replay(Replay { config }) => mte_engine::replay(alloc, config, source, sink),
-        Call::Run(
-            Run {
-                limit,
-                step,
-                config,
-            },
-        ) => mte_engine::run(alloc, limit, step, config, source, sink),
     }
 }

@@ -1,14 +1,5 @@
 //! `fit`.
-ghost use Rattle.std.specs.Prelude.{MatchResult};
-ghost use Rattle.clap.specs.Words.{found_of, rows_of};
-ghost use Rattle.command_words.specs.Calls.{Names};
-ghost use Rattle.command_words.specs.Spellings.{fit_name};
-ghost use Rattle.command_words.specs.declared.call.Call.TheVariants.{Fit as FitCall};
-
 use crate::commands::shared_help::{About, Options, Words, about, help_text};
-use crate::options::{limit_of, step_of};
-use crate::refusal::OptionFault;
-use clap::ArgMatches;
 
 /// The command's name.
 pub const NAME: &str = "fit";
@@ -61,27 +52,3 @@ pub const WORDS: Words = Words {
     about: ABOUT,
     options: Options::Limits,
 };
-
-/// The command's options.
-#[derive(Clone, Copy)]
-pub struct Fit {
-    /// The most classes of the table, 1 to 32.
-    pub limit: u8,
-    /// The granules that each class is a multiple of: 1, 2, 4 or 8.
-    pub step: u8,
-}
-
-impl Fit {
-    /// The options that clap found. `BadOption` if the step is not 1, 2, 4 or 8. A number outside its range is `BadOption` too, but clap
-    /// refuses it before.
-    pub fn of_options(options: &ArgMatches<'_>) -> Result<Fit, OptionFault>
-        ensures { MatchResult result
-            (λ o. Names fit_name (rows_of (found_of options.now)) (FitCall o))
-            (λ _. (o : Fit) → Names fit_name (rows_of (found_of options.now)) (FitCall o) → ⊥) }
-    {
-        Ok(Fit {
-            limit: limit_of(options)?,
-            step: step_of(options)?,
-        })
-    }
-}

@@ -1,15 +1,5 @@
 //! `replay`.
-ghost use Rattle.std.specs.Prelude.{MatchResult};
-ghost use Rattle.clap.specs.Words.{found_of, rows_of};
-ghost use Rattle.command_words.specs.Calls.{Names};
-ghost use Rattle.command_words.specs.Spellings.{replay_name};
-ghost use Rattle.command_words.specs.declared.call.Call.TheVariants.{Replay as ReplayCall};
-
 use crate::commands::shared_help::{About, Options, Words, about, help_text};
-use crate::options::config_of;
-use crate::refusal::OptionFault;
-use clap::ArgMatches;
-use heap_theory::Config;
 
 /// The command's name.
 pub const NAME: &str = "replay";
@@ -58,23 +48,3 @@ pub const WORDS: Words = Words {
     about: ABOUT,
     options: Options::Config,
 };
-
-/// The command's options.
-#[derive(Clone, Copy)]
-pub struct Replay {
-    /// The configuration of the heap.
-    pub config: Config,
-}
-
-impl Replay {
-    /// The options that clap found. `BadOption` if a number is outside its range, but clap refuses it before.
-    pub fn of_options(options: &ArgMatches<'_>) -> Result<Replay, OptionFault>
-        ensures { MatchResult result
-            (λ o. Names replay_name (rows_of (found_of options.now)) (ReplayCall o))
-            (λ _. (o : Replay) → Names replay_name (rows_of (found_of options.now)) (ReplayCall o) → ⊥) }
-    {
-        Ok(Replay {
-            config: config_of(options)?,
-        })
-    }
-}

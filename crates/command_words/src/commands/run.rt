@@ -1,15 +1,5 @@
 //! `run`.
-ghost use Rattle.std.specs.Prelude.{MatchResult};
-ghost use Rattle.clap.specs.Words.{found_of, rows_of};
-ghost use Rattle.command_words.specs.Calls.{Names};
-ghost use Rattle.command_words.specs.Spellings.{run_name};
-ghost use Rattle.command_words.specs.declared.call.Call.TheVariants.{Run as RunCall};
-
 use crate::commands::shared_help::{About, Options, Words, help_text};
-use crate::options::{config_of, limit_of, step_of};
-use crate::refusal::OptionFault;
-use clap::ArgMatches;
-use heap_theory::Config;
 
 /// The command's name.
 pub const NAME: &str = "run";
@@ -62,30 +52,3 @@ pub const WORDS: Words = Words {
     about: ABOUT,
     options: Options::LimitsAndConfig,
 };
-
-/// The command's options.
-#[derive(Clone, Copy)]
-pub struct Run {
-    /// The most classes of the table, 1 to 32.
-    pub limit: u8,
-    /// The granules that each class is a multiple of: 1, 2, 4 or 8.
-    pub step: u8,
-    /// The configuration of the heap.
-    pub config: Config,
-}
-
-impl Run {
-    /// The options that clap found. `BadOption` if the step is not 1, 2, 4 or 8. A number outside its range is `BadOption` too, but clap
-    /// refuses it before.
-    pub fn of_options(options: &ArgMatches<'_>) -> Result<Run, OptionFault>
-        ensures { MatchResult result
-            (λ o. Names run_name (rows_of (found_of options.now)) (RunCall o))
-            (λ _. (o : Run) → Names run_name (rows_of (found_of options.now)) (RunCall o) → ⊥) }
-    {
-        Ok(Run {
-            limit: limit_of(options)?,
-            step: step_of(options)?,
-            config: config_of(options)?,
-        })
-    }
-}

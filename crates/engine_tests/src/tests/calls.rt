@@ -1,103 +1,19 @@
-//! The engines with their options, as values, so that one table runs them all.
-ghost use Rattle.mte_engine.specs.Tune.{AreTuneOptions};
-ghost use Rattle.std.specs.Prelude.{◌↔◌, IsTrue};
-ghost use Rattle.heap_theory.specs.Config.{IsConfig};
-
+//! Calls of the engines, so that one table runs them all.
 use super::streams::{sink, source};
-use super::support::{HEAP, ended, same};
-use class_table::is_step;
-use mte_engine::{
-    ByteSink, ByteSource, Status, ToolFault, check, check_fit, fit, footprint, profile, replay,
-    run, score, tune,
-};
-use replay_core::Config;
+use super::support::{ended, same};
+use mte_engine::{ByteSink, ByteSource, Call, Status, ToolFault, run_call};
 use std::process::Abort;
 use std::test::Fail;
 
-/// An engine with its options; the region has 64 granules, and the seed is 1.
-#[derive(Clone, Copy)]
-pub enum Call {
-    Score,
-    Tune {
-        limit: u8,
-        step: u8,
-    },
-    Check,
-    Footprint,
-    Fit {
-        limit: u8,
-        step: u8,
-    },
-    CheckFit,
-    Profile,
-    Replay {
-        quarantine: u32,
-    },
-    Run {
-        limit: u8,
-        step: u8,
-        quarantine: u32,
-    },
-}
-
-/// Calls the engine.
+/// Runs a call whose options are in their ranges.
 pub fn call_on<R: ByteSource, W: ByteSink>(
     rt: &(impl Abort + AllocGlobal),
     call: Call,
     source: &mut R,
     sink: &mut W,
 ) -> Result<Status, ToolFault> {
-    match call {
-        Call::Score => score(rt.alloc(), source, sink),
-        Call::Check => check(rt.alloc(), source, sink),
-        Call::Footprint => footprint(rt.alloc(), source, sink),
-        Call::CheckFit => check_fit(rt.alloc(), source, sink),
-        Call::Profile => profile(rt.alloc(), source, sink),
-        _ => call_with_options(rt, call, source, sink),
-    }
-}
-
-fn call_with_options<R: ByteSource, W: ByteSink>(
-    rt: &(impl Abort + AllocGlobal),
-    call: Call,
-    source: &mut R,
-    sink: &mut W,
-) -> Result<Status, ToolFault> {
-    match call {
-        Call::Tune { limit, step } => {
-            assert!(rt; are_tune_options(limit, step));
-            tune(rt.alloc(), limit, step, source, sink)
-        }
-        Call::Fit { limit, step } => {
-            assert!(rt; are_tune_options(limit, step));
-            fit(rt.alloc(), limit, step, source, sink)
-        }
-        Call::Replay { quarantine } => replay(rt.alloc(), config(rt, quarantine), source, sink),
-        Call::Run {
-            limit,
-            step,
-            quarantine,
-        } => {
-            assert!(rt; are_tune_options(limit, step));
-            let config = config(rt, quarantine);
-            run(rt.alloc(), limit, step, config, source, sink)
-        }
-        _ => panic!(rt; "an engine without options"),
-    }
-}
-
-fn are_tune_options(limit: u8, step: u8) -> bool
-    ensures { IsTrue result ↔ AreTuneOptions limit step }
-{
-    1 <= limit && limit <= 32 && is_step(step)
-}
-
-// a region of 64 granules, the seed 1, and this quarantine
-fn config(rt: &impl Abort, quarantine: u32) -> Config
-    ensures { IsConfig result }
-{
-    assert!(rt; quarantine <= Config::MOST_QUARANTINE);
-    Config { quarantine, ..HEAP }
+    assert!(rt; call.is_valid());
+    run_call(call, rt.alloc(), source, sink)
 }
 
 /// Calls the engine on a text: this is written for it, and it ends so.

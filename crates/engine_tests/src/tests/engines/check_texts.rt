@@ -1,6 +1,7 @@
 //! `check` from text to text.
 use self::Case::{Fault, Optimal, Refused};
-use crate::tests::calls::{Call, answers};
+use crate::tests::calls::answers;
+use mte_engine::Call;
 use std::process::Abort;
 use std::test::Fail;
 

@@ -1,5 +1,6 @@
 //! `footprint`, `fit` and `check-fit` from text to text.
-use crate::tests::calls::{Call, Case, answer};
+use crate::tests::calls::{Case, answer};
+use mte_engine::{Call, Limits};
 use std::test::Fail;
 
 // Three blocks of 16 bytes are live at the first snapshot, and one of 40 at the second. One class of 64 bytes takes 192 bytes for them; one
@@ -215,10 +216,10 @@ const VERDICTS: &[Case] = &[
 
 const GROUPS: &[(Call, &[Case])] = &[
     (Call::Footprint, FOOTPRINTS),
-    (Call::Fit { limit: 2, step: 1 }, FITS_OF_TWO),
-    (Call::Fit { limit: 1, step: 1 }, FITS_OF_ONE),
-    (Call::Fit { limit: 2, step: 4 }, FITS_FOR_STEP_FOUR),
-    (Call::Fit { limit: 2, step: 1 }, HISTORY_FAULTS),
+    (Call::Fit(Limits { limit: 2, step: 1 }), FITS_OF_TWO),
+    (Call::Fit(Limits { limit: 1, step: 1 }), FITS_OF_ONE),
+    (Call::Fit(Limits { limit: 2, step: 4 }), FITS_FOR_STEP_FOUR),
+    (Call::Fit(Limits { limit: 2, step: 1 }), HISTORY_FAULTS),
     (Call::CheckFit, VERDICTS),
 ];
 

@@ -1,5 +1,7 @@
 //! Traces of a million events.
-use crate::tests::calls::{Call, answers};
+use crate::tests::calls::answers;
+use crate::tests::support::HEAP;
+use mte_engine::{Call, Limits};
 use std::alloc::{AllocError, Global};
 use std::test::Fail;
 
@@ -36,11 +38,7 @@ fn a_million_events_and_one_more(rt: HostRuntime) -> Result<(), Fail> {
 #[test]
 fn a_run_of_a_million_events(rt: HostRuntime) -> Result<(), Fail> {
     let trace = million_frees(rt.alloc())?;
-    let call = Call::Run {
-        limit: 1,
-        step: 1,
-        quarantine: 0,
-    };
+    let call = Call::Run(Limits { limit: 1, step: 1 }, HEAP);
     let written =
         "classes\nlimit 1\nwaste 0\nrow\nevents 1000000\nrequests 0\nnull large 0\nnull no-class 0\nnull exhausted 0\n\
                    faults tag 0\nfaults unmapped 0\nrefused frees 0\nloss 0\n";

@@ -2,10 +2,10 @@
 ghost use Rattle.std.specs.Prelude.{Some};
 ghost use Rattle.byte_streams.specs.Streams.{source_state};
 
-use crate::tests::calls::{Call, call_on};
+use crate::tests::calls::call_on;
 use crate::tests::streams::sink_with_room;
 use crate::tests::support::{ended, same};
-use mte_engine::{ByteSource, Failure, History};
+use mte_engine::{ByteSource, Call, Failure, History};
 use std::process::Abort;
 use std::test::Fail;
 

@@ -1,7 +1,7 @@
 //! `profile` from text to text.
 use super::pieces::Case::Text;
 use super::pieces::{Case, check};
-use crate::tests::calls::Call;
+use mte_engine::Call;
 use std::test::Fail;
 
 const PROFILES_OF_TRACES: &[Case] = &[

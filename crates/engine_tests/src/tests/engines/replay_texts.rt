@@ -1,7 +1,9 @@
 //! `replay` from text to text.
 use super::pieces::Case::{Report, Text};
 use super::pieces::{Case, check};
-use crate::tests::calls::Call;
+use crate::tests::support::HEAP;
+use mte_engine::Call;
+use replay_core::Config;
 use std::test::Fail;
 
 const TABLES_AND_REFUSALS: &[Case] = &[
@@ -106,9 +108,9 @@ const QUARANTINES: &[Case] = &[
 
 #[test]
 fn replays(rt: HostRuntime) -> Result<(), Fail> {
-    let unquarantined = Call::Replay { quarantine: 0 };
+    let unquarantined = Call::Replay(HEAP);
     check(&rt, unquarantined, TABLES_AND_REFUSALS)?;
     check(&rt, unquarantined, TAILS_AND_BYTES)?;
     check(&rt, unquarantined, REALLOCS)?;
-    check(&rt, Call::Replay { quarantine: 64 }, QUARANTINES)
+    check(&rt, Call::Replay(Config { quarantine: 64, ..HEAP }), QUARANTINES)
 }

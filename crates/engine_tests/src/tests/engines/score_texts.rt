@@ -1,5 +1,6 @@
 //! `score` from text to text.
-use crate::tests::calls::{Call, Case, answer};
+use crate::tests::calls::{Case, answer};
+use mte_engine::Call;
 use std::test::Fail;
 
 const SCORES: &[Case] = &[

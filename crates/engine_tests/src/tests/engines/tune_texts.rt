@@ -1,6 +1,7 @@
 //! `tune` from text to text.
 use self::Case::{Fault, Tuned};
-use crate::tests::calls::{Call, answers};
+use crate::tests::calls::answers;
+use mte_engine::{Call, Limits};
 use std::process::Abort;
 use std::test::Fail;
 
@@ -19,7 +20,7 @@ fn check(rt: &(impl Abort + AllocGlobal), cases: &[Case]) -> Result<(), Fail> {
             Tuned(limit, step, input, written) => (*limit, *step, *input, *written, "done"),
             Fault(input, wanted) => (2, 1, *input, "", *wanted),
         };
-        answers(rt, Call::Tune { limit, step }, input, written, wanted)?;
+        answers(rt, Call::Tune(Limits { limit, step }), input, written, wanted)?;
     }
     Ok(())
 }

@@ -1,10 +1,11 @@
 //! With ample memory nothing is refused: at each limit and step, at sizes about each power of two, at each number of rows, at each line.
 use super::support::profile as worked_profile;
-use crate::tests::calls::{Call, ends};
+use crate::tests::calls::ends;
 use crate::tests::support::{HEAP, same};
 use class_table::{ClassTable, LARGEST_COUNTED, is_step};
 use class_tuner::tune;
 use granule_memory::Memory;
+use mte_engine::{Call, Limits};
 use potential_check::{Sheet, SheetError, Verdict, check, read_sheet, write_sheet};
 use profile_count::Profile;
 use raw_region::RawRegion;
@@ -127,11 +128,7 @@ fn engines_about_each_power_of_two(rt: HostRuntime) -> Result<(), Fail> {
     Ok(())
 }
 
-const RUN: Call = Call::Run {
-    limit: 1,
-    step: 1,
-    quarantine: 0,
-};
+const RUN: Call = Call::Run(Limits { limit: 1, step: 1 }, HEAP);
 
 fn engines_on(rt: &(impl Abort + AllocGlobal), lines: usize) -> Result<(), Fail> {
     let text = "free 0\n".as_bytes().repeat(rt.alloc(), lines)?;

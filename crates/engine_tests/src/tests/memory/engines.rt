@@ -1,9 +1,10 @@
 //! The engines: where a growth is refused, the sink is as it was.
 use super::support::{PROFILE, SHEET, refused_twice};
-use crate::tests::calls::{Call, call_on};
+use crate::tests::calls::call_on;
 use crate::tests::streams::{sink, source};
-use crate::tests::support::same;
-use mte_engine::{MemorySink, Status, ToolFault};
+use crate::tests::support::{HEAP, same};
+use mte_engine::{Call, Limits, MemorySink, Status, ToolFault};
+use replay_core::Config;
 use std::process::Abort;
 use std::test::Fail;
 
@@ -25,7 +26,7 @@ fn scoring(rt: HostRuntime) -> Result<(), Fail> {
 
 #[test]
 fn tuning(rt: HostRuntime) -> Result<(), Fail> {
-    answers(&rt, Call::Tune { limit: 2, step: 1 }, PROFILE, SHEET)
+    answers(&rt, Call::Tune(Limits { limit: 2, step: 1 }), PROFILE, SHEET)
 }
 
 #[test]
@@ -44,7 +45,7 @@ fn taking_a_footprint(rt: HostRuntime) -> Result<(), Fail> {
 
 #[test]
 fn fitting(rt: HostRuntime) -> Result<(), Fail> {
-    answers(&rt, Call::Fit { limit: 2, step: 1 }, HISTORY, FIT)
+    answers(&rt, Call::Fit(Limits { limit: 2, step: 1 }), HISTORY, FIT)
 }
 
 #[test]
@@ -64,7 +65,7 @@ fn profiling(rt: HostRuntime) -> Result<(), Fail> {
 fn replaying(rt: HostRuntime) -> Result<(), Fail> {
     let mut input = String::from_str(rt.alloc(), "classes 2 4\n")?;
     input.push_str(TRACE)?;
-    answers(&rt, Call::Replay { quarantine: 64 }, &input, REPORT)
+    answers(&rt, Call::Replay(Config { quarantine: 64, ..HEAP }), &input, REPORT)
 }
 
 #[test]
@@ -72,11 +73,7 @@ fn running(rt: HostRuntime) -> Result<(), Fail> {
     let sheet = "classes 2\nlimit 2\nwaste 16\nrow 16\nrow 16\n";
     let mut written = String::from_str(rt.alloc(), sheet)?;
     written.push_str(REPORT)?;
-    let call = Call::Run {
-        limit: 2,
-        step: 1,
-        quarantine: 64,
-    };
+    let call = Call::Run(Limits { limit: 2, step: 1 }, Config { quarantine: 64, ..HEAP });
     answers(&rt, call, TRACE, &written)
 }
 
