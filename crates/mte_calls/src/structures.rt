@@ -4,8 +4,8 @@ ghost use Rattle.std.specs.Prelude.{◌≡◌};
 use crate::ended::Ended;
 use crate::faults::{code_of, line_of};
 use handed_text::{BAD_OPTION, DONE, MISUSE, NO, OUT_OF_MEMORY, REFUSED};
+use heap_theory::Config;
 use mte_engine::{Call, Limits};
-use replay_core::Config;
 
 /// The options. A call reads those that are its own.
 #[repr(C)]

@@ -18,10 +18,10 @@ valid_config options config has = record {
 pub call_is_valid : (command : Option (Text × List Row)) (call : Call) → IsCall command call → IsValid call
 call_is_valid None call is = absurd is
 call_is_valid (Some command) Score is = tt
-call_is_valid (Some command) (Tune limits) is = record { some = is.1.1; few = is.1.2; is_step = is.2.1 }
+call_is_valid (Some command) (Tune limits) is = record { some = is.1.0.1; few = is.1.0.2; is_step = is.1.1.1 }
 call_is_valid (Some command) Check is = tt
 call_is_valid (Some command) Footprint is = tt
-call_is_valid (Some command) (Fit limits) is = record { some = is.1.1; few = is.1.2; is_step = is.2.1 }
+call_is_valid (Some command) (Fit limits) is = record { some = is.1.0.1; few = is.1.0.2; is_step = is.1.1.1 }
 call_is_valid (Some command) CheckFit is = tt
 call_is_valid (Some command) Profile is = tt
 call_is_valid (Some command) (Replay config) is = valid_config command.1 config is.1
