@@ -3,8 +3,8 @@ ghost use Rattle.std.specs.Prelude.{◌≡◌, ◌++◌, [], List, ℕ, OnOk};
 
 use std::alloc::{AllocError, Global};
 
-/// The bytes that are moved or cleared at a time.
-pub(crate) const BLOCK: usize = 1_024;
+// the bytes that are moved at a time
+const BLOCK: usize = 1_024;
 
 /// Takes the bytes of an input, in pieces of any size. It keeps a fault of the text until it has taken the whole input.
 pub trait Input: Drop {

@@ -13,6 +13,7 @@ mod output;
 mod read_write_streams;
 mod streams;
 mod transfer;
+mod zeros;
 
 pub use fault::ReadError;
 pub use history::History;
@@ -22,3 +23,4 @@ pub use output::{Output, Text};
 pub use read_write_streams::{StreamSink, StreamSource};
 pub use streams::{ByteSink, ByteSource, Failure};
 pub use transfer::{MOST_INPUT, read_all, write_all};
+pub use zeros::with_zeros;

@@ -3,9 +3,10 @@ ghost use Rattle.std.specs.Prelude.{◌≡◌, [], IfOk, vec_len};
 ghost use Rattle.byte_streams.specs.Transfer.{HasRead, HasWritten, IsReadFewTimes};
 
 use crate::fault::ReadError;
-use crate::input::{BLOCK, Input};
+use crate::input::Input;
 use crate::output::Output;
 use crate::streams::{ByteSink, ByteSource, Failure};
+use crate::zeros::with_zeros;
 use std::alloc::{AllocError, Global};
 
 /// The most bytes of an input.
@@ -48,12 +49,7 @@ pub fn read_all<R: ByteSource, I: Input>(
 fn new_piece(alloc: Global) -> Result<Vec<u8>, AllocError>
     ensures { IfOk result (λ piece. vec_len piece ≡ PIECE) }
 {
-    // (block by block, as a text is appended)
-    let mut piece = Vec::with_capacity(alloc, PIECE)?;
-    for _block in 0..PIECE / BLOCK {
-        piece.extend_from_slice(&[0; BLOCK])?;
-    }
-    Ok(piece)
+    with_zeros(Vec::new(alloc), PIECE)
 }
 
 /// Writes all pieces of the output. It takes no memory.

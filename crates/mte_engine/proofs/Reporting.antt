@@ -1,5 +1,5 @@
 -- The report that is still to come, as events are replayed and their lines are appended to a buffer.
-use Rattle.std.proofs.Common.{◌≡◌, ◌≤◌, ℕ, ◌+◌, ◌-◌, List, [], ◌∷◌, ◌++◌, length, take, drop, refl, sym, ap, ◌∙◌, append_assoc, append-nil, take_all, arith}
+use Rattle.std.proofs.Common.{◌≡◌, ◌≤◌, ℕ, ◌+◌, ◌-◌, List, [], ◌∷◌, ◌++◌, length, take, drop, refl, sym, ap, ◌∙◌, append_assoc, append-nil, arith}
 use Rattle.std.proofs.lemmas.List.{drop-take}
 use Rattle.std.proofs.Math.Seq.{take-append_seam}
 use Rattle.replay_theory.specs.Report.{report, report_line, totals_text}
@@ -73,8 +73,6 @@ part_ready items written filled inside =
     let whole : written + (filled - written) ≡ filled = omega arith in
     sym (drop-take written (filled - written) items) ∙ ap (λ n. drop written (take n items)) whole
 
--- the text of m bytes that a buffer began with, before it was filled up
-pub text_kept : (text more : List ℕ) (m n : ℕ) → m ≡ length text → m ≤ n → take m (take n text ++ more) ≡ text
-text_kept text more m n is fits =
-    let long : length text ≤ n = omega arith in
-    ap (λ t. take m (t ++ more)) (take_all n text long) ∙ ap (λ k. take k (text ++ more)) is ∙ take-append_seam text more
+-- the text of m bytes that a buffer begins with
+pub text_kept : (text more : List ℕ) (m : ℕ) → m ≡ length text → take m (text ++ more) ≡ text
+text_kept text more m is = ap (λ k. take k (text ++ more)) is ∙ take-append_seam text more

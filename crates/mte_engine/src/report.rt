@@ -9,7 +9,7 @@ ghost use Rattle.trace_reader.specs.TraceLine.{most_events};
 ghost use Rattle.std.specs.Prelude.{◌≡◌, ◌+◌, ◌≤◌, ◌++◌, drop, length, take, vec_len, true, All, IfOk};
 
 use arrayvec::ArrayVec;
-use byte_streams::Output;
+use byte_streams::{Output, with_zeros};
 use class_table::ClassTable;
 use replay_core::{Config, LINE_ROOM, Replay, TOTALS_ROOM};
 use std::alloc::{AllocError, Global};
@@ -52,9 +52,8 @@ impl Report {
         ensures { IfOk result (λ report.
             report_left report ≡ text.items ++ report_on config table.now reader.events) }
     {
-        let mut buffer = text;
-        let from = buffer.len();
-        buffer.resize(from + BUFFER, 0)?;
+        let from = text.len();
+        let mut buffer = with_zeros(text, BUFFER)?;
         let mut replay = Replay::new(alloc, table, config)?;
         let (filled, is_whole) = fill(&mut replay, &mut reader, &mut buffer, from);
         Ok(Report {

@@ -24,52 +24,52 @@ window_put bytes window i fits =
     ∙ sym (append_assoc (take i bytes) window (drop (i + length window) bytes))
 
 -- the first bytes of a window of one byte
-pub window_taken : (xs : List ℕ) (from to v : ℕ) → from ≤ to → to ≤ from + 32 → from + 32 ≤ length xs →
-    take to (with_bytes xs from (replicate 32 v)) ≡ take from xs ++ replicate (to - from) v
-window_taken xs from to v less few fits =
+pub window_taken : (w : ℕ) (xs : List ℕ) (from to v : ℕ) → from ≤ to → to ≤ from + w → from + w ≤ length xs →
+    take to (with_bytes xs from (replicate w v)) ≡ take from xs ++ replicate (to - from) v
+window_taken w xs from to v less few fits =
     let front : List ℕ = take from xs in let n : ℕ = to - from in
     let front-long : length front ≡ from = length-take-le from xs (omega arith) in
-    let long : length (front ++ replicate 32 v) ≡ from + 32 =
-    omega (arith, length-append front (replicate 32 v), length-replicate {A = ℕ} 32 v) in
+    let long : length (front ++ replicate w v) ≡ from + w =
+    omega (arith, length-append front (replicate w v), length-replicate {A = ℕ} w v) in
     let at : to ≡ length front + n = omega arith in
-    let ends : from + length (replicate 32 v) ≡ from + 32 = omega (arith, length-replicate {A = ℕ} 32 v) in
-    take-append-le to (front ++ replicate 32 v) (drop (from + length (replicate 32 v)) xs) (omega arith)
-    ∙ ap (λ (k : ℕ). take k (front ++ replicate 32 v)) at ∙ take-append-add front (replicate 32 v) n
-    ∙ ap (λ (t : List ℕ). front ++ t) (take-replicate n 32 v (omega arith))
+    let ends : from + length (replicate w v) ≡ from + w = omega (arith, length-replicate {A = ℕ} w v) in
+    take-append-le to (front ++ replicate w v) (drop (from + length (replicate w v)) xs) (omega arith)
+    ∙ ap (λ (k : ℕ). take k (front ++ replicate w v)) at ∙ take-append-add front (replicate w v) n
+    ∙ ap (λ (t : List ℕ). front ++ t) (take-replicate n w v (omega arith))
 
 -- A window of one byte is written to a list that from some place on is as an old one, and then the old bytes after a shorter run.
-pub overlaid : (old xs ys zs rest : List ℕ) (from to v : ℕ) → from ≤ to → to ≤ from + 32 → to + 32 ≤ length xs → to + 32 ≤ length old →
-    drop (to + 32) xs ≡ drop (to + 32) old → ys ≡ with_bytes xs from (replicate 32 v) → rest ≡ slice_range old to (to + 32) →
+pub overlaid : (w : ℕ) (old xs ys zs rest : List ℕ) (from to v : ℕ) → from ≤ to → to ≤ from + w → to + w ≤ length xs → to + w ≤ length old →
+    drop (to + w) xs ≡ drop (to + w) old → ys ≡ with_bytes xs from (replicate w v) → rest ≡ slice_range old to (to + w) →
     zs ≡ with_bytes ys to rest → zs ≡ take from xs ++ replicate (to - from) v ++ drop to old
-overlaid old xs ys zs rest from to v less few fits fits-old same window saved put =
-    let run : List ℕ = replicate 32 v in
-    let run-long : length run ≡ 32 = length-replicate {A = ℕ} 32 v in
+overlaid w old xs ys zs rest from to v less few fits fits-old same window saved put =
+    let run : List ℕ = replicate w v in
+    let run-long : length run ≡ w = length-replicate {A = ℕ} w v in
     let after : List ℕ = drop to old in
-    let rest-is : rest ≡ take 32 after = saved ∙ slice_range-add old to 32 in
-    let rest-long : length rest ≡ 32 = ap length rest-is ∙ length-take-le 32 after (omega (arith, length-drop to old)) in
-    let ends : to + length rest ≡ to + 32 = omega arith in
+    let rest-is : rest ≡ take w after = saved ∙ slice_range-add old to w in
+    let rest-long : length rest ≡ w = ap length rest-is ∙ length-take-le w after (omega (arith, length-drop to old)) in
+    let ends : to + length rest ≡ to + w = omega arith in
     let head : take to ys ≡ take from xs ++ replicate (to - from) v =
-    ap (take to) window ∙ window_taken xs from to v less few (omega arith) in
-    let tail : drop (to + length rest) ys ≡ drop 32 after =
-    ap (λ (k : ℕ). drop k ys) ends ∙ ap (drop (to + 32)) window ∙ drop-with_bytes xs run from (omega arith) (to + 32) (omega arith) ∙ same
-    ∙ sym (drop-drop 32 to old) in
+    ap (take to) window ∙ window_taken w xs from to v less few (omega arith) in
+    let tail : drop (to + length rest) ys ≡ drop w after =
+    ap (λ (k : ℕ). drop k ys) ends ∙ ap (drop (to + w)) window ∙ drop-with_bytes xs run from (omega arith) (to + w) (omega arith) ∙ same
+    ∙ sym (drop-drop w to old) in
     put ∙ ap (λ (t : List ℕ). take to ys ++ rest ++ t) tail
-    ∙ ap (λ (t : List ℕ). t ++ rest ++ drop 32 after) head
-    ∙ append_assoc (take from xs ++ replicate (to - from) v) rest (drop 32 after)
-    ∙ ap (λ (t : List ℕ). take from xs ++ replicate (to - from) v ++ (t ++ drop 32 after)) rest-is
-    ∙ ap (λ (t : List ℕ). take from xs ++ replicate (to - from) v ++ t) (take-append-drop 32 after)
+    ∙ ap (λ (t : List ℕ). t ++ rest ++ drop w after) head
+    ∙ append_assoc (take from xs ++ replicate (to - from) v) rest (drop w after)
+    ∙ ap (λ (t : List ℕ). take from xs ++ replicate (to - from) v ++ (t ++ drop w after)) rest-is
+    ∙ ap (λ (t : List ℕ). take from xs ++ replicate (to - from) v ++ t) (take-append-drop w after)
 
 -- and two such windows, one after the other
-pub overlaid_twice : (old once twice zs rest : List ℕ) (from middle to v : ℕ) → from ≤ middle → middle ≤ from + 32 → middle ≤ to →
-    to ≤ middle + 32 → from + 96 ≤ length old → once ≡ with_bytes old from (replicate 32 v) →
-    twice ≡ with_bytes once middle (replicate 32 0) → rest ≡ slice_range old to (to + 32) → zs ≡ with_bytes twice to rest →
+pub overlaid_twice : (w : ℕ) (old once twice zs rest : List ℕ) (from middle to v : ℕ) → from ≤ middle → middle ≤ from + w → middle ≤ to →
+    to ≤ middle + w → to + w ≤ length old → once ≡ with_bytes old from (replicate w v) →
+    twice ≡ with_bytes once middle (replicate w 0) → rest ≡ slice_range old to (to + w) → zs ≡ with_bytes twice to rest →
     zs ≡ take from old ++ replicate (middle - from) v ++ replicate (to - middle) 0 ++ drop to old
-overlaid_twice old once twice zs rest from middle to v first few second fewer fits one two saved put =
-    let run : List ℕ = replicate 32 v in
-    let run-long : length run ≡ 32 = length-replicate {A = ℕ} 32 v in
+overlaid_twice w old once twice zs rest from middle to v first few second fewer fits one two saved put =
+    let run : List ℕ = replicate w v in
+    let run-long : length run ≡ w = length-replicate {A = ℕ} w v in
     let once-long : length once ≡ length old = ap length one ∙ length-with_bytes old run from (omega arith) in
-    let same : drop (to + 32) once ≡ drop (to + 32) old =
-    ap (drop (to + 32)) one ∙ drop-with_bytes old run from (omega arith) (to + 32) (omega arith) in
-    overlaid old once twice zs rest middle to 0 second fewer (omega arith) (omega arith) same two saved put
+    let same : drop (to + w) once ≡ drop (to + w) old =
+    ap (drop (to + w)) one ∙ drop-with_bytes old run from (omega arith) (to + w) (omega arith) in
+    overlaid w old once twice zs rest middle to 0 second fewer (omega arith) (omega arith) same two saved put
     ∙ ap (λ (t : List ℕ). t ++ replicate (to - middle) 0 ++ drop to old)
-    (ap (take middle) one ∙ window_taken old from middle v first few (omega arith))
+    (ap (take middle) one ∙ window_taken w old from middle v first few (omega arith))

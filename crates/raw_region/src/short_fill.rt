@@ -10,6 +10,9 @@ use std::simd::prelude::*;
 // the bytes that are written together
 const WINDOW: usize = 32;
 
+// and where both runs are short
+const HALF: usize = WINDOW / 2;
+
 /// Writes `value` to each of the bytes from place `from` to place `to - 1`.
 #[inline(always)]
 pub(crate) fn fill_run(bytes: &mut [u8], from: usize, to: usize, value: u8)
@@ -24,7 +27,7 @@ pub(crate) fn fill_run(bytes: &mut [u8], from: usize, to: usize, value: u8)
     } else if count >= WINDOW && count <= 2 * WINDOW {
         fill_both_ends::<WINDOW>(&mut bytes[from..to], value);
     } else {
-        bytes[from..to].fill(value);
+        fill_all(&mut bytes[from..to], value);
     }
 }
 
@@ -35,6 +38,13 @@ pub(crate) fn fill_then_clear(bytes: &mut [u8], from: usize, middle: usize, to: 
     ensures { bytes.new ≡ take from bytes.old ++ replicate (middle - from) value ++ replicate (to - middle) 0 ++ drop to bytes.old }
 {
     if middle - from <= WINDOW && to - middle <= WINDOW && bytes.len() - from >= 3 * WINDOW {
+        if to - from <= HALF {
+            let rest = half_at(bytes, to);
+            put_half(bytes, from, u8x16::splat(value));
+            put_half(bytes, middle, u8x16::splat(0));
+            put_half(bytes, to, rest);
+            return;
+        }
         let rest = window_at(bytes, to);
         put_window(bytes, from, u8x32::splat(value));
         put_window(bytes, middle, u8x32::splat(0));
@@ -63,6 +73,34 @@ fn put_window(bytes: &mut [u8], at: usize, window: u8x32)
     ensures { bytes.new ≡ with_bytes bytes.old at window }
 {
     window.copy_to_slice(&mut bytes[at..]);
+}
+
+// The half of a window from place `at` on.
+#[inline(always)]
+fn half_at(bytes: &[u8], at: usize) -> u8x16
+    requires { at + HALF ≤ length bytes.now }
+    ensures { result ≡ slice_range bytes.now at (at + HALF) }
+{
+    u8x16::from_slice(&bytes[at..])
+}
+
+// Writes half of a window to the bytes from place `at` on.
+#[inline(always)]
+fn put_half(bytes: &mut [u8], at: usize, half: u8x16)
+    requires { at + HALF ≤ length bytes.old }
+    ensures { bytes.new ≡ with_bytes bytes.old at half }
+{
+    half.copy_to_slice(&mut bytes[at..]);
+}
+
+// Writes `value` to each byte. The compiler makes one call of memset of this loop, and of `fill` one for all bytes but the last.
+#[inline(always)]
+fn fill_all(bytes: &mut [u8], value: u8)
+    ensures { bytes.new ≡ replicate (length bytes.old) value }
+{
+    for place in 0..bytes.len() {
+        bytes[place] = value;
+    }
 }
 
 // Writes `value` to each of `N` to `2 * N` bytes: to the first `N` and to the last `N`.

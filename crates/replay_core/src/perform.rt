@@ -35,7 +35,7 @@ pub(crate) fn perform(
 {
     match *event {
         Event::Malloc { v, n } => give(variables, v, heap.malloc_with_loss(n)),
-        Event::Calloc { v, n } => give(variables, v, calloc_with_loss(heap, n)),
+        Event::Calloc { v, n } => give(variables, v, heap.calloc_with_loss(n)),
         Event::Realloc { v, n } => reallocate(heap, variables, v, n),
         Event::Free { v } => free(heap, variables[usize::from(v)]),
         Event::Load { v, off, len } => {
@@ -53,20 +53,6 @@ pub(crate) fn perform(
             };
             Answer::Silent
         }
-    }
-}
-
-// A calloc, with the bytes that its chunk leaves unused.
-fn calloc_with_loss(heap: &mut Heap, n: u32) -> Result<(u64, u32), NullCause>
-    ensures answer { pointer_in result ≡ (calloc_step heap.old.state n).answer }
-    ensures loss { IfOk result (λ given. given.1 ≡ loss_of_size heap.old.state.layout.classes n) }
-    ensures state { heap.new.state ≡ (calloc_step heap.old.state n).heap }
-    ensures frees { heap.new.frees ≡ heap.old.frees }
-{
-    let loss = heap.loss(n);
-    match heap.calloc(n) {
-        Ok(p) => Ok((p, loss)),
-        Err(cause) => Err(cause),
     }
 }
 
@@ -105,9 +91,8 @@ fn reallocate(heap: &mut Heap, variables: &mut [u64], v: u16, n: u32) -> Answer
     ensures frees { heap.new.frees ≤ heap.old.frees + 1 }
     ensures tells { TellsRequest heap.old.state.layout.classes (Some n) result }
 {
-    let loss = heap.loss(n);
-    match heap.realloc(variables[usize::from(v)], n) {
-        Ok(p) => {
+    match heap.realloc_with_loss(variables[usize::from(v)], n) {
+        Ok((p, loss)) => {
             variables[usize::from(v)] = p;
             Answer::Served { loss }
         }

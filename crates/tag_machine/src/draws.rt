@@ -8,7 +8,9 @@ pub(crate) fn next_offset(seed: u16) -> u8
     ensures offset { result ≡ next_offset seed }
     ensures below { result < 16 }
 {
-    ((seed ^ (seed >> 2) ^ (seed >> 3) ^ (seed >> 5)) & 0xf) as u8
+    // the bits at 0, 3, and at 2 and 5, which are those two places up
+    let twice = seed ^ (seed >> 3);
+    ((twice ^ (twice >> 2)) & 0xf) as u8
 }
 
 /// The seed after this draw, with the four new bits highest.

@@ -42,10 +42,12 @@ err_under : {T E D : Type 0} (f : E → D) (e : E) (o : Result T D) → IsErrAnd
 err_under f e (Ok x) never = absurd never
 err_under f e (Err d) is = ap Err is
 
-pub all_named : {T E D : Type 0} (f : E → D) (r : Result T E) (out : Result T D) →
-    MatchResult r (λ x. out ≡ Ok x) (λ e. IsErrAnd out (λ d. d ≡ f e)) → out ≡ result_map_both (λ x. x) f r
-all_named f (Ok x) out cases = cases
-all_named f (Err e) out cases = err_under f e out cases
+-- the address of a chunk that comes with what it loses, where only an error gets a name
+pub addresses_named : {E D : Type 0} (f : E → D) (r : Result (ℕ × ℕ) E) (out : Result (ℕ × ℕ) D) →
+    MatchResult r (λ x. out ≡ Ok x) (λ e. IsErrAnd out (λ d. d ≡ f e)) →
+    result_map_both (λ given. given.0) (λ e. e) out ≡ result_map_both (λ p. p) f (result_map_both (λ given. given.0) (λ e. e) r)
+addresses_named f (Ok x) out cases = ap (λ o. result_map_both (λ given. given.0) (λ e. e) o) cases
+addresses_named f (Err e) out cases = ap (λ o. result_map_both (λ given. given.0) (λ e. e) o) (err_under f e out cases)
 
 -- ---- a chunk that moves
 
@@ -61,8 +63,9 @@ pub record IsMove (old new : HeapAndFrees) (chunk : Chunk) (n : ℕ) (r : Result
   pub state : new.state ≡ (move_with old.state chunk n (slot_for_request old.state n)).heap
   pub counted : new.frees ≡ old.frees + (if is_some (result_ok (slot_for_request old.state n)) then 1 else 0)
 
-pub moves : (old new : HeapAndFrees) (chunk : Chunk) (n : ℕ) (r : Result ℕ NullCause) → IfOk r (IsMoved old chunk n new) →
-    IfErr r (λ cause. slot_for_request old.state n ≡ Err cause) → OnErr r (new ≡ old) → IsMove old new chunk n r
+pub moves : (old new : HeapAndFrees) (chunk : Chunk) (n : ℕ) (r : Result (ℕ × ℕ) NullCause) →
+    IfOk r (λ given. IsMoved old chunk n new given.0) → IfErr r (λ cause. slot_for_request old.state n ≡ Err cause) →
+    OnErr r (new ≡ old) → IsMove old new chunk n (result_map_both (λ given. given.0) (λ e. e) r)
 moves old new chunk n x4 ok err same = grind arith
 
 -- ---- the parts of a move

@@ -7,7 +7,7 @@ use Rattle.std.proofs.lemmas.List.Quantifiers.{position-Some}
 use Rattle.std.proofs.lemmas.Option.{slice_get-get_or, slice_get_within, get_or_from_slice_get}
 use Rattle.class_table.specs.Layout.{Slot}
 use Rattle.class_table.specs.Sizes.{serves, chunk_granules, largest_counted}
-use Rattle.class_table.specs.Tables.{IsLegalTable, class_number_for}
+use Rattle.class_table.specs.Tables.{IsLegalTable, class_for, class_number_for}
 use Rattle.heap_theory.specs.declared.refusal.NullCause.{NullCause}
 use Rattle.heap_theory.specs.declared.refusal.NullCause.TheVariants.{Large, NoClass, Exhausted}
 use Rattle.heap_theory.specs.Calls.{is_class_of}
@@ -59,3 +59,11 @@ module _ (h : Heap) (n : ℕ) where
       let fits : n ≤ 16 * slice_index h.layout.classes k - 16 = leb-true _ _ there.1 in
       omega arith
   room_in_class slot number cause_eq (Err e) wide at ok same = cc
+
+  pub class_in : (slot : Slot) (number : ℕ) (cause_eq : NullCause → NullCause → Bool) (r : Result ℕ NullCause) →
+      slice_get h.layout.classes number ≡ Some slot.class → IfOk r (λ k. (n ≤ largest_counted) × (class_number_for h.layout.classes n ≡ Some k)) →
+      result_eq nat_eq cause_eq r (Ok number) ≡ true → class_for h.layout.classes n ≡ Some slot.class
+  class_in slot number cause_eq (Ok k) at ok same =
+      laws.class_by_number n h.layout.classes
+      ∙ ap (option_and_then (slice_get h.layout.classes)) (ok.1 ∙ ap Some (eqb-true k number same)) ∙ at
+  class_in slot number cause_eq (Err e) at ok same = absurd cc

@@ -30,8 +30,8 @@ retired_header header mark = record header { standing = Quarantined; next = 0; m
 -- A live chunk of the heap, with its slot's place and the number of its class.
 pub record IsChunk (heap : Heap) (chunk : Chunk) : Type 0 where
   pub slot : IsSlot heap chunk.slot
-  pub start : chunk.place.start ≡ (slot_in heap chunk.slot).start
-  pub class : chunk.place.class ≡ (slot_in heap chunk.slot).class
+  pub start : chunk.start ≡ (slot_in heap chunk.slot).start
+  pub class : chunk.class ≡ (slot_in heap chunk.slot).class
   pub number : slice_get heap.layout.classes chunk.number ≡ Some (slot_in heap chunk.slot).class
   pub numbered : chunk.number ≡ class_number heap.layout chunk.slot
   pub live : state_at heap chunk.slot ≡ Given chunk.size chunk.tag

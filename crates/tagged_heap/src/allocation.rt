@@ -13,7 +13,7 @@ use crate::heap::Heap;
 use crate::next_slot::take_slot;
 use crate::slot_changes::give_out;
 use crate::tags::chunk_granules;
-use class_table::{LARGEST_CLASS, LARGEST_COUNTED, Layout, Slot};
+use class_table::{LARGEST_CLASS, LARGEST_COUNTED, Layout};
 use heap_theory::NullCause;
 use machine_theory::GRANULE_BYTES;
 
@@ -30,13 +30,13 @@ pub(crate) fn class_number_for(layout: &Layout, n: u32) -> Result<usize, NullCau
     layout.find(n).ok_or(NullCause::NoClass)
 }
 
-// The bytes that a chunk of `n` bytes leaves unused in its block.
-fn unused_bytes(place: Slot, n: u32) -> u32
-    requires room { chunk_granules n < place.class }
-    requires class { place.class ≤ LARGEST_CLASS }
-    ensures { result ≡ GRANULE_BYTES * place.class - GRANULE_BYTES - n }
+/// The bytes that a chunk of `n` bytes leaves unused in a block of this class.
+pub(crate) fn unused_bytes(class: u32, n: u32) -> u32
+    requires room { chunk_granules n < class }
+    requires few { class ≤ LARGEST_CLASS }
+    ensures { result ≡ GRANULE_BYTES * class - GRANULE_BYTES - n }
 {
-    GRANULE_BYTES as u32 * (place.class - 1) - n
+    GRANULE_BYTES as u32 * (class - 1) - n
 }
 
 /// A chunk that was given out: its slot, the slot's header granule, its address, and the bytes that it leaves unused in its block.
@@ -80,16 +80,28 @@ impl Heap {
     }
 
     /// As `malloc`, with all bytes of the chunk's granules set to 0.
-    #[tactic(auto, unfolding(heap_theory::specs::Calls::calloc_step, heap_theory::specs::Calls::given_out))]
     pub fn calloc(&mut self, n: u32) -> Result<u64, NullCause>
         ensures answer { result ≡ (calloc_step self.old.state n).answer }
         ensures state { self.new.state ≡ (calloc_step self.old.state n).heap }
         ensures frees { self.new.frees ≡ self.old.frees }
         ensures refused { OnErr result (self.new ≡ self.old) }
     {
-        let given = self.allocate(n)?;
-        self.zero_chunk(given, n);
-        Ok(given.address)
+        let given = self.calloc_with_loss(n)?;
+        Ok(given.0)
+    }
+
+    /// As `calloc`, and returns the bytes that the chunk leaves unused in its block (`loss`), too.
+    #[tactic(auto, unfolding(heap_theory::specs::Calls::calloc_step, heap_theory::specs::Calls::given_out))]
+    pub fn calloc_with_loss(&mut self, n: u32) -> Result<(u64, u32), NullCause>
+        ensures answer { result_map_both (λ given. given.0) (λ cause. cause) result ≡ (calloc_step self.old.state n).answer }
+        ensures loss { IfOk result (λ given. given.1 ≡ loss_of_size self.old.state.layout.classes n) }
+        ensures state { self.new.state ≡ (calloc_step self.old.state n).heap }
+        ensures frees { self.new.frees ≡ self.old.frees }
+        ensures refused { OnErr result (self.new ≡ self.old) }
+    {
+        let chunk = self.allocate(n)?;
+        self.zero_chunk(chunk, n);
+        Ok((chunk.address, chunk.loss))
     }
 
     /// Gives out the slot for a request of n bytes, or says why there is none.
@@ -122,7 +134,7 @@ impl Heap {
             slot,
             start: place.start,
             address,
-            loss: unused_bytes(place, n),
+            loss: unused_bytes(place.class, n),
         })
     }
 

@@ -19,18 +19,20 @@ use crate::read_header::{class_number, header};
 use crate::slot_changes::retire;
 use chunk_header::{Header, State, set_freed};
 use class_lists::ClassLists;
-use class_table::{Layout, Slot};
+use class_table::Layout;
 use granule_memory::Memory;
 use heap_theory::FreeError;
 use machine_theory::GRANULE_BYTES;
 use quarantine_core::Quarantine;
 use tag_machine::logical_tag;
 
-/// A live chunk: its slot, where the slot lies, the number of its class in the table, the number of bytes that were requested, and its tag.
+/// A live chunk: its slot, the slot's header granule and its class, the number of that class in the table, the number of bytes that were
+/// requested, and its tag.
 #[derive(Clone, Copy)]
 pub(crate) struct Chunk {
     pub(crate) slot: u32,
-    pub(crate) place: Slot,
+    pub(crate) start: u32,
+    pub(crate) class: u32,
     pub(crate) number: usize,
     pub(crate) size: u32,
     pub(crate) tag: u8,
@@ -87,7 +89,8 @@ impl Heap {
         let class = self.layout.class(number);
         Ok(Chunk {
             slot,
-            place: Slot { start, class },
+            start,
+            class,
             number,
             size: u32::from(header.size),
             tag: header.tag,
@@ -104,12 +107,12 @@ impl Heap {
     {
         let Chunk {
             slot,
-            place,
+            start,
+            class,
             number,
             size,
             tag,
         } = chunk;
-        let Slot { start, class } = place;
         let mark = self.total;
         let before = Header {
             state: State::Live,

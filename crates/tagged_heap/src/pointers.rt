@@ -4,7 +4,7 @@ ghost use Rattle.heap_theory.specs.State.{payload_place};
 ghost use Rattle.machine_theory.specs.Address.{place_of, region_start};
 ghost use Rattle.std.specs.Prelude.{◌≡◌, ◌+◌, ◌*◌, ◌^◌, ◌<◌, IfNone, IfSome, ℕ};
 
-use class_table::Layout;
+use class_table::{FEWEST_GRANULES, Layout};
 use machine_theory::GRANULE_BYTES;
 use tag_machine::{REGION_START, place_of};
 
@@ -24,13 +24,15 @@ pub(crate) fn slot_of_pointer(layout: &Layout, p: u64) -> Option<(u32, u32)>
         × (p < 2 ^ 60) × (place_of p ≡ payload_place (slot_of layout.now found.0))) }
     ensures start { IfSome result (λ found. found.1 ≡ (slot_of layout.now found.0).start) }
 {
-    // without its tag; what lies before the region wraps round, and what has one of bits 63 to 60 lies far past it
+    // the contract of `granules` gives the proof that the layout is a partition
+    prove!(layout.granules() >= FEWEST_GRANULES);
+    // Without its tag. The region begins at a power of 2 and ends before the next; what has one of bits 63 to 60 lies far past it.
     let plain = ((p >> 60) << 60) + place_of(p);
-    let at = plain.wrapping_sub(REGION_START);
-    if at % GRANULE_BYTES != 0 {
+    if plain / REGION_START != 1 {
         return None;
     }
-    if at >= GRANULE_BYTES * u64::from(layout.granules()) {
+    let at = plain - REGION_START;
+    if at % GRANULE_BYTES != 0 {
         return None;
     }
     let granule = (at / GRANULE_BYTES) as u32;

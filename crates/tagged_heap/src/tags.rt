@@ -8,7 +8,8 @@ ghost use Rattle.machine_theory.specs.Seed.{next_seed};
 ghost use Rattle.tag_machine.specs.Rows.{row_mask};
 ghost use Rattle.std.specs.Prelude.{◌≡◌, ◌+◌, ◌^◌, ◌<◌, ◌≤◌, bit_or, length};
 
-use class_table::{LARGEST_CLASS, Slot, need};
+use class_table::{LARGEST_CLASS, Slot};
+use machine_theory::GRANULE_BYTES;
 use tag_machine::Machine;
 
 /// The granules of the chunk for a request of `n` bytes, at most `LARGEST_COUNTED`.
@@ -18,7 +19,8 @@ pub(crate) fn chunk_granules(n: u32) -> u32
     ensures some { 1 ≤ result }
     ensures most { result < LARGEST_CLASS }
 {
-    need(n) - 1
+    // not by `need`, which divides once more for the rest
+    ((n + GRANULE_BYTES as u32 - 1) / GRANULE_BYTES as u32).max(1)
 }
 
 /// Draws a tag that the slot of this number may take next, by one IRG: not 0, none of the number's own parity, and not `last`, its present or

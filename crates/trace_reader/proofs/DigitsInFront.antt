@@ -1,5 +1,5 @@
 -- The digits in front of a text are the spelling of their number.
-use Rattle.std.proofs.Common.{◌≡◌, ℕ, ◌+◌, ◌*◌, ◌/◌, ◌%◌, ◌^◌, ◌<◌, ◌≤◌, List, [], ◌∷◌, ◌++◌, length, get_or, take, drop, refl, sym, ap, subst, append_assoc, length-append, ◌∙◌, arith, add-one}
+use Rattle.std.proofs.Common.{◌≡◌, ℕ, ◌+◌, ◌*◌, ◌/◌, ◌%◌, ◌^◌, ◌<◌, ◌≤◌, List, [], ◌∷◌, ◌++◌, length, get_or, take, drop, refl, sym, ap, subst, ◌∙◌, arith, add-one}
 use Rattle.std.specs.Fmt.{decimal}
 use Rattle.std.proofs.Math.Seq.{split_at, take-append_seam}
 use Rattle.std.proofs.Math.Nat.{pow-le-pow_right}
@@ -25,13 +25,10 @@ digit_more text place value d within is small some few spelled =
     take_more text place 0 within ∙ ap (λ (front : List ℕ). front ++ get_or text place 0 ∷ []) spelled
     ∙ ap (λ (x : ℕ). decimal value ++ x ∷ []) is ∙ sym (longer value d some (omega (arith, small)) (omega (arith, small)))
 
--- three digits and a byte are the first four bytes of a text
-pub front_three : (text word digits rest : List ℕ) (end : ℕ) → text ≡ word ++ rest → word ≡ digits ++ end ∷ [] → length word ≡ 4 →
-    take 3 text ≡ digits
-front_three text word digits rest end is spelled long =
-    let whole : text ≡ digits ++ (end ∷ rest) = is ∙ ap (λ (w : List ℕ). w ++ rest) spelled ∙ append_assoc digits (end ∷ []) rest in
-    let three : length digits ≡ 3 = omega (arith, long, ap length spelled, length-append digits (end ∷ [])) in
-    ap (take 3) whole ∙ subst (λ (n : ℕ). take n (digits ++ (end ∷ rest)) ≡ digits) three (take-append_seam digits (end ∷ rest))
+-- a word is the first four bytes of a text
+pub front_four : (text word rest : List ℕ) → text ≡ word ++ rest → length word ≡ 4 → take 4 text ≡ word
+front_four text word rest is long =
+    ap (take 4) is ∙ subst (λ (n : ℕ). take n (word ++ rest) ≡ word) long (take-append_seam word rest)
 
 -- a number of so many digits is below that power of 10
 pub few_more : (place value d : ℕ) → value < 10 ^ place → d < 10 → value * 10 + d < 10 ^ (place + 1)

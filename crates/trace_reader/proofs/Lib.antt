@@ -14,5 +14,6 @@ pub mod SpelledLines
 pub mod SpelledWords
 pub mod TraceSpelling
 pub mod ThreeDigits
+pub mod FourDigits
 pub mod Traces
 pub mod WorkedExamples

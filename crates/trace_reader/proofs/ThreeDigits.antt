@@ -9,14 +9,14 @@ use Rattle.std.proofs.lemmas.Nat.Bits.{and_high}
 use Rattle.trace_reader.proofs.DigitsInFront.{longer}
 
 -- a byte of two words that have no bit of a mask there
-record IsByteApart (x y k m : ℕ) : Type 0 where
-  byte : ℕ
-  small : byte < 256
-  first : x / 2 ^ k % 2 ^ 8 ≤ byte
-  second : y / 2 ^ k % 2 ^ 8 ≤ byte
-  apart : bit_and byte m ≡ 0
+pub record IsByteApart (x y k m : ℕ) : Type 0 where
+  pub byte : ℕ
+  pub small : byte < 256
+  pub first : x / 2 ^ k % 2 ^ 8 ≤ byte
+  pub second : y / 2 ^ k % 2 ^ 8 ≤ byte
+  pub apart : bit_and byte m ≡ 0
 
-byte_apart : (x y mask k m : ℕ) → bit_and (bit_or x y) mask ≡ 0 → mask / 2 ^ k % 2 ^ 8 ≡ m → 0 / 2 ^ k % 2 ^ 8 ≡ 0 → IsByteApart x y k m
+pub byte_apart : (x y mask k m : ℕ) → bit_and (bit_or x y) mask ≡ 0 → mask / 2 ^ k % 2 ^ 8 ≡ m → 0 / 2 ^ k % 2 ^ 8 ≡ 0 → IsByteApart x y k m
 byte_apart x y mask k m clear is zero =
     let z = bit_or x y in
     let byte : z / 2 ^ k % 2 ^ 8 ≡ bit_or (x / 2 ^ k % 2 ^ 8) (y / 2 ^ k % 2 ^ 8) =
@@ -32,7 +32,7 @@ byte_apart x y mask k m clear is zero =
       apart = ap (bit_and (z / 2 ^ k % 2 ^ 8)) (sym is) ∙ none;
     }
 
-low_bits : (x y k : ℕ) → IsByteApart x y k 128 → (x / 2 ^ k % 2 ^ 8 < 128) × (y / 2 ^ k % 2 ^ 8 < 128)
+pub low_bits : (x y k : ℕ) → IsByteApart x y k 128 → (x / 2 ^ k % 2 ^ 8 < 128) × (y / 2 ^ k % 2 ^ 8 < 128)
 low_bits x y k b =
     let bit : bit_and b.byte 128 ≡ (b.byte / 128 % 2) * 128 = and_high b.byte 1 7 in
     let small : b.byte < 128 = omega (arith, bit, b.apart, b.small) in
@@ -52,7 +52,7 @@ pub record AreThree (n end x : ℕ) : Type 0 where
   pub few : three_of x ≤ 999
   pub many : 100 ≤ three_of x
 
-spelled_three : (h t o : ℕ) → h < 9 → t < 10 → o < 10 → decimal ((h + 1) * 100 + t * 10 + o) ≡ (49 + h) ∷ (48 + t) ∷ (48 + o) ∷ []
+pub spelled_three : (h t o : ℕ) → h < 9 → t < 10 → o < 10 → decimal ((h + 1) * 100 + t * 10 + o) ≡ (49 + h) ∷ (48 + t) ∷ (48 + o) ∷ []
 spelled_three h t o h_in t_in o_in =
     let whole : (h + 1) * 100 + t * 10 + o ≡ ((h + 1) * 10 + t) * 10 + o = omega arith in
     let first : 48 + (h + 1) ≡ 49 + h = omega arith in

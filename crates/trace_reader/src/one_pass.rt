@@ -30,6 +30,13 @@ const ABOVE: u32 = 0x0076_7677;
 // the highest bit of each digit's byte, and all bits of the byte after them
 const HIGH_BITS: u32 = 0xff80_8080;
 
+// the same for four digits: those of 1000, what makes less than 128 of them, and the highest bits
+const LEAST_FOUR: u32 = 0x3030_3031;
+
+const ABOVE_FOUR: u32 = 0x7676_7677;
+
+const HIGH_BITS_OF_FOUR: u32 = 0x8080_8080;
+
 /// The `Caller` that hands events out at once.
 pub(crate) struct AtOnce;
 
@@ -50,6 +57,9 @@ const ADDG: u32 = 0x6764_6461;
 
 const SUBG: u32 = 0x6762_7573;
 
+// the rest of the name of a realloc, and the space after it
+const LOC: u32 = 0x2063_6f6c;
+
 /// The event of the first line of a text, and the text after that line. `None` leaves the line to `line`, which finds an event or a fault.
 /// Each `Caller` has a copy of its own: the compiler puts a function of this length into its caller only where it has no other.
 #[inline(always)]
@@ -60,12 +70,13 @@ pub(crate) fn first_event<Caller>(text: &[u8]) -> Option<(Event, &[u8])>
     if text.len() < WINDOW {
         return None;
     }
-    let (word, text) = first_word(text)?;
+    let line = text;
+    let (word, text) = first_word(line)?;
     // by the first letter, so that the compiler makes a table of jumps
     match (word % 256) as u8 {
-        b'm' if word == MALL => request_of(MALL, b"oc ", text),
-        b'c' if word == CALL => request_of(CALL, b"oc ", text),
-        b'r' if word == REAL => request_of(REAL, b"loc ", text),
+        b'm' if word == MALL => request_of(MALL, 3, line),
+        b'c' if word == CALL => request_of(CALL, 3, line),
+        b'r' if word == REAL => request_of(REAL, 4, line),
         b'f' if word == FREE => free(text),
         b'l' if word == LOAD => load(text),
         // before `store`, though it is seldom: the program then tests for `store` first
@@ -76,16 +87,16 @@ pub(crate) fn first_event<Caller>(text: &[u8]) -> Option<(Event, &[u8])>
     }
 }
 
-// The functions below read the events, each from the text after the first four letters of its name. Of a request, `rest` is the rest of the
-// name, with the space after it.
+// Reads a request from its whole line, which begins with these letters. The rest of the name, from place `from` on, and the space after it
+// are `loc ` for each request.
 #[inline(always)]
-fn request_of<'a>(letters: u32, rest: &[u8], text: &'a [u8]) -> Option<(Event, &'a [u8])>
-    requires { (letters ≡ REAL → rest.now ≡ codes "loc ") × (letters ≢ REAL → rest.now ≡ codes "oc ") }
-    ensures spelled { IfSome result
-        (λ found. to_le_bytes w32 letters ++ text.now ≡ event_line found.0 ++ 10 ∷ found.1.now) }
+fn request_of<'a>(letters: u32, from: usize, line: &'a [u8]) -> Option<(Event, &'a [u8])>
+    requires letters { take 4 line.now ≡ to_le_bytes w32 letters }
+    requires from { (letters ≡ REAL → from ≡ 4) × (letters ≢ REAL → from ≡ 3) }
+    ensures spelled { IfSome result (λ found. line.now ≡ event_line found.0 ++ 10 ∷ found.1.now) }
     ensures range { IfSome result (λ found. IsInRange found.0) }
 {
-    let (v, n, after) = request(after_name(rest, text)?)?;
+    let (v, n, after) = request(after_loc(from, line)?)?;
     match letters {
         MALL => Some((Event::Malloc { v, n }, after)),
         CALL => Some((Event::Calloc { v, n }, after)),
@@ -94,6 +105,20 @@ fn request_of<'a>(letters: u32, rest: &[u8], text: &'a [u8]) -> Option<(Event, &
     }
 }
 
+// the text after `loc `, which begins at place `from`; the four bytes are compared as one word
+#[inline(always)]
+fn after_loc(from: usize, line: &[u8]) -> Option<&[u8]>
+    requires { from ≤ length line.now }
+    ensures { IfSome result (λ after. line.now ≡ take from line.now ++ codes "loc " ++ after.now) }
+{
+    let (word, after) = first_word(&line[from..])?;
+    if word != LOC {
+        return None;
+    }
+    Some(after)
+}
+
+// The functions below read the other events, each from the text after the first four letters of its name.
 #[inline(always)]
 fn move_of(letters: u32, text: &[u8]) -> Option<(Event, &[u8])>
     ensures spelled { IfSome result
@@ -202,6 +227,7 @@ fn move_pointer(text: &[u8]) -> Option<(u16, u16, u8, u8, &[u8])>
     Some((v, w, u6 as u8, u4 as u8, after))
 }
 
+// A variable. Most have three digits. With more returns than three the compiler would find out the kind of each event once more.
 #[inline(always)]
 fn variable(end: u8, text: &[u8]) -> Option<(u16, &[u8])>
     ensures spelled { IfSome result (λ x. text.now ≡ decimal x.0 ++ end ∷ x.1.now) }
@@ -210,32 +236,45 @@ fn variable(end: u8, text: &[u8]) -> Option<(u16, &[u8])>
     if let Some((v, after)) = three_digits(end, text) {
         return Some((v as u16, after));
     }
-    if let Some(found) = long_variable(end, text) {
-        return Some(found);
+    let (v, count) = one_or_four_digits(end, text);
+    if count != 0 {
+        return Some((v as u16, &text[count + 1..]));
     }
     let (v, after) = number(0, Event::LAST_VARIABLE, end, text)?;
     Some((v as u16, after))
 }
 
-// a variable of four digits: those begin with 10
+// A variable of one digit, or of four: those begin with 10. Returns the variable and its digits; no digits if there is no such variable.
 #[inline(always)]
-fn long_variable(end: u8, text: &[u8]) -> Option<(u16, &[u8])>
-    ensures spelled { IfSome result (λ x. text.now ≡ decimal x.0 ++ end ∷ x.1.now) }
-    ensures range { IfSome result (λ x. IsVariable x.0) }
+fn one_or_four_digits(end: u8, text: &[u8]) -> (u32, usize)
+    ensures spelled { result.1 ≢ 0 → take result.1 text.now ≡ decimal result.0 }
+    ensures within { result.1 ≢ 0 → result.1 < length text.now }
+    ensures end { result.1 ≢ 0 → slice_index text.now result.1 ≡ end }
+    ensures range { result.0 ≤ Event.LAST_VARIABLE }
 {
-    if text.len() < 5 || text[4] != end || text[0] != b'1' || text[1] != b'0' {
-        return None;
+    if text.len() < 5 {
+        return (0, 0);
+    }
+    if text[1] == end {
+        let value = digit_of(text[0]);
+        if value > 9 {
+            return (0, 0);
+        }
+        return (value, 1);
+    }
+    if text[4] != end || text[0] != b'1' || text[1] != b'0' {
+        return (0, 0);
     }
     let tens = digit_of(text[2]);
     let ones = digit_of(text[3]);
     if tens > 2 || ones > 9 {
-        return None;
+        return (0, 0);
     }
     let v = 1000 + tens * 10 + ones;
     if v > Event::LAST_VARIABLE {
-        return None;
+        return (0, 0);
     }
-    Some((v as u16, &text[5..]))
+    (v, 4)
 }
 
 // an offset, up to a space
@@ -375,7 +414,22 @@ fn one_digit(end: u8, text: &[u8]) -> Option<(u32, &[u8])>
     Some((value, &text[2..]))
 }
 
-// A number of four to `DIGITS` digits: the first three at once, the others one by one. It stays a function: unrolled at each number, it would
+// The number of four digits that a word spells, the first not 0. Two digits are joined in each half by one multiplication.
+#[inline(always)]
+fn four_in(word: u32) -> Option<u32>
+    ensures spelled { IfSome result (λ value. to_le_bytes w32 word ≡ decimal value) }
+    ensures few { IfSome result (λ value. value ≤ 9999) }
+    ensures many { IfSome result (λ value. 1000 ≤ value) }
+{
+    let digits = word.wrapping_sub(LEAST_FOUR);
+    if (digits | digits.wrapping_add(ABOVE_FOUR)) & HIGH_BITS_OF_FOUR != 0 {
+        return None;
+    }
+    let pairs = digits.wrapping_mul(1 + 10 * 256);
+    Some(1000 + pairs / 256 % 256 * 100 + pairs / 0x100_0000)
+}
+
+// A number of four to `DIGITS` digits: the first four at once, the others one by one. It stays a function: unrolled at each number, it would
 // keep the compiler from a path of its own for each kind of event.
 // Returns the number and its digits; no digits if there is no such number, so that the answer is in registers.
 #[inline(never)]
@@ -390,11 +444,14 @@ fn more_digits(end: u8, text: &[u8]) -> (u32, usize)
     let Some((word, _)) = first_word(text) else {
         return (0, 0);
     };
-    let Some(first) = three_in(word, text[3]) else {
+    let Some(first) = four_in(word) else {
         return (0, 0);
     };
+    if text[WORD] == end {
+        return (first, WORD);
+    }
     let mut value = first;
-    for place in 3..DIGITS {
+    for place in WORD..DIGITS {
         let digit = digit_of(text[place]);
         if digit > 9 {
             return (0, 0);

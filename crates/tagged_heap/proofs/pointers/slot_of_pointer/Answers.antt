@@ -4,37 +4,25 @@ use Rattle.heap_theory.specs.State.{payload_place}
 use Rattle.tagged_heap.proofs.PointerSlots.{payload_inside, payload_found, covered_within}
 use Rattle.tagged_heap.proofs.pointers.slot_of_pointer.Goals as goal
 
-pub returns-then-at-from-clause-none : goal.returns-then-at-from-clause-none
-returns-then-at-from-clause-none c s within plain at =
+pub returns-then-plain-ne1-clause-none : goal.returns-then-plain-ne1-clause-none
+returns-then-plain-ne1-clause-none c s within plain at =
     let is = c.granules.ensures.partition in
     let place = c.place_of.ensures ∙ at in
-    omega (
-      arith,
-      payload_inside c.args.layout.now is s c.place_of.result within place,
-      place,
-      plain,
-      c.if-at-from.true,
-      c.from.ensures,
-      c.granules.ensures.granules,
-    )
+    c.if-plain-ne1.true (omega (arith, payload_inside c.args.layout.now is s c.place_of.result within place, place, plain, is.most))
 
 pub returns-then-before-eq1-clause-slot : goal.returns-then-before-eq1-clause-slot
 returns-then-before-eq1-clause-slot c =
     let is = c.granules.ensures.partition in
     let within =
     covered_within c.args.layout.now is _ c.in_ok-slot.slot (Some c.in_ok-slot.slot) (sym c.in_ok-slot.ensures.some) refl in
-    let plain : c.args.p < 2 ^ 60 =
-    omega (arith, c.place_of.ensures, c.if-at-from.false, c.from.ensures, c.granules.ensures.granules, is.most, c.ranges.p.fits) in
+    let plain : c.args.p < 2 ^ 60 = omega (arith, c.place_of.ensures, c.if-plain-ne1.false, c.ranges.p.fits) in
     let begins : c.place_of.result ≡ payload_place (slot_of c.args.layout.now c.in_ok-slot.slot) =
     omega (
       arith,
       plain,
       c.place_of.ensures,
       c.if-at-ne0.false,
-      c.if-at-from.false,
-      c.from.ensures,
-      c.granules.ensures.granules,
-      is.most,
+      c.if-plain-ne1.false,
       c.in_ok-slot.ensures.place,
       c.if-before-eq1.true,
     ) in (within, plain, sym c.place_of.ensures ∙ begins)

@@ -1,21 +1,19 @@
-use Rattle.std.proofs.Common.{◌≤◌, arith, get_or, refl}
-use Rattle.std.specs.Fmt.{decimal}
+use Rattle.std.proofs.Common.{◌≤◌, ◌∙◌, arith, refl}
 use Rattle.std.specs.Int.{to_le_bytes, w32}
-use Rattle.trace_reader.proofs.DigitsInFront.{digit_more, eight_digits, few_more, front_three}
+use Rattle.trace_reader.proofs.DigitsInFront.{digit_more, eight_digits, few_more, front_four}
 use Rattle.trace_reader.proofs.one_pass.more_digits.Goals as goal
 
--- the first three digits are the front of the text
+-- the first four digits are the front of the text
+pub returns-then-text-end-clause-spelled : goal.returns-then-text-end-clause-spelled
+returns-then-text-end-clause-spelled c = λ some.
+    front_four c.args.text.now (to_le_bytes w32 c.in-Some.word) _ c.in-Some.ensures refl ∙ c.in-Some-four_in.ensures.spelled
+
 pub loop-place-init : goal.loop-place-init
-loop-place-init c =
-    let text = c.args.text.now in
-    let spelled = c.in-Some-three_in.ensures.spelled in
-    record {
-      spelled =
-          front_three text (to_le_bytes w32 c.in-Some.word) (decimal c.in-Some-three_in.first) _ (get_or text 3 0)
-          c.in-Some.ensures spelled refl;
-      some = omega (arith, c.in-Some-three_in.ensures.many);
-      few = omega (arith, c.in-Some-three_in.ensures.few);
-    }
+loop-place-init c = record {
+  spelled = front_four c.args.text.now (to_le_bytes w32 c.in-Some.word) _ c.in-Some.ensures refl ∙ c.in-Some-four_in.ensures.spelled;
+  some = omega (arith, c.in-Some-four_in.ensures.many);
+  few = omega (arith, c.in-Some-four_in.ensures.few);
+}
 
 -- ---- one digit more
 

@@ -1,4 +1,4 @@
-use Rattle.std.proofs.Common.{◌≡◌, ◌++◌, ◌+◌, ◌≤◌, length, take, arith, ap, ◌∙◌, List, ℕ}
+use Rattle.std.proofs.Common.{◌≡◌, ◌++◌, ◌+◌, length, take, arith, ap, ◌∙◌, List, ℕ}
 use Rattle.std.proofs.lemmas.List.{with_items_is}
 use Rattle.replay_core.specs.ReplayState.{Stored}
 use Rattle.heap_theory.specs.Config.{layout_for}
@@ -13,7 +13,7 @@ pub invariant_of-result : goal.invariant_of-result
 invariant_of-result c = record {
   in_filled = omega arith;
   in_buffer = omega (arith, c.fill-filled.ensures.end, c.deref_mut.ensures.len);
-  room = omega (arith, c.in_ok-resize.ensures.len);
+  room = omega (arith, c.in_ok-buffer.ensures.len);
   few = c.fill-filled.ensures.few;
   ready = λ empty. c.fill-filled.ensures.some (omega (arith, empty));
 }
@@ -27,12 +27,11 @@ returns c =
     let from = c.len-from.result in
     let filled = c.fill-filled.new.text in
     let same : from ≡ length text = omega (arith, c.len-from.ensures, c.args.text.ok.0) in
-    let more : from ≤ from + 65536 = omega arith in
     ap (λ (t : List ℕ). take c.fill-filled.result.0 t
     ++ report_unless c.fill-filled.result.1 c.fill-filled.new.replay c.fill-filled.new.reader.events)
-    (with_items_is c.resize.new.self filled (c.fill-filled.auto.text ∙ c.deref_mut.ensures.len))
+    (with_items_is c.in_ok-buffer.buffer filled (c.fill-filled.auto.text ∙ c.deref_mut.ensures.len))
     ∙ c.fill-filled.ensures.report
-    ∙ ap (λ (t : List ℕ). take from t ++ report_from c.in_ok-replay.replay events) (c.deref_mut.ensures.value ∙ c.in_ok-resize.ensures.items)
-    ∙ ap (λ (t : List ℕ). t ++ report_from c.in_ok-replay.replay events) (text_kept text _ from (from + 65536) same more)
+    ∙ ap (λ (t : List ℕ). take from t ++ report_from c.in_ok-replay.replay events) (c.deref_mut.ensures.value ∙ c.in_ok-buffer.ensures.items)
+    ∙ ap (λ (t : List ℕ). t ++ report_from c.in_ok-replay.replay events) (text_kept text _ from same)
     ∙ ap (λ (s : Stored). text ++ report_from s events) c.in_ok-replay.ensures
     ∙ ap (λ (t : List ℕ). text ++ t) report

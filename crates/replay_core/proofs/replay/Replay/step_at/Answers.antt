@@ -1,4 +1,4 @@
-use Rattle.std.proofs.Common.{◌≡◌, ◌+◌, ◌++◌, length, take, sym, ap, ◌∙◌, subst, arith}
+use Rattle.std.proofs.Common.{◌≡◌, ◌+◌, ◌++◌, length, take, sym, ap, ◌∙◌, subst, arith, append-nil}
 use Rattle.std.proofs.lemmas.List.{with_items_is}
 use Rattle.std.specs.Vec.{with_items}
 use Rattle.class_table.specs.Layout.{Partition}
@@ -8,13 +8,15 @@ use Rattle.trace_event.specs.declared.event.Event.{Event}
 use Rattle.replay_theory.specs.Replay.{Replay, heap_after, replay_after, variables_after, answer_of}
 use Rattle.replay_theory.specs.Totals.{Totals, request_size, totals_after}
 use Rattle.heap_theory.specs.State.{Heap}
-use Rattle.replay_core.specs.ReplayFields.{stored}
+use Rattle.replay_core.specs.declared.totals.Totals.{Totals as TheTotals}
+use Rattle.replay_core.specs.ReplayFields.{stored, IsKept}
+use Rattle.replay_core.specs.TotalsBounds.{AreBounded}
 use Rattle.replay_core.specs.TheoryValues.{AreVariables, TellsRequest, over, shown, totals_in}
 use Rattle.replay_core.specs.ReplayState.{Stored, IsStored, stored_after}
 use Rattle.replay_theory.proofs.LayoutStays.{layout_after}
 use Rattle.replay_core.proofs.Reached.{null_or_tagged, sound_heap, IsStored-after, stored_in_parts, run_goes_on}
 use Rattle.replay_core.proofs.replay.Replay.step_at.Goals as goal
-use Rattle.replay_core.proofs.replay.Replay.step_at.Goals.{After-write_line}
+use Rattle.replay_core.proofs.replay.Replay.step_at.Goals.{After-perform-answer}
 
 pub perform-answer-requires-clause-sound : goal.perform-answer-requires-clause-sound
 perform-answer-requires-clause-sound c = sound_heap (stored c.self.inside) c.self.invariant.reached
@@ -29,34 +31,9 @@ classes_stay : (replay : Replay) (event : Event) (after : Heap) → after ≡ he
     after.layout.classes ≡ replay.heap.layout.classes
 classes_stay replay event after is = ap (λ (h : Heap). h.layout.classes) is ∙ ap (λ (l : Partition). l.classes) (layout_after replay event)
 
-pub count-requires-clause-legal : goal.count-requires-clause-legal
-unfolding replay_after
-count-requires-clause-legal c =
-    let heap_is =
-    ap (λ (r : Replay). r.heap) c.perform-answer.ensures.after
-    ∙ ap (λ vs. heap_after (over c.self.inside.heap.state vs) c.args.event.now) c.deref_mut.ensures.value in
-    subst (IsLegalTable 1) (sym (classes_stay (stored c.self.inside).replay c.args.event.now c.perform-answer.new.heap.state heap_is))
-    c.self.invariant.legal
-
-pub count-requires-clause-tells : goal.count-requires-clause-tells
-unfolding replay_after
-count-requires-clause-tells c =
-    let heap_is =
-    ap (λ (r : Replay). r.heap) c.perform-answer.ensures.after
-    ∙ ap (λ vs. heap_after (over c.self.inside.heap.state vs) c.args.event.now) c.deref_mut.ensures.value in
-    subst (λ classes. TellsRequest classes (request_size c.args.event.now) c.perform-answer.result)
-    (sym (classes_stay (stored c.self.inside).replay c.args.event.now c.perform-answer.new.heap.state heap_is))
-    c.perform-answer.ensures.tells
-
 -- ---- the parts, after the event
 
-module _ (c : After-write_line) where
-  variables_are : c.perform-answer.new.variables ≡ variables_after (stored c.self.inside).replay c.args.event.now
-  unfolding replay_after
-  variables_are =
-      ap (λ (r : Replay). r.variables) c.perform-answer.ensures.after
-      ∙ ap (λ vs. variables_after (over c.self.inside.heap.state vs) c.args.event.now) c.deref_mut.ensures.value
-
+module _ (c : After-perform-answer) where
   heap_is : c.perform-answer.new.heap.state ≡ heap_after (stored c.self.inside).replay c.args.event.now
   unfolding replay_after
   heap_is =
@@ -66,6 +43,20 @@ module _ (c : After-write_line) where
   classes_are : c.perform-answer.new.heap.state.layout.classes ≡ c.self.inside.heap.state.layout.classes
   classes_are = classes_stay (stored c.self.inside).replay c.args.event.now c.perform-answer.new.heap.state heap_is
 
+  legal : IsLegalTable 1 c.perform-answer.new.heap.state.layout.classes
+  legal = subst (IsLegalTable 1) (sym classes_are) c.self.invariant.legal
+
+  tells : TellsRequest c.perform-answer.new.heap.state.layout.classes (request_size c.args.event.now) c.perform-answer.result
+  tells =
+      subst (λ classes. TellsRequest classes (request_size c.args.event.now) c.perform-answer.result) (sym classes_are)
+      c.perform-answer.ensures.tells
+
+  variables_are : c.perform-answer.new.variables ≡ variables_after (stored c.self.inside).replay c.args.event.now
+  unfolding replay_after
+  variables_are =
+      ap (λ (r : Replay). r.variables) c.perform-answer.ensures.after
+      ∙ ap (λ vs. variables_after (over c.self.inside.heap.state vs) c.args.event.now) c.deref_mut.ensures.value
+
   answer_is : shown c.perform-answer.new.bytes c.perform-answer.result ≡ answer_of (stored c.self.inside).replay c.args.event.now
   answer_is =
       c.perform-answer.ensures.answer ∙ ap (λ vs. answer_of (over c.self.inside.heap.state vs) c.args.event.now) c.deref_mut.ensures.value
@@ -74,46 +65,102 @@ module _ (c : After-write_line) where
   items_are =
       with_items_is c.self.inside.variables c.perform-answer.new.variables (c.perform-answer.auto.variables ∙ c.deref_mut.ensures.len)
 
-  counted : totals_in c.count.new.self
+  -- the totals that count the event
+  abbrev Counts : TheTotals → Type 0
+  Counts totals = totals_in totals
       ≡ totals_after c.perform-answer.new.heap.state.layout.classes (stored c.self.inside).totals
       (c.args.event.now, shown c.perform-answer.new.bytes c.perform-answer.result)
-  counted = c.count.ensures.counted c.perform-answer.new.bytes
 
-  stored_is : record {
+  stored_is : (totals : TheTotals) → Counts totals → record {
     replay = over c.perform-answer.new.heap.state
         (with_items c.self.inside.variables c.perform-answer.new.variables).items;
-    totals = totals_in c.count.new.self;
+    totals = totals_in totals;
   }
       ≡ stored_after (stored c.self.inside) c.args.event.now
-  stored_is =
-      stored_in_parts (stored c.self.inside) c.args.event.now c.perform-answer.new.heap.state _ (totals_in c.count.new.self)
+  stored_is totals counted =
+      stored_in_parts (stored c.self.inside) c.args.event.now c.perform-answer.new.heap.state _ (totals_in totals)
       c.perform-answer.new.heap.state.layout.classes (shown c.perform-answer.new.bytes c.perform-answer.result)
       heap_is (items_are ∙ variables_are) answer_is classes_are counted
 
-  events_are : c.count.new.self.events ≡ c.self.inside.totals.events + 1
+  events_are : (totals : TheTotals) → Counts totals → totals.events ≡ c.self.inside.totals.events + 1
   unfolding totals_after
-  events_are = ap (λ (t : Totals). t.events) counted
+  events_are totals counted = ap (λ (t : Totals). t.events) counted
+
+  line_is : report_line (c.self.inside.totals.events + 1) (shown c.perform-answer.new.bytes c.perform-answer.result)
+      ≡ report_line (c.args.self.now.totals.events + 1) (answer_of c.args.self.now.replay c.args.event.now)
+  line_is =
+      ap (λ answer. report_line (c.self.inside.totals.events + 1) answer) answer_is
+      ∙ ap (λ (s : Stored). report_line (s.totals.events + 1) (answer_of s.replay c.args.event.now)) c.self.view_is
+
+  kept : (totals : TheTotals) → Counts totals → AreBounded (totals_in totals) → IsKept (record c.self.inside {
+    heap = c.perform-answer.new.heap;
+    variables = with_items c.self.inside.variables c.perform-answer.new.variables;
+    totals = totals;
+    loaded = c.perform-answer.new.bytes;
+  })
+  kept totals counted bounded = record {
+    reached = subst IsStored (sym (stored_is totals counted)) (IsStored-after (stored c.self.inside) c.args.event.now c.self.invariant.reached);
+    bounded = bounded;
+    long = ap length items_are ∙ c.perform-answer.auto.variables ∙ ap length c.deref_mut.ensures.value ∙ c.self.invariant.long;
+    legal = legal;
+    few = omega (arith, c.perform-answer.ensures.frees, c.self.invariant.few, events_are totals counted);
+  }
+
+-- ---- an event that has no line
+
+pub count-requires-clause-legal : goal.count-requires-clause-legal
+count-requires-clause-legal c = legal (goal.at.count-requires-clause-legal c).After-perform-answer
+
+pub count-requires-clause-tells : goal.count-requires-clause-tells
+count-requires-clause-tells c = tells (goal.at.count-requires-clause-tells c).After-perform-answer
+
+pub returns-in-Silent-clause-line : goal.returns-in-Silent-clause-line
+unfolding report_line
+returns-in-Silent-clause-line c =
+    let front = take c.args.at c.args.text.now in
+    sym (append-nil front)
+    ∙ ap (λ answer. front ++ report_line (c.self.inside.totals.events + 1) (shown c.perform-answer.new.bytes answer)) (sym c.in-Silent.is)
+    ∙ ap (λ line. front ++ line) (line_is (goal.at.returns-in-Silent-clause-line c).After-perform-answer)
+
+pub returns-in-Silent-clause-stored : goal.returns-in-Silent-clause-stored
+returns-in-Silent-clause-stored c =
+    stored_is (goal.at.returns-in-Silent-clause-stored c).After-perform-answer c.count.new.self (c.count.ensures.counted c.perform-answer.new.bytes)
+    ∙ ap (λ (s : Stored). stored_after s c.args.event.now) c.self.view_is
+
+pub returns-in-Silent-clause-run : goal.returns-in-Silent-clause-run
+returns-in-Silent-clause-run c run same =
+    run_goes_on run c.args.self.now c.args.event.now same ∙ sym (ap (λ (s : Stored). s.replay) (returns-in-Silent-clause-stored c))
+
+pub invariant_of-self : goal.invariant_of-self
+invariant_of-self c =
+    kept (goal.at.invariant_of-self c).After-perform-answer c.count.new.self (c.count.ensures.counted c.perform-answer.new.bytes) c.count.ensures.bounded
+
+-- ---- an event that may have one
+
+pub count-requires-2-clause-legal : goal.count-requires-2-clause-legal
+count-requires-2-clause-legal c = legal (goal.at.count-requires-2-clause-legal c).After-perform-answer
+
+pub count-requires-2-clause-tells : goal.count-requires-2-clause-tells
+count-requires-2-clause-tells c = tells (goal.at.count-requires-2-clause-tells c).After-perform-answer
 
 pub returns-clause-stored : goal.returns-clause-stored
 returns-clause-stored c =
-    stored_is (goal.at.returns-clause-stored c).After-write_line ∙ ap (λ (s : Stored). stored_after s c.args.event.now) c.self.view_is
+    stored_is (goal.at.returns-clause-stored c).After-perform-answer c.count-2.new.self (c.count-2.ensures.counted c.perform-answer.new.bytes)
+    ∙ ap (λ (s : Stored). stored_after s c.args.event.now) c.self.view_is
 
 pub returns-clause-line : goal.returns-clause-line
 returns-clause-line c =
-    let at = (goal.at.returns-clause-line c).After-write_line in
+    let at = (goal.at.returns-clause-line c).After-perform-answer in
     c.write_line.ensures.text ∙ ap (λ line. take c.args.at c.args.text.now ++ line)
-    (ap (λ n. report_line n (shown c.perform-answer.new.bytes c.perform-answer.result)) (events_are at)
-    ∙ ap (λ answer. report_line (c.self.inside.totals.events + 1) answer) (answer_is at)
-    ∙ ap (λ (s : Stored). report_line (s.totals.events + 1) (answer_of s.replay c.args.event.now)) c.self.view_is)
+    (ap (λ n. report_line n (shown c.perform-answer.new.bytes c.perform-answer.result))
+    (events_are at c.count-2.new.self (c.count-2.ensures.counted c.perform-answer.new.bytes))
+    ∙ line_is at)
 
-pub invariant_of-self : goal.invariant_of-self
-invariant_of-self c = let at = (goal.at.invariant_of-self c).After-write_line in record {
-  reached = subst IsStored (sym (stored_is at)) (IsStored-after (stored c.self.inside) c.args.event.now c.self.invariant.reached);
-  bounded = c.count.ensures.bounded;
-  long = ap length (items_are at) ∙ c.perform-answer.auto.variables ∙ ap length c.deref_mut.ensures.value ∙ c.self.invariant.long;
-  legal = subst (IsLegalTable 1) (sym (classes_are at)) c.self.invariant.legal;
-  few = omega (arith, c.perform-answer.ensures.frees, c.self.invariant.few, events_are at);
-}
+pub invariant_of-self-2 : goal.invariant_of-self-2
+invariant_of-self-2 c =
+    let k = kept (goal.at.invariant_of-self-2 c).After-perform-answer c.count-2.new.self
+    (c.count-2.ensures.counted c.perform-answer.new.bytes) c.count-2.ensures.bounded in
+    record { reached = k.reached; bounded = k.bounded; long = k.long; legal = k.legal; few = k.few }
 
 pub returns-clause-run : goal.returns-clause-run
 returns-clause-run c run same =

@@ -87,9 +87,9 @@ pub unused_bytes-requires-clause-room : goal.unused_bytes-requires-clause-room
 unused_bytes-requires-clause-room c =
     let at = (goal.at.unused_bytes-requires-clause-room c).In_ok-slot in omega (arith, (took at).given.room, place_is at)
 
-pub unused_bytes-requires-clause-class : goal.unused_bytes-requires-clause-class
-unused_bytes-requires-clause-class c =
-    let at = (goal.at.unused_bytes-requires-clause-class c).In_ok-slot in
+pub unused_bytes-requires-clause-few : goal.unused_bytes-requires-clause-few
+unused_bytes-requires-clause-few c =
+    let at = (goal.at.unused_bytes-requires-clause-few c).In_ok-slot in
     omega (
       arith,
       class_most (state_of c.self.inside) c.in_ok-slot.slot c.self.invariant.kept.sound (took at).given.reusable.in_range,

@@ -56,7 +56,7 @@ put_at-requires-clause-can c =
     rw c.memory_mut-memory.ensures.value
     (can_be_put c.self.invariant c.args.chunk.slot c.args.chunk.size c.args.chunk.tag chunk.slot chunk.live
     (rw (← c.self.view_is) at c.requires.few) c.retire.new.machine c.retire.ensures.machine c.retire.ensures.memory
-    (16 * c.args.chunk.place.class) (ap (λ n. 16 * n) chunk.class))
+    (16 * c.args.chunk.class) (ap (λ n. 16 * n) chunk.class))
 
 pub put_at-requires-clause-start : goal.put_at-requires-clause-start
 put_at-requires-clause-start c = let chunk = rw (← c.self.view_is) at c.requires.live in chunk.start
@@ -68,7 +68,7 @@ put c =
     let chunk = rw (← c.self.view_is) at c.requires.live in
     kept_freed c.self.invariant c.args.chunk.slot c.args.chunk.size c.args.chunk.tag chunk.slot chunk.live
     (rw (← c.self.view_is) at c.requires.few)
-    c.retire.new.machine c.retire.ensures.machine c.retire.ensures.memory c.args.chunk.place.start (16 * c.args.chunk.place.class)
+    c.retire.new.machine c.retire.ensures.machine c.retire.ensures.memory c.args.chunk.start (16 * c.args.chunk.class)
     (rw c.memory_mut-memory.ensures.value at c.put_at.ensures.queued) c.put_at.ensures.value
     (rw c.memory_mut-memory.ensures.value at c.put_at.ensures.first) (rw c.memory_mut-memory.ensures.value at c.put_at.ensures.after)
 

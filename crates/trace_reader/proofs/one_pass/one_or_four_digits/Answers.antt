@@ -1,11 +1,15 @@
 use Rattle.std.proofs.Common.{◌≡◌, ◌+◌, ◌*◌, ◌≤◌, ap, ◌∙◌, arith}
 use Rattle.std.specs.Fmt.{decimal}
-use Rattle.std.proofs.lemmas.List.{take_rest}
-use Rattle.trace_reader.proofs.DigitsInFront.{digit_more, digits_end, first_digit}
-use Rattle.trace_reader.proofs.one_pass.long_variable.Goals as goal
+use Rattle.trace_reader.proofs.DigitsInFront.{digit_more, first_digit}
+use Rattle.trace_reader.proofs.one_pass.one_or_four_digits.Goals as goal
+
+pub returns-then-text-end-clause-spelled : goal.returns-then-text-end-clause-spelled
+returns-then-text-end-clause-spelled c = λ some.
+    let value = c.digit_of-value.result in
+    first_digit c.args.text.now value (omega arith) (c.digit_of-value.ensures (omega arith)) (omega arith)
 
 pub returns-clause-spelled : goal.returns-clause-spelled
-returns-clause-spelled c =
+returns-clause-spelled c = λ some.
     let text = c.args.text.now in
     let tens = c.digit_of-tens.result in
     let ones = c.digit_of-ones.result in
@@ -18,4 +22,4 @@ returns-clause-spelled c =
     digit_more text 3 (10 * 10 + tens) ones (omega arith) (c.digit_of-ones.ensures (omega arith)) (omega arith) (omega arith)
     (omega (arith, small)) three in
     let value : (10 * 10 + tens) * 10 + ones ≡ 1000 + tens * 10 + ones = omega arith in
-    rw take_rest (digits_end text 4 5 (1000 + tens * 10 + ones) c.args.end (omega arith) (omega arith) (four ∙ ap decimal value) (omega arith))
+    four ∙ ap decimal value

@@ -1,5 +1,6 @@
 -- The chunk that the pointer names, and whether the bytes are of its class, decide which of the four cases it is.
 use Rattle.std.proofs.Common.{◌≡◌, ◌∙◌, refl, arith, Ok, Err}
+use Rattle.std.specs.Result.{result_map_both}
 use Rattle.std.proofs.lemmas.Bool.{ne_eqb}
 use Rattle.std.proofs.lemmas.Result.{err_from_is_err_and, IfOk-at_ok, IfErr-at_err}
 use Rattle.heap_theory.specs.declared.refusal.FreeError.{FreeError}
@@ -9,9 +10,10 @@ use Rattle.heap_theory.specs.Lookups.{chunk_at}
 use Rattle.tagged_heap.specs.declared.freeing.Chunk.{Chunk as Found}
 use Rattle.tagged_heap.specs.Chunks.{IsChunk}
 use Rattle.tagged_heap.specs.Frees.{frees_of_realloc}
-use Rattle.tagged_heap.proofs.CallSteps.{realloc_accepted, err_named, ok_named, all_named, IsMove, moves}
-use Rattle.tagged_heap.proofs.heap.Heap.realloc.Goals as goal
-use Rattle.tagged_heap.proofs.heap.Heap.realloc.Goals.{In_ok-chunk, In_err-chunk, After-move_chunk}
+use Rattle.tagged_heap.proofs.CallSteps.{realloc_accepted, err_named, ok_named, addresses_named, IsMove, moves}
+use Rattle.tagged_heap.proofs.Kept.{class_most}
+use Rattle.tagged_heap.proofs.heap.Heap.realloc_with_loss.Goals as goal
+use Rattle.tagged_heap.proofs.heap.Heap.realloc_with_loss.Goals.{In_ok-chunk, In_err-chunk, After-move_chunk}
 
 -- the chunk that the pointer names
 found : (c : In_ok-chunk) →
@@ -63,6 +65,11 @@ stays_in_class-requires c = is_chunk (goal.at.stays_in_class-requires c).In_ok-c
 pub resize-requires-clause-live : goal.resize-requires-clause-live
 resize-requires-clause-live c = is_chunk (goal.at.resize-requires-clause-live c).In_ok-chunk
 
+pub unused_bytes-requires-clause-few : goal.unused_bytes-requires-clause-few
+unused_bytes-requires-clause-few c =
+    let chunk = is_chunk (goal.at.unused_bytes-requires-clause-few c).In_ok-chunk in
+    omega (arith, chunk.class, class_most c.args.self.now.state c.in_ok-chunk.chunk.slot c.chunk.ensures.sound chunk.slot)
+
 pub returns-then-stays_in_class-clause-answer : goal.returns-then-stays_in_class-clause-answer
 unfolding realloc_step
 returns-then-stays_in_class-clause-answer c =
@@ -86,7 +93,8 @@ move_chunk-requires-clause-live c = is_chunk (goal.at.move_chunk-requires-clause
 
 -- what the move answers and leaves
 move_is : (c : After-move_chunk) → IsMove c.args.self.now c.move_chunk.new.self
-    (record { slot = c.in_ok-chunk.chunk.slot; size = c.in_ok-chunk.chunk.size }) c.args.n c.move_chunk.result
+    (record { slot = c.in_ok-chunk.chunk.slot; size = c.in_ok-chunk.chunk.size }) c.args.n
+    (result_map_both (λ given. given.0) (λ e. e) c.move_chunk.result)
 move_is c = let m = c.move_chunk in moves _ _ _ _ _ m.ensures.ok m.ensures.err m.ensures.refused
 
 pub returns-clause-answer : goal.returns-clause-answer
@@ -94,7 +102,7 @@ unfolding realloc_step
 returns-clause-answer c =
     let at = goal.at.returns-clause-answer c in
     rw (ne_eqb c.args.p 0 c.if-p-eq0.false, found at.In_ok-chunk, ← c.if-stays_in_class.ensures.test)
-    (all_named Null _ _ c.map_err-3.ensures.cases ∙ (move_is at.After-move_chunk).answer)
+    (addresses_named Null _ _ c.map_err-3.ensures.cases ∙ (move_is at.After-move_chunk).answer)
 
 pub returns-clause-state : goal.returns-clause-state
 unfolding realloc_step
