@@ -28,7 +28,13 @@ pub fn call(alloc: Global, call: Call, input: &[u8], text: &mut HandedText) -> E
 }
 
 // a call on an input in two parts
-fn call_parts(alloc: Global, call: Call, first: Vec<u8>, input: &[u8], text: &mut HandedText) -> Ended
+fn call_parts(
+    alloc: Global,
+    call: Call,
+    first: Vec<u8>,
+    input: &[u8],
+    text: &mut HandedText,
+) -> Ended
     requires { IsValid call }
     ensures answer { IsAnswered (answers_of call) (first.items ++ input.now) result (bytes_of text.new) }
     ensures left { IsLeft text.new }

@@ -112,5 +112,12 @@ fn replays(rt: HostRuntime) -> Result<(), Fail> {
     check(&rt, unquarantined, TABLES_AND_REFUSALS)?;
     check(&rt, unquarantined, TAILS_AND_BYTES)?;
     check(&rt, unquarantined, REALLOCS)?;
-    check(&rt, Call::Replay(Config { quarantine: 64, ..HEAP }), QUARANTINES)
+    check(
+        &rt,
+        Call::Replay(Config {
+            quarantine: 64,
+            ..HEAP
+        }),
+        QUARANTINES,
+    )
 }

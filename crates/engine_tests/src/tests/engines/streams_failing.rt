@@ -51,14 +51,23 @@ const CASES: &[Case] = &[
          refused frees 0\nloss 0\n",
     ),
     Case(
-        Call::Replay(Config { quarantine: 64, ..HEAP }),
+        Call::Replay(Config {
+            quarantine: 64,
+            ..HEAP
+        }),
         "classes 2 4\nmalloc 1 16\nstore 1 16 1 aa\nmalloc 2 0\nload 1 32 1\nfree 1\nload 1 0 1\n",
         "2 fault tag granule 2 memory 0 pointer 1 in header\n4 fault tag granule 3 memory 2 pointer 1 in other\n\
          6 fault tag granule 1 memory 3 pointer 1 in dead\nevents 6\nrequests 2\nnull large 0\nnull no-class 0\nnull exhausted 0\n\
          faults tag 3\nfaults unmapped 0\nrefused frees 0\nloss 16\n",
     ),
     Case(
-        Call::Run(Limits { limit: 2, step: 1 }, Config { quarantine: 64, ..HEAP }),
+        Call::Run(
+            Limits { limit: 2, step: 1 },
+            Config {
+                quarantine: 64,
+                ..HEAP
+            },
+        ),
         "malloc 1 16\nstore 1 16 1 aa\nmalloc 2 0\nload 1 32 1\nfree 1\nload 1 0 1\n",
         "classes 2\nlimit 2\nwaste 16\nrow 16\nrow 16\n2 fault tag granule 2 memory 0 pointer 1 in header\n\
          4 fault tag granule 3 memory 2 pointer 1 in other\n6 fault tag granule 1 memory 3 pointer 1 in dead\nevents 6\nrequests 2\n\

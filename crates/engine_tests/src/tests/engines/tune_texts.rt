@@ -20,7 +20,13 @@ fn check(rt: &(impl Abort + AllocGlobal), cases: &[Case]) -> Result<(), Fail> {
             Tuned(limit, step, input, written) => (*limit, *step, *input, *written, "done"),
             Fault(input, wanted) => (2, 1, *input, "", *wanted),
         };
-        answers(rt, Call::Tune(Limits { limit, step }), input, written, wanted)?;
+        answers(
+            rt,
+            Call::Tune(Limits { limit, step }),
+            input,
+            written,
+            wanted,
+        )?;
     }
     Ok(())
 }

@@ -26,7 +26,12 @@ fn scoring(rt: HostRuntime) -> Result<(), Fail> {
 
 #[test]
 fn tuning(rt: HostRuntime) -> Result<(), Fail> {
-    answers(&rt, Call::Tune(Limits { limit: 2, step: 1 }), PROFILE, SHEET)
+    answers(
+        &rt,
+        Call::Tune(Limits { limit: 2, step: 1 }),
+        PROFILE,
+        SHEET,
+    )
 }
 
 #[test]
@@ -65,7 +70,15 @@ fn profiling(rt: HostRuntime) -> Result<(), Fail> {
 fn replaying(rt: HostRuntime) -> Result<(), Fail> {
     let mut input = String::from_str(rt.alloc(), "classes 2 4\n")?;
     input.push_str(TRACE)?;
-    answers(&rt, Call::Replay(Config { quarantine: 64, ..HEAP }), &input, REPORT)
+    answers(
+        &rt,
+        Call::Replay(Config {
+            quarantine: 64,
+            ..HEAP
+        }),
+        &input,
+        REPORT,
+    )
 }
 
 #[test]
@@ -73,7 +86,13 @@ fn running(rt: HostRuntime) -> Result<(), Fail> {
     let sheet = "classes 2\nlimit 2\nwaste 16\nrow 16\nrow 16\n";
     let mut written = String::from_str(rt.alloc(), sheet)?;
     written.push_str(REPORT)?;
-    let call = Call::Run(Limits { limit: 2, step: 1 }, Config { quarantine: 64, ..HEAP });
+    let call = Call::Run(
+        Limits { limit: 2, step: 1 },
+        Config {
+            quarantine: 64,
+            ..HEAP
+        },
+    );
     answers(&rt, call, TRACE, &written)
 }
 
