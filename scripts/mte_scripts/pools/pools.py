@@ -14,12 +14,11 @@ Find static pools for the runs of a program: which sizes of blocks, and how many
 heap. Each has so many blocks of one size in static memory, and a request takes a block of the pool with the smallest blocks that hold
 it, and of no other.
 
-Usage: pools --limit K [OPTION..] RUN..
-       pools --check POOLS RUN..
-       pools --read POOLS --as FORM
+Usage: pools [OPTION..] RUN..
 
-A RUN is a timeline, as docs/FORMATS.md has it: all requests and frees of a run in their order. It may also be a history, which knows
-some moments alone: what was live between these may have no block. `-` is standard input.
+With --limit it finds pools for the runs, with --check it checks the pools of a file for them; with --read it prints the pools of a file,
+and takes no run. A RUN is a timeline, as docs/FORMATS.md has it: all requests and frees of a run in their order. It may
+also be a history, which knows some moments alone: what was live between these may have no block. `-` is standard input.
 
   --limit K        at most so many pools, 1 to 32
   --unit U         blocks are multiples of U bytes: 4, 8, 16 or 32; 8 where it is left out
@@ -55,9 +54,9 @@ Exit status:
   3  there is no request, mte_tool could not run, or a write failed
 
 Examples:
-  pools --limit 4 --unit 8 --overhead 8 --certificate lwip.pools lwip.timeline
-  pools --check lwip.pools lwip.timeline
-  pools --read lwip.pools --as lwip --reserve 10 > lwippools.h
+  scripts/mte_scripts/tables/pools.py --limit 4 --unit 8 --overhead 8 --certificate lwip.pools lwip.timeline
+  scripts/mte_scripts/tables/pools.py --check lwip.pools lwip.timeline
+  scripts/mte_scripts/tables/pools.py --read lwip.pools --as lwip --reserve 10 > lwippools.h
 """
 # the options with a value, and what that is
 VALUES = {
@@ -274,11 +273,12 @@ def today_lines(options, runs, its):
     holds = [pool.block - its.block.overhead for pool in options.today]
     most = [max(counts) for counts in zip(*(run.most(holds) for run in runs))]
     rows = [["Today", "Blocks", "Used", "Bytes"]]
-    rows += [[number(pool.block), number(pool.number), number(used), number(pool.block * pool.number)] for pool, used in zip(options.today, most)]
+    rows += [list(map(number, (pool.block, pool.number, used, pool.block * pool.number))) for pool, used in zip(options.today, most)]
     total, own = pool_sets.bytes_of(options.today), its.bytes
     lines = in_columns([*rows, ["", "", "", number(total)]], 4)
     short = [f"{number(pool.block)} by {number(used - pool.number)}" for pool, used in zip(options.today, most) if used > pool.number]
-    change = f"{number(abs(total - own))} bytes {'less' if own <= total else 'more'}" + (f", {percent(abs(total - own), total)}" if total else "")
+    change = f"{number(abs(total - own))} bytes {'less' if own <= total else 'more'}"
+    change += f", {percent(abs(total - own), total)}" if total else ""
     lines += wrapped(f"Today's pools take {number(total)} bytes. {'Without their reserve the' if options.reserve else 'The'} pools above take {change}.")
     if short:
         lines += wrapped(f"! Today's pools are short of blocks: those of {claims.listed(short)}.", "  ")
