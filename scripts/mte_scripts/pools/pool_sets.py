@@ -5,7 +5,7 @@ line `moments` where they are timelines."""
 
 import os
 import re
-from typing import NamedTuple
+from typing import NamedTuple, Optional
 
 from mte_scripts import claims, texts
 from mte_scripts.pools import pool_runs
