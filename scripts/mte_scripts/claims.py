@@ -79,6 +79,10 @@ TEMPLATES = {
     "pools.proved": "Proved for the requests in units of {unit} bytes: `check-fit` says `optimal`, so {claim} That a request takes so many "
     "units is tested, and not proved.",
     "pools.refused": "`check-fit` says `{verdict}`: nothing shows that these are the best pools for {given}. {meaning}",
+    # of the table over the numbers of pools
+    "pools.each.limit": "At most",
+    "pools.each.bytes": "Least bytes",
+    "pools.each.so": "The same holds of each number above, with its own limit.",
     "pools.unshown": "Nothing shows that no other pools take less. None take less than {bound}.",
     "pools.help": "What is proved: for the requests in units, `mte_tool check-fit` says `optimal` only where no table of at most K classes takes "
     "less,\nover every moment. What is tested against all pools of small runs, and not proved: that a request of so many bytes takes so many\n"

@@ -17,9 +17,9 @@ Compare mte_tool with bench/plain, which does the same in plain Rust, and print 
 Usage: bench [--instructions] [--branches] [--runs N] [--seed N] [--keep FOLDER] [ROW..]
        bench --growth [--seed N]
 
-A row is start, score, tune, check, footprint, fit, check-fit, profile, replay or run; or `run` over a trace that allocates much:
-run-fifo, run-fragmented, run-whole or run-realloc; or over an example: run-jq, run-perl or run-sqlite. All of them where
-none is named.
+A row is start, score, tune, check, footprint, fit, check-fit, profile, replay or run; or footprint-over, fit-over or
+check-fit-over, the same over a timeline; or `run` over a trace that allocates much: run-fifo, run-fragmented, run-whole or
+run-realloc; or over an example: run-jq, run-perl or run-sqlite. All of them where none is named.
 
   --instructions  print instructions alone, no times and no memory
   --branches      print also how many branches were mispredicted, by callgrind's model of a processor
@@ -74,6 +74,9 @@ ROWS = {
     "footprint": (["footprint"], "footprint.in", "`footprint`, all sizes at 64 snapshots, 32 classes ({size})"),
     "fit": (["fit", "--limit", "32"], "fit.in", "`fit --limit 32`, 1,023 needs at 64 snapshots ({size})"),
     "check-fit": (["check-fit"], "check-fit.in", "`check-fit` of its fit ({size})"),
+    "footprint-over": (["footprint"], "footprint-over.in", "`footprint` of a timeline, a million events ({size})"),
+    "fit-over": (["fit", "--limit", "32"], "run.timeline", "`fit --limit 32` of it"),
+    "check-fit-over": (["check-fit"], "check-fit-over.in", "`check-fit` of its fit"),
     "profile": (["profile"], "events.trace", "`profile`, a million mixed events ({size})"),
     "replay": (["replay"], "replay.in", "`replay` of them, eight classes"),
     "run": (["run", "--limit", "8"], "events.trace", "`run --limit 8` of them"),
@@ -179,6 +182,28 @@ def make_inputs(folder, seed, plain):
     (folder / "events.trace").write_bytes(events)
     (folder / "replay.in").write_bytes(REPLAYED.encode() + events)
     make_traces(folder, chance)
+    timeline = timeline_of(chance)
+    (folder / "run.timeline").write_text(timeline)
+    (folder / "footprint-over.in").write_text(SCORED + timeline)
+    fit = output_of([plain, "fit", "--limit", "32"], folder / "run.timeline")
+    (folder / "check-fit-over.in").write_bytes(fit + timeline.encode())
+
+
+def timeline_of(chance):
+    """A timeline of a million events: blocks of 300 sizes, of which others are live in each of ten phases."""
+    sizes = [chance.randint(1, chance.choice([200, 1_000, 16_000])) for _ in range(300)]
+    lines, live = ["timeline"], []
+    for _ in range(10):
+        favoured = chance.sample(sizes, 40)
+        for event in range(100_000):
+            if live and chance.random() > (0.8 if event < 60_000 else 0.2):
+                at = chance.randrange(len(live))
+                live[at], live[-1] = live[-1], live[at]
+                lines.append(f"-{live.pop()}")
+            else:
+                live.append(chance.choice(favoured))
+                lines.append(str(live[-1]))
+    return "\n".join(lines) + "\n"
 
 
 def make_traces(folder, chance):

@@ -134,7 +134,8 @@ def written(form: str, name: str, block: Block, pools: list[Pool], said: list[st
     if its.has_pointer and (block.overhead < 4 or block.overhead % 4):
         raise Refused(2, f"--as {form}: each block has a pointer, so --overhead is its bytes, 4 or 8, and not {block.overhead}")
     if form == "freertos" and block.overhead % block.unit:
-        raise Refused(2, f"--as freertos: the pointer stands apart from its block, so --overhead {block.overhead} has to be a multiple of --unit {block.unit}")
+        why = f"--overhead {block.overhead} has to be a multiple of --unit {block.unit}"
+        raise Refused(2, f"--as freertos: the pointer stands apart from its block, so {why}")
     if its.has_pointer and pools[0].block == block.overhead:
         raise Refused(2, f"--as {form}: blocks of {pools[0].block} bytes hold nothing beside their overhead: leave requests of 0 bytes out")
     return comment([f"Made by {texts.called('pools')}: blocks of {bytes_of(pools):,} bytes in all.", *said]) + its.write(name, block, pools)

@@ -49,6 +49,7 @@ class Timeline:
         self.events = set().union(*self.pieces())
         self.sizes = {int(event) for event in self.events if event.isdigit()}
         self.has_large = b"large" in self.events
+        self.counted: dict[tuple[int, ...], list[int]] = {}
 
     def pieces(self) -> Iterator[list[bytes]]:
         """The events, some thousands at once."""
@@ -61,6 +62,12 @@ class Timeline:
 
     def most(self, holds: list[int]) -> list[int]:
         """The most blocks live at once of each pool, whose largest requests ascend; the last number is of what no pool holds."""
+        if tuple(holds) not in self.counted:
+            self.counted[tuple(holds)] = self.peaks(holds)
+        return self.counted[tuple(holds)]
+
+    def peaks(self, holds: list[int]) -> list[int]:
+        """The same, counted."""
         places = {}
         for event in self.events:
             word = event.removeprefix(b"-")

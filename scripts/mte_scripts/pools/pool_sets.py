@@ -5,7 +5,7 @@ line `moments` where they are timelines."""
 
 import os
 import re
-from typing import NamedTuple
+from typing import NamedTuple, Optional
 
 from mte_scripts import claims, texts
 from mte_scripts.pools import pool_runs
@@ -23,13 +23,14 @@ class Pool(NamedTuple):
 
 
 class PoolSet(NamedTuple):
-    """Pools, and the fit that judges them: an empty text where they are not shown to be enough by one. BOUND is then what no pools take
-    less than, in bytes."""
+    """Pools, and the fit that judges them; an empty text where there is none. BOUND is then what no pools take less than, in bytes. GIVEN
+    are the runs in units, of pools that were found."""
 
     block: Block
     pools: list[Pool]
     fit: str
     bound: int = 0
+    given: Optional[Given] = None
 
     @property
     def bytes(self) -> int:
@@ -64,8 +65,8 @@ def found(runs: list[Run], block: Block, limit: int) -> PoolSet:
     if bytes_of(pools) != given.bytes_of(footprint, block):
         raise Refused(3, f"the pools take {bytes_of(pools):,} bytes, and `mte_tool fit` has {given.bytes_of(footprint, block):,}: please report it")
     if status == 0:
-        return PoolSet(block, pools, text)
-    return PoolSet(block, pools, "", given.bytes_of(int(lines[2].split()[-1]), block))
+        return PoolSet(block, pools, text, 0, given)
+    return PoolSet(block, pools, "", given.bytes_of(int(lines[2].split()[-1]), block), given)
 
 
 def pools_of(runs: list[Run], units: list[int], block: Block) -> list[Pool]:
@@ -115,7 +116,7 @@ def judged(pools: PoolSet, runs: list[Run]) -> Verdict:
         kinds = ("timelines", "histories")
         raise Refused(2, f"the pools are of {kinds[not moments]}, and these runs are {kinds[runs[0].is_sampled]}")
     fit = texts.parse_fit(rows, "the fit of the pools")
-    given = pool_runs.joined(runs, pools.block)
+    given = pools.given or pool_runs.joined(runs, pools.block)
     status, out, error = texts.mte_tool(["check-fit"], pools.fit.encode() + given.text)
     if status not in (0, 1):
         raise Refused(2 if status == 2 else 3, f"`mte_tool check-fit` refuses the fit: {error or f'its status is {status}'}")

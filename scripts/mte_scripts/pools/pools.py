@@ -14,12 +14,11 @@ Find static pools for the runs of a program: which sizes of blocks, and how many
 heap. Each has so many blocks of one size in static memory, and a request takes a block of the pool with the smallest blocks that hold
 it, and of no other.
 
-Usage: pools --limit K [OPTION..] RUN..
-       pools --check POOLS RUN..
-       pools --read POOLS --as FORM
+Usage: pools [OPTION..] RUN..
 
-A RUN is a timeline, as docs/FORMATS.md has it: all requests and frees of a run in their order. It may also be a history, which knows
-some moments alone: what was live between these may have no block. `-` is standard input.
+With --limit it finds pools for the runs, with --check it checks the pools of a file for them; with --read it prints the pools of a file,
+and takes no run. A RUN is a timeline, as docs/FORMATS.md has it: all requests and frees of a run in their order. It may
+also be a history, which knows some moments alone: what was live between these may have no block. `-` is standard input.
 
   --limit K        at most so many pools, 1 to 32
   --unit U         blocks are multiples of U bytes: 4, 8, 16 or 32; 8 where it is left out
@@ -31,6 +30,7 @@ some moments alone: what was live between these may have no block. `-` is standa
   --certificate F  also write the pools with their certificate to the file F
   --check POOLS    check such a file for these runs, which need not be the author's: the same pools, and as few bytes
   --read POOLS     take the pools of such a file
+  --each           print for each number of pools from 1 to K what they take, and not the pools: so K can be chosen
   --units          print the runs in units, for `mte_tool`: the fit in POOLS is of these
 
 The forms are
@@ -55,9 +55,9 @@ Exit status:
   3  there is no request, mte_tool could not run, or a write failed
 
 Examples:
-  pools --limit 4 --unit 8 --overhead 8 --certificate lwip.pools lwip.timeline
-  pools --check lwip.pools lwip.timeline
-  pools --read lwip.pools --as lwip --reserve 10 > lwippools.h
+  scripts/pools --limit 4 --unit 8 --overhead 8 --certificate lwip.pools lwip.timeline
+  scripts/pools --check lwip.pools lwip.timeline
+  scripts/pools --read lwip.pools --as lwip --reserve 10 > lwippools.h
 """
 # the options with a value, and what that is
 VALUES = {
@@ -87,9 +87,9 @@ class Options:
             else:
                 option, equals, value = word.partition("=")
                 given.append(option)
-                if option != "--units" or equals:
+                if option not in ("--units", "--each") or equals:
                     self.take(option, value if equals else next(at, None))
-        self.units = "--units" in given
+        self.units, self.each = "--units" in given, "--each" in given
         self.agree(given)
 
     def take(self, option, value):
@@ -124,6 +124,8 @@ class Options:
             raise Refused(2, "name a timeline, or several; --help says more")
         elif self.check is None and not self.units and self.limit is None:
             raise Refused(2, "--limit K is wanted: at most how many pools?")
+        if self.each and (self.form or self.certificate or self.today or self.reserve or self.units):
+            raise Refused(2, "--each prints what pools take, and no pools: it goes with --limit, --unit and --overhead alone")
         if self.runs.count("-") > 1:
             raise Refused(2, "standard input can be read once")
 
@@ -159,6 +161,8 @@ def pools(words):
     runs = pool_runs.runs_of(options.runs)
     if options.units:
         return texts.write(pool_runs.joined(runs, options.block()).text)
+    if options.each:
+        return each_number(options, runs)
     its = pool_sets.found(runs, options.block(), options.limit)
     if its.fit and options.certificate is not None:
         write_file(options.certificate, pool_sets.text_of(its))
@@ -182,6 +186,23 @@ def known_of(options, runs, its):
     if found.why:
         raise Refused(3, f"the pools that were found are not those of their certificate: {found.why}")
     return claims.pools_sentence(found.judged, texts.trust())
+
+
+def each_number(options, runs):
+    """What the pools take for each limit from 1 to K, each found and checked by itself."""
+    rows, its, known = [[claims.TEMPLATES["pools.each.limit"], claims.TEMPLATES["pools.each.bytes"]]], None, ""
+    for limit in range(1, options.limit + 1):
+        its = pool_sets.found(runs, options.block(), limit)
+        known = known_of(options, runs, its)
+        rows.append([number(limit), number(its.bytes)])
+        if not its.fit:
+            break
+    so = claims.TEMPLATES["pools.each.so"] if its.fit and options.limit > 1 else ""
+    lines = [*in_columns(rows, 2), "", *wrapped(f"{known} {so}")]
+    for note in warnings(runs):
+        lines += wrapped(f"! {note}", "  ")
+    texts.write("".join(f"{line}\n" for line in lines))
+    return 0 if its.fit else 1
 
 
 def check(options):
@@ -274,12 +295,14 @@ def today_lines(options, runs, its):
     holds = [pool.block - its.block.overhead for pool in options.today]
     most = [max(counts) for counts in zip(*(run.most(holds) for run in runs))]
     rows = [["Today", "Blocks", "Used", "Bytes"]]
-    rows += [[number(pool.block), number(pool.number), number(used), number(pool.block * pool.number)] for pool, used in zip(options.today, most)]
+    rows += [list(map(number, (pool.block, pool.number, used, pool.block * pool.number))) for pool, used in zip(options.today, most)]
     total, own = pool_sets.bytes_of(options.today), its.bytes
     lines = in_columns([*rows, ["", "", "", number(total)]], 4)
     short = [f"{number(pool.block)} by {number(used - pool.number)}" for pool, used in zip(options.today, most) if used > pool.number]
-    change = f"{number(abs(total - own))} bytes {'less' if own <= total else 'more'}" + (f", {percent(abs(total - own), total)}" if total else "")
-    lines += wrapped(f"Today's pools take {number(total)} bytes. {'Without their reserve the' if options.reserve else 'The'} pools above take {change}.")
+    change = f"{number(abs(total - own))} bytes {'less' if own <= total else 'more'}"
+    change += f", {percent(abs(total - own), total)}" if total else ""
+    these = "Without their reserve the pools above" if options.reserve else "The pools above"
+    lines += wrapped(f"Today's pools take {number(total)} bytes. {these} take {change}.")
     if short:
         lines += wrapped(f"! Today's pools are short of blocks: those of {claims.listed(short)}.", "  ")
     above = [size for run in runs for size in run.sizes if size > holds[-1]]
