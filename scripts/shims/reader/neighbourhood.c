@@ -99,6 +99,7 @@ static inline void read_record(const char **from, struct record *to) {
   to->stack = at + 1;
 }
 
+static inline int is_request_or_free(char letter) { return letter == 'm' || letter == 'c' || letter == 'f'; }
 static int is_error(char letter) { return letter == 'L' || letter == 'S' || letter == 'x' || letter == 'o' || letter == 'n'; }
 
 // what each stack is, by its number: the text after the colon
@@ -149,7 +150,7 @@ static void scan(void) {
     read_record(&at, &record);
     if (record.letter == 'm' || record.letter == 'c') add_block(record.numbers[0], record.numbers[1]);
     if (record.letter == 'r') add_block(record.numbers[1], record.numbers[2]);
-    if (strchr("mcfr", record.letter) && (record.numbers[0] < 1 || record.numbers[0] > last_block)) give_up("a block has no request");
+    if ((is_request_or_free(record.letter) || record.letter == 'r') && (record.numbers[0] < 1 || record.numbers[0] > last_block)) give_up("a block has no request");
     if (record.letter != 'l' && record.letter != 's') add_step(record.begin, record.count ? record.numbers[0] : 0);
     error_count += is_error(record.letter);
     if (record.stack) learn_stack(&record);
@@ -483,7 +484,7 @@ static void reduce(void) {
   int error = 0;
   const char *first_end = NULL;
   for (size_t i = 0; i < step_count && !first_end; i++)
-    if (strchr("fr", text[steps[i].at])) first_end = text + steps[i].at;
+    if (text[steps[i].at] == 'f' || text[steps[i].at] == 'r') first_end = text + steps[i].at;
   for (int i = 0; i < class_count && first_end; i++) write_fresh(i, NULL, first_end, 0);
   // whether a block may come from one that was freed, the odds on other heaps ask
   if (first_end) write_filler(LARGE_FILLER), write_words('f', 1, new_blocks, 0, 0), write_bytes(" 0\n", 3);
@@ -492,10 +493,10 @@ static void reduce(void) {
   for (struct step *step = steps; step < steps + step_count; step++) {
     const char *at = text + step->at;
     uint32_t block = step->block;
-    struct slot *slot = strchr("mcf", *at) && slot_of[block] ? &slots[slot_of[block] - 1] : NULL;
+    struct slot *slot = is_request_or_free(*at) && slot_of[block] ? &slots[slot_of[block] - 1] : NULL;
     int is_wanted = slot ? slot->is_wanted && slot->last_error >= error : errors_left[block] || new_number[block] || stand_in[block];
     if (*at == 'f') is_ended[block] = 1;
-    if (strchr("mcf", *at) && !is_wanted && !stand_in[block]) {
+    if (is_request_or_free(*at) && !is_wanted && !stand_in[block]) {
       request_count += *at != 'f';
       continue;
     }
