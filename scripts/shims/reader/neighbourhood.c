@@ -24,7 +24,7 @@
 #include <sys/stat.h>
 #include <unistd.h>
 
-enum { HEAD = 128, LARGEST = LARGEST_SIZE, GRANULE = 16, MOST_CLASSES = 32, MOST_GRANULES = 262144, WINDOW = 64, MOST_OFFSET = FARTHEST_ACCESS };
+enum { HEAD = 128, LARGEST = LARGEST_SIZE, GRANULE = 16, MOST_GRANULES = 262144, WINDOW = 64, MOST_OFFSET = FARTHEST_ACCESS };
 enum { MOST_ERRORS = 50000, MOST_STACKS = 1 << 20, LARGE_FILLER = 20000, MOST_TOUCHED = 8 };
 static const char FORM[8] = "ACCESS1";
 
@@ -157,7 +157,8 @@ static void scan(void) {
   }
 }
 
-// The heap's slots without their tags, as scripts/mte_scripts/faults/slot_model.py has them: which slot each request takes.
+// The heap's slots without their tags, as scripts/mte_scripts/faults/slot_model.py has them: which slot each request takes. scripts/tests/faults
+// compares both with the replay of the built program, over random logs.
 static int class_count, table[MOST_CLASSES], class_for[LARGEST / GRANULE + 2];
 static long granules, quarantine, share;
 static uint32_t first_slot[MOST_CLASSES + 1], fresh[MOST_CLASSES];
