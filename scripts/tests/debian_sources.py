@@ -25,8 +25,11 @@ def fetched(work: str, names: Iterable[str]) -> bool:
     words = ["apt-get", "-q", *(f"-o{name}={value}" for name, value in settings)]
     how = {"cwd": os.path.join(apt, "unpacked"), "stdin": subprocess.DEVNULL, "capture_output": True, "timeout": 600}
     try:
-        for command in (["update"], ["source", *missing]):
-            if subprocess.run(words + command, **how).returncode:
+        if subprocess.run([*words, "update"], **how).returncode:
+            return False
+        for name in missing:
+            # a mirror may lack the latest of the security updates
+            if all(subprocess.run([*words, "source", *release, name], **how).returncode for release in ([], ["-t", "bookworm"])):
                 return False
     except (OSError, subprocess.TimeoutExpired):
         return False

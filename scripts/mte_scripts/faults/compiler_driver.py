@@ -1,16 +1,18 @@
 """The compiler drivers traced_cc and traced_c++: gcc or clang with the flags that show each load and store to a runtime, and with the
-runtime."""
+runtime.
 
-import glob
-import hashlib
+They run for each file of a build and each question of a `configure`, so what takes long to import is imported where it is needed."""
+
 import os
-import platform
-import shutil
-import subprocess
 
-from mte_scripts import private_folder, texts
+from mte_scripts import places, private_folder
 from mte_scripts.recording import programs
 from mte_scripts.running import Refused
+
+try:
+    from _sha1 import sha1  # hashlib loads OpenSSL, which takes longer than all else here
+except ImportError:
+    from hashlib import sha1
 
 HELP = """\
 Compile a C program so that scripts/find_faults can show its memory errors; traced_c++ compiles C++.
@@ -32,10 +34,16 @@ Example:
   traced_cc -g use.c -o use && find_faults ./use
 """
 
-SHIMS = os.path.join(texts.SCRIPTS, "shims")
-SOURCES = sorted(glob.glob(os.path.join(SHIMS, "accesses", "*.[ch]")))
+SHIMS = os.path.join(places.SCRIPTS, "shims")
+
+
+def sources_in(folder: str, *endings: str) -> list:
+    return sorted(os.path.join(folder, name) for name in os.listdir(folder) if name.endswith(endings))
+
+
+SOURCES = sources_in(os.path.join(SHIMS, "accesses"), ".c", ".h")
 READER, READER_FLAGS = os.path.join(SHIMS, "reader", "neighbourhood.c"), ["-O2", "-g", "-Wall"]
-HEADERS = sorted(glob.glob(os.path.join(SHIMS, "*.h")))
+HEADERS = sources_in(SHIMS, ".h")
 RUNTIME = "libmte_accesses.so"
 RUNTIME_FLAGS = "-O2 -g -Wall -fPIC -shared -fvisibility=hidden -fno-builtin -fomit-frame-pointer -static-libgcc".split()
 RUNTIME_FLAGS += [f"-Wl,-soname,{RUNTIME}", "-Wl,--exclude-libs,ALL"]
@@ -46,28 +54,42 @@ TRACED_FLAGS += [f"-fno-builtin-{name}" for name in ("malloc", "calloc", "reallo
 CXX_FLAGS = {"gcc": ["-fno-allocation-dce", "-fno-tree-dse", "-fno-tree-dce"], "clang": ["-fno-builtin"]}
 WITHOUT_LINK = ("-c", "-S", "-E", "-M", "-MM", "-r", "-V", "--version", "-fsyntax-only")
 PLACE = "set XDG_CACHE_HOME to a folder that only you can change"
-IS_X86 = platform.machine() == "x86_64"
+IS_X86 = os.uname().machine == "x86_64"
 OFFSET = "0x7fff8000"  # of the shadow: accesses.h
 
 
 def found(variable: str, *names: str) -> str:
     """The compiler that a variable names, or the first of these that is there."""
     wanted = os.environ.get(variable)
-    path = shutil.which(wanted) and wanted if wanted else next(filter(None, map(shutil.which, names)), None)
+    path = which(wanted) and wanted if wanted else next(filter(None, map(which, names)), None)
     if not path:
         raise Refused(3, f"there is no {wanted or 'compiler'}: install gcc or clang, or set TRACED_CC and TRACED_CXX")
     return path
 
 
+def which(name: str) -> "str | None":
+    """The path of a program that can be run; shutil's takes longer to import than to run."""
+    folders = [""] if os.path.dirname(name) else os.environ.get("PATH", os.defpath).split(os.pathsep)
+    paths = (os.path.join(folder, name) for folder in folders)
+    return next((path for path in paths if os.access(path, os.X_OK) and os.path.isfile(path)), None)
+
+
 def is_clang(compiler: str) -> bool:
+    """By the name of the system's own compilers; others are asked."""
+    folder, name = os.path.split(os.path.realpath(which(compiler) or compiler))
+    if folder.startswith("/usr/") and any(each in name for each in ("clang", "gcc", "g++")):
+        return "clang" in name
+    import subprocess
+
     done = subprocess.run([compiler, "--version"], stdin=subprocess.DEVNULL, stdout=subprocess.PIPE, stderr=subprocess.DEVNULL)
     return b"clang" in done.stdout
 
 
 def sum_of(flags: list, sources: list) -> str:
-    whole = hashlib.sha256(" ".join(flags).encode())
+    whole = sha1(" ".join(flags).encode())
     for path in sources:
-        whole.update(texts.read(path))
+        with open(path, "rb") as file:
+            whole.update(file.read())
     return whole.hexdigest()[:16]
 
 
@@ -125,6 +147,8 @@ def build(plain: str, to: str) -> None:
 
 
 def compile_alone(words: list) -> int:
+    import subprocess
+
     with private_folder.temporary() as folder:
         return subprocess.run(words, stdin=subprocess.DEVNULL, stdout=2, env={**os.environ, "TMPDIR": folder}).returncode
 
@@ -159,8 +183,20 @@ def drive_cxx(words: list) -> None:
 
 
 def drive(words: list, is_for_cxx: bool) -> None:
-    if words == ["--help"]:
-        return texts.write_help(HELP)
+    try:
+        if words != ["--help"]:
+            compile_traced(words, is_for_cxx)
+        from mte_scripts import texts
+
+        texts.write_help(HELP)
+    except Refused:
+        from mte_scripts import texts  # noqa: F401  which knows what the scripts are called here
+
+        raise
+
+
+def compile_traced(words: list, is_for_cxx: bool) -> None:
+    """Becomes the compiler."""
     plain = found("TRACED_CC", "gcc", "clang")
     compiler = found("TRACED_CXX", "g++", "clang++") if is_for_cxx else plain
     library = runtime(plain)

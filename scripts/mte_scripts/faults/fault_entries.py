@@ -13,9 +13,11 @@
     found[0].numbers              of all errors of the log that are of this cause, from 0
 
 An access of a live block beyond its bounds has one cause with those that come from the same source line and the same allocation, on the same
-side of the block. An access of a freed or resized block has one with each other of that block, and of blocks that were freed from the same
-callers and first wrongly used at the same line. A free has one with those from the same line."""
+side of the block. An access of a freed or resized block has one with each other of that block, of blocks that were freed from the same
+callers and first wrongly used at the same line, and of what is one object with it (its_calls). A free has one with those from the same
+line."""
 
+import itertools
 from collections import namedtuple
 
 OVERFLOW, UNDERFLOW, USE_AFTER_FREE, USE_AFTER_REALLOC = "overflow", "underflow", "use after free", "use after realloc"
@@ -46,6 +48,20 @@ def stacks_of(log, errors):
     return numbers | ({log.crash.stack} if log.crash else set())
 
 
+def its_calls(log, error, places):
+    """Of a use after free: the calls that made the block, freed it and used it, by the program's innermost functions and their callers. A
+    block that has such three calls in common with another one is of one object with it, as a text with the struct that names it. What
+    all have in common does not count: the program's first function."""
+
+    def calls(stack):
+        pcs = log.stacks[stack].split(",") if stack > 0 else []
+        own = [(at, frame) for at, pc in enumerate(pcs) for frame in places.at(int(pc, 16))[-1:] if frame.is_own()]
+        return [(frame.function, *pcs[at + 1 : at + 1 + SAME_CALLERS]) for at, frame in own[:-1][:SAME_CALLERS]]
+
+    ways = itertools.product(calls(log.made[error.block]), calls(log.ended[error.block]), calls(error.stack))
+    return [(made, ended, used) for made, ended, used in ways if ended[0] != used[0]]
+
+
 def entries(log, outcomes, places):
     """The entries of a log, in the order of their first use. An outcome of an error is (verdict, result, why). places has learned the
     stacks of all errors."""
@@ -59,12 +75,18 @@ def entries(log, outcomes, places):
     def callers(stack):
         return ",".join(log.stacks[max(stack, 0)].split(",")[:SAME_CALLERS])
 
-    of_block, causes = {}, {}
+    of_block, of_object, causes = {}, {}, {}
     for at, error in enumerate(log.errors):
         kind, block = kind_of(error), error.block
         if kind in (USE_AFTER_FREE, USE_AFTER_REALLOC) and block:
-            # what another block's first wrong use is one cause with
-            key = of_block.setdefault((kind, block), (kind, line(error.stack), callers(log.ended[block])))
+            if (kind, block) not in of_block:
+                # what another block's first wrong use is one cause with
+                key, ways = (kind, line(error.stack), callers(log.ended[block])), its_calls(log, error, places)
+                if key not in causes:
+                    key = next((of_object[kind, way] for way in ways if (kind, way) in of_object), key)
+                of_object.update(((kind, way), key) for way in ways if (kind, way) not in of_object)
+                of_block[kind, block] = key
+            key = of_block[kind, block]
         else:
             key = kind, line(error.stack), callers(log.made[block]) if block else "", callers(log.ended[block]) if block else ""
         causes.setdefault(key, []).append(at)

@@ -1,7 +1,7 @@
 """What a program sees that a script starts: the environment and the signals that the script itself was started with."""
 
+import _signal  # the module signal takes longer to import
 import os
-import signal
 
 
 def environment() -> dict:
@@ -16,6 +16,6 @@ def environment() -> dict:
 
 def take_place(words: list) -> None:
     """Runs a program in the place of the script. Returns only by an OSError."""
-    for each in (signal.SIGPIPE, signal.SIGXFSZ):  # Python ignores them
-        signal.signal(each, signal.SIG_DFL)
+    for each in (_signal.SIGPIPE, _signal.SIGXFSZ):  # Python ignores them
+        _signal.signal(each, _signal.SIG_DFL)
     os.execvpe(words[0], words, environment())

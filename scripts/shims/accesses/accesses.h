@@ -24,6 +24,7 @@
 #include <stdint.h>
 
 typedef uintptr_t address;
+typedef uint64_t __attribute__((may_alias, aligned(1))) word;
 #define SHOWN __attribute__((visibility("default")))
 #define NOT_INLINE __attribute__((noinline))
 
@@ -87,6 +88,9 @@ void begin_shadow(void);
 int begin_chunks(address from, address to);
 void close_shadow(address from, address to);
 void open_shadow(address from, size_t size);
+void open_block(address from, size_t size);
+void close_block(address from, size_t size);
+int is_open(address from, size_t size);
 
 // hooks.c
 int logs_right(void);
@@ -103,11 +107,20 @@ static inline __attribute__((always_inline)) int is_known(address a, size_t size
 void copy_bytes(void *to, const void *from, size_t);
 void fill_bytes(void *to, int byte, size_t);
 
-// log.c: all but the last of a record's parts is followed by more
+// The same for the bytes that tables have of a block. What is after them, in the gap after the block, becomes `after`, at most eight bytes.
+static inline void fill_table(unsigned char *to, int byte, size_t size, int after) {
+  const uint64_t ones = 0x0101010101010101u;
+  for (; size >= 8; size -= 8, to += 8) *(word *)to = byte * ones;
+  uint64_t mask = ((uint64_t)1 << 8 * size) - 1;
+  *(word *)to = (byte * ones & mask) | (after * ones & ~mask);
+}
+
+// log.c: all but the last of a record's parts is followed by more. Of a record's numbers there are at most three.
 enum { MOST_NAME = 1024 };
 int has_log(void);     // racy where the lock is not held
 int is_logging(void);  // wants the lock, as all below
-void put_record(char kind, int count, ...);
+void put_numbers(char kind, int count, const long *numbers);
+#define put_record(kind, count, ...) put_numbers(kind, count, (const long[]){__VA_ARGS__})
 void put_text(const char *);
 void put_number(unsigned long value, unsigned base);
 void put_end(void);

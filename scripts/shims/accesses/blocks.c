@@ -1,8 +1,8 @@
 // The allocator. Blocks stand apart, and no address is given out twice: 64 bytes are before a block, and 208 to 2,112 after it, as many as
 // it has and 64 more where that lies between. So a copy of 256 bytes never reaches from block to block; that matters since gcc looks only
 // at the first and the last byte of a struct. And an address names its block also after the block's free; the rest of a mebibyte is its
-// last block's. The memory of freed blocks goes back to the system a mebibyte at a time, once another 64 MiB were freed; then their
-// addresses are owned by nobody.
+// last block's. The memory of freed blocks goes to new ones or back to the system a mebibyte at a time, once another 64 MiB were freed; then
+// their addresses are owned by nobody.
 #include "../formats.h"
 #include "accesses.h"
 #include <errno.h>
@@ -12,7 +12,9 @@
 #include <unistd.h>
 
 #define DELAY ((address)64 << 20)
+#define SPARE ((address)16 << 20)  // freed bytes in which new blocks may take the memory
 enum { SPARED = 16 /* chunks */, POPULATE_WRITE = 23 /* MADV_POPULATE_WRITE of Linux 5.14 and newer */ };
+enum { DONT_UNMAP = 4 /* MREMAP_DONTUNMAP of Linux 5.7 and newer */, MOST_MOVES = 8000 /* each may take four of the 65,530 mappings */ };
 enum { BEFORE = 64, AFTER = 64, LEAST_MORE = 144, MOST_MORE = 2048 };
 
 pthread_mutex_t accesses_lock = PTHREAD_MUTEX_INITIALIZER;
@@ -25,6 +27,8 @@ struct empty { uint32_t first, count; address freed_bytes; };
 static uint32_t *live_in_chunk;
 static struct empty *empties;
 static size_t oldest_empty, next_empty;
+static int moves;       // how often a chunk took the memory of another one
+static int is_used;     // whether the chunk of `next` has such memory, which is not zero
 
 void *reserve(address at, size_t size, int mode, int how) {
   void *mapped = mmap((void *)at, size, mode, how | MAP_ANONYMOUS | MAP_NORESERVE | (at ? MAP_FIXED_NOREPLACE : 0), -1, 0);
@@ -57,15 +61,16 @@ uint32_t number_of_blocks(void) { return last_block; }
 static uint32_t chunk_of(address a) { return (a - ARENA) / CHUNK; }
 
 struct block *owner(address a) {
-  uint32_t number = is_in_arena(a) ? OWNERS[(a - ARENA) / 16] : 0;
-  if (!number && next % CHUNK && a >= next && chunk_of(a) == chunk_of(next)) number = last_block;
+  uint32_t number = !is_in_arena(a) ? 0 : a < next ? OWNERS[(a - ARENA) / 16] : next % CHUNK && chunk_of(a) == chunk_of(next) ? last_block : 0;
   return number ? &BLOCKS[number] : NULL;
 }
 
 int was_given_out(address a) { return ARENA + CHUNK <= a && a < next; }
 
 static void own(address from, address to, uint32_t number) {
-  for (address g = (from - ARENA) / 16; g < (to - ARENA) / 16; g++) OWNERS[g] = number;
+  uint32_t *at = OWNERS + (from - ARENA) / 16, *end = OWNERS + (to - ARENA) / 16;
+  for (; at + 2 <= end; at += 2) *(word *)at = (uint64_t)number << 32 | number;
+  if (at < end) *at = number;
 }
 
 static size_t gap_after(size_t size) {
@@ -76,17 +81,39 @@ static void is_empty(uint32_t chunk, address end) {
   empties[next_empty++] = (struct empty){chunk, (end - 1 - ARENA) / CHUNK - chunk + 1, freed_bytes};
 }
 
+static int waited(const struct empty *empty, address most) { return freed_bytes - empty->freed_bytes >= most; }
+
+static void forget(const struct empty *old) {
+  address at = old->first * CHUNK, size = old->count * CHUNK;
+  madvise((void *)(ARENA + at), size, MADV_DONTNEED);
+  for (int store = 0; store < 2; store++) madvise(KNOWN(store) + at / 16, size / 16, MADV_DONTNEED);
+  madvise(OWNERS + at / 16, size / 16 * sizeof *OWNERS, MADV_DONTNEED);
+  close_shadow(ARENA + at, ARENA + at + size);
+}
+
 static void return_memory(void) {
   int error = errno;
-  while (oldest_empty < next_empty && freed_bytes - empties[oldest_empty].freed_bytes >= DELAY) {
-    struct empty old = empties[oldest_empty++];
-    address at = old.first * CHUNK, size = old.count * CHUNK;
-    madvise((void *)(ARENA + at), size, MADV_DONTNEED);
-    for (int store = 0; store < 2; store++) madvise(KNOWN(store) + at / 16, size / 16, MADV_DONTNEED);
-    madvise(OWNERS + at / 16, size / 16 * sizeof *OWNERS, MADV_DONTNEED);
-    close_shadow(ARENA + at, ARENA + at + size);
-  }
+  while (oldest_empty < next_empty && waited(&empties[oldest_empty], moves < MOST_MOVES && empties[oldest_empty].count == 1 ? DELAY + SPARE : DELAY))
+    forget(&empties[oldest_empty++]);
   errno = error;
+}
+
+static int moved(void *from, void *to, size_t size) { return mremap(from, size, size, MREMAP_MAYMOVE | MREMAP_FIXED | DONT_UNMAP, to) != MAP_FAILED; }
+
+// Gives a new chunk the memory of an old one and of its tables, which is cheaper than new memory. What the tables know of the old one's
+// accesses is all zero, and who owns an address is written again.
+static int take_memory(address chunk) {
+  struct empty *old = &empties[oldest_empty];
+  if (moves == MOST_MOVES || oldest_empty == next_empty || old->count > 1 || !waited(old, DELAY)) return 0;
+  int error = errno;
+  size_t from = old->first * CHUNK / 16, to = (chunk - ARENA) / 16;
+  int is_moved = moved((void *)(ARENA + old->first * CHUNK), (void *)chunk, CHUNK) && moved(OWNERS + from, OWNERS + to, CHUNK / 16 * sizeof *OWNERS) &&
+                 moved(KNOWN(0) + from, KNOWN(0) + to, CHUNK / 16) && moved(KNOWN(1) + from, KNOWN(1) + to, CHUNK / 16);
+  moves = is_moved ? moves + 1 : MOST_MOVES;
+  forget(old);
+  oldest_empty++;
+  errno = error;
+  return 1;
 }
 
 // the rest of a chunk is its last block's
@@ -101,10 +128,10 @@ static void end_chunk(void) {
 static void know_all(const struct block *block) {
   for (int store = 0; store < 2; store++) {
     unsigned char *known = KNOWN(store) + (block->start - ARENA) / 16;
-    fill_bytes(known, 16, block->size / 16);
+    fill_table(known, 16, block->size / 16, 0);
     if (block->size % 16) known[block->size / 16] = block->size % 16;
   }
-  open_shadow(block->start, block->size);
+  open_block(block->start, block->size);
 }
 
 // Takes the memory of a chunk at once, which is cheaper than page by page. A small program is spared it.
@@ -130,7 +157,10 @@ static struct block *new_block(size_t size, size_t alignment) {
   if (next + most + CHUNK > ARENA + ARENA_SIZE) return NULL;
   address start = round_up(next + BEFORE, alignment), end = start + round_up(size, 16) + gap_after(size);
   if (next % CHUNK == 0 && !begin_chunks(next, round_up(end, CHUNK))) return NULL;
-  if (next % CHUNK == 0 && !is_large) populate(next);
+  if (next % CHUNK == 0) {
+    is_used = !is_large && take_memory(next);
+    if (!is_large && !is_used) populate(next);
+  }
 
   struct block *block = &BLOCKS[++last_block];
   *block = (struct block){start, size, LIVE, chunk_of(next)};
@@ -143,8 +173,9 @@ static struct block *new_block(size_t size, size_t alignment) {
 }
 
 static void end_block(struct block *block) {
-  for (int store = 0; store < 2; store++) fill_bytes(KNOWN(store) + (block->start - ARENA) / 16, 0, round_up(block->size, 16) / 16);
-  close_shadow(block->start, round_up(block->start + block->size, 8));
+  for (int store = 0; store < 2; store++) fill_table(KNOWN(store) + (block->start - ARENA) / 16, 0, (block->size + 15) / 16, 0);
+  if (block->size < CHUNK / 2) close_block(block->start, block->size);
+  else close_shadow(block->start, round_up(block->start + block->size, 8));
   block->state = FREED;
   freed_bytes += BEFORE + block->size + AFTER;
   if (!--live_in_chunk[block->chunk] && block->chunk != chunk_of(next))
@@ -157,6 +188,7 @@ void *request(char kind, size_t size, size_t alignment, struct caller from) {
   int is_nested = busy, is_held = !is_nested || !pthread_mutex_trylock(&accesses_lock);
   if (!is_nested) watch_thread(), enter(), tell_guess();
   struct block *block = new_block(size, alignment);
+  if (block && kind == 'c' && is_used) fill_bytes((void *)block->start, 0, size);
   if (block && !is_nested && is_logging()) {
     put_record(kind, 2, (long)(block - BLOCKS), (long)size);
     put_stack(from);
@@ -174,8 +206,9 @@ static struct block *live_block_at(address a) {
 
 // the live block that begins at the address; where there is none, the wrong free is logged
 static struct block *block_at(address a, struct caller from, struct stack *stack) {
-  struct block *live = live_block_at(a), *block = owner(a);
-  if (live || !is_logging()) return live;
+  struct block *block = owner(a);
+  int is_right = block && block->start == a && block->state == LIVE;
+  if (is_right || !is_logging()) return is_right ? block : NULL;
   struct wrong found = {.letter = was_given_out(a) ? 'o' : 'n', .at = a};
   if (block) found = (struct wrong){.letter = 'x', .is_freed = block->state == FREED, .number = block - BLOCKS, .offset = (long)(a - block->start),
                                       .block_size = (long)block->size};

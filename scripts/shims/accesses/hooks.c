@@ -134,7 +134,7 @@ static __thread struct { address at, *frame; size_t size; } told[2] __attribute_
 void touch_slowly(address a, size_t size, int store, struct caller from) {
   int is_told = told[store].at == a && told[store].size == size && told[store].frame == from.frame;
   told[store].size = 0;
-  if (!is_told) see(a, size, store, from);
+  if (!is_told && (half.size || !is_open(a, size))) see(a, size, store, from);
 }
 
 static void touch_half(address a, size_t size, int store, struct caller from) {

@@ -15,8 +15,6 @@
 #include <unistd.h>
 #include <wchar.h>
 
-typedef uint64_t __attribute__((may_alias, aligned(1))) word;
-
 void copy_bytes(void *to, const void *from, size_t size) {
   char *t = to;
   const char *f = from;

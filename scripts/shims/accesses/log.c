@@ -13,14 +13,14 @@
 //   M LOW HIGH OFFSET PATH     a file that is mapped with code
 //
 // A stack is NUMBER:PC,PC,.. at its first time, the innermost of at most 16 return addresses first, and later NUMBER.
-// The file is mapped, so that a killed program leaves its log. After each record the head has the length of the text, its checksum, and
-// whether the program came to its end. So what a wild store, a cut or an end in the middle of a record did to the log is seen.
+// The file is mapped, so that a killed program leaves its log. The head has the length of the text, its checksum, and whether the program came
+// to its end. So what a wild store, a cut or an end in the middle of a record did to the log is seen. It is written after each record of what
+// is wrong, and after some hundred bytes of others, so of a killed program the last requests may be missing.
 #include "accesses.h"
 #include "../checksum.h"
 #include "../private_folder.h"
 #include <errno.h>
 #include <fcntl.h>
-#include <stdarg.h>
 #include <stdlib.h>
 #include <string.h>
 #include <sys/mman.h>
@@ -28,8 +28,9 @@
 #include <sys/syscall.h>
 #include <unistd.h>
 
-enum { MARGIN = 8192 };
+enum { MARGIN = 8192, MOST_UNMARKED = 512 };
 #define PIECE ((size_t)8 << 20)
+#define FIRST_PIECE ((size_t)256 << 10)
 #define LOG_SIZE ((size_t)1 << 30)
 
 // Two marks take turns, so that one is whole wherever the program ends. The sum is the CRC-32 of the text. scripts/mte_scripts/faults/fault_log.py reads it.
@@ -43,6 +44,7 @@ _Static_assert(sizeof(struct head) <= HEAD, "the text begins after the head");
 long not_logged;
 static char *log_start, *log_end;  // up to its end the file has memory
 static char *text;                 // where the next byte goes; null while nothing is logged
+static char *ended;                // where the last whole record ends
 static char *marked;               // where the text that the head speaks of ends
 static uint32_t sum;
 static enum end state = RUNNING;
@@ -56,20 +58,34 @@ void put_text(const char *from) {
 }
 
 // writes a number at a place; where it ends
-static char *number_at(char *at, unsigned long value, unsigned base) {
-  char digits[24];
-  int n = 0;
-  if (base == 10) do digits[n++] = '0' + value % 10; while (value /= 10);
-  else do digits[n++] = "0123456789abcdef"[value & 15]; while (value >>= 4);
-  while (n) *at++ = digits[--n];
-  return at;
+static inline char *decimal_at(char *at, unsigned long value) {
+  static const char pairs[] = "0001020304050607080910111213141516171819202122232425262728293031323334353637383940414243444546474849"
+                              "5051525354555657585960616263646566676869707172737475767778798081828384858687888990919293949596979899";
+  int digits = 1;
+  for (unsigned long power = 10; digits < 20 && value >= power; power *= 10) digits++;
+  char *end = at + digits;
+  for (at = end; value >= 100; value /= 100) at -= 2, at[0] = pairs[value % 100 * 2], at[1] = pairs[value % 100 * 2 + 1];
+  if (value >= 10) at -= 2, at[0] = pairs[value * 2], at[1] = pairs[value * 2 + 1];
+  else *--at = '0' + value;
+  return end;
 }
 
-void put_number(unsigned long value, unsigned base) { text = number_at(text, value, base); }
+void put_number(unsigned long value, unsigned base) {
+  char digits[24];
+  int n = 0;
+  if (base == 10) text = decimal_at(text, value);
+  else {
+    do digits[n++] = "0123456789abcdef"[value & 15];
+    while (value >>= 4);
+    while (n) *text++ = digits[--n];
+  }
+}
 
 static void write_mark(void) {
   struct head *head = (struct head *)log_start;
   static int turn;
+  sum = crc(sum, marked, ended - marked);
+  marked = ended;
   struct mark mark = {marked - log_start - HEAD, sum, not_logged, state, 0};
   mark.check = folded(&mark.length, 4);
   copy_bytes(head->form, FORM, sizeof FORM);
@@ -78,18 +94,18 @@ static void write_mark(void) {
 }
 
 static long wrong_records;
+static int has_to_mark;
 long number_of_wrong(void) { return wrong_records; }
 
 void put_end(void) {
   *text++ = '\n';
-  sum = crc(sum, marked, text - marked);
-  marked = text;
-  write_mark();
+  ended = text;
+  if (has_to_mark || ended - marked >= MOST_UNMARKED) write_mark();
 }
 
 // A record that a crash broke off is forgotten.
 void drop_begun(void) {
-  if (text) text = marked;
+  if (text) text = ended;
 }
 
 // a record of a wrong access, by its number
@@ -110,13 +126,13 @@ static int open_again(void) {
 static int grow(void) {
   int error = errno, file = -1;
   struct rlimit limit;
-  size_t size = log_end - log_start;
-  if (size < LOG_SIZE && !getrlimit(RLIMIT_FSIZE, &limit) && limit.rlim_cur >= size + PIECE)
+  size_t size = log_end - log_start, piece = size < FIRST_PIECE ? FIRST_PIECE : size < PIECE ? size : PIECE;
+  if (size + piece <= LOG_SIZE && !getrlimit(RLIMIT_FSIZE, &limit) && limit.rlim_cur >= size + piece)
     file = open_again();
   if (file >= 0) {
-    long failed = syscall(SYS_fallocate, file, 0, size, PIECE);
-    if (failed && (errno == EOPNOTSUPP || errno == ENOSYS)) failed = syscall(SYS_ftruncate, file, size + PIECE);
-    if (!failed) log_end += PIECE;
+    long failed = syscall(SYS_fallocate, file, 0, size, piece);
+    if (failed && (errno == EOPNOTSUPP || errno == ENOSYS)) failed = syscall(SYS_ftruncate, file, size + piece);
+    if (!failed) log_end += piece;
     syscall(SYS_close, file);
   }
   if ((size_t)(log_end - log_start) == size) {
@@ -131,20 +147,18 @@ static int grow(void) {
 int has_log(void) { return text != NULL; }
 int is_logging(void) { return text && (text + MARGIN <= log_end || grow()); }
 
-void put_record(char kind, int count, ...) {
-  va_list numbers;
-  wrong_records += kind == 'L' || kind == 'S' || kind == 'x' || kind == 'o' || kind == 'n';
-  va_start(numbers, count);
+void put_numbers(char kind, int count, const long *numbers) {
+  int is_wrong = kind == 'L' || kind == 'S' || kind == 'x' || kind == 'o' || kind == 'n';
+  wrong_records += is_wrong;
+  has_to_mark = is_wrong || kind == 'C' || kind == '-';
   char *at = text;
   *at++ = kind;
-  while (count--) {
-    long number = va_arg(numbers, long);
+  for (int i = 0; i < count; i++) {
     *at++ = ' ';
-    if (number < 0) *at++ = '-';
-    at = number_at(at, number < 0 ? -(unsigned long)number : (unsigned long)number, 10);
+    if (numbers[i] < 0) *at++ = '-';
+    at = decimal_at(at, numbers[i] < 0 ? -(unsigned long)numbers[i] : (unsigned long)numbers[i]);
   }
   text = at;
-  va_end(numbers);
 }
 
 // The name of the log of this process. Whether it has %p, where each process has a log of its own; -1 where it is too long.
@@ -190,8 +204,8 @@ static int make_log(void) {
 static void begin_log(const char *old, size_t used) {
   text = log_start + HEAD;
   if (used) copy_bytes(text, old, used);
-  sum = crc(0, text, used);
-  marked = text += used;
+  sum = 0, marked = text;
+  ended = text += used;
   process = syscall(SYS_getpid);
   write_mark();
 }
@@ -207,7 +221,7 @@ static void open_log(void) {
     syscall(SYS_close, file);
     if (mapped != MAP_FAILED) {
       log_start = log_end = text = mapped;
-      marked = log_start + HEAD, sum = 0;
+      ended = marked = log_start + HEAD, sum = 0;
       while (text && (size_t)(log_end - log_start) < HEAD + used + MARGIN) grow();
       if (text) begin_log(old + HEAD, used);
     }

@@ -61,3 +61,22 @@ void open_shadow(address from, size_t size) {
   fill_bytes(SHADOW(from), 0, size / 8);
   if (size % 8) *SHADOW(from + size) = size % 8;
 }
+
+// the same for a whole block
+void open_block(address from, size_t size) {
+  fill_table(SHADOW(from), 0, size / 8, CLOSED);
+  if (size % 8) *SHADOW(from + size) = size % 8;
+}
+
+void close_block(address from, size_t size) { fill_table(SHADOW(from), CLOSED, (size + 7) / 8, CLOSED); }
+
+// whether nothing closed is among these bytes, at least one
+int is_open(address from, size_t size) {
+  if (!is_in_arena(from) || size > ARENA + ARENA_SIZE - from) return 0;
+  const unsigned char *at = SHADOW(from), *last = SHADOW(from + size - 1);
+  for (; at + 8 <= last; at += 8)
+    if (*(const word *)at) return 0;
+  for (; at < last; at++)
+    if (*at) return 0;
+  return *last < 8 && (!*last || (from + size - 1) % 8 < *last);
+}

@@ -128,7 +128,8 @@ void put_frames(const struct stack *stack) {
 }
 
 void put_stack(struct caller from) {
-  struct stack stack = {0};
+  struct stack stack;
+  stack.count = 0;
   walk(from, (address)__builtin_frame_address(0), &stack);
   put_frames(&stack);
 }

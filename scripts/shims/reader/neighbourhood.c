@@ -24,7 +24,7 @@
 #include <sys/stat.h>
 #include <unistd.h>
 
-enum { HEAD = 128, LARGEST = LARGEST_SIZE, GRANULE = 16, MOST_CLASSES = 32, MOST_GRANULES = 262144, WINDOW = 64, MOST_OFFSET = FARTHEST_ACCESS };
+enum { HEAD = 128, LARGEST = LARGEST_SIZE, GRANULE = 16, MOST_GRANULES = 262144, WINDOW = 64, MOST_OFFSET = FARTHEST_ACCESS };
 enum { MOST_ERRORS = 50000, MOST_STACKS = 1 << 20, LARGE_FILLER = 20000, MOST_TOUCHED = 8 };
 static const char FORM[8] = "ACCESS1";
 
@@ -99,6 +99,7 @@ static inline void read_record(const char **from, struct record *to) {
   to->stack = at + 1;
 }
 
+static inline int is_request_or_free(char letter) { return letter == 'm' || letter == 'c' || letter == 'f'; }
 static int is_error(char letter) { return letter == 'L' || letter == 'S' || letter == 'x' || letter == 'o' || letter == 'n'; }
 
 // what each stack is, by its number: the text after the colon
@@ -149,14 +150,15 @@ static void scan(void) {
     read_record(&at, &record);
     if (record.letter == 'm' || record.letter == 'c') add_block(record.numbers[0], record.numbers[1]);
     if (record.letter == 'r') add_block(record.numbers[1], record.numbers[2]);
-    if (strchr("mcfr", record.letter) && (record.numbers[0] < 1 || record.numbers[0] > last_block)) give_up("a block has no request");
+    if ((is_request_or_free(record.letter) || record.letter == 'r') && (record.numbers[0] < 1 || record.numbers[0] > last_block)) give_up("a block has no request");
     if (record.letter != 'l' && record.letter != 's') add_step(record.begin, record.count ? record.numbers[0] : 0);
     error_count += is_error(record.letter);
     if (record.stack) learn_stack(&record);
   }
 }
 
-// The heap's slots without their tags, as scripts/mte_scripts/faults/slot_model.py has them: which slot each request takes.
+// The heap's slots without their tags, as scripts/mte_scripts/faults/slot_model.py has them: which slot each request takes. scripts/tests/faults
+// compares both with the replay of the built program, over random logs.
 static int class_count, table[MOST_CLASSES], class_for[LARGEST / GRANULE + 2];
 static long granules, quarantine, share;
 static uint32_t first_slot[MOST_CLASSES + 1], fresh[MOST_CLASSES];
@@ -483,7 +485,7 @@ static void reduce(void) {
   int error = 0;
   const char *first_end = NULL;
   for (size_t i = 0; i < step_count && !first_end; i++)
-    if (strchr("fr", text[steps[i].at])) first_end = text + steps[i].at;
+    if (text[steps[i].at] == 'f' || text[steps[i].at] == 'r') first_end = text + steps[i].at;
   for (int i = 0; i < class_count && first_end; i++) write_fresh(i, NULL, first_end, 0);
   // whether a block may come from one that was freed, the odds on other heaps ask
   if (first_end) write_filler(LARGE_FILLER), write_words('f', 1, new_blocks, 0, 0), write_bytes(" 0\n", 3);
@@ -492,10 +494,10 @@ static void reduce(void) {
   for (struct step *step = steps; step < steps + step_count; step++) {
     const char *at = text + step->at;
     uint32_t block = step->block;
-    struct slot *slot = strchr("mcf", *at) && slot_of[block] ? &slots[slot_of[block] - 1] : NULL;
+    struct slot *slot = is_request_or_free(*at) && slot_of[block] ? &slots[slot_of[block] - 1] : NULL;
     int is_wanted = slot ? slot->is_wanted && slot->last_error >= error : errors_left[block] || new_number[block] || stand_in[block];
     if (*at == 'f') is_ended[block] = 1;
-    if (strchr("mcf", *at) && !is_wanted && !stand_in[block]) {
+    if (is_request_or_free(*at) && !is_wanted && !stand_in[block]) {
       request_count += *at != 'f';
       continue;
     }

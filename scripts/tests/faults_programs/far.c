@@ -11,9 +11,9 @@ int main(void) {
   large[700000] = 1;
   large[4000000] = 1;
   free((void *)(block + 5000000));
-  for (int i = 0; i < 70; i++) other = malloc(1 << 20), free(other);
+  for (int i = 0; i < 90; i++) other = malloc(1 << 20), free(other);
   free((void *)large);
-  for (int i = 0; i < 70; i++) other = malloc(1 << 20), free(other);
+  for (int i = 0; i < 90; i++) other = malloc(1 << 20), free(other);
   large[1] = 1;
   free((void *)large);
   return 0;
