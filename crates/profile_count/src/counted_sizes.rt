@@ -11,6 +11,9 @@ const BLOCK: usize = 32;
 pub(crate) fn next_counted(counts: &[u32], from: usize) -> usize
     ensures { IsNextCounted counts.now from result }
 {
+    if from < counts.len() && counts[from] > 0 {
+        return from;
+    }
     let mut n = from;
     while counts.len().saturating_sub(n) >= BLOCK && is_none_counted(counts, n) {
         n += BLOCK;
