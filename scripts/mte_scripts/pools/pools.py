@@ -46,7 +46,7 @@ live in any run. The summary says which run that is.
 {claims.TEMPLATES["pools.help"]}
 
 A request takes (S + O) / U units, rounded up, and at least one. The limit is 1,024 units, or 512 where a request takes one unit; a
-request above 16,368 bytes has no pool, which is said.
+request above {texts.LARGEST_SIZE:,} bytes has no pool, which is said.
 
 Exit status:
   0  the pools are printed, or the checked ones are right
