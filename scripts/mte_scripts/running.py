@@ -10,7 +10,7 @@ From the import on, Ctrl-C ends the script quietly with status 130, as SIGTERM a
 it with status 3 and one line on standard error: no traceback, and no status 1, which means something else in most scripts. Nothing changes
 for a test that imports this."""
 
-import _signal  # type: ignore  # the module signal alone takes longer to import than this one
+import _signal  # the module signal alone takes longer to import than this one
 import os
 import sys
 
