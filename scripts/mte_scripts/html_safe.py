@@ -43,7 +43,7 @@ def digest(text: str) -> str:
 def policy(page: str, allowed: "dict[str, str] | None" = None) -> str:
     """The Content-Security-Policy of a page: its inline scripts and styles by their digests, and nothing else but what is ALLOWED, sources
     by the name of their directive."""
-    inline = {"script": [], "style": []}
+    inline: dict = {"script": [], "style": []}
     for kind, text in INLINE.findall(page):
         inline[kind].append(digest(text))
     rules = {"default-src": ["'none'"], "script-src": inline["script"], "style-src": inline["style"], "connect-src": ["'none'"]}

@@ -17,7 +17,6 @@ import subprocess
 import sys
 import tempfile
 
-from mte_scripts import running
 from mte_scripts.builds.crate_list import CrateList
 
 MEMORY_OF_A_PROOF = 4 << 30

@@ -67,7 +67,7 @@ RANGES = {  # of an option: the least and the most, and where it is left out
 }
 NAME = "find_faults"
 GRACE = 10  # seconds that the program has to end by a signal that is handed on to it
-NO_REPLAY = (None, None, None, [], {}, [])
+NO_REPLAY: tuple = (None, None, None, [], {}, [])
 ENDED = "status"  # the file of a kept folder that has the exit status of the program
 
 

@@ -22,7 +22,7 @@ import re
 import subprocess
 from collections import namedtuple
 
-from mte_scripts import running, texts
+from mte_scripts import running
 from mte_scripts.builds.crate_list import CrateList
 from mte_scripts.places import ROOT
 

@@ -33,7 +33,7 @@ Examples:
 
 def table() -> str:
     """The counts of all topics."""
-    rows = [("", "definitions", "lines", "modules", "types and constants")]
+    rows: list = [("", "definitions", "lines", "modules", "types and constants")]
     rows += [(topic, *map(str, statements.statement(topic).counts)) for topic in statements.TOPICS]
     widths = [max(map(len, column)) for column in zip(*rows)]
     lines = [[row[0].ljust(widths[0])] + [cell.rjust(width) for cell, width in zip(row[1:], widths[1:])] for row in rows]

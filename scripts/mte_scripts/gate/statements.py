@@ -29,7 +29,7 @@ PROMISES = {
     ),
 }
 PROGRAM = {"program": ("The whole program, on its own streams", [("mte_tool", "program.run")])}
-TOPICS = {**COMMANDS, **PROMISES, **PROGRAM}
+TOPICS: dict = {**COMMANDS, **PROMISES, **PROGRAM}
 # of the promise that no definition carries
 NO_CONTRACT = "The prover demands it of every function, with or without a contract; it cites no definition. docs/PROOFS.md says more."
 
@@ -151,7 +151,11 @@ def module(name: str) -> Module:
     file = os.path.join(CRATES, crate, "specs", *path.split(".")) + ".antt"
     text = read(file)
     found = Module(name, file, {}, {}, imports_in(text))
-    comment, block, fixity, last = [], [], [], ""
+    comment: list = []
+    block: list = []
+    block_comment: list = []
+    fixity: list = []
+    last = ""
     for line in [*text.split("\n"), "abbrev "]:
         begins = bool(BEGINS.match(line)) and not re.match(r"pub (use|mod) ", line)
         outside = line.startswith(("--", "use ", "pub use ", "pub mod ")) or not line.strip()
@@ -551,7 +555,7 @@ class Example:
 @functools.lru_cache(maxsize=None)
 def examples() -> dict:
     """An example of each definition that has one: the shortest statement that cites it."""
-    found = {}
+    found: dict = {}
     for crate in sorted(os.listdir(CRATES)):
         folder = os.path.join(CRATES, crate, "proofs")
         names = sorted(os.listdir(folder)) if os.path.isdir(folder) else []
@@ -580,7 +584,8 @@ def examples_in(file: str) -> "list[tuple[Key, Example]]":
             local[name] = "\n".join(line for line in lines if not line.startswith("unfolding "))
     pairs = []
     for name, statement in lemmas.items():
-        own, words = [], [it[0] for it in tokens_of(statement)]
+        own: list = []
+        words = [it[0] for it in tokens_of(statement)]
         left = [word for word in words if word in local]
         while left:
             text_of_it = local[left.pop(0)]

@@ -214,11 +214,11 @@ def out_of_range(sizes: list[int], scale: int, most: int, block: Block) -> str:
     return text + (f": take --unit {helps[0]}" if helps else ": leave such requests out of the timeline, and give them memory of their own")
 
 
-def joined_timelines(runs: list[Run], given: dict[int, int]) -> bytes:
+def joined_timelines(runs: list, given: dict[int, int]) -> bytes:
     return b"timeline\n" + b"".join(run.mapped(given, run is runs[-1]) for run in runs)
 
 
-def joined_histories(runs: list[Run], given: dict[int, int]) -> bytes:
+def joined_histories(runs: list, given: dict[int, int]) -> bytes:
     """The snapshots of all side by side, as if one run came after the other."""
     snapshots = sum(run.snapshots for run in runs)
     if snapshots > MOST_SNAPSHOTS:

@@ -11,7 +11,9 @@ def run(words: list, grace: "float | None" = None, start=subprocess.Popen, **how
     """The status of a program, which is negative where a signal ended it. Ctrl-C reaches the program too, and is left to it; SIGTERM and
     SIGHUP are handed on to it. The script goes on then: what the program did until its end counts. With GRACE, it is killed where it is
     still there so many seconds after a signal that was handed on. START starts it."""
-    child, asked, kept = [], [], {}
+    child: list = []
+    asked: list = []
+    kept: dict = {}
 
     def hand_on(number: int, _) -> None:
         asked.append(number)

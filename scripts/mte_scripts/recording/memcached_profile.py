@@ -3,7 +3,7 @@
 import re
 import socket
 
-from mte_scripts import running, texts
+from mte_scripts import texts
 
 HELP = f"""Print a profile of the items of memcached: of those that a server holds, or of keys and values of one's own.
 

@@ -146,8 +146,7 @@ def tried(more: dict) -> tuple:
     """What a small program prints with these variables, and its standard error."""
     variables = {name: value for name, value in os.environ.items() if not VARIABLES.match(name)}
     small = shutil.which("cat", path=f"{os.defpath}:{os.environ.get('PATH', '')}") or sys.executable
-    how = {"stdin": subprocess.DEVNULL, "stdout": subprocess.PIPE, "stderr": subprocess.STDOUT}
-    done = subprocess.run([small, os.devnull], env={**variables, **more}, **how)
+    done = subprocess.run([small, os.devnull], env={**variables, **more}, stdin=subprocess.DEVNULL, stdout=subprocess.PIPE, stderr=subprocess.STDOUT)
     return done.returncode, done.stdout.decode(errors="replace").strip()
 
 
@@ -155,7 +154,8 @@ class Library:
     """The library and a name of it that the loader takes, in a folder of its own where there has to be one."""
 
     def __init__(self, path: str, work):
-        self.path, self.work, self.link = path, work, None
+        self.path, self.work = path, work
+        self.link: "private_folder.Folder | None" = None
         self.name = path if is_plain(path) else self.linked()
 
     def linked(self) -> str:
@@ -274,7 +274,7 @@ def ended(words: list, path: str, variables: dict) -> int:
 
 
 def started(words: list, path: str, variables: dict) -> subprocess.Popen:
-    how = {"stdout": 2, "close_fds": False, "env": variables}
+    how: dict = {"stdout": 2, "close_fds": False, "env": variables}
     try:
         return subprocess.Popen(words, executable=path, **how)
     except OSError as error:

@@ -85,7 +85,7 @@ def weighed(by_counter: dict) -> int:
 
 def by_size(events: array) -> Counter:
     """What the events add to the live blocks."""
-    found = Counter()
+    found: Counter = Counter()
     for code, times in Counter(events).items():
         found[code & SIZE] += -times if code & FREED else times
     return found
@@ -128,8 +128,9 @@ def reduced(file: BinaryIO, mark: Mark, words: array) -> Optional[Record]:
     piece = array("H", file.read(2 * PIECE))[: max(mark.events - before, 0)]
     if sum(map(operator.mul, requested, WEIGHTS)) % WORD != total or (weighed(live) + weighed(by_size(piece))) % WORD != mark.sum:
         return None
-    rest = file.read()
-    moments = dict(filter(None, map(moment_of, struct.iter_unpack(FORM_OF_MOMENT, rest[: len(rest) // MOMENT * MOMENT]))))
+    left = file.read()
+    found = map(moment_of, struct.iter_unpack(FORM_OF_MOMENT, left[: len(left) // MOMENT * MOMENT]))
+    moments: dict = dict(filter(None, found))
     moments.update(peaks(piece, before, live, groups, list(moments.values())))
     moments[words[counts.TAKEN]] = peak_of(words)
     known = {size: times for size, times in enumerate(requested) if times}
@@ -151,7 +152,7 @@ def group_of(groups: tuple, size: int) -> int:
 
 def in_groups(groups: tuple, live: dict) -> Counter:
     """How many blocks each group of classes has."""
-    found = Counter()
+    found: Counter = Counter()
     for size, times in live.items():
         if size not in ("large", LARGE):
             found[group_of(groups, size)] += times
@@ -161,7 +162,7 @@ def in_groups(groups: tuple, live: dict) -> Counter:
 def peaks(piece: array, before: int, live: Counter, groups: tuple, moments: list) -> dict:
     """The moments of a piece at which a group has more blocks than at any before, by the number of events; the same as mark_peaks of
     shims/timeline.h, and what follows it there."""
-    most = Counter()
+    most: Counter = Counter()
     for each in moments:
         most |= in_groups(groups, each)
     now, at = in_groups(groups, live), {}

@@ -5,7 +5,7 @@ import os
 import re
 import struct
 
-from mte_scripts import private_folder, running, texts
+from mte_scripts import private_folder, texts
 from mte_scripts.checksum import crc, folded
 from mte_scripts.formats import MOST_EVENTS
 from mte_scripts.recording import recording
