@@ -1,11 +1,12 @@
 // The sentences that say what is known of a table, filled from the words and by the rules of scripts/mte_scripts/claims.py, which are in the page's
-// data. What is judged is {kind, given, limit, step, forced, classes, cost, verdict}: the kind is profile or history, the cost is that on
-// what the user gave, and the verdict is the engine's.
+// data. What is judged is {kind, given, limit, step, forced, classes, cost, verdict}: the kind is profile, history or timeline, the cost is
+// that on what the user gave, and the verdict is the engine's, or `between L` where `fit` found no certificate.
 "use strict";
 
 const WORDS_OF = {
   profile: { sheet: "sheet", counts: "profile", costs: "wastes" },
   history: { sheet: "fit", counts: "history", costs: "takes" },
+  timeline: { sheet: "fit", counts: "timeline", costs: "takes" },
 };
 
 const filled = (name, places = {}) => (data.claims[name] ?? "").replace(/\{(\w+)\}/g, (_, place) => places[place]);
@@ -21,17 +22,26 @@ function tablesWords({ given, limit, step, forced }) {
 /** Whether `optimal`, said of the larger counts, says the same of the user's own. */
 const holds = ({ forced, step, classes }) => forced.every((c) => c % step === 0 && classes.includes(c));
 
+/** What a `fit` without a certificate says that each table takes of the user's own, or null. */
+function bound({ verdict, forced }) {
+  const [word, number] = verdict.split(" ");
+  return word === "between" ? Number(number) - forced.reduce((sum, c) => sum + GRANULE * c, 0) : null;
+}
+
+/** Among which tables none costs less than this one, and what it costs; or than the bound. */
+const claim = (judged) => filled(`${judged.kind}.claim`, { tables: tablesWords(judged), cost: bytesText(bound(judged) ?? judged.cost) });
+
 /** What the verdict means, as `says` of scripts/mte_scripts/claims.py has it. */
 function says(judged) {
   const { kind, given, forced, verdict } = judged;
+  if (bound(judged) !== null) return filled("timeline.between", { cost: bytesText(judged.cost), given, claim: claim(judged) });
   if (verdict !== "optimal") {
     const meaning = filled(`refusal.${verdict.split(" ")[1]}`, WORDS_OF[kind]);
     return filled(`${kind}.refused`, { given, verdict, meaning }).trimEnd();
   }
   if (!holds(judged)) return filled(`${kind}.other`, { given });
-  const claim = filled(`${kind}.claim`, { tables: tablesWords(judged), cost: bytesText(judged.cost) });
   const size = listed(forced.map((c) => grouped(GRANULE * c - GRANULE)));
-  return filled(`${kind}.says.${forced.length ? "forced" : "own"}`, { size, claim });
+  return filled(`${kind}.says.${forced.length ? "forced" : "own"}`, { size, claim: claim(judged) });
 }
 
 /** Puts words into an element; those between backquotes are code. */

@@ -41,12 +41,18 @@ class Module {
     return new DataView(this.exports.memory.buffer).getBigUint64(Number(place), true);
   }
 
-  /** A place with these bytes, and their number. */
-  put(input) {
-    const bytes = asBytes(input);
-    const place = this.take(bytes.length);
-    this.bytes(place, bytes.length).set(bytes);
-    return [place, BigInt(bytes.length)];
+  /** A place with these bytes, one piece after the other, and their number. */
+  put(...inputs) {
+    const pieces = inputs.map(asBytes);
+    const length = pieces.reduce((sum, piece) => sum + piece.length, 0);
+    const place = this.take(length);
+    const room = this.bytes(place, length);
+    let at = 0;
+    for (const piece of pieces) {
+      room.set(piece, at);
+      at += piece.length;
+    }
+    return [place, BigInt(length)];
   }
 
   /** Calls a function. What a trap leaves is half written, so no call comes after it. */
@@ -110,10 +116,16 @@ class Engines {
   }
 
   /** What a command answers: its exit status and its text, of standard output or, for status 2, of standard error. */
-  call(command, options, input) {
+  call(command, options, ...inputs) {
+    const { status, ended, bytes } = this.answer(command, options, ...inputs);
+    return { status, ended, text: status === 2 ? `error ${asText(bytes)}\n` : asText(bytes) };
+  }
+
+  /** The same in bytes, of a fault without the word before it. */
+  answer(command, options, ...inputs) {
     const m = this.tool;
     const words = allOptions({ ...DEFAULTS, ...options });
-    const [from, length] = m.put(input);
+    const [from, length] = m.put(...inputs);
     const [ending, text] = [m.take(16), m.take(16)];
     m.bytes(text, 16).fill(0);
     m.run("mte_c_call", ending, COMMANDS.indexOf(command), ...words, from, length, text);
@@ -121,10 +133,10 @@ class Engines {
     const size = m.word(text + 8n);
     const room = m.take(size);
     m.run("mte_c_read", text, 0n, room, size);
-    const answer = asText(m.bytes(room, size));
+    const bytes = m.bytes(room, size).slice();
     m.run("mte_c_free", text);
     m.give(from, ending, text, room);
-    return { status, ended: ENDED[status], text: status === 2 ? `error ${answer}\n` : answer };
+    return { status, ended: ENDED[status], bytes };
   }
 
   begin(line, trace, options) {

@@ -37,11 +37,11 @@ function showLine(number) {
   box.setSelectionRange(before, end < 0 ? box.value.length : end);
 }
 
-/** Puts a trace into the editor. No browser's editor is fast with a million lines, so a long trace stays out of it. */
-function edit(text, name) {
+/** Puts a trace, a text or a file, into the editor. No browser's editor is fast with a million lines, so a long trace stays out of it. */
+function edit(trace, name) {
   watched.name = name;
-  watched.long = text.length > MOST_EDITED ? text : null;
-  $("trace").value = watched.long === null ? text : "";
+  watched.long = typeof trace !== "string" || trace.length > MOST_EDITED ? trace : null;
+  $("trace").value = watched.long === null ? trace : "";
   $("trace").placeholder = watched.long === null ? "" : "The trace is too long for the editor. Another can be written here.";
 }
 
@@ -56,11 +56,11 @@ async function takeGiven(text, name, { line, heap, notes }) {
   else sayTrace(false);
 }
 
-/** Takes a trace. A small one gets the smallest region in which no class runs out of slots, so that all of it is seen. */
-async function takeTrace(text, name) {
-  edit(text, name);
+/** Takes a trace, a text or a file. A small one gets the smallest region in which no class runs out of slots, so that all of it is seen. */
+async function takeTrace(trace, name) {
+  edit(trace, name);
   watched.notes = new Map();
-  const isSmall = text.length < 4096;
+  const isSmall = typeof trace === "string" && trace.length < 4096;
   $("quarantine").value = isSmall ? 256 : 65536;
   for (const granules of isSmall ? [128, 256, 1024, 4096, 65536] : [65536]) {
     $("granules").value = granules;
@@ -75,6 +75,10 @@ async function replayTrace() {
   if (!Object.entries(FIELDS).every(([id, name]) => inRange(id, name))) return false;
   const trace = watched.long ?? $("trace").value;
   const profile = await ask("trace", { input: trace });
+  if (profile.notText) {
+    tellTrace(`This is no text of mte_tool: ${profile.notText}.`);
+    return false;
+  }
   if (profile.status) {
     const fault = faultWords(profile.text);
     tellTrace(fault.words);
@@ -92,22 +96,36 @@ async function replayTrace() {
     $("line").focus();
     return false;
   }
-  const options = heapOptions();
-  const events = await ask("replay", { line, options });
+  const heap = heapOptions();
+  const { events, report } = await ask("replay", { line, options: heap });
   watched.of = watched.name;
-  Object.assign(watched, { events, faults: [], told: [], totals: [], granules: options.granules, k: -1, chosen: null, profile: profile.text });
+  Object.assign(watched, { events, faults: [], told: [], totals: [], granules: heap.granules, k: -1, chosen: null, profile: profile.text });
+  Object.assign(watched, { replayed: trace, line, heap });
+  $("linked").hidden = true;
   tellTrace(`${counted(events, "event")}.`, true);
   $("at").max = $("events").value = events;
   $("granule").textContent = "None is chosen.";
   showFaults();
   await go(0);
-  await readReport();
+  if (report) takeReport(report);
+  else await readReport();
   return true;
 }
 
-/** The faults, the refusals and the totals: they come after the first picture, which wants none of them. */
+/** The report of a long trace: the other worker reads it, while the pictures are looked at. */
 async function readReport() {
-  Object.assign(watched, await ask("report"));
+  const { replayed, line, heap, events } = watched;
+  const { told, report } = await ask("report", { input: replayed, line, options: heap, events }, READS);
+  // meanwhile another trace may have come
+  if (watched.replayed !== replayed || watched.heap !== heap) return;
+  takeReport(told);
+  await ask("reported", { report }, SHOWS, [report.bytes.buffer, report.places.buffer]);
+  await showAgain();
+}
+
+/** The faults, the refusals and the totals. */
+function takeReport(report) {
+  Object.assign(watched, report);
   tellTrace(`${counted(watched.events, "event")}, ${grouped(watched.faults.length)} of them with a fault or a refusal.`, true);
   $("totals").textContent = watched.totals.join("\n");
   showFaults();
@@ -131,7 +149,7 @@ function sayTrace(went, more = "") {
 function showFaults() {
   const words = new Map(watched.told.map(([k, report]) => [k, reportWords(report)]));
   for (const [k, note] of watched.notes) words.set(k, note);
-  watched.stops = [...new Set([...watched.faults, ...watched.notes.keys()])].sort((a, b) => a - b);
+  watched.stops = watched.notes.size ? [...new Set([...watched.faults, ...watched.notes.keys()])].sort((a, b) => a - b) : watched.faults;
   const item = (k) => `<li><button data-k="${k}">${k}: ${escaped(words.get(k))}</button></li>`;
   $("faults").innerHTML = watched.stops.slice(0, MOST_LISTED).map(item).join("");
   const more = watched.stops.length - MOST_LISTED;
@@ -151,6 +169,15 @@ async function go(k) {
     showHeap();
   }
   watched.asked = null;
+}
+
+/** Shows the same event once more, of which more is known now. */
+async function showAgain() {
+  if (watched.asked !== null) return;
+  const shown = await ask("show", { k: watched.k });
+  if (shown.k !== watched.k) return;
+  watched.shown = shown;
+  showHeap();
 }
 
 function showHeap() {
@@ -176,7 +203,14 @@ function showHeap() {
   if (watched.chosen !== null) choose(watched.chosen);
 }
 
-const css = (name) => getComputedStyle(document.documentElement).getPropertyValue(name).trim();
+/** The colors of the style, as long as the theme stays. */
+const colors = new Map();
+
+function css(name) {
+  if (!colors.has(name)) colors.set(name, getComputedStyle(document.documentElement).getPropertyValue(name).trim());
+  return colors.get(name);
+}
+
 const hue = (tag) => `hsl(${Math.round((tag * 137.5) % 360)} 65% ${css("--light")})`;
 
 /** One granule of the grid: its fill by its tag, its form by its kind. */
@@ -226,9 +260,10 @@ function drawingOn(canvas, width, height) {
   return g;
 }
 
+/** Draws the part of the region that is seen, if it is. */
 function drawGrid() {
   const s = watched.shown;
-  if (!s) return;
+  if (!s || $("view-heap").hidden) return;
   const canvas = $("grid");
   const width = canvas.parentElement.clientWidth;
   const columns = width >= 560 && watched.granules > 256 ? 32 : 16;
@@ -280,11 +315,11 @@ function summary(s, first, count) {
   return KINDS.map((kind, i) => `${numbers[i]} ${kind}`).join(", ");
 }
 
-/** A color of the style as the four bytes of a pixel: a canvas gives it back as #RRGGBB. */
-function rgba(g, color) {
+/** A color of the style as a pixel of a little-endian word: a canvas gives it back as #RRGGBB. */
+function pixel(g, color) {
   g.fillStyle = color;
   const bits = parseInt(g.fillStyle.slice(1), 16);
-  return [bits >> 16, (bits >> 8) & 255, bits & 255, 255];
+  return ((255 << 24) | ((bits & 255) << 16) | (bits & 0xff00) | (bits >> 16)) >>> 0;
 }
 
 /** The whole region, a pixel for each granule; the part that the grid shows is framed. */
@@ -296,9 +331,10 @@ function drawOverview() {
   [canvas.width, canvas.height] = [columns, Math.ceil(watched.granules / columns)];
   const g = canvas.getContext("2d");
   const image = g.createImageData(columns, canvas.height);
-  const kinds = ["--back", "--header", "--shade", "--line"].map((name) => rgba(g, css(name)));
-  const hues = Array.from({ length: 16 }, (_, tag) => rgba(g, hue(tag)));
-  for (let i = 0; i < watched.granules; i++) image.data.set(s.kinds[i] === 4 ? hues[s.tags[i]] : kinds[s.kinds[i]], 4 * i);
+  const kinds = ["--back", "--header", "--shade", "--line"].map((name) => pixel(g, css(name)));
+  const hues = Array.from({ length: 16 }, (_, tag) => pixel(g, hue(tag)));
+  const pixels = new Uint32Array(image.data.buffer);
+  for (let i = 0; i < watched.granules; i++) pixels[i] = s.kinds[i] === 4 ? hues[s.tags[i]] : kinds[s.kinds[i]];
   g.putImageData(image, 0, 0);
   g.strokeStyle = css("--bad");
   g.strokeRect(0.5, watched.part / columns + 0.5, columns - 1, PART / columns - 1);
@@ -381,9 +417,10 @@ function startHeap() {
   });
   addEventListener("resize", () => {
     drawGrid();
-    if (tuner.kind) showCurve();
+    if (tuner.judged) showPictures();
   });
   matchMedia("(prefers-color-scheme: dark)").addEventListener("change", () => {
+    colors.clear();
     drawKey();
     drawGrid();
   });

@@ -15,26 +15,32 @@ const EXAMPLES = {
 const $ = (id) => document.getElementById(id);
 const data = JSON.parse($("data").textContent);
 const waiting = new Map();
-let worker = null;
+/** The one that answers what is seen, and the one that reads reports meanwhile. */
+const [SHOWS, READS] = [0, 1];
+const workers = [];
 let asked = 0;
 
-/** Asks the worker, and returns its answer. */
-function ask(what, words) {
+/** Asks a worker, and returns its answer. What is TAKEN leaves the page without a copy. */
+function ask(what, words, worker = SHOWS, taken = []) {
   asked += 1;
   const id = asked;
-  worker.postMessage({ id, what, words });
+  workers[worker].postMessage({ id, what, words }, taken);
   return new Promise((answer, refuse) => waiting.set(id, { answer, refuse }));
 }
 
-function startWorker() {
-  worker = new Worker(URL.createObjectURL(new Blob([$("worker-source").textContent], { type: "text/javascript" })));
-  worker.onmessage = ({ data: { id, answer, error } }) => {
-    const { answer: take, refuse } = waiting.get(id);
-    waiting.delete(id);
-    if (error === undefined) take(answer);
-    else refuse(new Error(error));
-  };
-  worker.onerror = (event) => say(`The engines stopped: ${event.message}. Load the page again.`, true);
+function startWorkers() {
+  const source = URL.createObjectURL(new Blob([$("worker-source").textContent], { type: "text/javascript" }));
+  for (const at of [SHOWS, READS]) {
+    const worker = new Worker(source);
+    worker.onmessage = ({ data: { id, answer, error } }) => {
+      const { answer: take, refuse } = waiting.get(id);
+      waiting.delete(id);
+      if (error === undefined) take(answer);
+      else refuse(new Error(error));
+    };
+    worker.onerror = (event) => say(`The engines stopped: ${event.message}. Load the page again.`, true);
+    workers[at] = worker;
+  }
 }
 
 const said = { tune: { words: "", bad: false }, heap: { words: "", bad: false } };
@@ -58,7 +64,8 @@ function show(view) {
   }
   say(said[view].words, said[view].bad);
   if (view === "heap") drawGrid();
-  else if (tuner.kind) showCurve();
+  else if (tuner.judged) showPictures();
+  $("linked").hidden = true;
 }
 
 function save(text, name) {
@@ -69,24 +76,7 @@ function save(text, name) {
   setTimeout(() => URL.revokeObjectURL(link.href), 1000);
 }
 
-/** Whether all bytes are letters, digits, signs, spaces and newlines. A loop of its own is several times faster than `every` here. */
-function isText(bytes) {
-  for (let i = 0; i < bytes.length; i++) if (bytes[i] !== 10 && (bytes[i] < 32 || bytes[i] > 126)) return false;
-  return true;
-}
-
-/** Why the bytes of a file are no text of mte_tool, with what mends it. */
-function notText(bytes) {
-  const begins = (...marks) => marks.every((mark, i) => bytes[i] === mark);
-  if (begins(0xff, 0xfe) || begins(0xfe, 0xff)) return "it is UTF-16. Save it as plain ASCII or UTF-8";
-  if (begins(0xef, 0xbb, 0xbf)) return "it begins with a byte order mark (BOM). Save it without";
-  const line = bytes.subarray(0, bytes.indexOf(10) + 1);
-  if (line.at(-2) === 13 && isText(line.subarray(0, -2)))
-    return "its lines end with a carriage return, as on Windows (CRLF). Save it with the line ends of Unix (LF)";
-  return "it has bytes other than letters, digits, spaces and newlines";
-}
-
-/** Takes a trace, text or bytes, and what it requests. */
+/** Takes a trace, a text or a file, and what it requests. */
 async function takeBoth(trace, name) {
   show("heap");
   if (await takeTrace(trace, name)) await takeCounts("profile", watched.profile, `the requests of ${name}`);
@@ -95,18 +85,21 @@ async function takeBoth(trace, name) {
 /** Takes a text by what its first word says it is. */
 async function takeText(text, name) {
   const word = /^[^ \n]*/.exec(text)[0];
+  const kind = kindOf(text);
+  if (isLink(text)) return openLink(text.trim().replace(/^[^#]*/, ""));
   if (word === "classes") return takeSheet(text, name);
-  if (EVENTS.test(text)) await takeBoth(text, name);
-  else if (word === "snapshots" || word === "large" || /^\d+$/.test(word) || text === "") {
+  if (EVENTS.test(text)) return takeBoth(text, name);
+  if (kind !== null) {
     show("tune");
-    await takeCounts(word === "snapshots" ? "history" : "profile", text, name);
-  } else say(`${name} is no profile, history, trace or sheet: its first word is "${word.slice(0, 40)}".`, true);
+    return takeCounts(kind, text, name);
+  }
+  return say(`${name} is no profile, history, timeline, trace, sheet or link: its first word is "${word.slice(0, 40)}".`, true);
 }
 
 async function takeSheet(text, name) {
   show("tune");
   if (!tuner.kind) {
-    say(`${name} is a sheet: it is checked against a profile or a history, so take one first.`, true);
+    say(`${name} is a sheet: it is checked against a profile, a history or a timeline, so take one first.`, true);
     return;
   }
   $("sheet").value = text;
@@ -127,15 +120,76 @@ async function takeFile(file) {
     say(`${file.name} has ${grouped(file.size)} bytes; an input has at most ${grouped(MOST_INPUT)}.`, true);
     return;
   }
+  // a long trace goes to the engines as it is
+  if (file.size > MOST_EDITED && EVENTS.test(await file.slice(0, 80).text())) return takeBoth(file, file.name);
   const bytes = new Uint8Array(await file.arrayBuffer());
   if (!isText(bytes)) {
     say(`${file.name} is no text of mte_tool: ${notText(bytes)}.`, true);
     return;
   }
-  const text = (some) => new TextDecoder().decode(some);
-  // a long trace goes to the engines as it is
-  if (bytes.length > MOST_EDITED && EVENTS.test(text(bytes.subarray(0, 80)))) await takeBoth(bytes, file.name);
-  else await takeText(text(bytes), file.name);
+  await takeText(new TextDecoder().decode(bytes), file.name);
+}
+
+/** Takes what was pasted outside of a field, a file or a text. */
+function takePasted(event) {
+  if (event.target.matches?.("textarea, input")) return;
+  const [file] = event.clipboardData.files;
+  const text = event.clipboardData.getData("text/plain").replaceAll("\r\n", "\n");
+  if (!file && !text) return;
+  event.preventDefault();
+  if (file) told(takeFile)(file);
+  else told(takeText)(text, "what was pasted");
+}
+
+/** Puts what is looked at into the editor of texts, if that is open. */
+function showText() {
+  const text = tuner.counts?.text ?? "";
+  if ($("typed").hidden || document.activeElement === $("text")) return;
+  $("text").value = text.length > MOST_EDITED ? "" : text;
+  $("text-told").textContent = text.length > MOST_EDITED ? "The text is too long for the editor. Another can be written here." : "";
+}
+
+/** Opens the editor of texts, or closes it. */
+function showTyped(isOpen) {
+  $("typed").hidden = !isOpen;
+  $("type").setAttribute("aria-expanded", String(isOpen));
+  if (!isOpen) return;
+  showText();
+  $("text").focus();
+}
+
+/** Takes the editor's text, whole. */
+async function takeTyped() {
+  $("example").value = "";
+  await takeText($("text").value, "your text");
+}
+
+/** Takes the editor's text while it is written, as far as the engines accept it. A trace has an editor of its own, so it waits for the button. */
+async function followTyped() {
+  const text = $("text").value;
+  const kind = kindOf(text);
+  if (kind === null || text === "" || $("view-tune").hidden) return;
+  const command = kind === "profile" ? "score" : "footprint";
+  const answer = await ask("call", { command, options: {}, input: `classes ${LARGEST_CLASS}\n${text}` });
+  if ($("text").value !== text) return;
+  const fault = answer.status > 1 ? faultWords(answer.text) : null;
+  // the class line is not the user's
+  $("text-told").textContent = fault ? fault.words.replace(/^Line (\d+)/, (_, line) => `Line ${line - 1}`) : "";
+  if (!fault) await takeCounts(kind, text, "your text");
+}
+
+function startTyped() {
+  let wait = null;
+  $("type").onclick = () => showTyped($("typed").hidden);
+  $("take").onclick = told(takeTyped);
+  $("text").oninput = () => {
+    clearTimeout(wait);
+    wait = setTimeout(told(followTyped), 300);
+  };
+  $("text").onkeydown = (event) => {
+    if (event.key === "Enter" && (event.ctrlKey || event.metaKey)) told(takeTyped)();
+  };
+  document.addEventListener("paste", takePasted);
 }
 
 /** An action that tells its error, in place of none. */
@@ -182,10 +236,16 @@ function startTabs() {
 async function begin() {
   const [first] = Object.keys(data.examples);
   const given = data.given;
-  const { limit = 8, step = 1, largest = false } = given.options ?? {};
+  const { limit = classesOf(data.scudo).length, step = 1, largest = false } = given.options ?? {};
   [$("limit").value, $("step").value, $("largest").checked] = [limit, step, largest];
+  if (location.hash.startsWith(LINK_MARK) && (await openLink(location.hash))) {
+    if (shownView() === "heap") await takeCounts("profile", watched.profile, `the requests of ${watched.of}`);
+    else await takeTrace(EXAMPLES["a use after free"], "a use after free");
+    return;
+  }
+  const refused = said[shownView()];
   if (!given.profile) await takeCounts("profile", data.examples[first], first);
-  else await takeCounts(given.profile.text.startsWith("snapshots") ? "history" : "profile", given.profile.text, given.profile.name);
+  else await takeCounts(kindOf(given.profile.text) ?? "profile", given.profile.text, given.profile.name);
   if (given.replay) {
     await takeGiven(given.trace.text, given.trace.name, given.replay);
     return show("heap");
@@ -193,18 +253,24 @@ async function begin() {
   if (given.trace && !given.profile) await takeText(given.trace.text, given.trace.name);
   else await takeTrace(given.trace?.text ?? EXAMPLES["a use after free"], given.trace?.name ?? "a use after free");
   if (location.hash === "#heap") show("heap");
+  if (refused.bad) say(refused.words, true);
 }
 
 async function start() {
-  startWorker();
+  startWorkers();
   startTabs();
   startTuner();
+  startPair();
   startHeap();
   startFiles();
+  startTyped();
+  startLinks();
   drawKey();
   const bytes = (text) => Uint8Array.from(atob(text), (c) => c.charCodeAt(0));
-  await ask("start", { tool: bytes(data.tool), steps: bytes(data.steps) });
+  const modules = { tool: bytes(data.tool), steps: bytes(data.steps) };
+  await Promise.all([SHOWS, READS].map((worker) => ask("start", modules, worker)));
   await begin();
+  performance.mark("ready");
   document.body.dataset.ready = "yes";
 }
 

@@ -6,7 +6,14 @@ const short = (x) => String(Math.round(x * 10) / 10);
 const shortLevel = (x) => String(Number(x.toPrecision(3)));
 const classesText = (n) => `${n} class${n === 1 ? "" : "es"}`;
 const TICKS = [[16, "16"], [64, "64"], [256, "256"], [1024, "1 KiB"], [4096, "4 KiB"], [16384, "16 KiB"]];
-const MARKS = ["-5,0 0,-5 5,0 0,5", "-5,-5 5,-5 5,5 -5,5", "0,-6 6,5 -6,5", "0,6 6,-5 -6,-5"];
+const MARKS = ["-6,0 0,-6 6,0 0,6", "-5,-5 5,-5 5,5 -5,5", "0,-6 6,5 -6,5", "0,6 6,-5 -6,-5", "-7,-2.5 7,-2.5 7,2.5 -7,2.5"];
+
+/** The mark of a table, for a key. */
+const markOf = (style) => `<svg viewBox="-7 -7 14 14" aria-hidden="true"><polygon points="${MARKS[style]}" fill="var(--c${style})"/></svg>`;
+
+/** A number as a bar of a table, beside that of the most. */
+const barOf = (number, most, style) =>
+  `<svg viewBox="0 0 100 10" preserveAspectRatio="none" aria-hidden="true"><rect width="${short((100 * number) / (most || 1))}" height="10" fill="var(--c${style})"/></svg>`;
 
 function byteText(n) {
   const [unit, name] = [[1 << 30, "GiB"], [1 << 20, "MiB"], [1 << 10, "KiB"], [1, "bytes"]].find(([of]) => n >= of) ?? [1, "bytes"];
@@ -58,7 +65,7 @@ class Picture {
 /** The least total by the number of classes, and each table as a point {name, classes, total, style}. Where OF is given, the levels are its
  * percents, and else bytes. */
 function drawCurve(svg, least, tables, label, of) {
-  const highest = Math.max(least[Math.min(7, least.length - 1)], ...tables.map((t) => t.total));
+  const highest = Math.max(least[Math.min(7, least.length - 1)] ?? 0, ...tables.map((t) => t.total));
   const unit = of ? of / 100 : 1024 ** Math.floor(Math.log(Math.max(1, highest)) / Math.log(1024));
   const levelText = (level) => (of ? `${shortLevel(level)}%` : level ? byteText(level * unit) : "0");
   const picture = new Picture(svg, 320, (1.15 * highest) / unit, levelText);
@@ -74,8 +81,8 @@ function drawCurve(svg, least, tables, label, of) {
   for (const t of [...tables].reverse()) {
     picture.mark(t.style, x(t.classes), y(t.total), `${t.name}: ${classesText(t.classes)}, ${bytesText(t.total)}`);
   }
-  const [one, all] = [bytesText(least[0]), bytesText(least.at(-1))];
-  picture.finish(`${label}: ${one} with one, ${all} with ${least.length}.`);
+  const ends = least.length ? `${bytesText(least[0])} with one, ${bytesText(least.at(-1))} with ${least.length}` : "not known";
+  picture.finish(`${label}: ${ends}.`);
 }
 
 const octaves = (size) => Math.log2(Math.max(size, 8)) - 3;

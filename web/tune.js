@@ -1,102 +1,131 @@
 // The view of who tunes: the table that the engines find for a profile or a history, beside others.
 "use strict";
 
-const tuner = { kind: null, text: "", sizes: [], total: 0, sheet: "", least: null, forced: [], runs: 0 };
+/** One of the two profiles, histories or timelines that the page holds: what it counts, and what the engines found for it. */
+const newSlot = (slot) => ({ slot, kind: null, name: "", counts: null, sheet: "", least: [], forced: [], tables: [], answers: new Map() });
+const slots = [newSlot("A"), newSlot("B")];
+/** The one that is looked at. */
+let tuner = slots[0];
+/** Which of the two the next one comes to. */
+let comesTo = 0;
 
 const classesOf = (line) => line.split("\n")[0].trim().split(" ").slice(1).map(Number);
-const percent = (part, whole) => (whole ? `${((100 * part) / whole).toFixed(part / whole < 0.001 ? 3 : 1)}%` : "–");
-const forHistory = () => tuner.kind === "history";
-const what = () => (forHistory() ? "footprint" : "waste");
+const percent = (part, whole) => (whole ? `${((100 * part) / whole).toFixed(part && part / whole < 0.001 ? 3 : 1)}%` : "–");
+/** Whether what counts is the footprint, over a history or a timeline, and not the waste on a profile. */
+const isOverTime = (slot) => slot.kind !== "profile";
 const options = () => ({ limit: Number($("limit").value), step: Number($("step").value) });
-const given = () => `this ${tuner.kind}`;
+const given = (slot) => `this ${slot.kind}`;
+const heldAs = (slot, forced) => `${slot.slot}${forced.length ? " forced" : ""}`;
+const filledSlots = () => slots.filter((slot) => slot.kind);
 /** What an engine says where it gives no answer, else null. */
 const refusal = (answer) => (answer.status < 2 ? null : answer.status === 2 ? faultWords(answer.text).words : `${answer.ended}.`);
 
-/** The sizes and counts of a profile; of a history the most blocks of each size at one moment. */
-function readSizes(text) {
-  const sizes = [];
-  tuner.large = 0;
-  tuner.lines = [];
-  for (const line of text.split("\n")) {
-    const [size, ...counts] = line.split(" ");
-    if (line === "" || size === "snapshots") continue;
-    if (size === "large") tuner.large = Math.max(...counts.map(Number));
-    else {
-      sizes.push([Number(size), Math.max(...counts.map(Number))]);
-      tuner.lines.push([Number(size), counts.map(Number)]);
-    }
+/** What TUNE or FIT answers for a slot's counts, or with class 1024 forced. Answers are kept, since a slider goes back and forth. */
+async function made(slot, limit, step, forced) {
+  const key = `${limit} ${step} ${forced.length}`;
+  if (!slot.answers.has(key)) {
+    const command = isOverTime(slot) ? "fit" : "tune";
+    slot.answers.set(key, await ask("call", { command, options: { limit, step }, input: "", and: heldAs(slot, forced) }));
   }
-  return sizes;
+  return slot.answers.get(key);
 }
 
-/** Takes a profile or a history that the engines accept. */
+/** Takes a profile, a history or a timeline that the engines accept. */
 async function takeCounts(kind, text, name) {
-  const command = kind === "history" ? "fit" : "tune";
-  const answer = await ask("call", { command, options: { limit: MOST_CLASSES, step: Number($("step").value) }, input: text });
-  if (answer.status) return sayFault(name, answer);
-  Object.assign(tuner, { kind, text: text.endsWith("\n") || text === "" ? text : `${text}\n`, name });
-  tuner.sizes = readSizes(text);
-  tuner.bytes = tuner.sizes.reduce((sum, [size, count]) => sum + size * count, 0);
-  tuner.requests = tuner.sizes.reduce((sum, [, count]) => sum + count, 0);
-  say(`${name}: a ${kind} of ${counted(tuner.sizes.length, "size")}.`, false, "tune");
+  const { limit, step } = options();
+  const slot = { ...newSlot(slots[comesTo].slot), kind, name };
+  const whole = text.endsWith("\n") || text === "" ? text : `${text}\n`;
+  await ask("hold", { name: "next", input: whole });
+  const command = isOverTime(slot) ? "fit" : "tune";
+  const answer = await ask("call", { command, options: { limit, step }, input: "", and: "next" });
+  if (answer.status > 1) return sayFault(name, answer);
+  slot.counts = countsOf(kind, whole);
+  slot.answers.set(`${limit} ${step} 0`, answer);
+  await ask("hold", { name: slot.slot, of: "next" });
+  if (!slot.counts.hasLargest()) await ask("hold", { name: `${slot.slot} forced`, input: slot.counts.withLargest() });
+  slots[slots.findIndex((it) => it.slot === slot.slot)] = slot;
+  tuner = slot;
+  say(`${name}: a ${kind} of ${counted(slot.counts.sizes.length, "size")}.`, false, "tune");
+  showText();
   await tune();
   return true;
 }
 
-/** The counts with a request, or a block at each moment, that class 1024 alone serves, and the classes that are forced by that: none where
- * the counts have such a size. */
-function withLargest() {
-  const counts = tuner.lines.find(([size]) => size === LARGEST_SIZE)?.[1];
-  if (counts?.some((count) => count > 0)) return { text: tuner.text, forced: [] };
-  const moments = forHistory() ? Number(/^snapshots (\d+)/.exec(tuner.text)[1]) : 1;
-  const lines = tuner.text.split("\n").filter((line) => !line.startsWith(`${LARGEST_SIZE} `));
-  const large = lines.findIndex((line) => line.startsWith("large "));
-  lines.splice(large < 0 ? lines.length - 1 : large, 0, `${LARGEST_SIZE}${" 1".repeat(moments)}`);
-  return { text: lines.join("\n"), forced: [LARGEST_CLASS] };
-}
+/** The classes that are forced: none where the counts have a size that class 1024 alone serves. */
+const forcedFor = (slot) => (slot.counts.hasLargest() ? [] : [LARGEST_CLASS]);
 
-/** The counts that are tuned, and the forced classes. */
-const tuned = () => ($("largest").checked ? withLargest() : { text: tuner.text, forced: [] });
-
-/** What a table has over the counts: {total}, {unserved} or {refused}. */
-async function totalOf(line) {
-  const command = forHistory() ? "footprint" : "score";
-  const answer = await ask("call", { command, options: {}, input: `${line}\n${tuner.text}` });
+/** What a table has over the counts of a slot: {total}, {unserved} or {refused}. */
+async function totalOf(line, slot) {
+  const command = isOverTime(slot) ? "footprint" : "score";
+  const answer = await ask("call", { command, options: {}, input: `${line}\n`, and: slot.slot });
   if (answer.status > 1) return { refused: refusal(answer) };
   const [word, second, third] = answer.text.trim().split(" ");
   return word === "not" ? { unserved: Number(third) } : { total: Number(second) };
 }
 
-async function tune() {
-  if (!tuner.kind) return null;
-  $("limit-shown").value = $("limit").value;
-  const command = forHistory() ? "fit" : "tune";
-  const { text, forced } = tuned();
-  tuner.runs += 1;
-  const run = tuner.runs;
-  const made = await ask("call", { command, options: options(), input: text });
-  if (made.status) return sayFault(tuner.name, made);
-  const curve = await ask("call", { command, options: { ...options(), limit: MOST_CLASSES }, input: text });
-  const judged = await judge(made.text, [{ text, forced }]);
-  if (run !== tuner.runs) return null;
-  tuner.sheet = made.text;
-  Object.assign(tuner, { judged, forced, classes: judged.classes, total: judged.cost });
-  // a block of each forced class is not the user's own
-  const own = forHistory() ? GRANULE * forced.reduce((sum, c) => sum + c, 0) : 0;
-  tuner.least = curve.text.split("\n").filter((line) => line.startsWith("row")).map((line) => Number(line.split(" ")[1] ?? 0) - own);
-  $("sheet").value = made.text;
-  $("verdict").textContent = "";
-  await compare();
-  return showClasses();
+let tuning = null;
+let isTuningWanted = false;
+
+/** Tunes what the slots hold. What is wished meanwhile is done once, at the end. */
+function tune() {
+  isTuningWanted = true;
+  tuning ??= tuneWanted().finally(() => {
+    tuning = null;
+  });
+  return tuning;
 }
 
-/** What the engine says of a sheet over some counts, each {text, forced}: of the first over which it is optimal, else of the first. What it
- * refuses is {refused}. */
-async function judge(sheet, counts) {
-  const command = forHistory() ? "check-fit" : "check";
+async function tuneWanted() {
+  while (isTuningWanted) {
+    isTuningWanted = false;
+    $("limit-shown").value = $("limit").value;
+    for (const slot of filledSlots()) await tuneSlot(slot);
+    if (!isTuningWanted && tuner.kind && (await compare())) showSheet();
+  }
+}
+
+/** Finds the table of a slot, its line over the number of classes, and what the checker says. */
+async function tuneSlot(slot) {
+  const { limit, step } = options();
+  const forced = $("largest").checked ? forcedFor(slot) : [];
+  const answer = await made(slot, limit, step, forced);
+  if (answer.status > 1) return sayFault(slot.name, answer);
+  const judged = answer.status === 0 ? await judge(slot, answer.text, [forced]) : await between(slot, answer.text, { limit, step, forced });
+  const least = await lineOf(slot, answer.text, step, forced);
+  return Object.assign(slot, { sheet: answer.text, judged, forced, classes: judged.classes, total: judged.cost, least });
+}
+
+/** The line over the number of classes: of a profile or a history over all of it, of a timeline over the moments of its fit. */
+async function lineOf(slot, sheet, step, forced) {
+  // a block of each forced class is not the user's own
+  const own = isOverTime(slot) ? GRANULE * sumOf(forced) : 0;
+  const { text } = slot.kind === "timeline" ? await madeAtMoments(slot, sheet, step, forced) : await made(slot, MOST_CLASSES, step, forced);
+  return text.split("\n").filter((line) => line.startsWith("row")).map((line) => Number(line.split(" ")[1] ?? 0) - own);
+}
+
+/** The fit over the moments that a fit of a timeline names, of as many classes as can be. A fit without a certificate names none. */
+async function madeAtMoments(slot, fit, step, forced) {
+  const moments = /^moments (.*)$/m.exec(fit)?.[1].split(" ").map(Number);
+  if (!moments) return { text: "" };
+  const counts = forced.length ? countsOf("timeline", slot.counts.withLargest()) : slot.counts;
+  return ask("call", { command: "fit", options: { limit: MOST_CLASSES, step }, input: counts.historyAt(moments) });
+}
+
+/** What is known of the table of a fit without a certificate. */
+async function between(slot, text, { limit, step, forced }) {
+  const [line] = text.split("\n");
+  const cost = (await totalOf(line, slot)).total;
+  const verdict = `between ${/less than (\d+)/.exec(text)[1]}`;
+  return { kind: slot.kind, given: given(slot), limit, step, forced, classes: classesOf(line), cost, verdict };
+}
+
+/** What the engine says of a sheet over a slot's counts with each of these classes forced: of the first over which it is optimal, else of the
+ * first. What it refuses is {refused}. */
+async function judge(slot, sheet, forcedOnes) {
+  const command = isOverTime(slot) ? "check-fit" : "check";
   const answers = [];
-  for (const { text, forced } of counts) {
-    const answer = await ask("call", { command, options: {}, input: sheet + text });
+  for (const forced of forcedOnes) {
+    const answer = await ask("call", { command, options: {}, input: sheet, and: heldAs(slot, forced) });
     if (answer.status > 1) return { refused: refusal(answer) };
     answers.push({ verdict: answer.text.trim(), forced });
     if (answer.status === 0) break;
@@ -104,83 +133,118 @@ async function judge(sheet, counts) {
   const found = answers.at(-1).verdict === "optimal" ? answers.at(-1) : answers[0];
   // the engine took the sheet, so each number stands there in its one spelling
   const number = (name) => Number(new RegExp(`^${name} (\\d+)$`, "m").exec(sheet)?.[1] ?? 1);
-  const cost = (await totalOf(sheet.split("\n")[0])).total;
-  return { kind: tuner.kind, given: given(), limit: number("limit"), step: number("step"), classes: classesOf(sheet), cost, ...found };
+  const cost = (await totalOf(sheet.split("\n")[0], slot)).total;
+  return { kind: slot.kind, given: given(slot), limit: number("limit"), step: number("step"), classes: classesOf(sheet), cost, ...found };
 }
 
-/** All tables, beside the tuned one. */
+/** All tables: those of the slots beside Scudo's, and the user's own. Whether they are still those of what the slots hold. */
 async function compare() {
-  const tables = [{ name: filled(`${tuner.kind}.table`), classes: tuner.classes.length, total: tuner.total, style: 0 }];
-  const others = [["Scudo's default", data.scudo, 1], ["Scudo's for Android", data.android, 2]];
+  const filled = filledSlots().filter((slot) => slot.judged);
   const own = $("own").value.trim();
-  if (own) others.push(["your own", own, 3]);
-  const found = await Promise.all(others.map(([, line]) => totalOf(line)));
-  others.forEach(([name, line, style], i) => tables.push({ name, classes: classesOf(line).length, style, ...found[i] }));
-  const mine = own ? tables.at(-1) : null;
+  const others = [["Scudo's default", data.scudo, 1], ["Scudo's for Android", data.android, 2], ...(own ? [["your own", own, 3]] : [])];
+  for (const slot of filled) {
+    const twin = filled.find((it) => it !== slot);
+    const lines = twin ? [[`the table of ${twin.slot}`, `classes ${twin.classes.join(" ")}`, 4], ...others] : others;
+    const found = await Promise.all(lines.map(([, line]) => totalOf(line, slot)));
+    const first = { name: tableName(slot), classes: slot.classes.length, total: slot.total, style: 0 };
+    slot.tables = [first, ...lines.map(([name, line, style], i) => ({ name, classes: classesOf(line).length, style, ...found[i] }))];
+  }
+  // meanwhile another may have come
+  if (!filled.includes(tuner) || !filled.every((slot) => slots.includes(slot))) return false;
+  const mine = own ? tuner.tables.at(-1) : null;
   $("own-told").textContent = mine?.refused ?? "";
   $("own-told").className = "bad";
-  tuner.tables = tables.filter((t) => !t.refused);
+  for (const slot of filled) slot.tables = slot.tables.filter((t) => !t.refused);
+  showTuned();
+  return true;
+}
+
+const tableName = (slot) => filled(`${slot.kind}.table`);
+
+/** Shows all of the slot that is looked at, and both beside each other. */
+function showTuned() {
+  showSlots();
   showLead();
   showTables();
+  showClasses();
+  showPictures();
+  forgetLink();
+}
+
+/** What has to be drawn anew in a window of another width, if it is seen. */
+function showPictures() {
+  if ($("view-tune").hidden) return;
   showCurve();
+  showPair();
+}
+
+/** Puts the engine's own sheet into its editor. */
+function showSheet() {
+  $("sheet").value = tuner.sheet;
+  $("verdict").textContent = "";
+}
+
+/** The first sentence on a slot. */
+function leadOf(slot) {
+  const [own, ...others] = slot.tables;
+  const verb = isOverTime(slot) ? "takes" : "loses";
+  const share = isOverTime(slot) ? "" : `, ${percent(own.total, slot.counts.bytes)} of what was requested`;
+  const scudo = others.find((t) => t.style === 1);
+  const other = scudo.total === undefined ? "" : ` Scudo's default table of ${scudo.classes} ${verb} ${bytesText(scudo.total)}.`;
+  return `A table of ${classesText(own.classes)} ${verb} ${bytesText(own.total)}${share}.${other}`;
+}
+
+function cardsOf({ kind, counts }) {
+  const more = { "Different sizes": counts.sizes.length, "Large, in no figure here": counts.large };
+  if (kind === "timeline") return { Requests: counts.requests, "Most bytes live at once": counts.mostLive, ...more };
+  if (kind === "history") return { "Most blocks of each size": counts.blocks, "Their bytes": counts.bytes, ...more };
+  return { "Requests counted": counts.blocks, "Bytes requested": counts.bytes, ...more };
 }
 
 function showLead() {
-  const [own, scudo] = tuner.tables;
-  const verb = forHistory() ? "takes" : "loses";
-  const share = forHistory() ? "" : `, ${percent(own.total, tuner.bytes)} of what was requested`;
-  const other = scudo.total === undefined ? "" : ` Scudo's default table of ${scudo.classes} ${verb} ${bytesText(scudo.total)}.`;
-  $("lead").textContent = `A table of ${classesText(own.classes)} ${verb} ${bytesText(own.total)}${share}.${other}`;
+  $("lead").textContent = leadOf(tuner);
   showWords("claim", says(tuner.judged));
-  const cards = {
-    [forHistory() ? "Most blocks of each size" : "Requests counted"]: tuner.requests,
-    [forHistory() ? "Their bytes" : "Bytes requested"]: tuner.bytes,
-    "Different sizes": tuner.sizes.length,
-    "Large, in no figure here": tuner.large,
-  };
-  const shown = Object.entries(cards).map(([title, value]) => `<div><dt>${title}</dt><dd>${grouped(value)}</dd></div>`);
+  const shown = Object.entries(cardsOf(tuner)).map(([title, value]) => `<div><dt>${title}</dt><dd>${grouped(value)}</dd></div>`);
   $("cards").innerHTML = shown.join("");
 }
 
 const headings = (...names) => `<thead><tr>${names.map((name) => `<th scope="col">${name}</th>`).join("")}</tr></thead>`;
 
 function showTables() {
+  const most = mostOf(tuner.tables.map((t) => t.total ?? 0));
   const rows = tuner.tables.map((t, i) => {
-    const whole = forHistory() ? tuner.total : tuner.bytes;
-    const served = `<td>${grouped(t.total ?? 0)}</td><td>${percent(t.total, whole)}</td>`;
-    const cells = t.total === undefined ? `<td colspan="2">does not serve ${bytesText(t.unserved)}</td>` : served;
-    return `<tr${i ? "" : ' class="tuned"'} data-table="${i}"><th scope="row">${t.name}</th><td>${t.classes}</td>${cells}</tr>`;
+    const whole = isOverTime(tuner) ? tuner.total : tuner.counts.bytes;
+    const served = `<td>${grouped(t.total ?? 0)}</td><td>${percent(t.total, whole)}</td><td class="bar">${barOf(t.total, most, t.style)}</td>`;
+    const cells = t.total === undefined ? `<td colspan="3">does not serve ${bytesText(t.unserved)}</td>` : served;
+    return `<tr${i ? "" : ' class="tuned"'} data-table="${i}"><th scope="row">${escaped(t.name)}</th><td>${t.classes}</td>${cells}</tr>`;
   });
-  const names = forHistory() ? ["Footprint, bytes", "Of the fitted table"] : ["Waste, bytes", "Of the requested bytes"];
-  $("tables").innerHTML = headings("Table", "Classes", ...names) + `<tbody>${rows.join("")}</tbody>`;
+  const names = isOverTime(tuner) ? ["Footprint, bytes", "Of the first one's"] : ["Waste, bytes", "Of the requested bytes"];
+  $("tables").innerHTML = headings("Table", "Classes", ...names, '<span class="unseen">As a bar</span>') + `<tbody>${rows.join("")}</tbody>`;
 }
 
 function showCurve() {
   const shown = tuner.tables.filter((t) => t.total !== undefined);
-  drawCurve($("curve"), tuner.least, shown, filled(`${tuner.kind}.curve`), forHistory() ? 0 : tuner.bytes);
-  $("curve-told").textContent = curveWords({ kind: tuner.kind, given: given(), step: options().step, forced: tuner.forced });
-  const mark = (style) => `<svg viewBox="-7 -7 14 14" aria-hidden="true"><polygon points="${MARKS[style]}" fill="var(--c${style})"/></svg>`;
-  $("curve-key").innerHTML = shown.map((t) => `<li>${mark(t.style)}${t.name}</li>`).join("");
+  drawCurve($("curve"), tuner.least, shown, filled(`${tuner.kind}.curve`), isOverTime(tuner) ? 0 : tuner.counts.bytes);
+  $("curve-told").textContent = curveWords({ kind: tuner.kind, given: given(tuner), step: options().step, forced: tuner.forced });
+  $("curve-key").innerHTML = shown.map((t) => `<li>${markOf(t.style)}${escaped(t.name)}</li>`).join("");
   const rows = tuner.least.map((bytes, i) => `<tr><th scope="row">${i + 1}</th><td>${grouped(bytes)}</td></tr>`);
   $("curve-table").innerHTML = headings("Classes", filled(`${tuner.kind}.curve.column`)) + `<tbody>${rows.join("")}</tbody>`;
-  drawHistogram($("histogram"), tuner.sizes, tuner.classes, classesOf(data.scudo));
+  drawHistogram($("histogram"), tuner.counts.sizes, tuner.classes, classesOf(data.scudo));
 }
 
 /** For each class: its block, its sizes, what it serves, and what it loses or takes. */
 function showClasses() {
+  const served = tuner.counts.servedBy(tuner.classes);
   let least = 0;
-  const rows = tuner.classes.map((c) => {
-    const [block, most] = [16 * c, 16 * c - 16];
-    const mine = tuner.lines.filter(([size]) => size >= least && size <= most);
+  const rows = tuner.classes.map((c, i) => {
+    const most = GRANULE * c - GRANULE;
+    const cost = tuner.counts.costOf(c, least, served[i]);
     const sizes = `${grouped(least)}–${grouped(most)}`;
     least = most + 1;
-    const moments = mine[0]?.[1].map((_, i) => mine.reduce((sum, [, counts]) => sum + counts[i], 0)) ?? [0];
-    const count = Math.max(...moments);
-    const cost = forHistory() ? block * count : mine.reduce((sum, [size, [n]]) => sum + n * (most - size), 0);
-    const cells = [sizes, grouped(count), grouped(cost), percent(cost, tuner.total)].map((text) => `<td>${text}</td>`).join("");
-    return `<tr><th scope="row">${grouped(block)}</th>${cells}</tr>`;
+    const cells = [sizes, grouped(served[i]), grouped(cost), percent(cost, tuner.total)].map((text) => `<td>${text}</td>`).join("");
+    return `<tr><th scope="row">${grouped(GRANULE * c)}</th>${cells}</tr>`;
   });
-  const names = forHistory() ? ["Most blocks at once", "Bytes taken"] : ["Requests", "Bytes lost"];
+  const names = isOverTime(tuner) ? ["Most blocks at once", "Bytes taken"] : ["Requests", "Bytes lost"];
   $("classes").innerHTML = headings("Block, bytes", "Sizes served", ...names, "Share") + `<tbody>${rows.join("")}</tbody>`;
 }
 
@@ -188,16 +252,19 @@ function showClasses() {
  * that, and any other over the counts. */
 async function judgedSheet() {
   const sheet = $("sheet").value.replace(/\n*$/, "\n");
+  if (sheet === tuner.sheet && bound(tuner.judged) !== null) return tuner.judged;
   const isFit = /^footprint/m.test(sheet);
-  if (isFit !== forHistory()) return { refused: `This is a ${isFit ? "fit: it wants a history" : "sheet: it wants a profile"}.` };
-  const both = [{ text: tuner.text, forced: [] }, ...(withLargest().forced.length ? [withLargest()] : [])];
-  return judge(sheet, $("largest").checked ? both.reverse() : both);
+  if (isFit !== isOverTime(tuner)) return { refused: `This is a ${isFit ? "fit: it wants a history or a timeline" : "sheet: it wants a profile"}.` };
+  const both = [[], ...(forcedFor(tuner).length ? [forcedFor(tuner)] : [])];
+  return judge(tuner, sheet, $("largest").checked ? both.reverse() : both);
 }
 
 async function checkSheet() {
-  if (!tuner.kind) return;
+  if (!tuner.kind) return null;
   const judged = await judgedSheet();
-  verdict(judged.refused ?? says(judged), judged.verdict === "optimal");
+  const [words, good] = [judged.refused ?? says(judged), judged.verdict === "optimal"];
+  verdict(words, good);
+  return { words, good };
 }
 
 function verdict(words, good) {
@@ -255,15 +322,12 @@ async function saveMap() {
 }
 
 function startTuner() {
-  $("limit").oninput = tune;
-  $("step").onchange = tune;
-  $("largest").onchange = tune;
-  $("own").onchange = () => tuner.kind && compare();
-  $("check").onclick = checkSheet;
-  $("restore").onclick = () => {
-    $("sheet").value = tuner.sheet;
-    $("verdict").textContent = "";
-  };
-  $("save-sheet").onclick = () => save($("sheet").value, forHistory() ? "fitted.fit" : "tuned.sheet");
+  $("limit").oninput = told(tune);
+  $("step").onchange = told(tune);
+  $("largest").onchange = told(tune);
+  $("own").onchange = told(() => tuner.kind && compare());
+  $("check").onclick = told(checkSheet);
+  $("restore").onclick = showSheet;
+  $("save-sheet").onclick = () => save($("sheet").value, isOverTime(tuner) ? "fitted.fit" : "tuned.sheet");
   $("save-map").onclick = told(saveMap);
 }

@@ -1,14 +1,18 @@
-// The page's worker: it holds the engines, and answers the page's messages. A replay goes on from where it stands; on the way back it
-// begins anew, and keeps the last pictures before the event that was asked for.
+// The page's workers: each holds the engines, and answers the page's messages. One shows replays; the other reads their reports meanwhile. A
+// replay begins with the trace's first events, and goes on from where it stands; on the way back it begins anew, and keeps the last pictures
+// before the event that was asked for.
 "use strict";
 
 const KEPT_PICTURES = 64;
 const MOST_KEPT_BYTES = 1 << 26;
-const [NEWLINE, NINE] = [10, 57];
+const [NEWLINE, SPACE, DIGIT, NINE, SMALL_D] = [10, 32, 48, 57, 100];
 const [PART_LINES, MOST_TOLD] = [1024, 200];
+/** So many events, or so many bytes of them, make the first picture. */
+const [FIRST_LINES, FIRST_BYTES] = [4096, 1 << 18];
 let engines = null;
 let taken = null;
 let replay = null;
+const held = new Map();
 
 /** The lines of a long text in bytes. A part of them is decoded when one of its lines is asked for. */
 class Lines {
@@ -32,40 +36,75 @@ class Lines {
     }
     return this.lines[i % PART_LINES];
   }
+
+  /** The first lines, and how many they are: all of a short text. */
+  first() {
+    const part = Math.min(FIRST_LINES / PART_LINES, this.starts.length);
+    if (part === this.starts.length || this.starts[part] > FIRST_BYTES) return { bytes: this.bytes, length: this.length };
+    return { bytes: this.bytes.subarray(0, this.starts[part]), length: part * PART_LINES };
+  }
 }
 
-/** A replay with its trace, its report and the model that names what the picture shows. The first picture wants neither the report nor the
- * model, so they come when they are asked for. */
+/** A report in bytes: the line of each event that has one, the events with a fault or a refusal, and the totals. */
+class Report {
+  constructor(fields) {
+    Object.assign(this, fields);
+  }
+
+  static read(bytes, events) {
+    const places = new Int32Array(events + 1).fill(-1);
+    const faults = [];
+    let at = 0;
+    // an event's line begins with its number, and the totals after them with words
+    while (at < bytes.length && bytes[at] <= NINE) {
+      let k = 0;
+      for (; bytes[at] !== SPACE; at++) k = 10 * k + bytes[at] - DIGIT;
+      places[k] = at + 1;
+      if (bytes[at + 1] !== SMALL_D) faults.push(k);
+      at = bytes.indexOf(NEWLINE, at) + 1;
+    }
+    return new Report({ bytes, places, faults, events, end: at });
+  }
+
+  get(k) {
+    const at = this.places[k];
+    return at < 0 ? undefined : asText(this.bytes.subarray(at, this.bytes.indexOf(NEWLINE, at)));
+  }
+
+  /** What the page shows: all faults by their events, the first of them in words, and the totals. */
+  told() {
+    const totals = asText(this.bytes.subarray(this.end)).split("\n").filter(Boolean);
+    return { faults: this.faults, told: this.faults.slice(0, MOST_TOLD).map((k) => [k, this.get(k)]), totals };
+  }
+}
+
+/** The report of a trace, or of the first events of one. */
+function reportOf(line, options, { bytes, length }) {
+  const answer = engines.answer("replay", options, `${line}\n`, bytes);
+  if (answer.status) throw new Error(asText(answer.bytes) || answer.ended);
+  return Report.read(answer.bytes, length);
+}
+
+/** A replay with its trace and the model that names what the picture shows. */
 class Replay {
   constructor({ line, options }) {
     Object.assign(this, { line, options, trace: taken, kept: new Map() });
-    const classes = line.split(" ").slice(1).map(Number);
-    this.steps = engines.begin(line, this.trace.bytes, options);
-    this.model = new HeapModel(classes, options);
+    const { bytes, lines } = this.trace;
+    this.parts = [lines.first(), { bytes, length: lines.length }];
+    const [first] = this.parts;
+    this.begin(first);
+    this.report = reportOf(line, options, first);
+    this.model = new HeapModel(line.split(" ").slice(1).map(Number), options);
     this.starts = [this.model.copy()];
-    this.every = Math.max(1024, Math.ceil(this.trace.lines.length / 64));
+    this.every = Math.max(1024, Math.ceil(lines.length / 64));
   }
 
-  /** The line of the report for each event that has one. */
-  get report() {
-    if (!this.read) this.readReport();
-    return this.read;
-  }
-
-  readReport() {
-    const answer = engines.call("replay", this.options, joined(asBytes(`${this.line}\n`), this.trace.bytes));
-    if (answer.status) throw new Error(answer.text || answer.ended);
-    const [report, faults] = [new Map(), []];
-    const lines = answer.text.split("\n");
-    // an event's line begins with its number, and the totals after them with words
-    let i = 0;
-    for (; i < lines.length && lines[i].charCodeAt(0) <= NINE; i++) {
-      const space = lines[i].indexOf(" ");
-      const [k, words] = [Number(lines[i].slice(0, space)), lines[i].slice(space + 1)];
-      report.set(k, words);
-      if (!words.startsWith("data")) faults.push(k);
-    }
-    Object.assign(this, { read: report, faults, totals: lines.slice(i).filter(Boolean) });
+  /** Begins anew with so much of the trace. */
+  begin({ bytes, length }) {
+    this.steps?.free();
+    this.steps = null;
+    this.steps = engines.begin(this.line, bytes, this.options);
+    this.reach = length;
   }
 
   /** The model before event k + 1, from the last start before it. */
@@ -83,12 +122,8 @@ class Replay {
   picture(k) {
     if (this.kept.has(k)) return this.kept.get(k);
     const window = Math.min(KEPT_PICTURES, Math.max(1, Math.floor(MOST_KEPT_BYTES / (2 * this.options.granules))));
-    let first = k;
-    if (k < this.steps.done) {
-      this.steps.free();
-      this.steps = engines.begin(this.line, this.trace.bytes, this.options);
-      first = Math.max(0, k - window + 1);
-    }
+    const first = k < this.steps.done ? Math.max(0, k - window + 1) : k;
+    if (k < this.steps.done || k > this.reach) this.begin(this.parts.find(({ length }) => k <= length));
     while (this.steps.done < first) this.steps.go();
     this.keep(this.steps.done, window);
     while (this.steps.done < k) {
@@ -119,13 +154,20 @@ class Replay {
     const event = eventOf(this.trace.lines.at(k - 1));
     const before = this.modelAfter(k - 1).copy();
     const model = this.modelAfter(k);
-    const [outcome, report] = [this.outcome, this.report.get(k)];
-    const words = [eventWords(event), report ? reportWords(report) : doneWords(event, outcome, model)];
-    const ours = report?.startsWith("data") ? undefined : report;
-    if (outcome.report !== ours) words.push("(The page's own model says otherwise, an error of ours.)");
+    const outcome = this.outcome;
+    const words = [eventWords(event), ...this.reported(k, event, outcome, model)];
     const law = outcome.report ? lawOf(event, outcome, before) : null;
     const why = REASONS[passReason(event, outcome, before)];
     return { words, law, why, marks: this.marks(outcome, model) };
+  }
+
+  /** What the report says of the k-th event, as far as it is there. */
+  reported(k, event, outcome, model) {
+    if (k > this.report.events) return ["Its line of the report is not there yet."];
+    const report = this.report.get(k);
+    const words = [report ? reportWords(report) : doneWords(event, outcome, model)];
+    const ours = report?.startsWith("data") ? undefined : report;
+    return outcome.report === ours ? words : [...words, "(The page's own model says otherwise, an error of ours.)"];
   }
 
   /** The granules that an event touched, and at a tag fault both tags. */
@@ -157,38 +199,47 @@ class Replay {
   }
 }
 
-function joined(first, second) {
-  const bytes = new Uint8Array(first.length + second.length);
-  bytes.set(first);
-  bytes.set(second, first.length);
-  return bytes;
-}
+/** The bytes of an input: a text, bytes, or a file. */
+const bytesOf = async (input) => (input instanceof Blob ? new Uint8Array(await input.arrayBuffer()) : asBytes(input));
 
 const ANSWERS = {
   async start({ tool, steps }) {
     engines = await Engines.load(tool, steps);
     return true;
   },
-  call({ command, options, input }) {
-    return engines.call(command, options, input);
+  /** Keeps a text, or what is kept under another name, for calls that name it. */
+  hold({ name, input, of }) {
+    held.set(name, of === undefined ? asBytes(input) : held.get(of));
+    return true;
   },
-  /** Takes a trace, text or bytes, and returns its profile, or its fault. */
-  trace({ input }) {
-    const bytes = asBytes(input);
+  call({ command, options, input, and }) {
+    return engines.call(command, options, ...(and === undefined ? [input] : [input, held.get(and)]));
+  },
+  /** Takes a trace, and returns its profile, or its fault, or why it is no text. */
+  async trace({ input }) {
+    const bytes = await bytesOf(input);
+    if (!isText(bytes)) return { notText: notText(bytes) };
     const answer = engines.call("profile", {}, bytes);
     if (!answer.status) taken = { bytes, lines: new Lines(bytes) };
     return answer;
   },
+  /** Begins a replay: the number of its events, and its report where that is there at once. */
   replay(words) {
-    replay?.steps.free();
+    replay?.steps?.free();
     replay = null;
     replay = new Replay(words);
-    return replay.trace.lines.length;
+    const events = replay.trace.lines.length;
+    return { events, report: replay.report.events === events ? replay.report.told() : null };
   },
-  /** The faults and refusals by their events, the first of them in words, and the totals. */
-  report() {
-    const { report, faults, totals } = replay;
-    return { faults, told: faults.slice(0, MOST_TOLD).map((k) => [k, report.get(k)]), totals };
+  /** The report of a whole trace, for the worker that shows it, and what the page shows of it. */
+  async report({ input, line, options, events }) {
+    const report = reportOf(line, options, { bytes: await bytesOf(input), length: events });
+    return { told: report.told(), report };
+  },
+  /** Takes the report of the whole trace. */
+  reported({ report }) {
+    replay.report = new Report(report);
+    return true;
   },
   show({ k }) {
     return replay.show(k);

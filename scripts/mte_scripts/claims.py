@@ -5,7 +5,7 @@ scripts/tests/claims searches for them, and compares these sentences with all ta
 
 A sentence is made from data: what was judged (Judged), and whether a proved program judged it (Trust). All words are in TEMPLATES, a flat
 dictionary from a name to a text with places like {limit}. `templates()` is that dictionary, plain enough for JSON, so that the page's
-script can have the same words. It fills them by these rules, KIND being profile or history:
+script can have the same words. It fills them by these rules, KIND being profile, history or timeline:
 
   {limit}    limit.one where the limit is 1, else limit.many; its {count} is the limit, its {block} is 16 * step
   {forced}   forced.one where one class is forced, else forced.many; its {classes} are in granules, joined as in "1, 2 and 3"
@@ -14,21 +14,23 @@ script can have the same words. It fills them by these rules, KIND being profile
   says       where `holds`: KIND.says.own, or KIND.says.forced with the {size}s 16 * class - 16, joined and "1,234"
              a verdict that is no `optimal`: KIND.refused with the {verdict} and its {meaning}, which is refusal.CODE
              `optimal`, but not `holds`: KIND.other
+             of a timeline whose `fit` found no certificate, timeline.between with the {bound} that it proves
   sentence   where `holds` and the program is proved: prefix.proved and says; where it is not: KIND.unproved with {why}; else says
 
 The page prints says. A class is forced by one more request, or one more block at each moment, of 16 * class - 16 bytes: what that class
-holds. Each table that has the class serves the request without waste, and takes one more of its blocks. So the order of the tables that
-have the class stays: a table that is the first of all for what was judged, and has the class, is the first of these for the user's own.
-That needs a class that is a multiple of the step, or no table in question has it."""
+holds; of a timeline, one before the first event. Each table that has the class serves the request without waste, and takes one more of its
+blocks. So the order of the tables that have the class stays: a table that is the first of all for what was judged, and has the class, is the
+first of these for the user's own. That needs a class that is a multiple of the step, or no table in question has it."""
 
 from collections import namedtuple
 from collections.abc import Iterable
 
 GRANULE = 16  # bytes
 
-# What `check` or `check-fit` judged. `kind` is profile or history. `verdict` is its answer, of a sheet or fit with this limit, step and
-# classes. `given` names what the user has, and `cost` is the table's waste or footprint on that. `forced` are the classes that one request
-# more, or one block more at each moment, forced into the table: empty where the user's own was judged.
+# What `check` or `check-fit` judged. `kind` is profile, history or timeline. `verdict` is its answer, of a sheet or fit with this limit, step
+# and classes. `given` names what the user has, and `cost` is the table's waste or footprint on that. `forced` are the classes that one request
+# more, or one block more at each moment, forced into the table: empty where the user's own was judged. Where `fit` found no certificate for a
+# timeline, the verdict is `between L`, L being the bound that it proves for what was judged.
 Judged = namedtuple("Judged", "kind verdict limit step classes given cost forced")
 # What `check-fit` judged of pools: its answer, of a fit with this limit over the runs in units of `unit` bytes. `given` names the runs, `cost`
 # are the pools' bytes, of whose blocks `overhead` bytes hold no request, and `is_sampled` says that some moments of the runs are known.
@@ -45,21 +47,29 @@ TEMPLATES = {
     "tables.forced": "the tables of {limit}, that serve {given} and have {forced}",
     "profile.claim": "of {tables}, none wastes less on it than {cost}.",
     "history.claim": "of {tables}, none takes less over it than {cost}.",
+    "timeline.claim": "of {tables}, none takes less over all its moments than {cost}.",
     "profile.says.own": "`check` says `optimal`, so {claim}",
     "history.says.own": "`check-fit` says `optimal`, so {claim}",
     "profile.says.forced": "`check` says `optimal` with a request of {size} bytes added, so {claim}",
     "history.says.forced": "`check-fit` says `optimal` with a block of {size} bytes added at each moment, so {claim}",
+    "timeline.says.own": "`check-fit` says `optimal`, so {claim}",
+    "timeline.says.forced": "`check-fit` says `optimal` with a block of {size} bytes added before the first event, so {claim}",
+    "timeline.between": "`fit` found no certificate: the table takes {cost} over all moments of {given}; {claim}",
     "prefix.proved": "Proved: ",
     "profile.unproved": "Nothing is proved, since {why}. If its `check` is right, {claim}",
     "history.unproved": "Nothing is proved, since {why}. If its `check-fit` is right, {claim}",
+    "timeline.unproved": "Nothing is proved, since {why}. If its `check-fit` is right, {claim}",
+    "timeline.between.unproved": "Nothing is proved, since {why}. If its `fit` is right, {claim}",
     # the last line of a script that checks one sheet
     "answer.proved": "optimal: {claim}",
     "answer.unproved": "optimal, but nothing is proved, since {why}: {claim}",
     "profile.refused": "`check` says `{verdict}`: nothing shows that this is a best table for {given}. {meaning}",
     "history.refused": "`check-fit` says `{verdict}`: nothing shows that this is a best table for {given}. {meaning}",
+    "timeline.refused": "`check-fit` says `{verdict}`: nothing shows that this is a best table for {given}. {meaning}",
     "profile.other": "`check` says `optimal` of another profile, of which nothing follows for {given}.",
     "history.other": "`check-fit` says `optimal` of another history, of which nothing follows for {given}.",
-    # {sheet}, {counts} and {costs} are sheet, profile and wastes, or fit, history and takes
+    "timeline.other": "`check-fit` says `optimal` of another timeline, of which nothing follows for {given}.",
+    # {sheet}, {counts} and {costs} are sheet, profile and wastes, or fit, history or timeline, and takes
     "refusal.39": "A class is no multiple of the {sheet}'s step.",
     "refusal.40": "The table has more classes than the {sheet}'s limit.",
     "refusal.41": "A size of the {counts} has no class: the {sheet} is of another {counts}.",
@@ -93,17 +103,23 @@ TEMPLATES = {
     # what a table is called
     "profile.table": "the tuned table",
     "history.table": "the fitted table",
+    "timeline.table": "the fitted table",
     # the curve over the number of classes: the rows of a sheet by `tune`, or of a fit by `fit`
     "profile.curve": "Least waste by the number of classes",
     "history.curve": "Least footprint by the number of classes",
+    "timeline.curve": "Least footprint by the number of classes",
     "profile.curve.axis": "least waste, share of requested bytes",
     "history.curve.axis": "least footprint, bytes",
+    "timeline.curve.axis": "least footprint, bytes",
     "profile.curve.column": "Least waste, bytes",
     "history.curve.column": "Least footprint, bytes",
+    "timeline.curve.column": "Least footprint at the moments of the fit, bytes",
     "profile.curve.caption": "The line is the least waste on {given} by a table of at most so many classes, all multiples of {block} bytes{with}.",
     "history.curve.caption": "The line is the least footprint over {given} of a table of at most so many classes, all multiples of {block} "
     "bytes{with}.",
-    # {with} of these two; empty where no class is forced
+    "timeline.curve.caption": "The line is the least footprint at the moments of the fit, of a table of at most so many classes, all multiples "
+    "of {block} bytes{with}; over all moments of {given} no such table takes less.",
+    # {with} of these; empty where no class is forced
     "curve.with": ", that has {forced}",
 }
 
@@ -141,19 +157,27 @@ def holds(judged: Judged) -> bool:
     return judged.verdict == "optimal" and all(each in judged.classes and each % judged.step == 0 for each in judged.forced)
 
 
+def bound(judged: Judged) -> "int | None":
+    """What a `fit` without a certificate proves that each table takes of the user's own: the block that forces a class is not of that."""
+    words = judged.verdict.split(" ")
+    return int(words[1]) - sum(GRANULE * each for each in judged.forced) if words[0] == "between" else None
+
+
 def claim(judged: Judged) -> str:
-    """The claim alone: among which tables none costs less than this one, and what it costs. Only where it holds."""
+    """The claim alone: among which tables none costs less than this one, and what it costs; or than the bound. Only where it holds, or there
+    is a bound."""
     limit = limit_words(judged.limit, judged.step)
     if judged.forced:
         tables = TEMPLATES["tables.forced"].format(limit=limit, given=judged.given, forced=forced_words(judged.forced))
     else:
         tables = TEMPLATES["tables.own"].format(limit=limit, given=judged.given)
-    return TEMPLATES[f"{judged.kind}.claim"].format(tables=tables, cost=byte_text(judged.cost))
+    least = bound(judged)
+    return TEMPLATES[f"{judged.kind}.claim"].format(tables=tables, cost=byte_text(judged.cost if least is None else least))
 
 
 def refusal(judged: Judged) -> str:
     """What the refusal of a sheet or a fit means, in a sentence; empty for an answer that is none."""
-    return meaning(judged.verdict, *(("fit", "history", "takes") if judged.kind == "history" else ("sheet", "profile", "wastes")))
+    return meaning(judged.verdict, *(("sheet", "profile", "wastes") if judged.kind == "profile" else ("fit", judged.kind, "takes")))
 
 
 def meaning(verdict: str, sheet: str, counts: str, costs: str) -> str:
@@ -165,6 +189,8 @@ def meaning(verdict: str, sheet: str, counts: str, costs: str) -> str:
 
 def says(judged: Judged) -> str:
     """What the verdict means, whoever gave it."""
+    if bound(judged) is not None:
+        return TEMPLATES["timeline.between"].format(cost=byte_text(judged.cost), given=judged.given, claim=claim(judged))
     if not holds(judged):
         name = "other" if judged.verdict == "optimal" else "refused"
         words = TEMPLATES[f"{judged.kind}.{name}"].format(verdict=judged.verdict, given=judged.given, meaning=refusal(judged))
@@ -175,11 +201,12 @@ def says(judged: Judged) -> str:
 
 def sentence(judged: Judged, trust: Trust) -> str:
     """What is known of the table, for a summary or a page."""
-    if not holds(judged):
+    between = bound(judged) is not None
+    if not holds(judged) and not between:
         return says(judged)
     if trust.is_proved:
         return TEMPLATES["prefix.proved"] + says(judged)
-    return TEMPLATES[f"{judged.kind}.unproved"].format(why=trust.why, claim=claim(judged))
+    return TEMPLATES[f"{judged.kind}{'.between' * between}.unproved"].format(why=trust.why, claim=claim(judged))
 
 
 def answer(judged: Judged, trust: Trust) -> str:
@@ -225,7 +252,7 @@ def another_program(path: str) -> str:
 
 
 def name(kind: str) -> str:
-    """What the table for a profile, or for a history, is called among others."""
+    """What the table for a profile, a history or a timeline is called among others."""
     return TEMPLATES[f"{kind}.table"]
 
 
